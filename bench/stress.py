@@ -1,9 +1,9 @@
 #!/usr/bin/env python3
-"""Runs ist_stress again and again for so many minutes, in trees that are ample and in trees that run full by turns.
+"""Runs try_stress again and again for so many minutes, in trees that are ample and in trees that run full by turns.
 
     python3 bench/stress.py PROGRAM MINUTES [SEED]
 
-PROGRAM is the built program: `python3 tools/build.py ist_stress` makes out/ist_stress. Each run has a seed of its own, from
+PROGRAM is the built program: `python3 tools/build.py try_stress` makes out/try_stress. Each run has a seed of its own, from
 SEED (1) on. A run whose status isn't 0 is named with its words and what it wrote. Then comes a table, one row a plan: runs, calls
 that were answered, calls that were refused, runs in which one was, passes that met a refused rebuild, words used, seconds, and
 processor seconds. The status is 0 where each run's was.

@@ -1,4 +1,5 @@
-//! What `bench/tree.sh` measures `ist_bench` beside: the same calls on a `BTreeMap` under a lock that many may read at once.
+//! What `bench/tree.sh` measures `try_bench` beside: the same calls on a `BTreeMap` under a lock that many may read at once. With
+//! `--width` a find is an ordered read, as of `try_bench`.
 use std::collections::BTreeMap;
 use std::sync::RwLock;
 use std::time::Instant;
@@ -43,6 +44,7 @@ fn main() {
     let (puts, removes, finds) = (number("--puts", 0), number("--removes", 0), number("--finds", 1));
     let keys = number("--keys", 1000);
     let span = number("--span", keys);
+    let width = number("--width", 0);
     let all = puts + removes + finds;
     let map: BTreeMap<u64, u64> = (0..keys).map(|it| (key_of(spread, it), it)).collect();
     let map = RwLock::new(map);
@@ -62,8 +64,16 @@ fn main() {
                             map.write().expect("a lock").insert(key, number)
                         } else if drawn < puts + removes {
                             map.write().expect("a lock").remove(&key)
-                        } else {
+                        } else if width == 0 {
                             map.read().expect("a lock").get(&key).copied()
+                        } else if width == 1 {
+                            map.read().expect("a lock").range(key..).next().map(|it| *it.1)
+                        } else {
+                            let last = key.saturating_add(width - 1);
+                            let map = map.read().expect("a lock");
+                            let pairs: Vec<(u64, u64)> = map.range(key..=last).map(|it| (*it.0, *it.1)).collect();
+                            found += std::hint::black_box(pairs).len() as u64;
+                            None
                         };
                         found += u64::from(answer.is_some());
                     }

@@ -14,17 +14,22 @@ printf 'pub struct Thing;\n' >"$all/crates/high/src/lib.rt"
 printf -- '-- it stays\nabbrev pub Stays : Type 0\n' >"$all/crates/low/specs/Staying.antt"
 printf 'pub stays_on : Stays\n' >"$all/crates/low/proofs/StayLemmas.antt"
 
-# Writes the documents with one line more in each of README and the map.
+# Writes the documents with one line more in README and docs/PROOFS.md, these rows of the map, and this drawing.
 write() {
     printf '| claim | clause |\n|---|---|\n%s\n' "$1" >"$all/README.md"
     printf 'Nothing.\n' >"$all/CONTRIBUTING.md"
     printf '%s\n' "$2" >"$all/docs/PROOFS.md"
-    printf '| crate | job | stands on |\n|---|---|---|\n| `low` | low | nothing |\n%s\n' "$3" >"$all/docs/ARCHITECTURE.md"
+    printf '## What a put line passes\n\n%s\n\n## The rooms\n\n| crate | job |\n|---|---|\n%s\n' "${4:-$drawn}" "$3" >"$all/docs/ARCHITECTURE.md"
 }
 
-# Whether it says so of the line of README, the line of docs/PROOFS.md and the row of the map.
+rows='| `low` | low |
+| `high` | high |'
+drawn='    high    (clap)
+    low'
+
+# Whether it says so of the line of README, the line of docs/PROOFS.md, the rows of the map and the drawing.
 says() {
-    write "$3" "$4" "${5:-| \`high\` | high | \`low\`, \`clap\` |}"
+    write "$3" "$4" "${5:-$rows}" "${6:-}"
     found=$(python3 "$here/tools/citations.py" "$all")
     status=$?
     case $2$status$found in
@@ -49,8 +54,13 @@ says 'a lemma and a definition in their files' 0 "$good" 'By `stays_on` in `Stay
 says 'a lemma that is gone' 1 "$good" 'By `stays_off` in `StayLemmas`.'
 says 'a file of lemmas that is gone' 1 "$good" 'By `stays_on` in `LeaveLemmas`.'
 says 'a path that is gone' 1 "$good" 'In `crates/low/src/main.rt`.'
-says 'a crate without a row in the map' 1 "$good" '' ' '
-says 'a row of the map with another crate below' 1 "$good" '' '| `high` | high | nothing |'
+says 'a crate without a row in the map' 1 "$good" '' '| `low` | low |'
+says 'a crate with two rows in the map' 1 "$good" '' "$rows
+| \`low\` | low |"
+says 'a map in another order' 1 "$good" '' '| `high` | high |
+| `low` | low |'
+says 'a crate that is drawn below what it uses' 1 "$good" '' '' '    low
+    high'
 
 echo "$passed passed, $failed failed"
 [ "$failed" = 0 ]

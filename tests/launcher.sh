@@ -4,7 +4,7 @@ set -u
 here=$(cd -P -- "$(dirname -- "$0")/.." && pwd)
 all=$(mktemp -d "${TMPDIR:-/tmp}/launcher.XXXXXX")
 trap 'rm -rf "$all"' EXIT
-unset TELE_JOBS TELE_BUILD TELE_RT CDPATH GLIBC_TUNABLES
+unset TELE_JOBS TELE_BUILD TELE_RT TELE_WAIT CDPATH GLIBC_TUNABLES
 passed=0 failed=0
 
 # A stub in the place of `rt`: it notes each call, and a program prints what its crates' files said when it was made.
@@ -15,6 +15,38 @@ write_kit() {
 #!/bin/bash
 name=${PWD##*/}
 note() { echo "$1 $name" >>"$STUB_LOG"; }
+
+# Writes the program: it prints what the files of its crates said, its arguments and its input.
+write_program() {
+    {
+        echo '#!/bin/bash'
+        echo 'case " $* " in *" --help "*) echo "! usage"; exit 2 ;; esac'
+        echo "echo '$(cat ../low/src/* ../left/src/* src/main.rt 2>/dev/null | tr '\n' ' ')${1:-}'"
+        echo '[ -z "${PROGRAM_TELLS:-}" ] || echo "heap:$GLIBC_TUNABLES"'
+        echo 'echo "words:$*"; cat; exit "${PROGRAM_STATUS:-0}"'
+    } >"$2"
+    chmod +x "$2"
+}
+
+if [ "$1" = try ]; then
+    note tried
+    ! grep -qs broken ../*/src/* || exit 1
+    [ -z "${STUB_TRY_SLEEPS:-}" ] || { trap 'kill $!; exit 143' TERM; sleep "$STUB_TRY_SLEEPS" & wait; }
+    if [ -n "${STUB_TRY_LACKS:-}" ]; then
+        echo "checked: no-answer: more than 1048576 bytes of standard output" >&2
+        note try-ends
+        echo "run=none proved=no" >&2
+        exit 6
+    fi
+    write_program "${STUB_TRY_SAYS:-}" ./unproved
+    shift 2
+    PROGRAM_STATUS=${STUB_TRY_STATUS:-${PROGRAM_STATUS:-0}} ./unproved "$@"
+    status=$?
+    note try-ends
+    echo "run=ended status=$status runners=1 races=unchecked proved=no" >&2
+    exit $status
+fi
+
 note "$1-begins"
 if grep -qs broken src/*; then
     echo "note: nothing of this matters"
@@ -23,13 +55,21 @@ if grep -qs broken src/*; then
 fi
 case $1 in
 lib)
+    if [ "$name" = "${STUB_FAILS:-}" ]; then echo "src/lib.rt:2:2: error[no-proof]: nothing proves this"; exit 1; fi
     if [ "$name" = "${STUB_KILLS:-}" ] && [ ! -e out/killed ]; then mkdir -p out; touch out/killed; exit 137; fi
     echo "checked $name::first, 1 of 2"
     if [ ! -e out/incremental/first ]; then
-        note first
         mkdir -p out/incremental
         touch out/incremental/first
-        [ "$name" != "${STUB_SLOW:-}" ] || sleep 4
+        note first
+        [ "$name" != "${STUB_SLOW:-}" ] || sleep "${STUB_SLEEPS:-4}"
+        # The unproved builds come first.
+        if [ "$name" = "${STUB_HELD:-}" ]; then
+            for _ in $(seq 600); do [ ! -e "$STUB_LOG.seen" ] || break; sleep 0.1; done
+        fi
+        if [ "$name" = "${STUB_SECOND:-}" ]; then
+            for _ in $(seq 600); do [ "$(grep -c try-ends "$STUB_LOG")" -lt "${STUB_TRIES:-1}" ] || break; sleep 0.1; done
+        fi
     fi
     if [ -n "${STUB_MEET:-}" ] && [ "$name" != low ]; then
         touch "$STUB_LOG.$name"
@@ -44,17 +84,19 @@ lib)
     cp out/rlib/stamp "out/rlib/$name.rlib/format"
     ;;
 run)
-    for it in low left right; do
-        [ "$(cut -c1-64 "../$it/out/rlib/stamp")" = "$(cat ../$it/src/* | sha256sum | cut -c1-64)" ] || exit 9
+    for it in ../*/; do
+        it=${it%/}
+        [ "$it" = "../$name" ] || [ "$(cut -c1-64 "$it/out/rlib/stamp")" = "$(cat "$it"/src/* | sha256sum | cut -c1-64)" ] || exit 9
     done
     mkdir -p out
-    {
-        echo '#!/bin/bash'
-        echo "echo '$(cat ../low/src/* ../left/src/* src/main.rt | tr '\n' ' ')'"
-        echo '[ -z "${PROGRAM_TELLS:-}" ] || echo "heap:$GLIBC_TUNABLES"'
-        echo 'echo "words:$*"; cat; exit "${PROGRAM_STATUS:-0}"'
-    } >out/tele
-    chmod +x out/tele
+    write_program "" "out/$name"
+    echo "rt: running out/$name; to give it other input, run that file yourself" >&2
+    shift
+    while [ $# -gt 0 ] && [ "$1" != -- ]; do shift; done
+    "out/$name" "${@:2}"
+    status=$?
+    note run-ends
+    exit $status
     ;;
 esac
 note "$1-ends"
@@ -68,7 +110,7 @@ fresh() {
     top=$dir/repository
     mkdir -p "$top/tools"
     cp "$here/tele" "$top"
-    cp "$here/tools/build.py" "$here/tools/once.py" "$top/tools"
+    cp "$here/tools/build.py" "$here/tools/first_call.py" "$here/tools/once.py" "$top/tools"
     printf '# crates\nlow:\nleft may_wait=2: low\nright: low\naside: low\ntele: left right\n' >"$top/crates.txt"
     for it in low left right aside; do
         mkdir -p "$top/crates/$it/src" "$top/crates/$it/specs"
@@ -218,7 +260,7 @@ fresh
 STUB_SLOW=left "$top/tele" <<<input >"$dir/first" 2>"$dir/err" &
 pid=$!
 wait_for 'first left' "$STUB_LOG"
-kill -TERM $({ pgrep -P "$pid" || cat "/proc/$pid/task/$pid/children"; } 2>/dev/null)
+kill -TERM "$pid"
 wait "$pid"
 expect "an interrupted build has the status of its signal" "$?" 143
 has "it says that it stopped" "$(cat "$dir/err")" "stopped"
@@ -237,6 +279,148 @@ has "the program is told to keep its heap" "$(cd "$dir" && "$top/tele" <<<input)
 has "but for the setting of its caller" "$(GLIBC_TUNABLES=own=1 "$top/tele" <<<input)" $'heap:own=1\n'
 has "were it an empty one" "$(GLIBC_TUNABLES='' "$top/tele" <<<input)" $'heap:\n'
 unset PROGRAM_TELLS
+
+# The first minute: an unproved build answers while the proof goes on.
+begin() { "$top/tele" "$@" <&0 >"$dir/first" 2>"$dir/err" & pid=$!; }
+end() { wait "$pid"; status=$?; out=$(cat "$dir/first") err=$(cat "$dir/err"); }
+left() { ls "$dir/build" | grep -c unproved-; }
+
+fresh
+STUB_HELD=low "$top/tele" 2>"$dir/err" <<<input | { cat >"$dir/first"; cat "$STUB_LOG" >"$dir/seen"; touch "$STUB_LOG.seen"; }
+expect "an unproved build answers" "$(cat "$dir/first")" "$answer"
+expect "standard output is closed before the proof ends" "$(grep -c 'lib-ends' "$dir/seen")" 0
+err=$(cat "$dir/err")
+expect "it is said first that the answer is unproved" "$(head -n 1 "$dir/err" | grep -c 'an unproved build answers first')" 1
+has "at the end the proved program has answered" "$err" "the proved program gives the same answer"
+expect "its answer isn't written" "$(cat "$dir/first")" "$answer"
+expect "nothing is left of the unproved build" "$(left)" 0
+: >"$STUB_LOG"
+run
+expect "the next call runs the proved program" "$out$(cat "$STUB_LOG")" "$answer"
+
+# what the unproved build and the proved one do, the status, what is written, what is said
+while IFS='|' read -r name settings wanted text said; do
+    fresh
+    out=$(echo input | env $settings "$top/tele" 2>"$dir/err")
+    expect "$name: the status" "$?" "$wanted"
+    expect "$name: the answer" "$out" "${text:+$answer}"
+    has "$name: what is said" "$(cat "$dir/err")" "$said"
+    has "$name: the proof went on" "$(cat "$STUB_LOG")" "lib-begins low"
+done <<'CASES'
+both end with a status of its own|STUB_SECOND=low PROGRAM_STATUS=3|3|yes|gives the same answer
+the unproved build ends with another status|STUB_SECOND=low STUB_TRY_STATUS=3|125|yes|answers otherwise (status 0, unproved 3)
+memory was lacking in the unproved build|STUB_SECOND=low STUB_TRY_STATUS=7|0|yes|has no answer
+the unproved build has no answer|STUB_TRY_LACKS=yes|0|yes|has no answer
+the proof is faster|STUB_TRY_SLEEPS=600|0|yes|proved and built
+the proof fails after the answer|STUB_SECOND=low STUB_FAILS=left|125|yes|left failed
+the proof fails before the answer|STUB_FAILS=left STUB_TRY_SLEEPS=600|125||left failed
+CASES
+
+fresh
+STUB_SECOND=low STUB_TRY_SAYS=wrong run
+expect "an answer that was wrong: the status" "$status" 125
+has "it is the one that was given" "$out" "wrong"
+has "it is said" "$err" "THE ANSWER WAS WRONG"
+expect "the proved answer is kept" "$(cat "$dir/build/logs/answer.proved")" "$answer"
+
+fresh
+STUB_SLOW=low TELE_WAIT=1 begin <<<input
+wait_for 'first low' "$STUB_LOG"
+expect "with TELE_WAIT nothing is written before the proof" "$(cat "$dir/first")" ""
+end
+expect "then the proved program answers" "$out$(calls tried)" "${answer}0"
+
+fresh
+{ echo input; sleep 7; echo more; } | "$top/tele" >"$dir/first" 2>"$dir/err"
+expect "an input that doesn't end waits for the proof, and is given whole" "$(cat "$dir/first")$(calls tried)" "$answer"$'\nmore0'
+has "which is said" "$(cat "$dir/err")" "did not end within"
+
+head -c 67108865 /dev/zero | tr '\0' x >"$all/large"
+wanted=$({ printf 'low-1 left-1 main-1 \nwords:\n'; cat "$all/large"; } | cksum)
+fresh
+expect "a larger input, from a pipe, waits for the proof" "$(cat "$all/large" | "$top/tele" 2>"$dir/err" | cksum)$(calls tried)" "${wanted}0"
+has "which is said" "$(cat "$dir/err")" "larger than 64 MiB"
+fresh
+expect "and from a file" "$("$top/tele" <"$all/large" 2>"$dir/err" | cksum)$(calls tried)" "${wanted}0"
+rm "$all/large"
+
+fresh
+STUB_TRY_SLEEPS=600 STUB_SLOW=low begin <<<input
+wait_for tried "$STUB_LOG"
+kill -INT "$pid"
+kill -TERM "$pid"
+end
+expect "interrupted before the answer: nothing is written, and nothing left" "$((status > 128))$out$(left)" 10
+fresh
+STUB_SLOW=left STUB_SLEEPS=60 begin <<<input
+wait_for input "$dir/first"
+wait_for 'first left' "$STUB_LOG"
+kill -TERM "$pid"
+end
+expect "interrupted after the answer: the answer was given" "$out$status" "${answer}143"
+: >"$STUB_LOG"
+run
+expect "and what was proved is kept" "$out$(calls 'lib-begins low')" "${answer}0"
+fresh
+sleep 30 | "$top/tele" >"$dir/first" 2>"$dir/err" &
+pid=$!
+sleep 1
+kill -TERM "$pid"
+end
+expect "interrupted while the input comes" "$out$status$(left)" 1430
+
+fresh
+STUB_SECOND=low STUB_TRIES=2 begin <<<input
+wait_for input "$dir/first"
+"$top/tele" <<<input >"$dir/second" 2>"$dir/err.second"
+expect "a second call needn't wait for the first to answer" "$(cat "$dir/second")$(calls tried)" "${answer}2"
+end
+has "and waits for its proof" "$(cat "$dir/err.second")" "the proved program gives the same answer"
+expect "one of both builds" "$(calls lib-begins)" 3
+
+fresh
+STUB_SECOND=low "$top/tele" <<<input 2>"$dir/err" | true
+expect "a reader that goes away: the status of a write that failed" "${PIPESTATUS[0]}" 5
+has "the proof goes on" "$(cat "$dir/err")" "gives the same answer"
+fresh
+"$top/tele" <&- >"$dir/first" 2>&-
+expect "without standard input the program is the one that finds it so" "$(head -n 2 "$dir/first")$(calls tried)" "${answer%
+input}0"
+fresh
+"$top/tele" <<<input 2>"$dir/err" >&-
+expect "without standard output nothing is tried" "$(calls tried)" 0
+fresh
+expect "without standard error the answer is as it is" "$("$top/tele" <<<input 2>&-)" "$answer"
+
+# Arguments that are refused, on a terminal and elsewhere.
+on_terminal() { python3 -c 'import pty, sys; sys.exit(pty.spawn(sys.argv[1:]) >> 8)' "$@" </dev/null | tr -d '\r'; }
+hint='docs/LINES.md describes the options'
+fresh
+out=$(on_terminal "$top/tele" --help) status=${PIPESTATUS[0]}
+has "on a terminal, before the proof: what the program writes" "$out" $'! usage\n'
+has "where the options are described" "$out" "$hint"
+out=$(on_terminal "$top/tele" --help)
+expect "on a terminal, after it" "$out" $'! usage\ntele: '"$hint"
+run --help
+expect "elsewhere only what the program writes" "$out$err$status" "! usage2"
+expect "on a terminal, with arguments that aren't refused" "$(on_terminal sh -c "echo input | '$top/tele' a")" "${answer/words:/words:a}"
+
+# Each program of this repository, over the stub.
+fresh
+rm -r "$top/crates"
+cp "$here/crates.txt" "$top"
+programs=
+for it in $(sed 's/#.*//; s/[ :].*//' "$here/crates.txt"); do
+    mkdir -p "$top/crates/$it/src"
+    file=$(cd "$here/crates/$it/src" && ls main.rt lib.rt 2>/dev/null | head -n 1)
+    echo "$it" >"$top/crates/$it/src/$file"
+    [ "$file" != main.rt ] || programs+=" $it"
+done
+has "the program is one of them" "$programs " " tele "
+for it in $programs; do
+    python3 "$top/tools/build.py" "$it" 2>"$dir/err" </dev/null
+    expect "tools/build.py $it" "$?$("$top/out/$it" </dev/null | sed 2q\;d)" 0words:
+done
 
 fresh
 chmod -w "$top"

@@ -1,5 +1,5 @@
 #!/usr/bin/env python3
-"""Small runs of the programs over the tree, ist_stress and ist_bench, and words that they must refuse.
+"""Small runs of the programs over the tree, try_stress and try_bench, and words that they must refuse.
 
     python3 tests/tree_programs.py
 
@@ -54,7 +54,7 @@ def stress(path):
         told = run(path, passes=passes, rounds=rounds, calls=calls, span=span, words=words)
         answered, refused, closed = (it.search(told[2]) for it in (ANSWERED, REFUSED, CLOSED))
         if told[1] != 0 or not (answered and refused and closed):
-            holds(False, f"ist_stress: {told}")
+            holds(False, f"try_stress: {told}")
             continue
         puts, removes, finds, freezes = map(int, answered.groups())
         updates, unfrozen, rebuilds = map(int, refused.groups())
@@ -68,7 +68,7 @@ def stress(path):
     holds(run(path, passes=1, rounds=3, calls=1_000, span=100, words=400_000, seed=2)[2] != first[2], "seeds make no difference")
     for options in UNFIT:
         told = run(path, **options)
-        holds(told[1] == 2 and "answered" not in told[2], f"ist_stress: not refused: {told}")
+        holds(told[1] == 2 and "answered" not in told[2], f"try_stress: not refused: {told}")
 
 
 FIGURES = re.compile(r"(\d+) processor ns a call, \d+ calls a second, (\d+) words a key: (\d+) calls, (\d+) found, (\d+) refused, (\d+) keys\n")
@@ -78,11 +78,11 @@ def bench(path):
     for spread in ("uniform", "rising", "clustered"):
         told = run(path, threads=2, calls=1_000, puts=1, removes=1, finds=2, spread=spread, keys=100, span=200, words=1_000_000)
         figures = FIGURES.fullmatch(told[2])
-        holds(told[1] == 0 and figures and figures[3] == "2000" and figures[5] == "0", f"ist_bench: {told}")
+        holds(told[1] == 0 and figures and figures[3] == "2000" and figures[5] == "0", f"try_bench: {told}")
         holds(figures and int(figures[4]) > 500 and int(figures[6]) > 50, f"too few keys, or too few were found: {told}")
     for options in ({"threads": 0}, {"threads": 65}, {"spread": "none"}, {"calls": 0}, {"words": 4}):
         told = run(path, **options)
-        holds(told[1] == 2 and not told[2], f"ist_bench: not refused: {told}")
+        holds(told[1] == 2 and not told[2], f"try_bench: not refused: {told}")
     # the system's account of processor time names the program, whatever its name has
     with tempfile.TemporaryDirectory() as room:
         for name in ("plain", "a b", "a) 9 9"):
@@ -92,6 +92,6 @@ def bench(path):
             holds(told[1] == 0 and figures and int(figures[1]) > 0, f"{name}: no time is told: {told}")
 
 
-stress(program("ist_stress"))
-bench(program("ist_bench"))
+stress(program("try_stress"))
+bench(program("try_bench"))
 end()

@@ -35,6 +35,8 @@ PARTS = ("src", "specs", "proofs")
 NOT_BUILT = 125
 # How much memory a check may take, in bytes.
 MEMORY_OF_A_JOB = 2_000_000_000
+# How far a crate gives way to the one that most waits for.
+GIVES_WAY = 10
 # Lines of a log that tell why a crate isn't proved.
 CAUSE = re.compile(r"error(\[[\w-]+])?:|no proof|not proved|killed|No space|^rt: (?!note|chose|rt (check|lemma)|running|.*begins with)", re.I)
 
@@ -43,8 +45,21 @@ class NotBuilt(Exception):
     """Why the program couldn't be made, in lines."""
 
 
+# Held while a line is written, so that no other comes into it.
+SPEAKING = threading.RLock()
+
+
 def say(text):
-    print(f"tele: {text}", file=sys.stderr, flush=True)
+    with SPEAKING:
+        clear_line()
+        print(f"tele: {text}", file=sys.stderr, flush=True)
+
+
+def clear_line():
+    """Removes the line that says how far the proof is, if there is one."""
+    if sys.stderr.isatty():
+        with SPEAKING:
+            print("\r\033[K", end="", file=sys.stderr, flush=True)
 
 
 # What a program is made from
@@ -105,7 +120,8 @@ class Source:
         return [it for it in ["crates.txt", "HANDLES", *parts] if (self.top / it).exists()]
 
     def weight(self, name):
-        return 1 + sum(it.count(b"\n") for it in self.files[name].values())
+        """Returns about how long the crate takes to prove. A line of code weighs more than one of a proof or a definition."""
+        return 1 + sum(it.count(b"\n") * (10 if path.endswith(".rt") else 1) for path, it in self.files[name].items())
 
 
 class Kit:
@@ -119,7 +135,12 @@ class Kit:
         texts = [Path(it).read_bytes() for it in self.paths if os.path.isfile(it)]
         tools = [(it.name, it.stat().st_size) for it in sorted((folder / "bin").glob("*"))] if self.rt else []
         self.sum = sum_of(texts, tools) if self.rt else ""
-        self.command = [sys.executable, str(Path(__file__).resolve().parent / "once.py"), self.rt]
+        # How far the proofs give way to what else the machine does, as for the command `nice`.
+        self.gives_way = 0
+
+    def command(self, *options):
+        """Returns `rt`, as a command for folders in which nothing is edited."""
+        return [sys.executable, str(Path(__file__).resolve().parent / "once.py"), "--still", *options, self.rt]
 
 
 class Made:
@@ -203,24 +224,29 @@ class Room:
     def lay_out(self, name):
         """Writes the crate's folder: its files and those below it, and the libraries below it as they were built."""
         self.note(name).unlink(missing_ok=True)
-        root, names = self.crate(name).parent.parent, [*self.source.below[name], name]
-        root.mkdir(parents=True, exist_ok=True)
-        (root / "crates.txt").write_text("".join(f"{self.source.lines[it]}\n" for it in names))
-        if self.source.handles:
-            (root / "HANDLES").write_bytes(self.source.handles)
-        (root / "crates").mkdir(exist_ok=True)
-        for it in (root / "crates").iterdir():
-            if it.name not in names:
-                shutil.rmtree(it)
-        for it in names:
-            lay_files(self.crate(it, of=name), self.source.files[it])
-        for it in names[:-1]:
+        lay_repository(self.crate(name).parent.parent, self.source, name)
+        for it in self.source.below[name]:
             lay_library(self.crate(it), self.crate(it, of=name))
 
     def tidy(self):
         """Removes what checks keep to go on from, which is the most of it; libraries stay."""
         for it in self.source.names:
             shutil.rmtree(self.crate(it) / "out" / "incremental", ignore_errors=True)
+
+
+def lay_repository(root, source, name):
+    """Writes the files of a crate and of those below it, as a repository of their own."""
+    names = [*source.below[name], name]
+    root.mkdir(parents=True, exist_ok=True)
+    (root / "crates.txt").write_text("".join(f"{source.lines[it]}\n" for it in names))
+    if source.handles:
+        (root / "HANDLES").write_bytes(source.handles)
+    (root / "crates").mkdir(exist_ok=True)
+    for it in (root / "crates").iterdir():
+        if it.name not in names:
+            shutil.rmtree(it)
+    for it in names:
+        lay_files(root / "crates" / it, source.files[it])
 
 
 def lay_files(folder, files):
@@ -284,47 +310,54 @@ def memory():
 class Proof(threading.Thread):
     """One crate, as it is proved."""
 
-    def __init__(self, room, name, jobs, ended):
+    def __init__(self, room, name, jobs, is_first, ended):
         super().__init__(daemon=True)
-        self.room, self.name_of, self.jobs, self.ended = room, name, jobs, ended
+        self.room, self.name_of, self.jobs, self.is_first, self.ended = room, name, jobs, is_first, ended
         self.done, self.all, self.status, self.process, self.is_stopped = 0, 0, None, None, False
         self.log = room.logs / f"{name}.log"
 
-    def commands(self):
-        jobs = ["--jobs", str(self.jobs)] if self.jobs else []
+    def words(self):
+        """Returns the words for `rt`: one command proves the crate, says how far it is, and builds its library or program."""
+        jobs = ["--jobs", str(self.jobs)]
         if self.name_of == self.room.source.program:
-            return [["run", *jobs]]
-        # One command proves the crate, says how far it is and builds its library.
-        return [["lib", *jobs]]
+            # `rt` also runs what it built, here with an argument that most programs refuse at once.
+            return ["run", *jobs, "--", "--help"]
+        return ["lib", *jobs]
 
     def run(self):
         try:
             self.room.lay_out(self.name_of)
             with open(self.log, "w", errors="replace") as log:
-                for words in self.commands():
-                    self.status = self.call(words, log)
-                    if self.status:
-                        break
+                self.status = self.call(self.words(), log)
             if self.status == 0:
                 self.room.has_proved(self.name_of)
         except (OSError, shutil.Error) as error:
             self.status = str(error)
         self.ended.put(self)
 
+    def command(self):
+        """Returns the command `rt`, which gives way to the crate that comes first."""
+        number = self.room.kit.gives_way + (0 if self.is_first else GIVES_WAY)
+        niced = ["nice", "-n", str(number)] if number and shutil.which("nice") else []
+        return [*niced, *self.room.kit.command()]
+
     def call(self, words, log):
         how = {"cwd": self.room.crate(self.name_of), "stdin": subprocess.DEVNULL, "stderr": subprocess.STDOUT}
         log.write(f"$ cd {how['cwd']} && rt {' '.join(words)}\n")
         log.flush()
-        with subprocess.Popen([*self.room.kit.command, *words], stdout=subprocess.PIPE, text=True, errors="replace", **how) as self.process:
+        with subprocess.Popen([*self.command(), *words], stdout=subprocess.PIPE, text=True, errors="replace", **how) as self.process:
             if self.is_stopped:
                 self.process.terminate()
+            is_built = False
             for line in self.process.stdout:
                 log.write(line)
                 log.flush()
                 found = re.match(r"checked .*, (\d+) of (\d+)$", line)
                 if found:
                     self.done, self.all = int(found[1]), int(found[2])
-        return self.process.returncode
+                # From here on the status is the program's own, which may be any.
+                is_built = is_built or line.startswith(f"rt: running out/{self.name_of};")
+        return 0 if is_built else self.process.returncode
 
     def stop(self):
         self.is_stopped = True
@@ -353,7 +386,7 @@ class Build:
         self.waiting = [it for it in self.source.names if it not in self.proved]
         self.number, self.begun, self.running, self.alone = len(self.waiting), time.time(), [], set()
         self.processors = processors()
-        # Twice as many as there are processors: a crate keeps its number to the end, when nothing may run beside it any more.
+        # Twice as many as there are processors: one crate may use all, and others what it leaves.
         self.most = self.processors if "TELE_JOBS" in os.environ else max(1, min(2 * self.processors, memory() // MEMORY_OF_A_JOB))
         self.weight = {it: self.source.weight(it) for it in self.source.names}
         above = lambda name: [it for it in self.waiting if name in self.source.below[it]]
@@ -369,20 +402,19 @@ class Build:
         return sorted(able, key=lambda it: -self.chain[it])
 
     def begin(self):
-        """Starts as many crates as there is room for; a large one is shared by several processors."""
+        """Starts as many crates as there is room for. The one that most waits for has all processors, and the others what it leaves."""
         while True:
-            able, used = self.ready(), sum(it.jobs or self.processors for it in self.running)
-            free = self.most - used
+            able, free = self.ready(), self.most - sum(it.jobs for it in self.running)
             if not able or free < 1:
                 return
-            name, rest = able[0], [*able[1:], *[it.name_of for it in self.running]]
-            share = self.weight[name] / sum(self.weight[it] for it in [name, *rest])
-            jobs = max(1, min(free - (len(able) > 1), self.processors, round(self.most * share)))
-            if name in self.alone:
-                jobs = 1
-            # `rt` chooses best for a crate that nothing runs beside.
-            is_lone = not rest and jobs == self.processors
-            proof = Proof(self.room, name, None if is_lone else jobs, self.ended)
+            name = able[0]
+            is_first = all(self.chain[name] > self.chain[it.name_of] for it in self.running)
+            others = sum(not it.is_first for it in self.running)
+            used = sum(it.jobs for it in self.running if it.is_first)
+            if not is_first and others >= max(self.most - self.processors, self.processors - used):
+                return
+            jobs = max(1, min(free - (len(able) > 1), self.processors)) if is_first and name not in self.alone else 1
+            proof = Proof(self.room, name, jobs, is_first, self.ended)
             self.waiting.remove(name)
             self.running.append(proof)
             proof.start()
@@ -398,7 +430,7 @@ class Build:
                     pass
                 show.now()
         finally:
-            show.clear()
+            clear_line()
             for it in self.running:
                 it.stop()
 
@@ -407,12 +439,11 @@ class Build:
         name = proof.name_of
         if proof.status == 0:
             self.proved.add(name)
-            show.ended(name)
+            show.ended()
         elif proof.was_killed() and name not in self.alone:
             self.alone.add(name)
             self.waiting.append(name)
         else:
-            show.clear()
             where = [] if isinstance(proof.status, str) else [f"all that was said: {proof.log}"]
             raise NotBuilt("\n".join([f"{name} failed", *[f"  {it}" for it in proof.cause()], *where]))
 
@@ -437,18 +468,17 @@ class Shown:
 
     def now(self, is_due=False):
         if self.is_terminal:
-            wide = shutil.get_terminal_size((100, 24)).columns - 1
-            print(f"\r\033[K{('tele: ' + self.text())[:wide]}", end="", file=sys.stderr, flush=True)
+            # A line is left out rather than waited for.
+            if SPEAKING.acquire(blocking=False):
+                wide = shutil.get_terminal_size((100, 24)).columns - 1
+                print(f"\r\033[K{('tele: ' + self.text())[:wide]}", end="", file=sys.stderr, flush=True)
+                SPEAKING.release()
         elif self.build.running and (is_due or time.time() >= self.next):
             say(self.text())
             self.next = time.time() + 15
 
-    def ended(self, name):
+    def ended(self):
         self.now(is_due=True)
-
-    def clear(self):
-        if self.is_terminal:
-            print("\r\033[K", end="", file=sys.stderr, flush=True)
 
 
 def in_turn(room):
@@ -462,7 +492,8 @@ def in_turn(room):
     return lock
 
 
-def build(top, program):
+def build(top, program, begin=lambda *_: None):
+    """Makes out/NAME. Where that takes a proof, `begin` is called first, with the files, the kit and the folder to build in."""
     made, kit = Made(top, program), Kit()
     source = Source(top, program)
     if made.fits(source, kit):
@@ -470,6 +501,7 @@ def build(top, program):
     if not kit.rt:
         raise NotBuilt("the Rattle kit is missing: there is no command `rt` on the path\nREADME.md says what is needed")
     at = room_for(top)
+    begin(source, kit, at)
     with in_turn(at):
         source = Source(top, program)
         if made.fits(source, kit):
@@ -493,11 +525,14 @@ def stop(number, _):
     raise Stopped(number)
 
 
-def main():
+def ended(call):
+    """Returns the status that the call answers with, or that of what ends it, which is said."""
+    sys.stderr = sys.stderr or open(os.devnull, "w")
     for it in (signal.SIGINT, signal.SIGTERM, signal.SIGHUP):
-        signal.signal(it, stop)
+        if signal.getsignal(it) != signal.SIG_IGN:
+            signal.signal(it, stop)
     try:
-        build(Path(__file__).resolve().parent.parent, sys.argv[1])
+        return call()
     except NotBuilt as why:
         say(f"not built: {why}".replace("\n", "\ntele: "))
         return NOT_BUILT
@@ -508,7 +543,11 @@ def main():
         # Python's own status, 1, may be the program's.
         say(f"not built: {type(why).__name__}: {why}")
         return NOT_BUILT
-    return 0
+
+
+def main():
+    top = Path(__file__).resolve().parent.parent
+    return ended(lambda: build(top, sys.argv[1]) or 0)
 
 
 if __name__ == "__main__":

@@ -11,7 +11,7 @@
 - A path that begins with crates/, docs/, bench/, tools/ or tests/ is there, and a function that stands before one in a way
   through the code is in that file.
 - The index of docs/DECISIONS.md has its titles.
-- docs/ARCHITECTURE.md has a row for each crate of crates.txt, with the crates that it stands on, and draws it above these.
+- docs/ARCHITECTURE.md has one row for each crate, in the order of crates.txt, and draws what a put line passes above what it uses.
 
 Each fault is a line. The last line is 'N citations, M faults', and the status is 0 where there is none.
 """
@@ -164,20 +164,18 @@ class Citations:
                     self.cited(where, cell, True)
 
     def drawing(self):
-        """The layers are drawn so that each crate stands once, above those that it stands on."""
+        """What a put line passes is drawn so that each crate is above those that it uses."""
         name, place = "docs/ARCHITECTURE.md", {}
-        layers = (self.top / name).read_text().partition("## The layers\n")[2].partition("\n## ")[0]
+        layers = (self.top / name).read_text().partition("## What a put line passes\n")[2].partition("\n## ")[0]
         for number, line in enumerate(layers.split("\n")):
-            for it in re.findall(r"(?<![(\w])[a-z]\w+", line.partition("  " * 20)[0]) if line.startswith("    ") else []:
+            for it in re.findall(r"(?<![(\w])[a-z]\w+", line.partition("  " * 14)[0]) if line.startswith("    ") else []:
                 if it in self.crates and it in place:
                     self.fault(name, f"{it} is drawn twice")
                 if it in self.crates:
                     place[it] = number
-        for it, uses in self.listed.items() if layers else []:
-            if it not in place:
-                self.fault(name, f"{it} isn't drawn among the layers")
-            for of in uses:
-                if it in place and of in place:
+        for it in place:
+            for of in self.listed[it]:
+                if of in place:
                     self.is_good(name, place[it] < place[of], f"{it} is drawn no higher than {of}")
 
     def index(self):
@@ -192,18 +190,17 @@ class Citations:
             self.number += len(named)
 
     def map_of_crates(self):
-        name = "docs/ARCHITECTURE.md"
-        rows = {}
-        for line in (self.top / name).read_text().split("\n"):
-            cells = [it.strip() for it in line.strip("|").split("|")] if line.startswith("| `") else []
-            if len(cells) >= 3 and cells[0].strip("`") in self.crates:
-                rows[cells[0].strip("`")] = {it for it in SPAN.findall(cells[-1]) if it in self.crates}
-        for it, uses in self.listed.items():
-            if it not in rows:
-                self.fault(name, f"the crate {it} has no row in the map")
-                continue
-            wanted = {of for of in uses if of in self.crates}
-            self.is_good(name, rows[it] == wanted, f"{it} stands on {' '.join(sorted(wanted)) or 'nothing'}, by crates.txt")
+        """The map has one row for each crate, in the order of crates.txt."""
+        name, rows = "docs/ARCHITECTURE.md", []
+        text = (self.top / name).read_text().partition("## The rooms\n")[2].partition("\n## ")[0]
+        for line in text.split("\n"):
+            cell = line.strip("|").split("|")[0].strip().strip("`") if line.startswith("| `") else ""
+            if cell in self.crates:
+                rows.append(cell)
+        for it in self.listed:
+            self.is_good(name, rows.count(it) == 1, f"the crate {it} has {rows.count(it)} rows in the map")
+        if sorted(rows) == sorted(self.listed):
+            self.is_good(name, rows == [*self.listed], "the map has another order than crates.txt")
 
 
 def main():

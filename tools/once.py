@@ -2,10 +2,12 @@
 """Runs the kit's command `rt`, so that it sums up the files of a crate once, where by itself it does so once for each way
 through crates.txt that leads to the crate.
 
-    python3 tools/once.py RT WORDS..
+    python3 tools/once.py [--still] RT WORDS..
 
 A crate at the top is reached on some 1,500 ways, and each sum is asked for several times a command: minutes, in which nothing is
 proved. What `rt` does and says is otherwise the same. Where RT isn't a program of the form that is known here, it runs as it is.
+
+    --still   no file changes while the command runs: a sum is computed once a command
 """
 import importlib.machinery
 import importlib.util
@@ -27,11 +29,15 @@ def module_of(path):
     return found if callable(getattr(crate, "stamp", None)) and callable(getattr(found, "main", None)) else None
 
 
-def keep_sums(crate):
-    """Has one question for a sum keep the sums that it comes by; the next one reads the files again."""
-    plain, local = crate.stamp, threading.local()
+def keep_sums(crate, is_still):
+    """Has one question for a sum keep the sums that it comes by; the next one reads the files again, unless they stay as they are."""
+    plain, local, always = crate.stamp, threading.local(), {}
 
     def stamp(self):
+        if is_still:
+            if self.folder not in always:
+                always[self.folder] = plain(self)
+            return always[self.folder]
         if getattr(local, "known", None) is None:
             local.known = {}
             try:
@@ -45,7 +51,7 @@ def keep_sums(crate):
     crate.stamp = stamp
 
 
-def main(rt, words):
+def main(rt, words, options):
     sys.dont_write_bytecode = True
     path = os.path.realpath(rt)
     try:
@@ -54,9 +60,12 @@ def main(rt, words):
         found = None
     if found is None:
         os.execv(rt, [rt, *words])
-    keep_sums(found.rtlib.Crate)
+    keep_sums(found.rtlib.Crate, "--still" in options)
     sys.argv = [path, *words]
     sys.exit(found.main(words))
 
 
-main(sys.argv[1], sys.argv[2:])
+given, options = sys.argv[1:], []
+while given[0] == "--still":
+    options.append(given.pop(0))
+main(given[0], given[1:], options)

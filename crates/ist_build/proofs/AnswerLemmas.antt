@@ -1,5 +1,5 @@
--- What the calls of this crate answer, in references and in the one relation of how a seat goes on.
--- Serves `calls`.
+-- What the calls of this crate return, in terms of references and of the one relation between a
+-- seat's views. Serves `calls`.
 use Rattle.std.proofs.Common.{◌≡◌, ◌≢◌, ℕ, zero, suc, List, [], ◌∷◌, map, take, drop, Option, None, Some, refl, ap, sym, subst, ◌∙◌}
 use Rattle.ist_core.specs.declared.ports.Full.{Full}
 use Rattle.ist_core.specs.Ideals.{IsIdeal}
@@ -9,7 +9,7 @@ use Rattle.ist_core.specs.References.{Ref, InnerAt, LeafAt, ref_of, unset_word}
 use Rattle.ist_core.specs.Snapshots.{Snapshot, bases_of}
 use Rattle.ist_core.proofs.NamingLemmas.{RootNames}
 use Rattle.ist_core.proofs.OrderLemmas.{names}
-use Rattle.ist_rebuilds.proofs.FinishedLeafLemmas.{finished_leaves}
+use Rattle.laws_rebuilds.proofs.FinishedLeafLemmas.{finished_leaves}
 use Rattle.ist_rule.specs.declared.view.View.{View}
 use Rattle.ist_rule.specs.Going.{WentOn}
 use Rattle.ist_rule.specs.Rule.{IsSound}
@@ -47,6 +47,7 @@ leaf_number (leaf ∷ leaves) (suc i) base e =
 pub built_went : (v w : View) → BuiltOn v w → WentOn Builds v w
 built_went v w b = laid_went Builds v w (built_put v w b)
 
+-- a seat that puts a build in place makes only events of builds
 pub put_went : (v w : View) → PutOn v w → WentOn Builds v w
 put_went v w b = laid_went Builds v w b
 
@@ -68,7 +69,7 @@ part_laid old new word ref leaves laid is =
           leaves above (bases_of laid.rows)) same (laid.ideal above low);
     }
 
--- a root that stands is the reference that its word names
+-- a root that is set is the reference that its word names
 pub root_as : (t : Snapshot) (rebuild word : ℕ) (ref : Ref) → HasRoot t rebuild word
     → ref_of word ≡ Some ref → HasRootAs t rebuild ref
 root_as t rebuild word ref h is =
@@ -97,6 +98,7 @@ short_out v w words keys full h =
       small = h.small;
     }
 
+-- a call that was stopped is short of words for the rebuild
 pub stopped_out : (v w : View) (rebuild words : ℕ) (full : Full)
     → IsStopped v rebuild words full w → RebuildIsShort v rebuild words full w
 stopped_out v w rebuild words full h =

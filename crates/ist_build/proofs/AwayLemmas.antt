@@ -202,7 +202,7 @@ module _ (who : Caller) (c : IsCaller who) (s : IsSound who.seat.view) (w : View
       (ap number_of (ap (λ x. x.who) b.same ∙ c.mine))
       ∙ named_rows base le first
 
-  -- ---- behind the event by which they are held no more
+  -- ---- after the event by which they are no longer held
 
   module _ (new : Caller) (event : Event) (before : Log) (later : Later w.who w.log before)
       (log_is : new.seat.view.log ≡ event ∷ before) (start_is : new.seat.view.start ≡ v.start)

@@ -1,4 +1,4 @@
--- A caller behind the step by which what it built is put in place or lost. Serves `root`.
+-- A caller after the step that puts in place, or loses, what it built. Serves `root`.
 use Rattle.std.proofs.Common.{◌≡◌, ℕ, List, ◌++◌, refl, sym, ap, ap₂, ◌∙◌, subst}
 use Rattle.ist_core.specs.declared.events.Event.{Event}
 use Rattle.ist_core.specs.declared.lists.Row.{Row}
@@ -25,7 +25,7 @@ use Rattle.ist_build.proofs.AwayLemmas.{refused_back, caller_back}
 use Rattle.ist_build.proofs.PutOnLemmas.{built_put, put_more, loads_put}
 use Rattle.ist_build.proofs.TopBegunLemmas.{sizes_on}
 
--- behind the step the caller is one whose builds were refused
+-- after the step each build of which the caller holds rows was refused
 pub record IsBack (old new : Caller) : Type 0 where
   pub caller : IsCaller new
   pub refused : HasRefused new
@@ -87,7 +87,7 @@ module _ (old mid : Caller) (c : IsCaller old) (refused : HasRefused old)
             (logged_load_laid Builds w event place word seat.view l is (made w.made));
       }
 
--- behind loads it is one too
+-- the same holds after loads
 pub back_loads : (who : Caller) (seat : SeatFace) → IsCaller who → HasRefused who
     → GoesOnTo who.seat.view seat.view → IsBack who (record who { seat = seat })
 back_loads who seat c refused g =

@@ -1,10 +1,9 @@
--- What a build asks and answers, by what it has laid. Serves `build`.
+-- What a build requires and returns, from what it has built. Serves `build`.
 use Rattle.std.proofs.Common.{◌≡◌, ◌≢◌, ℕ, ◌+◌, ◌-◌, ◌<◌, ◌≤◌, ◌==◌, true, false, List, [], ◌∷◌, ◌++◌, length, take, drop, Some, slice_index_or, refl, sym, ap, ap₂, ◌∙◌, subst, append-nil, append_assoc, arith}
 use Rattle.std.proofs.lemmas.Bool.Decides.{nat_tests}
 use Rattle.std.proofs.lemmas.List.{length-map}
 use Rattle.std.specs.List.{flat_map}
 use Rattle.ist_core.specs.declared.ports.Full.{Full}
-use Rattle.ist_core.specs.declared.states.LeafRow.{LeafRow}
 use Rattle.ist_core.specs.Arithmetic.{degree, part_len, part_start}
 use Rattle.ist_core.specs.Leaves.{PlacedLeaf}
 use Rattle.ist_core.specs.Parts.{first_keys}
@@ -18,8 +17,8 @@ use Rattle.ist_core.proofs.ReferenceLemmas.{ref_of-word_of}
 use Rattle.ist_core.proofs.RootLemmas.{least_degree-le}
 use Rattle.ist_core.proofs.RoomLemmas.{next_within, words_same}
 use Rattle.ist_core.proofs.ShapeLemmas.{shape_none, shape_one, shape_many}
-use Rattle.ist_forms.specs.Dividing.{lens_to, parts_to, share_of}
-use Rattle.ist_forms.proofs.PartLemmas.{parts_all, lens_all}
+use Rattle.laws_rows.specs.Dividing.{lens_to, parts_to, share_of}
+use Rattle.laws_rows.proofs.PartLemmas.{parts_all, lens_all}
 use Rattle.ist_rule.specs.declared.view.View.{View}
 use Rattle.ist_rule.specs.Rule.{IsSound}
 use Rattle.ist_rule.specs.Learning.{now}
@@ -28,7 +27,7 @@ use Rattle.ist_dcss.proofs.FieldLemmas.{good_base}
 use Rattle.ist_rows.specs.declared.callers.Caller.{Caller}
 use Rattle.ist_rows.specs.Rows.{IsFull}
 use Rattle.ist_rows.specs.Building.{IsInBuild, IsNext, HasTaken}
-use Rattle.ist_build.specs.Laying.{BuiltOn, ArePlaced, HaveLeaves, IsLeaf, IsLaid, IsDue, IsShort}
+use Rattle.ist_build.specs.Laying.{BuiltOn, ArePlaced, HaveLeaves, IsLaid, IsDue, IsShort}
 use Rattle.ist_build.specs.Midway.{words_at, AreLaid, lens_from, IsOpened, IsMidway}
 use Rattle.ist_build.proofs.BuiltLemmas.{built_more, loads_built}
 use Rattle.ist_build.proofs.TogetherLemmas.{laid_none, laid_leaf, laid_top}
@@ -41,6 +40,7 @@ use Rattle.ist_build.proofs.PartsLemmas.{lens_first, lens_last, sizes_left}
 pub is_none : (n : ℕ) → (n == 0) ≡ true → n ≡ 0
 is_none n e = grind (arith, nat_tests)
 
+-- a number that is neither 0 nor 1 is at least 2
 pub is_several : (n : ℕ) → (n == 0) ≡ false → n ≢ 1 → 2 ≤ n
 is_several n e ne = let some : n ≢ 0 = grind (arith, nat_tests) in omega arith
 
@@ -53,6 +53,7 @@ none_laid v number word leaves none is [] a =
 none_laid v number word leaves none is (leaf ∷ more) a =
     absurd (let all = ap length a.bases_are in omega arith)
 
+-- a build over no leaf takes no row
 pub none_taken : (who : Caller) (leaves : List ℕ) → length leaves ≡ 0
     → HasTaken who (shape (length leaves)) who
 none_taken who leaves none stuck done rest h =
@@ -73,6 +74,7 @@ one_good v s leaves have one = at leaves have.0 have.1 one
         subst (λ xs. IsGoodBase (slice_index_or xs 0 0)) a.bases_are
         (good_base v s leaf.base (Leaf leaf.row) a.published.0 (omega arith))
 
+-- the word of a leaf is the ideal subtree over this leaf
 pub one_laid : (v : View) → IsSound v → (number word : ℕ) (leaves : List ℕ) → length leaves ≡ 1
     → word ≡ word_of (LeafAt (slice_index_or leaves 0 0)) → (placed : List PlacedLeaf)
     → ArePlaced (now v) leaves placed → IsLaid v number (now v).next word placed
@@ -88,6 +90,7 @@ one_laid v s number word leaves one is (leaf ∷ []) a =
 one_laid v s number word leaves one is (leaf ∷ second ∷ more) a =
     absurd (let all = ap length a.bases_are in omega arith)
 
+-- a build over one leaf takes no row
 pub one_taken : (who : Caller) (leaves : List ℕ) → length leaves ≡ 1
     → HasTaken who (shape (length leaves)) who
 one_taken who leaves one stuck done rest h =
@@ -128,6 +131,7 @@ row_short v words n d full w two same f =
       small = omega arith;
     }
 
+-- a refused reservation only made loads, and so built on
 pub full_built : (v : View) (words size : ℕ) (full : Full) (w : View) → IsFull v words size full w
     → BuiltOn v w
 full_built v words size full w f =
@@ -173,33 +177,6 @@ module _ (old who : Caller) (leaves : List ℕ) (base d j : ℕ) (m : IsMidway o
   pub length_own : length own ≡ part_len n j
   length_own = ap length own_is ∙ length-share_of n j leaves refl less
 
-  -- and so is the first
-  pub first_leaf : HaveLeaves (now old.seat.view) leaves
-      → IsLeaf (now who.seat.view) (slice_index_or own 0 0)
-  first_leaf have =
-      let it = part_leaves have in
-      at own it.0 it.1 (omega (arith, length_own))
-    where
-      at : (bases : List ℕ) (placed : List PlacedLeaf) → ArePlaced (now who.seat.view) bases placed
-          → 1 ≤ length bases → IsLeaf (now who.seat.view) (slice_index_or bases 0 0)
-      at bases [] a e = absurd (let all = ap length a.bases_are in omega arith)
-      at bases (leaf ∷ more) a e =
-          subst (λ xs. IsLeaf (now who.seat.view) (slice_index_or xs 0 0)) a.bases_are
-          record { row = leaf.row; published = a.published.0 }
-
-  -- whose key is the one that was loaded
-  pub key_told : (key : ℕ) → ((row : LeafRow)
-      → (now who.seat.view).pieces (slice_index_or own 0 0) ≡ Some (Leaf row) → key ≡ row.key)
-      → (placed : List PlacedLeaf) → ArePlaced (now old.seat.view) leaves placed
-      → (leaf : PlacedLeaf) (others : List PlacedLeaf) → share_of n j placed ≡ leaf ∷ others
-      → key ≡ leaf.row.key
-  key_told key told placed a leaf others is =
-      let it = subst (ArePlaced (now who.seat.view) (share_of n j leaves)) is
-      (part_placed old.seat.view who.seat.view m.built n j leaves placed a) in
-      let first : slice_index_or own 0 0 ≡ leaf.base =
-      ap (λ xs. slice_index_or xs 0 0) (own_is ∙ sym it.bases_are) in
-      told leaf.row (ap (now who.seat.view).pieces first ∙ it.published.0)
-
   -- its rows are due
   pub part_due : IsDue old n → IsDue who (length own)
   part_due h =
@@ -216,7 +193,7 @@ module _ (old who : Caller) (leaves : List ℕ) (base d j : ℕ) (m : IsMidway o
             (m.due h.stuck h.done h.rest h.at));
       }
 
-  -- where too few words are left for one of them, they are for the whole
+  -- if too few words are left for one of them, too few are left for the whole
   pub part_short : (words : ℕ) (full : Full) (w : View) → length own ≤ n
       → IsShort who.seat.view words (length own) full w → IsShort old.seat.view words n full w
   part_short words full w le h =

@@ -1,4 +1,4 @@
--- How a seat goes on while it builds. Serves `building` and `parts`.
+-- What a seat does while it builds. Serves `building` and `parts`.
 use Rattle.std.proofs.Common.{inl, inr, ◌≡◌, ℕ, ◌<◌, ◌≤◌, List, [], ◌∷◌, Some, refl, sym, ap, ◌∙◌, subst, arith}
 use Rattle.ist_core.specs.declared.events.Event.{Event}
 use Rattle.ist_core.specs.declared.events.Event.TheVariants.{Reserve}
@@ -30,7 +30,7 @@ use Rattle.ist_build.proofs.OwnWordLemmas.{own_else}
 
 -- ---- leaves
 
--- a leaf stays where rows grow
+-- a leaf stays as rows grow
 pub leaf_grows : (ps qs : Pieces) → AllGrow ps qs → (base : ℕ) (r : LeafRow)
     → ps base ≡ Some (Leaf r) → qs base ≡ Some (Leaf r)
 leaf_grows ps qs g base r e =
@@ -40,6 +40,7 @@ leaf_grows ps qs g base r e =
     stays : (q : Piece) → Grows (Leaf r) q → q ≡ Leaf r
     stays _ leaf_stays = refl
 
+-- a published leaf is the same after loads
 pub leaf_goes_on : (v w : View) → GoesOnTo v w → (base : ℕ) (r : LeafRow)
     → (now v).pieces base ≡ Some (Leaf r) → (now w).pieces base ≡ Some (Leaf r)
 leaf_goes_on v w g base r e =
@@ -48,7 +49,7 @@ leaf_goes_on v w g base r e =
 -- ---- going on
 
 module _ (pairs : List Pair) (words : ℕ) where
-  -- what is held stays held where the holder reserves alone
+  -- what is held stays held if the holder only reserves
   held_between : (h : HeldRow) (old log : Log) → EachEnabled (start pairs words) log
       → LaterBy (Caller h.caller) Reserves old log
       → Among h (state_of pairs words old).held → Among h (state_of pairs words log).held
@@ -67,16 +68,19 @@ module _ (pairs : List Pair) (words : ℕ) where
           (record { caller = caller; base = base; size = size } ∷ []) j
       by_event _ own j = absurd own
 
--- the state behind the log, by the table of the first view
+-- the state after the log, by the first view's table
 pub built_now : (v w : View) → BuiltOn v w → now w ≡ state_of v.start v.words w.log
 built_now = laid_now Reserves
 
+-- the log after a build is lawful
 pub built_lawful : (v w : View) → BuiltOn v w → Lawful v.start v.words w.log
 built_lawful = laid_lawful Reserves
 
+-- a build keeps the seat's author
 pub built_who : (v w : View) → BuiltOn v w → w.who ≡ v.who
 built_who = laid_who Reserves
 
+-- a build keeps the table's number of words
 pub built_words : (v w : View) → BuiltOn v w → w.words ≡ v.words
 built_words v w b = ap (λ x. x.words) b.same
 
@@ -109,6 +113,7 @@ built_more = laid_more Reserves
 pub loads_built : (v w : View) → GoesOnTo v w → BuiltOn v w
 loads_built = goes_on_laid Reserves
 
+-- a seat that reserved a row has built on
 pub reserved_built : (v : View) (number base size : ℕ) (w : View) → Reserved v number base size w
     → BuiltOn v w
 reserved_built v number base size w r =

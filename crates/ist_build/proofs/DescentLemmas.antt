@@ -41,7 +41,7 @@ few_below v s node degree i loads more base below h less few two rise rest =
 
 -- ---- the leaf is found
 
--- behind all slots it would have been
+-- if there is a leaf number i, a reading of all leaves finds it
 pub not_behind : (leaves : List PlacedLeaf) (i skip : ℕ) → i < length leaves
     → HasRead (0 ∷ []) (before_one i) leaves (0 ∷ []) (before_one skip) → ⊥
 not_behind leaves i skip enough h =
@@ -52,19 +52,22 @@ not_behind leaves i skip enough h =
     let same = ap length (h.got ∙ is) in
     omega arith
 
--- what is left to skip behind what hangs below a slot
+-- what is left to skip after what hangs below a slot
 abbrev pub LeavesOut : ℕ → Below → ℕ → Type 0
 LeavesOut skip Nothing to = to ≡ skip
 LeavesOut skip (Leaf base) to = (0 < skip) × (to ≡ skip - 1)
 LeavesOut skip (Row base keys) to = (keys ≤ skip) × (to ≡ skip - keys)
 
+-- an empty slot leaves the number to skip as it is
 pub past_nothing : {skip to : ℕ} {below : Below} → below ≡ Nothing → to ≡ skip → LeavesOut skip below to
 past_nothing {skip} {to} is e = subst (λ b. LeavesOut skip b to) (sym is) e
 
+-- a leaf that is skipped takes one from the number to skip
 pub past_leaf : {skip to : ℕ} {below : Below} (base : ℕ) → below ≡ Leaf base → 0 < skip
     → to ≡ skip - 1 → LeavesOut skip below to
 past_leaf {skip} {to} base is some e = subst (λ b. LeavesOut skip b to) (sym is) (some, e)
 
+-- a row that is skipped takes its keys from the number to skip
 pub past_row : {skip to : ℕ} {below : Below} (base keys : ℕ) → below ≡ Row base keys → keys ≤ skip
     → to ≡ skip - keys → LeavesOut skip below to
 past_row {skip} {to} base keys is out e = subst (λ b. LeavesOut skip b to) (sym is) (out, e)

@@ -35,8 +35,8 @@ use Rattle.ist_dcss.proofs.FieldLemmas.{looked_row, row_low}
 use Rattle.ist_rows.specs.declared.callers.Caller.{Caller}
 use Rattle.ist_rows.specs.Rows.{IsCaller, spares_of}
 use Rattle.ist_rows.specs.Building.{HasRefused, sizes_built}
-use Rattle.ist_stability.proofs.SetLemmas.{set_by, set_later}
-use Rattle.ist_coming.proofs.AddingLemmas.{draw_comes}
+use Rattle.laws_stability.proofs.SetLemmas.{set_by, set_later}
+use Rattle.laws_coming.proofs.AddingLemmas.{draw_comes}
 use Rattle.ist_rule.proofs.WentOnLemmas.{later_by-goes_on}
 use Rattle.ist_build.specs.Laying.{IsShort}
 use Rattle.ist_build.specs.Naming.{drawing}
@@ -190,6 +190,7 @@ set_on v w b node j h =
       set = later.set;
     }
 
+-- at first no slot is filled
 pub filling_begun : (old : Caller) → IsCaller old → HasRefused old → IsSound old.seat.view
     → (rebuild target root k : ℕ) → IsShared (now old.seat.view) rebuild target root k
     → IsFilling old rebuild target root k 0 old
@@ -221,6 +222,7 @@ filling_on old who new rebuild target root k i f put caller refused number rows 
       filled = λ j less. set_on who.seat.view new.seat.view put root j (f.filled j less);
     }
 
+-- further steps of builds keep the state in which no slot is filled yet
 pub filling_same : (old who new : Caller) (rebuild target root k : ℕ)
     → IsFilling old rebuild target root k 0 who → PutOn who.seat.view new.seat.view
     → IsCaller new → HasRefused new → new.number ≡ who.number → spares_of new ≡ spares_of who
@@ -228,6 +230,7 @@ pub filling_same : (old who new : Caller) (rebuild target root k : ℕ)
 filling_same old who new rebuild target root k f put caller refused number rows =
     filling_on old who new rebuild target root k 0 f put caller refused number rows
 
+-- once slot i is set, one more slot is filled
 pub filling_more : (old who new : Caller) (rebuild target root k i : ℕ)
     → IsFilling old rebuild target root k i who → PutOn who.seat.view new.seat.view
     → IsCaller new → HasRefused new → new.number ≡ who.number → spares_of new ≡ spares_of who
@@ -258,6 +261,7 @@ shared_told t rebuild target root k h =
       finished = subst (λ n. IsFinishedWith t n k) (sym h.target_is) h.finished;
     }
 
+-- a build that is short of words stops the filling
 pub filling_stopped : (old who mid : Caller) (rebuild target root k i : ℕ) (w : View) (words : ℕ)
     (full : Full) → IsShared (now old.seat.view) rebuild target root k
     → IsFilling old rebuild target root k i who → PutOn who.seat.view mid.seat.view
@@ -267,5 +271,6 @@ filling_stopped old who mid rebuild target root k i w words full sh f put short 
     (shared_told (now old.seat.view) rebuild target root k sh)
     (put_more old.seat.view who.seat.view mid.seat.view f.put put) short
 
+-- the relation holds from a view to itself
 pub put_same : (v : View) → IsSound v → PutOn v v
 put_same v s = built_put v v (built_same v s)

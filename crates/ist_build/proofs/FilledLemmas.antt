@@ -25,8 +25,8 @@ use Rattle.ist_rule.specs.Learning.{now, Looked}
 use Rattle.ist_rule.proofs.GoingOnLemmas.{looked_goes_on}
 use Rattle.ist_dcss.proofs.FieldLemmas.{looked_row}
 use Rattle.ist_dcss.proofs.SlotPlaceLemmas.{has_degree}
-use Rattle.ist_stability.proofs.SetLemmas.{set_by}
-use Rattle.ist_coming.proofs.BeatenLemmas.{finished_once}
+use Rattle.laws_stability.proofs.SetLemmas.{set_by}
+use Rattle.laws_coming.proofs.BeatenLemmas.{finished_once}
 use Rattle.ist_build.specs.Calls.{IsTold, IsRooted, IsBuiltOut}
 use Rattle.ist_build.specs.Putting.{PutOn, IsShared, IsSlotSet, IsStopped}
 use Rattle.ist_build.proofs.BuiltLemmas.{built_grow, loads_built}
@@ -91,7 +91,7 @@ few_filled v s rebuild k told h few =
         got
         ∙ ap (λ x. Some x) is)
 
--- over many it is where each slot is set
+-- over many keys it is filled if each slot is set
 pub many_filled : (v : View) → IsSound v → (rebuild target root k : ℕ)
     → IsShared (now v) rebuild target root k
     → ((i : ℕ) → i < degree k → IsSlotSet (now v) root i) → IsBuiltOut (now v) rebuild
@@ -128,6 +128,7 @@ many_filled v s rebuild target root k sh all =
         h.set (slot_once (now v) root i h.word word
         (anchor_free v.start v.words v.log s.lawful.enabled) h.holds (in_row r e got) ∙ is)
 
+-- if each slot was set, the rebuild is built out
 pub ok_filled : (v w : View) → IsSound w → PutOn v w → (rebuild target root k : ℕ)
     → IsShared (now v) rebuild target root k → (answer : Result (Unit {0}) Full)
     → IfOk answer (λ done. (i : ℕ) → i < degree k → IsSlotSet (now w) root i)
@@ -144,6 +145,7 @@ pub record NamesRoot (v : View) (rebuild target k word : ℕ) : Type 0 where
   pub low : word / 8 < 2 ^ 32
   pub shared : IsShared (now v) rebuild target (word / 8) k
 
+-- a load of the root word of a shared root names the root
 pub names_root : (v w : View) (rebuild target k place word : ℕ) → IsTold (now v) rebuild k
     → HasTarget (now v) rebuild target → IsRooted (now v) rebuild → share_from ≤ k
     → place ≡ rebuild + rebuild_root_offset → Looked v place word w
@@ -189,7 +191,7 @@ names_root v w rebuild target k place word told g h many at l =
 
 -- ---- refusals
 
--- what was stopped behind something else was stopped
+-- a call that was stopped after other steps was stopped
 pub err_stopped_on : (u v w : View) (rebuild words k : ℕ) → IsTold (now u) rebuild k → PutOn u v
     → (full : Full) → IsStopped v rebuild words full w → IsStopped u rebuild words full w
 err_stopped_on u v w rebuild words k told a full h =

@@ -127,6 +127,7 @@ module _ (pairs : List Pair) (words number : ℕ) where
 
 -- ---- what was built is held no more
 
+-- an equal front of two equal lists cancels
 pub cancel : (xs ys zs : List ℕ) → xs ++ ys ≡ xs ++ zs → ys ≡ zs
 cancel [] ys zs e = e
 cancel (x ∷ xs) ys zs e = cancel xs ys zs (tail (xs ++ ys) (xs ++ zs) e)
@@ -134,7 +135,7 @@ cancel (x ∷ xs) ys zs e = cancel xs ys zs (tail (xs ++ ys) (xs ++ zs) e)
     tail : (ms bs : List ℕ) → x ∷ ms ≡ x ∷ bs → ms ≡ bs
     tail ms bs f = cc
 
--- words that a seat stored one behind another
+-- words that a seat stored one after another
 words_stored : (own : List OwnWord) (place : ℕ) (words : List ℕ)
     → ((k : ℕ) → k < length words → slice_get words k ≡ Some (own_at own (place + k)))
     → words_at own place (length words) ≡ words

@@ -31,7 +31,7 @@ next_between pairs words who P old _ h (one_more {log = log} event l is) =
     omega arith
 
 module _ (P : Event → Type 0) (v w : View) (b : LaidOn P v w) where
-  -- the state behind the log, by the table of the first view
+  -- the state after the log, by the first view's table
   pub laid_now : now w ≡ state_of v.start v.words w.log
   laid_now = ap₂ (λ p n. state_of p n w.log) (ap (λ x. x.start) b.same) (ap (λ x. x.words) b.same)
 

@@ -1,4 +1,4 @@
--- A row half built, behind each part. Serves `build`.
+-- A half-built row, after each part. Serves `build`.
 use Rattle.std.proofs.Common.{◌≡◌, ◌≢◌, ℕ, zero, suc, ◌+◌, ◌-◌, ◌<◌, ◌≤◌, List, [], ◌∷◌, ◌++◌, length, take, drop, Some, refl, sym, ap, ap₂, ◌∙◌, subst, append_assoc, arith}
 use Rattle.std.proofs.lemmas.List.{take-map, drop-map, length-take-le, length-drop, length-map}
 use Rattle.std.specs.List.{flat_map}
@@ -21,8 +21,8 @@ use Rattle.ist_rows.specs.declared.callers.Caller.{Caller}
 use Rattle.ist_rows.specs.Rows.{spares_of, IsCaller, Reserved}
 use Rattle.ist_rows.specs.Building.{IsInBuild, HasTaken}
 use Rattle.ist_build.specs.Laying.{BuiltOn, ArePlaced, IsLaid}
-use Rattle.ist_forms.specs.Dividing.{lens_to, parts_to, share_of}
-use Rattle.ist_forms.proofs.PartLemmas.{parts_next, keys_next}
+use Rattle.laws_rows.specs.Dividing.{lens_to, parts_to, share_of}
+use Rattle.laws_rows.proofs.PartLemmas.{parts_next, keys_next}
 use Rattle.ist_build.specs.Midway.{words_at, AreLaid, lens_from, IsMidway, opening, setting}
 use Rattle.ist_build.proofs.BuiltLemmas.{built_more, built_next, built_held, built_grow, rewritten_built, leaf_grows}
 use Rattle.ist_build.proofs.LayingLemmas.{row_within, rows_below, are_laid_on, same_rows}
@@ -253,7 +253,7 @@ module _ (old who new : Caller) (leaves : List ℕ) (base d j key word : ℕ)
           due = due_more;
         }
 
--- ---- as the functions tell it
+-- ---- in the form of the functions' clauses
 
 -- the row was opened
 pub midway_opened : (old new last : Caller) (leaves : List ℕ) (base d : ℕ) → IsSound old.seat.view

@@ -1,4 +1,4 @@
--- Words that a seat stored, one behind another, and the inner row that they make. Serves
+-- Words that a seat stored, one after another, and the inner row that they make. Serves
 -- `building`.
 use Rattle.std.proofs.Common.{◌≡◌, ◌≢◌, ℕ, zero, suc, ◌+◌, ◌-◌, ◌<◌, ◌≤◌, ◌⊎◌, ◌==◌, true, false, if◌then◌else◌, List, [], ◌∷◌, ◌++◌, length, slice_get, Some, refl, ap, ap₂, ◌∙◌, inl, inr, arith}
 use Rattle.std.proofs.lemmas.Bool.Decides.{eqb_tells}
@@ -34,8 +34,9 @@ own_else own place word other ne = at (eqb_tells place other)
     at (inl k) = absurd (ne k.1)
     at (inr k) = ap (λ b. if b then word else own_at own other) k.0
 
--- ---- words one behind another
+-- ---- words one after another
 
+-- n words were taken
 pub length-words_at : (own : List OwnWord) (place n : ℕ) → length (words_at own place n) ≡ n
 length-words_at own place zero = refl
 length-words_at own place (suc n) = let rest = length-words_at own (place + 1) n in omega arith
@@ -50,7 +51,7 @@ get-words_at own place (suc n) (suc k) less =
     get-words_at own (place + 1) n k (omega arith)
     ∙ ap (λ p. Some (own_at own p)) (let same : place + 1 + k ≡ place + suc k = omega arith in same)
 
--- they are the same where each is
+-- the lists are the same if each word is
 pub words_at_same : (a b : List OwnWord) (place n : ℕ)
     → ((p : ℕ) → place ≤ p → p < place + n → own_at a p ≡ own_at b p)
     → words_at a place n ≡ words_at b place n

@@ -15,7 +15,7 @@ use Rattle.ist_core.specs.Snapshots.{bases_of, sizes_of}
 use Rattle.ist_core.specs.StartLayout.{start}
 use Rattle.ist_core.specs.Writing.{place_of_slot}
 use Rattle.ist_core.proofs.PlaceLemmas.{placed, claimed_within}
-use Rattle.ist_rebuilds.proofs.FinishedLeafLemmas.{finished_leaves}
+use Rattle.laws_rebuilds.proofs.FinishedLeafLemmas.{finished_leaves}
 use Rattle.ist_rule.specs.declared.view.View.{View}
 use Rattle.ist_core.specs.declared.events.Who.TheVariants.{Caller as CallerOf}
 use Rattle.ist_rule.specs.Conditions.{CanExchangeOrLose}
@@ -26,16 +26,16 @@ use Rattle.ist_rule.specs.Watching.{number_of}
 use Rattle.ist_rows.specs.declared.callers.Caller.{Caller}
 use Rattle.ist_rows.specs.Rows.{IsCaller, spares_of}
 use Rattle.ist_rows.specs.Building.{IsInBuild, HasRefused, sizes_built}
-use Rattle.ist_coming.specs.Builds.{IsPartBuilt, WasUnset}
-use Rattle.ist_coming.proofs.PartLemmas.{part_comes_or_loses}
-use Rattle.ist_coming.proofs.PlacedLemmas.{part_sizes}
+use Rattle.laws_coming.specs.Builds.{IsPartBuilt, WasUnset}
+use Rattle.laws_coming.proofs.PartLemmas.{part_comes_or_loses}
+use Rattle.laws_coming.proofs.PlacedLemmas.{part_sizes}
 use Rattle.ist_build.specs.Laying.{BuiltOn, IsLaid, IsShort}
 use Rattle.ist_build.specs.Naming.{placing, losing, rows_from}
 use Rattle.ist_build.specs.Putting.{IsShared}
 use Rattle.ist_build.proofs.BackLemmas.{back_logged, back_lost}
 use Rattle.ist_build.proofs.BuiltLemmas.{built_grow, built_more, loads_built}
-use Rattle.ist_forms.specs.Dividing.{share_of}
-use Rattle.ist_forms.proofs.PartLemmas.{part_is}
+use Rattle.laws_rows.specs.Dividing.{share_of}
+use Rattle.laws_rows.proofs.PartLemmas.{part_is}
 use Rattle.ist_build.proofs.MidwayLemmas.{length-share_of}
 use Rattle.ist_build.proofs.LayingLemmas.{rows_free}
 use Rattle.ist_core.specs.Parts.{parts}
@@ -164,7 +164,7 @@ module _ (old mid : Caller) (c : IsCaller old) (refused : HasRefused old) (s : I
         (subst (λ (e : Event). CanExchangeOrLose w place unset_word word e
         (Lose mid.number (bases_of h.rows))) (sym placing_is) can)
 
-    -- behind it the slot is set, whoever was first
+    -- after it the slot is set, whoever was first
     pub part_behind : (seat : SeatFace) (found : ℕ)
         → ExchangedOrLost w (placing w rebuild i word) (losing w word) place unset_word found seat.view
         → IsFilledAt old (record mid { seat = seat }) root i
@@ -196,8 +196,9 @@ module _ (old mid : Caller) (c : IsCaller old) (refused : HasRefused old) (s : I
                   on.node less is_place differs lost;
             }
 
--- ---- as the functions tell it
+-- ---- in the form of the functions' clauses
 
+-- a shared root stays shared after loads
 pub shared_now : (v w : View) → GoesOnTo v w → (rebuild target root k : ℕ)
     → IsShared (now v) rebuild target root k → IsShared (now w) rebuild target root k
 shared_now v w g rebuild target root k h =
@@ -220,7 +221,7 @@ err_shorter u v g words len k full w le h =
       small = h.small;
     }
 
--- the exchange may be made, and what it tells
+-- the exchange may be made, and what is known after it
 pub record MayPut (old mid : Caller) (rebuild root i place word : ℕ) : Type 0 where
   pub allowed : CanExchangeOrLose mid.seat.view place unset_word word
       (placing mid.seat.view rebuild i word) (losing mid.seat.view word)
@@ -230,6 +231,7 @@ pub record MayPut (old mid : Caller) (rebuild root i place word : ℕ) : Type 0 
       → IsFilledAt old (record mid { seat = seat }) root i
   pub low : place < mid.seat.view.words
 
+-- a part that was built over its share may be put in place
 pub may_put : (old mid : Caller) → IsCaller old → HasRefused old → IsSound old.seat.view
     → mid.number ≡ old.number → spares_of mid ≡ spares_of old
     → BuiltOn old.seat.view mid.seat.view → (rebuild target root k i word : ℕ)

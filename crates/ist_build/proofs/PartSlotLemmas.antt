@@ -1,4 +1,4 @@
--- The slots of a shared root, and what stands in one behind an exchange. Serves `filling`.
+-- The slots of a shared root, and what one holds after an exchange. Serves `filling`.
 use Rattle.std.proofs.Common.{◌≡◌, ◌≢◌, ℕ, ◌+◌, ◌*◌, ◌/◌, ◌%◌, ◌<◌, ◌≤◌, List, length, length-append, Some, get_or, sym, ap, ◌∙◌, subst, ⊎_elim, arith}
 use Rattle.ist_core.specs.declared.events.Event.TheVariants.{Place, Lose}
 use Rattle.ist_core.specs.declared.lists.Row.{Row}
@@ -24,12 +24,12 @@ use Rattle.ist_core.proofs.PartLemmas.{part_len-long, part_len-short}
 use Rattle.ist_core.proofs.RootLemmas.{least_degree-le}
 use Rattle.std.proofs.lemmas.Bool.{cases_lt}
 use Rattle.std.proofs.Math.Nat.{le-div_iff_mul-le}
-use Rattle.ist_stability.proofs.SetLemmas.{set_by}
+use Rattle.laws_stability.proofs.SetLemmas.{set_by}
 use Rattle.ist_core.proofs.PlaceLemmas.{anchor_free}
 use Rattle.ist_core.proofs.SlotStepLemmas.{place_writes}
 use Rattle.ist_core.proofs.SoundLemmas.{sound}
 use Rattle.ist_core.proofs.StartLemmas.{sound_start}
-use Rattle.ist_links.proofs.FormLemmas.{finished_with_grows, started_grows}
+use Rattle.laws_links.proofs.FormLemmas.{finished_with_grows, started_grows}
 use Rattle.ist_rule.specs.declared.view.View.{View}
 use Rattle.ist_rule.specs.Rule.{IsSound}
 use Rattle.ist_core.specs.Shown.{IsShown, shown_row}
@@ -41,10 +41,10 @@ use Rattle.ist_dcss.proofs.SlotPlaceLemmas.{has_degree}
 use Rattle.ist_dcss.proofs.FieldLemmas.{row_low}
 use Rattle.ist_mark.proofs.MarkLemmas.{before_enabled}
 use Rattle.ist_rows.specs.declared.callers.Caller.{Caller}
-use Rattle.ist_stability.proofs.SlotWordLemmas.{place_of_row}
-use Rattle.ist_coming.specs.Builds.{WasUnset}
-use Rattle.ist_coming.proofs.KnownLemmas.{IsFast, fast_known, in_piece}
-use Rattle.ist_coming.proofs.SeenLemmas.{unset_seen}
+use Rattle.laws_stability.proofs.SlotWordLemmas.{place_of_row}
+use Rattle.laws_coming.specs.Builds.{WasUnset}
+use Rattle.laws_coming.proofs.KnownLemmas.{IsFast, fast_known, in_piece}
+use Rattle.laws_coming.proofs.SeenLemmas.{unset_seen}
 use Rattle.ist_build.specs.Calls.{MayBuild, share_part}
 use Rattle.ist_build.specs.Putting.{HasDegree, IsSlotSet, IsShared}
 use Rattle.ist_build.proofs.BackLemmas.{IsBack}
@@ -69,6 +69,7 @@ degree_low v s node d h =
     let all = low.1 in
     (omega arith, omega arith)
 
+-- a row keeps its number of slots as pieces grow
 pub degree_on : (t u : Snapshot) → AllGrow t.pieces u.pieces → (node d : ℕ) → HasDegree t node d
     → HasDegree u node d
 degree_on t u g node d h =
@@ -136,6 +137,7 @@ slot_looked v w node d i place word h less at l set =
       set = λ e. set (is ∙ e);
     }
 
+-- a slot that a load found Unset was seen Unset
 pub slot_unset : (v w : View) → IsSound v → (node d i place word number : ℕ)
     → HasDegree (now v) node d → i < d → place ≡ slot_place node d i → Looked v place word w
     → word ≡ unset_word → WasUnset w number (slot_place node d i)
@@ -146,6 +148,7 @@ slot_unset v w s node d i place word number h less at l is =
 
 -- ---- shared roots
 
+-- a shared root stays shared as pieces grow
 pub shared_on : (t u : Snapshot) → AllGrow t.pieces u.pieces → (rebuild target root k : ℕ)
     → IsShared t rebuild target root k → IsShared u rebuild target root k
 shared_on t u g rebuild target root k h =
@@ -192,9 +195,9 @@ part_two k i many =
     twice_div : (n d : ℕ) → 2 ≤ d → 2 * d ≤ n → 2 ≤ n / d
     twice_div n d some le = (le-div_iff_mul-le (omega arith)).1 le
 
--- ---- behind the exchange
+-- ---- after the exchange
 
--- the caller is one whose builds were refused, and the slot is set
+-- each build of which the caller holds rows was refused, and the slot is set
 pub record IsFilledAt (old new : Caller) (root i : ℕ) : Type 0 where
   pub back : IsBack old new
   pub set : IsSlotSet (now new.seat.view) root i
@@ -202,7 +205,7 @@ pub record IsFilledAt (old new : Caller) (root i : ℕ) : Type 0 where
 one_base : (a b : ℕ) → Some (InnerAt a) ≡ Some (InnerAt b) → a ≡ b
 one_base a b e = cc
 
--- behind a Place
+-- after a Place the slot is set
 pub part_put : (v w : View) (number rebuild i word : ℕ) (rows : List Row) (root : ℕ) (row : RebuildRow)
     → (now v).pieces rebuild ≡ Some (Rebuild row) → ref_of row.root ≡ Some (InnerAt root)
     → word ≢ unset_word → Logged v (Place number rebuild i word rows) w → IsSlotSet (now w) root i
@@ -229,7 +232,7 @@ part_put v w number rebuild i word rows root row e root_is set l =
       set = set;
     }
 
--- and behind a Lose
+-- and after a Lose too
 pub part_lost : (v w : View) (number place found : ℕ) (bases : List ℕ) (root d i : ℕ)
     → HasDegree (now v) root d → i < d → place ≡ slot_place root d i → found ≢ unset_word
     → LoggedLoad v (Lose number bases) place found w → IsSlotSet (now w) root i

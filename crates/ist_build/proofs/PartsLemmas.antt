@@ -4,8 +4,8 @@ use Rattle.std.specs.List.{flat_map, range_with_len}
 use Rattle.std.proofs.lemmas.List.Concat.{flat_map-append, flat_map-cons}
 use Rattle.ist_core.specs.Arithmetic.{degree, part_len, part_lens}
 use Rattle.ist_core.specs.Shapes.{shape}
-use Rattle.ist_forms.specs.Dividing.{lens_to}
-use Rattle.ist_forms.proofs.PartLemmas.{lens_more}
+use Rattle.laws_rows.specs.Dividing.{lens_to}
+use Rattle.laws_rows.proofs.PartLemmas.{lens_more}
 use Rattle.ist_build.specs.Midway.{lens_from}
 
 -- ---- lengths
@@ -23,6 +23,7 @@ lens_first n =
     ap (λ m. map (part_len n) (range_with_len 0 m))
     (let is : degree n - 0 ≡ degree n = omega arith in is)
 
+-- no part comes after the last
 pub lens_last : (n : ℕ) → lens_from n (degree n) ≡ []
 lens_last n =
     ap (λ m. map (part_len n) (range_with_len (degree n) m))

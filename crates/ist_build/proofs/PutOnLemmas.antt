@@ -1,4 +1,4 @@
--- How a seat goes on while its caller builds and puts in place. Serves `root`.
+-- What a seat does while its caller builds and puts in place. Serves `root`.
 use Rattle.std.proofs.Common.{◌≡◌, ℕ, ◌≤◌}
 use Rattle.ist_core.specs.declared.events.Event.{Event}
 use Rattle.ist_core.specs.declared.events.Event.TheVariants.{Reserve}
@@ -12,18 +12,23 @@ use Rattle.ist_build.specs.Laying.{Reserves, BuiltOn, IsShort}
 use Rattle.ist_build.specs.Calls.{Builds, IsTold}
 use Rattle.ist_build.specs.Putting.{PutOn, IsStopped}
 
+-- the state after the log, by the first view's table
 pub put_now : (v w : View) → PutOn v w → now w ≡ state_of v.start v.words w.log
 put_now = laid_now Builds
 
+-- the log afterwards is lawful
 pub put_lawful : (v w : View) → PutOn v w → Lawful v.start v.words w.log
 put_lawful = laid_lawful Builds
 
+-- the author of the seat stays
 pub put_who : (v w : View) → PutOn v w → w.who ≡ v.who
 put_who = laid_who Builds
 
+-- the pieces grow
 pub put_grow : (v w : View) → PutOn v w → AllGrow (now v).pieces (now w).pieces
 put_grow = laid_grow Builds
 
+-- the first free place never falls
 pub put_next : (v w : View) → PutOn v w → (now v).next ≤ (now w).next
 put_next = laid_next Builds
 
@@ -31,21 +36,22 @@ put_next = laid_next Builds
 pub put_more : (u v w : View) → PutOn u v → PutOn v w → PutOn u w
 put_more = laid_more Builds
 
--- a build goes on so
+-- a reservation is an event of a build
 builds_reserving : (event : Event) → Reserves event → Builds event
 builds_reserving (Reserve c base size) is = tt
 builds_reserving _ is = absurd is
 
+-- a seat that only reserved has put on
 pub built_put : (v w : View) → BuiltOn v w → PutOn v w
 built_put = laid_all Reserves Builds builds_reserving
 
--- and so do loads
+-- a seat that made loads has put on
 pub loads_put : (v w : View) → GoesOnTo v w → PutOn v w
 loads_put = goes_on_laid Builds
 
 -- ---- refusals
 
--- a build that was refused, behind what was done before
+-- a build that was refused, after what was done before
 pub short_stopped : (u v w : View) (rebuild words k : ℕ) (full : Full) → IsTold (now u) rebuild k
     → PutOn u v → IsShort v words k full w → IsStopped u rebuild words full w
 short_stopped u v w rebuild words k full told a h =

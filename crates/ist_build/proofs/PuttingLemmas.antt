@@ -35,7 +35,7 @@ module _ (ps qs : Pieces) (own : List ℕ)
       }
 
   mutual
-    -- an ideal subtree is one wherever its leaves and rows stand
+    -- an ideal subtree stays one in any pieces that have its leaves and rows
     pub ideal_over : (ref : Ref) (leaves : List PlacedLeaf) (above : ℕ) (bases : List ℕ)
         → IsIdeal ps ref leaves above bases → ((base : ℕ) → Among base bases → Among base own)
         → IsIdeal qs ref leaves above bases
@@ -88,7 +88,7 @@ no_leaf (a ∷ b ∷ []) r e = cc
 no_leaf (a ∷ b ∷ c ∷ []) r e = cc
 no_leaf (a ∷ b ∷ c ∷ d ∷ rest) r e = cc
 
--- a leaf where rows are put stood there
+-- a leaf among pieces with rows put was there before
 pub leaf_stood : (ps : Pieces) (rows : List Row) (base : ℕ) (r : LeafRow)
     → with_inners ps rows base ≡ Some (Leaf r) → ps base ≡ Some (Leaf r)
 leaf_stood ps rows base r e =
@@ -101,7 +101,7 @@ pub with_both : (ps : Pieces) (xs ys : List Row)
 with_both ps [] ys = refl
 with_both ps (x ∷ xs) ys = ap (λ qs. with_row qs x.base (inner_of x.words)) (with_both ps xs ys)
 
--- a row that is put stands whatever stood there
+-- a row that is put is there, whatever was there before
 pub put_stands : (ps qs : Pieces) (rows : List Row) (base : ℕ) (p : Piece)
     → ps base ≡ None → with_inners ps rows base ≡ Some p → with_inners qs rows base ≡ Some p
 put_stands ps qs [] base p none e = absurd (clash (ps base) p none e)

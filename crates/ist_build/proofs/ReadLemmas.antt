@@ -30,7 +30,7 @@ read_skipped room (x ∷ xs) skip got le =
     ∙ ap (λ n. record { skip = n; got = got })
     (let q : skip - 1 - length xs ≡ skip - length (x ∷ xs) = omega arith in q)
 
--- where there is no room nothing is read
+-- if there is no room, nothing is read
 full_one : (room : ℕ) (x : PlacedLeaf) (p : Progress) → room ≤ length p.got
     → (read_one room x p).got ≡ p.got
 full_one room x p full = cases (nat_lt 0 p.skip) (nat_lt (length p.got) room) refl
@@ -104,7 +104,7 @@ read_is room (x ∷ xs) zero got le =
 pub read_none : (old : List ℕ) (at : Cursor) → at.count ≤ length old → HasRead old at [] old at
 read_none old at le = record { size = refl; within = le; got = refl; skip = λ low. refl }
 
--- one behind another
+-- two readings, one after another, are one reading
 pub read_more : (old mid new : List ℕ) (from via to : Cursor) (xs ys : List PlacedLeaf)
     → HasRead old from xs mid via → HasRead mid via ys new to → HasRead old from (xs ++ ys) new to
 read_more old mid new from via to xs ys a b =
@@ -179,11 +179,13 @@ pub one_left_out : (old : List ℕ) (from : Cursor) (to : Cursor) (leaf : Placed
 one_left_out old from to leaf le some count skip =
     read_left_out old from to (leaf ∷ []) le (omega arith) count skip
 
+-- without room, a further leaf changes nothing
 pub one_full : (old : List ℕ) (at : Cursor) (leaf : PlacedLeaf) → at.count ≡ length old
     → HasRead old at (leaf ∷ []) old at
 one_full old at leaf full =
     read_full old old at at [] (leaf ∷ []) (read_none old at (omega arith)) full
 
+-- with room and nothing to skip, a leaf is written at the count
 pub one_taken : (old : List ℕ) (from : Cursor) (to : Cursor) (leaf : PlacedLeaf)
     → from.count < length old → from.skip ≤ 0 → to.count ≡ from.count + 1 → to.skip ≡ 0
     → HasRead old from (leaf ∷ []) (slice_set old from.count leaf.base) to

@@ -12,9 +12,9 @@ use Rattle.ist_core.proofs.GrowingLemmas.{inner_there, rebuild_there}
 use Rattle.ist_core.proofs.KeepingLemmas.{finished_leaves_stay}
 use Rattle.ist_core.proofs.LeafLemmas.{reached, slots_reached}
 use Rattle.ist_core.proofs.SlotLemmas.{same_inner}
-use Rattle.ist_links.specs.Linking.{IsFinished}
-use Rattle.ist_links.proofs.FinishedLemmas.{finished_slot}
-use Rattle.ist_rebuilds.proofs.NumberLemmas.{number_is}
+use Rattle.laws_links.specs.Linking.{IsFinished}
+use Rattle.laws_links.proofs.FinishedLemmas.{finished_slot}
+use Rattle.laws_rebuilds.proofs.NumberLemmas.{number_is}
 use Rattle.ist_rule.specs.declared.view.View.{View}
 use Rattle.ist_rule.specs.Rule.{IsSound}
 use Rattle.ist_rule.specs.Learning.{now, GoesOnTo}
@@ -161,7 +161,7 @@ reading_first leaves into at v node le has =
       read = read_none into at le;
     }
 
--- behind loads
+-- loads keep the reading
 pub reading_on : (leaves : List PlacedLeaf) (old : List ℕ) (from : Cursor) (v w : View)
     (node degree i : ℕ) (new : List ℕ) (to : Cursor) → IsSound v → GoesOnTo v w
     → HasSlots v node degree → i ≤ degree → IsReading leaves old from v node i new to
@@ -175,7 +175,7 @@ reading_on leaves old from v w node degree i new to s g h le r =
       read = r.read;
     }
 
--- behind one slot more
+-- the reading after one more slot
 pub reading_more : (leaves : List PlacedLeaf) (old : List ℕ) (from : Cursor) (v w : View)
     (node degree i : ℕ) (mid : List ℕ) (via : Cursor) (new : List ℕ) (to : Cursor) → IsSound v
     → GoesOnTo v w → HasSlots v node degree → i < degree
@@ -204,7 +204,7 @@ reading_more leaves old from v w node degree i mid via new to s g h less r one =
       read = read_more old mid new from via to r.seen parts.0 r.read (one word parts.0 slot parts.2);
     }
 
--- where there is no room
+-- without room the reading is complete
 pub reading_full : (leaves : List PlacedLeaf) (old : List ℕ) (from : Cursor) (v : View)
     (node i : ℕ) (new : List ℕ) (to : Cursor) → IsReading leaves old from v node i new to
     → to.count ≡ length new → HasRead old from leaves new to
@@ -212,7 +212,7 @@ reading_full leaves old from v node i new to r full =
     subst (λ xs. HasRead old from xs new to) (sym r.both)
     (read_full old new from to r.seen r.rest r.read full)
 
--- behind the last slot
+-- after the last slot all leaves were read
 pub reading_last : (leaves : List PlacedLeaf) (old : List ℕ) (from : Cursor) (v : View)
     (node degree i : ℕ) (new : List ℕ) (to : Cursor) → IsSound v → HasSlots v node degree
     → degree ≤ i → IsReading leaves old from v node i new to → HasRead old from leaves new to
@@ -231,7 +231,7 @@ reading_last leaves old from v node degree i new to s h all r =
 
 -- ---- one slot
 
--- the leaves below a slot are those of what it reads as
+-- the leaves below a slot are the leaves of what it reads as
 pub under_leaves : (v w : View) → IsSound v → GoesOnTo v w → (node degree i : ℕ)
     → HasSlots v node degree → i < degree → (ref : Ref) → SlotReads (now w) node i ref
     → (word : ℕ) (leaves : List PlacedLeaf) → SlotHolds (now v) node i word
@@ -249,7 +249,7 @@ pub leaves_number : (v : View) → IsSound v → (node k : ℕ) → IsFinishedWi
 leaves_number v s node k f leaves has =
     number_is v.start v.words s.lawful.opens v.log s.lawful.enabled node k leaves f has
 
--- at the first slot, behind a load
+-- the reading at the first slot, after a load
 pub reading_begun : (leaves : List PlacedLeaf) (into : List ℕ) (at : Cursor) (v w : View) (node : ℕ)
     → IsSound v → GoesOnTo v w → IsFinished (now v) node → at.count ≤ length into
     → HasLeaves (now v).pieces (Some (InnerAt node)) leaves → IsReading leaves into at w node 0 into at

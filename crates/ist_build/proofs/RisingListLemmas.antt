@@ -51,7 +51,7 @@ filter_swap p q (x ∷ xs) = at (filter_swap p q xs) (p x) refl (q x) refl
         ap (filter p) (filter_at q x xs false f) ∙ rest
         ∙ ap (filter q) (sym (filter_at p x xs false e))
 
--- where an element stands
+-- an element splits its list in two
 around : (x : ℕ) (ys : List ℕ) → Among x ys → (left : List ℕ) × (right : List ℕ)
     × (ys ≡ left ++ x ∷ right)
 around x [] i = absurd i
@@ -90,11 +90,13 @@ covers (x ∷ xs) ys d within few y i =
         (λ r. ⊎_elim (λ e. inl e) (λ s. inr (rest y (among_right y left right s))) r)
         (among-append y left (x ∷ right) k)
 
+-- the base of a held row is among the bases
 pub among_map : (h : HeldRow) (hs : List HeldRow) → Among h hs → Among h.base (map (λ g. g.base) hs)
 among_map h [] i = absurd i
 among_map h (g ∷ hs) (inl e) = inl (ap (λ x. x.base) e)
 among_map h (g ∷ hs) (inr i) = inr (among_map h hs i)
 
+-- a base among the bases is the base of a held row
 pub of_map : (b : ℕ) (hs : List HeldRow) → Among b (map (λ g. g.base) hs)
     → (h : HeldRow) × Among h hs × (h.base ≡ b)
 of_map b [] i = absurd i

@@ -29,8 +29,8 @@ use Rattle.ist_dcss.proofs.FieldLemmas.{row_low, good_base}
 use Rattle.ist_rows.specs.declared.callers.Caller.{Caller}
 use Rattle.ist_rows.specs.Rows.{IsCaller}
 use Rattle.ist_rows.specs.Building.{HasRefused, sizes_built}
-use Rattle.ist_coming.specs.Builds.{IsRootBuilt, WasUnset}
-use Rattle.ist_coming.proofs.RootLemmas.{root_comes}
+use Rattle.laws_coming.specs.Builds.{IsRootBuilt, WasUnset}
+use Rattle.laws_coming.proofs.RootLemmas.{root_comes}
 use Rattle.ist_build.specs.Laying.{BuiltOn, IsRootLaid, IsTarget, IsLeaf, IsShort}
 use Rattle.ist_build.specs.Naming.{rooting_few}
 use Rattle.ist_build.specs.Calls.{IsTold}
@@ -39,10 +39,10 @@ use Rattle.ist_mark.specs.Passing.{IsRebuildRow}
 use Rattle.ist_build.proofs.PutOnLemmas.{short_stopped}
 use Rattle.ist_build.proofs.BuiltLemmas.{built_grow, loads_built, leaf_goes_on}
 use Rattle.ist_build.proofs.ReadingLemmas.{leaves_number}
-use Rattle.ist_rebuilds.proofs.FinishedLeafLemmas.{finished_leaves}
-use Rattle.ist_rebuilds.proofs.FewLeafLemmas.{leaves_stand}
-use Rattle.ist_links.specs.Linking.{IsFinished}
-use Rattle.ist_coming.proofs.BeatenLemmas.{finished_once}
+use Rattle.laws_rebuilds.proofs.FinishedLeafLemmas.{finished_leaves}
+use Rattle.laws_rebuilds.proofs.FewLeafLemmas.{leaves_stand}
+use Rattle.laws_links.specs.Linking.{IsFinished}
+use Rattle.laws_coming.proofs.BeatenLemmas.{finished_once}
 use Rattle.ist_build.proofs.TopBegunLemmas.{sizes_on}
 use Rattle.ist_build.proofs.TopLeafLemmas.{leaf_there}
 use Rattle.ist_build.proofs.UnsetLemmas.{unset_built}
@@ -52,7 +52,7 @@ use Rattle.ist_build.proofs.RootReadyLemmas.{told_on, told_target, root_looked, 
 
 -- ---- a root over no key or one
 
--- a rebuild over no key is that of nothing
+-- over no key, the Empty word is a root
 pub none_root : (v : View) → IsSound v → (target k word : ℕ) → IsFinishedWith (now v) target k → k ≡
     0
     → word ≡ word_of Empty → (ps : Pieces) (leaves : List PlacedLeaf)
@@ -71,6 +71,7 @@ none_root v s target k word f none is ps leaves has =
 pub leaf_good : (v : View) → IsSound v → (base : ℕ) → IsLeaf (now v) base → IsGoodBase base
 leaf_good v s base h = good_base v s base (Leaf h.row) h.published (omega arith)
 
+-- the base of the first leaf of a finished target is a good base
 pub one_key_good : (v : View) → IsSound v → (target k base : ℕ) → IsFinishedWith (now v) target k
     → k ≢ 0
     → ((leaves : List PlacedLeaf) → HasLeaves (now v).pieces (Some (InnerAt target)) leaves
@@ -212,7 +213,7 @@ module _ (old : Caller) (seat : SeatFace) (c : IsCaller old) (refused : HasRefus
 
 -- ---- before the build
 
--- what was found of a rebuild without a root, behind loads
+-- what was found of a rebuild without a root, after loads
 pub record IsFound (old new : Caller) (rebuild target k : ℕ) : Type 0 where
   pub back : IsBack old new
   pub goes : GoesOnTo old.seat.view new.seat.view
@@ -233,6 +234,7 @@ target_done v w g rebuild target k told h =
     let on = told_on (now v) (now w) (built_grow v w (loads_built v w g)) rebuild k told in
     (k, (told_target (now w) rebuild target k on h).finished)
 
+-- what was found by loads, as one record
 pub found_so : (old : Caller) (seat last : SeatFace) → IsCaller old → HasRefused old
     → (first : GoesOnTo old.seat.view seat.view) → (second : GoesOnTo seat.view last.view)
     → (rebuild target k n : ℕ) → IsTold (now old.seat.view) rebuild k
@@ -268,6 +270,7 @@ pub found_unset : (u v w : View) → GoesOnTo v w → GoesOnTo u v → {number p
 found_unset u v w g first {number = number} {place = place} mine was =
     unset_built v w number place (ap (λ x. x.who) first.same ∙ mine) (loads_built v w g) was
 
+-- a build that is short of words stops the call
 pub err_stopped : (u v w : View) (rebuild words k : ℕ) (answer : Result ℕ Full)
     → IsTold (now u) rebuild k → PutOn u v
     → IfErr answer (λ full. IsShort v words k full w)

@@ -26,14 +26,14 @@ use Rattle.ist_core.proofs.GrowingLemmas.{inner_there}
 use Rattle.ist_core.proofs.NamingStepLemmas.{changed_at-fixed}
 use Rattle.ist_core.proofs.PlaceLemmas.{anchor_free}
 use Rattle.ist_core.proofs.SlotLemmas.{slot_once}
-use Rattle.ist_links.proofs.QuietLemmas.{start_quiet}
-use Rattle.ist_stability.proofs.SlotWordLemmas.{get_alike}
-use Rattle.ist_links.proofs.ComesLemmas.{rebuild_comes}
-use Rattle.ist_links.proofs.FormLemmas.{finished_with_grows}
-use Rattle.ist_links.proofs.OriginLemmas.{RebuildComes, rebuild_was, is_begun, is_rooted, is_drawn}
-use Rattle.ist_rebuilds.proofs.NewTreeLemmas.{ideal_whole}
-use Rattle.ist_rebuilds.proofs.NumberLemmas.{number_is}
-use Rattle.ist_stability.proofs.SetLemmas.{set_later}
+use Rattle.laws_links.proofs.QuietLemmas.{start_quiet}
+use Rattle.laws_stability.proofs.SlotWordLemmas.{get_alike}
+use Rattle.laws_links.proofs.ComesLemmas.{rebuild_comes}
+use Rattle.laws_links.proofs.FormLemmas.{finished_with_grows}
+use Rattle.laws_links.proofs.OriginLemmas.{RebuildComes, rebuild_was, is_begun, is_rooted, is_drawn}
+use Rattle.laws_rebuilds.proofs.NewTreeLemmas.{ideal_whole}
+use Rattle.laws_rebuilds.proofs.NumberLemmas.{number_is}
+use Rattle.laws_stability.proofs.SetLemmas.{set_later}
 
 -- the inner row has no Unset slot
 pub record IsRowSet (t : Snapshot) (base : ℕ) : Type 0 where

@@ -15,11 +15,11 @@ use Rattle.ist_core.specs.Rebuilding.{IsStarted, IsFinishedWith}
 use Rattle.ist_core.specs.References.{InnerAt, ref_of}
 use Rattle.ist_core.specs.Shapes.{share_from}
 use Rattle.ist_core.specs.Snapshots.{bases_of}
-use Rattle.ist_forms.specs.Dividing.{share_of}
-use Rattle.ist_forms.proofs.PartLemmas.{part_is}
+use Rattle.laws_rows.specs.Dividing.{share_of}
+use Rattle.laws_rows.proofs.PartLemmas.{part_is}
 use Rattle.ist_rule.specs.declared.view.View.{View}
 use Rattle.ist_rule.specs.Learning.{now}
-use Rattle.ist_coming.specs.Builds.{IsRootBuilt, IsPartBuilt}
+use Rattle.laws_coming.specs.Builds.{IsRootBuilt, IsPartBuilt}
 use Rattle.ist_build.specs.Laying.{IsLaid}
 
 -- ---- a root

@@ -25,16 +25,16 @@ use Rattle.ist_dcss.proofs.FieldLemmas.{row_low}
 use Rattle.ist_rows.specs.declared.callers.Caller.{Caller}
 use Rattle.ist_rows.specs.Rows.{IsCaller, spares_of, build_sizes}
 use Rattle.ist_rows.specs.Building.{IsInBuild, HasRefused, sizes_built}
-use Rattle.ist_coming.specs.Builds.{IsRootBuilt, WasUnset}
-use Rattle.ist_coming.proofs.RootLemmas.{root_comes_or_loses}
-use Rattle.ist_coming.proofs.KnownLemmas.{fast_known, in_piece}
-use Rattle.ist_coming.proofs.SeenLemmas.{unset_seen}
+use Rattle.laws_coming.specs.Builds.{IsRootBuilt, WasUnset}
+use Rattle.laws_coming.proofs.RootLemmas.{root_comes_or_loses}
+use Rattle.laws_coming.proofs.KnownLemmas.{fast_known, in_piece}
+use Rattle.laws_coming.proofs.SeenLemmas.{unset_seen}
 use Rattle.ist_build.specs.Calls.{MayBuild, share_whole, IsTold}
 use Rattle.ist_build.specs.Laying.{BuiltOn, OwnsRows, IsLaid, IsTopLaid, IsRootLaid, IsTarget}
 use Rattle.ist_build.specs.Naming.{rooting, losing, rows_from}
 use Rattle.ist_build.specs.Putting.{HasRoot}
 use Rattle.ist_build.proofs.AwayLemmas.{rows_named}
-use Rattle.ist_rebuilds.proofs.FinishedLeafLemmas.{finished_leaves}
+use Rattle.laws_rebuilds.proofs.FinishedLeafLemmas.{finished_leaves}
 use Rattle.ist_build.proofs.UnsetLemmas.{unset_built}
 use Rattle.ist_build.proofs.BackLemmas.{IsBack, back_logged, back_lost}
 use Rattle.ist_build.proofs.RootReadyLemmas.{IsTopped, first_least, many, root_lost, root_put, root_ready, root_topped, told_target, top_root, topped_base, topped_set, whole_laid}
@@ -119,9 +119,9 @@ module _ (old new : Caller) (c : IsCaller old) (s : IsSound old.seat.view)
   pub root_set : word ≢ unset_word
   root_set = topped_set word (bases_of h.rows) topped
 
--- ---- behind the exchange
+-- ---- after the exchange
 
--- the caller is one whose builds were refused, and the rebuild has this root
+-- each build of which the caller holds rows was refused, and the rebuild has this root
 pub record IsRooted (old new : Caller) (rebuild word : ℕ) : Type 0 where
   pub back : IsBack old new
   pub root : HasRoot (now new.seat.view) rebuild word
@@ -208,14 +208,14 @@ module _ (old mid : Caller) (c : IsCaller old) (refused : HasRefused old) (s : I
             ready.published at set lost;
       }
 
-  -- the place is one of the table
+  -- the place lies in the table
   pub root_low : place < mid.seat.view.words
   root_low =
       let low = (row_low mid.seat.view b.sound rebuild (Rebuild ready.row) ready.published 3
       (omega arith)).0 in
       omega arith
 
--- ---- as the functions tell it
+-- ---- in the form of the functions' clauses
 
 -- the root was seen Unset
 pub root_unset : (v w : View) (rebuild place word number : ℕ) (row : RebuildRow)
@@ -243,6 +243,7 @@ whole_share t target k h few =
       share = share_whole few refl refl;
     }
 
+-- if the whole subtree was built, its word is a root
 pub ok_whole : (old new : Caller) (target k : ℕ) → IsSound old.seat.view → new.number ≡ old.number
     → BuiltOn old.seat.view new.seat.view → IsTarget (now old.seat.view) target k → k < share_from
     → 2 ≤ k → (answer : Result ℕ Full)
@@ -257,6 +258,7 @@ ok_whole old new target k s number b t few several (Ok word) laid at =
     λ leaves has. whole_laid old new target k word s number b t leaves has few (laid leaves has) (at several)
 ok_whole old new target k s number b t few several (Err full) laid at = tt
 
+-- if the top row was built, its word is a root
 pub ok_top : (old new : Caller) (target k : ℕ) → IsSound old.seat.view → new.number ≡ old.number
     → BuiltOn old.seat.view new.seat.view → IsTarget (now old.seat.view) target k → share_from ≤ k
     → (answer : Result ℕ Full)

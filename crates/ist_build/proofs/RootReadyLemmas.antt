@@ -28,7 +28,7 @@ use Rattle.ist_core.proofs.ReferenceLemmas.{ref_of-unset, word_of-ref_of}
 use Rattle.ist_core.proofs.RowLemmas.{changed_at-same, with_inners-other}
 use Rattle.ist_core.proofs.SoundLemmas.{sound}
 use Rattle.ist_core.proofs.StartLemmas.{sound_start}
-use Rattle.ist_links.proofs.FormLemmas.{finished_with_grows, started_grows}
+use Rattle.laws_links.proofs.FormLemmas.{finished_with_grows, started_grows}
 use Rattle.ist_rule.specs.declared.view.View.{View}
 use Rattle.ist_rule.specs.Rule.{IsSound}
 use Rattle.ist_core.specs.Shown.{IsShown, shown_row}
@@ -39,8 +39,8 @@ use Rattle.ist_dcss.proofs.FieldLemmas.{looked_row}
 use Rattle.ist_mark.proofs.MarkLemmas.{before_enabled}
 use Rattle.ist_rows.specs.declared.callers.Caller.{Caller}
 use Rattle.ist_rows.specs.Building.{IsInBuild, sizes_built}
-use Rattle.ist_coming.specs.Builds.{IsRootBuilt}
-use Rattle.ist_coming.proofs.SizeLemmas.{IsRootSizes, of_whole, of_top, root_sizes}
+use Rattle.laws_coming.specs.Builds.{IsRootBuilt}
+use Rattle.laws_coming.proofs.SizeLemmas.{IsRootSizes, of_whole, of_top, root_sizes}
 use Rattle.ist_build.specs.Calls.{IsTold}
 use Rattle.ist_build.specs.Laying.{Rises, BuiltOn, OwnsRows, IsLaid, IsTopLaid, IsRootLaid, IsTarget}
 use Rattle.ist_build.specs.Putting.{HasRoot}
@@ -54,7 +54,7 @@ use Rattle.ist_build.proofs.TopBegunLemmas.{leaves_on}
 clash : (o : Option Piece) (p : Piece) → o ≡ None → o ≡ Some p → ⊥
 clash o p e f = cc
 
--- what is told of a rebuild stays so
+-- what is known of a rebuild stays true
 pub told_on : (t u : Snapshot) → AllGrow t.pieces u.pieces → (rebuild k : ℕ) → IsTold t rebuild k
     → IsTold u rebuild k
 told_on t u g rebuild k h =
@@ -103,7 +103,7 @@ root_looked v w rebuild place word row e at l set =
       set = set;
     }
 
--- behind a Root it has this one
+-- after a Root the rebuild has this root
 pub root_put : (v w : View) (number rebuild word : ℕ) (rows : List Row) → word ≢ unset_word
     → Logged v (Root number rebuild word rows) w → HasRoot (now w) rebuild word
 root_put v w number rebuild word rows set l =
@@ -126,7 +126,7 @@ root_put v w number rebuild word rows set l =
       set = set;
     }
 
--- and behind a Lose that which was found
+-- and after a Lose the root that was found
 pub root_lost : (v w : View) (number rebuild place word : ℕ) (bases : List ℕ) (row : RebuildRow)
     → (now v).pieces rebuild ≡ Some (Rebuild row) → place ≡ rebuild + rebuild_root_offset
     → word ≢ unset_word → LoggedLoad v (Lose number bases) place word w → HasRoot (now w) rebuild word
@@ -246,7 +246,7 @@ root_ready old new rebuild target k word s b told g leaves has h =
 
 -- ---- its first row
 
--- the word is that of a row, which is the first of some
+-- the word names a row, which is the first of these
 pub record IsTopped (word : ℕ) (bases : List ℕ) : Type 0 where
   pub base : ℕ
   pub ref_is : ref_of word ≡ Some (InnerAt base)

@@ -1,5 +1,5 @@
 -- A row that was opened, and words that are set in it. Serves `build`.
-use Rattle.std.proofs.Common.{◌≡◌, ◌≢◌, ℕ, ◌+◌, ◌-◌, ◌<◌, ◌≤◌, List, [], ◌∷◌, ◌++◌, length, nat_lt, Bool, true, false, if◌then◌else◌, refl, sym, ap, ◌∙◌, subst, inl, arith}
+use Rattle.std.proofs.Common.{◌≡◌, ◌≢◌, ℕ, ◌+◌, ◌<◌, ◌≤◌, List, [], ◌∷◌, ◌++◌, length, nat_lt, Bool, true, false, if◌then◌else◌, refl, sym, ap, ◌∙◌, subst, inl, arith}
 use Rattle.std.proofs.lemmas.Bool.Decides.{nat_tests}
 use Rattle.std.specs.List.{flat_map}
 use Rattle.ist_core.specs.Arithmetic.{degree}
@@ -12,25 +12,23 @@ use Rattle.ist_core.proofs.ShapeLemmas.{shape_many}
 use Rattle.ist_rule.specs.declared.view.View.{View}
 use Rattle.ist_rule.specs.declared.view.OwnWord.{OwnWord}
 use Rattle.ist_core.specs.declared.events.Who.TheVariants.{Caller as CallerOf}
-use Rattle.ist_rule.specs.Faces.{SeatFace}
 use Rattle.ist_rule.specs.Rule.{IsSound, own_at}
-use Rattle.ist_rule.specs.Learning.{now, GoesOnTo, storing}
+use Rattle.ist_rule.specs.Learning.{now, storing}
 use Rattle.ist_rule.proofs.WentOnLemmas.{later_by}
 use Rattle.ist_rows.specs.declared.callers.Caller.{Caller}
 use Rattle.ist_rows.specs.Rows.{spares_of, IsCaller, Reserved, HoldsPlace}
 use Rattle.ist_rows.specs.Building.{IsInBuild, HasTaken}
-use Rattle.ist_rows.proofs.BuildingCallLemmas.{took, at_goes_on, at_storing}
-use Rattle.ist_rows.proofs.CallerGoingLemmas.{caller_goes_on}
+use Rattle.ist_rows.proofs.BuildingCallLemmas.{took, at_storing}
 use Rattle.ist_build.specs.Laying.{Reserves}
-use Rattle.ist_forms.specs.Dividing.{lens_to, parts_to}
-use Rattle.ist_build.specs.Midway.{words_at, AreLaid, lens_from, IsOpened, IsMidway, opening, setting}
-use Rattle.ist_build.proofs.BuiltLemmas.{built_more, built_held, built_grow, loads_built, reserved_built, rewritten_built}
+use Rattle.laws_rows.specs.Dividing.{lens_to}
+use Rattle.ist_build.specs.Midway.{lens_from, IsOpened, IsMidway, opening, setting}
+use Rattle.ist_build.proofs.BuiltLemmas.{reserved_built, rewritten_built}
 use Rattle.ist_build.proofs.LaidOnLemmas.{next_between}
-use Rattle.ist_build.proofs.LayingLemmas.{are_laid_on}
 use Rattle.ist_build.proofs.TogetherLemmas.{are_laid_none}
 use Rattle.ist_build.proofs.OwnWordLemmas.{own_here, own_else}
 use Rattle.ist_build.proofs.PartsLemmas.{lens_first}
 
+-- who holds a row holds each place of it
 pub holds_place : (who : Caller) (base d at : ℕ)
     → HoldsRow (now who.seat.view) who.number base (inner_words d) → at < inner_words d
     → HoldsPlace who base at
@@ -44,6 +42,7 @@ pub record IsFreshRow (v : View) (number base size : ℕ) (w : View) : Type 0 wh
   pub held : HoldsRow (now w) number base size
   pub zero_words : (place : ℕ) → base ≤ place → own_at w.own place ≡ 0
 
+-- a reserved row is a fresh row
 pub fresh_row : (v : View) → IsSound v → (number base size : ℕ) (w : View)
     → Reserved v number base size w → IsFreshRow v number base size w
 fresh_row v s number base size w r =
@@ -130,9 +129,9 @@ module _ (old new : Caller) (leaves : List ℕ) (base : ℕ) (s : IsSound old.se
         due = due_first;
       }
 
--- ---- behind a load
+-- ---- after a load
 
--- what the first words of a row are they are where none of them was stored anew
+-- the first words of a row stay the same if none of them was stored again
 pub opened_on : (a b : List OwnWord) (base d size : ℕ)
     → ((p : ℕ) → p < base + 4 → own_at b p ≡ own_at a p)
     → IsOpened a base d size → IsOpened b base d size
@@ -144,38 +143,9 @@ opened_on a b base d size same o =
       size_is = same (base + 3) (omega arith) ∙ o.size_is;
     }
 
-pub midway_loaded : (old who : Caller) (seat : SeatFace) (leaves : List ℕ) (base d j : ℕ)
-    → IsSound who.seat.view → IsMidway old leaves base d j who → GoesOnTo who.seat.view seat.view
-    → IsMidway old leaves base d j (record who { seat = seat })
-midway_loaded old who seat leaves base d j s m g =
-    let v = who.seat.view in
-    let w = seat.view in
-    let b = loads_built v w g in
-    let own_is : w.own ≡ v.own = ap (λ x. x.own) g.same in
-    record {
-      caller = caller_goes_on who seat m.caller g;
-      number = m.number;
-      rows = m.rows;
-      built = built_more old.seat.view v w m.built b;
-      high = m.high;
-      held = built_held v w b who.number base (inner_words d) m.caller.mine m.held;
-      opened = subst (λ o. IsOpened o base d (length leaves)) (sym own_is) m.opened;
-      laid = λ placed a.
-          subst (λ o. AreLaid w who.number (base + inner_words d) base (words_at o (base + 3 + d) j)
-          (parts_to (length leaves) j placed)) (sym own_is)
-          (are_laid_on v w s g.sound who.number (base + inner_words d) (built_grow v w b)
-          (λ b2 size h. built_held v w b who.number b2 size m.caller.mine h)
-          (λ place low high. ap (λ o. own_at o place) own_is) base
-          (words_at v.own (base + 3 + d) j) (parts_to (length leaves) j placed) (m.laid placed a));
-      keys = λ placed a.
-          ap (λ o. words_at o (base + 4) (j - 1)) own_is ∙ m.keys placed a;
-      due = λ stuck done rest h.
-          at_goes_on who seat stuck _ _ m.caller g (m.due stuck done rest h);
-    }
+-- ---- after a part
 
--- ---- behind a part
-
--- the words of the row that were stored before stay, where others are stored behind a part
+-- the words of the row that were stored before stay when others are stored after a part
 module _ (v : View) (base d j key word : ℕ) (less : j < d) where
   -- below the row's slots and keys of the part nothing changes
   setting_own : List OwnWord

@@ -10,8 +10,8 @@ use Rattle.ist_core.specs.References.{InnerAt}
 use Rattle.ist_core.specs.Shapes.{shape, share_from_is}
 use Rattle.ist_core.specs.Snapshots.{Snapshot}
 use Rattle.ist_core.proofs.PartLemmas.{part_end-le, part_len-le}
-use Rattle.ist_rebuilds.proofs.FewLeafLemmas.{leaves_stand}
-use Rattle.ist_rebuilds.proofs.FinishedLeafLemmas.{finished_leaves, finished_few}
+use Rattle.laws_rebuilds.proofs.FewLeafLemmas.{leaves_stand}
+use Rattle.laws_rebuilds.proofs.FinishedLeafLemmas.{finished_leaves, finished_few}
 use Rattle.ist_rule.specs.declared.view.View.{View}
 use Rattle.ist_rule.specs.Faces.{SeatFace}
 use Rattle.ist_rule.specs.Rule.{IsSound}
@@ -32,7 +32,7 @@ use Rattle.ist_build.proofs.ReadingLemmas.{leaves_number}
 
 -- ---- what was read
 
--- where there are enough leaves, all the words are bases of leaves
+-- if there are enough leaves, all the words are bases of leaves
 pub read_whole : (old new : List ℕ) (from to : Cursor) (leaves : List PlacedLeaf)
     → from.count ≡ 0 → from.skip + length old ≤ length leaves → HasRead old from leaves new to
     → new ≡ map (λ leaf. leaf.base) (take (length old) (drop from.skip leaves))
@@ -81,6 +81,7 @@ some_leaves v s target least h =
     let many = it.2 in
     (it.0, it.1, omega arith)
 
+-- a target with that many keys has that many leaves
 pub enough_leaves : (v : View) → IsSound v → (target least : ℕ) → HasKeys (now v) target least
     → (leaves : List PlacedLeaf) → HasLeaves (now v).pieces (Some (InnerAt target)) leaves
     → least ≤ length leaves
@@ -89,7 +90,7 @@ enough_leaves v s target least h leaves has =
     let enough = h.enough in
     omega arith
 
--- ---- what was built behind loads
+-- ---- what was built, after loads
 
 -- what is laid from a place on is laid from a lower one on
 pub laid_lower : (w : View) (number low high word : ℕ) (leaves : List PlacedLeaf) → low ≤ high
@@ -109,6 +110,7 @@ laid_lower w number low high word leaves le h =
       ideal = λ above less. h.ideal above (omega arith);
     }
 
+-- the next rows of a build stay the same after loads
 pub due_on : (who : Caller) (seat : SeatFace) (keys : ℕ) → IsCaller who
     → GoesOnTo who.seat.view seat.view → IsDue who keys → IsDue (record who { seat = seat }) keys
 due_on who seat keys c g h =
@@ -119,12 +121,14 @@ due_on who seat keys c g h =
       at = at_goes_on who seat h.stuck h.done (shape keys ++ h.rest) c g h.at;
     }
 
+-- rows taken after loads were taken
 pub taken_on : (who : Caller) (seat : SeatFace) (sizes : List ℕ) (new : Caller) → IsCaller who
     → GoesOnTo who.seat.view seat.view → HasTaken (record who { seat = seat }) sizes new
     → HasTaken who sizes new
 taken_on who seat sizes new c g t stuck done rest h =
     t stuck done rest (at_goes_on who seat stuck done (sizes ++ rest) c g h)
 
+-- a build that was short of words after loads was short of words
 pub short_on : (v w : View) → GoesOnTo v w → (words keys : ℕ) (full : Full) (x : View)
     → IsShort w words keys full x → IsShort v words keys full x
 short_on v w g words keys full x h =
@@ -169,6 +173,7 @@ share_at who target start len refused m two =
       };
     }
 
+-- the rows over a share are the next rows of a build that begins
 pub share_due : (who : Caller) (target start len : ℕ) → HasRefused who
     → MayBuild (now who.seat.view) target start len → 2 ≤ len → IsDue who len
 share_due who target start len refused m two =
@@ -206,12 +211,14 @@ share_few v s target start len m = at m.k m.finished m.share
 
 -- ---- where the caller is then
 
+-- a caller that took the rows over a share has all of them in its build
 pub at_share : (who new : Caller) (len : ℕ) (target start : ℕ) → HasRefused who
     → MayBuild (now who.seat.view) target start len → HasTaken who (shape len) new → 2 ≤ len
     → IsInBuild new (sizes_built who) (shape len) []
 at_share who new len target start refused m taken two =
     taken (sizes_built who) [] [] (share_at who target start len refused m two)
 
+-- the same, for a result that may be an error
 pub at_share_ok : (who new : Caller) (len target start : ℕ) (answer : Result ℕ Full) → HasRefused
     who
     → MayBuild (now who.seat.view) target start len
@@ -221,13 +228,15 @@ at_share_ok who new len target start (Ok word) refused m taken =
     λ two. at_share who new len target start refused m taken two
 at_share_ok who new len target start (Err full) refused m taken = tt
 
--- ---- answers
+-- ---- results
 
+-- if P implies Q, and a success has P, it has Q
 pub ok_map : {A B : Type 0} (P Q : A → Type 0) (answer : Result A B) → ((x : A) → P x → Q x)
     → IfOk answer P → IfOk answer Q
 ok_map P Q (Ok x) f h = f x h
 ok_map P Q (Err e) f h = tt
 
+-- if P implies Q, and an error has P, it has Q
 pub err_map : {A B : Type 0} (P Q : B → Type 0) (answer : Result A B) → ((x : B) → P x → Q x)
     → IfErr answer P → IfErr answer Q
 err_map P Q (Ok x) f h = tt

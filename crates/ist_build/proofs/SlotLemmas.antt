@@ -16,10 +16,10 @@ use Rattle.ist_core.proofs.ImageLemmas.{get-words_of_slot}
 use Rattle.ist_core.proofs.PlaceLemmas.{anchor_free}
 use Rattle.ist_core.proofs.ReferenceLemmas.{ref_of-word_of}
 use Rattle.ist_core.proofs.SlotLemmas.{slot_once, same_inner}
-use Rattle.ist_links.specs.Linking.{IsFinished}
-use Rattle.ist_links.proofs.FinishedLemmas.{finished_slot, finished_down}
-use Rattle.ist_links.proofs.FormLemmas.{finished_with_grows}
-use Rattle.ist_links.proofs.PassLemmas.{passed_no_change}
+use Rattle.laws_links.specs.Linking.{IsFinished}
+use Rattle.laws_links.proofs.FinishedLemmas.{finished_slot, finished_down}
+use Rattle.laws_links.proofs.FormLemmas.{finished_with_grows}
+use Rattle.laws_links.proofs.PassLemmas.{passed_no_change}
 use Rattle.ist_rule.specs.declared.view.View.{View}
 use Rattle.ist_rule.specs.Rule.{IsSound}
 use Rattle.ist_rule.specs.Learning.{now, GoesOnTo, Looked}
@@ -51,15 +51,18 @@ slots_on v w g node degree h =
       degree_is = it.2.degree ∙ h.degree_is;
     }
 
+-- a node with slots to read is finished
 pub slots_finished : (v : View) (node degree : ℕ) → HasSlots v node degree → IsFinished (now v) node
 slots_finished v node degree h =
     (h.keys, record { row = h.row; published = h.published; status = h.finished })
 
+-- a finished node stays finished after loads
 pub finished_on : (v w : View) → GoesOnTo v w → (node k : ℕ) → IsFinishedWith (now v) node k
     → IsFinishedWith (now w) node k
 finished_on v w g node k f =
     finished_with_grows (now v) (now w) (goes_on_grow v w g) node k f
 
+-- a passed slot stays passed after loads
 pub frozen_on : (v w : View) → GoesOnTo v w → (node i word : ℕ) → IsFrozen v.log node i word
     → IsFrozen w.log node i word
 frozen_on v w g node i word p =

@@ -1,4 +1,4 @@
--- What is laid comes together to more. Serves `building`.
+-- Built subtrees put together are a larger one. Serves `building`.
 use Rattle.std.proofs.Common.{◌≡◌, ℕ, ◌+◌, ◌-◌, ◌<◌, ◌≤◌, ◌⊎◌, List, [], ◌∷◌, ◌++◌, length, drop, Some, None, slice_get, refl, sym, ap, ◌∙◌, subst, inl, inr, ⊎_elim, arith}
 use Rattle.std.proofs.lemmas.List.{map-append}
 use Rattle.ist_core.specs.declared.lists.Row.{Row}
@@ -37,6 +37,7 @@ low_base mid base rows low i =
     let it = row_among base rows i in
     subst (λ b. b < mid) it.2 (each-among (λ row. row.base < mid) it.0 rows low it.1)
 
+-- rows that lie from a place on lie from a lower one on
 pub high_more : (low mid : ℕ) (rows : List Row) → low ≤ mid → Each (λ row. mid ≤ row.base) rows
     → Each (λ row. low ≤ row.base) rows
 high_more low mid [] le h = tt
@@ -117,6 +118,16 @@ are_laid_more w s number low mid above le less words behind word part h p below 
           words behind above word p.ref part h.ideal p.ref_is (p.ideal above less);
     }
 
+-- in the rows of both
+pub more_rows : (w : View) (s : IsSound w) (number low mid above : ℕ) (le : low ≤ mid)
+    (less : above < mid) (words : List ℕ) (behind : List (List PlacedLeaf)) (word : ℕ)
+    (part : List PlacedLeaf) (h : AreLaid w number low above words behind)
+    (p : IsLaid w number mid word part) (below : Each (λ row. row.base < mid) h.rows)
+    → (are_laid_more w s number low mid above le less words behind word part h p below).rows
+    ≡ h.rows ++ p.rows
+unfolding are_laid_more
+more_rows w s number low mid above le less words behind word part h p below = refl
+
 -- nothing is laid
 pub are_laid_none : (w : View) (number low above : ℕ) → AreLaid w number low above [] []
 are_laid_none w number low above =
@@ -139,6 +150,7 @@ laid_leaf w number low base word leaf same e is =
       ideal = λ above less. of_one same e;
     }
 
+-- the Empty word is the ideal subtree over no leaf
 pub laid_none : (w : View) (number low word : ℕ) → ref_of word ≡ Some Empty
     → IsLaid w number low word []
 laid_none w number low word is =
@@ -243,3 +255,8 @@ module _ (w : View) (s : IsSound w) (number first base word : ℕ) (leaves : Lis
             (right_inner (now w).pieces (top_row ∷ []) h.rows free_all apart_all) r.slots
             (parts leaves) base (bases_of h.rows) h.ideal (λ b i. i));
       }
+
+  -- in the row and the rows of its parts
+  pub top_rows : laid_top.rows ≡ record { base = base; words = words_at w.own base (inner_words d) } ∷ h.rows
+  unfolding laid_top
+  top_rows = refl

@@ -30,7 +30,7 @@ use Rattle.ist_build.proofs.BuiltLemmas.{built_more, built_held, built_grow, bui
 use Rattle.ist_build.proofs.RowOpenedLemmas.{IsFreshRow, fresh_row}
 use Rattle.ist_build.proofs.OwnWordLemmas.{own_here, own_else}
 
--- ---- targets, behind a build
+-- ---- targets, after a build
 
 -- the leaves of a finished target stay
 pub leaves_on : (v w : View) → BuiltOn v w → (target k : ℕ) → IsFinishedWith (now v) target k
@@ -71,6 +71,7 @@ top_at who target k refused t many =
       };
     }
 
+-- the top row is the next row of a build that begins
 pub top_next : (who : Caller) (target k d : ℕ) → HasRefused who → IsTarget (now who.seat.view) target k
     → share_from ≤ k → d ≡ degree k → IsNext who (inner_words d)
 top_next who target k d refused t many is =
@@ -154,8 +155,9 @@ module _ (old new : Caller) (target k d base : ℕ) (s : IsSound old.seat.view)
       subst (IsTopMidway old target k base d 0) (sym is)
       (top_begun (subst IsCaller is caller) (subst (λ (w : Caller). IsSound w.seat.view) is sound))
 
--- ---- behind loads
+-- ---- after loads
 
+-- a half-built top row is the same after loads
 pub top_loaded : (old who : Caller) (seat : SeatFace) (target k base d j : ℕ)
     → IsTopMidway old target k base d j who → GoesOnTo who.seat.view seat.view
     → IsTopMidway old target k base d j (record who { seat = seat })

@@ -11,8 +11,8 @@ use Rattle.ist_core.specs.References.{InnerAt}
 use Rattle.ist_core.specs.RowLayout.{place_limit}
 use Rattle.ist_core.specs.Shapes.{share_from, share_from_is}
 use Rattle.ist_core.proofs.RootLemmas.{square_root-le}
-use Rattle.ist_rebuilds.proofs.FewLeafLemmas.{leaves_stand}
-use Rattle.ist_rebuilds.proofs.FinishedLeafLemmas.{finished_few}
+use Rattle.laws_rebuilds.proofs.FewLeafLemmas.{leaves_stand}
+use Rattle.laws_rebuilds.proofs.FinishedLeafLemmas.{finished_few}
 use Rattle.ist_rule.specs.declared.view.View.{View}
 use Rattle.ist_rule.specs.Rule.{IsSound}
 use Rattle.ist_rule.specs.Learning.{now, GoesOnTo}
@@ -90,6 +90,7 @@ degree_small k four =
     (λ large. let more = twice (square_root k) large in omega arith)
     (cases_lt (square_root k) 2)
 
+-- the degree of the top row is below the limit of places
 pub target_degree : (v : View) → IsSound v → (target k d : ℕ) → IsFinishedWith (now v) target k
     → share_from ≤ k → d ≡ degree k → d < place_limit
 target_degree v s target k d f many is =
@@ -98,5 +99,6 @@ target_degree v s target k d f many is =
     let half = degree_small k (omega arith) in
     omega arith
 
+-- a target with a shared root has at least two keys
 pub many_two : (k : ℕ) → share_from ≤ k → 2 ≤ k
 many_two k many = let number = share_from_is in omega arith

@@ -21,8 +21,8 @@ use Rattle.ist_rows.specs.declared.callers.Caller.{Caller}
 use Rattle.ist_rows.specs.Rows.{IsCaller}
 use Rattle.ist_rows.specs.Building.{sizes_built}
 use Rattle.ist_build.specs.Laying.{BuiltOn, IsTopLaid}
-use Rattle.ist_forms.specs.Dividing.{parts_to, share_of}
-use Rattle.ist_forms.proofs.PartLemmas.{parts_all, keys_next}
+use Rattle.laws_rows.specs.Dividing.{parts_to, share_of}
+use Rattle.laws_rows.proofs.PartLemmas.{parts_all, keys_next}
 use Rattle.ist_build.specs.Midway.{words_at, IsOpened, IsTopMidway, setting}
 use Rattle.ist_build.proofs.BuiltLemmas.{rewritten_built}
 use Rattle.ist_build.proofs.BuildingLemmas.{held_good}
@@ -32,7 +32,7 @@ use Rattle.ist_build.proofs.OwnWordLemmas.{length-words_at, get-words_at, words_
 use Rattle.ist_build.proofs.ReadingLemmas.{leaves_number}
 use Rattle.ist_build.proofs.TopBegunLemmas.{leaves_on}
 
--- ---- behind a part
+-- ---- after a part
 
 replicate_more : (n x : ℕ) → replicate n x ++ x ∷ [] ≡ replicate (n + 1) x
 replicate_more zero x = refl
@@ -143,7 +143,7 @@ module _ (old who : Caller) (target k base d j key : ℕ) (s : IsSound old.seat.
       subst (IsTopMidway old target k base d (j + 1)) (sym whole)
       (top_more (subst IsCaller whole caller) (subst (λ (c : Caller). IsSound c.seat.view) whole sound))
 
--- the key that was loaded is that of the first leaf of the part
+-- the loaded key is the key of the part's first leaf
 pub key_first : (old who : Caller) (target k j start key : ℕ) → BuiltOn old.seat.view who.seat.view
     → IsFinishedWith (now old.seat.view) target k → start ≡ part_start k j
     → ((leaves : List PlacedLeaf)
@@ -228,6 +228,7 @@ record Facts (who : Caller) (base : ℕ) (leaves : List PlacedLeaf) (n : ℕ) : 
   slots : words_at who.seat.view.own (base + 3 + degree n) (degree n) ≡ replicate (degree n) unset_word
   pub two : 2 ≤ n
 
+-- after the last slot the top row is built
 pub all_top : (old who : Caller) (target k base d j word : ℕ) → IsSound old.seat.view
     → IsFinishedWith (now old.seat.view) target k → 2 ≤ k
     → IsTopMidway old target k base d j who → d ≡ degree k → j ≡ d
@@ -261,6 +262,7 @@ all_top old who target k base d j word s f two m d_is all is leaves has =
         (parts_all leaves))
         x.slots good
 
+-- a build of the top row took only this row
 pub top_sizes : (old who : Caller) (target k base d j : ℕ) → IsTopMidway old target k base d j who
     → d ≡ degree k → sizes_built who ≡ sizes_built old ++ inner_words (degree k) ∷ []
 top_sizes old who target k base d j m is =

@@ -3,7 +3,7 @@ use Rattle.std.proofs.Common.{◌≡◌, ℕ, ◌<◌, Some, ap, ◌∙◌}
 use Rattle.ist_core.specs.Marking.{HasTarget, IsFrozen}
 use Rattle.ist_core.specs.References.{Empty, LeafAt, InnerAt, RebuildAt, ref_of}
 use Rattle.ist_core.specs.Slots.{past_rebuild, rebuild_reads}
-use Rattle.ist_links.proofs.FinishedLemmas.{target_grows}
+use Rattle.laws_links.proofs.FinishedLemmas.{target_grows}
 use Rattle.ist_rule.specs.declared.view.View.{View}
 use Rattle.ist_rule.specs.Rule.{IsSound}
 use Rattle.ist_rule.specs.Learning.{now, GoesOnTo}
@@ -19,6 +19,7 @@ pub under_nothing : (v : View) → IsSound v → (node i word : ℕ) → IsFroze
 under_nothing v s node i word p is =
     frozen_slot_reads v s node i word Empty p (ap (past_rebuild (now v).pieces) is)
 
+-- below a slot passed with the word of a leaf is this leaf
 pub under_leaf : (v : View) → IsSound v → (node i word base : ℕ) → IsFrozen v.log node i word
     → ref_of word ≡ Some (LeafAt base) → IsUnder v node i (Leaf base)
 under_leaf v s node i word base p is =
@@ -39,10 +40,12 @@ target_reads v s node i word rebuild target p is h =
     (ap (past_rebuild (now v).pieces) is ∙ ap rebuild_reads h.published
     ∙ ap (λ n. Some (InnerAt n)) h.target_is)
 
+-- a row that hangs in a passed slot lies above the node
 pub row_above : (v : View) → IsSound v → (node i word base : ℕ) → IsFrozen v.log node i word
     → ref_of word ≡ Some (InnerAt base) → node < base
 row_above v s node i word base p is = (row_below v s node i word base p is).above
 
+-- the target of a rebuild that hangs in a passed slot lies above the node
 pub target_above : (v : View) → IsSound v → (node i word rebuild target : ℕ)
     → IsFrozen v.log node i word → ref_of word ≡ Some (RebuildAt rebuild)
     → HasTarget (now v) rebuild target → node < target

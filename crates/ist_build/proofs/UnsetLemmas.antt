@@ -10,9 +10,9 @@ use Rattle.ist_rule.specs.declared.view.View.{View}
 use Rattle.ist_core.specs.declared.events.Who.{Who}
 use Rattle.ist_core.specs.declared.events.Who.TheVariants.{Caller}
 use Rattle.ist_core.specs.Shown.{IsShown}
-use Rattle.ist_coming.specs.Builds.{EndsBuild, WasUnset, EndsNone}
+use Rattle.laws_coming.specs.Builds.{EndsBuild, WasUnset, EndsNone}
 use Rattle.ist_core.specs.Authors.{no_more, one_more, LaterBy}
-use Rattle.ist_coming.proofs.BeatenLemmas.{others_build}
+use Rattle.laws_coming.proofs.BeatenLemmas.{others_build}
 use Rattle.ist_build.specs.Laying.{Reserves, BuiltOn}
 
 -- a reserving ends no build
@@ -30,7 +30,7 @@ without_reserving caller mine g (one_more event k (inl other)) =
 without_reserving caller mine g (one_more event k (inr is)) =
     one_more event (without_reserving caller mine g k) (reserving_ends caller event is)
 
--- so a place that was seen Unset before a build was seen so behind it
+-- so a place that was seen Unset before a build counts as seen Unset after it
 pub unset_built : (v w : View) (caller place : ℕ) → v.who ≡ Caller caller → BuiltOn v w
     → WasUnset v caller place → WasUnset w caller place
 unset_built v w caller place mine b was =

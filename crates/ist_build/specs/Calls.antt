@@ -1,4 +1,4 @@
--- What the calls of this crate ask, and what they tell.
+-- What the calls of this crate require, and what they promise.
 use Rattle.std.specs.Prelude.{◌≡◌, ◌≢◌, ℕ, ◌<◌, ◌≤◌, ◌+◌, List, slice_get, Some}
 use Rattle.ist_core.specs.declared.events.Event.{Event}
 use Rattle.ist_core.specs.declared.events.Event.TheVariants.{Reserve, Root, Draw, Place, Lose}
@@ -20,21 +20,21 @@ use Rattle.ist_rule.specs.Learning.{now, Looked}
 use Rattle.ist_rows.specs.declared.callers.Caller.{Caller}
 use Rattle.ist_build.specs.Laying.{OwnsRows}
 
--- ---- what is asked
+-- ---- what is required
 
--- the target is finished, with no fewer keys than this
+-- the target is finished, with at least this many keys
 pub record HasKeys (t : Snapshot) (target least : ℕ) : Type 0 where
   pub k : ℕ
   pub finished : IsFinishedWith t target k
   pub enough : least ≤ k
 
--- so many leaves from this one on are a whole target with few keys, or a part of one with many
+-- the `len` leaves from number `start` on are a whole target with few keys, or a part of one with many
 pub data IsShare (k start len : ℕ) : Type 0 where
   share_whole : k < share_from → start ≡ 0 → len ≡ k → IsShare k start len
   share_part : (j : ℕ) → share_from ≤ k → j < degree k → start ≡ part_start k j → len ≡ part_len k j
       → IsShare k start len
 
--- the target is that of a started rebuild, and is finished; the leaves are such a share of it
+-- the target of a started rebuild is finished, and these leaves are a share of it that may be built
 pub record MayBuild (t : Snapshot) (target start len : ℕ) : Type 0 where
   pub rebuild : ℕ
   pub row : RebuildRow
@@ -45,7 +45,7 @@ pub record MayBuild (t : Snapshot) (target start len : ℕ) : Type 0 where
   pub finished : IsFinishedWith t target k
   pub share : IsShare k start len
 
--- the rebuild is started, and its target is finished with so many keys
+-- the rebuild is started, and its target is finished with k keys
 pub record IsTold (t : Snapshot) (rebuild k : ℕ) : Type 0 where
   pub row : RebuildRow
   pub published : t.pieces rebuild ≡ Some (Rebuild row)
@@ -63,9 +63,9 @@ pub record IsRooted (t : Snapshot) (rebuild : ℕ) : Type 0 where
   pub published : t.pieces rebuild ≡ Some (Rebuild row)
   pub set : row.root ≢ unset_word
 
--- ---- how the seat goes on
+-- ---- what the seat does
 
--- the event is one of a build: a reserving, a draw, or what puts the build in place or loses it
+-- the event belongs to a build: a reservation, a draw, or what puts the build in place or loses it
 abbrev pub Builds : Event → Type 0
 Builds (Reserve caller base size) = Unit {0}
 Builds (Root caller rebuild word rows) = Unit {0}
@@ -74,9 +74,9 @@ Builds (Place caller rebuild i word rows) = Unit {0}
 Builds (Lose caller bases) = Unit {0}
 Builds _ = ⊥
 
--- ---- what is told
+-- ---- what is promised
 
--- the reference is that of the leaf number i
+-- the reference names the leaf number i
 pub record IsLeafOf (leaves : List PlacedLeaf) (i : ℕ) (ref : Ref) : Type 0 where
   pub leaf : PlacedLeaf
   pub there : slice_get leaves i ≡ Some leaf
@@ -103,8 +103,8 @@ pub record IsBuiltOut (t : Snapshot) (rebuild : ℕ) : Type 0 where
   pub published : t.pieces rebuild ≡ Some (Rebuild row)
   pub built : IsBuilt t row.root
 
--- a load of the first word gave how many words are used, and too few are left for a row over no more
--- than so many keys
+-- a load of the first word gave the number of words used, and too few are left for a row over no more
+-- than `keys` keys
 pub record IsOutOfWords (v : View) (words keys : ℕ) (full : Full) (w : View) : Type 0 where
   pub before : View
   pub seen : WentOn Builds v before

@@ -1,4 +1,4 @@
--- Ideal subtrees in rows that a caller holds, and how its seat goes on while it lays them.
+-- Ideal subtrees in rows that a caller holds, and what its seat does while it builds them.
 use Rattle.std.specs.Prelude.{◌≡◌, ℕ, ◌+◌, ◌<◌, ◌≤◌, List, [], ◌∷◌, ◌++◌, length, map, replicate, Some}
 use Rattle.ist_core.specs.declared.events.Event.{Event}
 use Rattle.ist_core.specs.declared.events.Event.TheVariants.{Reserve}
@@ -22,19 +22,20 @@ use Rattle.ist_rule.specs.declared.view.View.{View}
 use Rattle.ist_rule.specs.Rule.{IsSound, own_at}
 use Rattle.ist_rule.specs.Learning.{now, Looked}
 use Rattle.ist_rule.specs.Conditions.{StoredAll}
+use Rattle.ist_rows.specs.Rows.{IsCaller}
 use Rattle.ist_rows.specs.declared.callers.Caller.{Caller}
 use Rattle.ist_rows.specs.Building.{IsInBuild, sizes_built}
 use Rattle.ist_core.specs.Authors.{LaterBy}
 
--- ---- how the seat goes on
+-- ---- what the seat does
 
--- the event is a reserving
+-- the event is a reservation
 abbrev pub Reserves : Event → Type 0
 Reserves (Reserve caller base size) = Unit {0}
 Reserves _ = ⊥
 
--- the seat has made loads, and events that P is true of, and stored words into rows that it reserved
--- since, and nothing else
+-- from v to w the seat has only made loads, made events for which P holds, and stored words into rows
+-- that it reserved since
 pub record LaidOn (P : Event → Type 0) (v w : View) : Type 0 where
   pub later : LaterBy v.who P v.log w.log
   pub sound : IsSound w
@@ -42,7 +43,7 @@ pub record LaidOn (P : Event → Type 0) (v w : View) : Type 0 where
   pub own : (place : ℕ) → place < (now v).next → own_at w.own place ≡ own_at v.own place
   pub loaded : v.loaded ≤ w.loaded
 
--- the same, where it has reserved rows and made no other event
+-- the same, with reservations as the only events
 abbrev pub BuiltOn : View → View → Type 0
 BuiltOn = LaidOn Reserves
 
@@ -62,9 +63,21 @@ pub record IsLeaf (t : Snapshot) (base : ℕ) : Type 0 where
 abbrev pub HaveLeaves : Snapshot → List ℕ → Type 0
 HaveLeaves t bases = (leaves : List PlacedLeaf) × ArePlaced t bases leaves
 
--- ---- what is laid
+-- the key is the published leaf's at the base
+pub record IsKeyOf (t : Snapshot) (base key : ℕ) : Type 0 where
+  pub row : LeafRow
+  pub published : t.pieces base ≡ Some (Leaf row)
+  pub key_is : key ≡ row.key
 
--- each is greater than those before it
+-- these are the keys of the leaves that are published at these bases, in their order
+abbrev pub AreKeysOf : Snapshot → List ℕ → List ℕ → Type 0
+AreKeysOf t [] [] = Unit {0}
+AreKeysOf t (base ∷ bases) (key ∷ keys) = IsKeyOf t base key × AreKeysOf t bases keys
+AreKeysOf t _ _ = ⊥
+
+-- ---- what is built
+
+-- the numbers are strictly increasing
 abbrev pub Rises : List ℕ → Type 0
 Rises [] = Unit {0}
 Rises (x ∷ xs) = Each (λ y. x < y) xs × Rises xs
@@ -86,7 +99,7 @@ pub record IsLaid (w : View) (number low word : ℕ) (leaves : List PlacedLeaf) 
   pub ideal : (above : ℕ) → above < low
       → IsIdeal (with_inners (now w).pieces rows) ref leaves above (bases_of rows)
 
--- the word is the top row alone of the ideal tree over these leaves, with every slot Unset, in a row
+-- the word is only the top row of the ideal tree over these leaves, with every slot Unset, in a row
 -- that the caller holds, from `low` on
 pub record IsTopLaid (w : View) (number low word : ℕ) (leaves : List PlacedLeaf) : Type 0 where
   pub rows : List Row
@@ -99,8 +112,8 @@ pub record IsTopLaid (w : View) (number low word : ℕ) (leaves : List PlacedLea
   pub unset : row.slots ≡ replicate (degree (length leaves)) unset_word
   pub one : bases_of rows ≡ base ∷ []
 
--- the word is a root over these leaves of a target with k keys, in rows that the caller took since an
--- earlier state of it: its others are those that it had then
+-- the word is a root over these leaves of a target with k keys, in rows that the caller took since its
+-- earlier state; its other rows are the ones that it had then
 pub record IsRootLaid (old new : Caller) (target k word : ℕ) (leaves : List PlacedLeaf) : Type 0 where
   pub rows : List Row
   pub owns : OwnsRows new.seat.view new.number (now old.seat.view).next rows
@@ -109,15 +122,15 @@ pub record IsRootLaid (old new : Caller) (target k word : ℕ) (leaves : List Pl
 
 -- ---- a build
 
--- the rows of the build that the caller is at come to those of an ideal subtree of so many keys
+-- the next rows of the caller's build are the rows of an ideal subtree over `keys` keys
 pub record IsDue (who : Caller) (keys : ℕ) : Type 0 where
   pub stuck : List ℕ
   pub done : List ℕ
   pub rest : List ℕ
   pub at : IsInBuild who stuck done (shape keys ++ rest)
 
--- a load of the first word gave how many words are used, and too few are left for a row over no more
--- than so many keys
+-- a load of the first word gave the number of words used, and too few are left for a row over no more
+-- than `keys` keys
 pub record IsShort (v : View) (words keys : ℕ) (full : Full) (w : View) : Type 0 where
   pub before : View
   pub seen : BuiltOn v before
@@ -129,9 +142,29 @@ pub record IsShort (v : View) (words keys : ℕ) (full : Full) (w : View) : Type
   pub words_is : full.words ≡ words
   pub small : words < full.next + full.asked
 
+-- ---- in rows that are held already
+
+-- the caller only stored words, at places from `low` to below `high`
+pub record IsWritten (old new : Caller) (low high : ℕ) : Type 0 where
+  pub same : new
+      ≡ record old {
+        seat = record old.seat { view = record old.seat.view { own = new.seat.view.own } };
+      }
+  pub caller : IsCaller new
+  pub sound : IsSound new.seat.view
+  pub below : (place : ℕ) → place < low → own_at new.seat.view.own place
+      ≡ own_at old.seat.view.own place
+  pub above : (place : ℕ) → high ≤ place → own_at new.seat.view.own place
+      ≡ own_at old.seat.view.own place
+
+-- the same as `IsLaid`, in rows that end at `high` or before
+pub record IsLaidBelow (w : View) (number low high word : ℕ) (leaves : List PlacedLeaf) : Type 0 where
+  pub laid : IsLaid w number low word leaves
+  pub ends : Each (λ row. row.base + length row.words ≤ high) laid.rows
+
 -- ---- a target
 
--- the target is that of a started rebuild, and is finished with so many keys
+-- the target of a started rebuild is finished with k keys
 pub record IsTarget (t : Snapshot) (target k : ℕ) : Type 0 where
   pub rebuild : ℕ
   pub row : RebuildRow

@@ -1,17 +1,18 @@
--- What a build has laid of a row's parts. What the functions inside this crate promise each other.
+-- Which of a row's parts are built. What the functions inside this crate promise each other.
 use Rattle.std.specs.Prelude.{◌≡◌, ℕ, zero, suc, ◌+◌, ◌-◌, ◌≤◌, List, [], ◌∷◌, ◌++◌, length, map, drop, replicate, Some, nat_lt, if◌then◌else◌}
-use Rattle.std.specs.List.{flat_map, range_with_len}
+use Rattle.std.specs.List.{flat_map, range_with_len, sum}
 use Rattle.ist_core.specs.declared.lists.Row.{Row}
 use Rattle.ist_core.specs.Arithmetic.{degree, part_len}
+use Rattle.ist_core.specs.Elements.{Each}
 use Rattle.ist_core.specs.Ideals.{AreIdeal}
 use Rattle.ist_core.specs.Leaves.{PlacedLeaf, HasLeaves}
 use Rattle.ist_core.specs.Parts.{first_keys}
 use Rattle.ist_core.specs.Pieces.{with_inners}
 use Rattle.ist_core.specs.References.{InnerAt, unset_word}
-use Rattle.ist_core.specs.RowLayout.{inner_words}
+use Rattle.ist_core.specs.RowLayout.{inner_words, place_limit}
 use Rattle.ist_core.specs.Shapes.{shape}
 use Rattle.ist_core.specs.Snapshots.{bases_of, HoldsRow}
-use Rattle.ist_forms.specs.Dividing.{lens_to, parts_to}
+use Rattle.laws_rows.specs.Dividing.{lens_to, parts_to}
 use Rattle.ist_rule.specs.declared.view.View.{View}
 use Rattle.ist_rule.specs.declared.view.OwnWord.{OwnWord}
 use Rattle.ist_rule.specs.Rule.{own_at}
@@ -19,9 +20,10 @@ use Rattle.ist_rule.specs.Learning.{now, storing}
 use Rattle.ist_rows.specs.declared.callers.Caller.{Caller}
 use Rattle.ist_rows.specs.Rows.{spares_of, IsCaller}
 use Rattle.ist_rows.specs.Building.{IsInBuild, sizes_built}
-use Rattle.ist_build.specs.Laying.{BuiltOn, ArePlaced, OwnsRows}
+use Rattle.ist_rows.specs.Block.{HoldsBlock}
+use Rattle.ist_build.specs.Laying.{BuiltOn, ArePlaced, OwnsRows, IsWritten}
 
--- so many words that were stored, from the place on
+-- the n stored words from the place on
 abbrev pub words_at : List OwnWord → ℕ → ℕ → List ℕ
 words_at own place zero = []
 words_at own place (suc n) = own_at own place ∷ words_at own (place + 1) n
@@ -33,7 +35,7 @@ pub record AreLaid (w : View) (number low above : ℕ) (words : List ℕ)
   pub owns : OwnsRows w number low rows
   pub ideal : AreIdeal (with_inners (now w).pieces rows) words behind above (bases_of rows)
 
--- how many keys the parts from one on have
+-- the numbers of keys of the parts from number j on
 abbrev pub lens_from : ℕ → ℕ → List ℕ
 lens_from n j = map (part_len n) (range_with_len j (degree n - j))
 
@@ -44,8 +46,8 @@ pub record IsOpened (own : List OwnWord) (base degree size : ℕ) : Type 0 where
   pub degree_is : own_at own (base + 2) ≡ degree
   pub size_is : own_at own (base + 3) ≡ size
 
--- the caller came from another state of it to one where the row at the base is its own, and the
--- first parts are laid
+-- since its earlier state the caller reserved the row at the base, and the first j parts of it are
+-- built
 pub record IsMidway (old : Caller) (leaves : List ℕ) (base d j : ℕ) (who : Caller) : Type 0 where
   pub caller : IsCaller who
   pub number : who.number ≡ old.number
@@ -65,8 +67,31 @@ pub record IsMidway (old : Caller) (leaves : List ℕ) (base d j : ℕ) (who : C
       (done ++ inner_words d ∷ flat_map shape (lens_to (length leaves) j))
       (flat_map shape (lens_from (length leaves) j) ++ rest)
 
--- the caller came from another state of it to one where the row at the base is its own, with the
--- first slots Unset and the keys of these parts: the top row alone of the target's ideal tree
+-- the same as `AreLaid`, in rows that end at `high` or before
+pub record AreLaidBelow (w : View) (number low high above : ℕ) (words : List ℕ)
+    (behind : List (List PlacedLeaf)) : Type 0 where
+  pub laid : AreLaid w number low above words behind
+  pub ends : Each (λ row. row.base + length row.words ≤ high) laid.rows
+
+-- the caller only stored words: into the row at the base and, for the first j parts, into the rows
+-- after it; the rows of the other parts begin at `next`
+pub record IsLaying (old : Caller) (leaves : List ℕ) (base d j next : ℕ) (who : Caller) : Type 0 where
+  pub written : IsWritten old who base next
+  pub next_is : next ≡ base + inner_words d + sum (flat_map shape (lens_to (length leaves) j))
+  pub low : next ≤ place_limit
+  pub held : HoldsRow (now who.seat.view) who.number base (inner_words d)
+  pub rest : HoldsBlock (now who.seat.view) who.number next
+      (flat_map shape (lens_from (length leaves) j))
+  pub opened : IsOpened who.seat.view.own base d (length leaves)
+  pub laid : (placed : List PlacedLeaf) → ArePlaced (now old.seat.view) leaves placed
+      → AreLaidBelow who.seat.view who.number (base + inner_words d) next base
+      (words_at who.seat.view.own (base + 3 + d) j) (parts_to (length leaves) j placed)
+  pub keys : (placed : List PlacedLeaf) → ArePlaced (now old.seat.view) leaves placed
+      → words_at who.seat.view.own (base + 4) (j - 1)
+      ≡ first_keys (λ leaf. leaf.row.key) (drop 1 (parts_to (length leaves) j placed))
+
+-- since its earlier state the caller reserved the row at the base, and has set the first j slots of it
+-- to Unset with the keys of these parts: only the top row of the target's ideal tree
 pub record IsTopMidway (old : Caller) (target k base d j : ℕ) (who : Caller) : Type 0 where
   pub caller : IsCaller who
   pub number : who.number ≡ old.number
@@ -84,11 +109,11 @@ pub record IsTopMidway (old : Caller) (target k base d j : ℕ) (who : Caller) :
 
 -- ---- stores
 
--- the view that has stored the first words of a row
+-- the view after storing the first words of a row
 abbrev pub opening : View → ℕ → ℕ → ℕ → View
 opening v base d size = storing (storing v (base + 2) d) (base + 3) size
 
--- the view that has stored slot j of a row, and key j, if there is one
+-- the view after storing slot j of a row, and key j, if there is one
 abbrev pub setting : View → ℕ → ℕ → ℕ → ℕ → ℕ → View
 setting v base d j key word =
     if nat_lt 0 j then storing (storing v (base + (3 + d + j)) word) (base + (3 + j)) key

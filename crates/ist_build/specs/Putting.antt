@@ -1,4 +1,4 @@
--- How a caller's seat goes on while it builds, and puts in place what it has built.
+-- What a caller's seat does while it builds, and puts in place what it has built.
 use Rattle.std.specs.Prelude.{◌≡◌, ◌≢◌, ℕ, ◌+◌, ◌<◌, ◌≤◌, Some}
 use Rattle.ist_core.specs.declared.ports.Full.{Full}
 use Rattle.ist_core.specs.declared.states.InnerRow.{InnerRow}
@@ -19,10 +19,10 @@ use Rattle.ist_rows.specs.Building.{HasRefused}
 use Rattle.ist_build.specs.Calls.{Builds, IsTold}
 use Rattle.ist_build.specs.Laying.{LaidOn}
 
--- ---- how the seat goes on
+-- ---- what the seat does
 
--- the seat has made loads, and events of builds, and stored words into rows that it reserved since,
--- and nothing else
+-- from the first view to the second the seat has only made loads, made events of builds, and stored
+-- words into rows that it reserved since
 abbrev pub PutOn : View → View → Type 0
 PutOn = LaidOn Builds
 
@@ -37,7 +37,7 @@ pub record HasRoot (t : Snapshot) (rebuild root : ℕ) : Type 0 where
 
 -- ---- parts
 
--- the inner row at the base has so many slots
+-- the inner row at the base has `degree` slots
 pub record HasDegree (t : Snapshot) (node degree : ℕ) : Type 0 where
   pub row : InnerRow
   pub published : t.pieces node ≡ Some (Inner row)
@@ -49,8 +49,8 @@ pub record IsSlotSet (t : Snapshot) (node i : ℕ) : Type 0 where
   pub holds : SlotHolds t node i word
   pub set : word ≢ unset_word
 
--- the rebuild is started, its target is finished with so many keys that the root is shared, and this
--- is the root, with a slot for each part
+-- the rebuild is started, its target is finished with enough keys for a shared root, and this is the
+-- root, with a slot for each part
 pub record IsShared (t : Snapshot) (rebuild target root k : ℕ) : Type 0 where
   pub row : RebuildRow
   pub published : t.pieces rebuild ≡ Some (Rebuild row)
@@ -61,7 +61,7 @@ pub record IsShared (t : Snapshot) (rebuild target root k : ℕ) : Type 0 where
   pub root_is : ref_of row.root ≡ Some (InnerAt root)
   pub node : HasDegree t root (degree k)
 
--- the caller came to fill slots of a shared root: the first so many are set
+-- the caller is filling the slots of a shared root: the first i are set
 pub record IsFilling (old : Caller) (rebuild target root k i : ℕ) (who : Caller) : Type 0 where
   pub caller : IsCaller who
   pub refused : HasRefused who
@@ -73,7 +73,7 @@ pub record IsFilling (old : Caller) (rebuild target root k i : ℕ) (who : Calle
 
 -- ---- refusals
 
--- a load of the first word gave how many words are used, and too few are left for a row over no more
+-- a load of the first word gave the number of words used, and too few are left for a row over no more
 -- keys than the target of the rebuild has
 pub record IsStopped (v : View) (rebuild words : ℕ) (full : Full) (w : View) : Type 0 where
   pub k : ℕ

@@ -1,4 +1,4 @@
-//! What callers of this crate call, in references.
+//! The public calls of this crate, in terms of references.
 ghost use Rattle.std.specs.Prelude.{◌≡◌, ◌≢◌, ◌+◌, ◌≤◌, ◌^◌, ℕ, List, [], take, drop, None, Some, IfOk, IfErr};
 ghost use Rattle.ist_core.specs.Leaves.{PlacedLeaf, HasLeaves};
 ghost use Rattle.ist_core.specs.References.{InnerAt, IsGoodRef, ref_of};
@@ -20,9 +20,8 @@ use ist_core::Full;
 use ist_layout::Ref;
 use ist_rows::Caller;
 use ist_rule::{TreeSeat, TreeTable, know};
-use std::sync::Wait;
 
-// The reference that the word names.
+// Returns the reference that the word encodes.
 fn named(word: u64) -> Ref
     requires named { ref_of word ≢ None }
     ensures value { ref_of word ≡ Some (ref_meant result) }
@@ -34,10 +33,11 @@ fn named(word: u64) -> Ref
     }
 }
 
-/// The leaf of the key number `i` of a finished target, counted from 0 in the order of the keys.
+/// Returns the leaf of the key number `i` of a finished target, counted from 0 in the order of the
+/// keys.
 ///
-/// Leaves are shared by the old subtree and the new one. It goes down by the finished counts, and
-/// skips what lies before the leaf.
+/// Leaves are shared by the old subtree and the new one. The search goes down by the finished counts,
+/// and skips what lies before the leaf.
 pub fn leaf_at(table: &TreeTable, seat: &mut TreeSeat, target: u32, i: u64) -> Ref
     requires same_table { seat.old.table ≡ table.now.table }
     requires finished { HasKeys (now seat.old.view) target (i + 1) }
@@ -51,10 +51,10 @@ pub fn leaf_at(table: &TreeTable, seat: &mut TreeSeat, target: u32, i: u64) -> R
     leaf_and_loads(table, seat, target, i).0
 }
 
-/// The same leaf, and how many words were loaded on the way to it.
+/// Returns the same leaf as `leaf_at`, and how many words were loaded on the way to it.
 ///
-/// A row on the way costs one load, and for each slot up to the one that is gone on from at most
-/// four: its word, what a change in it would take out, the target of a rebuild, and a finished count.
+/// A row on the way costs one load, and at most four for each slot up to the one that is entered:
+/// its word, what a change in it would take out, the target of a rebuild, and a finished count.
 pub fn leaf_and_loads(table: &TreeTable, seat: &mut TreeSeat, target: u32, i: u64) -> (Ref, u64)
     requires same_table { seat.old.table ≡ table.now.table }
     requires finished { HasKeys (now seat.old.view) target (i + 1) }
@@ -73,16 +73,15 @@ pub fn leaf_and_loads(table: &TreeTable, seat: &mut TreeSeat, target: u32, i: u6
     (Ref::Leaf { base: reached.base }, reached.loads)
 }
 
-/// The ideal subtree over the leaves number `start` to `start + len - 1` of a finished target: Empty
-/// for no key, and the leaf for one.
+/// Builds the ideal subtree over the leaves number `start` to `start + len - 1` of a finished target,
+/// and returns it: Empty for no key, and the leaf for one.
 ///
-/// Its inner rows are the caller's own, and lie above each row that was published before. `Full`
-/// comes where a load of the first word in this call left too few words for the next row, which is
-/// one over no more than `len` keys; the rows of the build stay held then, and the next build
-/// reserves anew. May wait while others reserve, and takes no memory.
-pub fn build_part<R: Wait>(
+/// Its inner rows are the caller's own, and lie above each row that was published before. Returns
+/// `Full` if a load of the first word in this call left too few words for the next row, a row over
+/// no more than `len` keys; the rows of the build then stay held, and the next build reserves new
+/// ones. Never allocates, always returns.
+pub fn build_part(
     table: &TreeTable,
-    rt: &R,
     who: &mut Caller,
     target: u32,
     start: u64,
@@ -109,23 +108,18 @@ pub fn build_part<R: Wait>(
     ensures refused { IfErr result (λ full. HasRefused who.new) }
 {
     know(&who.seat);
-    let word = build_share(table, rt, who, target, start, len)?;
+    let word = build_share(table, who, target, start, len)?;
     Ok(named(word))
 }
 
-/// Gives a started rebuild with a finished target its root, and answers it.
+/// Gives a started rebuild with a finished target its root, and returns the root.
 ///
-/// Below `SHARE_FROM` keys that is the whole ideal subtree over the leaves of the target. From
-/// `SHARE_FROM` keys on it is its top row alone, with every slot Unset. Where another caller's root
-/// was first, that one is answered, and what this caller built is lost. `Full` comes where a load of
-/// the first word in this call left too few words for a row of the build; its rows stay held. May
-/// wait while others reserve, and takes no memory.
-pub fn set_root<R: Wait>(
-    table: &TreeTable,
-    rt: &R,
-    who: &mut Caller,
-    rebuild: u32,
-) -> Result<Ref, Full>
+/// Below `SHARE_FROM` keys the root is the whole ideal subtree over the leaves of the target. From
+/// `SHARE_FROM` keys on it is only the top row, with every slot Unset. If another caller's root was
+/// first, that root is returned, and what this caller built is lost. Returns `Full` if a load of the
+/// first word in this call left too few words for a row of the build; its rows stay held. Never
+/// allocates, always returns.
+pub fn set_root(table: &TreeTable, who: &mut Caller, rebuild: u32) -> Result<Ref, Full>
     requires same_table { who.old.seat.table ≡ table.now.table }
     requires caller { IsCaller who.old }
     requires refused { HasRefused who.old }
@@ -143,24 +137,19 @@ pub fn set_root<R: Wait>(
     ensures refused { HasRefused who.new }
 {
     know(&who.seat);
-    let word = place_root(table, rt, who, rebuild)?;
+    let word = place_root(table, who, rebuild)?;
     know(&who.seat);
     Ok(named(word))
 }
 
 /// Fills the root of a rebuild: afterwards no slot of it is Unset.
 ///
-/// Where the target has fewer than `SHARE_FROM` keys that is so already. Otherwise the caller draws
-/// parts and fills them while there are parts to draw, beside others who do so. Then it fills each
-/// slot that is still Unset, so that it waits for nobody. `Full` comes where a load of the first word
-/// in this call left too few words for a row of a part; the rows of that build stay held. May wait
-/// while others reserve, and takes no memory.
-pub fn fill_parts<R: Wait>(
-    table: &TreeTable,
-    rt: &R,
-    who: &mut Caller,
-    rebuild: u32,
-) -> Result<(), Full>
+/// If the target has fewer than `SHARE_FROM` keys, that already holds. Otherwise the caller draws parts
+/// and fills them while there are parts to draw; others may do so at the same time. Then it fills each
+/// slot that is still Unset, so that it waits for nobody. Returns `Full` if a load of the first word in
+/// this call left too few words for a row of a part; the rows of that build stay held. Never allocates,
+/// always returns.
+pub fn fill_parts(table: &TreeTable, who: &mut Caller, rebuild: u32) -> Result<(), Full>
     requires same_table { who.old.seat.table ≡ table.now.table }
     requires caller { IsCaller who.old }
     requires refused { HasRefused who.old }
@@ -178,5 +167,5 @@ pub fn fill_parts<R: Wait>(
     ensures refused { HasRefused who.new }
 {
     know(&who.seat);
-    fill_root(table, rt, who, rebuild)
+    fill_root(table, who, rebuild)
 }

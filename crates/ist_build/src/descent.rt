@@ -18,8 +18,8 @@ pub(crate) struct Reached {
     pub(crate) loads: u64,
 }
 
-// Goes down to the leaf number `i` below a finished node: leaves out what lies before it by the
-// finished counts, and enters one child a row.
+// Goes down to the leaf number `i` below a finished node: skips what lies before it by the finished
+// counts, and enters one child per row.
 fn go_down(table: &TreeTable, seat: &mut TreeSeat, node: u32, i: u64) -> Reached
     requires same_table { seat.old.table ≡ table.now.table }
     requires finished { HasKeys (now seat.old.view) node (i + 1) }
@@ -61,7 +61,8 @@ fn go_down(table: &TreeTable, seat: &mut TreeSeat, node: u32, i: u64) -> Reached
     unreachable!()
 }
 
-/// The leaf of the key number `i` of a finished target, counted from 0, and how many loads it took.
+/// Returns the leaf of the key number `i` of a finished target, counted from 0, and how many loads
+/// it took.
 pub(crate) fn leaf_base(table: &TreeTable, seat: &mut TreeSeat, target: u32, i: u64) -> Reached
     requires same_table { seat.old.table ≡ table.now.table }
     requires finished { HasKeys (now seat.old.view) target (i + 1) }

@@ -10,7 +10,7 @@ ghost use Rattle.ist_rule.specs.Learning.{now, GoesOnTo, ExchangedOrLost};
 ghost use Rattle.ist_rule.specs.Conditions.{CanExchangeOrLose};
 ghost use Rattle.ist_rows.specs.Rows.{IsCaller, spares_of};
 ghost use Rattle.ist_rows.specs.Building.{HasRefused};
-ghost use Rattle.ist_coming.specs.Builds.{WasUnset};
+ghost use Rattle.laws_coming.specs.Builds.{WasUnset};
 ghost use Rattle.ist_build.specs.Laying.{IsShort};
 ghost use Rattle.ist_build.specs.Naming.{placing, losing};
 ghost use Rattle.ist_build.specs.Calls.{IsTold, IsBuildable, IsRooted, IsBuiltOut};
@@ -23,9 +23,8 @@ use ist_layout::{REBUILD_DRAW_OFFSET, REBUILD_ROOT_OFFSET, Ref, slot_place};
 use ist_math::{SHARE_FROM, degree, part};
 use ist_rows::Caller;
 use ist_rule::{TreeSeat, TreeTable, add, exchange_or_lose, know, load};
-use std::sync::Wait;
 
-// The word that stands in a slot of a node.
+// Returns the word in a slot of a node.
 fn slot_of(table: &TreeTable, seat: &mut TreeSeat, node: u32, degree: u64, i: u64) -> u64
     requires same_table { seat.old.table ≡ table.now.table }
     requires published { HasDegree (now seat.old.view) node degree }
@@ -40,7 +39,7 @@ fn slot_of(table: &TreeTable, seat: &mut TreeSeat, node: u32, degree: u64, i: u6
     load(table, seat, slot_place(node, degree, i))
 }
 
-// Puts the word in place, where Unset stands: it is part `i` of the rebuild.
+// Puts the word, part `i` of the rebuild, into its slot if the slot is Unset.
 fn put_part(
     table: &TreeTable,
     seat: &mut TreeSeat,
@@ -62,10 +61,9 @@ fn put_part(
     exchange_or_lose(table, seat, place, Ref::Unset.to_word(), word)
 }
 
-// Builds part `i` of a shared root and puts it in place, where its slot is Unset.
-fn fill_slot<R: Wait>(
+// Builds part `i` of a shared root and puts it in place, if its slot is Unset.
+fn fill_slot(
     table: &TreeTable,
-    rt: &R,
     who: &mut Caller,
     rebuild: u32,
     target: u32,
@@ -95,7 +93,7 @@ fn fill_slot<R: Wait>(
     }
     let share = part(keys, i);
     know(&who.seat);
-    let word = build_share(table, rt, who, target, share.start, share.len)?;
+    let word = build_share(table, who, target, share.start, share.len)?;
     know(&who.seat);
     put_part(
         table,
@@ -108,8 +106,8 @@ fn fill_slot<R: Wait>(
     Ok(())
 }
 
-// Draws the next part of a rebuild, or none where the last was drawn. It looks before each draw, so
-// that a draw past the last part is the caller's last.
+// Draws the next part of a rebuild, or none if the last was drawn. It loads the draw word before each
+// draw, so that a draw past the last part is the caller's last.
 fn draw(
     table: &TreeTable,
     who: &mut Caller,
@@ -141,10 +139,9 @@ fn draw(
     if part < degree { Some(part) } else { None }
 }
 
-// Draws parts and fills those that are drawn, as long as there are parts to draw.
-fn fill_drawn<R: Wait>(
+// Draws parts and fills them, as long as there are parts to draw.
+fn fill_drawn(
     table: &TreeTable,
-    rt: &R,
     who: &mut Caller,
     rebuild: u32,
     target: u32,
@@ -167,7 +164,7 @@ fn fill_drawn<R: Wait>(
     know(&who.seat);
     for _ in 0..degree(keys) {
         match draw(table, who, rebuild, target, root, keys) {
-            Some(i) => fill_slot(table, rt, who, rebuild, target, root, keys, i)?,
+            Some(i) => fill_slot(table, who, rebuild, target, root, keys, i)?,
             None => return Ok(()),
         }
     }
@@ -176,9 +173,8 @@ fn fill_drawn<R: Wait>(
 }
 
 // Fills each slot that is still Unset.
-fn fill_unset<R: Wait>(
+fn fill_unset(
     table: &TreeTable,
-    rt: &R,
     who: &mut Caller,
     rebuild: u32,
     target: u32,
@@ -202,13 +198,13 @@ fn fill_unset<R: Wait>(
 {
     know(&who.seat);
     for i in 0..degree(keys) {
-        fill_slot(table, rt, who, rebuild, target, root, keys, i)?;
+        fill_slot(table, who, rebuild, target, root, keys, i)?;
     }
     know(&who.seat);
     Ok(())
 }
 
-// The row that is the shared root of a rebuild.
+// Returns the row that is the shared root of a rebuild.
 fn root_node(table: &TreeTable, seat: &mut TreeSeat, rebuild: u32, target: u32, keys: u64) -> u32
     requires same_table { seat.old.table ≡ table.now.table }
     requires told { IsTold (now seat.old.view) rebuild keys }
@@ -226,16 +222,11 @@ fn root_node(table: &TreeTable, seat: &mut TreeSeat, rebuild: u32, target: u32, 
 
 /// Fills the root of a rebuild: afterwards no slot of it is Unset.
 ///
-/// Where the target has fewer than `SHARE_FROM` keys that is so already. Otherwise the caller draws
-/// parts and fills them while there are parts to draw, beside others who do so. Then it fills each
-/// slot that is still Unset, so that it waits for nobody. `Full` comes where too few words are left
-/// for a row of a part; its rows stay held.
-pub(crate) fn fill_root<R: Wait>(
-    table: &TreeTable,
-    rt: &R,
-    who: &mut Caller,
-    rebuild: u32,
-) -> Result<(), Full>
+/// If the target has fewer than `SHARE_FROM` keys, that already holds. Otherwise the caller draws parts
+/// and fills them while there are parts to draw; others may do so at the same time. Then it fills each
+/// slot that is still Unset, so that it waits for nobody. Returns `Full` if too few words are left for
+/// a row of a part; its rows stay held.
+pub(crate) fn fill_root(table: &TreeTable, who: &mut Caller, rebuild: u32) -> Result<(), Full>
     requires same_table { who.old.seat.table ≡ table.now.table }
     requires caller { IsCaller who.old }
     requires refused { HasRefused who.old }
@@ -258,6 +249,6 @@ pub(crate) fn fill_root<R: Wait>(
         return Ok(());
     }
     let root = root_node(table, &mut who.seat, rebuild, target, keys);
-    fill_drawn(table, rt, who, rebuild, target, root, keys)?;
-    fill_unset(table, rt, who, rebuild, target, root, keys)
+    fill_drawn(table, who, rebuild, target, root, keys)?;
+    fill_unset(table, who, rebuild, target, root, keys)
 }

@@ -1,11 +1,12 @@
 //! Building ideal subtrees over the leaves of a finished target.
 //!
-//! Read `specs/Calls.antt`, then `calls.rt`, `reading.rt` and `building.rt`. Stands on `ist_core`,
-//! `ist_layout`, `ist_math`, `ist_rule`, `ist_rows`, `ist_dcss`, `ist_mark`, and on the laws of
-//! `ist_links`, `ist_rebuilds`, `ist_stability`, `ist_forms` and `ist_coming`.
+//! Read `specs/Calls.antt`, then `calls.rt`, `reading.rt` and `building.rt`. Uses `ist_core`,
+//! `ist_layout`, `ist_math`, `ist_rule`, `ist_rows`, `ist_dcss`, `ist_mark`, and the laws of
+//! `laws_links`, `laws_rebuilds`, `laws_stability`, `laws_rows` and `laws_coming`.
 #![tactic(auto)]
 
 mod below;
+mod block;
 mod building;
 mod calls;
 mod descent;

@@ -12,32 +12,34 @@ ghost use Rattle.ist_rows.specs.Building.{HasTaken, HasRefused, IsInBuild, sizes
 ghost use Rattle.ist_build.specs.Calls.{MayBuild, HasKeys};
 ghost use Rattle.ist_build.specs.Laying.{BuiltOn, IsLaid, IsDue, IsShort};
 
-use crate::building::build;
+use crate::block::build_at_once;
+use crate::building::load_keys;
 use crate::reading::{Cursor, read_leaves};
 use ist_core::Full;
 use ist_rows::Caller;
 use ist_rule::{TreeSeat, TreeTable, know};
-use std::sync::Wait;
 
-// The leaves of a target with few keys are no more than this.
+// A target with fewer than `SHARE_FROM` keys has no more leaves than this.
 const FEW: usize = 256;
 
 // No part is longer than this.
 const MANY: usize = 16388;
 
-// Builds over as many leaves as there is room for, from number `start` on.
-fn build_read<R: Wait>(
+// Builds over the leaves from number `start` on, one per element of `leaves`. It reads all leaves,
+// and then all their keys, before it stores a word.
+fn build_read(
     table: &TreeTable,
-    rt: &R,
     who: &mut Caller,
     target: u32,
     start: u64,
     leaves: &mut [u32],
+    keys: &mut [u64],
 ) -> Result<u64, Full>
     requires same_table { who.old.seat.table ≡ table.now.table }
     requires caller { IsCaller who.old }
     requires due { 2 ≤ length leaves.old → IsDue who.old (length leaves.old) }
     requires finished { HasKeys (now who.old.seat.view) target (start + length leaves.old) }
+    requires many { length keys.old ≡ length leaves.old }
     requires few { length leaves.old < place_limit }
     ensures same_table { who.new.seat.table ≡ table.now.table }
     ensures caller { IsCaller who.new }
@@ -59,12 +61,13 @@ fn build_read<R: Wait>(
         count: 0,
     };
     read_leaves(table, &mut who.seat, target, leaves, at);
-    build(table, rt, who, leaves)
+    know(&who.seat);
+    load_keys(table, &mut who.seat, leaves, keys);
+    build_at_once(table, who, leaves, keys)
 }
 
-fn build_few<R: Wait>(
+fn build_few(
     table: &TreeTable,
-    rt: &R,
     who: &mut Caller,
     target: u32,
     start: u64,
@@ -90,12 +93,20 @@ fn build_few<R: Wait>(
     ensures refused { IfErr result (λ full. HasRefused who.new) }
 {
     let mut leaves = [0; FEW];
-    build_read(table, rt, who, target, start, &mut leaves[..len as usize])
+    let mut keys = [0; FEW];
+    let room = len as usize;
+    build_read(
+        table,
+        who,
+        target,
+        start,
+        &mut leaves[..room],
+        &mut keys[..room],
+    )
 }
 
-fn build_many<R: Wait>(
+fn build_many(
     table: &TreeTable,
-    rt: &R,
     who: &mut Caller,
     target: u32,
     start: u64,
@@ -121,16 +132,25 @@ fn build_many<R: Wait>(
     ensures refused { IfErr result (λ full. HasRefused who.new) }
 {
     let mut leaves = [0; MANY];
-    build_read(table, rt, who, target, start, &mut leaves[..len as usize])
+    let mut keys = [0; MANY];
+    let room = len as usize;
+    build_read(
+        table,
+        who,
+        target,
+        start,
+        &mut leaves[..room],
+        &mut keys[..room],
+    )
 }
 
-/// The ideal subtree over the leaves number `start` to `start + len - 1` of a finished target.
+/// Builds the ideal subtree over the leaves number `start` to `start + len - 1` of a finished target,
+/// and returns its word.
 ///
-/// Its inner rows are the caller's own, and lie above each row that was published before. Where too
-/// few words are left the build is refused: its rows stay held, and the next build reserves anew.
-pub(crate) fn build_share<R: Wait>(
+/// Its inner rows are the caller's own, and lie above each row that was published before. If too few
+/// words are left, it returns `Full`: its rows stay held, and the next build reserves new ones.
+pub(crate) fn build_share(
     table: &TreeTable,
-    rt: &R,
     who: &mut Caller,
     target: u32,
     start: u64,
@@ -156,8 +176,8 @@ pub(crate) fn build_share<R: Wait>(
     ensures refused { IfErr result (λ full. HasRefused who.new) }
 {
     if len <= FEW as u64 {
-        return build_few(table, rt, who, target, start, len);
+        return build_few(table, who, target, start, len);
     }
     know(&who.seat);
-    build_many(table, rt, who, target, start, len)
+    build_many(table, who, target, start, len)
 }

@@ -5,7 +5,7 @@ ghost use Rattle.ist_core.specs.Marking.{HasTarget, IsFrozen};
 ghost use Rattle.ist_core.specs.Rebuilding.{IsFinishedWith};
 ghost use Rattle.ist_core.specs.References.{ref_of, ChangeAt, InnerAt};
 ghost use Rattle.ist_core.specs.Slots.{SlotHolds, logical};
-ghost use Rattle.ist_links.specs.Linking.{IsFinished};
+ghost use Rattle.laws_links.specs.Linking.{IsFinished};
 ghost use Rattle.ist_rule.specs.Learning.{now, GoesOnTo};
 ghost use Rattle.ist_mark.specs.Passing.{IsNoChange, IsRebuildRow};
 ghost use Rattle.ist_build.specs.Reading.{HasSlots, IsUnder, HasRead};
@@ -17,14 +17,14 @@ use ist_layout::{
 };
 use ist_rule::{TreeSeat, TreeTable, know, load};
 
-// How far the reading has come: so many leaves are to be left out still, and so many were written.
+// How far the reading is: how many leaves must still be skipped, and how many were written.
 #[derive(Clone, Copy, Drop)]
 pub(crate) struct Cursor {
     pub(crate) skip: u64,
     pub(crate) count: usize,
 }
 
-// The change whose word this is, if it is one's.
+// Returns the change that the word names, if it names one.
 fn change_in(word: u64) -> Option<u32>
     ensures change { (change : ℕ) → result ≡ Some change → ref_of word ≡ Some (ChangeAt change) }
     ensures no_change { result ≡ None → IsNoChange word }
@@ -35,9 +35,9 @@ fn change_in(word: u64) -> Option<u32>
     }
 }
 
-// The word with which the slot was passed, and how many loads it took. Where a change stands in the
-// slot, it came too late, and would take this word out. It is put where it is called, so that loads
-// which no one asks for aren't counted.
+// Returns the word with which the slot was passed, and how many loads it took. If a change is in the
+// slot, it came too late: the word is the one that it would take out. Inlined, so that callers who
+// ignore the number of loads don't count them.
 #[inline(always)]
 fn passed_word(
     table: &TreeTable,
@@ -63,7 +63,7 @@ fn passed_word(
     }
 }
 
-// The number of keys with which the node is finished.
+// Returns the number of keys with which the node is finished.
 pub(crate) fn keys_of(table: &TreeTable, seat: &mut TreeSeat, node: u32) -> u64
     requires same_table { seat.old.table ≡ table.now.table }
     requires finished { IsFinished (now seat.old.view) node }
@@ -77,7 +77,7 @@ pub(crate) fn keys_of(table: &TreeTable, seat: &mut TreeSeat, node: u32) -> u64
     load(table, seat, u64::from(node) + INNER_STATUS_OFFSET) / 4
 }
 
-// The node that is rebuilt.
+// Returns the node that is rebuilt.
 pub(crate) fn target_of(table: &TreeTable, seat: &mut TreeSeat, rebuild: u32) -> u32
     requires same_table { seat.old.table ≡ table.now.table }
     requires published { IsRebuildRow (now seat.old.view) rebuild }
@@ -90,8 +90,8 @@ pub(crate) fn target_of(table: &TreeTable, seat: &mut TreeSeat, rebuild: u32) ->
     load(table, seat, u64::from(rebuild) + REBUILD_TARGET_OFFSET) as u32
 }
 
-// What hangs below a slot of the finished node, and how many loads it took to tell, as for
-// `passed_word`.
+// Returns what hangs below a slot of the finished node, and how many loads it took to find out. Inlined
+// as `passed_word` is.
 #[inline(always)]
 pub(crate) fn look_below(
     table: &TreeTable,
@@ -129,7 +129,7 @@ pub(crate) fn look_below(
     }
 }
 
-// Takes one leaf, if it isn't to be left out and there is room.
+// Takes one leaf, unless it must be skipped or there is no room.
 fn take_leaf(base: u32, into: &mut [u32], at: Cursor) -> Cursor
     requires within { at.count ≤ length into.old }
     ensures within { result.count ≤ length into.new }
@@ -152,7 +152,7 @@ fn take_leaf(base: u32, into: &mut [u32], at: Cursor) -> Cursor
     }
 }
 
-// How many slots the finished node has.
+// Returns the number of slots of the finished node.
 pub(crate) fn degree_of(table: &TreeTable, seat: &mut TreeSeat, node: u32) -> u64
     requires same_table { seat.old.table ≡ table.now.table }
     requires finished { IsFinished (now seat.old.view) node }
@@ -204,9 +204,8 @@ fn read_slot(
     }
 }
 
-// Reads the leaves of a finished node in the order of their keys: leaves out as many as the cursor
-// says, and writes the bases of the others behind those that were written before, as far as there is
-// room.
+// Reads the leaves of a finished node in the order of their keys: skips as many as the cursor says,
+// and writes the bases of the others after those that were written before, as far as there is room.
 #[cycle(reading)]
 pub(crate) fn read_leaves(
     table: &TreeTable,

@@ -10,7 +10,7 @@ ghost use Rattle.ist_rule.specs.Faces.{word_count_of};
 ghost use Rattle.ist_rule.specs.Learning.{now, GoesOnTo};
 ghost use Rattle.ist_rows.specs.Rows.{IsCaller, spares_of};
 ghost use Rattle.ist_rows.specs.Building.{HasRefused};
-ghost use Rattle.ist_coming.specs.Builds.{WasUnset};
+ghost use Rattle.laws_coming.specs.Builds.{WasUnset};
 ghost use Rattle.ist_build.specs.Laying.{BuiltOn, IsRootLaid, IsTarget, IsShort};
 ghost use Rattle.ist_build.specs.Calls.{IsTold, IsBuildable};
 ghost use Rattle.ist_build.specs.Putting.{PutOn, HasRoot, IsStopped};
@@ -25,9 +25,8 @@ use ist_layout::{REBUILD_ROOT_OFFSET, Ref};
 use ist_math::SHARE_FROM;
 use ist_rows::Caller;
 use ist_rule::{TreeSeat, TreeTable, exchange, exchange_or_lose, know, load};
-use std::sync::Wait;
 
-// The word that stands for the root of a rebuild.
+// Returns the word in a rebuild's root field.
 fn root_of(table: &TreeTable, seat: &mut TreeSeat, rebuild: u32) -> u64
     requires same_table { seat.old.table ≡ table.now.table }
     requires published { IsRebuildRow (now seat.old.view) rebuild }
@@ -41,15 +40,9 @@ fn root_of(table: &TreeTable, seat: &mut TreeSeat, rebuild: u32) -> u64
     load(table, seat, u64::from(rebuild) + REBUILD_ROOT_OFFSET)
 }
 
-// Builds a root over the leaves of a finished target with two keys or more, and answers its word: the
-// whole ideal subtree, or from `SHARE_FROM` keys on its top row alone.
-fn build_root<R: Wait>(
-    table: &TreeTable,
-    rt: &R,
-    who: &mut Caller,
-    target: u32,
-    keys: u64,
-) -> Result<u64, Full>
+// Builds a root over the leaves of a finished target with two keys or more, and returns its word: the
+// whole ideal subtree, or from `SHARE_FROM` keys on only its top row.
+fn build_root(table: &TreeTable, who: &mut Caller, target: u32, keys: u64) -> Result<u64, Full>
     requires same_table { who.old.seat.table ≡ table.now.table }
     requires caller { IsCaller who.old }
     requires refused { HasRefused who.old }
@@ -69,15 +62,14 @@ fn build_root<R: Wait>(
 {
     know(&who.seat);
     if keys < SHARE_FROM {
-        return build_share(table, rt, who, target, 0, keys);
+        return build_share(table, who, target, 0, keys);
     }
-    build_top(table, rt, who, target, keys)
+    build_top(table, who, target, keys)
 }
 
-// Builds a root of inner rows and puts it in place, and answers the root that stands then.
-fn set_rows<R: Wait>(
+// Builds a root of inner rows and puts it in place, and returns the root that the rebuild then has.
+fn set_rows(
     table: &TreeTable,
-    rt: &R,
     who: &mut Caller,
     rebuild: u32,
     target: u32,
@@ -101,7 +93,7 @@ fn set_rows<R: Wait>(
     ensures refused { HasRefused who.new }
 {
     know(&who.seat);
-    let word = build_root(table, rt, who, target, keys)?;
+    let word = build_root(table, who, target, keys)?;
     know(&who.seat);
     let unset = Ref::Unset.to_word();
     let place = u64::from(rebuild) + REBUILD_ROOT_OFFSET;
@@ -113,7 +105,7 @@ fn set_rows<R: Wait>(
     Ok(stood)
 }
 
-// The root over no key or over one, which has no rows.
+// Returns the root over no key or over one, which has no rows.
 fn small_root(table: &TreeTable, seat: &mut TreeSeat, target: u32, keys: u64) -> u64
     requires same_table { seat.old.table ≡ table.now.table }
     requires finished { IsFinishedWith (now seat.old.view) target keys }
@@ -132,7 +124,7 @@ fn small_root(table: &TreeTable, seat: &mut TreeSeat, target: u32, keys: u64) ->
     Ref::Leaf { base }.to_word()
 }
 
-// Puts a root without rows in place, and answers the root that stands then.
+// Puts a root without rows in place, and returns the root that the rebuild then has.
 fn set_small(table: &TreeTable, who: &mut Caller, rebuild: u32, target: u32, keys: u64) -> u64
     requires same_table { who.old.seat.table ≡ table.now.table }
     requires caller { IsCaller who.old }
@@ -161,18 +153,13 @@ fn set_small(table: &TreeTable, who: &mut Caller, rebuild: u32, target: u32, key
     stood
 }
 
-/// Gives a started rebuild with a finished target its root, and answers it.
+/// Gives a started rebuild with a finished target its root, and returns the root's word.
 ///
-/// Below `SHARE_FROM` keys that is the whole ideal subtree over the leaves of the target. From
-/// `SHARE_FROM` keys on it is its top row alone, with every slot Unset. Where another caller's root
-/// was first, that one is answered, and what this caller built is lost. `Full` comes where too few
-/// words are left for a row of the build; its rows stay held.
-pub(crate) fn place_root<R: Wait>(
-    table: &TreeTable,
-    rt: &R,
-    who: &mut Caller,
-    rebuild: u32,
-) -> Result<u64, Full>
+/// Below `SHARE_FROM` keys the root is the whole ideal subtree over the leaves of the target. From
+/// `SHARE_FROM` keys on it is only the top row, with every slot Unset. If another caller's root was
+/// first, that root is returned, and what this caller built is lost. Returns `Full` if too few words
+/// are left for a row of the build; its rows stay held.
+pub(crate) fn place_root(table: &TreeTable, who: &mut Caller, rebuild: u32) -> Result<u64, Full>
     requires same_table { who.old.seat.table ≡ table.now.table }
     requires caller { IsCaller who.old }
     requires refused { HasRefused who.old }
@@ -196,5 +183,5 @@ pub(crate) fn place_root<R: Wait>(
     if keys < 2 {
         return Ok(set_small(table, who, rebuild, target, keys));
     }
-    set_rows(table, rt, who, rebuild, target, keys)
+    set_rows(table, who, rebuild, target, keys)
 }

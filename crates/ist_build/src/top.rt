@@ -1,4 +1,4 @@
-//! Building the top row alone of the ideal tree over the leaves of a finished target.
+//! Building only the top row of the ideal tree over the leaves of a finished target.
 ghost use Rattle.std.specs.Prelude.{◌≡◌, ◌+◌, ◌≤◌, ℕ, List, [], ◌∷◌, ◌++◌, drop, Some, IfOk, IfErr};
 ghost use Rattle.ist_core.specs.Arithmetic.{degree};
 ghost use Rattle.ist_core.specs.Leaves.{PlacedLeaf, HasLeaves};
@@ -19,9 +19,8 @@ use ist_layout::Ref;
 use ist_math::{degree, part};
 use ist_rows::{Caller, reserve_inner};
 use ist_rule::{TreeSeat, TreeTable, know};
-use std::sync::Wait;
 
-// The key number `i` of a finished target, counted from 0.
+// Returns the key number `i` of a finished target, counted from 0.
 fn key_at(table: &TreeTable, seat: &mut TreeSeat, target: u32, i: u64) -> u64
     requires same_table { seat.old.table ≡ table.now.table }
     requires finished { HasKeys (now seat.old.view) target (i + 1) }
@@ -38,10 +37,9 @@ fn key_at(table: &TreeTable, seat: &mut TreeSeat, target: u32, i: u64) -> u64
 }
 
 // Builds the top row of the ideal tree over all leaves of a finished target, with every slot Unset,
-// and answers its word.
-pub(crate) fn build_top<R: Wait>(
+// and returns its word.
+pub(crate) fn build_top(
     table: &TreeTable,
-    rt: &R,
     who: &mut Caller,
     target: u32,
     keys: u64,
@@ -67,7 +65,7 @@ pub(crate) fn build_top<R: Wait>(
 {
     know(&who.seat);
     let degree = degree(keys);
-    let base = reserve_inner(table, rt, who, degree)?;
+    let base = reserve_inner(table, who, degree)?;
     know(&who.seat);
     open_row(table, who, base, degree, keys);
     for j in 0..degree {

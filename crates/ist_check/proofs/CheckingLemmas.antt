@@ -8,34 +8,34 @@ use Rattle.ist_core.specs.declared.events.Event.{Event}
 use Rattle.ist_core.specs.StartLayout.{start}
 use Rattle.ist_core.specs.Enabled.{Enabled}
 use Rattle.ist_core.specs.Lawful.{Lawful, state_of}
-use Rattle.ist_check_events.specs.declared.replicas.Replica.{Replica}
-use Rattle.ist_check_events.specs.Mirroring.{Mirrors}
-use Rattle.ist_check_events.specs.Remembering.{KnowsSlots, KnowsWays}
+use Rattle.check_events.specs.declared.replicas.Replica.{Replica}
+use Rattle.check_events.specs.Mirroring.{Mirrors}
+use Rattle.check_events.specs.Remembering.{KnowsSlots, KnowsWays}
 use Rattle.ist_core.specs.Logs.{Log}
-use Rattle.ist_check_events.specs.declared.pasts.Past.{Past}
-use Rattle.ist_check_events.specs.declared.pasts.Slot.{Slot}
-use Rattle.ist_check_events.specs.declared.pasts.Way.{Way}
-use Rattle.ist_check_reasons.specs.declared.conditions.Condition.{Condition}
-use Rattle.ist_check_reasons.specs.Conditions.{says_of}
-use Rattle.ist_check_reasons.specs.Failing.{Tells}
+use Rattle.check_events.specs.declared.pasts.Past.{Past}
+use Rattle.check_events.specs.declared.pasts.Slot.{Slot}
+use Rattle.check_events.specs.declared.pasts.Way.{Way}
+use Rattle.check_reasons.specs.declared.conditions.Condition.{Condition}
+use Rattle.check_reasons.specs.Conditions.{says_of}
+use Rattle.check_reasons.specs.Failing.{Tells}
 use Rattle.ist_check.specs.Knowing.{Knows, Remembers}
 use Rattle.ist_check.specs.Verdicts.{IsFirstUnlawful, FailsAt}
 use Rattle.ist_check.proofs.ReasonLemmas.{not_covered}
 
 module _ (events : List Event) (at : ℕ) (event : Event) (below : at < length events)
     (is : event ≡ get_or events at event) where
-  -- the log behind the event is the one before it with the event
+  -- the log after the event is the log before it with the event added
   pub reverse_more : reverse (take (at + 1) events) ≡ event ∷ reverse (take at events)
   reverse_more =
       ap reverse (take_more events at event below ∙ ap (λ e. take at events ++ e ∷ []) (sym is))
       ∙ reverse-append (take at events) (event ∷ [])
 
-  -- the event stands in front of those behind it
+  -- the event precedes those after it
   rest : drop at events ≡ event ∷ drop (at + 1) events
   rest = drop-cons events at event below ∙ ap (λ e. e ∷ drop (suc at) events) (sym is)
       ∙ (let next : suc at ≡ at + 1 = omega arith in ap (λ n. event ∷ drop n events) next)
 
-  -- an event that may not come behind a lawful log of those before it is the first such
+  -- an event that may not come after a lawful log of those before it is the first such event
   pub first_unlawful : (pairs : List Pair) (words : ℕ) → Lawful pairs words
       (reverse (take at events))
       → ¬ (Enabled (start pairs words) (reverse (take at events)) event)
@@ -51,7 +51,7 @@ module _ (events : List Event) (at : ℕ) (event : Event) (below : at < length e
         refused = refused;
       }
 
-  -- where a condition of it is the first that is false, it fails so
+  -- if a condition of it is the first that is false, it fails in this way
   pub fails_at : (pairs : List Pair) (words : ℕ) (condition : Condition) → Lawful pairs words
       (reverse (take at events))
       → Tells (says_of (start pairs words) (reverse (take at events)) event) (Some condition)
@@ -68,7 +68,7 @@ module _ (events : List Event) (at : ℕ) (event : Event) (below : at < length e
         uncovered = not_covered pairs words (reverse (take at events)) lawful event condition tells;
       }
 
--- what the other tables hold doesn't depend on those of the slots and the ways
+-- what the other tables hold doesn't depend on the slots and the ways
 slots_apart : (past : Past) (slots : BTreeMap ℕ Slot) (ways : BTreeMap ℕ Way) (pairs : List Pair) (words : ℕ) (log : Log)
     → Remembers past pairs words log → Remembers (record past { slots = slots; ways = ways }) pairs words log
 slots_apart past slots ways pairs words log it =
@@ -93,8 +93,8 @@ module _ (replica : Replica) (past : Past) (pairs : List Pair) (words : ℕ) (lo
   pub lawful_more : Lawful pairs words (event ∷ log)
   lawful_more = record { opens = knows.lawful.opens; enabled = (knows.lawful.enabled, may) }
 
-  -- and it is known what is behind it, where the replica, the slots and the other tables are
-  -- brought forward
+  -- the checker knows what it should after the event, if the replica, the slots and the other
+  -- tables are brought forward
   pub known_more : (behind : Replica) (after_it : Past) (slots : BTreeMap ℕ Slot)
       (ways : BTreeMap ℕ Way)
       → Mirrors behind (state_of pairs words (event ∷ log))

@@ -37,7 +37,7 @@ module _ {X : Type 0} where
       → fin.get m q ≡ tree.get nat_cmp t q
   found m t q is = fin.get-entries m q ∙ ap (entries.find nat_cmp q) is ∙ same t.entries q
 
-  -- what has the entries of a tree has rising keys
+  -- the keys of an ordered tree's entries are strictly increasing
   pub rising : {V E : Type 0} (r : Result V E) (items : V → List (ℕ × X)) (t : BTreeMap ℕ X)
       → tree.IsOrdered nat_cmp t
       → IfOk r (λ v. items v ≡ t.entries)

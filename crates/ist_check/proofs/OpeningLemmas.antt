@@ -16,25 +16,28 @@ use Rattle.ist_core.specs.Pieces.{Change}
 use Rattle.ist_core.specs.StartLayout.{start}
 use Rattle.ist_core.specs.Marking.{IsCalled, as_target, as_child, behind_rebuild}
 use Rattle.ist_core.specs.Rebuilding.{IsStarted}
-use Rattle.ist_check_events.specs.declared.pasts.BuildTable.{BuildTable}
-use Rattle.ist_check_events.specs.declared.pasts.LastUpdate.{LastUpdate}
-use Rattle.ist_check_fairness.specs.declared.lists.BuildingLists.{BuildingLists}
-use Rattle.ist_check_fairness.specs.Answers.{FindsGreatest}
-use Rattle.ist_check_events.specs.Remembering.{LacksCount, KnowsOkays, KnowsCalls, KnowsDraws, KnowsPasses, KnowsUpdates, KnowsRefusals, KnowsStarts, KnowsBuilds, KnowsLeaves, CameBehind, last_with, seen_builds}
-use Rattle.ist_check_fairness.specs.Targets.{IsTargeted, KnowsTargets}
-use Rattle.ist_check_fairness.specs.Knowing.{KnowsLists, HasNone}
-use Rattle.ist_check_fairness.proofs.AnswerLemmas.{finds_none}
-use Rattle.ist_check_fairness.proofs.KeepingLemmas.{none_kept}
-use Rattle.ist_check_state.proofs.TableLemmas.{holds_none}
-use Rattle.ist_links.proofs.QuietLemmas.{start_quiet}
+use Rattle.check_events.specs.declared.pasts.BuildTable.{BuildTable}
+use Rattle.check_events.specs.declared.pasts.LastUpdate.{LastUpdate}
+use Rattle.check_fairness.specs.declared.lists.BuildingLists.{BuildingLists}
+use Rattle.check_fairness.specs.Answers.{FindsGreatest}
+use Rattle.check_events.specs.Remembering.{LacksCount, KnowsOkays, KnowsCalls, KnowsDraws, KnowsPasses, KnowsUpdates, KnowsRefusals, KnowsStarts, KnowsBuilds, KnowsLeaves, CameBehind, last_with, seen_builds}
+use Rattle.check_fairness.specs.Targets.{IsTargeted, KnowsTargets}
+use Rattle.check_fairness.specs.Knowing.{KnowsLists, HasNone}
+use Rattle.check_fairness.proofs.AnswerLemmas.{finds_none}
+use Rattle.check_fairness.proofs.KeepingLemmas.{none_kept}
+use Rattle.check_state.proofs.TableLemmas.{holds_none}
+use Rattle.laws_links.proofs.QuietLemmas.{start_quiet}
 
+-- the empty set has the okays of the empty log
 pub no_okays : (set : BTreeSet ℕ) → set.keys ≡ [] → KnowsOkays set []
 no_okays set empty change = (λ h. holds_none set change empty h, λ h. absurd h)
 
+-- the empty map has the draws of the empty log
 pub no_draws : (m : BTreeMap ℕ ℕ) → m.entries ≡ [] → KnowsDraws m []
 no_draws m empty caller rebuild _ _ = subst (FindsGreatest (λ part. ⊥)) (sym (finds_none m _ empty))
     (λ x h. h)
 
+-- the empty map has the passes of the empty log
 pub no_passes : (m : BTreeMap ℕ ℕ) → m.entries ≡ [] → KnowsPasses m []
 no_passes m empty node i word _ _ = (
   λ h. absurd (clash (sym (finds_none m _ empty) ∙ h)),
@@ -45,6 +48,7 @@ no_passes m empty node i word _ _ = (
     clash : None ≡ Some word → ⊥
     clash e = cc
 
+-- the empty table has the builds of the empty log
 pub no_builds : (builds : BuildTable) → builds.last.entries ≡ [] → builds.since.entries ≡ []
     → KnowsBuilds builds []
 no_builds builds none empty =
@@ -71,6 +75,7 @@ module _ (pairs : List Pair) (words : ℕ) where
   unstarted : (rebuild : ℕ) → ¬ (IsStarted (start pairs words) rebuild)
   unstarted rebuild it = start_quiet pairs words it.base (Change it.change) it.published
 
+  -- the empty set has the started rebuilds of a new table
   pub no_starts : (set : BTreeSet ℕ) → set.keys ≡ [] → KnowsStarts set (start pairs words)
   no_starts set empty rebuild = (
     λ h. absurd (holds_none set rebuild empty h),
@@ -81,12 +86,14 @@ module _ (pairs : List Pair) (words : ℕ) where
   untargeted : (node : ℕ) → ¬ (IsTargeted (start pairs words) node)
   untargeted node it = unstarted it.rebuild it.started
 
+  -- the empty set has the targets of started rebuilds of a new table
   pub no_targets : (set : BTreeSet ℕ) → set.keys ≡ [] → KnowsTargets set (start pairs words)
   no_targets set empty node = (
     λ h. absurd (holds_none set node empty h),
     λ it. absurd (untargeted node it),
   )
 
+  -- empty building lists are those of a new table
   pub no_lists : (building : BuildingLists) → HasNone building → KnowsLists building (start pairs words)
   no_lists building none =
       record {
@@ -102,6 +109,7 @@ module _ (pairs : List Pair) (words : ℕ) where
         kept = none_kept building.kept (map (λ v. v.items) building.lists.items) none.kept;
       }
 
+  -- the empty set has the refusals of a new table
   pub no_refusals : (set : BTreeSet ℕ) → set.keys ≡ [] → KnowsRefusals set (start pairs words)
   no_refusals set empty caller node _ _ = (
     λ h. absurd (holds_none set _ empty h),
@@ -109,6 +117,7 @@ module _ (pairs : List Pair) (words : ℕ) where
         (start_quiet pairs words it.base (Change it.change) it.published),
   )
 
+  -- the empty set has the called nodes of a new table
   pub no_calls : (set : BTreeSet ℕ) → set.keys ≡ [] → KnowsCalls set (start pairs words) []
   no_calls set empty node = (λ h. absurd (holds_none set node empty h), λ h. absurd (uncalled h))
     where
@@ -117,6 +126,7 @@ module _ (pairs : List Pair) (words : ℕ) where
       uncalled (as_child _ _ _ h _) = h
       uncalled (behind_rebuild _ _ _ _ h _ _) = h
 
+  -- the empty map has the last updates of a new table
   pub no_updates : (m : BTreeMap ℕ LastUpdate) → m.entries ≡ [] → KnowsUpdates m (start pairs words)
       []
   no_updates m empty caller node base = (

@@ -1,4 +1,5 @@
--- What follows where all conditions of an event hold, and which are never the first that is false. Serves `explaining.rt`.
+-- What follows if all conditions of an event hold, and which conditions are never the first that is
+-- false. Serves `explaining.rt`.
 use Rattle.std.proofs.Common.{◌≡◌, ◌≢◌, ◌∙◌, ◌⊎◌, ◌+◌, ◌*◌, ℕ, Bool, true, false, List, Some, None, refl, sym, ap, ⊎_elim, arith}
 use Rattle.ist_core.specs.declared.events.Event.{Event}
 use Rattle.ist_core.specs.declared.events.Event.TheVariants.{Enter, Reserve, Install, Okay, Decide, Resolve, Count, Mark, Pass, Finish, Root, Draw, Place, Lose}
@@ -14,17 +15,17 @@ use Rattle.ist_core.specs.Snapshots.{Snapshot}
 use Rattle.ist_core.specs.StartLayout.{start}
 use Rattle.ist_core.specs.Statuses.{marked_word}
 use Rattle.ist_core.proofs.ReferenceLemmas.{ref_of-unset}
-use Rattle.ist_links.proofs.ClosedLemmas.{closed_was_linked}
-use Rattle.ist_links.proofs.FormedLemmas.{rooted_is_finished}
-use Rattle.ist_links.proofs.LinkLemmas.{linked_or_finished}
-use Rattle.ist_rebuilds.proofs.ContentLemmas.{linked_set}
-use Rattle.ist_check_reasons.specs.declared.conditions.Condition.{Condition}
-use Rattle.ist_check_reasons.specs.declared.conditions.Condition.TheVariants.{Finished, InSlot, Known, Marked, NoChange, NotPast, PartIs, Published, Rooted, Set, Shared}
-use Rattle.ist_check_reasons.specs.Conditions.{says_of, pass_says, draw_says}
-use Rattle.ist_check_reasons.specs.Failing.{Tells}
+use Rattle.laws_links.proofs.ClosedLemmas.{closed_was_linked}
+use Rattle.laws_links.proofs.FormedLemmas.{rooted_is_finished}
+use Rattle.laws_links.proofs.LinkLemmas.{linked_or_finished}
+use Rattle.laws_rebuilds.proofs.ContentLemmas.{linked_set}
+use Rattle.check_reasons.specs.declared.conditions.Condition.{Condition}
+use Rattle.check_reasons.specs.declared.conditions.Condition.TheVariants.{Finished, InSlot, Known, Marked, NoChange, NotPast, PartIs, Published, Rooted, Set, Shared}
+use Rattle.check_reasons.specs.Conditions.{says_of, pass_says, draw_says}
+use Rattle.check_reasons.specs.Failing.{Tells}
 use Rattle.ist_check.specs.Verdicts.{IsCovered}
 
--- ---- where all hold
+-- ---- if all hold
 
 -- an event of which all conditions hold may come
 pub all_hold : (first : Snapshot) (log : Log) (event : Event) → Tells (says_of first log event) None
@@ -49,7 +50,7 @@ all_hold first log (Lose caller bases) t = t.1.0
 clash : false ≡ true → ⊥
 clash e = cc
 
--- conditions that a test tells apart are two
+-- conditions that a test distinguishes are different
 differ : (test : Condition → Bool) (a b : Condition) → test a ≡ true → test b ≡ false → ¬ (a ≡ b)
 differ test a b here there e = clash (sym there ∙ ap test (sym e) ∙ here)
 
@@ -61,7 +62,7 @@ abbrev is_finished : Condition → Bool
 is_finished Finished = true
 is_finished _ = false
 
--- where it isn't the one it is the other
+-- if it isn't the one, it is the other
 other : {A B : Type 0} → A ⊎ B → ¬ A → B
 other t isnt = ⊎_elim (λ a. absurd (isnt a)) (λ b. b) t
 
@@ -90,7 +91,7 @@ module _ (pairs : List Pair) (words : ℕ) (log : Log) (law : Lawful pairs words
       (closed_was_linked pairs words law.opens log law.enabled node row published
       (λ e. let one : row.status ≡ 1 = marked in omega arith)))
 
-  -- where the other conditions of a Pass hold, its word is set
+  -- if the other conditions of a Pass hold, its word is set
   pass_set : (caller node i word : ℕ) → ¬ (Tells (pass_says t caller node i word) (Some Set))
   pass_set caller node i word t0 =
       let t1 = other t0 (λ here. differ is_set Set Known refl refl here.0) in
@@ -116,7 +117,7 @@ module _ (pairs : List Pair) (words : ℕ) (log : Log) (law : Lawful pairs words
       (λ rest. rest.1)
       t5.1
 
-  -- where a rebuild has a root, its target is finished
+  -- if a rebuild has a root, its target is finished
   draw_finished : (caller rebuild part : ℕ)
       → ¬ (Tells (draw_says t log caller rebuild part) (Some Finished))
   draw_finished caller rebuild part t0 =

@@ -1,4 +1,4 @@
--- The numbers behind an event that may come fit into words. Serves `checking.rt`.
+-- The numbers after an event that may come fit into words. Serves `checking.rt`.
 use Rattle.std.proofs.Common.{
   ◌≡◌,
   ◌∙◌,
@@ -49,13 +49,13 @@ use Rattle.ist_core.proofs.RowLemmas.{changed_at-same}
 use Rattle.ist_core.proofs.SoundLemmas.{sound}
 use Rattle.ist_core.proofs.StartLemmas.{sound_start}
 use Rattle.ist_core.proofs.YesLemmas.{count_low}
-use Rattle.ist_rebuilds.proofs.FinishedLeafLemmas.{finished_few}
-use Rattle.ist_rebuilds.proofs.LowLemmas.{draw_low}
-use Rattle.ist_check_events.specs.declared.replicas.Replica.{Replica}
-use Rattle.ist_check_events.specs.Holding.{by_base, LiesBelow}
-use Rattle.ist_check_events.specs.Mirroring.{Mirrors}
-use Rattle.ist_check_events.proofs.MirrorLemmas.{inner_stands, rebuild_stands}
-use Rattle.ist_check_state.specs.Room.{HasRoom}
+use Rattle.laws_rebuilds.proofs.FinishedLeafLemmas.{finished_few}
+use Rattle.laws_rebuilds.proofs.LowLemmas.{draw_low}
+use Rattle.check_events.specs.declared.replicas.Replica.{Replica}
+use Rattle.check_events.specs.Holding.{by_base, LiesBelow}
+use Rattle.check_events.specs.Mirroring.{Mirrors}
+use Rattle.check_events.proofs.MirrorLemmas.{inner_stands, rebuild_stands}
+use Rattle.check_state.specs.Room.{HasRoom}
 
 -- rows that lie below a base do so by their bases too
 each_below : (base : ℕ) (held : List HeldRow) → ((h : HeldRow) → Among h held → h.base < base)
@@ -137,7 +137,7 @@ module _ (pairs : List Pair) (words : ℕ) (log : Log) (replica : Replica)
       (rebuild_stands replica (state_of pairs words log) rebuild mirrors r found) in
       omega arith
 
-  -- the numbers behind the event fit into words
+  -- the numbers after the event fit into words
   pub has_room : (event : Event) → Lawful pairs words (event ∷ log) → HasRoom replica event
   has_room (Enter caller) lawful = enter_low caller lawful
   has_room (Reserve caller base size) lawful = (

@@ -1,4 +1,4 @@
--- What the checker knows behind the events so far.
+-- What the checker knows after the events so far.
 use Rattle.std.specs.Prelude.{ℕ, List}
 use Rattle.ist_core.specs.declared.pairs.Pair.{Pair}
 use Rattle.ist_core.specs.declared.events.Event.{Event}
@@ -6,14 +6,14 @@ use Rattle.ist_core.specs.declared.events.Event.TheVariants.{Root, Place}
 use Rattle.ist_core.specs.StartLayout.{start}
 use Rattle.ist_core.specs.Logs.{Log}
 use Rattle.ist_core.specs.Lawful.{Lawful, state_of}
-use Rattle.ist_check_events.specs.declared.pasts.Past.{Past}
-use Rattle.ist_check_events.specs.declared.replicas.Replica.{Replica}
-use Rattle.ist_check_events.specs.Mirroring.{Mirrors}
-use Rattle.ist_check_events.specs.Remembering.{KnowsOkays, KnowsCalls, KnowsDraws, KnowsPasses, KnowsUpdates, KnowsSlots, KnowsWays, KnowsRefusals, KnowsStarts, KnowsBuilds, KnowsLeaves}
-use Rattle.ist_check_fairness.specs.Targets.{KnowsTargets}
-use Rattle.ist_check_fairness.specs.Knowing.{KnowsLists}
+use Rattle.check_events.specs.declared.pasts.Past.{Past}
+use Rattle.check_events.specs.declared.replicas.Replica.{Replica}
+use Rattle.check_events.specs.Mirroring.{Mirrors}
+use Rattle.check_events.specs.Remembering.{KnowsOkays, KnowsCalls, KnowsDraws, KnowsPasses, KnowsUpdates, KnowsSlots, KnowsWays, KnowsRefusals, KnowsStarts, KnowsBuilds, KnowsLeaves}
+use Rattle.check_fairness.specs.Targets.{KnowsTargets}
+use Rattle.check_fairness.specs.Knowing.{KnowsLists}
 
--- each table but those of the slots and the ways holds what it should of the log
+-- each table except the slots and the ways holds what it should of the log
 pub record Remembers (past : Past) (pairs : List Pair) (words : ℕ) (log : Log) : Type 0 where
   pub okayed : KnowsOkays past.okayed log
   pub called : KnowsCalls past.called (state_of pairs words log) log
@@ -27,7 +27,7 @@ pub record Remembers (past : Past) (pairs : List Pair) (words : ℕ) (log : Log)
   pub builds : KnowsBuilds past.builds log
   pub leaves : KnowsLeaves past.leaves (state_of pairs words log)
 
--- the log is lawful, the replica mirrors the state behind it, and the tables hold what they should
+-- the log is lawful, the replica mirrors the state after it, and the tables hold what they should
 pub record Knows (replica : Replica) (past : Past) (pairs : List Pair) (words : ℕ) (log : Log) : Type 0 where
   pub lawful : Lawful pairs words log
   pub mirrors : Mirrors replica (state_of pairs words log)
@@ -35,7 +35,7 @@ pub record Knows (replica : Replica) (past : Past) (pairs : List Pair) (words : 
   pub ways : KnowsWays past.ways (start pairs words) log
   pub remembers : Remembers past pairs words log
 
--- the event puts in what a caller has built
+-- the event publishes what a caller has built
 abbrev pub IsOfBuild : Event → Type 0
 IsOfBuild (Root caller rebuild word rows) = Unit {0}
 IsOfBuild (Place caller rebuild i word rows) = Unit {0}

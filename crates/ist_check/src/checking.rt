@@ -10,11 +10,12 @@ use crate::judging::{Judgement, judge};
 use ist_core::{Event, Pair, State};
 use std::alloc::Global;
 
-/// The state behind a lawful log, which is given as a list of events, the oldest first, over a table
-/// of `words` words that begins with these pairs; or which event is the first that may not come.
+/// Returns the state after a lawful log, which is given as a list of events, the oldest first, over
+/// a table of `words` words that begins with these pairs. If the log isn't lawful, returns the
+/// number of the first event that may not come.
 ///
-/// An event may come where its enabling condition holds behind those before it. The answer for want
-/// of memory is free.
+/// An event may come if its enabling condition holds after those before it. The call may also fail
+/// because memory runs out.
 pub fn check(alloc: Global, start: &[Pair], words: u32, log: &[Event]) -> Result<State, CheckFault>
     requires opens { CanOpen start.now words }
     ensures lawful { IfOk result (λ state. Lawful start.now words (reverse log.now)) }

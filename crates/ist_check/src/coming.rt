@@ -1,4 +1,4 @@
-//! May an event come next behind the events so far.
+//! Whether an event may come next after the events so far.
 ghost use Rattle.std.specs.Prelude.{◌≡◌, ◌↔◌, ℕ, List, IsTrue, IfOk};
 ghost use Rattle.ist_core.specs.declared.pairs.Pair.{Pair as APair};
 ghost use Rattle.ist_core.specs.StartLayout.{start};
@@ -6,15 +6,15 @@ ghost use Rattle.ist_core.specs.Logs.{Log};
 ghost use Rattle.ist_core.specs.Enabled.{Enabled};
 ghost use Rattle.ist_check.specs.Knowing.{Knows, IsOfBuild};
 
-use ist_check_builds::{can_draw, can_lose, can_place, can_root};
-use ist_check_events::{
+use check_builds::{can_draw, can_lose, can_place, can_root};
+use check_events::{
     Past, Replica, can_count, can_decide, can_enter, can_finish, can_install, can_mark, can_okay,
     can_pass, can_reserve, can_resolve,
 };
 use ist_core::Event;
 use std::alloc::{AllocError, Global};
 
-/// May the event come next?
+/// Returns whether the event may come next.
 pub(crate) fn may_come(
     alloc: Global,
     replica: &Replica,
@@ -66,7 +66,7 @@ pub(crate) fn may_come(
     }
 }
 
-/// May the root or the part come next?
+/// Returns whether the root or the part may come next.
 fn may_build(
     alloc: Global,
     replica: &Replica,

@@ -7,9 +7,9 @@ use crate::judging::{Judgement, Refusal, judge};
 use ist_core::{Event, Pair};
 use std::alloc::{AllocError, Global};
 
-/// Why the first event that may not come may not: the condition that is named is false behind the
-/// events before it, and all before it in the order of its kind hold. It is the event that `check`
-/// names, and none is named only where the events are a lawful log.
+/// Returns why the first event that may not come may not: the named condition is false after the
+/// events before it, and all conditions before it in the order of its kind hold. It is the event
+/// that `check` names. `None` is returned only if the events are a lawful log.
 pub fn explain(
     alloc: Global,
     start: &[Pair],

@@ -1,14 +1,14 @@
-//! Which condition of an event fails first behind the events so far.
+//! Which condition of an event fails first after the events so far.
 ghost use Rattle.std.specs.Prelude.{ℕ, List, IfOk};
 ghost use Rattle.ist_core.specs.declared.pairs.Pair.{Pair as APair};
 ghost use Rattle.ist_core.specs.StartLayout.{start};
 ghost use Rattle.ist_core.specs.Logs.{Log};
-ghost use Rattle.ist_check_reasons.specs.Conditions.{says_of};
-ghost use Rattle.ist_check_reasons.specs.Failing.{Tells};
+ghost use Rattle.check_reasons.specs.Conditions.{says_of};
+ghost use Rattle.check_reasons.specs.Failing.{Tells};
 ghost use Rattle.ist_check.specs.Knowing.{Knows, IsOfBuild};
 
-use ist_check_events::{Past, Replica};
-use ist_check_reasons::{
+use check_events::{Past, Replica};
+use check_reasons::{
     Condition, count_fails, decide_fails, draw_fails, enter_fails, finish_fails, install_fails,
     lose_fails, mark_fails, okay_fails, pass_fails, place_fails, reserve_fails, resolve_fails,
     root_fails,
@@ -16,7 +16,7 @@ use ist_check_reasons::{
 use ist_core::Event;
 use std::alloc::{AllocError, Global};
 
-/// Which condition of the event fails first, if one does?
+/// Returns the first condition of the event that fails, if one does.
 pub(crate) fn fails(
     alloc: Global,
     replica: &Replica,
@@ -68,7 +68,7 @@ pub(crate) fn fails(
     }
 }
 
-/// The same of a root or a part.
+/// Returns the first condition of a root or a part that fails, if one does.
 fn build_fails(
     alloc: Global,
     replica: &Replica,

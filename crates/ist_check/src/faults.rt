@@ -1,4 +1,4 @@
-//! Why a list of events is refused.
+//! Why a list of events is rejected.
 ghost use Rattle.std.specs.Prelude.{◌≡◌};
 ghost use Rattle.ist_check.specs.declared.faults.CheckFault.TheVariants.{Memory};
 
@@ -7,9 +7,9 @@ use std::alloc::AllocError;
 /// Why `check` gives no state.
 #[derive(Clone, Copy, Debug, PartialEq, Eq, Drop)]
 pub enum CheckFault {
-    /// Event number `at`, counted from 0, is the first that may not come behind those before it.
+    /// Event number `at`, counted from 0, is the first that may not come after those before it.
     Unlawful { at: u64 },
-    /// No memory was left.
+    /// Memory ran out.
     Memory,
 }
 

@@ -5,8 +5,8 @@ ghost use Rattle.ist_core.specs.StartLayout.{start};
 ghost use Rattle.ist_core.specs.Logs.{Log};
 ghost use Rattle.ist_core.specs.Enabled.{Enabled};
 ghost use Rattle.ist_core.specs.Lawful.{CanOpen};
-ghost use Rattle.ist_check_reasons.specs.Conditions.{says_of};
-ghost use Rattle.ist_check_reasons.specs.Failing.{Tells};
+ghost use Rattle.check_reasons.specs.Conditions.{says_of};
+ghost use Rattle.check_reasons.specs.Failing.{Tells};
 ghost use Rattle.ist_check.specs.Knowing.{Knows};
 ghost use Rattle.ist_check.specs.Verdicts.{IsTrueJudgement};
 
@@ -14,9 +14,9 @@ use crate::coming::may_come;
 use crate::failing::fails;
 use crate::remembering::{open_past, remember};
 use crate::stating::state_of;
-use ist_check_events::{Past, Replica};
-use ist_check_reasons::Condition;
-use ist_check_state::{advance, open_replica, remember_links, remember_ways};
+use check_events::{Past, Replica};
+use check_reasons::Condition;
+use check_state::{advance, open_replica, remember_links, remember_ways};
 use ist_core::{Event, Pair, State};
 use std::alloc::{AllocError, Global};
 
@@ -31,18 +31,18 @@ pub struct Refusal {
 /// What is found of a list of events.
 #[derive(Drop)]
 pub enum Judgement {
-    /// Each may come behind those before it. The state behind the last.
+    /// Each event may come after those before it. The state after the last.
     AllLawful { state: State },
-    /// One may not: the first that may not, and why.
+    /// The first event that may not come, and why.
     Refused { refusal: Refusal },
 }
 
-/// What is found of a list of events, the oldest first, over a table of `words` words that begins with
-/// these pairs: the state behind them where they are a lawful log, and otherwise which event is the
-/// first that may not come, with the first of its conditions that is false.
+/// Returns what is found of a list of events, the oldest first, over a table of `words` words that
+/// begins with these pairs: the state after them, if they are a lawful log, and otherwise the first
+/// event that may not come, with the first of its conditions that is false.
 ///
-/// An event may come where its enabling condition holds behind those before it. The list is gone
-/// through once. The answer for want of memory is free.
+/// An event may come if its enabling condition holds after those before it. The list is read once.
+/// The call may also fail because memory runs out.
 pub fn judge(
     alloc: Global,
     start: &[Pair],
@@ -71,7 +71,8 @@ pub fn judge(
     })
 }
 
-/// The first condition of the event that is false behind those so far, and none where it may come.
+/// Returns the first condition of the event that is false after those so far, or `None` if it may
+/// come.
 fn refused_for(
     alloc: Global,
     replica: &Replica,

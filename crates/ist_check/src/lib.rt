@@ -1,8 +1,8 @@
-//! Whether a list of events is a lawful log, and the state behind it.
+//! Whether a list of events is a lawful log, and the state after it.
 //!
-//! Read `specs/Lib.antt`, then `judging.rt`, `checking.rt` and `explaining.rt`. Stands on `ist_core`, `ist_links`,
-//! `ist_rebuilds`, `ist_check_fairness`, `ist_check_events`, `ist_check_builds`, `ist_check_reasons` and
-//! `ist_check_state`.
+//! Read `specs/Lib.antt`, then `judging.rt`, `checking.rt` and `explaining.rt`. Stands on `ist_core`, `laws_links`,
+//! `laws_rebuilds`, `check_fairness`, `check_events`, `check_builds`, `check_reasons` and
+//! `check_state`.
 #![tactic(auto)]
 
 mod checking;

@@ -4,13 +4,13 @@ ghost use Rattle.ist_core.specs.declared.pairs.Pair.{Pair as APair};
 ghost use Rattle.ist_core.specs.StartLayout.{start};
 ghost use Rattle.ist_core.specs.Logs.{Log};
 ghost use Rattle.ist_core.specs.Lawful.{Lawful, CanOpen, state_of as behind};
-ghost use Rattle.ist_check_events.specs.Mirroring.{Mirrors};
-ghost use Rattle.ist_check_events.specs.Remembering.{KnowsSlots, KnowsWays};
+ghost use Rattle.check_events.specs.Mirroring.{Mirrors};
+ghost use Rattle.check_events.specs.Remembering.{KnowsSlots, KnowsWays};
 ghost use Rattle.ist_check.specs.Knowing.{Remembers};
 
-use ist_check_events::{BuildTable, Past, Replica};
-use ist_check_fairness::no_lists;
-use ist_check_state::{
+use check_events::{BuildTable, Past, Replica};
+use check_fairness::no_lists;
+use check_state::{
     remember_build, remember_call, remember_draw, remember_leaves, remember_lists, remember_okay,
     remember_pass, remember_refusal, remember_sizes, remember_start, remember_target,
     remember_update, slots_of_start, ways_of_start,
@@ -19,7 +19,7 @@ use ist_core::Event;
 use std::alloc::{AllocError, Global};
 use std::collections::{BTreeMap, BTreeSet};
 
-/// The tables of a new table, of which this is the replica.
+/// Returns the tables for a new table of which this is the replica.
 pub(crate) fn open_past(alloc: Global, replica: &Replica) -> Result<Past, AllocError>
     ensures exact { IfOk result (λ past. (pairs : List APair) → (words : ℕ) → CanOpen pairs words
         → Mirrors replica.now (start pairs words) → Remembers past pairs words []) }
@@ -52,8 +52,8 @@ pub(crate) fn open_past(alloc: Global, replica: &Replica) -> Result<Past, AllocE
     })
 }
 
-/// Brings each table but those of the slots and the ways forward by the event. The replica is that of the state
-/// before.
+/// Brings each table except the slots and the ways forward by the event. The replica shows the
+/// state before it.
 pub(crate) fn remember(
     alloc: Global,
     replica: &Replica,

@@ -1,15 +1,15 @@
-//! The state that a replica says.
+//! The state that a replica shows.
 ghost use Rattle.std.specs.Prelude.{◌≡◌, IfOk, map as each_of};
 ghost use Rattle.std.specs.List.Sorted.{IsStrictlyIncreasing};
 ghost use Rattle.ist_core.specs.Snapshots.{Snapshot, Shows};
-ghost use Rattle.ist_check_events.specs.Mirroring.{Mirrors};
+ghost use Rattle.check_events.specs.Mirroring.{Mirrors};
 
-use ist_check_events::{Replica, rows_held};
+use check_events::{Replica, rows_held};
 use ist_core::{Changes, HeldRows, Inners, Leaves, Rebuilds, State};
 use std::alloc::{AllocError, Global};
 use std::collections::BTreeMap;
 
-/// The state that the replica mirrors.
+/// Returns the state that the replica mirrors.
 pub(crate) fn state_of(alloc: Global, replica: Replica) -> Result<State, AllocError>
     ensures shown { IfOk result (λ state. (t : Snapshot) → Mirrors replica t → Shows state t) }
 {
@@ -26,7 +26,7 @@ pub(crate) fn state_of(alloc: Global, replica: Replica) -> Result<State, AllocEr
     })
 }
 
-/// The entries of the map, rising by key.
+/// Returns the entries of the map, in increasing order of keys.
 fn entries_of<X: Drop>(alloc: Global, map: BTreeMap<u64, X>) -> Result<Vec<(u64, X)>, AllocError>
     ensures value { IfOk result (λ entries. entries.items ≡ map.entries) }
     ensures rising { IfOk result (λ entries.

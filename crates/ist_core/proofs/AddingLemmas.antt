@@ -1,5 +1,5 @@
--- Events that publish rows: what stood there stays, and the rest is new. Serves each law that
--- speaks of rows.
+-- Events that publish rows: the rows before the event stay, and the other rows are new. Serves each
+-- law about rows.
 use Rattle.std.proofs.Common.{◌≡◌, ℕ, ◌⊎◌, List, ◌∷◌, length, Option, Some, None, ◌∙◌, subst, inl, inr, ⊎_elim}
 use Rattle.ist_core.specs.declared.lists.Row.{Row}
 use Rattle.ist_core.specs.declared.states.ChangeRow.{ChangeRow}
@@ -16,12 +16,12 @@ use Rattle.ist_core.proofs.InstallLemmas.{with_installed, publishes_install}
 use Rattle.ist_core.proofs.MoveLemmas.{HeldLieApart}
 use Rattle.ist_core.proofs.FreshLemmas.{IsFresh, fresh_from}
 
--- the second rows are the first with some that are born now
+-- the second rows are the first, and some that are new
 pub record Adds (ps qs : Pieces) (Born : ℕ → Piece → Type 0) : Type 0 where
   pub keeps : (base : ℕ) (p : Piece) → ps base ≡ Some p → qs base ≡ Some p
   pub from : (base : ℕ) (p : Piece) → qs base ≡ Some p → (ps base ≡ Some p) ⊎ Born base p
 
--- no row stands where one is held
+-- no row is published at the base of a held row
 pub held_free : (t : Snapshot) (caller : ℕ) (rows : List Row) → HoldsRows t caller rows → HeldLieApart t
     → (base : ℕ) → Among base (bases_of rows) → t.pieces base ≡ None
 held_free t caller rows holds sound base i =
@@ -30,7 +30,7 @@ held_free t caller rows holds sound base i =
     (sound.unpublished record { caller = caller; base = it.0.base; size = length it.0.words }
     (each-among (λ x. HoldsRow t caller x.base (length x.words)) it.0 rows holds it.1))
 
--- where held rows are published, what stood there stays
+-- if held rows are published, the rows before stay
 pub held_keeps : (t : Snapshot) (caller : ℕ) (rows : List Row) (qs : Pieces)
     → HoldsRows t caller rows → HeldLieApart t
     → ((base : ℕ) → ¬ (Among base (bases_of rows)) → qs base ≡ t.pieces base)
@@ -53,7 +53,7 @@ adds-with_inners t caller rows holds sound =
           (λ w. inl w) (with_inners-some t.pieces rows base p e);
     }
 
--- the row is the change's, or one that it publishes beside its own
+-- the row is the change's, or one that is published together with it
 abbrev pub IsInstalled : (first : Snapshot) (log : Log) (at : ℕ) (change : ChangeRow)
     (fresh : List Row)
     → FitsKind first log change fresh → ℕ → Piece → Type 0

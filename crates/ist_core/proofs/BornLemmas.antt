@@ -1,5 +1,5 @@
--- Where each row behind an event comes from: it stood there and grew, or is born now. Serves the
--- conjuncts that growing keeps.
+-- Where each row after an event comes from: it was there before and grew, or the event makes it.
+-- Serves the conjuncts that growing keeps.
 use Rattle.std.proofs.Common.{◌≡◌, ℕ, ◌⊎◌, List, ◌∷◌, Option, Some, refl, sym, ap, subst, inl, inr, ⊎_elim}
 use Rattle.ist_core.specs.declared.lists.Row.{Row}
 use Rattle.ist_core.specs.declared.events.Event.{Event}
@@ -33,17 +33,17 @@ pub data Born (first : Snapshot) (log : Log) (base : ℕ) (p : Piece) : Event �
       → with_inners (state first log).pieces rows base ≡ Some p
       → Born first log base p (Place caller rebuild i word rows)
 
--- the row is what became of one that stood there, or of one that is born now
+-- the row grew from one that was there before, or from one that the event makes
 pub data Comes (first : Snapshot) (log : Log) (event : Event) (base : ℕ) (q : Piece) : Type 0 where
   from_old : (p : Piece) → (state first log).pieces base ≡ Some p → Grows p q
       → Comes first log event base q
   from_born : (p : Piece) → Born first log base p event → Grows p q → Comes first log event base q
 
--- a row of the state before, where rows grow
+-- one base has one row
 same_piece : (o : Option Piece) (p q : Piece) → o ≡ Some p → o ≡ Some q → p ≡ q
 same_piece o p q e f = cc
 
--- where one row is changed, what stands comes from what stood
+-- if one row is changed, each row after the event comes from one before it
 changed_comes : (first : Snapshot) (log : Log) (event : Event) (at : ℕ) (f : Piece → Piece)
     → AllGrow (state first log).pieces (state first (event ∷ log)).pieces
     → (state first (event ∷ log)).pieces ≡ changed_at (state first log).pieces at f
@@ -62,7 +62,7 @@ same_comes : (first : Snapshot) (log : Log) (event : Event)
 same_comes first log event pieces base q e = from_old q (subst (λ ps. ps base ≡ Some q) pieces e)
     (grows_same q)
 
--- where rows are added and one is changed
+-- if rows are added and one is changed, each row after the event comes from one before it or is new
 added_comes : (first : Snapshot) (log : Log) (event : Event) (qs : Pieces) (at : ℕ)
     (f : Piece → Piece)
     → AllGrow qs (state first (event ∷ log)).pieces
@@ -99,7 +99,7 @@ install_comes first log caller change rows h s base q e =
     ⊎_elim (λ old. from_old it.0 old grew) (λ born. from_born it.0 (by_install h born) grew)
     (adds.from base it.0 it.1)
 
--- each row behind an enabled event comes from somewhere
+-- each row after an enabled event was there before and grew, or is new
 pub comes : (first : Snapshot) (log : Log) (event : Event) → Enabled first log event
     → HeldLieApart (state first log) → (base : ℕ) (q : Piece)
     → (state first (event ∷ log)).pieces base ≡ Some q → Comes first log event base q

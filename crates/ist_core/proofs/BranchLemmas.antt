@@ -11,14 +11,17 @@ use Rattle.ist_core.proofs.TreeLemmas.{IsTree, AreTrees, tree_none, tree_unset, 
 
 -- ---- lists without an element twice
 
+-- if a joined list has no element twice, neither has its first part
 pub distinct_left : (xs ys : List ℕ) → Distinct (xs ++ ys) → Distinct xs
 distinct_left [] ys h = tt
 distinct_left (x ∷ xs) ys h = (λ i. h.0 (among_left x xs ys i), distinct_left xs ys h.1)
 
+-- if a joined list has no element twice, neither has its second part
 pub distinct_right : (xs ys : List ℕ) → Distinct (xs ++ ys) → Distinct ys
 distinct_right [] ys h = h
 distinct_right (x ∷ xs) ys h = distinct_right xs ys h.1
 
+-- if a joined list has no element twice, its parts share none
 pub distinct_apart : (xs ys : List ℕ) (m : ℕ) → Distinct (xs ++ ys) → Among m xs → Among m ys → ⊥
 distinct_apart [] ys m h a b = a
 distinct_apart (x ∷ xs) ys m h (inl e) b = h.0
@@ -45,7 +48,7 @@ pub record NamesIn (ps : Pieces) (rows : List ℕ) (node i child : ℕ) : Type 0
   pub in_slot : slice_get row.slots i ≡ Some word
   pub reads : ref_of word ≡ Some (InnerAt child)
 
--- the same among other rows
+-- a row that is named among some rows is named among others that have its node
 within : (ps : Pieces) (rows more : List ℕ) (node i child : ℕ) → NamesIn ps rows node i child
     → Among node more → NamesIn ps more node i child
 within ps rows more node i child h a = record {
@@ -132,7 +135,7 @@ first_apart ps ref above rows node i child t d e h =
     once.0 (subst (λ xs. Among child (behind xs)) it.1
     (below_first ps ref above rows node i child t h))
 
--- nor is what a slot of the list names
+-- the row that a slot of the list names is named by none of the trees' rows
 slots_apart : (ps : Pieces) (words : List ℕ) (above : ℕ) (rows : List ℕ) (j word node i child : ℕ)
     → AreTrees ps words above rows → Distinct rows → slice_get words j ≡ Some word
     → ref_of word ≡ Some (InnerAt child)
@@ -263,7 +266,7 @@ hangs_among ps parent at ref above rows node i child t (inl h) = named_among ps 
 hangs_among ps parent at ref above rows node i child t (inr h) = among_behind rows child
     (below_first ps ref above rows node i child t h)
 
--- and hangs in one slot
+-- what hangs in a tree hangs in only one slot of it
 pub hangs_once : (ps : Pieces) (parent at : ℕ) (ref : Ref) (above : ℕ) (rows : List ℕ)
     (n i k j child : ℕ)
     → IsTree ps ref above rows → Distinct rows

@@ -1,4 +1,4 @@
--- Callers only come, by Enters alone. Serves each law that speaks of known callers.
+-- Callers are only added, and only by Enters. Serves each law about known callers.
 use Rattle.std.proofs.Common.{List, None, Option, Some, [], arith, inl, inr, refl, ℕ, ⊎_elim, ◌+◌, ◌<◌, ◌∷◌, ◌≡◌, ◌⊎◌}
 use Rattle.ist_core.specs.declared.events.Event.TheVariants.{Count, Decide, Draw, Enter, Finish, Install, Lose, Mark, Okay, Pass, Place, Reserve, Resolve, Root}
 use Rattle.ist_core.specs.declared.events.Event.{Event}
@@ -17,19 +17,19 @@ callers-with_change : (t : Snapshot) (base : ℕ) (fresh : List Row) (change : O
 callers-with_change t base fresh None = refl
 callers-with_change t base fresh (Some change) = refl
 
--- nor do those that an Install publishes
+-- the rows that an Install publishes add no caller
 pub callers-installed : (t : Snapshot) (base : ℕ) (rows : List Row)
     → (installed t base rows).callers ≡ t.callers
 callers-installed t base [] = refl
 callers-installed t base (row ∷ fresh) = callers-with_change t base fresh (change_of row.words)
 
--- nor does a change that leaves its slot
+-- a change that leaves its slot adds no caller
 pub callers-resolved : (t : Snapshot) (change : Option ChangeRow)
     → (resolved t change).callers ≡ t.callers
 callers-resolved t None = refl
 callers-resolved t (Some change) = refl
 
--- an event enters one caller, and is the maker's, or leaves how many there are
+-- an event either is the maker's and enters one caller, or leaves the number of callers
 pub callers_step : (first : Snapshot) (log : Log) (event : Event)
     → ((whose event ≡ Maker)
     × ((state first (event ∷ log)).callers ≡ (state first log).callers + 1))
@@ -51,7 +51,7 @@ callers_step first log (Draw caller rebuild part) = inr refl
 callers_step first log (Place caller rebuild i word rows) = inr refl
 callers_step first log (Lose caller bases) = inr refl
 
--- who is known stays known over an event
+-- a known caller stays known over an event
 pub known_step : (first : Snapshot) (log : Log) (event : Event) (caller : ℕ)
     → caller < (state first log).callers
     → caller < (state first (event ∷ log)).callers

@@ -27,13 +27,13 @@ chain_child t _ _ (one_row {node = node} {child = child} {rows = rows} i chain i
     (λ none. absurd none) last)
     (among-append row rows (child ∷ []) k)
 
--- so that it is an inner row
+-- a row on a chain is an inner row
 chain_inner : (t : Snapshot) (node row : ℕ) → WordsName t
     → (rows : List ℕ) × Chain t node rows × Among row rows → InnerHere t.pieces row
 chain_inner t node row names h = let it = chain_child t node h.0 h.1 row h.2 in mentioned_here t
     it.0 it.1 row names (child_mentioned t it.0 it.1 row names it.2)
 
--- and is one still behind the log
+-- a row on a chain is an inner row after each longer log
 pub on_chain_inner : (pairs : List Pair) (words : ℕ) → CanOpen pairs words → (log : Log)
     → EachEnabled (start pairs words) log → (node row : ℕ)
     → WasOnChain (start pairs words) log node row

@@ -1,5 +1,5 @@
--- A row counts no more than what was decided yes, so that no count reaches the end of a word.
--- Serves `laws.counts_are_low`.
+-- A row counts at most what was decided yes, so no count reaches the end of a word. Serves
+-- `laws.counts_are_low`.
 use Rattle.std.proofs.Common.{◌≡◌, ◌≢◌, ℕ, ◌+◌, ◌≤◌, ◌⊎◌, ◌==◌, if◌then◌else◌, Bool, true, false, not, List, [], ◌∷◌, ◌++◌, length, filter, Option, Some, None, refl, sym, ap, ◌∙◌, subst, inl, inr, arith, length-append}
 use Rattle.std.proofs.lemmas.Bool.Decides.{nat_tests, eqb_tells}
 use Rattle.ist_core.specs.declared.pairs.Pair.{Pair}
@@ -36,7 +36,7 @@ counts node [] = 0
 counts node (Count caller at ∷ log) = if at == node then counts node log + 1 else counts node log
 counts node (_ ∷ log) = counts node log
 
--- the owners of changes that were decided yes and may be counted at the node still, one for each
+-- the owners of changes that were decided yes and may still be counted at the node, one for each
 -- change
 unfoldable pub waiting : Snapshot → ℕ → Log → List ℕ
 waiting first node [] = []
@@ -46,7 +46,7 @@ waiting first node (Count caller at ∷ log) = if at == node then drop_all calle
     (waiting first node log) else waiting first node log
 waiting first node (_ ∷ log) = waiting first node log
 
--- dropping shortens, and where the number stands in the list by one at least
+-- dropping a number shortens the list, by at least one if the number is in the list
 pub drop_shorter : (x : ℕ) (xs : List ℕ) → length (drop_all x xs) ≤ length xs
 drop_shorter x [] = omega arith
 drop_shorter x (y ∷ ys) = at (drop_shorter x ys) (y == x)
@@ -56,6 +56,7 @@ drop_shorter x (y ∷ ys) = at (drop_shorter x ys) (y == x)
     at rest true = omega arith
     at rest false = omega arith
 
+-- dropping a number that is in the list shortens it by at least one
 pub drop_one : (x : ℕ) (xs : List ℕ) → Among x xs → length (drop_all x xs) + 1 ≤ length xs
 drop_one x [] i = absurd i
 drop_one x (y ∷ ys) i = at (λ j. drop_one x ys j) (y == x) (eqb_tells y x) i
@@ -81,7 +82,7 @@ drop_keeps x c xs ne i = among_filter (λ y. not (y == x)) c xs i (other (c == x
     other true e = absurd (ne (grind (arith, nat_tests)))
     other false e = ap not e
 
--- a change that grew is the caller's still
+-- a change that grew is still the caller's
 same_owner : (o : Option Piece) (old r s : ChangeRow) (caller : ℕ) → ChangeGrows old r
     → o ≡ Some (Change r)
     → o ≡ Some (Change s) → s.owner ≡ caller → old.owner ≡ caller
@@ -128,7 +129,7 @@ module _ (pairs : List Pair) (words : ℕ) (node : ℕ) where
   waiting_on log (Place c rebuild j word rows) caller none i = i
   waiting_on log (Lose c bases) caller none i = i
 
-  -- a caller whose last change wasn't counted here waits
+  -- a caller whose last change wasn't counted here is waiting
   waits : (later : Log) (by base : ℕ) (earlier : Log) (caller : ℕ)
       → ¬ (Happened (Counts caller node) later)
       → Among caller (owner_of ((state_of pairs words earlier).pieces base))
@@ -141,7 +142,7 @@ module _ (pairs : List Pair) (words : ℕ) (node : ℕ) where
       waiting_on (later ++ Decide by base true ∷ earlier) event caller (λ k. none (inl k))
       (waits later by base earlier caller (λ k. none (inr k)) i)
 
-  -- the log behind a prefix
+  -- a log with more events goes on from its prefix
   goes_on : (later earlier : Log) → GoesOn earlier (later ++ earlier)
   goes_on [] earlier = same_log
   goes_on (event ∷ later) earlier = one_event event (goes_on later earlier)
@@ -178,7 +179,7 @@ module _ (pairs : List Pair) (words : ℕ) (node : ℕ) where
   owner_few (Some (Rebuild r)) = omega arith
   owner_few None = omega arith
 
-  -- counts and waiting owners are no more than what was decided yes
+  -- counts and waiting owners together are at most what was decided yes
   pub counts_few : (log : Log) → EachEnabled (start pairs words) log
       → counts node log + length (waiting (start pairs words) node log) ≤ length
       (decided_yes_in log)

@@ -28,7 +28,7 @@ use Rattle.ist_core.proofs.DrawnLemmas.{past, drawn_at_most}
 
 -- ---- callers
 
--- callers only come, and no more than there may be
+-- callers are only added, and no more than the limit
 record CallersGoOn (t u : Snapshot) : Type 0 where
   more : t.callers ≤ u.callers
   few : t.callers ≤ caller_limit → u.callers ≤ caller_limit
@@ -62,7 +62,7 @@ callers_go_on first log (Draw caller rebuild part) h = callers_same _ _ refl
 callers_go_on first log (Place caller rebuild i word rows) h = callers_same _ _ refl
 callers_go_on first log (Lose caller bases) h = callers_same _ _ refl
 
--- there are fewer callers than the limit, or as many
+-- there are at most as many callers as the limit
 pub callers_low : (pairs : List Pair) (words : ℕ) (log : Log) → EachEnabled (start pairs words) log
     → (state_of pairs words log).callers ≤ caller_limit
 callers_low pairs words [] h = none caller_limit
@@ -80,6 +80,7 @@ finished_on k status (is_marked e f) = absurd (omega arith)
 finished_on k status (is_finished n e f) = absurd (omega arith)
 finished_on k status (is_closed n e f) = absurd (omega arith)
 
+-- a row that is finished with k keys stays so as rows grow
 pub finished_grows : (t u : Snapshot) (node k : ℕ) → AllGrow t.pieces u.pieces → IsFinishedWith t
     node k
     → IsFinishedWith u node k
@@ -92,7 +93,7 @@ finished_grows t u node k g h =
           (subst (λ s. StatusGoesOn s it.0.status) h.status it.2.status);
     }
 
--- with one number
+-- a row is finished with one number
 finished_once : (t : Snapshot) (node j k : ℕ) → IsFinishedWith t node j → IsFinishedWith t node k
     → j ≡ k
 finished_once t node j k h l =
@@ -100,12 +101,13 @@ finished_once t node j k h l =
     let words : finished_word j ≡ finished_word k = sym h.status ∙ ap (λ r. r.status) same ∙ l.status in
     omega arith
 
+-- one base has one rebuild
 pub same_rebuild : (o : Option Piece) (r s : RebuildRow) → o ≡ Some (Rebuild r) → o ≡ Some (Rebuild s)
     → r ≡ s
 same_rebuild o r s e f = cc
 
 module _ (pairs : List Pair) (words rebuild last : ℕ) where
-  -- whenever the rebuild's target is finished, the last part is that of its number of keys
+  -- whenever the rebuild's target is finished, the last part is the one for its number of keys
   LastIs : Log → Type 0
   LastIs log = (row : RebuildRow) (k : ℕ) → (state_of pairs words log).pieces rebuild ≡ Some
       (Rebuild row)
@@ -123,7 +125,7 @@ module _ (pairs : List Pair) (words rebuild last : ℕ) where
       is it.0 k it.1 (subst (λ n. IsFinishedWith u n k) (sym it.2.target)
       (finished_grows t u row.target k grows f))
 
-  -- a caller that drew past has a Draw of such a part
+  -- a caller that drew past the last part has a Draw of such a part
   past_drew : (log : Log) (caller : ℕ) → Among caller (past rebuild last log)
       → (part : ℕ) × Happened (Draws caller rebuild part) log × (last ≤ part)
   unfolding past
@@ -270,7 +272,7 @@ module _ (pairs : List Pair) (words rebuild last : ℕ) where
   past_once (Lose c bases ∷ log) h is = past_on log (Lose c bases) h.1 refl
       (past_once log h.0 (last_before log (Lose c bases) h is))
 
-  -- the draw word is at most the last part and one more for each caller
+  -- the draw word is at most the last part plus the number of callers
   pub few_draws : (log : Log) → EachEnabled (start pairs words) log → (row : RebuildRow) (k : ℕ)
       → (state_of pairs words log).pieces rebuild ≡ Some (Rebuild row)
       → IsFinishedWith (state_of pairs words log) row.target k → degree k ≡ last

@@ -1,4 +1,4 @@
--- The draw word of a rebuild is low: its degree, and one draw more a caller. Serves
+-- The draw word of a rebuild is low: at most its degree plus one draw for each caller. Serves
 -- `laws.draws_are_low`.
 use Rattle.std.proofs.Common.{◌≡◌, ◌≢◌, ℕ, zero, suc, ◌+◌, ◌<◌, ◌≤◌, ◌⊎◌, ◌==◌, nat_le, nat_lt, if◌then◌else◌, true, false, List, [], ◌∷◌, length, Some, option_map, refl, sym, ap, ◌∙◌, subst, inl, inr, ⊎_elim, arith}
 use Rattle.std.proofs.lemmas.Bool.Decides.{eqb_tells, leb_tells}
@@ -35,7 +35,7 @@ use Rattle.ist_core.proofs.ShapedLemmas.{each-flat_map}
 
 -- ---- fresh rows have drawn nothing
 
--- the draw word of a row, and 0 of a row that has none
+-- the draw word of a row, or 0 if it isn't a rebuild
 abbrev pub draw_in : Piece → ℕ
 draw_in (Rebuild r) = r.draw
 draw_in _ = 0
@@ -117,7 +117,7 @@ module _ (rebuild last : ℕ) where
       (if nat_le last part then caller ∷ past log else past log) else past log
   past (_ ∷ log) = past log
 
-  -- each row at the rebuild has drawn at most so much
+  -- each row at the rebuild has drawn at most this much
   abbrev DrawnAtMost : Pieces → ℕ → Type 0
   DrawnAtMost ps most = (q : Piece) → ps rebuild ≡ Some q → draw_in q ≤ most
 
@@ -237,7 +237,7 @@ module _ (rebuild last : ℕ) where
   most_step first log (Pass caller at i word) h s old = old
   most_step first log (Lose caller bases) h s old = old
 
-  -- a draw word is at most the last part, and the Draws that gave a part past it
+  -- a draw word is at most the last part plus the number of Draws that gave a part past it
   pub drawn_at_most : (pairs : List Pair) (words : ℕ) (log : Log)
       → EachEnabled (start pairs words) log
       → DrawnAtMost (state_of pairs words log).pieces (last + length (past log))

@@ -1,22 +1,22 @@
--- Elements of lists. Serves each law that speaks of held rows, of logs or of leaves.
+-- Elements of lists. Serves each law about held rows, logs or leaves.
 use Rattle.std.proofs.Common.{◌≡◌, ◌⊎◌, Bool, true, false, if◌then◌else◌, List, [], ◌∷◌, ◌++◌, filter, refl, sym, subst, inl, inr, ⊎_elim}
 use Rattle.ist_core.specs.Elements.{Among, Each}
 
 module _ {A : Type 0} where
-  -- an element of two lists in a row is one of the first or of the second
+  -- an element of two joined lists is one of the first or of the second
   pub among-append : (x : A) (xs ys : List A) → Among x (xs ++ ys) → Among x xs ⊎ Among x ys
   among-append x [] ys h = inr h
   among-append x (y ∷ xs) ys (inl h) = inl (inl h)
   among-append x (y ∷ xs) ys (inr h) = ⊎_elim (λ a. inl (inr a)) (λ b. inr b)
       (among-append x xs ys h)
 
-  -- an element of the first list is one of both
+  -- an element of the first list is one of the joined list
   pub among_left : (x : A) (xs ys : List A) → Among x xs → Among x (xs ++ ys)
   among_left x [] ys h = absurd h
   among_left x (y ∷ xs) ys (inl h) = inl h
   among_left x (y ∷ xs) ys (inr h) = inr (among_left x xs ys h)
 
-  -- an element of the second list is one of both
+  -- an element of the second list is one of the joined list
   pub among_right : (x : A) (xs ys : List A) → Among x ys → Among x (xs ++ ys)
   among_right x [] ys h = h
   among_right x (y ∷ xs) ys h = inr (among_right x xs ys h)
@@ -27,12 +27,12 @@ module _ {A : Type 0} where
   each-among P x (y ∷ ys) h (inl e) = subst P (sym e) h.0
   each-among P x (y ∷ ys) h (inr i) = each-among P x ys h.1 i
 
-  -- what is true of each element of two lists is true of each of both
+  -- what is true of each element of two lists is true of each element of the joined list
   pub each_append : (P : A → Type 0) (xs ys : List A) → Each P xs → Each P ys → Each P (xs ++ ys)
   each_append P [] ys h k = k
   each_append P (x ∷ xs) ys h k = (h.0, each_append P xs ys h.1 k)
 
-  -- and the other way round
+  -- what holds of each element of two joined lists holds of each element of both
   pub each-append : (P : A → Type 0) (xs ys : List A) → Each P (xs ++ ys) → Each P xs × Each P ys
   each-append P [] ys h = (tt, h)
   each-append P (x ∷ xs) ys h = let rest = each-append P xs ys h.1 in ((h.0, rest.0), rest.1)

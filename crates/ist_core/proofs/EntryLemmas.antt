@@ -1,17 +1,17 @@
--- Entries whose bases rise are those of a finite map. Serves the maps of rows.
+-- Entries with strictly increasing bases are the entries of a finite map. Serves the maps of rows.
 use Rattle.std.proofs.Common.{◌≡◌, ℕ, zero, suc, ◌+◌, ◌<◌, true, T, List, [], ◌∷◌, map, slice_index, refl, sym, subst, arith}
 use Rattle.std.proofs.lemmas.Bool.Decides.{nat_tests}
 use Rattle.std.specs.List.Sorted.{IsStrictlyIncreasing}
 use Rattle.std.specs.Ordering.{nat_cmp}
 use Rattle.std.specs.FinMap as fin
 
--- what rises goes on rising behind its first number
+-- a strictly increasing list without its first number is strictly increasing
 behind : (x : ℕ) (xs : List ℕ) → IsStrictlyIncreasing (x ∷ xs) → IsStrictlyIncreasing xs
 behind x xs h k e =
     let place : suc k + 1 ≡ suc (k + 1) = omega arith in
     subst (λ n. slice_index xs k < slice_index (x ∷ xs) n) place (h (suc k) (omega arith))
 
--- what rises goes on rising without its second number
+-- a strictly increasing list without its second number is strictly increasing
 skip : (x y : ℕ) (xs : List ℕ) → IsStrictlyIncreasing (x ∷ y ∷ xs) → IsStrictlyIncreasing (x ∷ xs)
 skip x y xs h zero e =
     let first : x < y = h 0 (omega arith) in
@@ -32,7 +32,7 @@ module _ {X : Type 0} where
       let this = above x v es (skip x e.0 (map (λ e. e.0) es) h) in
       grind (arith, nat_tests)
 
-  -- rising bases are sorted keys
+  -- strictly increasing bases are sorted keys
   pub is_sorted-rising : (es : List (ℕ × X)) → IsStrictlyIncreasing (map (λ e. e.0) es)
       → fin.is_sorted nat_cmp es ≡ true
   is_sorted-rising [] h = refl

@@ -1,4 +1,4 @@
--- What each event does to rows, and that they lie soundly behind a lawful log. Serves
+-- What each event does to rows, and that held rows lie apart after a lawful log. Serves
 -- `laws.rows_are_known`.
 use Rattle.std.proofs.Common.{◌≡◌, ℕ, ◌<◌, List, [], ◌∷◌, ◌++◌, length, Option, Some, None, refl, sym, ap, ◌∙◌, subst, arith}
 use Rattle.ist_core.specs.declared.lists.Row.{Row}
@@ -58,7 +58,7 @@ moves_resolved t event (Some change) =
     (with_slot change.index (side_of change)) (size_of-with_slot change.index (side_of change))
     refl refl refl
 
--- the rows of a root stand
+-- the rows of a root are published
 root_stands : (ps : Pieces) (word k : ℕ) (leaves : List PlacedLeaf) (target : ℕ) (rows : List ℕ)
     → IsRoot ps word k leaves target rows → Each (λ base. Stands ps base) rows
 root_stands ps word k leaves target rows (root_whole ref few is ideal) = ideal_stands ps ref leaves

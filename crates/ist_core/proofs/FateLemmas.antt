@@ -118,11 +118,13 @@ gone first (event ∷ log) base s h (inr before) =
     (gone_reserve first log event r base g))
     (moves_or_reserves first log event h.1 (sound first log s h.0))
 
+-- no row is published at the base of a lost row
 pub lost_unpublished : (pairs : List Pair) (words : ℕ) (log : Log) → Lawful pairs words log
     → (base : ℕ) → Happened (Loses base) log → (state_of pairs words log).pieces base ≡ None
 lost_unpublished pairs words log h base l =
     (gone (start pairs words) log base (sound_start pairs words) h.enabled l).unpublished
 
+-- a lost row isn't held
 pub lost_unheld : (pairs : List Pair) (words : ℕ) (log : Log) → Lawful pairs words log
     → (h : HeldRow) → Happened (Loses h.base) log → ¬ (Among h (state_of pairs words log).held)
 lost_unheld pairs words log lawful h l i =

@@ -1,5 +1,5 @@
--- A field of rows that few events write: what it says behind another event, it said before. Serves
--- the order law.
+-- A field of rows that few events write: its value after any other event is its value before.
+-- Serves the order law.
 use Rattle.std.proofs.Common.{◌≡◌, ◌≢◌, ℕ, ◌⊎◌, List, ◌∷◌, Some, sym, ap, ◌∙◌, subst, inl, inr, ⊎_elim}
 use Rattle.ist_core.specs.declared.lists.Row.{Row}
 use Rattle.ist_core.specs.declared.states.InnerRow.{InnerRow}
@@ -44,10 +44,11 @@ pub record IsRare (field : Piece → ℕ) (none : ℕ) : Type 0 where
       → IsInstalled first log at change fresh fits base p → field p ≡ none
 
 module _ (field : Piece → ℕ) (none : ℕ) (rare : IsRare field none) where
-  -- a row with this value stands at the base
+  -- the row at the base has this value
   abbrev pub Has : Pieces → ℕ → ℕ → Type 0
   Has ps base value = (p : Piece) × (ps base ≡ Some p) × (field p ≡ value)
 
+  -- a change of a row that leaves the field leaves its values
   pub has_changed : (ps : Pieces) (at : ℕ) (f : Piece → Piece)
       → ((p : Piece) → field (f p) ≡ field p) → (base value : ℕ)
       → Has (changed_at ps at f) base value → Has ps base value
@@ -69,7 +70,7 @@ module _ (field : Piece → ℕ) (none : ℕ) (rare : IsRare field none) where
       known (λ x. field x ≡ none) (ps base) p (Inner it.row) e it.published
       (rare.inner it.row it.untouched)
 
-  -- behind the rows that a Root publishes
+  -- a value after the rows of a Root are published was there before
   pub has_rooted : (t : Snapshot) (caller rebuild word : ℕ) (rows : List Row)
       → CanRoot t caller rebuild word rows → HeldLieApart t → (base value : ℕ) → value ≢ none
       → Has (with_inners t.pieces rows) base value → Has t.pieces base value
@@ -81,7 +82,7 @@ module _ (field : Piece → ℕ) (none : ℕ) (rare : IsRare field none) where
       (root_shaped qs word h.k h.leaves h.row.target (bases_of rows) h.root) i e))
       (adds.from b p e)) base value set has
 
-  -- behind any other event that leaves the field
+  -- a value after any event that leaves the field was there before
   pub has_step : (first : Snapshot) (log : Log) (event : Event) → Enabled first log event
       → HeldLieApart (state first log) → IsPlainEvent event → (base value : ℕ) → value ≢ none
       → Has (state first (event ∷ log)).pieces base value → Has (state first log).pieces base value

@@ -27,6 +27,7 @@ use Rattle.ist_core.proofs.RefusalLemmas.{NotRefused, NoneRefused, none_refused-
 
 -- ---- no change was refused up to the start of the rebuild
 
+-- no change was decided no in the new table
 pub at_opening : NoneRefused two.pieces
 unfolding NotRefused rows_within degree square_root root_up_to part_len part_lens ideal_words
     ideal_words_within
@@ -38,6 +39,7 @@ at_opening base p e = by_row (among-pieces_of (rows_from first_row start_pairs) 
     by_row (inr (inr (inl e))) = subst (λ row. NotRefused row.1) (sym e) tt
     by_row (inr (inr (inr e))) = absurd e
 
+-- no change was decided no when the rebuild is started
 pub none_refused_started : NoneRefused (state two rebuild_started).pieces
 unfolding NotRefused
 none_refused_started =

@@ -38,7 +38,7 @@ use Rattle.ist_core.proofs.DrawLemmas.{finished_grows}
 abbrev pub MayFinish : Snapshot → Log → ℕ → Type 0
 MayFinish t log node = (caller : ℕ) × (keys : ℕ) × CanFinish t log caller node keys
 
--- what is finished was finished, or is so now
+-- a row that is finished after an event was finished before, or the event finishes it
 finished_was : (first : Snapshot) (log : Log) (event : Event) → Enabled first log event
     → HeldLieApart (state first log) → (node k : ℕ) → IsFinishedWith (state first (event ∷ log)) node k
     → IsFinishedWith (state first log) node k ⊎ MayFinish (state first log) log node
@@ -131,7 +131,7 @@ passed_each t log node start _ _ (one_passed {here = here} word p c more) zero a
 passed_each t log node start _ _ (one_passed {rest = rest} {slots = slots} word p c more) (suc i) at
     w is e = passed_each t log node (start + 1) slots rest more i at w (omega arith) e
 
--- what was counted counts so still
+-- what a reference counts for stays the same
 counts_grows : (t u : Snapshot) → AllGrow t.pieces u.pieces → (ref : Option Ref) (k : ℕ)
     → CountsFor t ref k → CountsFor u ref k
 counts_grows t u g _ _ no_key = no_key
@@ -152,7 +152,7 @@ passed_grows t u event log node i g h = record {
       (ref_of h.word) h.keys h.counts;
 }
 
--- a list of the same length has an element where the other has one
+-- a list of the same length has an element at each index at which the other has one
 get_alike : (xs ys : List ℕ) (i x : ℕ) → length xs ≡ length ys → slice_get xs i ≡ Some x
     → (y : ℕ) × (slice_get ys i ≡ Some y)
 get_alike [] ys i x e at = absurd (cc)

@@ -1,4 +1,4 @@
--- A slot that was passed keeps its word: each event keeps that. Serves the frozen-slot law.
+-- A slot that was passed keeps its word at each event. Serves the frozen-slot law.
 use Rattle.std.proofs.Common.{◌≡◌, ◌≢◌, ℕ, ◌+◌, ◌*◌, Bool, true, false, List, [], ◌∷◌, Option, Some, None, option_map, sym, ap, ◌∙◌, subst, inl, inr, ⊎_elim, arith}
 use Rattle.std.proofs.lemmas.Bool.Decides.{nat_tests, eqb_tells}
 use Rattle.ist_core.specs.declared.pairs.Pair.{Pair}
@@ -39,7 +39,7 @@ use Rattle.ist_core.proofs.SlotStepLemmas.{install_stands, install_writes, resol
 
 -- ---- words and statuses
 
--- two words of changes are one
+-- equal words name one change
 same_change_word : (a b : ℕ) → word_of (ChangeAt a) ≡ word_of (ChangeAt b) → a ≡ b
 same_change_word a b e = let numbers : a * 8 + 3 ≡ b * 8 + 3 = e in omega arith
 
@@ -61,6 +61,7 @@ pub side_not_yes : (change : ChangeRow) → change.decision ≢ decided_yes
     → side_of change ≡ change.from
 side_not_yes change ne = grind (arith, nat_tests)
 
+-- one base has one change
 pub same_change : (o : Option Piece) (r s : ChangeRow) → o ≡ Some (Change r) → o ≡ Some (Change s)
     → r ≡ s
 same_change o r s e f = cc
@@ -69,7 +70,7 @@ same_change o r s e f = cc
 abbrev Keeping : Snapshot → Log → Event → Snapshot → ℕ → ℕ → ℕ → Type 0
 Keeping t log event u node i word = KeepsWord t log node i word → KeepsWord u (event ∷ log) node i word
 
--- a change in vain stays one, where its row, its slot and its Okays stay
+-- a change in vain stays one if its row, its slot and its Okays stay
 vain_on : (t u : Snapshot) (log : Log) (event : Event) (node i word : ℕ)
     (h : HasVainChange t log node i word)
     → u.pieces h.base ≡ Some (Change h.change) → SlotHolds u node i (word_of (ChangeAt h.base))
@@ -127,7 +128,7 @@ okay_published first (event ∷ log) base s h (inr before) =
     (there.0, there.1)
 
 module _ (pairs : List Pair) (words : ℕ) (opens : CanOpen pairs words) (log : Log) (enabled : EachEnabled (start pairs words) log) where
-  -- what is known of the rows behind the log
+  -- held rows lie apart after the log
   rows_sound : HeldLieApart (state_of pairs words log)
   rows_sound = sound (start pairs words) log (sound_start pairs words) enabled
 
@@ -140,7 +141,7 @@ module _ (pairs : List Pair) (words : ℕ) (opens : CanOpen pairs words) (log : 
       → ref_of (word_of (ChangeAt base)) ≡ Some (ChangeAt base)
   change_read base r e = ref_of-change base (published_good pairs words opens log base (Change r) enabled e)
 
-  -- an event that decides nothing leaves a change in vain whose slot it leaves
+  -- an event that decides nothing leaves a change in vain if it leaves the change's slot
   vain_stays : (event : Event) → Enabled (start pairs words) log event → IsNoDecide event
       → (node i word : ℕ) (v : HasVainChange (state_of pairs words log) log node i word)
       → ¬ (Okays v.base event)
@@ -250,7 +251,7 @@ module _ (pairs : List Pair) (words : ℕ) (opens : CanOpen pairs words) (log : 
       (changed_at-other t.pieces base v.base (with_decision decided_no) e.1 ∙ v.published) slot (λ n. n))
       (eqb_tells v.base base)
 
-  -- the change that stands in a slot is one of this slot, so that its node isn't open
+  -- a change in a slot is a change of this slot, so its node isn't open
   keeps_okay : (caller base : ℕ) → CanOkay (state_of pairs words log) caller base
       → (node i word : ℕ) (r : InnerRow) → (state_of pairs words log).pieces node ≡ Some (Inner r)
       → r.status ≢ open_word

@@ -1,5 +1,5 @@
--- Which rows an Install publishes beside its change's, and where they stand. Serves each law that
--- speaks of rows.
+-- Which rows an Install publishes with its change's row, and where they are. Serves each law about
+-- rows.
 use Rattle.std.proofs.Common.{◌≡◌, ◌≢◌, ℕ, ◌⊎◌, ◌==◌, nat_lt, true, false, if◌then◌else◌, List, ◌∷◌, length, Option, Some, refl, sym, ap, ◌∙◌, subst, inl, inr, ⊎_elim, arith}
 use Rattle.ist_core.specs.declared.lists.Row.{Row}
 use Rattle.ist_core.specs.declared.states.ChangeRow.{ChangeRow}
@@ -13,7 +13,7 @@ use Rattle.ist_core.proofs.RowLemmas.{with_row-same, with_row-some, with_row-oth
 use Rattle.ist_core.proofs.MoveLemmas.{HeldLieApart}
 use Rattle.ist_core.proofs.InstallLemmas.{inner_of-pair_row, with_installed}
 
--- the row is one that the change publishes beside its own
+-- the row is one that is published together with the change
 abbrev pub IsFresh : (first : Snapshot) (log : Log) (change : ChangeRow) (fresh : List Row)
     → FitsKind first log change fresh → ℕ → Piece → Type 0
 IsFresh first log change fresh (a_put h) base p = (base ≡ h.leaf) × (p ≡ new_leaf change)
@@ -29,7 +29,7 @@ IsFresh first log change fresh (a_finish h) base p = ⊥
 abbrev read_of : ℕ → List ℕ → Option Piece
 read_of kind words = if kind == start_kind then rebuild_of words else leaf_of words
 
--- what stands where one row was put
+-- each row after one was put is the new one, or was there before
 one_row : (ps : Pieces) (at base : ℕ) (o : Option Piece) (new p : Piece) → o ≡ Some new
     → with_row ps at o base ≡ Some p → ((base ≡ at) × (p ≡ new)) ⊎ (ps base ≡ Some p)
 one_row ps at base o new p read e =
@@ -38,7 +38,7 @@ one_row ps at base o new p read e =
     same : (x : Option Piece) (a b : Piece) → x ≡ Some a → x ≡ Some b → a ≡ b
     same x a b h k = cc
 
--- what stands behind the fresh rows is one of them, or stood there
+-- each row after the fresh rows are published is one of them, or was there before
 pub fresh_from : (ps : Pieces) (first : Snapshot) (log : Log) (change : ChangeRow)
     (fresh : List Row) (fits : FitsKind first log change fresh) (base : ℕ) (p : Piece)
     → with_fresh ps change fresh base ≡ Some p
@@ -69,7 +69,7 @@ fresh_from ps first log change fresh (a_start h) base p e =
 fresh_from ps first log change fresh (a_finish h) base p e = inr
     (subst (λ rows. with_fresh ps change rows base ≡ Some p) h.fresh_are e)
 
--- a row that was put stands
+-- a row that was put is at its base
 put_stands : (ps : Pieces) (at base : ℕ) (o : Option Piece) (new p : Piece) → o ≡ Some new
     → base ≡ at → p ≡ new → with_row ps at o base ≡ Some p
 put_stands ps at base o new p read here is =
@@ -99,7 +99,7 @@ module _ (first : Snapshot) (log : Log) (caller at : ℕ) (change : ChangeRow) (
   fresh_apart size base h k differ = sizes_apart (state first log) caller base at size 9 sound k h
       differ
 
-  -- each fresh row stands behind the Install
+  -- each fresh row is published after the Install
   pub fresh_stands : (ps : Pieces) (fits : FitsKind first log change fresh)
       → HoldsRows (state first log) caller (row_at at (Change change) ∷ fresh)
       → (base : ℕ) (p : Piece)

@@ -115,7 +115,7 @@ module _ (pairs : List Pair) (words : ℕ) (opens : CanOpen pairs words) where
       closed_step pairs words opens log h.0 event h.1 node i word plain.set plain.no_change
       (closed log h.0 node i word before)
 
-  -- what a closed slot holds where it holds no change
+  -- what a closed slot holds if it holds no change
   held_word : (log : Log) → EachEnabled (start pairs words) log → (node i v w : ℕ)
       → IsClosedOver (state_of pairs words log) log node i v
       → SlotHolds (state_of pairs words log) node i w

@@ -1,4 +1,4 @@
--- What each write makes of a row. Serves `laws.rows_stay`.
+-- What each write makes of a row. Serves `laws.rows_grow`.
 use Rattle.std.proofs.Common.{◌≡◌, ℕ, ◌==◌, Bool, true, false, if◌then◌else◌, Some, option_map, refl, sym, ap, ◌∙◌, subst, arith, le_refl}
 use Rattle.std.proofs.lemmas.List.{length-set}
 use Rattle.std.proofs.lemmas.Bool.Decides.{nat_tests}
@@ -24,7 +24,7 @@ inner_same r = record {
   slots = refl;
 }
 
--- so may each row
+-- each row may stay as it is
 pub grows_same : (p : Piece) → Grows p p
 grows_same (Leaf r) = leaf_stays
 grows_same (Inner r) = inner_grows (inner_same r)
@@ -32,7 +32,7 @@ grows_same (Change r) = change_grows record { decided = λ _. refl; others = ref
 grows_same (Rebuild r) = rebuild_grows record
     { target = refl; parent = refl; index = refl; rooted = λ _. refl; draw = le_refl _ }
 
--- a status goes on and on
+-- going on is transitive for statuses
 status_on : (a b c : ℕ) → StatusGoesOn a b → StatusGoesOn b c → StatusGoesOn a c
 status_on a b c (status_stays h) k = subst (λ x. StatusGoesOn x c) h k
 status_on a b c (is_marked h i) (status_stays k) = is_marked h (k ∙ i)
@@ -80,7 +80,7 @@ rebuild_on a b c h k =
       draw = omega arith;
     }
 
--- what becomes of a row may become of the first
+-- growing is transitive
 pub grows_on : (p q r : Piece) → Grows p q → Grows q r → Grows p r
 grows_on _ _ _ leaf_stays k = k
 grows_on _ _ _ (inner_grows {old = a} {new = b} h) (inner_grows {new = c} k) = inner_grows
@@ -92,6 +92,7 @@ grows_on _ _ _ (rebuild_grows {old = a} {new = b} h) (rebuild_grows {new = c} k)
 
 -- ---- what each write makes of a row
 
+-- a row grows if a slot of it is written
 pub grows-with_slot : (i word : ℕ) (p : Piece) → Grows p (with_slot i word p)
 grows-with_slot i word (Leaf r) = leaf_stays
 grows-with_slot i word (Inner r) =
@@ -106,6 +107,7 @@ grows-with_slot i word (Inner r) =
 grows-with_slot i word (Change r) = grows_same (Change r)
 grows-with_slot i word (Rebuild r) = grows_same (Rebuild r)
 
+-- a row grows if a change is counted at it
 pub grows-counted : (p : Piece) → Grows p (counted p)
 grows-counted (Leaf r) = leaf_stays
 grows-counted (Inner r) = inner_grows record {
@@ -119,6 +121,7 @@ grows-counted (Inner r) = inner_grows record {
 grows-counted (Change r) = grows_same (Change r)
 grows-counted (Rebuild r) = grows_same (Rebuild r)
 
+-- a row grows if a part of it is drawn
 pub grows-drawn : (p : Piece) → Grows p (drawn p)
 grows-drawn (Leaf r) = leaf_stays
 grows-drawn (Inner r) = grows_same (Inner r)
@@ -126,19 +129,19 @@ grows-drawn (Change r) = grows_same (Change r)
 grows-drawn (Rebuild r) = rebuild_grows record
     { target = refl; parent = refl; index = refl; rooted = λ _. refl; draw = omega arith }
 
--- a status that goes on
+-- an inner row grows if its status goes on
 pub grows-with_status : (r : InnerRow) (status : ℕ) → StatusGoesOn r.status status
     → Grows (Inner r) (with_status status (Inner r))
 grows-with_status r status h = inner_grows record
     { status = h; count = le_refl _; degree = refl; size = refl; keys = refl; slots = refl }
 
--- a change that is decided now
+-- a pending change grows if it is decided
 pub grows-with_decision : (r : ChangeRow) (decision : ℕ) → r.decision ≡ undecided
     → Grows (Change r) (with_decision decision (Change r))
 grows-with_decision r decision e = change_grows record
     { decided = λ set. absurd (set e); others = refl }
 
--- a rebuild that gets its root now
+-- a rebuild without a root grows if it gets one
 pub grows-with_root : (r : RebuildRow) (word : ℕ) → r.root ≡ unset_word
     → Grows (Rebuild r) (with_root word (Rebuild r))
 grows-with_root r word e = rebuild_grows record
@@ -150,14 +153,14 @@ grows-with_root r word e = rebuild_grows record
 pub all_grow_same : (ps : Pieces) → AllGrow ps ps
 all_grow_same ps base p e = (p, e, grows_same p)
 
--- and grow on and on
+-- growing is transitive for all rows
 pub all_grow_on : (ps qs rs : Pieces) → AllGrow ps qs → AllGrow qs rs → AllGrow ps rs
 all_grow_on ps qs rs h k base p e =
     let first = h base p e in
     let second = k base first.0 first.1 in
     (second.0, second.1, grows_on p first.0 second.0 first.2 second.2)
 
--- where one row is changed into what may become of it
+-- all rows grow if one row is changed into what it may become
 pub all_grow-changed_at : (ps : Pieces) (at : ℕ) (f : Piece → Piece)
     → ((p : Piece) → ps at ≡ Some p → Grows p (f p)) → AllGrow ps (changed_at ps at f)
 all_grow-changed_at ps at f grows base p e = here (base == at) refl
@@ -172,13 +175,14 @@ all_grow-changed_at ps at f grows base p e = here (base == at) refl
     )
     here false same = (p, e, grows_same p)
 
--- where rows are only added
+-- all rows grow if rows are only added
 pub all_grow_added : (ps qs : Pieces)
     → ((base : ℕ) (p : Piece) → ps base ≡ Some p → qs base ≡ Some p) → AllGrow ps qs
 all_grow_added ps qs stay base p e = (p, stay base p e, grows_same p)
 
 -- ---- a row of a kind stays one
 
+-- a leaf is still there when all rows have grown
 pub leaf_there : (ps qs : Pieces) → AllGrow ps qs → (base : ℕ) (r : LeafRow)
     → ps base ≡ Some (Leaf r) → qs base ≡ Some (Leaf r)
 leaf_there ps qs g base r e = at (g base (Leaf r) e).0 (g base (Leaf r) e).1 (g base (Leaf r) e).2
@@ -186,6 +190,7 @@ leaf_there ps qs g base r e = at (g base (Leaf r) e).0 (g base (Leaf r) e).1 (g 
     at : (q : Piece) → qs base ≡ Some q → Grows (Leaf r) q → qs base ≡ Some (Leaf r)
     at _ i leaf_stays = i
 
+-- an inner row is still there when all rows have grown, possibly grown
 pub inner_there : (ps qs : Pieces) → AllGrow ps qs → (base : ℕ) (r : InnerRow)
     → ps base ≡ Some (Inner r)
     → (s : InnerRow) × (qs base ≡ Some (Inner s)) × InnerGrows r s
@@ -196,6 +201,7 @@ inner_there ps qs g base r e = at (g base (Inner r) e).0 (g base (Inner r) e).1
         → (s : InnerRow) × (qs base ≡ Some (Inner s)) × InnerGrows r s
     at _ i (inner_grows {new = s} h) = (s, i, h)
 
+-- a change is still there when all rows have grown, possibly decided
 pub change_there : (ps qs : Pieces) → AllGrow ps qs → (base : ℕ) (r : ChangeRow)
     → ps base ≡ Some (Change r)
     → (s : ChangeRow) × (qs base ≡ Some (Change s)) × ChangeGrows r s
@@ -206,6 +212,7 @@ change_there ps qs g base r e = at (g base (Change r) e).0 (g base (Change r) e)
         → (s : ChangeRow) × (qs base ≡ Some (Change s)) × ChangeGrows r s
     at _ i (change_grows {new = s} h) = (s, i, h)
 
+-- a rebuild is still there when all rows have grown, possibly with a root and more draws
 pub rebuild_there : (ps qs : Pieces) → AllGrow ps qs → (base : ℕ) (r : RebuildRow)
     → ps base ≡ Some (Rebuild r)
     → (s : RebuildRow) × (qs base ≡ Some (Rebuild s)) × RebuildGrows r s

@@ -79,16 +79,16 @@ mentioned_here t node i child o (inr h) = at h.1 (o.rows h.0 h.1 h.2) h.3
 abbrev pub Came : (ℕ → Ref) → Snapshot → (ℕ → ℕ → ℕ → Type 0) → ℕ → ℕ → ℕ → Type 0
 Came of t New node i child = Mentions t node i (of child) ⊎ New node i child
 
--- whatever the row names came so
+-- whatever the row names was named before the event, or is new
 unfoldable pub SaysCame : (ℕ → Ref) → Snapshot → (ℕ → ℕ → ℕ → Type 0) → ℕ → Piece → Type 0
 SaysCame of t New base p = (node i child : ℕ) → Says base p node i (of child) → Came of t New node i
     child
 
--- whatever the word names came so
+-- whatever the word names was named before the event, or is new
 unfoldable pub WordCame : (ℕ → Ref) → Snapshot → (ℕ → ℕ → ℕ → Type 0) → ℕ → ℕ → Option Ref → Type 0
 WordCame of t New node i ref = (child : ℕ) → ref ≡ Some (of child) → Came of t New node i child
 
--- whatever these rows name came so
+-- whatever these rows name was named before the event, or is new
 unfoldable pub AllCame : (ℕ → Ref) → Snapshot → (ℕ → ℕ → ℕ → Type 0) → Pieces → Type 0
 AllCame of t New ps = (base : ℕ) (p : Piece) → ps base ≡ Some p → SaysCame of t New base p
 
@@ -97,10 +97,12 @@ pub record AreNew (t : Snapshot) (New : ℕ → ℕ → ℕ → Type 0) : Type 0
   pub unpublished : (node i child : ℕ) → New node i child → t.pieces child ≡ None
   pub one : (n i k j child : ℕ) → New n i child → New k j child → (n ≡ k) × (i ≡ j)
 
+-- whatever the rows of a state name was named in it
 pub came_old : (of : ℕ → Ref) (t : Snapshot) (New : ℕ → ℕ → ℕ → Type 0) → AllCame of t New t.pieces
 unfolding AllCame SaysCame
 came_old of t New base p e node i child says = inl (inr (base, p, e, says))
 
+-- if the added rows name what was named before or is new, so do all rows
 pub came_added : (of : ℕ → Ref) (t : Snapshot) (New : ℕ → ℕ → ℕ → Type 0) (ps qs : Pieces)
     (Born : ℕ → Piece → Type 0)
     → Adds ps qs Born → AllCame of t New ps
@@ -110,6 +112,7 @@ unfolding AllCame
 came_added of t New ps qs Born adds all born base p e = ⊎_elim (λ old. all base p old)
     (λ new. born base p new e) (adds.from base p e)
 
+-- if a changed row names what was named before or is new, so do all rows
 pub came-changed_at : (of : ℕ → Ref) (t : Snapshot) (New : ℕ → ℕ → ℕ → Type 0) (ps : Pieces)
     (at : ℕ)
     (f : Piece → Piece)
@@ -130,6 +133,7 @@ came-changed_at of t New ps at f all keeps base q e =
 
 -- ---- writes
 
+-- if the written word names what was named before or is new, so does the row with it in a slot
 pub came-with_slot : (of : ℕ → Ref) (t : Snapshot) (New : ℕ → ℕ → ℕ → Type 0) (node i word : ℕ)
     (p : Piece)
     → WordCame of t New node i (ref_of word) → SaysCame of t New node p
@@ -146,6 +150,7 @@ came-with_slot of t New node i word (Leaf r) came old n j child says = old n j c
 came-with_slot of t New node i word (Change r) came old n j child says = old n j child says
 came-with_slot of t New node i word (Rebuild r) came old n j child says = old n j child says
 
+-- if the root's word names what was named before or is new, so does the rebuild with it
 pub came-with_root : (of : ℕ → Ref) (t : Snapshot) (New : ℕ → ℕ → ℕ → Type 0) (base word : ℕ)
     (r : RebuildRow)
     → WordCame of t New r.parent r.index (ref_of word) → SaysCame of t New base (Rebuild r)
@@ -158,6 +163,7 @@ came-with_root of t New base word r came old node i child says =
     (subst (λ j. Came of t New r.parent j child) (sym says.1) (came child e)))
     says.2
 
+-- a status names nothing
 pub came-with_status : (of : ℕ → Ref) (t : Snapshot) (New : ℕ → ℕ → ℕ → Type 0) (base status : ℕ)
     (p : Piece)
     → SaysCame of t New base p → SaysCame of t New base (with_status status p)
@@ -167,6 +173,7 @@ came-with_status of t New base status (Leaf r) h = h
 came-with_status of t New base status (Change r) h = h
 came-with_status of t New base status (Rebuild r) h = h
 
+-- a count names nothing
 pub came-counted : (of : ℕ → Ref) (t : Snapshot) (New : ℕ → ℕ → ℕ → Type 0) (base : ℕ) (p : Piece)
     → SaysCame of t New base p → SaysCame of t New base (counted p)
 unfolding SaysCame
@@ -175,6 +182,7 @@ came-counted of t New base (Leaf r) h = h
 came-counted of t New base (Change r) h = h
 came-counted of t New base (Rebuild r) h = h
 
+-- a draw word names nothing
 pub came-drawn : (of : ℕ → Ref) (t : Snapshot) (New : ℕ → ℕ → ℕ → Type 0) (base : ℕ) (p : Piece)
     → SaysCame of t New base p → SaysCame of t New base (drawn p)
 unfolding SaysCame
@@ -183,6 +191,7 @@ came-drawn of t New base (Leaf r) h = h
 came-drawn of t New base (Change r) h = h
 came-drawn of t New base (Rebuild r) h = h
 
+-- a decision names nothing
 pub came-with_decision : (of : ℕ → Ref) (t : Snapshot) (New : ℕ → ℕ → ℕ → Type 0)
     (base decision : ℕ) (p : Piece)
     → SaysCame of t New base p → SaysCame of t New base (with_decision decision p)
@@ -192,9 +201,9 @@ came-with_decision of t New base decision (Leaf r) h = h
 came-with_decision of t New base decision (Change r) h = h
 came-with_decision of t New base decision (Rebuild r) h = h
 
--- ---- homes behind an event
+-- ---- homes after an event
 
--- where all that is named came so, each inner row has one home still
+-- if each named row was named before or is new where it is named, each inner row still has one home
 pub one_home_from : (t u : Snapshot) (New : ℕ → ℕ → ℕ → Type 0) → HasOneHome t → WordsName t
     → AreNew t New → AllCame InnerAt t New u.pieces → WordCame InnerAt t New anchor 0
     (ref_of u.anchor)
@@ -230,7 +239,7 @@ one_home_same t u home word pieces = record
     back node i child (inl h) = inl (h.0, h.1, ap ref_of (sym word) ∙ h.2)
     back node i child (inr h) = inr (h.0, h.1, subst (λ ps. ps h.0 ≡ Some h.1) pieces h.2, h.3)
 
--- the anchor's word, where a slot is written
+-- what the anchor's word names after a slot is written
 pub anchor_came : (of : ℕ → Ref) (t u : Snapshot) (New : ℕ → ℕ → ℕ → Type 0) (node i word : ℕ)
     → u.anchor ≡ (if node == anchor then word else t.anchor) → (node ≡ anchor → i ≡ 0)
     → WordCame of t New node i (ref_of word)
@@ -256,7 +265,7 @@ anchor_came of t u New node i word is zero_there came child e = at (node == anch
           (λ b. ref_of (if b then word else t.anchor) ≡ Some (of child)) k.0 f,
     ))
 
--- where it isn't written
+-- what the anchor's word names if it isn't written
 pub anchor_old : (of : ℕ → Ref) (t u : Snapshot) (New : ℕ → ℕ → ℕ → Type 0) → u.anchor ≡ t.anchor
     → WordCame of t New anchor 0 (ref_of u.anchor)
 unfolding WordCame

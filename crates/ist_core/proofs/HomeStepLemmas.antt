@@ -59,6 +59,7 @@ word_new of t New node i word h child e = inr (h child e)
 
 -- ---- one row changed
 
+-- an event that changes one row and names nothing new leaves each inner row one home
 pub one_home_changed : (t u : Snapshot) (at : ℕ) (f : Piece → Piece) → u.anchor ≡ t.anchor
     → u.pieces ≡ changed_at t.pieces at f
     → ((New : ℕ → ℕ → ℕ → Type 0) (p : Piece) → SaysCame InnerAt t New at p → SaysCame InnerAt t New at (f p))
@@ -72,6 +73,7 @@ one_home_changed t u at f word pieces keeps names home =
 
 -- ---- Resolve
 
+-- a Resolve leaves each inner row one home
 pub one_home_resolve : (t : Snapshot) (caller base : ℕ) → (h : CanResolve t caller base)
     → t.pieces anchor ≡ None → WordsName t → HasOneHome t
     → HasOneHome (after t (Resolve caller base))
@@ -122,6 +124,7 @@ tree_says t ps parent at ref rows all base p i e =
       reads = says.3;
     }))
 
+-- a Root leaves each inner row one home
 pub one_home_root : (t : Snapshot) (caller rebuild word : ℕ) (rows : List Row)
     → (h : CanRoot t caller rebuild word rows) → HeldLieApart t → WordsName t → HasOneHome t
     → HasOneHome (after t (Root caller rebuild word rows))
@@ -152,6 +155,7 @@ one_home_root t caller rebuild word rows h sound names home =
     same_ref : (o : Option Ref) (a b : Ref) → o ≡ Some a → o ≡ Some b → a ≡ b
     same_ref o a b e f = cc
 
+-- a Place leaves each inner row one home
 pub one_home_place : (t : Snapshot) (caller rebuild i word : ℕ) (rows : List Row)
     → (h : CanPlace t caller rebuild i word rows) → HeldLieApart t → WordsName t → HasOneHome t
     → HasOneHome (after t (Place caller rebuild i word rows))
@@ -188,7 +192,7 @@ NewPair first log change fresh _ node i child = ⊥
 module _ (first : Snapshot) (log : Log) (caller at : ℕ) (change : ChangeRow) (fresh : List Row) (sound : HeldLieApart (state first log))
     (holds : HoldsRows (state first log) caller (row_at at (Change change) ∷ fresh))
     (in_slot : SlotHolds (state first log) change.node change.index change.from) where
-  -- it is new
+  -- the pair row of a put is new
   pub pair_new : (fits : FitsKind first log change fresh)
       → AreNew (state first log) (NewPair first log change fresh fits)
   pair_new (a_pair h) =
@@ -211,7 +215,7 @@ module _ (first : Snapshot) (log : Log) (caller at : ℕ) (change : ChangeRow) (
       (ref_of change.from) (λ child e. slot_mentions (state first log) change.node change.index
       change.from (InnerAt child) in_slot e)
 
-  -- what it puts in is a new pair row, or the root of its rebuild, or no inner row
+  -- what a change puts in is a new pair row, or the root of its rebuild, or no inner row
   to_came : (fits : FitsKind first log change fresh)
       → WordCame InnerAt (state first log) (NewPair first log change fresh fits) change.node change.index
       (ref_of change.to)

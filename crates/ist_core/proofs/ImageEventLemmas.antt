@@ -52,7 +52,8 @@ words_of-inner_of (a ∷ b ∷ c ∷ []) p e = absurd (cc)
 words_of-inner_of (status ∷ count ∷ degree ∷ size ∷ rest) p e = sym (ap words_in e) ∙ ap
     (λ xs. status ∷ count ∷ degree ∷ size ∷ xs) (take-append-drop (degree - 1) rest)
 
--- the row at a base stands where the words of one of these rows do
+-- if the words of these rows are in the table, so is the row at a base that has the words of one of
+-- them
 pub row_stands : (words : List ℕ) (rows : List Row) (row : Row) (base : ℕ) (p : Piece)
     → RowsStand words rows → Among row rows → row.base ≡ base → row.words ≡ words_of p
     → StandsAt words base p
@@ -61,7 +62,7 @@ row_stands words rows row base p all i here is k less =
     slice_get r.words n) row rows all i k (subst (λ ws. k < length ws) (sym is) less) in
     ap (λ b. slice_get words (b + k)) (sym here) ∙ it ∙ ap (λ ws. slice_get ws k) is
 
--- inner rows that are published stand
+-- published inner rows are in the table
 pub inners_stand : (ps : Pieces) (words : List ℕ) (rows : List Row) → RowsStand words rows
     → ((base : ℕ) (p : Piece) → ps base ≡ Some p → StandsAt words base p)
     → (base : ℕ) (p : Piece) → with_inners ps rows base ≡ Some p → StandsAt words base p
@@ -97,7 +98,7 @@ pub record RowsApart (u : Snapshot) : Type 0 where
   pub apart : (base other : ℕ) (p q : Piece) → u.pieces base ≡ Some p → u.pieces other ≡ Some q
       → base ≢ other → Apart base (size_of p) other (size_of q)
 
--- so do they behind a log from a new table
+-- the rows after a log from a new table lie apart
 pub rows_apart : (pairs : List Pair) (words : ℕ) (log : Log) → EachEnabled (start pairs words) log
     → RowsApart (state_of pairs words log)
 rows_apart pairs words log h =
@@ -134,6 +135,7 @@ pub row_behind : (words : List ℕ) (base place word : ℕ) (p : Piece) → plac
 row_behind words base place word p low h k less = get-set_other words place (base + k) word
     (λ e. omega arith) ∙ h k less
 
+-- an Enter writes one word of the image
 pub image_enter : (t : Snapshot) (caller : ℕ) (words : List ℕ) → RowsApart t → IsImage t words
     → IsImage (after t (Enter caller)) (slice_set words callers_place (t.callers + 1))
 image_enter t caller words a image =
@@ -153,6 +155,7 @@ image_enter t caller words a image =
           ∙ image.free place k l;
     }
 
+-- a Reserve writes one word of the image
 pub image_reserve : (t : Snapshot) (caller base size : ℕ) (words : List ℕ) → base ≡ t.next → RowsApart t
     → IsImage t words
     → IsImage (after t (Reserve caller base size)) (slice_set words next_place (base + size))
@@ -175,7 +178,7 @@ image_reserve t caller base size words is a image =
 
 -- ---- the events that write a word of a row
 
--- a word of a row that stood is written
+-- the image after a word of a published row is written
 pub image_word : (t u : Snapshot) (words : List ℕ) (node j word : ℕ) (p : Piece) (f : Piece → Piece)
     → RowsApart u → u.words ≡ t.words → u.next ≡ t.next → u.callers ≡ t.callers
     → u.anchor ≡ t.anchor → u.pieces ≡ changed_at t.pieces node f
@@ -186,6 +189,7 @@ image_word t u words node j word p f a same next callers anchored pieces there b
     image_row t u words image same next callers a.low_next a.within a.apart t.pieces node j word p f
     image.rows anchored there pieces below is
 
+-- a Count writes one word of the image
 pub image_count : (t : Snapshot) (caller node : ℕ) (words : List ℕ) (r : InnerRow)
     → t.pieces node ≡ Some (Inner r) → RowsApart (after t (Count caller node)) → IsImage t words
     → IsImage (after t (Count caller node)) (touched words (touch_of t (Count caller node)))
@@ -195,6 +199,7 @@ image_count t caller node words r e a image =
     (image_word t (after t (Count caller node)) words node 1 (r.count + 1) (Inner r) counted a refl
     refl refl refl refl e (omega arith) refl image)
 
+-- a Draw writes one word of the image
 pub image_draw : (t : Snapshot) (caller rebuild part : ℕ) (words : List ℕ) (r : RebuildRow)
     → t.pieces rebuild ≡ Some (Rebuild r) → RowsApart (after t (Draw caller rebuild part))
     → IsImage t words
@@ -214,7 +219,7 @@ pub record SlotsReady (t : Snapshot) : Type 0 where
   pub shaped : (base : ℕ) (r : InnerRow) → t.pieces base ≡ Some (Inner r) → HasDegree r
   pub sound : HeldLieApart t
 
--- where no row stands, none is published by rows that are held
+-- if no row is new at a base, a base without a row stays without one
 pub still_free : (t : Snapshot) (qs : Pieces) (base : ℕ)
     → ((p : Piece) → qs base ≡ Some p → t.pieces base ≡ Some p) → t.pieces base ≡ None
     → qs base ≡ None
@@ -224,6 +229,7 @@ still_free t qs base back none = at (qs base) refl
     at None e = e
     at (Some p) e = absurd (no_piece (t.pieces base) p none (back p e))
 
+-- a Resolve writes one word of the image
 pub image_resolve : (t : Snapshot) (caller base : ℕ) (words : List ℕ) (h : CanResolve t caller base)
     → SlotsReady t → RowsApart (after t (Resolve caller base)) → IsImage t words
     → IsImage (after t (Resolve caller base)) (touched words (touch_of t (Resolve caller base)))
@@ -238,6 +244,7 @@ image_resolve t caller base words h ready a image =
     h.change.index (side_of h.change) (word_of (ChangeAt base))
     image.rows ready.free ready.free (λ at p e. e) ready.shaped refl refl h.in_slot))
 
+-- a Place writes one word of the image, if its rows are in their words
 pub image_place : (t : Snapshot) (caller rebuild i word : ℕ) (rows : List Row) (words : List ℕ)
     (h : CanPlace t caller rebuild i word rows)
     → SlotsReady t → RowsApart (after t (Place caller rebuild i word rows))
@@ -258,6 +265,7 @@ image_place t caller rebuild i word rows words h ready a free stand image =
     (λ e. no_row t.pieces h.root h.root_row ready.free e h.root_published))
     (in_row h.root_row h.root_published h.free))
 
+-- a Root writes one word of the image, if its rows are in their words
 pub image_root : (t : Snapshot) (caller rebuild word : ℕ) (rows : List Row) (words : List ℕ)
     (h : CanRoot t caller rebuild word rows)
     → SlotsReady t → RowsApart (after t (Root caller rebuild word rows))
@@ -273,6 +281,7 @@ image_root t caller rebuild word rows words h ready a stand image =
     (inners_stand t.pieces words rows stand image.rows) refl
     (keeps rebuild (Rebuild h.row) h.published) refl (omega arith) refl
 
+-- an Install writes one word of the image, if its rows are in their words
 pub image_install : (first : Snapshot) (log : Log) (caller base : ℕ) (rows : List Row) (words : List ℕ)
     (h : CanInstall first log caller base rows)
     → SlotsReady (state first log)

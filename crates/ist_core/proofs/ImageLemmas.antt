@@ -21,7 +21,7 @@ use Rattle.ist_core.specs.Naming.{HasDegree}
 has_word : (xs : List ℕ) (k : ℕ) → k < length xs → (word : ℕ) × (slice_get xs k ≡ Some word)
 has_word xs k h = (get_or xs k 0, slice_get-get_or xs k 0 h)
 
--- a write behind some words
+-- a write past the end of a first part is a write in the rest
 set_behind : (xs ys : List ℕ) (i word : ℕ)
     → slice_set (xs ++ ys) (length xs + i) word ≡ xs ++ slice_set ys i word
 set_behind [] ys i word = let same : 0 + i ≡ i = omega arith in ap (λ k. slice_set ys k word) same
@@ -38,13 +38,14 @@ words_of-with_slot r i word =
     ap (λ zs. r.status ∷ r.count ∷ r.degree ∷ r.size ∷ zs) (sym (set_behind r.keys r.slots i word))
     ∙ ap (λ k. slice_set (words_of (Inner r)) k word) (sym same)
 
--- a word behind some words
+-- a word past the end of a first part is a word of the rest
 get_behind : (xs ys : List ℕ) (i : ℕ) → slice_get (xs ++ ys) (length xs + i) ≡ slice_get ys i
 get_behind [] ys i = let same : 0 + i ≡ i = omega arith in ap (slice_get ys) same
 get_behind (x ∷ xs) ys i =
     let same : length (x ∷ xs) + i ≡ suc (length xs + i) = omega arith in
     ap (slice_get (x ∷ (xs ++ ys))) same ∙ get_behind xs ys i
 
+-- the slots of an inner row follow its four fields and its keys
 pub get-words_of_slot : (r : InnerRow) (i : ℕ)
     → slice_get (words_of (Inner r)) (4 + length r.keys + i) ≡ slice_get r.slots i
 get-words_of_slot r i =
@@ -81,7 +82,7 @@ stands_set words base j word p q below is h k less = at (eqb_tells k j)
         get-set_other words (base + j) (base + k) word apart ∙ h k (omega arith) ∙ sym
         (ap (λ ws. slice_get ws k) is ∙ get-set_other (words_of p) j k word e.1)
 
--- a row that the place is no part of
+-- a row that doesn't cover the place keeps its words when the place is written
 pub stands_other : (words : List ℕ) (base place word : ℕ) (p : Piece)
     → (place < base) ⊎ (base + size_of p ≤ place) → StandsAt words base p
     → StandsAt (slice_set words place word) base p
@@ -97,7 +98,7 @@ module _ (t u : Snapshot) (words : List ℕ) (image : IsImage t words)
     (within : (base : ℕ) (p : Piece) → u.pieces base ≡ Some p → IsWithin u base (size_of p))
     (apart : (base other : ℕ) (p q : Piece) → u.pieces base ≡ Some p → u.pieces other ≡ Some q →
     base ≢ other → Apart base (size_of p) other (size_of q)) where
-  -- a word of a row is written, behind rows that stand
+  -- the image after a word of a row is written, if the rows are in the words
   pub image_row : (ps : Pieces) (node j word : ℕ) (p : Piece) (f : Piece → Piece)
       → ((base : ℕ) (q : Piece) → ps base ≡ Some q → StandsAt words base q) → u.anchor ≡ t.anchor
       → ps node ≡ Some p → u.pieces ≡ changed_at ps node f → j < length (words_of p)
@@ -226,7 +227,7 @@ module _ (t u : Snapshot) (words : List ℕ) (image : IsImage t words)
           → slot_place node r.degree i ≡ node + (4 + length r.keys + i)
       number keys = omega arith
 
--- the word of a slot stands at its place
+-- the word of a slot is at its place
 pub slot_found : (t : Snapshot) (words : List ℕ) (node i word : ℕ) → IsImage t words
     → t.pieces anchor ≡ None
     → ((base : ℕ) (r : InnerRow) → t.pieces base ≡ Some (Inner r) → HasDegree r)

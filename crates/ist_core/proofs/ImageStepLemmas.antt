@@ -41,7 +41,7 @@ left_found o v w e f same = subst (λ x. x.left ≡ x.found) (one o e f) same
     one x a b = cc
 
 module _ (pairs : List Pair) (words : ℕ) (opens : CanOpen pairs words) where
-  -- slots may be written behind a log from a new table
+  -- slots may be written after a log from a new table
   pub slots_ready : (log : Log) → EachEnabled (start pairs words) log
       → SlotsReady (state_of pairs words log)
   slots_ready log h =

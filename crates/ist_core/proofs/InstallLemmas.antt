@@ -13,7 +13,7 @@ use Rattle.ist_core.proofs.RowLemmas.{with_row-some, with_row-other}
 use Rattle.ist_core.proofs.SizeLemmas.{size_of-inner_of}
 use Rattle.ist_core.proofs.PublishingLemmas.{Stands, stands-with_row, stands_here, Publishes}
 
--- a leaf has as many words as it was read from
+-- a leaf has the number of words that it was read from
 size_of-leaf_of : (words : List ℕ) (p : Piece) → leaf_of words ≡ Some p → size_of p ≡ length words
 size_of-leaf_of [] p e = absurd (cc)
 size_of-leaf_of (a ∷ []) p e = absurd (cc)
@@ -21,7 +21,7 @@ size_of-leaf_of (a ∷ b ∷ []) p e = let is : Leaf record { key = a; value = b
     (λ q. size_of q ≡ 2) is refl
 size_of-leaf_of (a ∷ b ∷ c ∷ words) p e = absurd (cc)
 
--- a rebuild has as many words as it was read from
+-- a rebuild has the number of words that it was read from
 size_of-rebuild_of : (words : List ℕ) (p : Piece) → rebuild_of words ≡ Some p
     → size_of p ≡ length words
 size_of-rebuild_of [] p e = absurd (cc)
@@ -34,7 +34,7 @@ size_of-rebuild_of (a ∷ b ∷ c ∷ d ∷ f ∷ []) p e =
     subst (λ q. size_of q ≡ 5) is refl
 size_of-rebuild_of (a ∷ b ∷ c ∷ d ∷ f ∷ g ∷ words) p e = absurd (cc)
 
--- a fresh row behind the change is read as one or the other
+-- what a fresh row after the change's is read as, by the kind of the change
 fresh_of : ChangeRow → List ℕ → Option Piece
 fresh_of change words = if change.kind == start_kind then rebuild_of words else leaf_of words
 
@@ -48,7 +48,7 @@ size_of-fresh_of change words p e =
       | false ↦ λ f. size_of-leaf_of words p f
     ] e
 
--- what stands behind the fresh rows stood there, or is one of them
+-- each row after the fresh rows are published was there before, or is one of them
 fresh-some : (ps : Pieces) (change : ChangeRow) (rows : List Row) (base : ℕ) (q : Piece)
     → with_fresh ps change rows base ≡ Some q
     → (ps base ≡ Some q) ⊎ ((row : Row) × Among row rows × (row.base ≡ base) ×
@@ -67,7 +67,7 @@ fresh-some ps change (pair ∷ leaf ∷ []) base q e =
     q e)
 fresh-some ps change (a ∷ b ∷ c ∷ rows) base q e = inl e
 
--- where no fresh row lies, what stood there stands there
+-- at a base that no fresh row has, the row is the same as before
 fresh-other : (ps : Pieces) (change : ChangeRow) (rows : List Row) (base : ℕ)
     → ¬ (Among base (bases_of rows)) → with_fresh ps change rows base ≡ ps base
 unfolding fresh_of
@@ -92,7 +92,7 @@ inner_of-pair_row key base other_key other =
       | false ↦ refl
     ]
 
--- each fresh row of a change stands behind it
+-- each fresh row of a change is published with it
 fresh_named : (ps : Pieces) (first : Snapshot) (log : Log) (change : ChangeRow) (fresh : List Row)
     → FitsKind first log change fresh
     → (row : Row) → Among row fresh → Stands (with_fresh ps change fresh) row.base

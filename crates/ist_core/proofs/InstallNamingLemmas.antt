@@ -39,6 +39,7 @@ over_names ps at key left right gl gr l r (suc zero) word e =
     (subst (λ o. SlotNames ps at 1 o) (sym (ref_of-word_of (LeafAt right) gr)) r)
 over_names ps at key left right gl gr l r (suc (suc i)) word e = absurd (cc)
 
+-- a pair row over two leaves names them
 pub pair_names : (ps : Pieces) (at key base other_key other : ℕ) → IsGoodBase base
     → IsGoodBase other → LeafHere ps base → LeafHere ps other
     → RowNames ps at (pair_row key base other_key other)
@@ -121,7 +122,7 @@ module _ (first : Snapshot) (log : Log) (caller at : ℕ) (change : ChangeRow) (
       subst (λ o. SideNames (state first log).pieces change.node change.index o) (sym h.from)
       (subst (λ o. SlotNames (state first log).pieces change.node change.index o) h.from slot)
 
-  -- a fresh row stands
+  -- a fresh row is published
   stands : (fits : FitsKind first log change fresh) (base : ℕ) (p : Piece)
       → IsFresh first log change fresh fits base p → qs base ≡ Some p
   stands fits base p f = ap (λ ps. ps base) is ∙ fresh_stands first log caller at change fresh sound
@@ -166,7 +167,7 @@ module _ (first : Snapshot) (log : Log) (caller at : ℕ) (change : ChangeRow) (
       (side_grows (state first log).pieces qs grows change.node change.index (ref_of h.row.root)
       side)
 
-  -- what the fresh rows name. A pair row names the leaf that stands in the slot and the new one
+  -- what the fresh rows name. A pair row names the leaf that is in the slot and the new one
   fresh_names : (fits : FitsKind first log change fresh)
       → ((base : ℕ) (p : Piece) → qs base ≡ Some p → IsGoodBase base) → (base : ℕ) (p : Piece)
       → IsFresh first log change fresh fits base p → RowNames qs base p

@@ -28,7 +28,7 @@ use Rattle.ist_core.proofs.FinishedLemmas.{finished_passed}
 abbrev pub IsFinished : Snapshot → ℕ → Type 0
 IsFinished t node = (k : ℕ) × IsFinishedWith t node k
 
--- an inner row that the reference names is such
+-- an inner row that the reference names is done
 abbrev pub IsClosed : (ℕ → Type 0) → Option Ref → Type 0
 IsClosed Done ref = (child : ℕ) → ref ≡ Some (InnerAt child) → Done child
 
@@ -39,7 +39,7 @@ ReadAlike ps qs Done (w ∷ ws) (v ∷ vs) = (logical ps w ≡ logical qs v) × 
     (logical ps w) × ReadAlike ps qs Done ws vs
 ReadAlike ps qs Done _ _ = ⊥
 
--- a row of the first stands in the second, with slots that read alike
+-- a row of the first is also in the second, with slots that read the same
 pub record StandsAlike (ps qs : Pieces) (Done : ℕ → Type 0) (base : ℕ) (r : InnerRow) : Type 0 where
   pub row : InnerRow
   pub published : qs base ≡ Some (Inner row)
@@ -50,6 +50,7 @@ module _ (ps qs : Pieces) (Done : ℕ → Type 0)
     (row : (base : ℕ) (r : InnerRow) → Done base → ps base ≡ Some (Inner r) → StandsAlike ps qs Done
     base r) where
   mutual
+    -- the leaves below a reference stay if the inner row that it names, if any, is done
     pub leaves_stay : (ref : Option Ref) (leaves : List PlacedLeaf) → HasLeaves ps ref leaves
         → IsClosed Done ref → HasLeaves qs ref leaves
     leaves_stay _ _ none_here closed = none_here
@@ -156,7 +157,7 @@ module _ (pairs : List Pair) (words : ℕ) (opens : CanOpen pairs words) where
                 ));
           }
 
-  -- and so do all events behind a log
+  -- the leaves below a finished row stay the same after all events of a longer log
   pub finished_leaves_stay : (earlier log : Log) → GoesOn earlier log
       → EachEnabled (start pairs words) log → (node : ℕ) (leaves : List PlacedLeaf)
       → IsFinished (state_of pairs words earlier) node

@@ -1,5 +1,5 @@
--- The keys of each inner row rise, and so do the leaves below each slot. Serves
--- `laws.leaves_lie_by_key`.
+-- The keys of each inner row are strictly increasing, and so are the keys of the leaves below each
+-- slot. Serves `laws.leaves_lie_by_key`.
 use Rattle.std.proofs.Common.{◌≡◌, ℕ, ◌+◌, ◌≤◌, ◌⊎◌, nat_lt, if◌then◌else◌, true, false, List, [], ◌∷◌, length, map, Some, refl, sym, ap, subst, inl, inr, arith}
 use Rattle.std.specs.List.Sorted.{IsStrictlyIncreasing}
 use Rattle.ist_core.specs.declared.pairs.Pair.{Pair}
@@ -45,7 +45,7 @@ use Rattle.ist_core.proofs.LeafLemmas.{same_leaves}
 use Rattle.ist_core.proofs.LeafBuildLemmas.{target_lies}
 use Rattle.ist_core.proofs.LeafOrderLemmas.{next_from_rises, pairs_rise, leaves_lie}
 
--- the keys of the row rise, if it is an inner row
+-- the keys of the row are strictly increasing, if it is an inner row
 abbrev pub HasRisingKeys : Piece → Type 0
 HasRisingKeys (Inner r) = Rising r.keys
 HasRisingKeys _ = Unit {0}
@@ -79,7 +79,7 @@ installed_rising first log at change fresh (a_start f) base p (inr h) = subst Ha
     (sym h.1) tt
 installed_rising first log at change fresh (a_finish f) base p (inr h) = absurd h
 
--- the rows of a root over rising leaves
+-- the rows of a root over leaves with strictly increasing keys
 root_rising : (ps : Pieces) (word k : ℕ) (leaves : List PlacedLeaf) (target : ℕ) (rows : List ℕ)
     → Rises key_of_leaf leaves → IsRoot ps word k leaves target rows → Each (StandsRising ps) rows
 root_rising ps word k leaves target rows rise (root_whole ref few e ideal) = split_rises key_of_leaf
@@ -151,7 +151,7 @@ module _ (pairs : List Pair) (words : ℕ) (opens : CanOpen pairs words) where
           (split_rises (λ pair. pair.key) (start pairs words).pieces (tree_at first_row pairs) pairs
           hang.rows hang.splits (pairs_rise pairs words opens)) k e
 
-  -- behind a log from a new table the keys of each inner row rise
+  -- after a log from a new table the keys of each inner row are strictly increasing
   pub keys_rising : (log : Log) → EachEnabled (start pairs words) log → (base : ℕ) (p : Piece)
       → (state_of pairs words log).pieces base ≡ Some p → HasRisingKeys p
   keys_rising [] h base p e = start_rising base p e
@@ -167,7 +167,7 @@ module _ (pairs : List Pair) (words : ℕ) (opens : CanOpen pairs words) where
 
   -- ---- the laws
 
-  -- where a key leads to a linked node by what is named, it leads to it by children for the key
+  -- if a key leads to a linked node by what is named, it leads to it by the children for the key
   led_leads : (log : Log) → EachEnabled (start pairs words) log → (key node : ℕ)
       → Linked (state_of pairs words log) node → LedTo (state_of pairs words log) key node
       → Leads (state_of pairs words log) key node
@@ -194,7 +194,7 @@ module _ (pairs : List Pair) (words : ℕ) (opens : CanOpen pairs words) where
       in
       (led_leads log h row.key node linked lies.led, lies.child_for)
 
-  -- the leaves below a slot rise
+  -- the leaves below a slot have strictly increasing keys
   leaves_rise : (log : Log) → EachEnabled (start pairs words) log → (node i word : ℕ)
       (leaves : List PlacedLeaf) → SlotHolds (state_of pairs words log) node i word
       → HasLeaves (state_of pairs words log).pieces (logical (state_of pairs words log).pieces word)
@@ -207,6 +207,7 @@ module _ (pairs : List Pair) (words : ℕ) (opens : CanOpen pairs words) where
       (anchor_free pairs words log h) (leaves_lie pairs words opens log h) has node i
       (slot_reads_as t node i word o slot)).1
 
+  -- the keys of the leaves below a slot are strictly increasing, each below the next
   pub leaves_rising : (log : Log) → EachEnabled (start pairs words) log → (node i word : ℕ)
       (leaves : List PlacedLeaf) → SlotHolds (state_of pairs words log) node i word
       → HasLeaves (state_of pairs words log).pieces (logical (state_of pairs words log).pieces word)
@@ -215,7 +216,7 @@ module _ (pairs : List Pair) (words : ℕ) (opens : CanOpen pairs words) where
   leaves_rising log h node i word leaves slot has = next_from_rises key_of_leaf leaves
       (leaves_rise log h node i word leaves slot has)
 
-  -- the contents rise
+  -- the contents have strictly increasing keys
   pub contents_rising : (log : Log) → EachEnabled (start pairs words) log → (contents : List Pair)
       → HasContents (state_of pairs words log) contents
       → IsStrictlyIncreasing (map (λ pair. pair.key) contents)

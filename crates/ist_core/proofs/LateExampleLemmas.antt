@@ -92,7 +92,7 @@ change_reserved =
     apart (inl e) = omega arith
     apart (inr e) = e
 
--- the target hangs below the anchor, behind the rebuild
+-- the target hangs below the anchor, under the rebuild
 target_hangs : IsChild (state two late_reserved) 2 0 4
 unfolding ref_of
 target_hangs = record { word = 124; holds = in_anchor refl refl refl; reads = refl }
@@ -189,7 +189,7 @@ resolved = record {
   in_slot = in_row (target 1 0 251) refl refl;
 }
 
--- the chain of the target has the target alone
+-- the chain of the target is only the target
 target_chain : Chain (state two late_resolved) 4 (4 ∷ [])
 unfolding ref_of
 target_chain = one_row 0 no_row record

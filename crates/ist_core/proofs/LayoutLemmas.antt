@@ -1,4 +1,4 @@
--- The rows of a new table lie one behind another. Serves `laws.rows_lie_apart`.
+-- The rows of a new table lie one after another. Serves `laws.rows_lie_apart`.
 use Rattle.std.proofs.Common.{◌≡◌, ◌≢◌, ℕ, zero, suc, ◌+◌, ◌<◌, ◌≤◌, ◌⊎◌, List, [], ◌∷◌, ◌++◌, length, take, drop, map, zip, refl, sym, ap, ◌∙◌, subst, inl, inr, arith, length-drop, length-append}
 use Rattle.std.specs.List.{sum, sum_by, flat_map, range_with_len}
 use Rattle.std.proofs.lemmas.List.{length-take-le, length-map}
@@ -18,24 +18,24 @@ use Rattle.ist_core.proofs.ShapeLemmas.{ideal_words_many}
 use Rattle.ist_core.proofs.PartLemmas.{sum-part_lens, part_len-lt, part_len-pos}
 use Rattle.ist_core.proofs.WordLemmas.{ideal_words_none, ideal_words_one}
 
--- the rows lie one behind another, and fill the words from the first place to the second
+-- the rows lie one after another, and fill the words from the first place to the second
 abbrev pub Fills : ℕ → List (ℕ × Piece) → ℕ → Type 0
 Fills from [] to = from ≡ to
 Fills from (row ∷ rows) to = (row.0 ≡ from) × Fills (from + size_of row.1) rows to
 
--- rows behind rows
+-- rows that fill two adjoining ranges fill both together
 fills_append : (from mid to : ℕ) (xs ys : List (ℕ × Piece)) → Fills from xs mid → Fills mid ys to
     → Fills from (xs ++ ys) to
 fills_append from mid to [] ys h k = subst (λ n. Fills n ys to) (sym h) k
 fills_append from mid to (x ∷ xs) ys h k =
     (h.0, fills_append (from + size_of x.1) mid to xs ys h.1 k)
 
--- they end behind where they begin
+-- rows don't end below their first place
 fills_le : (from to : ℕ) (xs : List (ℕ × Piece)) → Fills from xs to → from ≤ to
 fills_le from to [] h = omega arith
 fills_le from to (x ∷ xs) h = let rest = fills_le (from + size_of x.1) to xs h.1 in omega arith
 
--- each lies between the two places
+-- each of these rows lies between the two places
 pub fills_within : (from to : ℕ) (xs : List (ℕ × Piece)) (base : ℕ) (p : Piece) → Fills from xs to
     → Among (base, p) xs → (from ≤ base) × (base + size_of p ≤ to)
 fills_within from to [] base p h i = absurd i
@@ -50,7 +50,7 @@ fills_within from to (x ∷ xs) base p h (inr i) =
     let low = rest.0 in
     (omega arith, rest.1)
 
--- two of them at different bases share no word
+-- two of these rows at different bases share no word
 pub fills_apart : (from to : ℕ) (xs : List (ℕ × Piece)) (base other : ℕ) (p q : Piece)
     → Fills from xs to → Among (base, p) xs → Among (other, q) xs → base ≢ other
     → (base + size_of p ≤ other) ⊎ (other + size_of q ≤ base)
@@ -76,7 +76,7 @@ fills_apart from to (x ∷ xs) base other p q h (inr i) (inr j) differ = fills_a
 
 -- ---- the size of a top row
 
--- the numbers fit: none of them is 0, and together they are at most as many as the list is long
+-- none of the numbers is 0
 abbrev pub AllSome : List ℕ → Type 0
 AllSome ns = Each (λ n. 0 < n) ns
 
@@ -94,7 +94,7 @@ length_zipped [] ys e = refl
 length_zipped (x ∷ xs) [] e = absurd (omega arith)
 length_zipped (x ∷ xs) (y ∷ ys) e = let rest = length_zipped xs ys (omega arith) in omega arith
 
--- no part is empty, so that each has a first key
+-- if no part is empty, there is one first key for each part
 length-first_keys : {A : Type 0} (key : A → ℕ) (ns : List ℕ) (xs : List A) → AllSome ns
     → sum ns ≤ length xs → length (first_keys key (cut ns xs)) ≡ length ns
 length-first_keys key [] xs some fits = refl
@@ -107,7 +107,7 @@ length-first_keys key (suc n ∷ ns) (x ∷ xs) some fits =
     let rest = length-first_keys key ns (drop (suc n) (x ∷ xs)) some.1 (omega arith) in
     omega arith
 
--- the same for all but the first part
+-- there is one first key for each part but the first
 keys_behind_first : {A : Type 0} (key : A → ℕ) (ns : List ℕ) (xs : List A) → AllSome ns
     → sum ns ≤ length xs → 1 ≤ length ns
     → length (first_keys key (drop 1 (cut ns xs))) + 1 ≡ length ns
@@ -127,6 +127,7 @@ pub part_lens_some : (n : ℕ) → 2 ≤ n → AllSome (part_lens n)
 unfolding part_lens
 part_lens_some n h = mapped_some n (range_with_len 0 (degree n)) h
 
+-- there is one length for each child
 pub length-part_lens : (n : ℕ) → length (part_lens n) ≡ degree n
 unfolding part_lens
 length-part_lens n = length-map-range_with_len (part_len n) 0 (degree n)
@@ -142,11 +143,11 @@ keys_of_parts key xs two =
     in
     omega arith
 
--- and as many parts as its degree says
+-- the number of parts is the degree
 pub length-parts : {A : Type 0} (xs : List A) → length (parts xs) ≡ degree (length xs)
 length-parts xs = length-cut (part_lens (length xs)) xs ∙ length-part_lens (length xs)
 
--- a top row has as many slots as its degree says
+-- the number of a top row's slots is the degree
 pub slots_of-top_row : (base : ℕ) (pairs : List Pair)
     → length (map (λ part. word_of (tree_at part.0 part.1)) (placed_parts base pairs)) ≡ degree
     (length pairs)
@@ -161,7 +162,7 @@ slots_of-top_row base pairs =
     let slots = length-map (placed_parts base pairs) (λ part. word_of (tree_at part.0 part.1)) in
     omega arith
 
--- a top row has as many words as its degree says
+-- the number of a top row's words follows from the degree
 size_of-top_row : (base : ℕ) (pairs : List Pair) → 2 ≤ length pairs
     → size_of (top_row base pairs) ≡ inner_words (degree (length pairs))
 size_of-top_row base pairs two =
@@ -173,7 +174,7 @@ size_of-top_row base pairs two =
 
 -- ---- all rows
 
--- the trees of parts fill their words, where each does
+-- the trees of the parts fill their words if each tree does
 fills_parts : (fuel from : ℕ) (ns : List ℕ) (xs : List Pair) → sum ns ≤ length xs
     → ((n base : ℕ) (part : List Pair) → Among n ns → length part ≡ n → Fills base
     (rows_within fuel base part) (base + ideal_words n))
@@ -196,12 +197,13 @@ fills_parts fuel from (n ∷ ns) xs fits each =
     (rows_within fuel from (take n xs)) more here
     (subst (λ to. Fills (from + ideal_words n) more to) end rest)
 
--- a part is one of the lengths
+-- the length of a part is one of the lengths
 among_parts : (n x : ℕ) (js : List ℕ) → Among x (map (part_len n) js) → (j : ℕ) × (x ≡ part_len n j)
 among_parts n x [] i = absurd i
 among_parts n x (j ∷ js) (inl e) = (j, e)
 among_parts n x (j ∷ js) (inr i) = among_parts n x js i
 
+-- each length in the list is the length of some part
 pub among_part_lens : (n x : ℕ) → Among x (part_lens n) → (j : ℕ) × (x ≡ part_len n j)
 unfolding part_lens
 among_part_lens n x i = among_parts n x (range_with_len 0 (degree n)) i

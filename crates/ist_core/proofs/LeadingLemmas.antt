@@ -1,4 +1,4 @@
--- By which slots a key leads to a node, from the anchor on. Upward over what is named, so that it
+-- By which slots a key leads to a node from the anchor, through what is named for slots: this only
 -- grows. Serves the order law.
 use Rattle.std.proofs.Common.{◌≡◌, ℕ, List, [], ◌∷◌, Some, None, refl, sym, ap, ◌∙◌, subst, inl, inr, ⊎_elim}
 use Rattle.ist_core.specs.declared.pairs.Pair.{Pair}
@@ -25,8 +25,7 @@ use Rattle.ist_core.proofs.OrderLemmas.{names}
 use Rattle.ist_core.proofs.HomeLemmas.{Says, Mentions, HasOneHome, mentioned_here}
 use Rattle.ist_core.proofs.MentionLemmas.{mentions_step, child_mentioned}
 
--- the key leads to the node: by way of slots for it, each of which the next row on the way is named
--- for
+-- the key leads to the node, through slots for the key: the next row on the way is named for each
 pub data LedTo (t : Snapshot) (key : ℕ) : ℕ → Type 0 where
   to_anchor : LedTo t key anchor
   to_child : {node child : ℕ} (i : ℕ) → LedTo t key node → IsChildFor t node key i
@@ -41,7 +40,7 @@ pub record LiesIn (t : Snapshot) (key node i : ℕ) : Type 0 where
 abbrev pub LeafLies : Snapshot → ℕ → ℕ → ℕ → Type 0
 LeafLies t node i leaf = (r : LeafRow) → t.pieces leaf ≡ Some (Leaf r) → LiesIn t r.key node i
 
--- all leaves of the table lie so
+-- all leaves of the table lie as their keys lead
 pub record LeavesLie (t : Snapshot) : Type 0 where
   pub each : (node i leaf : ℕ) → Mentions t node i (LeafAt leaf) → LeafLies t node i leaf
 
@@ -105,7 +104,7 @@ mentioned_leaf t node i leaf o (inr h) = at h.1 (o.rows h.0 h.1 h.2) h.3
         clash : (a b : ℕ) → InnerAt a ≡ LeafAt b → ⊥
         clash a b e = cc
 
--- the way by logical slots is one by what is named
+-- a way through logical slots is one through what is named for slots
 pub leads_led : (t : Snapshot) (key node : ℕ) → WordsName t → Leads t key node → LedTo t key node
 leads_led t key _ o from_anchor = to_anchor
 leads_led t key _ o (down {node = node} {child = child} i way for is) = to_child i
@@ -114,6 +113,7 @@ leads_led t key _ o (down {node = node} {child = child} i way for is) = to_child
 -- ---- growth
 
 module _ (pairs : List Pair) (words : ℕ) (opens : CanOpen pairs words) where
+  -- the child for a key stays the same after an event
   pub child_for_step : (log : Log) (event : Event) → EachEnabled (start pairs words) (event ∷ log)
       → (node key i : ℕ) → IsChildFor (state_of pairs words log) node key i
       → IsChildFor (state_of pairs words (event ∷ log)) node key i
@@ -125,6 +125,7 @@ module _ (pairs : List Pair) (words : ℕ) (opens : CanOpen pairs words) where
       (state_of pairs words (event ∷ log)).pieces grows node r e in
       of_row it.0 it.1 (is ∙ ap (λ ks. child_count ks key) (sym it.2.keys))
 
+  -- a key that led to a node leads to it after an event
   pub led_step : (log : Log) (event : Event) → EachEnabled (start pairs words) (event ∷ log)
       → (key node : ℕ) → LedTo (state_of pairs words log) key node
       → LedTo (state_of pairs words (event ∷ log)) key node
@@ -134,6 +135,7 @@ module _ (pairs : List Pair) (words : ℕ) (opens : CanOpen pairs words) where
       (mentions_step pairs words opens log event h node i (InnerAt child) (λ base e. cc)
       (λ e. cc) m)
 
+  -- a key that led to a slot leads to it after an event
   pub lies_step : (log : Log) (event : Event) → EachEnabled (start pairs words) (event ∷ log)
       → (key node i : ℕ) → LiesIn (state_of pairs words log) key node i
       → LiesIn (state_of pairs words (event ∷ log)) key node i
@@ -143,7 +145,7 @@ module _ (pairs : List Pair) (words : ℕ) (opens : CanOpen pairs words) where
         key i lies.child_for;
   }
 
-  -- a key that led to a node leads to it
+  -- a key that led to a node by children leads to it by what is named
   pub was_led : (log : Log) → EachEnabled (start pairs words) log → (key node : ℕ)
       → WasLedTo (start pairs words) log key node → LedTo (state_of pairs words log) key node
   was_led [] h key node way = leads_led (start pairs words) key node (names pairs words opens [] h)

@@ -1,4 +1,4 @@
--- A Root and a Place keep that leaves lie where their keys lead. Serves the order law.
+-- After a Root and a Place leaves still lie where their keys lead. Serves the order law.
 use Rattle.std.proofs.Common.{◌≡◌, ℕ, ◌≤◌, List, length, drop, Some, None, option_map, refl, sym, ap, ◌∙◌, subst, inl, inr}
 use Rattle.ist_core.specs.declared.lists.Row.{Row}
 use Rattle.ist_core.specs.declared.states.LeafRow.{LeafRow}
@@ -36,7 +36,8 @@ use Rattle.ist_core.proofs.LyingLemmas.{parts_lie, split_lies}
 use Rattle.ist_core.proofs.RootKeyLemmas.{IsCutBy}
 use Rattle.ist_core.proofs.LeafStepLemmas.{LiesOn, lies_from, same_ref, tree_says, root_lies}
 
--- the leaves of a rebuild's target lie where the rebuild is for, and rise
+-- the leaves of a rebuild's target lie in the slot that the rebuild is for, and their keys are
+-- strictly increasing
 pub target_lies : (t : Snapshot) (rebuild : ℕ) (row : RebuildRow) (leaves : List PlacedLeaf)
     → t.pieces rebuild ≡ Some (Rebuild row) → WordsName t → HasOneHome t
     → t.pieces anchor ≡ None → LeavesLie t
@@ -101,7 +102,7 @@ lies_root t caller rebuild word rows h sound names home free grows on lie =
         (Rebuild record h.row { root = word })
     rooted qs e = changed_at-same qs rebuild (with_root word) ∙ ap (option_map (with_root word)) e
 
--- a Place puts one over a part of them into the slot of this part
+-- a Place puts a tree over a part of these leaves into the slot of this part
 pub lies_place : (t : Snapshot) (caller rebuild i word : ℕ) (rows : List Row)
     → (h : CanPlace t caller rebuild i word rows) → HeldLieApart t → WordsName t → HasOneHome t
     → t.pieces anchor ≡ None

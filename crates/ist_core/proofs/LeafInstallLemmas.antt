@@ -1,4 +1,4 @@
--- An Install keeps that leaves lie where their keys lead. Serves the order law.
+-- After an Install leaves still lie where their keys lead. Serves the order law.
 use Rattle.std.proofs.Common.{◌≡◌, ◌≢◌, ℕ, zero, suc, ◌<◌, ◌≤◌, ◌⊎◌, nat_lt, if◌then◌else◌, true, false, List, [], ◌∷◌, slice_get, Option, Some, refl, sym, ap, ◌∙◌, subst, inl, inr, ⊎_elim, arith}
 use Rattle.ist_core.specs.declared.lists.Row.{Row}
 use Rattle.ist_core.specs.declared.states.LeafRow.{LeafRow}

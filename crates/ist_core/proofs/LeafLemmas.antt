@@ -18,6 +18,7 @@ Reached ps (Some (InnerAt base)) leaves = (r : InnerRow) × (ps base ≡ Some (I
     SlotsHaveLeaves ps r.slots leaves
 Reached ps _ leaves = ⊥
 
+-- the leaves below a reference are reached from it
 pub reached : (ps : Pieces) (ref : Option Ref) (leaves : List PlacedLeaf) → HasLeaves ps ref leaves
     → Reached ps ref leaves
 reached ps _ _ none_here = refl
@@ -31,6 +32,7 @@ SlotsReached ps (word ∷ words) leaves =
     (here : List PlacedLeaf) × (rest : List PlacedLeaf) × HasLeaves ps (logical ps word) here ×
     SlotsHaveLeaves ps words rest × (leaves ≡ here ++ rest)
 
+-- the leaves below some slots are reached from them
 pub slots_reached : (ps : Pieces) (words : List ℕ) (leaves : List PlacedLeaf)
     → SlotsHaveLeaves ps words leaves → SlotsReached ps words leaves
 slots_reached ps _ _ no_slot = refl
@@ -43,6 +45,7 @@ same_inner : (x : Option Piece) (r s : InnerRow) → x ≡ Some (Inner r) → x 
 same_inner x r s e f = cc
 
 mutual
+  -- a reference has one list of leaves
   pub same_leaves : (ps : Pieces) (ref : Option Ref) (xs ys : List PlacedLeaf) → HasLeaves ps ref xs
       → HasLeaves ps ref ys → xs ≡ ys
   same_leaves ps _ _ ys none_here other = sym (reached ps (Some Empty) ys other)

@@ -1,5 +1,5 @@
--- Behind a lawful log each leaf lies where its key leads, and the keys of each inner row rise.
--- Serves `laws.leaves_lie_by_key`.
+-- After a lawful log each leaf lies where its key leads, and the keys of each inner row are
+-- strictly increasing. Serves `laws.leaves_lie_by_key`.
 use Rattle.std.proofs.Common.{◌≡◌, ℕ, zero, suc, ◌+◌, ◌<◌, ◌⊎◌, List, [], ◌∷◌, length, map, slice_index, Some, refl, sym, subst, inl, inr, arith}
 use Rattle.std.specs.List.Sorted.{IsStrictlyIncreasing}
 use Rattle.ist_core.specs.declared.pairs.Pair.{Pair}
@@ -47,7 +47,7 @@ use Rattle.ist_core.proofs.LeafStepLemmas.{LiesOn, lies_from, lies_same, lies_ch
 use Rattle.ist_core.proofs.LeafBuildLemmas.{lies_root, lies_place}
 use Rattle.ist_core.proofs.LeafInstallLemmas.{installed_lies}
 
--- ---- rising numbers in the words of the definitions
+-- ---- strictly increasing numbers in the words of the definitions
 
 module _ {A : Type 0} (key : A → ℕ) where
   above_all : (low x : ℕ) (xs : List A) → low < x → Each (λ y. x < key y) xs
@@ -55,7 +55,7 @@ module _ {A : Type 0} (key : A → ℕ) where
   above_all low x [] less h = tt
   above_all low x (y ∷ ys) less h = let first = h.0 in (omega arith, above_all low x ys less h.1)
 
-  -- elements whose keys rise, each below the next
+  -- in a list with strictly increasing keys, each key is below all later ones
   pub rises_from_next : (xs : List A) → IsStrictlyIncreasing (map key xs) → Rises key xs
   rises_from_next [] h = tt
   rises_from_next (x ∷ []) h = (tt, tt)
@@ -67,7 +67,7 @@ module _ {A : Type 0} (key : A → ℕ) where
       (h (suc k) (omega arith))) in
       ((less, above_all (key x) (key y) ys less rest.0), rest)
 
--- numbers that rise, each below the next
+-- if numbers are strictly increasing, each is below the next
 pub next_from_rising : (xs : List ℕ) → Rising xs → IsStrictlyIncreasing xs
 next_from_rising [] h k short = absurd (omega arith)
 next_from_rising (x ∷ []) h k short = absurd (omega arith)
@@ -77,7 +77,7 @@ next_from_rising (x ∷ y ∷ ys) h (suc k) short =
     (let e : suc (k + 1) ≡ suc k + 1 = omega arith in e)
     (next_from_rising (y ∷ ys) h.1 k (omega arith))
 
--- the keys of elements that rise
+-- if elements have strictly increasing keys, each key is below the next
 pub next_from_rises : {A : Type 0} (key : A → ℕ) (xs : List A) → Rises key xs → IsStrictlyIncreasing
     (map key xs)
 next_from_rises {A = A} key xs h = next_from_rising (map key xs) (keys xs h)
@@ -93,7 +93,7 @@ next_from_rises {A = A} key xs h = next_from_rising (map key xs) (keys xs h)
 module _ (pairs : List Pair) (words : ℕ) (opens : CanOpen pairs words) where
   -- ---- a new table
 
-  -- the keys of the start pairs rise
+  -- the keys of the start pairs are strictly increasing
   pub pairs_rise : Rises (λ pair. pair.key) pairs
   pairs_rise = rises_from_next (λ pair. pair.key) pairs opens.rising
 
@@ -262,7 +262,7 @@ module _ (pairs : List Pair) (words : ℕ) (opens : CanOpen pairs words) where
   lies_behind log (Lose caller bases) h lie = lies_same _ _ (grows log (Lose caller bases) h)
       (on log (Lose caller bases) h) (names pairs words opens log h.0) lie refl refl
 
-  -- behind a log from a new table each leaf lies where its key leads
+  -- after a log from a new table each leaf lies where its key leads
   pub leaves_lie : (log : Log) → EachEnabled (start pairs words) log
       → LeavesLie (state_of pairs words log)
   leaves_lie [] h = lies_start

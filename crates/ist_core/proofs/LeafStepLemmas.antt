@@ -1,4 +1,4 @@
--- Events keep that leaves lie where their keys lead: all but an Install. Serves the order law.
+-- After each event but an Install leaves still lie where their keys lead. Serves the order law.
 use Rattle.std.proofs.Common.{◌≡◌, ℕ, zero, suc, ◌⊎◌, ◌==◌, if◌then◌else◌, true, false, List, length, replicate, slice_get, Option, Some, None, refl, sym, ap, ◌∙◌, subst, inl, inr}
 use Rattle.ist_core.specs.declared.states.LeafRow.{LeafRow}
 use Rattle.ist_core.specs.declared.states.InnerRow.{InnerRow}
@@ -29,11 +29,12 @@ use Rattle.ist_core.proofs.SplitLemmas.{key_of_leaf, ideal_splits}
 use Rattle.ist_core.proofs.LeadingLemmas.{LiesIn, LeafLies, LeavesLie, mentioned_leaf}
 use Rattle.ist_core.proofs.LyingLemmas.{RowLies, split_lies}
 
--- what leads to a slot leads to it behind the event
+-- each key that leads to a slot still leads to it after the event
 abbrev pub LiesOn : Snapshot → Snapshot → Type 0
 LiesOn t u = (key node i : ℕ) → LiesIn t key node i → LiesIn u key node i
 
--- where each leaf that is named was named before, or lies where its key leads, all do
+-- if each named leaf was named before or lies where its key leads, then all leaves lie where their
+-- keys lead
 pub lies_from : (t u : Snapshot) → AllGrow t.pieces u.pieces → LiesOn t u → WordsName t → LeavesLie
     t
     → AllCame LeafAt t (LeafLies u) u.pieces → WordCame LeafAt t (LeafLies u) anchor 0
@@ -85,6 +86,7 @@ lies_changed t u at f grows on names lie word pieces keeps =
 
 -- ---- Resolve
 
+-- after a Resolve leaves still lie where their keys lead
 pub lies_resolve : (t : Snapshot) (caller base : ℕ) → (h : CanResolve t caller base)
     → t.pieces anchor ≡ None → WordsName t → AllGrow t.pieces (after t (Resolve caller base)).pieces
     → LiesOn t (after t (Resolve caller base)) → LeavesLie t

@@ -1,5 +1,5 @@
--- Where the keys of a rising list lead to the slot of a tree over it, they lead to its leaves.
--- Serves the order law.
+-- If the keys of a strictly increasing list lead to the slot of a tree over it, they lead to its
+-- leaves. Serves the order law.
 use Rattle.std.proofs.Common.{◌≡◌, ℕ, zero, suc, ◌+◌, ◌≤◌, List, [], ◌∷◌, length, drop, slice_get, Option, Some, refl, sym, ap, ◌∙◌, subst, inl, inr, arith}
 use Rattle.ist_core.specs.declared.states.LeafRow.{LeafRow}
 use Rattle.ist_core.specs.declared.states.InnerRow.{InnerRow}
@@ -30,7 +30,7 @@ RefLies u node i ref = (leaf : ℕ) → ref ≡ LeafAt leaf → LeafLies u node 
 module _ {A : Type 0} (key : A → ℕ) (ps : Pieces) (u : Snapshot)
     (leaf_stands : (base : ℕ) (r : LeafRow) → ps base ≡ Some (Leaf r) → u.pieces base ≡ Some
     (Leaf r)) where
-  -- the rows stand in the table as they stand in the tree
+  -- these rows are the same in the table as in the tree
   abbrev pub RowsStand : List ℕ → Type 0
   RowsStand rows = (base : ℕ) (r : InnerRow) → Among base rows → ps base ≡ Some (Inner r) → u.pieces
       base ≡ Some (Inner r)
@@ -72,8 +72,8 @@ module _ {A : Type 0} (key : A → ℕ) (ps : Pieces) (u : Snapshot)
       each_from P (y ∷ ys) f = (f y (inl refl), each_from P ys (λ x k. f x (inr k)))
 
   mutual
-    -- where the keys of a rising list lead to the slot that a tree over it hangs in, they lead to
-    -- its leaves
+    -- if the keys of a strictly increasing list lead to the slot that a tree over the list hangs
+    -- in, they lead to the tree's leaves
     pub split_lies : (ref : Ref) (xs : List A) (rows : List ℕ) → Splits key ps ref xs rows
         → RowsStand rows → Rises key xs → (node i : ℕ) → Mentions u node i ref
         → AllLie xs node i → Each (RowLies u) rows × RefLies u node i ref

@@ -1,4 +1,4 @@
--- What is named for a slot stays named for it, so that a child hangs in one slot ever. Serves
+-- What is named for a slot stays named for it, so a child is only ever in one slot. Serves
 -- `laws.parents_are_one`.
 use Rattle.std.proofs.Common.{◌≡◌, ◌≢◌, ℕ, ◌⊎◌, ◌==◌, if◌then◌else◌, true, false, List, ◌∷◌, Option, Some, None, refl, sym, ap, ◌∙◌, subst, inl, inr, ⊎_elim}
 use Rattle.ist_core.specs.declared.pairs.Pair.{Pair}
@@ -164,7 +164,7 @@ module _ (pairs : List Pair) (words : ℕ) (opens : CanOpen pairs words) where
             ),
           )
 
-  -- over a whole log
+  -- what is named for a slot stays named for it over a whole log
   pub mentions_stay : (earlier log : Log) → GoesOn earlier log → EachEnabled (start pairs words) log
       → (node i : ℕ) (ref : Ref) → ((base : ℕ) → ref ≢ ChangeAt base) → ref ≢ Unset
       → Mentions (state_of pairs words earlier) node i ref
@@ -212,7 +212,7 @@ past_change_mentioned t node i word ref o slot e = at (ref_of word) refl
     at (Some (RebuildAt base)) is h f = slot_mentions t node i word ref slot (is ∙ f)
     at None is h f = absurd (cc)
 
--- so is what it reads as once rebuilds are read away, if that is an inner row
+-- the child in a slot is named for the slot
 pub child_mentioned : (t : Snapshot) (node i child : ℕ) → WordsName t → IsChild t node i child
     → Mentions t node i (InnerAt child)
 child_mentioned t node i child o c = at (past_change t.pieces (ref_of c.word)) refl c.reads

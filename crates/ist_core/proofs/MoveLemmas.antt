@@ -19,7 +19,7 @@ pub record HeldLieApart (t : Snapshot) : Type 0 where
   pub unpublished : (h : HeldRow) → Among h t.held → t.pieces h.base ≡ None
   pub once : (g h : HeldRow) → Among g t.held → Among h t.held → g.base ≡ h.base → g ≡ h
 
--- a row of so many words stands at the base
+-- there is a row of this size at the base
 abbrev pub StandsWith : Pieces → ℕ → ℕ → Type 0
 StandsWith ps base size = (p : Piece) × (ps base ≡ Some p) × (size_of p ≡ size)
 
@@ -36,7 +36,7 @@ pub record Moves (t u : Snapshot) (event : Event) : Type 0 where
 
 -- ---- what is given up
 
--- what is held still was held, and isn't at these bases
+-- a row that is still held was held, and isn't at these bases
 pub without-kept : (bases : List ℕ) (held : List HeldRow) (h : HeldRow)
     → Among h (without bases held) → Among h held × ¬ (Among h.base bases)
 without-kept bases held h i =
@@ -50,7 +50,7 @@ without-kept bases held h i =
     clash true e f = cc
     clash false e f = cc
 
--- what was held is held still, or is at one of these bases
+-- a row that was held is still held, or is at one of these bases
 pub without-fate : (bases : List ℕ) (held : List HeldRow) (h : HeldRow) → Among h held
     → Among h (without bases held) ⊎ Among h.base bases
 without-fate bases held h i = at (list_any (λ base. base == h.base) bases) refl
@@ -76,7 +76,7 @@ moves_same t u event next held pieces =
       fate = λ h i. inl (inl (subst (λ hs. Among h hs) (sym held) i));
     }
 
--- a changed row stands, with as many words
+-- after a row is changed, each row has its size as before
 pub stays-changed_at : (ps : Pieces) (at : ℕ) (f : Piece → Piece)
     → ((p : Piece) → size_of (f p) ≡ size_of p) → (base : ℕ) (p : Piece) → ps base ≡ Some p
     → StandsWith (changed_at ps at f) base (size_of p)

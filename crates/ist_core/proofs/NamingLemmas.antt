@@ -19,22 +19,22 @@ use Rattle.ist_core.proofs.SlotLemmas.{get-set_some}
 
 -- ---- what a word may name
 
--- a leaf stands at the base
+-- there is a leaf at the base
 abbrev pub LeafHere : Pieces → ℕ → Type 0
 LeafHere ps base = (r : LeafRow) × (ps base ≡ Some (Leaf r))
 
--- an inner row stands at the base
+-- there is an inner row at the base
 abbrev pub InnerHere : Pieces → ℕ → Type 0
 InnerHere ps base = (r : InnerRow) × (ps base ≡ Some (Inner r))
 
--- a rebuild for slot i of the node stands at the base
+-- there is a rebuild for slot i of the node at the base
 pub record IsRebuildFor (ps : Pieces) (node i base : ℕ) : Type 0 where
   pub row : RebuildRow
   pub published : ps base ≡ Some (Rebuild row)
   pub parent : row.parent ≡ node
   pub index : row.index ≡ i
 
--- a change of slot i of the node stands at the base
+-- there is a change of slot i of the node at the base
 pub record IsChangeFor (ps : Pieces) (node i base : ℕ) : Type 0 where
   pub row : ChangeRow
   pub published : ps base ≡ Some (Change row)
@@ -84,14 +84,17 @@ pub record WordsName (t : Snapshot) : Type 0 where
 
 -- ---- growing keeps names
 
+-- a leaf is still at its base when rows have grown
 pub leaf_here_grows : (ps qs : Pieces) → AllGrow ps qs → (base : ℕ) → LeafHere ps base
     → LeafHere qs base
 leaf_here_grows ps qs g base h = (h.0, leaf_there ps qs g base h.0 h.1)
 
+-- an inner row is still at its base when rows have grown
 pub inner_here_grows : (ps qs : Pieces) → AllGrow ps qs → (base : ℕ) → InnerHere ps base
     → InnerHere qs base
 inner_here_grows ps qs g base h = let it = inner_there ps qs g base h.0 h.1 in (it.0, it.1)
 
+-- a rebuild for a slot is still at its base when rows have grown
 pub rebuild_for_grows : (ps qs : Pieces) → AllGrow ps qs → (node i base : ℕ)
     → IsRebuildFor ps node i base → IsRebuildFor qs node i base
 rebuild_for_grows ps qs g node i base h =
@@ -104,6 +107,7 @@ rebuild_for_grows ps qs g node i base h =
           h.index;
     }
 
+-- a change of a slot is still at its base when rows have grown
 pub change_for_grows : (ps qs : Pieces) → AllGrow ps qs → (node i base : ℕ)
     → IsChangeFor ps node i base → IsChangeFor qs node i base
 change_for_grows ps qs g node i base h =
@@ -115,6 +119,7 @@ change_for_grows ps qs g node i base h =
       index = ap (λ c. c.index) it.2.others ∙ h.index;
     }
 
+-- a side still names what it may when rows have grown
 pub side_grows : (ps qs : Pieces) → AllGrow ps qs → (node i : ℕ) (ref : Option Ref)
     → SideNames ps node i ref → SideNames qs node i ref
 side_grows ps qs g node i (Some Empty) h = tt
@@ -125,6 +130,7 @@ side_grows ps qs g node i (Some Unset) h = absurd h
 side_grows ps qs g node i (Some (ChangeAt base)) h = absurd h
 side_grows ps qs g node i None h = absurd h
 
+-- a slot still names what it may when rows have grown
 pub slot_grows : (ps qs : Pieces) → AllGrow ps qs → (node i : ℕ) (ref : Option Ref)
     → SlotNames ps node i ref → SlotNames qs node i ref
 slot_grows ps qs g node i (Some Unset) h = tt
@@ -135,6 +141,7 @@ slot_grows ps qs g node i (Some (InnerAt base)) h = (h.0, inner_here_grows ps qs
 slot_grows ps qs g node i (Some (RebuildAt base)) h = rebuild_for_grows ps qs g node i base h
 slot_grows ps qs g node i None h = absurd h
 
+-- a root still names what it may when rows have grown
 pub root_grows : (ps qs : Pieces) → AllGrow ps qs → (target : ℕ) (ref : Option Ref)
     → RootNames ps target ref → RootNames qs target ref
 root_grows ps qs g target (Some Unset) h = tt
@@ -145,6 +152,7 @@ root_grows ps qs g target (Some (ChangeAt base)) h = absurd h
 root_grows ps qs g target (Some (RebuildAt base)) h = absurd h
 root_grows ps qs g target None h = absurd h
 
+-- a row still names what it may when rows have grown
 pub row_grows : (ps qs : Pieces) → AllGrow ps qs → (base : ℕ) (p : Piece) → RowNames ps base p
     → RowNames qs base p
 row_grows ps qs g base (Leaf r) h = tt
@@ -160,7 +168,7 @@ row_grows ps qs g base (Rebuild r) h =
 
 -- ---- writes keep names
 
--- where rows are added
+-- words name what they may after rows are added
 pub all_name_added : (ps qs : Pieces) (Born : ℕ → Piece → Type 0) → AllGrow ps qs → Adds ps qs Born
     → AllName ps ps
     → ((base : ℕ) (p : Piece) → Born base p → qs base ≡ Some p → RowNames qs base p) → AllName qs qs
@@ -169,7 +177,7 @@ all_name_added ps qs Born g adds all born base p e = ⊎_elim
     (λ old. row_grows ps qs g base p (all base p old)) (λ new. born base p new e)
     (adds.from base p e)
 
--- where one row is changed
+-- words name what they may after one row is changed
 pub all_name-changed_at : (ps : Pieces) (at : ℕ) (f : Piece → Piece)
     → AllGrow ps (changed_at ps at f) → AllName ps ps
     → ((p : Piece) → ps at ≡ Some p → RowNames (changed_at ps at f) at p → RowNames
@@ -188,6 +196,7 @@ all_name-changed_at ps at f g all keeps base q e =
     (subst (λ b. RowNames (changed_at ps at f) b it.0) new.0 old))))
     it.2
 
+-- a row names what it may after a slot of it is written with such a word
 pub names-with_slot : (ps : Pieces) (node i word : ℕ) (p : Piece)
     → SlotNames ps node i (ref_of word) → RowNames ps node p → RowNames ps node (with_slot i word p)
 names-with_slot ps node i word (Inner r) k h =
@@ -201,6 +210,7 @@ names-with_slot ps node i word (Leaf r) k h = h
 names-with_slot ps node i word (Change r) k h = h
 names-with_slot ps node i word (Rebuild r) k h = h
 
+-- a row names what it may after its status is written
 pub names-with_status : (ps : Pieces) (base status : ℕ) (p : Piece) → RowNames ps base p
     → RowNames ps base (with_status status p)
 names-with_status ps base status (Inner r) h = h
@@ -208,6 +218,7 @@ names-with_status ps base status (Leaf r) h = h
 names-with_status ps base status (Change r) h = h
 names-with_status ps base status (Rebuild r) h = h
 
+-- a row names what it may after a change is counted
 pub names-counted : (ps : Pieces) (base : ℕ) (p : Piece) → RowNames ps base p
     → RowNames ps base (counted p)
 names-counted ps base (Inner r) h = h
@@ -215,6 +226,7 @@ names-counted ps base (Leaf r) h = h
 names-counted ps base (Change r) h = h
 names-counted ps base (Rebuild r) h = h
 
+-- a row names what it may after a part is drawn
 pub names-drawn : (ps : Pieces) (base : ℕ) (p : Piece) → RowNames ps base p
     → RowNames ps base (drawn p)
 names-drawn ps base (Inner r) h = h
@@ -222,6 +234,7 @@ names-drawn ps base (Leaf r) h = h
 names-drawn ps base (Change r) h = h
 names-drawn ps base (Rebuild r) h = h
 
+-- a row names what it may after its decision is written
 pub names-with_decision : (ps : Pieces) (base decision : ℕ) (p : Piece) → RowNames ps base p
     → RowNames ps base (with_decision decision p)
 names-with_decision ps base decision (Inner r) h = h
@@ -240,7 +253,7 @@ slot_names t node i word h (in_anchor a b e) =
     (subst (λ n. SlotNames t.pieces n 0 (ref_of t.anchor)) (sym a) h.anchor_slot))
 slot_names t node i word h (in_row r p e) = h.rows node (Inner r) p i word e
 
--- what a change may put into a slot may stand in it
+-- what a change may put into a slot may be in the slot
 pub side_slot : (ps : Pieces) (node i : ℕ) (ref : Option Ref) → SideNames ps node i ref
     → SlotNames ps node i ref
 side_slot ps node i (Some Empty) h = h

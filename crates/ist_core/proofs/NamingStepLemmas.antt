@@ -31,7 +31,7 @@ use Rattle.ist_core.proofs.NamingLemmas.{AllName, SideNames, SlotNames, RootName
 use Rattle.ist_core.proofs.InstallNamingLemmas.{installed_names}
 use Rattle.ist_core.proofs.TreeLemmas.{IsTreeRow, root_tree, tree_of_ideal, tree_slot, tree_root, tree_rows}
 
--- a row that the change leaves stands still
+-- a row that the change leaves as it is stays
 pub changed_at-fixed : (ps : Pieces) (at base : ℕ) (f : Piece → Piece) (p : Piece)
     → ps base ≡ Some p → f p ≡ p → changed_at ps at f base ≡ Some p
 changed_at-fixed ps at base f p e same =
@@ -58,7 +58,8 @@ names_changed t u at f g pieces word keeps o =
           (slot_grows t.pieces u.pieces g anchor 0 (ref_of t.anchor) o.anchor_slot);
     }
 
--- an event that writes a slot, behind rows that name what they may
+-- an event that writes a slot keeps what words name, if the rows before the write name what they
+-- may
 names_written : (t u : Snapshot) (ps : Pieces) (node i word : ℕ) → AllName ps ps
     → AllGrow t.pieces u.pieces → u.pieces ≡ changed_at ps node (with_slot i word)
     → u.anchor ≡ (if node == anchor then word else t.anchor) → (node ≡ anchor → i ≡ 0)
@@ -91,7 +92,7 @@ names_written t u ps node i word all g pieces is zero_there h o =
 
 -- ---- the events that do something
 
--- the change of an Install stands behind it
+-- the change of an Install is published by it
 pub installed_stands : (ps : Pieces) (base : ℕ) (change : ChangeRow) (fresh : List Row)
     → with_installed ps base change fresh base ≡ Some (Change change)
 installed_stands ps base change fresh = with_row-same (with_fresh ps change fresh) base
@@ -241,7 +242,7 @@ names_place first log caller rebuild i word rows h sound o =
 
 -- ---- all events
 
--- an enabled event keeps what words name, where bases are good
+-- an enabled event keeps what words name, if bases are good
 pub names_step : (first : Snapshot) (log : Log) (event : Event) → Enabled first log event
     → HeldLieApart (state first log) → (state first log).pieces anchor ≡ None
     → ((caller base : ℕ) (rows : List Row) (h : CanInstall first log caller base rows) → IsGoodBase

@@ -1,4 +1,4 @@
--- What words name behind a lawful log, and that children lie above their parents. Serves
+-- What words name after a lawful log, and that children lie above their parents. Serves
 -- `laws.children_lie_above`.
 use Rattle.std.proofs.Common.{◌≡◌, ℕ, ◌<◌, ◌⊎◌, List, [], ◌∷◌, length, Option, Some, None, refl, sym, ap, ◌∙◌, subst, inl, inr, ⊎_elim}
 use Rattle.ist_core.specs.declared.pairs.Pair.{Pair}
@@ -50,7 +50,7 @@ module _ (pairs : List Pair) (words : ℕ) (opens : CanOpen pairs words) where
             at p there),
       )
 
-  -- each word behind a log from a new table names what it may
+  -- each word after a log from a new table names what it may
   pub names : (log : Log) → EachEnabled (start pairs words) log
       → WordsName (state_of pairs words log)
   names [] h = names_start pairs words opens
@@ -118,7 +118,7 @@ child_above t node i child o c =
 
 -- ---- the same as a law
 
--- a word that may stand in a slot names a row, in the words of the law
+-- a word that may be in a slot names a row, as the law says it
 pub names_row : (t : Snapshot) (node i word : ℕ) (ref : Option Ref) → ref_of word ≡ ref
     → SlotNames t.pieces node i ref → NamesRow t node i word
 names_row t node i word (Some Empty) is h = no_row is

@@ -1,4 +1,4 @@
--- An inner row is the logical child of one slot only, ever. Serves `laws.parents_are_one`.
+-- An inner row is only ever the logical child of one slot. Serves `laws.parents_are_one`.
 use Rattle.std.proofs.Common.{◌≡◌, ℕ, ◌+◌, ◌⊎◌, List, [], ◌∷◌, length, Option, Some, refl, sym, subst, inl, inr, arith}
 use Rattle.ist_core.specs.declared.pairs.Pair.{Pair}
 use Rattle.ist_core.specs.declared.lists.Row.{Row}
@@ -34,7 +34,7 @@ use Rattle.ist_core.proofs.HomeLemmas.{Says, Mentions, HasOneHome, came_old, cam
 use Rattle.ist_core.proofs.HomeStepLemmas.{NewPair, one_home_changed, one_home_resolve, one_home_root, one_home_place, word_of_other, pair_new, installed_says}
 
 module _ (pairs : List Pair) (words : ℕ) (opens : CanOpen pairs words) where
-  -- ---- one home behind each event
+  -- ---- one home after each event
 
   one_home_install : (log : Log) → EachEnabled (start pairs words) log
       → (caller base : ℕ) (rows : List Row)
@@ -165,7 +165,7 @@ module _ (pairs : List Pair) (words : ℕ) (opens : CanOpen pairs words) where
           (hang.each h.0 h.1 (among-pieces_of (rows_from first_row pairs) h.0 h.1 h.2)) node i child
           h.3
 
-  -- each inner row behind a log from a new table has one home
+  -- each inner row after a log from a new table has one home
   pub one_home : (log : Log) → EachEnabled (start pairs words) log
       → HasOneHome (state_of pairs words log)
   one_home [] h = one_home_start

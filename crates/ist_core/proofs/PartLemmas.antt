@@ -1,4 +1,4 @@
--- Parts: how many keys each has, where it begins, and what all of them have together.
+-- Parts: how many keys each has, where it begins, and how many all of them have together.
 use Rattle.std.proofs.Common.{
   ◌≡◌,
   ◌∙◌,
@@ -46,7 +46,7 @@ use Rattle.ist_core.proofs.RootLemmas.{
 
 -- ---- one part
 
--- one of the first parts, which are longer
+-- the length of one of the first parts, which are longer
 pub part_len-long : (n j : ℕ) → j < n % degree n → part_len n j ≡ n / degree n + 1
 unfolding part_len
 part_len-long n j h = at (nat_lt j (n % degree n)) refl
@@ -55,7 +55,7 @@ part_len-long n j h = at (nat_lt j (n % degree n)) refl
     at true e = refl
     at false e = absurd (let x : n % degree n ≤ j = grind (arith, nat_tests) in omega arith)
 
--- one of the others
+-- the length of one of the other parts
 pub part_len-short : (n j : ℕ) → n % degree n ≤ j → part_len n j ≡ n / degree n
 unfolding part_len
 part_len-short n j h = at (nat_lt j (n % degree n)) refl
@@ -64,12 +64,13 @@ part_len-short n j h = at (nat_lt j (n % degree n)) refl
     at true e = absurd (let x : j < n % degree n = grind (arith, nat_tests) in omega arith)
     at false e = omega arith
 
--- the same two, at a degree that is known
+-- a longer part is a share and one more, at a degree that is known
 pub longer_at : (n j d : ℕ) → d ≡ degree n → j < n % d → n / d + 1 ≡ part_len n j
 longer_at n j d e h =
     let P : ℕ → Type 0 = λ x. j < n % x in
     ap (λ x. n / x + 1) e ∙ sym (part_len-long n j (subst P e h))
 
+-- a later part is a share, at a degree that is known
 pub shorter_at : (n j d : ℕ) → d ≡ degree n → n % d ≤ j → n / d ≡ part_len n j
 shorter_at n j d e h =
     let P : ℕ → Type 0 = λ x. n % x ≤ j in
@@ -93,7 +94,7 @@ part_len-pos n j h =
     (λ (y : j < n % degree n). omega (arith, part_len-long n j y))
     (λ (y : n % degree n ≤ j). omega (arith, part_len-short n j y)) (cases_lt j (n % degree n))
 
--- a quotient is below the whole, also with one more where something is left over
+-- a quotient is below the whole, and if there is a remainder one more is too
 quotient-lt : (n d : ℕ) → 2 ≤ d → d ≤ n → n / d < n
 quotient-lt n d h k = let q = mul-le-mul_left (n / d) h in omega arith
 
@@ -117,7 +118,7 @@ part_len-lt n j h =
     omega (arith, part_len-short n j y))
     (cases_lt j (n % degree n))
 
--- the quotient by the root is at most the root and 2, and less where something is left over
+-- the quotient by the root is at most the root plus 2, and less if there is a remainder
 quotient_root : (n s q e : ℕ) → 1 ≤ s → s * q + e ≡ n → n < (s + 1) * (s + 1) → q ≤ s + 2
 quotient_root n s q e h k l =
     ⊎_elim
@@ -182,7 +183,7 @@ sum_of_more g n k =
     ap (λ m. sum_by g (map (part_len n) (range_with_len 0 m))) (sym (add-one k))
     ∙ sum_by-map-range_with_len_more g (part_len n) 0 k k (omega arith)
 
--- the sum of a function over the first k parts, where all of these are longer ones
+-- the sum of a function over the first k parts, if all of them are longer parts
 sum_of_long_parts : (g : ℕ → ℕ) (n k : ℕ) → k ≤ n % degree n
     → sum_by g (map (part_len n) (range_with_len 0 k)) ≡ k * g (n / degree n + 1)
 sum_of_long_parts g n zero h = omega arith
@@ -230,7 +231,7 @@ sum-part_lens n =
 
 -- ---- where a part begins
 
--- behind j shares, and one key more for each longer part before it
+-- part j begins after j equal shares, plus one key for each longer part before it
 pub part_start_is : (n j : ℕ) → part_start n j ≡ j * (n / degree n) + min j (n % degree n)
 unfolding part_start
 part_start_is n j = ⊎_elim few many (cases_lt j (n % degree n))
@@ -248,7 +249,7 @@ part_start_is n j = ⊎_elim few many (cases_lt j (n % degree n))
         ∙ sum_of_parts (λ x. x) n (j - n % degree n)
         ∙ shares (n / degree n) (n % degree n) (j - n % degree n) all
 
--- the same, at a degree that is known
+-- where part j begins, at a degree that is known
 pub start_at : (n j d extra : ℕ) → d ≡ degree n → extra ≡ min j (n % d)
     → j * (n / d) + extra ≡ part_start n j
 start_at n j d extra e f =

@@ -20,7 +20,7 @@ among-pieces_of (row ∷ rows) base p e =
     ] refl e
 
 module _ {A : Type 0} where
-  -- an element behind some others
+  -- element k after n dropped ones is element n + k
   pub slice_get-drop : (n : ℕ) (xs : List A) (k : ℕ)
       → slice_get (drop n xs) k ≡ slice_get xs (n + k)
   slice_get-drop zero xs k = let same : 0 + k ≡ k = omega arith in ap (slice_get xs) (sym same)
@@ -37,7 +37,7 @@ module _ {A : Type 0} where
   slice_get-take (suc n) (x ∷ xs) zero h = refl
   slice_get-take (suc n) (x ∷ xs) (suc k) h = slice_get-take n xs k (omega arith)
 
--- a row stands where its words are cut from the table
+-- a row is in the words if its words are cut from them at its base
 pub stands_by : (words : List ℕ) (base : ℕ) (p : Piece)
     → take (length (words_of p)) (drop base words) ≡ words_of p → StandsAt words base p
 stands_by words base p e k h =

@@ -1,4 +1,4 @@
--- Where rows lie behind a lawful log. Serves `laws.rows_lie_apart`.
+-- Where rows lie after a lawful log. Serves `laws.rows_lie_apart`.
 use Rattle.std.proofs.Common.{◌≡◌, ◌≢◌, ℕ, ◌+◌, ◌<◌, ◌≤◌, ◌⊎◌, List, [], ◌∷◌, length, Option, Some, None, refl, sym, ap, ◌∙◌, subst, inl, inr, ⊎_elim, arith}
 use Rattle.std.proofs.lemmas.Bool.Decides.{eqb_tells}
 use Rattle.ist_core.specs.declared.pairs.Pair.{Pair}
@@ -24,19 +24,23 @@ use Rattle.ist_core.proofs.StartLemmas.{sound_start}
 use Rattle.ist_core.proofs.SpendingLemmas.{next-state}
 use Rattle.ist_core.proofs.LayoutLemmas.{fills_within, fills_apart, fills_rows}
 
+-- each row has a word
 pub size_positive : (p : Piece) → 0 < size_of p
 size_positive (Leaf r) = omega arith
 size_positive (Inner r) = omega arith
 size_positive (Change r) = omega arith
 size_positive (Rebuild r) = omega arith
 
+-- an option without a value is None
 pub absent : {A : Type 0} (o : Option A) → ((x : A) → o ≡ Some x → ⊥) → o ≡ None
 absent None h = refl
 absent (Some x) h = absurd (h x refl)
 
+-- an option isn't both None and a row
 pub no_piece : (o : Option Piece) (p : Piece) → o ≡ None → o ≡ Some p → ⊥
 no_piece o p e h = cc
 
+-- one base has one row
 pub one_piece : (o : Option Piece) (p q : Piece) → o ≡ Some p → o ≡ Some q → p ≡ q
 one_piece o p q e h = cc
 
@@ -48,6 +52,7 @@ module _ (pairs : List Pair) (words : ℕ) where
   Claimed (event ∷ log) base size = ((caller : ℕ) × Reserves caller base size event) ⊎ Claimed log
       base size
 
+  -- words that were set aside are claimed
   pub claimed_set_aside : (log : Log) (base size : ℕ) → IsSetAside pairs words log base size
       → Claimed log base size
   claimed_set_aside [] base size (at_start p e f) = (p, e, f)
@@ -58,6 +63,7 @@ module _ (pairs : List Pair) (words : ℕ) where
   claimed_set_aside (event ∷ log) base size (by_caller caller (inr h)) = inr
       (claimed_set_aside log base size (by_caller caller h))
 
+  -- words that are claimed were set aside
   pub set_aside_claimed : (log : Log) (base size : ℕ) → Claimed log base size
       → IsSetAside pairs words log base size
   set_aside_claimed [] base size h = at_start h.0 h.1 h.2
@@ -68,7 +74,7 @@ module _ (pairs : List Pair) (words : ℕ) where
       longer (at_start p e f) = at_start p e f
       longer (by_caller caller k) = by_caller caller (inr k)
 
-  -- the first free word lies behind the fixed ones
+  -- the first free word lies after the fixed ones
   pub next_behind_fixed : (log : Log) → EachEnabled (start pairs words) log
       → first_row ≤ (state_of pairs words log).next
   next_behind_fixed [] h = omega arith
@@ -125,7 +131,7 @@ module _ (pairs : List Pair) (words : ℕ) where
       let more = next-state (start pairs words) log event h.1 in
       record { some = before.some; behind_fixed = before.behind_fixed; below_next = omega arith }
 
-  -- rows that were set aside are one, or share no word
+  -- two rows that were set aside are the same, or share no word
   pub claimed_apart : (log : Log) (base size other more : ℕ) → EachEnabled (start pairs words) log
       → Claimed log base size → Claimed log other more
       → ((base ≡ other) × (size ≡ more)) ⊎ ((base ≢ other) × Apart base size other more)
@@ -176,12 +182,12 @@ module _ (pairs : List Pair) (words : ℕ) where
 
   -- ---- published and held rows
 
-  -- each published row and each held one was set aside
+  -- each published row and each held row was set aside
   pub record IsPlaced (log : Log) (t : Snapshot) : Type 0 where
     pub published : (base : ℕ) (p : Piece) → t.pieces base ≡ Some p → Claimed log base (size_of p)
     pub held : (h : HeldRow) → Among h t.held → Claimed log h.base h.size
 
-  -- an event that moves rows publishes none where a row is lost
+  -- an event that moves rows publishes none at the base of a row that it loses
   lost_free : (log : Log) (event : Event) (base : ℕ) → Loses base event
       → (state_of pairs words log).pieces base ≡ None
       → (state_of pairs words (event ∷ log)).pieces base ≡ None
@@ -212,7 +218,7 @@ module _ (pairs : List Pair) (words : ℕ) where
         held = λ h i. inr (k.held h (m.kept h i));
       }
     where
-      -- a row that stood has its size still
+      -- a row that was there before still has its size
       stood : (base : ℕ) (p : Piece) → (state_of pairs words (event ∷ log)).pieces base ≡ Some p
           → (q : Piece) × ((state_of pairs words log).pieces base ≡ Some q)
           → Claimed log base (size_of p)
@@ -257,7 +263,7 @@ module _ (pairs : List Pair) (words : ℕ) where
             (record { caller = c; base = b; size = z } ∷ []) i);
       }
 
-  -- the rows behind a log from a new table were set aside
+  -- the rows after a log from a new table were set aside
   pub placed : (log : Log) → EachEnabled (start pairs words) log
       → IsPlaced log (state_of pairs words log)
   placed [] h = record { published = λ base p e. (p, e, refl); held = λ g i. absurd i }

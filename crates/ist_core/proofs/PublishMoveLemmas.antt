@@ -21,7 +21,7 @@ module _ (t : Snapshot) (caller : ℕ) (rows : List Row) (holds : HoldsRows t ca
   unfolding held_row
   is_held row i = each-among (λ x. HoldsRow t caller x.base (length x.words)) row rows holds i
 
-  -- no row stands where one is published now
+  -- no row is at the base of one that is being published
   is_free : (row : Row) → Among row rows → t.pieces row.base ≡ None
   unfolding held_row
   is_free row i = sound.unpublished (held_row row) (is_held row i)
@@ -44,6 +44,7 @@ module _ (t : Snapshot) (caller : ℕ) (rows : List Row) (holds : HoldsRows t ca
       (λ it. it.3 ∙ ap (λ x. x.size) (sound.once (held_row it.0) h (is_held it.0 it.1) i it.2))
       (publishes.from h.base p e)
 
+  -- an event that publishes held rows and changes one row moves rows as it may
   pub moves_published : (u : Snapshot) (event : Event) (qs : Pieces) (at : ℕ) (f : Piece → Piece)
       → ((p : Piece) → size_of (f p) ≡ size_of p) → Publishes t.pieces rows qs
       → u.next ≡ t.next → u.held ≡ without (bases_of rows) t.held → u.pieces ≡ changed_at qs at f

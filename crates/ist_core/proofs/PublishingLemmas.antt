@@ -46,12 +46,13 @@ base_among row [] i = absurd i
 base_among row (x ∷ rows) (inl e) = inl (ap (λ y. y.base) e)
 base_among row (x ∷ rows) (inr i) = inr (base_among row rows i)
 
--- ---- rows that stand
+-- ---- rows that are published
 
--- a row stands at the base
+-- there is a row at the base
 abbrev pub Stands : Pieces → ℕ → Type 0
 Stands ps base = (p : Piece) × (ps base ≡ Some p)
 
+-- a row is still at its base after another one is put
 pub stands-with_row : (ps : Pieces) (base at : ℕ) (o : Option Piece) → Stands ps at
     → Stands (with_row ps base o) at
 stands-with_row ps base at None h = h
@@ -59,6 +60,7 @@ stands-with_row ps base at (Some p) h =
     elim (at == base) as (λ v. Stands (λ b. if v then Some p else ps at) at)
     [ true ↦ (p, refl) | false ↦ h ]
 
+-- a row that is put is at its base
 pub stands_here : (ps : Pieces) (base : ℕ) (o : Option Piece) (p : Piece) → o ≡ Some p
     → Stands (with_row ps base o) base
 stands_here ps base o p e = subst (λ x. Stands (with_row ps base x) base) (sym e)
@@ -66,8 +68,8 @@ stands_here ps base o p e = subst (λ x. Stands (with_row ps base x) base) (sym 
 
 -- ---- publishing
 
--- the rows are published: what stands behind that stood there or is one of them, and each of them
--- stands there
+-- the rows are published: each row afterwards was there before or is one of them, and each of them
+-- is there
 pub record Publishes (ps : Pieces) (rows : List Row) (qs : Pieces) : Type 0 where
   pub from : (base : ℕ) (q : Piece) → qs base ≡ Some q
       → (ps base ≡ Some q) ⊎ ((row : Row) × Among row rows × (row.base ≡ base) ×
@@ -75,7 +77,7 @@ pub record Publishes (ps : Pieces) (rows : List Row) (qs : Pieces) : Type 0 wher
   pub others : (base : ℕ) → ¬ (Among base (bases_of rows)) → qs base ≡ ps base
   pub named : (row : Row) → Among row rows → Stands qs row.base
 
--- inner rows are published where each of them is found afterwards
+-- inner rows are published if each of them is found afterwards
 pub publishes-with_inners : (ps : Pieces) (rows : List Row)
     → Each (λ base. Stands (with_inners ps rows) base) (bases_of rows)
     → Publishes ps rows (with_inners ps rows)
@@ -89,7 +91,7 @@ publishes-with_inners ps rows all =
           (bases_of rows) all (base_among row rows i);
     }
 
--- the inner rows of an ideal subtree stand
+-- the inner rows of an ideal subtree are published
 mutual
   pub ideal_stands : (ps : Pieces) (ref : Ref) (leaves : List PlacedLeaf) (above : ℕ)
       (rows : List ℕ)

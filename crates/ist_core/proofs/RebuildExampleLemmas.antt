@@ -40,6 +40,7 @@ the_start decision = record {
   value = 0;
 }
 
+-- the change of the finish, with this decision
 abbrev pub the_finish : ℕ → ChangeRow
 the_finish decision = record {
   decision = decision;
@@ -54,6 +55,7 @@ the_finish decision = record {
   value = 0;
 }
 
+-- the rebuild, with this root
 abbrev pub the_rebuild : ℕ → RebuildRow
 the_rebuild root = record { target = 4; parent = 2; index = 0; root = root; draw = 0 }
 
@@ -69,12 +71,15 @@ the_row status = record {
       89 ∷ 105 ∷ [];
 }
 
+-- the leaf with the lower key
 abbrev pub low : LeafRow
 low = record { key = 10; value = 1 }
 
+-- the leaf with the higher key
 abbrev pub high : LeafRow
 high = record { key = 20; value = 2 }
 
+-- both leaves with their bases
 abbrev pub both : List PlacedLeaf
 both = record { base = 11; row = low } ∷ record { base = 13; row = high } ∷ []
 
@@ -109,6 +114,7 @@ start_resolved = record {
   in_slot = in_anchor refl refl refl;
 }
 
+-- each event up to the started rebuild is enabled
 pub started : EachEnabled two rebuild_started
 started = (((start_is_lawful.enabled, start_okayed), start_decided), start_resolved)
 

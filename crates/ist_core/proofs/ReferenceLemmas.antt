@@ -44,7 +44,7 @@ ref_of-row word h k = at (word == 0) (word == 7) refl refl
     at false true e f = absurd (k (grind (arith, nat_tests)))
     at false false e f = refl
 
--- at a good base the tag alone decides
+-- at a good base only the tag decides
 pub good_row_tagged-good : (tag base : ℕ) → IsGoodBase base
     → good_row_tagged tag base ≡ row_tagged tag base
 good_row_tagged-good tag base good = at (nat_le first_row base) (nat_lt base place_limit) refl refl
@@ -96,7 +96,7 @@ tagged_read tag known base found ref test good word same =
     record { good = good; same_word = word ∙ ap (λ k. base * 8 + k) number } in
     subst (λ (r : Ref). IsReadFrom (base * 8 + tag) r) same read
 
--- so is whatever row the tag gives
+-- the row that the tag gives is read from the word of tag and base
 row_read : (tag base : ℕ) (ref : Ref) → IsGoodBase base → row_tagged tag base ≡ Some ref
     → IsReadFrom (base * 8 + tag) ref
 row_read tag base ref good e = at (tag == 1) (tag == 2) (tag == 3) (tag == 4) refl refl refl refl e
@@ -112,7 +112,7 @@ row_read tag base ref good e = at (tag == 1) (tag == 2) (tag == 3) (tag == 4) re
         tagged_read tag 4 base (RebuildAt base) ref j good refl (cc)
     at false false false false f g i j e = cc
 
--- and whatever row the tag and the base of a word give
+-- the row that the tag and the base of a word give is read from the word
 good_row_read : (word : ℕ) (ref : Ref) → good_row_tagged (word % 8) (word / 8) ≡ Some ref
     → IsReadFrom word ref
 good_row_read word ref e =

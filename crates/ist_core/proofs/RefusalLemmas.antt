@@ -1,4 +1,4 @@
--- Rows among which no change was decided no. Serves `examples`, where a change is installed.
+-- Rows among which no change was decided no. Serves the `examples` that install a change.
 use Rattle.std.proofs.Common.{◌≡◌, ℕ, ◌==◌, ◌≢◌, true, false, if◌then◌else◌, Option, Some, None, option_map, refl, subst, arith}
 use Rattle.ist_core.specs.Statuses.{decided_no}
 use Rattle.ist_core.specs.Pieces.{Pieces, Piece, Leaf, Inner, Change, Rebuild, with_row, changed_at, with_slot, with_status, with_decision, with_root}
@@ -12,6 +12,7 @@ NotRefused _ = Unit {0}
 abbrev pub NoneRefused : Pieces → Type 0
 NoneRefused ps = (base : ℕ) (p : Piece) → ps base ≡ Some p → NotRefused p
 
+-- putting a row that isn't a refused change adds no refusal
 pub none_refused-with_row : (ps : Pieces) (at : ℕ) (p : Piece) → NotRefused p → NoneRefused ps
     → NoneRefused (with_row ps at (Some p))
 none_refused-with_row ps at p h all base q e =
@@ -25,6 +26,7 @@ mapped : (f : Piece → Piece) (o : Option Piece) (q : Piece) → option_map f o
 mapped f None q e = absurd (cc)
 mapped f (Some p) q e = (p, refl, (cc))
 
+-- a change of a row that refuses nothing adds no refusal
 pub none_refused-changed_at : (ps : Pieces) (at : ℕ) (f : Piece → Piece)
     → ((p : Piece) → NotRefused p → NotRefused (f p)) → NoneRefused ps
     → NoneRefused (changed_at ps at f)
@@ -36,6 +38,7 @@ none_refused-changed_at ps at f keeps all base q e =
       | false ↦ λ found. all base q found
     ] e
 
+-- writing a slot refuses nothing
 pub slot_keeps : (i word : ℕ) (p : Piece) → NotRefused p → NotRefused (with_slot i word p)
 unfolding NotRefused
 slot_keeps i word (Leaf r) h = h
@@ -43,6 +46,7 @@ slot_keeps i word (Inner r) h = h
 slot_keeps i word (Change r) h = h
 slot_keeps i word (Rebuild r) h = h
 
+-- writing a status refuses nothing
 pub status_keeps : (status : ℕ) (p : Piece) → NotRefused p → NotRefused (with_status status p)
 unfolding NotRefused
 status_keeps status (Leaf r) h = h
@@ -50,6 +54,7 @@ status_keeps status (Inner r) h = h
 status_keeps status (Change r) h = h
 status_keeps status (Rebuild r) h = h
 
+-- deciding yes refuses nothing
 pub yes_keeps : (p : Piece) → NotRefused p → NotRefused (with_decision 1 p)
 unfolding NotRefused
 yes_keeps (Leaf r) h = h
@@ -57,6 +62,7 @@ yes_keeps (Inner r) h = h
 yes_keeps (Change r) h = λ e. omega arith
 yes_keeps (Rebuild r) h = h
 
+-- writing a root refuses nothing
 pub root_keeps : (word : ℕ) (p : Piece) → NotRefused p → NotRefused (with_root word p)
 unfolding NotRefused
 root_keeps word (Leaf r) h = h

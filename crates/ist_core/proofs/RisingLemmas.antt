@@ -1,5 +1,5 @@
--- Lists whose keys rise, cut into parts: the child for a key among the first keys of the parts.
--- Serves the order law.
+-- Lists with strictly increasing keys, cut into parts: the child for a key among the first keys of
+-- the parts. Serves the order law.
 use Rattle.std.proofs.Common.{◌≡◌, ℕ, zero, suc, ◌+◌, ◌<◌, ◌≤◌, ◌⊎◌, nat_le, true, false, cond, List, [], ◌∷◌, ◌++◌, length, take, drop, slice_get, Some, refl, sym, ap, ◌∙◌, subst, inl, inr, ⊎_elim, arith, length-drop}
 use Rattle.std.proofs.lemmas.Bool.Decides.{leb_tells}
 use Rattle.std.proofs.lemmas.List.{length-take-le}
@@ -26,7 +26,7 @@ child_count-low k ks x h = at (leb_tells k x) (sum_by-cons (λ key. cond (nat_le
         (λ b. child_count (k ∷ ks) x ≡ cond b 1 0 + child_count ks x) e.0 f in omega arith
     at (inr e) f = let high = e.1 in absurd (omega arith)
 
--- one above it doesn't
+-- a key above the one looked for doesn't count
 pub child_count-high : (k : ℕ) (ks : List ℕ) (x : ℕ) → x < k
     → child_count (k ∷ ks) x ≡ child_count ks x
 child_count-high k ks x h = at (leb_tells k x) (sum_by-cons (λ key. cond (nat_le key x) 1 0) k ks)
@@ -38,7 +38,7 @@ child_count-high k ks x h = at (leb_tells k x) (sum_by-cons (λ key. cond (nat_l
     at (inr e) f = let none : child_count (k ∷ ks) x ≡ 0 + child_count ks x = subst
         (λ b. child_count (k ∷ ks) x ≡ cond b 1 0 + child_count ks x) e.0 f in omega arith
 
--- where each key is above it, the child is the first
+-- if each key is above x, the child for x is the first
 pub child_count-none : (ks : List ℕ) (x : ℕ) → Each (λ k. x < k) ks → child_count ks x ≡ 0
 child_count-none [] x h = refl
 child_count-none (k ∷ ks) x h = child_count-high k ks x h.0 ∙ child_count-none ks x h.1
@@ -59,16 +59,16 @@ child_count_rises (k ∷ ks) x y h = at (leb_tells k x) (leb_tells k y) (child_c
     at (inr e) (inr f) rest = let one = child_count-high k ks x e.1 in let two = child_count-high k
         ks y f.1 in omega arith
 
--- so a key of an earlier child is smaller
+-- a key of an earlier child is smaller
 pub child_count_tells : (ks : List ℕ) (x y : ℕ) → child_count ks x < child_count ks y → x < y
 child_count_tells ks x y h =
     ⊎_elim (λ e. let more = child_count_rises ks y x e.1 in absurd (omega arith)) (λ e. e.1)
     (leb_tells y x)
 
--- ---- rising lists
+-- ---- strictly increasing lists
 
 module _ {A : Type 0} (key : A → ℕ) where
-  -- the keys rise: each is below all behind it
+  -- the keys are strictly increasing: each is below all later ones
   abbrev pub Rises : List A → Type 0
   Rises [] = Unit {0}
   Rises (x ∷ xs) = Each (λ y. key x < key y) xs × Rises xs
@@ -77,6 +77,7 @@ module _ {A : Type 0} (key : A → ℕ) where
   abbrev pub AllBelow : List A → List A → Type 0
   AllBelow xs ys = Each (λ x. Each (λ y. key x < key y) ys) xs
 
+  -- two strictly increasing lists, the first below the second, are strictly increasing together
   pub rises_append : (xs ys : List A) → Rises xs → Rises ys → AllBelow xs ys → Rises (xs ++ ys)
   rises_append [] ys h k below = k
   rises_append (x ∷ xs) ys h k below =
@@ -113,6 +114,7 @@ module _ {A : Type 0} (key : A → ℕ) where
   abbrev pub EachOf : (A → Type 0) → List (List A) → Type 0
   EachOf P ps = Each (λ part. Each P part) ps
 
+  -- what holds of each element of a list holds of each element of its parts
   pub each_of_cut : (P : A → Type 0) (ns : List ℕ) (xs : List A) → Each P xs → EachOf P (cut ns xs)
   each_of_cut P [] xs h = tt
   each_of_cut P (n ∷ ns) xs h = (
@@ -121,7 +123,7 @@ module _ {A : Type 0} (key : A → ℕ) where
         (each_drop P n xs h),
   )
 
-  -- what is true of each element of each part is true of those of one part
+  -- what is true of each element of each part is true of each element of one part
   pub part_of_each : (P : A → Type 0) (ps : List (List A)) (j : ℕ) (part : List A) → EachOf P ps
       → slice_get ps j ≡ Some part → Each P part
   part_of_each P [] j part h e = absurd (cc)
@@ -129,7 +131,7 @@ module _ {A : Type 0} (key : A → ℕ) where
       h.0
   part_of_each P (p ∷ ps) (suc j) part h e = part_of_each P ps j part h.1 e
 
-  -- the keys of parts rise, none of which is empty
+  -- the keys of the parts are strictly increasing, and no part is empty
   abbrev pub PartsRise : List (List A) → Type 0
   PartsRise [] = Unit {0}
   PartsRise (part ∷ ps) = (0 < length part) × Rises part × Each
@@ -155,12 +157,12 @@ module _ {A : Type 0} (key : A → ℕ) where
         cut_rises ns (drop n xs) some.1 (omega arith) (rises_drop n xs h),
       )
 
-  -- the parts of a rising list of two or more
+  -- the parts of a strictly increasing list of at least two
   pub parts_rise : (xs : List A) → 2 ≤ length xs → Rises xs → PartsRise (parts xs)
   parts_rise xs two h = cut_rises (part_lens (length xs)) xs (part_lens_some (length xs) two)
       (let whole = sum-part_lens (length xs) in omega arith) h
 
-  -- so each of them rises
+  -- the keys of each part are strictly increasing
   pub part_rises : (ps : List (List A)) (j : ℕ) (part : List A) → PartsRise ps
       → slice_get ps j ≡ Some part → Rises part
   part_rises [] j part h e = absurd (cc)
@@ -174,7 +176,7 @@ module _ {A : Type 0} (key : A → ℕ) where
   each_first_keys P ([] ∷ ps) h = each_first_keys P ps h.1
   each_first_keys P ((x ∷ xs) ∷ ps) h = (h.0.0, each_first_keys P ps h.1)
 
-  -- the first keys of parts behind a key are above it
+  -- if all keys of some parts are above a key, so are their first keys
   first_keys_above : (x : A) (ps : List (List A)) → EachOf (λ y. key x < key y) ps
       → Each (λ k. key x < k) (first_keys key ps)
   first_keys_above x ps h = each_first_keys (λ k. key x < k) ps h
@@ -211,11 +213,11 @@ module _ {A : Type 0} (key : A → ℕ) where
       (subst (λ xs. Among x xs) (sym same) i)))
   child_of_part (p ∷ ps) (suc j) part x h e i = child_among ps j part x h.3 e i
 
--- the numbers rise: each is below all behind it
+-- the numbers are strictly increasing: each is below all later ones
 abbrev pub Rising : List ℕ → Type 0
 Rising ks = Rises (λ k. k) ks
 
--- the first keys of parts rise
+-- the first keys of parts are strictly increasing
 pub first_keys_rise : {A : Type 0} (key : A → ℕ) (ps : List (List A)) → PartsRise key ps
     → Rising (first_keys key ps)
 first_keys_rise key [] h = tt
@@ -223,7 +225,7 @@ first_keys_rise key ([] ∷ ps) h = first_keys_rise key ps h.3
 first_keys_rise key ((x ∷ xs) ∷ ps) h =
     (first_keys_above key x ps h.2.0, first_keys_rise key ps h.3)
 
--- and so do those of all parts but the first
+-- the first keys of all parts but the first are strictly increasing
 pub first_keys_behind_rise : {A : Type 0} (key : A → ℕ) (ps : List (List A)) → PartsRise key ps
     → Rising (first_keys key (drop 1 ps))
 first_keys_behind_rise key [] h = tt

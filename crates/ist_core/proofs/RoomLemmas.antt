@@ -51,7 +51,7 @@ words-state first log (Draw caller rebuild part) = refl
 words-state first log (Place caller rebuild i word rows) = refl
 words-state first log (Lose caller bases) = refl
 
--- an event that reserves takes no more than there is
+-- an event that reserves takes at most the free words
 next_fits : (first : Snapshot) (log : Log) (event : Event) → Enabled first log event
     → (state first log).next ≤ (state first log).words
     → (state first (event ∷ log)).next ≤ (state first log).words
@@ -74,7 +74,7 @@ next_fits first log (Place caller rebuild i word rows) h le = le
 next_fits first log (Lose caller bases) h le = le
 
 module _ (pairs : List Pair) (words : ℕ) (opens : CanOpen pairs words) where
-  -- the table has as many words as at its start
+  -- the table keeps its number of words
   pub words_same : (log : Log) → (state_of pairs words log).words ≡ words
   words_same [] = refl
   words_same (event ∷ log) = words-state (start pairs words) log event ∙ words_same log
@@ -100,13 +100,13 @@ module _ (pairs : List Pair) (words : ℕ) (opens : CanOpen pairs words) where
       let most = opens.within in
       record { behind_fixed = inside.behind_fixed; below_limit = omega arith }
 
-  -- so does each published row
+  -- each published row lies at a good base
   pub published_good : (log : Log) (base : ℕ) (p : Piece) → EachEnabled (start pairs words) log
       → (state_of pairs words log).pieces base ≡ Some p → IsGoodBase base
   published_good log base p h e = claimed_good log base (size_of p) h
       ((placed pairs words log h).published base p e)
 
-  -- and each held one
+  -- each held row lies at a good base
   pub held_good : (log : Log) (caller base size : ℕ) → EachEnabled (start pairs words) log
       → HoldsRow (state_of pairs words log) caller base size → IsGoodBase base
   held_good log caller base size h i = claimed_good log base size h

@@ -61,12 +61,14 @@ draw_same (Leaf r) = refl
 draw_same (Change r) = refl
 draw_same (Rebuild r) = refl
 
+-- a status leaves the root of a row
 pub status_same : (word : ℕ) (p : Piece) → root_in (with_status word p) ≡ root_in p
 status_same word (Inner r) = refl
 status_same word (Leaf r) = refl
 status_same word (Change r) = refl
 status_same word (Rebuild r) = refl
 
+-- few events write a root
 pub root_rare : IsRare root_in unset_word
 root_rare = record {
   slot = slot_same;
@@ -78,6 +80,7 @@ root_rare = record {
   install = installed_rootless;
 }
 
+-- the rows of a new tree have no root
 pub start_rootless : (fuel base : ℕ) (pairs : List Pair)
     → Each (λ row. root_in row.1 ≡ unset_word) (rows_within fuel base pairs)
 unfolding rows_within

@@ -49,7 +49,7 @@ pub record IsCutBy (t : Snapshot) (target : ℕ) (r : InnerRow) : Type 0 where
   pub two : 2 ≤ length leaves
   pub keys : r.keys ≡ first_keys key_of_leaf (drop 1 (parts leaves))
 
--- each root that is an inner row is such
+-- the keys of each root that is an inner row are cut in this way
 abbrev pub RootsAreCut : Snapshot → Type 0
 RootsAreCut t =
     (base : ℕ) (row : RebuildRow) (root : ℕ) (r : InnerRow) → t.pieces base ≡ Some (Rebuild row)
@@ -87,7 +87,7 @@ module _ (pairs : List Pair) (words : ℕ) (opens : CanOpen pairs words) where
       → AllGrow (state_of pairs words log).pieces (state_of pairs words (event ∷ log)).pieces
   step_grows log event h = grow_step (start pairs words) log event h.1 (sound (start pairs words) log (sound_start pairs words) h.0)
 
-  -- the cut stays
+  -- the cut of a row stays as rows grow
   cut_stays : (log : Log) (event : Event) → EachEnabled (start pairs words) (event ∷ log)
       → (target : ℕ) (r s : InnerRow) → s.keys ≡ r.keys
       → IsCutBy (state_of pairs words log) target r
@@ -106,7 +106,7 @@ module _ (pairs : List Pair) (words : ℕ) (opens : CanOpen pairs words) where
         keys = keys ∙ cut.keys;
       }
 
-  -- a root that was set before
+  -- a root that was set before the event
   old_root : (log : Log) (event : Event) → EachEnabled (start pairs words) (event ∷ log)
       → RootsAreCut (state_of pairs words log) → (base : ℕ) (row : RebuildRow) (root : ℕ) (r : InnerRow)
       → (state_of pairs words (event ∷ log)).pieces base ≡ Some (Rebuild row)
@@ -141,7 +141,7 @@ module _ (pairs : List Pair) (words : ℕ) (opens : CanOpen pairs words) where
       at (Inner q) e same = absurd (root_set row.root root is (sym same))
       at (Change q) e same = absurd (root_set row.root root is (sym same))
 
-  -- behind a Root
+  -- roots are cut by key after a Root
   new_root : (log : Log) (caller rebuild word : ℕ) (rows : List Row)
       (h : EachEnabled (start pairs words) (Root caller rebuild word rows ∷ log)) (root : ℕ) (r : InnerRow)
       → ref_of word ≡ Some (InnerAt root)
@@ -157,7 +157,7 @@ module _ (pairs : List Pair) (words : ℕ) (opens : CanOpen pairs words) where
       cut_stays log (Root caller rebuild word rows) h can.row.target top.0 r (ap (λ x. x.keys) (sym same))
       record { finished = (can.k, can.finished); leaves = can.leaves; reached = can.reached; two = top.1.two; keys = top.1.keys }
 
-  -- behind an event that gives no root
+  -- roots are cut by key after an event that gives no root
   by_step : (log : Log) (event : Event) → (h : EachEnabled (start pairs words) (event ∷ log))
       → IsPlainEvent event → RootsAreCut (state_of pairs words log)
       → RootsAreCut (state_of pairs words (event ∷ log))

@@ -1,4 +1,4 @@
--- Roots and degrees: `square_root` is the whole root, and what `degree` comes to.
+-- Roots and degrees: `square_root` is the whole root, and the value of `degree`.
 use Rattle.std.proofs.Common.{
   ◌≡◌,
   ◌∙◌,
@@ -75,7 +75,7 @@ unfolding square_root
 square_root-lt n =
     root_up_to-lt n n (omega (arith, mul-le-mul_left n (let e : 0 ≤ n = omega arith in e)))
 
--- the root is the one number with these two facts
+-- the root is the only number with these two facts
 pub square_root_is : (n r : ℕ) → r * r ≤ n → n < (r + 1) * (r + 1) → square_root n ≡ r
 square_root_is n r h k =
     let most = root_below (square_root n) r n (square_root-le n) k in
@@ -87,12 +87,12 @@ pub degree_is : (n r : ℕ) → r * r ≤ n → n < (r + 1) * (r + 1) → degree
 unfolding degree
 degree_is n r h k = ap (max 2) (square_root_is n r h k)
 
--- a node has two children or more
+-- a node has at least two children
 pub least_degree-le : (n : ℕ) → 2 ≤ degree n
 unfolding degree
 least_degree-le n = omega arith
 
--- and no more children than keys
+-- a node has at most as many children as keys
 pub degree-le : (n : ℕ) → 2 ≤ n → degree n ≤ n
 unfolding degree
 degree-le n h =

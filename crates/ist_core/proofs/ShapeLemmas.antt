@@ -1,4 +1,4 @@
--- `ideal_words`, `shape` and `depth` of a node from those of its parts.
+-- `ideal_words`, `shape` and `depth` of a node from the values of its parts.
 use Rattle.std.proofs.Common.{
   ◌≡◌,
   ◌∙◌,
@@ -36,7 +36,7 @@ use Rattle.ist_core.proofs.PartLemmas.{part_len-lt}
 abbrev AgreeOnParts : {A : Type 0} → ℕ → (ℕ → A) → (ℕ → A) → Type 0
 AgreeOnParts n f g = (j : ℕ) → f (part_len n j) ≡ g (part_len n j)
 
--- such functions give the same list
+-- functions that agree on the parts give the same list
 map_parts_same : {A : Type 0} (f g : ℕ → A) (n : ℕ) → AgreeOnParts n f g
     → map f (part_lens n) ≡ map g (part_lens n)
 unfolding part_lens
@@ -48,13 +48,13 @@ map_parts_same {A} f g n same = each (range_with_len 0 (degree n))
         ap (λ x. x ∷ map f (map (part_len n) js)) (same j)
         ∙ ap (λ xs. g (part_len n j) ∷ xs) (each js)
 
--- the same sum
+-- functions that agree on the parts have the same sum over them
 pub sum_parts_same : (f g : ℕ → ℕ) (n : ℕ) → AgreeOnParts n f g
     → sum_by f (part_lens n) ≡ sum_by g (part_lens n)
 sum_parts_same f g n same =
     sym (sum-map f (part_lens n)) ∙ ap sum (map_parts_same f g n same) ∙ sum-map g (part_lens n)
 
--- and the same lists joined
+-- functions that agree on the parts have the same joined lists
 join_parts_same : (f g : ℕ → List ℕ) (n : ℕ) → AgreeOnParts n f g
     → flat_map f (part_lens n) ≡ flat_map g (part_lens n)
 unfolding part_lens
@@ -66,9 +66,9 @@ join_parts_same f g n same = each (range_with_len 0 (degree n))
         ap (λ xs. xs ++ flat_map f (map (part_len n) js)) (same j)
         ∙ ap (λ xs. g (part_len n j) ++ xs) (each js)
 
--- ---- as many levels as keys are enough: fuel above the size changes nothing
+-- ---- one level per key is enough: fuel above the size changes nothing
 
--- a count of words
+-- fuel above the size changes no count of words
 pub ideal_words_enough : (f g n : ℕ) → n ≤ f → n ≤ g
     → ideal_words_within f n ≡ ideal_words_within g n
 unfolding ideal_words_within
@@ -82,7 +82,7 @@ ideal_words_enough (suc f) (suc g) (suc (suc m)) h k =
     (λ j. let l = part_len-lt (suc (suc m)) j (omega arith) in
     ideal_words_enough f g (part_len (suc (suc m)) j) (omega arith) (omega arith)))
 
--- a shape
+-- fuel above the size changes no shape
 pub shape_enough : (f g n : ℕ) → n ≤ f → n ≤ g → shape_within f n ≡ shape_within g n
 unfolding shape_within
 shape_enough f g zero h k = refl
@@ -95,7 +95,7 @@ shape_enough (suc f) (suc g) (suc (suc m)) h k =
     (λ j. let l = part_len-lt (suc (suc m)) j (omega arith) in
     shape_enough f g (part_len (suc (suc m)) j) (omega arith) (omega arith)))
 
--- a depth
+-- fuel above the size changes no depth
 pub depth_enough : (f g n : ℕ) → n ≤ f → n ≤ g → depth_within f n ≡ depth_within g n
 unfolding depth_within
 depth_enough f g zero h k = refl
@@ -110,7 +110,7 @@ depth_enough (suc f) (suc g) (suc (suc m)) h k =
 
 -- ---- a node from its parts
 
--- the words of a node are its row's and those of its parts
+-- the words of a node are its top row's and its parts'
 pub ideal_words_many : (n : ℕ) → 2 ≤ n
     → ideal_words n ≡ inner_words (degree n) + sum_by ideal_words (part_lens n)
 unfolding ideal_words ideal_words_within
@@ -123,12 +123,12 @@ ideal_words_many (suc (suc m)) h =
     let l = part_len-lt (suc (suc m)) j h in
     ideal_words_enough (suc m) k k (omega arith) (omega arith)))
 
--- no key has no row
+-- an ideal tree of no key has no inner row
 pub shape_none : shape 0 ≡ []
 unfolding shape shape_within
 shape_none = refl
 
--- nor has one key
+-- an ideal tree of one key has no inner row
 pub shape_one : shape 1 ≡ []
 unfolding shape shape_within
 shape_one = refl

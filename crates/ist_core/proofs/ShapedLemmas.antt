@@ -1,5 +1,4 @@
--- The conjunct `shaped`: an inner row has as many slots as its degree says, and one key less.
--- Serves the image law.
+-- The conjunct `shaped`: an inner row has `degree` slots and one key less. Serves the image law.
 use Rattle.std.proofs.Common.{◌≡◌, ℕ, zero, suc, ◌+◌, nat_lt, if◌then◌else◌, true, false, List, [], ◌∷◌, length, replicate, Some, refl, sym, ap, ◌∙◌, subst, inl, inr, arith}
 use Rattle.std.specs.List.{flat_map}
 use Rattle.ist_core.specs.declared.pairs.Pair.{Pair}
@@ -74,14 +73,14 @@ installed_shaped first log at change fresh (a_remove f) base p (inr h) = absurd 
 installed_shaped first log at change fresh (a_start f) base p (inr h) = subst IsShaped (sym h.1) tt
 installed_shaped first log at change fresh (a_finish f) base p (inr h) = absurd h
 
--- an open inner row of this shape stands at the base
+-- there is an open inner row of this shape at the base
 pub record StandsShaped (ps : Pieces) (base : ℕ) : Type 0 where
   pub row : InnerRow
   pub published : ps base ≡ Some (Inner row)
   pub shaped : HasDegree row
   pub untouched : row.status ≡ open_word
 
--- slots over parts are as many as these
+-- there are as many slots over parts as parts
 slots_of_parts : (ps : Pieces) (words : List ℕ) (behind : List (List PlacedLeaf)) (above : ℕ)
     (rows : List ℕ)
     → AreIdeal ps words behind above rows → length words ≡ length behind
@@ -89,7 +88,7 @@ slots_of_parts ps _ _ above _ no_part = refl
 slots_of_parts ps _ _ above _ (one_part {words = words} {rest = rest} {behind = behind} ref e first
     more) = let rest_same = slots_of_parts ps words behind above rest more in omega arith
 
--- the top row of an ideal subtree with as many slots as it has parts
+-- the top row of an ideal subtree is shaped, if it has one slot for each part
 top_shaped : (ps : Pieces) (base : ℕ) (r : InnerRow) (leaves : List PlacedLeaf) (above : ℕ)
     → IsTop ps base r leaves above → length r.slots ≡ degree (length leaves) → HasDegree r
 top_shaped ps base r leaves above top slots =
@@ -100,6 +99,7 @@ top_shaped ps base r leaves above top slots =
     }
 
 mutual
+  -- each inner row of an ideal subtree is shaped
   pub ideal_shaped : (ps : Pieces) (ref : Ref) (leaves : List PlacedLeaf) (above : ℕ)
       (rows : List ℕ)
       → IsIdeal ps ref leaves above rows → Each (StandsShaped ps) rows
@@ -129,7 +129,7 @@ length_unset : (n : ℕ) → length (replicate n unset_word) ≡ n
 length_unset zero = refl
 length_unset (suc n) = let rest = length_unset n in omega arith
 
--- so is each inner row of a root
+-- each inner row of a root is shaped
 pub root_shaped : (ps : Pieces) (word k : ℕ) (leaves : List PlacedLeaf) (target : ℕ) (rows : List ℕ)
     → IsRoot ps word k leaves target rows → Each (StandsShaped ps) rows
 root_shaped ps word k leaves target rows (root_whole ref few e ideal) = ideal_shaped ps ref leaves
@@ -168,7 +168,7 @@ born_shaped first log _ base p can (by_place {rows = rows} i e) =
 -- ---- a new table
 
 module _ {A B : Type 0} where
-  -- what is true of all that is made of each element is true of all that is made
+  -- what is true of each element of all lists is true of each element of the joined list
   pub each-flat_map : (P : B → Type 0) (f : A → List B) (xs : List A) → ((x : A) → Each P (f x))
       → Each P (flat_map f xs)
   each-flat_map P f [] all = tt
@@ -192,7 +192,7 @@ rows_shaped (suc fuel) base (pair ∷ more ∷ pairs) =
           (placed_parts base all) (λ part. rows_shaped fuel part.0 part.1),
     )
 
--- each row behind a log from a new table has its shape
+-- each row after a log from a new table has its shape
 pub shaped : (pairs : List Pair) (words : ℕ) (log : Log) → EachEnabled (start pairs words) log
     → (base : ℕ) (p : Piece) → (state_of pairs words log).pieces base ≡ Some p → IsShaped p
 shaped pairs words [] h base p e =

@@ -1,5 +1,5 @@
--- Which words a state shows: one at each place, which stands in the image and in no row that is held
--- or was lost. Serves what the laws and the rule say of words.
+-- Which words a state shows: one at each place, which is the image's word and in no held or lost
+-- row. Serves what the laws and the rule say of words.
 use Rattle.std.proofs.Common.{List, Some, None, ap, arith, refl, slice_get, sym, subst, inl, inr, ℕ, ⊎_elim, ◌+◌, ◌<◌, ◌∙◌, ◌≡◌, ◌≤◌, ◌⊎◌}
 use Rattle.ist_core.specs.declared.pairs.Pair.{Pair}
 use Rattle.ist_core.specs.Images.{IsImage}
@@ -33,7 +33,7 @@ pub shown_in_row : {t : Snapshot} {place word : ℕ} (base k : ℕ) (p : Piece) 
 shown_in_row {t = t} {word = word} base k p e at read =
     subst (λ q. IsShown t q word) (sym at) (shown_row base p k e read)
 
--- and the anchor's in its slot
+-- the anchor's word is shown in its slot
 pub shown_in_anchor : {t : Snapshot} {place word : ℕ} → place ≡ anchor_slot_place → t.anchor ≡ word
     → IsShown t place word
 shown_in_anchor {t = t} {word = word} at is =
@@ -96,7 +96,7 @@ module _ (pairs : List Pair) (words : ℕ) (log : Log)
       let low = inside.behind_fixed in
       omega arith
 
-  -- the first free word stands at its place
+  -- the word that is shown at `next_place` is the first free place
   pub next_word : (place v : ℕ) → IsShown (state_of pairs words log) place v → place ≡ next_place
       → v ≡ (state_of pairs words log).next
   next_word _ _ shown_next is = refl
@@ -110,7 +110,7 @@ module _ (pairs : List Pair) (words : ℕ) (log : Log)
       let low = fixed_row other j q f in
       absurd (omega arith)
 
-  -- the anchor's word stands at its place
+  -- the word that is shown at the anchor's place is the anchor's
   pub anchor_word : (place v : ℕ) → IsShown (state_of pairs words log) place v
       → place ≡ anchor_slot_place
       → v ≡ (state_of pairs words log).anchor
@@ -125,7 +125,7 @@ module _ (pairs : List Pair) (words : ℕ) (log : Log)
       let low = fixed_row other j q f in
       absurd (omega arith)
 
-  -- the number of callers stands at its place
+  -- the word that is shown at the callers' place is their number
   callers_word : (place v : ℕ) → IsShown (state_of pairs words log) place v → place ≡ callers_place
       → v ≡ (state_of pairs words log).callers
   callers_word _ _ shown_next is = absurd (omega arith)
@@ -139,7 +139,7 @@ module _ (pairs : List Pair) (words : ℕ) (log : Log)
       let low = fixed_row other j q f in
       absurd (omega arith)
 
-  -- the anchor's status stands at its place
+  -- the word that is shown at the anchor's status is the open word
   status_word : (place v : ℕ) → IsShown (state_of pairs words log) place v
       → place ≡ anchor_status_place
       → v ≡ open_word

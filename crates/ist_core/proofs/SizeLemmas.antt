@@ -12,6 +12,7 @@ use Rattle.ist_core.proofs.ElementLemmas.{each_append, each-append, each-among}
 
 -- ---- changed rows
 
+-- writing a slot leaves the size of a row
 pub size_of-with_slot : (i word : ℕ) (p : Piece) → size_of (with_slot i word p) ≡ size_of p
 size_of-with_slot i word (Leaf r) = refl
 size_of-with_slot i word (Inner r) =
@@ -24,12 +25,14 @@ size_of-with_slot i word (Inner r) =
 size_of-with_slot i word (Change r) = refl
 size_of-with_slot i word (Rebuild r) = refl
 
+-- writing a status leaves the size of a row
 pub size_of-with_status : (status : ℕ) (p : Piece) → size_of (with_status status p) ≡ size_of p
 size_of-with_status status (Leaf r) = refl
 size_of-with_status status (Inner r) = refl
 size_of-with_status status (Change r) = refl
 size_of-with_status status (Rebuild r) = refl
 
+-- writing a decision leaves the size of a row
 pub size_of-with_decision : (decision : ℕ) (p : Piece)
     → size_of (with_decision decision p) ≡ size_of p
 size_of-with_decision decision (Leaf r) = refl
@@ -37,18 +40,21 @@ size_of-with_decision decision (Inner r) = refl
 size_of-with_decision decision (Change r) = refl
 size_of-with_decision decision (Rebuild r) = refl
 
+-- writing a root leaves the size of a row
 pub size_of-with_root : (word : ℕ) (p : Piece) → size_of (with_root word p) ≡ size_of p
 size_of-with_root word (Leaf r) = refl
 size_of-with_root word (Inner r) = refl
 size_of-with_root word (Change r) = refl
 size_of-with_root word (Rebuild r) = refl
 
+-- counting a change leaves the size of a row
 pub size_of-counted : (p : Piece) → size_of (counted p) ≡ size_of p
 size_of-counted (Leaf r) = refl
 size_of-counted (Inner r) = refl
 size_of-counted (Change r) = refl
 size_of-counted (Rebuild r) = refl
 
+-- drawing a part leaves the size of a row
 pub size_of-drawn : (p : Piece) → size_of (drawn p) ≡ size_of p
 size_of-drawn (Leaf r) = refl
 size_of-drawn (Inner r) = refl
@@ -62,7 +68,7 @@ size_in : Option Piece → ℕ
 size_in (Some p) = size_of p
 size_in None = 0
 
--- an inner row has as many words as it was read from
+-- an inner row has the number of words that it was read from
 pub size_of-inner_of : (words : List ℕ) (p : Piece) → inner_of words ≡ Some p
     → size_of p ≡ length words
 unfolding size_in

@@ -1,4 +1,4 @@
--- What a slot holds, before and behind a write. Serves each law that speaks of slots.
+-- What a slot holds, before and after a write. Serves each law about slots.
 use Rattle.std.proofs.Common.{◌≡◌, ◌≢◌, ℕ, zero, suc, ◌⊎◌, ◌==◌, Bool, true, false, if◌then◌else◌, List, [], ◌∷◌, slice_get, slice_set, Option, Some, None, option_map, refl, sym, ap, ◌∙◌, subst, inl, inr, ⊎_elim, arith}
 use Rattle.std.proofs.lemmas.Bool.Decides.{nat_tests, eqb_tells}
 use Rattle.ist_core.specs.declared.states.InnerRow.{InnerRow}
@@ -17,7 +17,7 @@ get-set_same [] i x word e = absurd (cc)
 get-set_same (y ∷ xs) zero x word e = refl
 get-set_same (y ∷ xs) (suc i) x word e = get-set_same xs i x word e
 
--- the others are read as before
+-- the other words are read as before
 pub get-set_other : (xs : List ℕ) (i j x : ℕ) → j ≢ i
     → slice_get (slice_set xs i x) j ≡ slice_get xs j
 get-set_other [] i j x ne = refl
@@ -26,7 +26,7 @@ get-set_other (y ∷ xs) zero (suc j) x ne = refl
 get-set_other (y ∷ xs) (suc i) zero x ne = refl
 get-set_other (y ∷ xs) (suc i) (suc j) x ne = get-set_other xs i j x (λ e. ne (ap suc e))
 
--- what is read behind a write is what was written, or was read before
+-- a word that is read after a write is the one that was written, or was there before
 pub get-set_some : (xs : List ℕ) (i j x word : ℕ) → slice_get (slice_set xs i x) j ≡ Some word
     → ((j ≡ i) × (word ≡ x)) ⊎ (slice_get xs j ≡ Some word)
 get-set_some [] i j x word e = inr e
@@ -38,6 +38,7 @@ get-set_some (y ∷ xs) (suc i) (suc j) x word e = ⊎_elim (λ w. inl (ap suc w
 
 -- ---- one word a slot
 
+-- one base has one inner row
 pub same_inner : (o : Option Piece) (r s : InnerRow) → o ≡ Some (Inner r) → o ≡ Some (Inner s)
     → r ≡ s
 same_inner o r s e f = cc
@@ -78,7 +79,7 @@ module _ (t u : Snapshot) (ps : Pieces) (node i new old : ℕ) (none : t.pieces 
     (pieces : u.pieces ≡ changed_at ps node (with_slot i new))
     (word : u.anchor ≡ (if node == anchor then new else t.anchor))
     (here : SlotHolds t node i old) where
-  -- the row whose slot is written
+  -- the row after its slot is written
   row_now : (r : InnerRow) → t.pieces node ≡ Some (Inner r)
       → u.pieces node ≡ Some (Inner record r { slots = slice_set r.slots i new })
   row_now r e =
@@ -86,13 +87,13 @@ module _ (t u : Snapshot) (ps : Pieces) (node i new old : ℕ) (none : t.pieces 
       (changed_at-same ps node (with_slot i new) ∙ ap (option_map (with_slot i new))
       (keeps node (Inner r) e))
 
-  -- a row elsewhere
+  -- a row at another base
   row_still : (at : ℕ) (r : InnerRow) → at ≢ node → t.pieces at ≡ Some (Inner r)
       → u.pieces at ≡ Some (Inner r)
   row_still at r ne e = subst (λ qs. qs at ≡ Some (Inner r)) (sym pieces)
       (changed_at-other ps node at (with_slot i new) ne ∙ keeps at (Inner r) e)
 
-  -- the anchor's word, where it is written and where not
+  -- the anchor's word, written or not
   word_now : node ≡ anchor → u.anchor ≡ new
   word_now e = word ∙ subst (λ b. (if b == anchor then new else t.anchor) ≡ new) (sym e) refl
 
@@ -152,7 +153,7 @@ module _ (t u : Snapshot) (ps : Pieces) (node i new old : ℕ) (none : t.pieces 
 
 -- ---- no write to a slot
 
--- slots hold what they held where each row keeps its slots
+-- slots hold what they held if each row keeps its slots
 pub slot_kept : (t u : Snapshot) → u.anchor ≡ t.anchor
     → ((base : ℕ) (r : InnerRow) → t.pieces base ≡ Some (Inner r) → (s : InnerRow) ×
     (u.pieces base ≡ Some (Inner s)) × (s.slots ≡ r.slots))

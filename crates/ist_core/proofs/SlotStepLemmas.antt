@@ -28,7 +28,7 @@ use Rattle.ist_core.proofs.NamingStepLemmas.{changed_at-fixed, installed_stands}
 
 -- ---- the events that write a slot
 
--- the change of an Install stands behind it
+-- the change of an Install is published by it
 pub install_stands : (first : Snapshot) (log : Log) (caller base : ℕ) (rows : List Row)
     (h : CanInstall first log caller base rows)
     → (after (state first log) (Install caller base rows)).pieces base ≡ Some (Change h.change)
@@ -40,14 +40,15 @@ install_stands first log caller base rows h =
     (changed_at-fixed qs h.change.node base (with_slot h.change.index (word_of (ChangeAt base)))
     (Change h.change) (installed_stands t.pieces base h.change h.fresh) refl)
 
--- slot i of the node held the old word, and holds the new one behind it; each other slot holds what
--- it held
+-- slot i of the node held the old word and now holds the new one; each other slot holds what it
+-- held
 pub record WritesSlot (t u : Snapshot) (node i new old : ℕ) : Type 0 where
   pub here : SlotHolds t node i old
   pub now : SlotHolds u node i new
   pub others : (at j w : ℕ) → SlotHolds t at j w
       → ((w ≡ old) × (at ≡ node) × (j ≡ i)) ⊎ SlotHolds u at j w
 
+-- an Install writes its change's slot: `from` becomes the change's word
 pub install_writes : (first : Snapshot) (log : Log) (caller base : ℕ) (rows : List Row)
     → (h : CanInstall first log caller base rows) → HeldLieApart (state first log)
     → (state first log).pieces anchor ≡ None
@@ -71,6 +72,7 @@ install_writes first log caller base rows h sound free =
           refl h.in_slot;
     }
 
+-- a Resolve writes its change's slot: the change's word becomes its side
 pub resolve_writes : (t : Snapshot) (caller base : ℕ) → (h : CanResolve t caller base)
     → t.pieces anchor ≡ None
     → WritesSlot t (after t (Resolve caller base)) h.change.node h.change.index (side_of h.change)
@@ -88,7 +90,7 @@ resolve_writes t caller base h free =
           (λ b p e. e) refl refl h.in_slot;
     }
 
--- a word that isn't the anchor's
+-- writing a slot of another node leaves the anchor's word
 pub elsewhere : (node word old : ℕ) → node ≢ anchor → old ≡ (if node == anchor then word else old)
 elsewhere node word old ne = at (node == anchor) refl
   where
@@ -96,6 +98,7 @@ elsewhere node word old ne = at (node == anchor) refl
     at true e = let same : node ≡ anchor = grind (arith, nat_tests) in absurd (ne same)
     at false e = refl
 
+-- a Place writes a slot of the root: Unset becomes its word
 pub place_writes : (t : Snapshot) (caller rebuild i word : ℕ) (rows : List Row)
     → (h : CanPlace t caller rebuild i word rows) → HeldLieApart t → t.pieces anchor ≡ None
     → WritesSlot t (after t (Place caller rebuild i word rows)) h.root i word unset_word
@@ -127,7 +130,7 @@ WritesNoSlot _ = Unit {0}
 unfoldable KeepsSlots : (Piece → Piece) → Type 0
 KeepsSlots f = (r : InnerRow) → (s : InnerRow) × (f (Inner r) ≡ Inner s) × (s.slots ≡ r.slots)
 
--- an inner row has its slots behind such a change
+-- an inner row keeps its slots when another field changes
 inner_kept : (ps : Pieces) (at : ℕ) (f : Piece → Piece) → KeepsSlots f → (base : ℕ) (r : InnerRow)
     → ps base ≡ Some (Inner r)
     → (s : InnerRow) × (changed_at ps at f base ≡ Some (Inner s)) × (s.slots ≡ r.slots)

@@ -7,7 +7,7 @@ use Rattle.ist_core.specs.declared.states.State.{State}
 use Rattle.ist_core.specs.Pieces.{Piece, Leaf, Inner, Change, Rebuild, as_leaf, as_inner, as_change, as_rebuild}
 use Rattle.ist_core.specs.Snapshots.{Snapshot, Shows}
 
--- maps that answer alike are equal
+-- maps with the same row at each base are equal
 same_rows : {X : Type 0} (m n : fin.FinMap nat_cmp X)
     → ((base : ℕ) → fin.get m base ≡ fin.get n base) → m ≡ n
 same_rows m n alike = fin.same_map nat_cmp_total fin.nat_cmp-IsAntisymmetric m n alike

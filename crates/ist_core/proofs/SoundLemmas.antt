@@ -1,4 +1,4 @@
--- Behind a lawful log rows lie soundly, and each that was reserved is known. Serves
+-- After a lawful log held rows lie apart, and each row that was reserved is known. Serves
 -- `laws.rows_are_known`.
 use Rattle.std.proofs.Common.{◌≡◌, ℕ, ◌+◌, ◌<◌, ◌⊎◌, [], ◌∷◌, Option, Some, None, refl, sym, ap, ◌∙◌, subst, inl, inr, ⊎_elim, arith}
 use Rattle.ist_core.specs.declared.lists.HeldRow.{HeldRow}
@@ -36,7 +36,7 @@ module _ (t : Snapshot) (caller base size : ℕ) (h : CanReserve t caller base s
     positive : 0 < size
     positive = reserve_positive t caller base size h
 
-    -- what is held behind it was held, or is the new row
+    -- a row that is held after the Reserve was held before, or is the new row
     held_or_new : (g : HeldRow) → Among g (after t (Reserve caller base size)).held
         → Among g t.held ⊎ (g ≡ new_row)
     unfolding new_row
@@ -77,7 +77,7 @@ module _ (t : Snapshot) (caller base size : ℕ) (h : CanReserve t caller base s
             f.base ≡ base = ap (λ x. x.base) d in absurd (omega arith)
         both f g e (inr c) (inr d) = c ∙ sym d
 
--- the event reserves a row
+-- the row that an event reserves, if it reserves one
 pub record IsReserve (first : Snapshot) (log : Log) (event : Event) : Type 0 where
   pub caller : ℕ
   pub base : ℕ
@@ -117,7 +117,7 @@ moves_or_reserves first log (Place caller rebuild i word rows) h s = inl
 moves_or_reserves first log (Lose caller bases) h s = inl
     (moves first log (Lose caller bases) refl h s)
 
--- an enabled event leaves rows sound
+-- after an enabled event held rows still lie apart
 sound_step : (first : Snapshot) (log : Log) (event : Event) → Enabled first log event
     → HeldLieApart (state first log) → HeldLieApart (state first (event ∷ log))
 sound_step first log event h s =
@@ -127,7 +127,7 @@ sound_step first log event h s =
     (sound_reserve (state first log) r.caller r.base r.size r.can s))
     (moves_or_reserves first log event h s)
 
--- rows lie soundly behind a log from a sound state
+-- held rows lie apart after a log from a state in which they do
 pub sound : (first : Snapshot) (log : Log) → HeldLieApart first → EachEnabled first log
     → HeldLieApart (state first log)
 sound first [] s h = s
@@ -135,7 +135,7 @@ sound first (event ∷ log) s h = sound_step first log event h.1 (sound first lo
 
 -- ---- the fate of a reserved row
 
--- the row is held by the caller, or stands published, or was lost
+-- the row is held by the caller, or published, or was lost
 abbrev pub Known : Snapshot → Log → ℕ → ℕ → ℕ → Type 0
 Known t log caller base size = (HoldsRow t caller base size ⊎ StandsWith t.pieces base size) ⊎
     Happened (Loses base) log
@@ -170,7 +170,7 @@ known_step first log event caller base size h s k =
     (known_reserve (state first log) log r.caller r.base r.size caller base size k))
     (moves_or_reserves first log event h s)
 
--- the row that an event reserves is held behind it
+-- the row that an event reserves is then held
 held_now : (t : Snapshot) (event : Event) (caller base size : ℕ) → Reserves caller base size event
     → HoldsRow (after t event) caller base size
 held_now t (Reserve c b z) caller base size h =

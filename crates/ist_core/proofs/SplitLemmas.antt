@@ -39,7 +39,7 @@ mutual
         → SplitAll key ps (word ∷ words) (part ∷ behind) (here ++ rest)
 
 mutual
-  -- an ideal subtree is one
+  -- an ideal subtree is a tree over its leaves
   pub ideal_splits : (ps : Pieces) (ref : Ref) (leaves : List PlacedLeaf) (above : ℕ)
       (rows : List ℕ)
       → IsIdeal ps ref leaves above rows → Splits key_of_leaf ps ref leaves rows
@@ -59,9 +59,9 @@ mutual
       one_split ref e (ideal_splits ps ref part above here first)
       (ideal_split_all ps words behind above rest more)
 
--- ---- keys rise
+-- ---- increasing keys
 
--- an inner row whose keys rise stands at the base
+-- there is an inner row with strictly increasing keys at the base
 pub record StandsRising (ps : Pieces) (base : ℕ) : Type 0 where
   pub row : InnerRow
   pub published : ps base ≡ Some (Inner row)
@@ -69,7 +69,7 @@ pub record StandsRising (ps : Pieces) (base : ℕ) : Type 0 where
 
 module _ {A : Type 0} (key : A → ℕ) (ps : Pieces) where
   mutual
-    -- over a rising list the keys of each row rise
+    -- over a strictly increasing list the keys of each row are strictly increasing
     pub split_rises : (ref : Ref) (xs : List A) (rows : List ℕ) → Splits key ps ref xs rows
         → Rises key xs → Each (StandsRising ps) rows
     split_rises _ _ _ split_none rise = tt

@@ -25,7 +25,7 @@ use Rattle.ist_core.specs.Elements.{Among}
 use Rattle.ist_core.specs.RowLayout.{first_row}
 use Rattle.ist_core.proofs.PieceLemmas.{among-pieces_of, slice_get-drop, stands_by}
 
--- each row of the new table stands among its words
+-- each row of the new table is found among its words
 rows_stand : (base : ℕ) (p : Piece) → Among (base, p) (rows_from first_row two_pairs)
     → StandsAt two_pairs_words base p
 unfolding ideal_words ideal_words_within rows_within degree square_root root_up_to part_len
@@ -74,6 +74,7 @@ unfolding ideal_words ideal_words_within rows_within degree square_root root_up_
     part_lens
 ten_laid = refl
 
+-- the new table of the start pairs
 abbrev pub two : Snapshot
 two = start start_pairs 100
 

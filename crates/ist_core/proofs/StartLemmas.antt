@@ -18,7 +18,7 @@ use Rattle.ist_core.proofs.WordLemmas.{ideal_words_one}
 use Rattle.ist_core.proofs.PieceLemmas.{among-pieces_of}
 use Rattle.ist_core.proofs.MoveLemmas.{HeldLieApart}
 
--- an element of what is made of each element is made of one of them
+-- an element of joined lists is an element of one of them
 among-flat_map : {A B : Type 0} (f : A → List B) (y : B) (xs : List A) → Among y (flat_map f xs)
     → (x : A) × Among x xs × Among y (f x)
 among-flat_map f y [] i = absurd i
@@ -27,7 +27,7 @@ among-flat_map f y (x ∷ xs) i =
     (λ there. let it = among-flat_map f y xs there in (it.0, inr it.1, it.2))
     (among-append y (f x) (flat_map f xs) i)
 
--- the trees of the parts lie one behind another, and end where their words end
+-- the trees of the parts lie one after another, and end where their words end
 placed_low : (lens : List ℕ) (from : ℕ) (xs : List Pair) (base : ℕ) (part : List Pair)
     → sum lens ≤ length xs → Among (base, part) (zip (bases_from from lens) (cut lens xs))
     → base + ideal_words (length part) ≤ from + sum_by ideal_words lens
@@ -72,7 +72,7 @@ low_rows (suc fuel) base (pair ∷ more ∷ pairs) at p (inr i) =
     it.0.1 (omega arith) it.1 in
     omega arith
 
--- a new table is sound
+-- the held rows of a new table lie apart
 pub sound_start : (pairs : List Pair) (words : ℕ) → HeldLieApart (start pairs words)
 sound_start pairs words =
     record {

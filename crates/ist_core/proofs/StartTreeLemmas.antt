@@ -28,7 +28,7 @@ use Rattle.ist_core.proofs.SplitLemmas.{Splits, split_none, split_leaf, split_ro
 use Rattle.ist_core.proofs.NamingLemmas.{RowNames, SlotNames, WordsName}
 use Rattle.ist_core.proofs.TreeLemmas.{IsTree, AreTrees, tree_none, tree_leaf, tree_row, no_tree, one_tree, IsTreeRow, tree_rows, tree_slot}
 
--- rows that lie one behind another are each found at their bases
+-- rows that lie one after another are each found at their bases
 pub pieces_of-among : (from to : ℕ) (rows : List (ℕ × Piece)) (base : ℕ) (p : Piece)
     → Fills from rows to → Among (base, p) rows → pieces_of rows base ≡ Some p
 pieces_of-among from to [] base p h i = absurd i
@@ -49,11 +49,11 @@ pieces_of-among from to (row ∷ rows) base p h (inr i) =
 pub data IsLeafRow : Piece → Type 0 where
   leaf_row : (r : LeafRow) → IsLeafRow (Leaf r)
 
--- the bases from here on, as many as the words say, are good
+-- this number of bases, from this one on, are good
 abbrev pub GoodFrom : ℕ → ℕ → Type 0
 GoodFrom base words = (first_row ≤ base) × (base + words ≤ place_limit)
 
--- the bases rise, and lie between the two places
+-- the bases are strictly increasing, and lie between the two places
 abbrev pub Between : ℕ → List ℕ → ℕ → Type 0
 Between from [] to = from ≤ to
 Between from (base ∷ bases) to = (from ≤ base) × Between (base + 1) bases to
@@ -75,7 +75,7 @@ between_above from to base (b ∷ bases) h (inl e) = let first = h.0 in omega ar
 between_above from to base (b ∷ bases) h (inr i) = let first = h.0 in let rest = between_above
     (b + 1) to base bases h.1 i in omega arith
 
--- no base stands twice among rising ones
+-- no base is twice in a strictly increasing list
 pub between_once : (from to : ℕ) (bases : List ℕ) → Between from bases to → Distinct bases
 between_once from to [] h = tt
 between_once from to (base ∷ bases) h = (
@@ -102,7 +102,7 @@ record HangAs (ps : Pieces) (words : List ℕ) (behind : List (List Pair)) (abov
   each : (base : ℕ) (p : Piece) → Among (base, p) listed → IsLeafRow p ⊎ Among base rows
   splits : SplitAll (λ pair. pair.key) ps words behind rows
 
--- a tree lies at a good base where it has a word
+-- a tree with at least one word lies at a good base
 tree_good : (base : ℕ) (pairs : List Pair) → GoodFrom base (ideal_words (length pairs))
     → IsGoodRef (tree_at base pairs)
 tree_good base [] good = tt
@@ -115,11 +115,11 @@ tree_good base (pair ∷ more ∷ pairs) good =
     record { behind_fixed = low; below_limit = omega arith }
 
 module _ (ps : Pieces) where
-  -- the rows stand
+  -- these rows are published
   abbrev Stand : List (ℕ × Piece) → Type 0
   Stand listed = (base : ℕ) (p : Piece) → Among (base, p) listed → ps base ≡ Some p
 
-  -- trees of parts, where each part is one
+  -- the trees of the parts hang in their slots, if each tree does
   parts_hang : (fuel from above : ℕ) (ns : List ℕ) (xs : List Pair) → sum ns ≤ length xs
       → above < from → GoodFrom from (sum_by ideal_words ns)
       → Stand (flat_map (λ part. rows_within fuel part.0 part.1)
@@ -179,7 +179,7 @@ module _ (ps : Pieces) where
             (tree_good from (take n xs) (low, omega arith))) first.splits rest.splits;
       }
 
-  -- the rows of a tree are one
+  -- the rows of a tree, one after another, make a tree
   pub rows_hang : (fuel base above : ℕ) (pairs : List Pair) → length pairs ≤ fuel → above < base
       → GoodFrom base (ideal_words (length pairs)) → Stand (rows_within fuel base pairs)
       → HangsAs ps (tree_at base pairs) pairs above (rows_within fuel base pairs) base
@@ -249,7 +249,7 @@ module _ (ps : Pieces) where
           }
 
 module _ (pairs : List Pair) (words : ℕ) (opens : CanOpen pairs words) where
-  -- the rows of a new table stand
+  -- the rows of a new table are published
   start_stands : (base : ℕ) (p : Piece) → Among (base, p) (rows_from first_row pairs)
       → (start pairs words).pieces base ≡ Some p
   start_stands base p i =
@@ -266,7 +266,7 @@ module _ (pairs : List Pair) (words : ℕ) (opens : CanOpen pairs words) where
   start_hangs above low = rows_hang (start pairs words).pieces (length pairs) first_row above pairs
       (omega arith) low start_good start_stands
 
-  -- the word of the anchor leads to it
+  -- the word of the anchor leads to the tree
   pub start_anchor : ref_of (start pairs words).anchor ≡ Some (tree_at first_row pairs)
   start_anchor = ref_of-word_of (tree_at first_row pairs) (tree_good first_row pairs start_good)
 

@@ -11,7 +11,7 @@ use Rattle.ist_core.specs.Installing.{pair_row, pair_over, FitsKind, a_put, a_pa
 use Rattle.ist_core.proofs.AddingLemmas.{IsInstalled}
 use Rattle.ist_core.proofs.FieldLemmas.{IsRare, Has}
 
--- the status of an inner row, and 0 of others
+-- the status of an inner row, or 0 for other rows
 abbrev pub status_in : Piece → ℕ
 status_in (Inner r) = r.status
 status_in _ = 0
@@ -59,12 +59,14 @@ draw_same (Leaf r) = refl
 draw_same (Change r) = refl
 draw_same (Rebuild r) = refl
 
+-- a root leaves the status of a row
 pub root_same : (word : ℕ) (p : Piece) → status_in (with_root word p) ≡ status_in p
 root_same word (Inner r) = refl
 root_same word (Leaf r) = refl
 root_same word (Change r) = refl
 root_same word (Rebuild r) = refl
 
+-- few events write a status
 pub status_rare : IsRare status_in 0
 status_rare = record {
   slot = slot_same;
@@ -76,11 +78,12 @@ status_rare = record {
   install = installed_untouched;
 }
 
--- a finished row is one with that status
+-- a finished row has the status word of its keys
 pub finished_has : (t : Snapshot) (node k : ℕ) → IsFinishedWith t node k
     → Has status_in 0 status_rare t.pieces node (finished_word k)
 finished_has t node k h = (Inner h.row, h.published, h.status)
 
+-- a row with the word of k keys as its status is finished with k keys
 pub has_finished : (t : Snapshot) (node k : ℕ)
     → Has status_in 0 status_rare t.pieces node (finished_word k) → IsFinishedWith t node k
 has_finished t node k h = at h.0 h.1 h.2

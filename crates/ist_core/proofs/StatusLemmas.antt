@@ -17,14 +17,14 @@ abbrev chosen : Bool → Bool → Bool → Bool → ℕ → Option Status
 chosen a b c d keys =
     cond a (Some Open) (cond b (Some Marked) (cond (c && d) (Some (Finished keys)) None))
 
--- what the four tests of a word answer
+-- the results of the four tests of a word
 record Tests (word : ℕ) (a b c d : Bool) : Type 0 where
   open_test : (word == 0) ≡ a
   marked_test : (word == 1) ≡ b
   finished_test : (word % 4 == 3) ≡ c
   keys_test : nat_lt (word / 4) keys_limit ≡ d
 
--- they answer so
+-- these are the results of the tests
 tests : (word : ℕ)
     → Tests word (word == 0) (word == 1) (word % 4 == 3) (nat_lt (word / 4) keys_limit)
 tests word = record {

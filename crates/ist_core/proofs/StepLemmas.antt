@@ -1,4 +1,4 @@
--- Each event lets the rows grow. Serves `laws.rows_stay`, and each law that speaks of rows.
+-- Each event lets the rows grow. Serves `laws.rows_grow`, and each law about rows.
 use Rattle.std.proofs.Common.{◌≡◌, ℕ, List, ◌∷◌, Option, Some, refl, sym, ap, ◌∙◌, subst}
 use Rattle.ist_core.specs.declared.lists.Row.{Row}
 use Rattle.ist_core.specs.declared.events.Event.{Event}
@@ -19,14 +19,14 @@ use Rattle.ist_core.proofs.InstallLemmas.{with_installed}
 use Rattle.ist_core.proofs.AddingLemmas.{adds_install, adds-with_inners}
 use Rattle.ist_core.proofs.GrowingLemmas.{all_grow_same, all_grow_on, all_grow_added, all_grow-changed_at, grows-with_slot, grows-with_status, grows-with_decision, grows-with_root, grows-counted, grows-drawn}
 
--- ---- the rows behind the events that write by a row
+-- ---- the rows after the events that write by what a row says
 
--- behind a Resolve the change's slot holds its side
+-- after a Resolve the change's slot holds its side
 pub rows_resolved : (t : Snapshot) (caller base : ℕ) (h : CanResolve t caller base)
     → after t (Resolve caller base) ≡ resolved t (Some h.change)
 rows_resolved t caller base h = ap (λ o. resolved t (as_change o)) h.published
 
--- behind a Place the root's slot holds the word
+-- after a Place the root's slot holds the word
 pub rows_placed : (t : Snapshot) (caller rebuild i word : ℕ) (rows : List Row)
     (h : CanPlace t caller rebuild i word rows)
     → (after t (Place caller rebuild i word rows)).pieces ≡ changed_at
@@ -45,7 +45,7 @@ holds_installed first log caller base rows h = subst (λ rs. HoldsRows (state fi
 
 -- ---- rows grow
 
--- a row that is known grows so
+-- one base has one row: what holds of it as q holds of it as p
 pub known : (P : Piece → Type 0) (o : Option Piece) (p q : Piece) → o ≡ Some p → o ≡ Some q → P q
     → P p
 known P o p q h k x = let same : q ≡ p = cc in subst P same x

@@ -36,7 +36,7 @@ use Rattle.ist_core.proofs.CountLemmas.{counts}
 
 -- ---- fresh rows count nothing
 
--- the count of a row, and 0 of a row that has none
+-- the count of a row, or 0 if it isn't an inner row
 abbrev pub count_in : Piece → ℕ
 count_in (Inner r) = r.count
 count_in _ = 0
@@ -59,7 +59,7 @@ installed_uncounted first log at change fresh (a_remove f) base p (inr h) = absu
 installed_uncounted first log at change fresh (a_start f) base p (inr h) = ap count_in h.1
 installed_uncounted first log at change fresh (a_finish f) base p (inr h) = absurd h
 
--- a row that counts nothing stands at the base
+-- the row at the base counts nothing
 abbrev Uncounted : Pieces → ℕ → Type 0
 Uncounted ps base = (p : Piece) × (ps base ≡ Some p) × (count_in p ≡ 0)
 
@@ -108,7 +108,7 @@ start_uncounted (suc fuel) base (pair ∷ more ∷ pairs) = (
 -- ---- the count of a row is the number of its Counts
 
 module _ (node : ℕ) where
-  -- each row at the node counts at most so many
+  -- the row at the node counts at most this many
   abbrev CountsAtMost : Pieces → ℕ → Type 0
   CountsAtMost ps most = (q : Piece) → ps node ≡ Some q → count_in q ≤ most
 
@@ -245,7 +245,7 @@ module _ (node : ℕ) where
   most_step first log (Pass caller at i word) h s old = old
   most_step first log (Lose caller bases) h s old = old
 
-  -- a row counts as often as it was counted, at most
+  -- the count of a row is at most the number of its Counts
   pub count_at_most : (pairs : List Pair) (words : ℕ) (log : Log)
       → EachEnabled (start pairs words) log
       → CountsAtMost (state_of pairs words log).pieces (counts node log)

@@ -23,7 +23,7 @@ use Rattle.ist_core.proofs.ShapedLemmas.{shaped}
 use Rattle.ist_core.proofs.ImageLemmas.{slot_found}
 use Rattle.ist_core.proofs.ChainLemmas.{on_chain_inner}
 
--- the status of an open node stands at its place
+-- the status of an open node is at its place
 status_found : (t : Snapshot) (words : List ℕ) (node : ℕ) → IsImage t words → t.pieces anchor ≡ None
     → IsOpen t node → slice_get words (place_of_status node) ≡ Some open_word
 status_found t words node image free (anchor_is a) =
@@ -44,7 +44,7 @@ status_found t words node image free (row_is r p e) =
 module _ (pairs : List Pair) (words : ℕ) (opens : CanOpen pairs words) (log : Log)
     (enabled : EachEnabled (start pairs words) log) (ws : List ℕ)
     (image : IsImage (state_of pairs words log) ws) where
-  -- the word of a slot stands at its place
+  -- the word of a slot is at its place
   pub slot_there : (node i word : ℕ) → SlotHolds (state_of pairs words log) node i word
       → slice_get ws (place_of_slot (state_of pairs words log) node i) ≡ Some word
   slot_there node i word slot =

@@ -36,7 +36,7 @@ mutual
 -- ---- trees
 
 mutual
-  -- an ideal subtree is one
+  -- an ideal subtree is a tree of published rows
   pub tree_of_ideal : (ps : Pieces) (ref : Ref) (leaves : List PlacedLeaf) (above : ℕ)
       (rows : List ℕ)
       → IsIdeal ps ref leaves above rows → IsTree ps ref above rows
@@ -54,7 +54,7 @@ mutual
       one_tree ref e (tree_of_ideal ps ref part above here first)
       (trees_of_ideal ps words behind above rest more)
 
--- slots that aren't set yet lead nowhere
+-- slots that aren't set yet lead to trees without rows
 unset_trees : (ps : Pieces) (above n : ℕ) → AreTrees ps (replicate n unset_word) above []
 unset_trees ps above zero = no_tree
 unset_trees ps above (suc n) = one_tree Unset ref_of-unset tree_unset (unset_trees ps above n)
@@ -84,7 +84,7 @@ tree_slot ps _ above _ i tree_unset = tt
 tree_slot ps _ above _ i (tree_leaf r e) = (r, e)
 tree_slot ps _ above _ i (tree_row r e higher below) = (higher, (r, e))
 
--- and be the root of a rebuild
+-- a tree may be the root of a rebuild with a lower target
 pub tree_root : (ps : Pieces) (ref : Ref) (above : ℕ) (rows : List ℕ) → IsTree ps ref above rows
     → RootNames ps above (Some ref)
 tree_root ps _ above _ tree_none = tt
@@ -111,7 +111,7 @@ pub record IsTreeRow (ps : Pieces) (base : ℕ) : Type 0 where
   pub names : RowNames ps base (Inner row)
 
 mutual
-  -- each inner row of a tree is such
+  -- the words of each inner row of a tree name what they may
   pub tree_rows : (ps : Pieces) (ref : Ref) (above : ℕ) (rows : List ℕ) → IsTree ps ref above rows
       → Each (IsTreeRow ps) rows
   tree_rows ps _ above _ tree_none = tt

@@ -1,5 +1,5 @@
--- The leaves below what is named for a slot lie where their keys lead, and rise by key. Serves the
--- order law.
+-- The leaves below what is named for a slot lie where their keys lead, with strictly increasing
+-- keys. Serves the order law.
 use Rattle.std.proofs.Common.{◌≡◌, ℕ, suc, ◌+◌, ◌<◌, ◌≤◌, List, [], ◌∷◌, slice_get, Option, Some, None, refl, subst, arith}
 use Rattle.ist_core.specs.declared.states.LeafRow.{LeafRow}
 use Rattle.ist_core.specs.declared.states.InnerRow.{InnerRow}
@@ -41,16 +41,16 @@ each_mapped P Q (x ∷ xs) f h = (f x h.0, each_mapped P Q xs f h.1)
 
 module _ (ps : Pieces) (In : ℕ → ℕ → Option Ref → Type 0) (Lies : ℕ → ℕ → ℕ → Type 0)
     (says : SaysWhere ps In Lies) where
-  -- the leaves lie in this slot, and rise
+  -- the leaves lie in this slot, and their keys are strictly increasing
   abbrev AreIn : List PlacedLeaf → ℕ → ℕ → Type 0
   AreIn leaves node i = Each (λ leaf. Lies (key_of_leaf leaf) node i) leaves × Rises key_of_leaf
       leaves
 
-  -- the leaf lies in slot j of the row, or in one behind it
+  -- the leaf lies in slot j of the row, or in a later one
   abbrev IsFrom : ℕ → ℕ → PlacedLeaf → Type 0
   IsFrom base j leaf = (m : ℕ) × (j ≤ m) × Lies (key_of_leaf leaf) base m
 
-  -- leaves of slot j come before those of slots behind it
+  -- leaves of slot j come before leaves of later slots
   earlier : (base j : ℕ) (r : InnerRow) (here rest : List PlacedLeaf) → ps base ≡ Some (Inner r)
       → Each (λ leaf. Lies (key_of_leaf leaf) base j) here → Each (IsFrom base (suc j)) rest
       → AllBelow key_of_leaf here rest
@@ -100,6 +100,8 @@ module _ (ps : Pieces) (In : ℕ → ℕ → Option Ref → Type 0) (Lies : ℕ 
               (earlier base j r here rest e one.0 others.0),
         )
 
+  -- the leaves below a reference that is named for a slot lie in the slot, with strictly increasing
+  -- keys
   pub leaves_lie_in : (ref : Option Ref) (leaves : List PlacedLeaf) → HasLeaves ps ref leaves
       → (node i : ℕ) → In node i ref → AreIn leaves node i
   leaves_lie_in ref leaves h node i m = leaves_in ref leaves h node i m
@@ -143,7 +145,8 @@ slot_reads_as t node i word o slot =
           { word = word; holds = slot; reads = e };
     }
 
--- where each leaf lies where its key leads, so do all below what is named for a slot, and they rise
+-- if each leaf lies where its key leads, so do all leaves below what is named for a slot, with
+-- strictly increasing keys
 pub leaves_under : (t : Snapshot) (ref : Option Ref) (leaves : List PlacedLeaf) → WordsName t
     → HasOneHome t → t.pieces anchor ≡ None → LeavesLie t → HasLeaves t.pieces ref leaves
     → (node i : ℕ) → ReadsAs t node i ref

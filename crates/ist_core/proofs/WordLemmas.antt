@@ -51,7 +51,7 @@ sum-flat_map h (x ∷ xs) =
     ∙ ap (λ k. sum (h x) + k) (sum-flat_map h xs)
     ∙ sym (sum_by-cons (λ y. sum (h y)) x xs)
 
--- twice the numbers, and what else is counted of each
+-- a sum of twice each number and something more is twice the sum and the sum of the rest
 sum_by_twice_and : (g : ℕ → ℕ) (xs : List ℕ)
     → sum_by (λ x. 2 * x + g x) xs ≡ 2 * sum xs + sum_by g xs
 sum_by_twice_and g [] = refl
@@ -90,7 +90,8 @@ ideal_words_is n = words_up_to n n (omega arith)
 
 -- ---- at most
 
--- where each part takes 7 words less than nine a key, all do
+-- if each part takes at most 9 words a key less 7, all parts take at most 9 words a key less 7 for
+-- each part
 sum_parts-le : (g : ℕ → ℕ) (n : ℕ) → ((j : ℕ) → g (part_len n j) + 7 ≤ 9 * part_len n j)
     → sum_by g (part_lens n) + 7 * degree n ≤ 9 * n
 unfolding part_lens
@@ -129,22 +130,22 @@ ideal_words-le n h = words_bound_up_to n n (omega arith) h
 
 -- ---- the smallest trees
 
--- no key
+-- a tree of no key has no words
 pub ideal_words_none : ideal_words 0 ≡ 0
 unfolding ideal_words ideal_words_within
 ideal_words_none = refl
 
--- a leaf
+-- a tree of one key has a leaf's words
 pub ideal_words_one : ideal_words 1 ≡ 2
 unfolding ideal_words ideal_words_within
 ideal_words_one = refl
 
--- two leaves below a pair row
+-- a tree of two keys has the words of a pair row and two leaves
 pub ideal_words_two : ideal_words 2 ≡ 11
 unfolding ideal_words ideal_words_within part_lens part_len degree square_root root_up_to
 ideal_words_two = refl
 
--- at most nine words a key, also where there is none
+-- an ideal tree takes at most nine words a key, also for no key
 pub ideal_words_nine : (n : ℕ) → ideal_words n ≤ 9 * n
 ideal_words_nine zero = omega (arith, ideal_words_none)
 ideal_words_nine (suc n) = omega (arith, ideal_words-le (suc n))
@@ -155,7 +156,7 @@ ideal_words_nine (suc n) = omega (arith, ideal_words-le (suc n))
 unfoldable pub mixed_words : ℕ → ℕ → ℕ → ℕ
 mixed_words d longer p = longer * ideal_words (p + 1) + (d - longer) * ideal_words p
 
--- only longer parts of p keys are only shorter parts of p + 1 keys
+-- d longer parts of p keys are d shorter parts of p + 1 keys
 mixed_words_turned : (d p : ℕ) → mixed_words d 0 (p + 1) ≡ mixed_words d d p
 unfolding mixed_words
 mixed_words_turned d p =

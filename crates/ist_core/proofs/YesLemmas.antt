@@ -1,4 +1,4 @@
--- Each change is decided once, so that few are decided yes. Serves `laws.counts_are_low`.
+-- Each change is decided once, so few are decided yes. Serves `laws.counts_are_low`.
 use Rattle.std.proofs.Common.{◌≡◌, ◌≢◌, ℕ, zero, suc, ◌+◌, ◌<◌, ◌≤◌, ◌⊎◌, ◌==◌, if◌then◌else◌, Bool, true, false, not, List, [], ◌∷◌, length, Option, Some, option_map, refl, sym, ap, ◌∙◌, subst, inl, inr, arith}
 use Rattle.std.proofs.lemmas.Bool.Decides.{eqb_tells}
 use Rattle.ist_core.specs.declared.pairs.Pair.{Pair}
@@ -78,7 +78,7 @@ drop_few x (y ∷ ys) h = at (drop_few x ys h.1) (y == x) (eqb_tells y x)
     at rest v (inr k) = subst (λ b. length (y ∷ ys) ≤ length
         (if not b then y ∷ drop_all x ys else drop_all x ys) + 1) (sym k.0) (omega arith)
 
--- so that there are no more of them than numbers below
+-- there are at most n distinct numbers below n
 pub distinct_below : (n : ℕ) (xs : List ℕ) → Distinct xs → Each (λ x. x < n) xs → length xs ≤ n
 distinct_below zero [] d h = omega arith
 distinct_below zero (x ∷ xs) d h = let low = h.0 in absurd (omega arith)
@@ -94,12 +94,12 @@ distinct_below (suc n) xs d h =
 
 -- ---- changes that were decided yes
 
--- a decided change stands at the base
+-- there is a decided change at the base
 IsDecided : Pieces → ℕ → Type 0
 IsDecided ps base = (r : ChangeRow) × (ps base ≡ Some (Change r)) × (r.decision ≢ undecided)
 
 module _ (pairs : List Pair) (words : ℕ) where
-  -- it stays decided
+  -- a decided change stays decided
   decided_on : (log : Log) (event : Event) → EachEnabled (start pairs words) (event ∷ log)
       → (bases : List ℕ) → Each (IsDecided (state_of pairs words log).pieces) bases
       → Each (IsDecided (state_of pairs words (event ∷ log)).pieces) bases
@@ -116,7 +116,7 @@ module _ (pairs : List Pair) (words : ℕ) where
             bases all.1,
       )
 
-  -- what was decided yes stands decided, each once
+  -- the changes that were decided yes are decided rows, each of them once
   yes_once : (log : Log) → EachEnabled (start pairs words) log
       → Each (IsDecided (state_of pairs words log).pieces) (decided_yes_in log) × Distinct
       (decided_yes_in log)
@@ -174,7 +174,7 @@ module _ (pairs : List Pair) (words : ℕ) where
   yes_once (Lose c bases ∷ log) h = let before = yes_once log h.0 in
       (decided_on log (Lose c bases) h (decided_yes_in log) before.0, before.1)
 
-  -- they lie within the table
+  -- the bases of decided changes lie within the table
   yes_below : CanOpen pairs words → (log : Log) → EachEnabled (start pairs words) log
       → (bases : List ℕ) → Each (IsDecided (state_of pairs words log).pieces) bases
       → Each (λ base. base < place_limit) bases
@@ -184,7 +184,7 @@ module _ (pairs : List Pair) (words : ℕ) where
       let good = published_good pairs words opens log base (Change all.0.0) h all.0.1 in
       (good.below_limit, yes_below opens log h bases all.1)
 
-  -- a row counts no more than what was decided yes
+  -- a row counts at most what was decided yes
   pub count_few : (log : Log) → EachEnabled (start pairs words) log → (node : ℕ) (r : InnerRow)
       → (state_of pairs words log).pieces node ≡ Some (Inner r)
       → r.count ≤ length (decided_yes_in log)
@@ -193,7 +193,7 @@ module _ (pairs : List Pair) (words : ℕ) where
       let few = counts_few pairs words node log h in
       omega arith
 
-  -- and that is less than there are places
+  -- a count is at most the number of places
   pub count_low : CanOpen pairs words → (log : Log) → EachEnabled (start pairs words) log
       → (node : ℕ) (r : InnerRow) → (state_of pairs words log).pieces node ≡ Some (Inner r)
       → r.count ≤ place_limit

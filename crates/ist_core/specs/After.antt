@@ -15,13 +15,14 @@ use Rattle.ist_core.specs.Snapshots.{Snapshot, with_slot_at, bases_of, without}
 abbrev pub decision_word : Bool → ℕ
 decision_word said = if said then decided_yes else decided_no
 
--- the word that a decided change leaves in its slot: `to` after yes, `from` after no
+-- the word that a decided change leaves in its slot: `to` after yes, `from` otherwise
 abbrev pub side_of : ChangeRow → ℕ
 side_of change = if change.decision == decided_yes then change.to else change.from
 
 -- ---- Install
 
--- the rows with those published that stand behind the change's row: a pair row and a leaf, or a rebuild, or a leaf
+-- the rows, with those that follow the change's row published: a pair row and a leaf, or a rebuild,
+-- or a leaf
 abbrev pub with_fresh : Pieces → ChangeRow → List Row → Pieces
 with_fresh ps change (pair ∷ leaf ∷ []) =
     with_row (with_row ps leaf.base (leaf_of leaf.words)) pair.base (inner_of pair.words)
@@ -29,7 +30,7 @@ with_fresh ps change (fresh ∷ []) =
     with_row ps fresh.base (if change.kind == start_kind then rebuild_of fresh.words else leaf_of fresh.words)
 with_fresh ps change _ = ps
 
--- the change is published at its base with its fresh rows, and stands in its slot
+-- the change is published at its base with its fresh rows, and its word is in its slot
 abbrev pub with_change : Snapshot → ℕ → List Row → Option ChangeRow → Snapshot
 with_change t base fresh None = t
 with_change t base fresh (Some change) =
@@ -37,26 +38,26 @@ with_change t base fresh (Some change) =
     record t { pieces = with_row (with_fresh t.pieces change fresh) base (Some (Change change)) }
     change.node change.index (word_of (ChangeAt base))
 
--- the rows are published, of which the first is the change's
+-- the rows are published; the first is the change's row
 abbrev pub installed : Snapshot → ℕ → List Row → Snapshot
 installed t base [] = t
 installed t base (row ∷ fresh) = with_change t base fresh (change_of row.words)
 
 -- ---- Resolve
 
--- the change leaves its slot
+-- the change leaves its slot, which gets the change's side
 abbrev pub resolved : Snapshot → Option ChangeRow → Snapshot
 resolved t None = t
 resolved t (Some change) = with_slot_at t change.node change.index (side_of change)
 
 -- ---- Place
 
--- the rows with a word in a slot of the row that is named
+-- the rows with a word in slot `part` of the row that the reference names
 abbrev pub with_part : Pieces → Option Ref → ℕ → ℕ → Pieces
 with_part ps (Some (InnerAt root)) part word = changed_at ps root (with_slot part word)
 with_part ps _ part word = ps
 
--- the word stands in the part of the rebuild's root
+-- the word is in slot `part` of the rebuild's root
 abbrev pub placed : Pieces → Option RebuildRow → ℕ → ℕ → Pieces
 placed ps None part word = ps
 placed ps (Some r) part word = with_part ps (ref_of r.root) part word

@@ -34,7 +34,8 @@ least_degree = 2
 unfoldable pub degree : ℕ → ℕ
 degree n = max least_degree (square_root n)
 
--- how many of n keys child j has: an equal share, and the first children one more of what is left
+-- how many of n keys child j has: an equal share, and one of the remainder for each of the first
+-- children
 unfoldable pub part_len : ℕ → ℕ → ℕ
 part_len n j = n / degree n + (if nat_lt j (n % degree n) then 1 else 0)
 
@@ -42,7 +43,7 @@ part_len n j = n / degree n + (if nat_lt j (n % degree n) then 1 else 0)
 unfoldable pub part_lens : ℕ → List ℕ
 part_lens n = map (part_len n) (range_with_len 0 (degree n))
 
--- how many of n keys lie before those of child j
+-- how many of n keys precede the keys of child j
 unfoldable pub part_start : ℕ → ℕ → ℕ
 part_start n j = sum (map (part_len n) (range_with_len 0 j))
 
@@ -50,7 +51,7 @@ part_start n j = sum (map (part_len n) (range_with_len 0 j))
 abbrev pub least_limit : ℕ
 least_limit = 8
 
--- after how many updates a node that was built over `size` keys is due for a rebuild
+-- how many updates make a node due for a rebuild, if it was built over `size` keys
 abbrev pub limit : ℕ → ℕ
 limit size = max least_limit (size / 4)
 

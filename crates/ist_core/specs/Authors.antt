@@ -1,4 +1,5 @@
--- Whose events are whose, and logs that have gone on by some events alone: by those of others, say.
+-- Which caller makes which event, and logs that continue by certain events only, such as events of
+-- others.
 use Rattle.std.specs.Prelude.{◌≢◌, ◌⊎◌, [], ◌∷◌}
 use Rattle.ist_core.specs.declared.events.Event.{Event}
 use Rattle.ist_core.specs.declared.events.Event.TheVariants.{Count, Decide, Draw, Enter, Finish, Install, Lose, Mark, Okay, Pass, Place, Reserve, Resolve, Root}
@@ -6,7 +7,7 @@ use Rattle.ist_core.specs.declared.events.Who.{Who}
 use Rattle.ist_core.specs.declared.events.Who.TheVariants.{Caller, Maker}
 use Rattle.ist_core.specs.Logs.{Log}
 
--- who makes the event: the maker of the table an Enter, and its caller any other
+-- who makes the event: the maker of the table makes an Enter, its caller makes any other
 abbrev pub whose : Event → Who
 whose (Enter caller) = Maker
 whose (Reserve caller base size) = Caller caller
@@ -23,21 +24,21 @@ whose (Draw caller rebuild part) = Caller caller
 whose (Place caller rebuild i word rows) = Caller caller
 whose (Lose caller bases) = Caller caller
 
--- the log goes on from an earlier one, by events of which P is true
+-- the log continues an earlier one by events that satisfy P
 pub data GoesOnBy (P : Event → Type 0) (earlier : Log) : Log → Type 0 where
   no_more : GoesOnBy P earlier earlier
   one_more : {log : Log} (event : Event) → GoesOnBy P earlier log → P event
       → GoesOnBy P earlier (event ∷ log)
 
--- the log goes on from an earlier one, by events of others than this one
+-- the log continues an earlier one by events of others only
 abbrev pub Later : Who → Log → Log → Type 0
 Later who = GoesOnBy (λ event. whose event ≢ who)
 
--- the log goes on from an earlier one, by events of others, and by own ones that P is true of
+-- the log continues an earlier one by events of others, and by own events that satisfy P
 abbrev pub LaterBy : Who → (Event → Type 0) → Log → Log → Type 0
 LaterBy who P = GoesOnBy (λ event. (whose event ≢ who) ⊎ P event)
 
--- no event of the log is this one's
+-- no event of the log is made by this one
 abbrev pub IsIdleIn : Who → Log → Type 0
 IsIdleIn who [] = Unit {0}
 IsIdleIn who (event ∷ log) = (whose event ≢ who) × IsIdleIn who log

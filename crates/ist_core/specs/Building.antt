@@ -18,8 +18,9 @@ use Rattle.ist_core.specs.Ideals.{IsTop, IsIdeal}
 use Rattle.ist_core.specs.Rebuilding.{IsStarted, IsFinishedWith}
 use Rattle.ist_core.specs.Fairness.{IsBuilding}
 
--- the word is the root for a target with k keys and these leaves: where k is small the whole ideal subtree above the target,
--- and otherwise its top row alone, with every slot Unset. `rows` are the bases of its inner rows
+-- the word is the root for a target with k keys and these leaves: if k is small, the whole ideal
+-- subtree above the target, and otherwise only its top row, with every slot Unset. `rows` are the
+-- bases of its inner rows
 pub data IsRoot (ps : Pieces) (word k : ℕ) (leaves : List PlacedLeaf) (target : ℕ) (rows : List ℕ) : Type 0 where
   root_whole : (ref : Ref) → k < share_from → ref_of word ≡ Some ref
       → IsIdeal ps ref leaves target rows
@@ -29,8 +30,8 @@ pub data IsRoot (ps : Pieces) (word k : ℕ) (leaves : List PlacedLeaf) (target 
       → rows ≡ base ∷ []
       → IsRoot ps word k leaves target rows
 
--- a started rebuild without a root, whose target is finished, may get one: its inner rows are exactly these, which the
--- caller holds
+-- a started rebuild without a root and with a finished target may get one: the root's inner rows
+-- are exactly these, and the caller holds them
 pub record CanRoot (t : Snapshot) (caller rebuild word : ℕ) (rows : List Row) : Type 0 where
   pub known : caller < t.callers
   pub row : RebuildRow
@@ -45,8 +46,8 @@ pub record CanRoot (t : Snapshot) (caller rebuild word : ℕ) (rows : List Row) 
   pub once : Distinct (bases_of rows)
   pub held : HoldsRows t caller rows
 
--- a part of a shared root may be drawn: it is the rebuild's draw word, and no part that the caller drew before lay past
--- the last
+-- a part of a shared root may be drawn: its number is the rebuild's draw word, and the caller has
+-- not yet drawn a number past the last part
 pub record CanDraw (t : Snapshot) (log : Log) (caller rebuild part : ℕ) : Type 0 where
   pub known : caller < t.callers
   pub row : RebuildRow
@@ -58,8 +59,8 @@ pub record CanDraw (t : Snapshot) (log : Log) (caller rebuild part : ℕ) : Type
   pub part_is : part ≡ row.draw
   pub not_past : (earlier : ℕ) → Happened (Draws caller rebuild earlier) log → earlier < degree k
 
--- an Unset slot of a root may get the ideal subtree over its part of the target's leaves, above the root: its inner rows are
--- exactly these, which the caller holds
+-- an Unset slot of a root may get the ideal subtree over its part of the target's leaves, above the
+-- root: the subtree's inner rows are exactly these, and the caller holds them
 pub record CanPlace (t : Snapshot) (caller rebuild i word : ℕ) (rows : List Row) : Type 0 where
   pub known : caller < t.callers
   pub row : RebuildRow
@@ -87,7 +88,8 @@ HoldsSizes t caller [] [] = Unit {0}
 HoldsSizes t caller (base ∷ bases) (size ∷ sizes) = HoldsRow t caller base size × HoldsSizes t caller bases sizes
 HoldsSizes t caller _ _ = ⊥
 
--- behind the caller's last Root, Place or Lose another caller's Root or Place with these sizes stands in the log
+-- since the caller's last Root, Place or Lose, another caller made a Root or Place with rows of
+-- these sizes
 abbrev pub IsBeaten : ℕ → List ℕ → Log → Type 0
 IsBeaten caller sizes [] = ⊥
 IsBeaten caller sizes (Root c rebuild word rows ∷ log) =
@@ -97,7 +99,8 @@ IsBeaten caller sizes (Place c rebuild i word rows ∷ log) =
 IsBeaten caller sizes (Lose c bases ∷ log) = (c ≢ caller) × IsBeaten caller sizes log
 IsBeaten caller sizes (_ ∷ log) = IsBeaten caller sizes log
 
--- a held pair row may be given up where an inner row above it is published, so that it may be too low for its node
+-- a held pair row may be given up if an inner row with a higher base is published, since the pair
+-- row may then be too low for its node
 pub record LosesPair (t : Snapshot) (caller : ℕ) (bases : List ℕ) : Type 0 where
   pub pair : ℕ
   pub bases_are : bases ≡ pair ∷ []
@@ -107,7 +110,7 @@ pub record LosesPair (t : Snapshot) (caller : ℕ) (bases : List ℕ) : Type 0 w
   pub published : t.pieces node ≡ Some (Inner row)
   pub above : pair < node
 
--- the rows of a build may be given up where another caller has put such a build in place meanwhile
+-- the rows of a build may be given up if another caller has published such a build since
 pub record LosesBuild (t : Snapshot) (log : Log) (caller : ℕ) (bases : List ℕ) : Type 0 where
   pub sizes : List ℕ
   pub held : HoldsSizes t caller bases sizes

@@ -13,7 +13,7 @@ use Rattle.ist_core.specs.Snapshots.{Snapshot}
 use Rattle.ist_core.specs.StartLayout.{start}
 use Rattle.ist_core.specs.Logs.{Log, state}
 
--- one change of the map: whose it is, its command, and the reply to it
+-- one change of the map: its owner, its command, and the reply to it
 pub record Entry : Type 0 where
   pub owner : ℕ
   pub command : Command
@@ -26,17 +26,17 @@ command_of change =
     else (if change.kind == remove_kind then Some (Remove change.key)
     else None)
 
--- the value that a row gives the key: that of a leaf of this key
+-- the value that a row gives the key: a leaf of this key gives its own, any other row gives none
 abbrev pub value_in : Option Piece → ℕ → Option ℕ
 value_in (Some (Leaf r)) key = if r.key == key then Some r.value else None
 value_in _ key = None
 
--- the value that the row behind a reference gives the key
+-- the value that the referenced row gives the key
 abbrev pub value_at : Pieces → Option Ref → ℕ → Option ℕ
 value_at ps (Some (LeafAt base)) key = value_in (ps base) key
 value_at ps _ key = None
 
--- the reply to a change: the value of the leaf in whose place it comes, where that leaf has its key
+-- the reply to a change: the value of the leaf that it replaces, if that leaf has its key
 abbrev pub reply_of : Pieces → ChangeRow → Option ℕ
 reply_of ps change = value_at ps (ref_of change.from) change.key
 
@@ -62,10 +62,10 @@ changes first (_ ∷ log) = changes first log
 abbrev pub changes_of : List Pair → ℕ → Log → List Entry
 changes_of pairs words log = changes (start pairs words) log
 
--- the map behind some changes
+-- the map after some changes
 abbrev pub map_behind : Map → List Entry → Map
 map_behind m entries = replay m (map (λ entry. entry.command) entries)
 
--- the map behind the first changes, as many as the position says
+-- the map after the first `position` changes
 abbrev pub map_at : Map → List Entry → ℕ → Map
 map_at m entries position = map_behind m (take position entries)

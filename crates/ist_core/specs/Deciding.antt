@@ -17,13 +17,13 @@ pub record IsPending (t : Snapshot) (base : ℕ) (change : ChangeRow) : Type 0 w
   pub published : t.pieces base ≡ Some (Change change)
   pub unset : change.decision ≡ undecided
 
--- each change that was installed by the caller has left its slot
+-- each change that the caller installed has left its slot
 abbrev pub AllResolvedOf : Snapshot → Log → ℕ → Type 0
 AllResolvedOf t log caller =
     (base : ℕ) (change : ChangeRow) → t.pieces base ≡ Some (Change change) → change.owner ≡ caller
     → Happened (Resolves base) log
 
--- each change that was installed has left its slot
+-- each installed change has left its slot
 abbrev pub AllResolved : Snapshot → Log → Type 0
 AllResolved t log = (caller : ℕ) → AllResolvedOf t log caller
 
@@ -34,19 +34,19 @@ pub record CanOkay (t : Snapshot) (caller base : ℕ) : Type 0 where
   pub pending : IsPending t base change
   pub node_open : IsOpen t change.node
 
--- what an outcome takes: yes takes an Okay of the change, and no a node that isn't open
+-- what an outcome needs: yes needs an Okay of the change, no needs a node that isn't open
 abbrev pub MayBe : Snapshot → Log → ℕ → ChangeRow → Bool → Type 0
 MayBe t log base change true = Happened (Okays base) log
 MayBe t log base change false = ¬ (IsOpen t change.node)
 
--- a pending change may be decided so
+-- a pending change may be decided this way
 pub record CanDecide (t : Snapshot) (log : Log) (caller base : ℕ) (said : Bool) : Type 0 where
   pub known : caller < t.callers
   pub change : ChangeRow
   pub pending : IsPending t base change
   pub outcome : MayBe t log base change said
 
--- a decided change may leave its slot where it stands there
+-- a decided change may leave its slot if it is still there
 pub record CanResolve (t : Snapshot) (caller base : ℕ) : Type 0 where
   pub known : caller < t.callers
   pub change : ChangeRow
@@ -68,8 +68,8 @@ abbrev pub SaysYes : Snapshot → ℕ → Event → Type 0
 SaysYes t caller (Decide by base true) = IsUpdateOf t caller base
 SaysYes t caller _ = ⊥
 
--- a put or remove of the caller may be counted at a row of its chain: it is the last that was decided yes, and was not
--- counted there since
+-- a put or remove of the caller may be counted at a row of its chain: it is the caller's last one
+-- that was decided yes, and it wasn't counted there since
 pub record CanCount (first : Snapshot) (log : Log) (caller node : ℕ) : Type 0 where
   pub known : caller < (state first log).callers
   pub later : Log

@@ -14,19 +14,20 @@ use Rattle.ist_core.specs.Building.{CanRoot, CanDraw, CanPlace, CanLose}
 abbrev pub caller_limit : ℕ
 caller_limit = 2 ^ 32 - 1
 
--- a caller may enter: its number is the number of those before it
+-- a caller may enter: its number is how many entered before it
 pub record CanEnter (t : Snapshot) (caller : ℕ) : Type 0 where
   pub number : caller ≡ t.callers
   pub below_limit : caller < caller_limit
 
--- a row may be reserved: it begins at the first free word, there is room for it, and what the caller then holds is fair
+-- a row may be reserved: it begins at the first free word, it fits, and what the caller then holds
+-- is fair
 pub record CanReserve (t : Snapshot) (caller base size : ℕ) : Type 0 where
   pub known : caller < t.callers
   pub base_is : base ≡ t.next
   pub room : t.next + size ≤ t.words
   pub fair : IsFair t (sizes_held t caller ++ size ∷ [])
 
--- the event may come next behind the log: it is enabled in the state behind it
+-- the event may come next after the log: its condition holds in the state after the log
 abbrev pub Enabled : Snapshot → Log → Event → Type 0
 Enabled first log (Enter caller) = CanEnter (state first log) caller
 Enabled first log (Reserve caller base size) = CanReserve (state first log) caller base size

@@ -1,4 +1,4 @@
--- Small logs that show what the definitions mean. Of a log the newest event stands first.
+-- Small logs that show what the definitions mean. The newest event of a log is first.
 use Rattle.std.specs.Prelude.{true, List, [], ◌∷◌}
 use Rattle.ist_core.specs.declared.pairs.Pair.{Pair}
 use Rattle.ist_core.specs.declared.lists.Row.{Row}
@@ -18,7 +18,7 @@ put_rows =
 abbrev pub put_reserved : Log
 put_reserved = Reserve 0 6 9 ∷ Reserve 0 4 2 ∷ Enter 0 ∷ []
 
--- the change stands in the anchor's slot
+-- the change is in the anchor's slot
 abbrev pub put_installed : Log
 put_installed = Install 0 6 put_rows ∷ put_reserved
 
@@ -53,7 +53,7 @@ start_installed = Install 0 20 start_rows ∷ Reserve 0 20 9 ∷ Reserve 0 15 5 
 
 -- ---- the whole rebuild
 
--- the start is decided and leaves the slot, where the rebuild stands now
+-- the start is decided and leaves the slot, which now holds the rebuild
 abbrev pub rebuild_started : Log
 rebuild_started = Resolve 0 20 ∷ Decide 0 20 true ∷ Okay 0 20 ∷ start_installed
 
@@ -77,7 +77,7 @@ finish_rows = record { base = 36; words = 0 ∷ 4 ∷ 2 ∷ 0 ∷ 124 ∷ 234 �
 abbrev pub finish_installed : Log
 finish_installed = Install 0 36 finish_rows ∷ Reserve 0 36 9 ∷ rebuild_rooted
 
--- it is decided and leaves the slot, where the new row stands now
+-- it is decided and leaves the slot, which now holds the new row
 abbrev pub rebuild_replaced : Log
 rebuild_replaced = Resolve 0 36 ∷ Decide 0 36 true ∷ Okay 0 36 ∷ finish_installed
 
@@ -102,7 +102,7 @@ late_marked = Mark 0 4 ∷ Okay 2 31 ∷ Install 1 31 late_rows ∷ late_reserve
 abbrev pub late_resolved : Log
 late_resolved = Resolve 0 31 ∷ Decide 2 31 true ∷ late_marked
 
--- caller 1 counts its put at the target, the one row of the chain
+-- caller 1 counts its put at the target, the only row of the chain
 abbrev pub late_counted : Log
 late_counted = Count 1 4 ∷ late_resolved
 
@@ -110,6 +110,6 @@ late_counted = Count 1 4 ∷ late_resolved
 abbrev pub late_finished : Log
 late_finished = Finish 0 4 2 ∷ Pass 0 4 1 233 ∷ Pass 0 4 0 89 ∷ late_counted
 
--- the same put, installed only behind the mark and decided yes
+-- the same put, installed only after the mark and decided yes
 abbrev pub too_late : Log
 too_late = Decide 2 31 true ∷ Install 1 31 late_rows ∷ Mark 0 4 ∷ late_reserved

@@ -28,7 +28,7 @@ pair key value = record { key = key; value = value }
 abbrev pub leaf : ℕ → ℕ → Piece
 leaf key value = Leaf record { key = key; value = value }
 
--- an untouched inner row over so many keys
+-- an untouched inner row with this degree, size, keys and slots
 abbrev pub node : ℕ → ℕ → List ℕ → List ℕ → Piece
 node degree size keys slots =
     Inner record { status = 0; count = 0; degree = degree; size = size; keys = keys; slots = slots }

@@ -1,4 +1,4 @@
--- Which rows a caller may reserve: those of a build that it is at, and a few besides.
+-- Which rows a caller may reserve: those of a build that it is making, and a few others.
 use Rattle.std.specs.Prelude.{◌≡◌, ℕ, ◌+◌, ◌<◌, ◌≤◌, List, [], ◌∷◌, ◌++◌, Some}
 use Rattle.ist_core.specs.declared.states.RebuildRow.{RebuildRow}
 use Rattle.ist_core.specs.Arithmetic.{degree, part_len}
@@ -9,13 +9,14 @@ use Rattle.ist_core.specs.Pieces.{Rebuild}
 use Rattle.ist_core.specs.Snapshots.{Snapshot}
 use Rattle.ist_core.specs.Rebuilding.{IsStarted, IsFinishedWith}
 
--- the sizes of the rows of one build over k keys: the whole subtree, or where helpers share it the top row alone, or one part
+-- the sizes of the rows of one build over k keys: the whole subtree, or, if helpers share it, the
+-- top row only, or one part
 pub data IsBuild (k : ℕ) : List ℕ → Type 0 where
   build_whole : 2 ≤ k → k < share_from → IsBuild k (shape k)
   build_top : share_from ≤ k → IsBuild k (inner_words (degree k) ∷ [])
   build_part : (j : ℕ) → share_from ≤ k → j < degree k → IsBuild k (shape (part_len k j))
 
--- a building list: the sizes of a build for a started rebuild whose target is finished
+-- a building list: the row sizes of a build for a started rebuild with a finished target
 pub record IsBuilding (t : Snapshot) (sizes : List ℕ) : Type 0 where
   pub rebuild : ℕ
   pub row : RebuildRow
@@ -25,21 +26,21 @@ pub record IsBuilding (t : Snapshot) (sizes : List ℕ) : Type 0 where
   pub finished : IsFinishedWith t row.target k
   pub build : IsBuild k sizes
 
--- a building list begins with these sizes and goes on with one for which too few words are left
+-- a building list begins with these sizes, and its next size doesn't fit into the free words
 pub record IsStuck (t : Snapshot) (sizes : List ℕ) : Type 0 where
   pub next_size : ℕ
   pub rest : List ℕ
   pub building : IsBuilding t (sizes ++ next_size ∷ rest)
   pub no_room : t.words < t.next + next_size
 
--- the sizes are prefixes of building lists, one behind another, each but the last being stuck
+-- the sizes are prefixes of building lists, one after another, and each but the last is stuck
 pub data AreBuilds (t : Snapshot) : List ℕ → Type 0 where
   no_build : AreBuilds t []
   last_build : {sizes : List ℕ} (rest : List ℕ) → IsBuilding t (sizes ++ rest) → AreBuilds t sizes
   stuck_build : {sizes more : List ℕ} → IsStuck t sizes → AreBuilds t more
       → AreBuilds t (sizes ++ more)
 
--- the sizes are those of the second list and those of the third, each in its order
+-- the first list interleaves the second and the third, and keeps the order of each
 pub data IsMerge : List ℕ → List ℕ → List ℕ → Type 0 where
   at_end : IsMerge [] [] []
   from_left : {sizes left right : List ℕ} (size : ℕ) → IsMerge sizes left right
@@ -47,11 +48,11 @@ pub data IsMerge : List ℕ → List ℕ → List ℕ → Type 0 where
   from_right : {sizes left right : List ℕ} (size : ℕ) → IsMerge sizes left right
       → IsMerge (size ∷ sizes) left (size ∷ right)
 
--- the sizes of the rows that a caller may hold beside a build, one of each
+-- the sizes of the rows that a caller may hold in addition to a build, one of each
 abbrev pub spare_sizes : List ℕ
 spare_sizes = leaf_words ∷ rebuild_words ∷ pair_words ∷ change_words ∷ []
 
--- the sizes are fair: but for at most one of each spare size they are those of builds
+-- the sizes are fair: except for at most one of each spare size, they are the sizes of builds
 pub record IsFair (t : Snapshot) (sizes : List ℕ) : Type 0 where
   pub building : List ℕ
   pub spare : List ℕ

@@ -9,7 +9,8 @@ use Rattle.ist_core.specs.Snapshots.{Snapshot}
 use Rattle.ist_core.specs.Logs.{Log, Happened, Okays}
 use Rattle.ist_core.specs.Slots.{SlotHolds}
 
--- a change in vain stands in slot i of the node: it would take the word out, has no Okay, and wasn't decided yes
+-- slot i of the node holds a change in vain: it would take the word out, it has no Okay, and it
+-- wasn't decided yes
 pub record HasVainChange (t : Snapshot) (log : Log) (node i word : ℕ) : Type 0 where
   pub base : ℕ
   pub change : ChangeRow

@@ -15,7 +15,7 @@ pub record PassCalls : Type 0 where
   pub number : ℕ
   pub calls : List Call
 
--- each pass stands in a prefix of the log
+-- the calls of each pass are placed in a prefix of the log
 abbrev pub StandInPrefixes : List Pair → ℕ → Log → List PassCalls → Type 0
 StandInPrefixes pairs words log passes =
     Each (λ pass. (prefix : Log) × GoesOn prefix log × StandsIn pairs words prefix pass.number pass.calls) passes
@@ -35,7 +35,7 @@ readings_of pass =
 abbrev pub readings : List PassCalls → List Reading
 readings passes = flat_map readings_of passes
 
--- the lower stamp comes first, and at equal stamps the lower number
+-- a reading with a lower stamp comes first; among equal stamps, the one with the lower number
 abbrev pub comes_first : Reading → Reading → Bool
 comes_first x y = if x.call.stamp == y.call.stamp then nat_lt x.number y.number else nat_lt x.call.stamp y.call.stamp
 
@@ -53,21 +53,21 @@ in_order (x ∷ xs) = put_in x (in_order xs)
 abbrev pub at_position : ℕ → List Reading → List Reading
 at_position position xs = filter (λ x. x.call.position == position) xs
 
--- what a change was asked, and what was answered
+-- the command of a change, and the reply to it
 abbrev pub told_by_entry : Entry → Answered
 told_by_entry entry = record { command = entry.command; reply = entry.reply }
 
--- what a reading was asked, and what was answered
+-- the command of a reading, and the reply to it
 abbrev pub told_by_reading : Reading → Answered
 told_by_reading x = record { command = x.call.command; reply = x.call.reply }
 
--- the history from a position on: the readings there, then the entry there, and so on
+-- the history from a position on: the readings at it, then the entry at it, and so on
 abbrev pub woven_from : ℕ → List Entry → List Reading → List Answered
 woven_from position [] xs = map told_by_reading (at_position position xs)
 woven_from position (entry ∷ entries) xs =
     map told_by_reading (at_position position xs) ++ (told_by_entry entry ∷ woven_from (position + 1) entries xs)
 
--- the woven history: the changes, with the readings of the passes put in behind their positions
+-- the woven history: the changes, with the readings of the passes inserted at their positions
 abbrev pub woven : List Entry → List PassCalls → List Answered
 woven entries passes = woven_from 0 entries (in_order (readings passes))
 

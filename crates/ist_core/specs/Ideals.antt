@@ -1,4 +1,5 @@
--- Ideal subtrees: the balanced subtree over some leaves, which a rebuild puts in the place of an old one.
+-- Ideal subtrees: the balanced subtree over some leaves, which a rebuild builds to replace an old
+-- one.
 use Rattle.std.specs.Prelude.{◌≡◌, ℕ, ◌<◌, ◌≤◌, List, [], ◌∷◌, ◌++◌, length, drop, Some}
 use Rattle.ist_core.specs.declared.states.InnerRow.{InnerRow}
 use Rattle.ist_core.specs.Arithmetic.{degree}
@@ -8,8 +9,9 @@ use Rattle.ist_core.specs.Parts.{parts, first_keys}
 use Rattle.ist_core.specs.Pieces.{Leaf, Inner, Pieces}
 use Rattle.ist_core.specs.Leaves.{PlacedLeaf}
 
--- the inner row at the base is the top of the ideal subtree over these leaves, whatever its slots hold: it was never touched,
--- its base is above the given one, and key j is the key of the first leaf of part j
+-- the inner row at the base is the top of the ideal subtree over these leaves, whatever its slots
+-- hold: it was never changed, its base is above the given one, and key j is the key of the first
+-- leaf of part j
 pub record IsTop (ps : Pieces) (base : ℕ) (r : InnerRow) (leaves : List PlacedLeaf) (above : ℕ) : Type 0 where
   pub published : ps base ≡ Some (Inner r)
   pub two : 2 ≤ length leaves
@@ -21,8 +23,8 @@ pub record IsTop (ps : Pieces) (base : ℕ) (r : InnerRow) (leaves : List Placed
   pub keys : r.keys ≡ first_keys (λ leaf. leaf.row.key) (drop 1 (parts leaves))
 
 mutual
-  -- the reference is the ideal subtree over these leaves, with inner rows whose bases are above the given one; `rows` are
-  -- these bases, a row first, then part by part
+  -- the reference is the ideal subtree over these leaves, and its inner rows have bases above the
+  -- given one; `rows` are these bases, top row first, then part by part
   pub data IsIdeal (ps : Pieces) : Ref → List PlacedLeaf → ℕ → List ℕ → Type 0 where
     of_none : {above : ℕ} → IsIdeal ps Empty [] above []
     of_one : {base above : ℕ} {leaf : PlacedLeaf} → leaf.base ≡ base

@@ -5,13 +5,13 @@ use Rattle.ist_core.specs.Statuses.{open_word}
 use Rattle.ist_core.specs.Pieces.{Piece, words_of}
 use Rattle.ist_core.specs.Snapshots.{Snapshot}
 
--- the words from the base on are those of the row
+-- the words of the row are found from the base on
 abbrev pub StandsAt : List ℕ → ℕ → Piece → Type 0
 StandsAt words base p =
     (k : ℕ) → k < length (words_of p) → slice_get words (base + k) ≡ slice_get (words_of p) k
 
--- the words are the image of the state: as many as it says, the fixed words, the words of each published row, and zeros from
--- `next` on. Of the words of held and lost rows it says nothing
+-- the words are the image of the state: the right number of words, the fixed words, the words of
+-- each published row, and zeros from `next` on. Nothing is said of the words of held and lost rows
 pub record IsImage (t : Snapshot) (words : List ℕ) : Type 0 where
   pub size : length words ≡ t.words
   pub next : slice_get words next_place ≡ Some t.next

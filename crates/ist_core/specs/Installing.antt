@@ -1,4 +1,4 @@
--- When a change may be installed: what it may put in the place of what, by its kind.
+-- When a change may be installed: what it may replace by what, for each kind.
 use Rattle.std.specs.Prelude.{◌≡◌, ℕ, ◌<◌, ◌⊎◌, ◌≢◌, nat_lt, if◌then◌else◌, List, [], ◌∷◌, Some}
 use Rattle.ist_core.specs.declared.states.LeafRow.{LeafRow}
 use Rattle.ist_core.specs.declared.states.InnerRow.{InnerRow}
@@ -25,7 +25,7 @@ new_leaf change = Leaf record { key = change.key; value = change.value }
 abbrev pub pair_leaves : ℕ
 pair_leaves = 2
 
--- an inner row over two leaves: the key of the right one leads to it
+-- an inner row over two leaves: its one key is the key of the right leaf
 abbrev pub pair_over : ℕ → ℕ → ℕ → Piece
 pair_over right_key left right =
     Inner record {
@@ -37,7 +37,8 @@ pair_over right_key left right =
       slots = word_of (LeafAt left) ∷ word_of (LeafAt right) ∷ [];
     }
 
--- the pair row over two leaves of different keys, each given by its key and its base: the smaller key is on the left
+-- the pair row over two leaves of different keys, each given by its key and its base: the smaller
+-- key is on the left
 abbrev pub pair_row : ℕ → ℕ → ℕ → ℕ → Piece
 pair_row key base other_key other =
     if nat_lt other_key key then pair_over key other base else pair_over other_key base other
@@ -47,7 +48,7 @@ abbrev pub new_rebuild : ChangeRow → ℕ → Piece
 new_rebuild change target =
     Rebuild record { target = target; parent = change.node; index = change.index; root = unset_word; draw = 0 }
 
--- ---- what stands there
+-- ---- what the slot holds
 
 -- the row at the base is a leaf of the key
 pub record IsLeafOf (t : Snapshot) (base key : ℕ) : Type 0 where
@@ -61,14 +62,15 @@ pub data HasRoomFor (t : Snapshot) (key word : ℕ) : Type 0 where
   same_key : (leaf : ℕ) → ref_of word ≡ Some (LeafAt leaf) → IsLeafOf t leaf key
       → HasRoomFor t key word
 
--- a put or remove comes to its slot by its key: each row on the node's chain leads on by the child for it, and so does the node
+-- a put or remove reaches its slot by its key: the child for the key leads from each row on the
+-- node's chain, and from the node to the slot
 pub record ComesByKey (first : Snapshot) (log : Log) (change : ChangeRow) : Type 0 where
   pub led : WasLedTo first log change.key change.node
   pub index : IsChildFor (state first log) change.node change.key change.index
 
 -- ---- the kinds of change, each with its fresh rows
 
--- a put of a fresh leaf where nothing stands, or in the place of a leaf of its key
+-- a put of a fresh leaf into an empty slot, or in place of a leaf of the same key
 pub record PutsLeaf (first : Snapshot) (log : Log) (change : ChangeRow) (fresh : List Row) : Type 0 where
   pub kind : change.kind ≡ put_kind
   pub by_key : ComesByKey first log change
@@ -77,7 +79,7 @@ pub record PutsLeaf (first : Snapshot) (log : Log) (change : ChangeRow) (fresh :
   pub to : ref_of change.to ≡ Some (LeafAt leaf)
   pub fresh_are : fresh ≡ row_at leaf (new_leaf change) ∷ []
 
--- a put of a fresh pair row, over the leaf of another key that stands there and a fresh leaf
+-- a put of a fresh pair row, over a fresh leaf and the leaf of another key that is in the slot
 pub record PutsPair (first : Snapshot) (log : Log) (change : ChangeRow) (fresh : List Row) : Type 0 where
   pub kind : change.kind ≡ put_kind
   pub by_key : ComesByKey first log change
@@ -103,7 +105,7 @@ pub record Removes (first : Snapshot) (log : Log) (change : ChangeRow) (fresh : 
   pub value : change.value ≡ 0
   pub fresh_are : fresh ≡ []
 
--- the start of a rebuild of an inner row that is due, or is the anchor's child
+-- the start of a rebuild of an inner row that is due, or that is the anchor's child
 pub record Starts (t : Snapshot) (change : ChangeRow) (fresh : List Row) : Type 0 where
   pub kind : change.kind ≡ start_kind
   pub key : change.key ≡ 0
@@ -117,7 +119,7 @@ pub record Starts (t : Snapshot) (change : ChangeRow) (fresh : List Row) : Type 
   pub to : ref_of change.to ≡ Some (RebuildAt rebuild)
   pub fresh_are : fresh ≡ row_at rebuild (new_rebuild change target) ∷ []
 
--- the finish of a started rebuild, which puts its built root in its place
+-- the finish of a started rebuild, which puts the built root into the rebuild's slot
 pub record Finishes (t : Snapshot) (change : ChangeRow) (fresh : List Row) : Type 0 where
   pub kind : change.kind ≡ finish_kind
   pub key : change.key ≡ 0
@@ -133,7 +135,7 @@ pub record Finishes (t : Snapshot) (change : ChangeRow) (fresh : List Row) : Typ
   pub built : IsBuilt t row.root
   pub fresh_are : fresh ≡ []
 
--- the condition of the change's kind
+-- the change meets the condition of its kind
 pub data FitsKind (first : Snapshot) (log : Log) (change : ChangeRow) (fresh : List Row) : Type 0 where
   a_put : PutsLeaf first log change fresh → FitsKind first log change fresh
   a_pair : PutsPair first log change fresh → FitsKind first log change fresh
@@ -147,8 +149,9 @@ IsUnrefused t caller node =
     (base : ℕ) (earlier : ChangeRow) → t.pieces base ≡ Some (Change earlier)
     → earlier.owner ≡ caller → earlier.node ≡ node → earlier.decision ≢ decided_no
 
--- the change at the base may be installed: its caller holds its row and its fresh rows, its slot holds `from`, and its node
--- is linked or was
+-- the change at the base may be installed: its caller holds its row and its fresh rows, its slot
+-- holds `from`, its node is linked or was, no change of the caller on this node was decided no, and
+-- it meets its kind's condition
 pub record CanInstall (first : Snapshot) (log : Log) (caller base : ℕ) (rows : List Row) : Type 0 where
   pub known : caller < (state first log).callers
   pub change : ChangeRow

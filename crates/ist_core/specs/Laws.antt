@@ -1,4 +1,4 @@
--- The laws over lawful logs that speak of rows alone. `src/laws.rt` lists them.
+-- The laws over lawful logs that are about single rows. `src/laws.rt` lists them.
 use Rattle.std.specs.Prelude.{◌≡◌, ℕ, ◌+◌, ◌≤◌, ◌≢◌, List, length, Some, None}
 use Rattle.ist_core.specs.declared.pairs.Pair.{Pair}
 use Rattle.ist_core.specs.declared.lists.HeldRow.{HeldRow}
@@ -24,13 +24,14 @@ PublishedRowsAreSetAside =
     (pairs : List Pair) (words : ℕ) (log : Log) → Lawful pairs words log → (base : ℕ) (p : Piece)
     → (state_of pairs words log).pieces base ≡ Some p → IsSetAside pairs words log base (size_of p)
 
--- so were the words of each held row
+-- the words of each held row were set aside for it
 abbrev pub HeldRowsAreSetAside : Type 0
 HeldRowsAreSetAside =
     (pairs : List Pair) (words : ℕ) (log : Log) → Lawful pairs words log → (h : HeldRow)
     → Among h (state_of pairs words log).held → IsSetAside pairs words log h.base h.size
 
--- what was set aside has a word, and lies behind the fixed words and below the first free one
+-- what was set aside has at least one word, and lies after the fixed words and below the first free
+-- word
 abbrev pub RowsLieWithin : Type 0
 RowsLieWithin =
     (pairs : List Pair) (words : ℕ) (log : Log) → Lawful pairs words log → (base size : ℕ)
@@ -52,7 +53,7 @@ RowsHaveOneSize =
 
 -- ---- what becomes of a row
 
--- where a row is held, none is published
+-- no row is published at the base of a held row
 abbrev pub HeldRowsAreUnpublished : Type 0
 HeldRowsAreUnpublished =
     (pairs : List Pair) (words : ℕ) (log : Log) → Lawful pairs words log → (h : HeldRow)
@@ -65,7 +66,7 @@ RowsAreHeldOnce =
     → Among g (state_of pairs words log).held → Among h (state_of pairs words log).held
     → g.base ≡ h.base → g ≡ h
 
--- where a row was lost, none is published
+-- no row is published at the base of a lost row
 abbrev pub LostRowsAreUnpublished : Type 0
 LostRowsAreUnpublished =
     (pairs : List Pair) (words : ℕ) (log : Log) → Lawful pairs words log → (base : ℕ)
@@ -77,7 +78,8 @@ LostRowsAreFree =
     (pairs : List Pair) (words : ℕ) (log : Log) → Lawful pairs words log → (h : HeldRow)
     → Happened (Loses h.base) log → ¬ (Among h (state_of pairs words log).held)
 
--- a published row stays, and only its status, count, slots, decision, root and draw change, as `Growing.antt` says
+-- a published row stays, and only its status, count, slots, decision, root and draw change, as
+-- `Growing.antt` says
 abbrev pub RowsGrow : Type 0
 RowsGrow =
     (pairs : List Pair) (words : ℕ) (earlier log : Log) → Lawful pairs words log
@@ -86,19 +88,21 @@ RowsGrow =
 
 -- ---- counts
 
--- a row counts no more changes than were decided yes
+-- a row counts at most as many changes as were decided yes
 abbrev pub CountsAreFew : Type 0
 CountsAreFew =
     (pairs : List Pair) (words : ℕ) (log : Log) → Lawful pairs words log → (node : ℕ) (row : InnerRow)
     → (state_of pairs words log).pieces node ≡ Some (Inner row) → row.count ≤ length (decided_yes_in log)
 
--- and no more than a table has places, so that adding 1 to a count never wraps
+-- a row counts at most as many changes as a table can have places, so adding 1 to a count never
+-- wraps
 abbrev pub CountsAreLow : Type 0
 CountsAreLow =
     (pairs : List Pair) (words : ℕ) (log : Log) → Lawful pairs words log → (node : ℕ) (row : InnerRow)
     → (state_of pairs words log).pieces node ≡ Some (Inner row) → row.count ≤ place_limit
 
--- where the target of a rebuild is finished with k keys, its draw word is at most the degree of k and one more for each caller
+-- if the target of a rebuild is finished with k keys, its draw word is at most the degree for k
+-- keys plus the number of callers
 abbrev pub DrawsAreFew : Type 0
 DrawsAreFew =
     (pairs : List Pair) (words : ℕ) (log : Log) → Lawful pairs words log → (rebuild k : ℕ) (row : RebuildRow)
@@ -106,7 +110,7 @@ DrawsAreFew =
     → IsFinishedWith (state_of pairs words log) row.target k
     → row.draw ≤ degree k + (state_of pairs words log).callers
 
--- there are no more callers than their limit
+-- there are no more callers than the limit
 abbrev pub CallersAreFew : Type 0
 CallersAreFew =
     (pairs : List Pair) (words : ℕ) (log : Log) → Lawful pairs words log → (state_of pairs words log).callers ≤ caller_limit

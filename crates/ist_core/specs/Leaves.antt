@@ -18,7 +18,7 @@ abbrev pub pair_of : PlacedLeaf → Pair
 pair_of leaf = record { key = leaf.row.key; value = leaf.row.value }
 
 mutual
-  -- these are the leaves that are reached from a reference through logical slots, child by child
+  -- these leaves are reached from a reference through logical slots, child by child
   pub data HasLeaves (ps : Pieces) : Option Ref → List PlacedLeaf → Type 0 where
     none_here : HasLeaves ps (Some Empty) []
     leaf_here : {base : ℕ} (r : LeafRow) → ps base ≡ Some (Leaf r)
@@ -26,14 +26,14 @@ mutual
     row_here : {base : ℕ} {leaves : List PlacedLeaf} (r : InnerRow) → ps base ≡ Some (Inner r)
         → SlotsHaveLeaves ps r.slots leaves → HasLeaves ps (Some (InnerAt base)) leaves
 
-  -- these are the leaves that are reached from slots with these words, slot by slot
+  -- these leaves are reached from slots with these words, slot by slot
   pub data SlotsHaveLeaves (ps : Pieces) : List ℕ → List PlacedLeaf → Type 0 where
     no_slot : SlotsHaveLeaves ps [] []
     one_slot : {word : ℕ} {words : List ℕ} {here rest : List PlacedLeaf}
         → HasLeaves ps (logical ps word) here
         → SlotsHaveLeaves ps words rest → SlotsHaveLeaves ps (word ∷ words) (here ++ rest)
 
--- the contents of the tree: the pairs of the leaves from the anchor on, child by child
+-- the contents of the tree: the pairs of the leaves below the anchor, child by child
 pub record HasContents (t : Snapshot) (pairs : List Pair) : Type 0 where
   pub leaves : List PlacedLeaf
   pub reached : HasLeaves t.pieces (logical t.pieces t.anchor) leaves

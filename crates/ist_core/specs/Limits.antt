@@ -1,4 +1,4 @@
--- How many updates took effect behind a log, which bounds each count.
+-- Which changes a log decided yes. Their number bounds each row's count.
 use Rattle.std.specs.Prelude.{ℕ, true, List, [], ◌∷◌}
 use Rattle.ist_core.specs.declared.events.Event.TheVariants.{Decide}
 use Rattle.ist_core.specs.Logs.{Log}

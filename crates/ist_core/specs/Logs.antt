@@ -1,4 +1,5 @@
--- Logs: lists of events, of which the newest stands first; the state behind each, and what was true or happened on the way.
+-- Logs: lists of events, the newest first; the state after each, and what was true or happened on
+-- the way.
 use Rattle.std.specs.Prelude.{◌≡◌, ℕ, ◌⊎◌, Bool, List, [], ◌∷◌}
 use Rattle.ist_core.specs.declared.events.Event.{Event}
 use Rattle.ist_core.specs.declared.events.Event.TheVariants.{Reserve, Okay, Decide, Resolve, Count, Pass, Draw, Lose}
@@ -10,12 +11,12 @@ use Rattle.ist_core.specs.After.{after}
 abbrev pub Log : Type 0
 Log = List Event
 
--- the state behind a log that begins at a state: each event is applied to the state before it
+-- the state after a log that begins at a state: each event is applied to the state before it
 abbrev pub state : Snapshot → Log → Snapshot
 state first [] = first
 state first (event ∷ log) = after (state first log) event
 
--- the log goes on from an earlier one, by more events: the earlier one is a prefix of it
+-- the log continues an earlier one: the earlier one is a prefix of it
 pub data GoesOn (earlier : Log) : Log → Type 0 where
   same_log : GoesOn earlier earlier
   one_event : {log : Log} (event : Event) → GoesOn earlier log → GoesOn earlier (event ∷ log)
@@ -42,7 +43,7 @@ abbrev pub Okays : ℕ → Event → Type 0
 Okays change (Okay c d) = d ≡ change
 Okays change _ = ⊥
 
--- the event decides the change so
+-- the event decides the change this way
 abbrev pub Decides : ℕ → Bool → Event → Type 0
 Decides change said (Decide c d x) = (d ≡ change) × (x ≡ said)
 Decides change said _ = ⊥

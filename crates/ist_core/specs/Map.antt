@@ -1,4 +1,5 @@
--- The plain map: what one thread would answer. Every claim of the tree and of the program comes down to this page.
+-- The plain map: what one thread with an ordinary map would get. Every claim of the tree and of the
+-- program rests on this page.
 use Rattle.std.specs.Prelude.{ℕ, nat_le, ◌&&◌, List, [], ◌∷◌, map, Option}
 use Rattle.std.specs.List.{filter}
 use Rattle.std.specs.Ordering.{nat_cmp}
@@ -15,7 +16,7 @@ Map = fin.FinMap nat_cmp ℕ
 abbrev pub no_pairs : Map
 no_pairs = fin.empty
 
--- the map of some pairs, whose keys differ
+-- the map of some pairs with distinct keys
 abbrev pub map_of : List Pair → Map
 map_of pairs = fin.from_entries (map (λ p. (p.key, p.value)) pairs)
 
@@ -25,13 +26,14 @@ key_of (Put key value) = key
 key_of (Remove key) = key
 key_of (Get key) = key
 
--- the map behind a command: a put sets its key, a remove takes its key away, a get leaves the map
+-- the map after a command: a put sets its key, a remove takes its key away, a get leaves the map as
+-- it is
 abbrev pub map_after : Map → Command → Map
 map_after m (Put key value) = fin.insert m key value
 map_after m (Remove key) = fin.remove m key
 map_after m (Get key) = m
 
--- the reply to a command: the value that its key had before it, or none
+-- the reply to a command: the value that its key had just before, or none
 abbrev pub reply_to : Map → Command → Option ℕ
 reply_to m command = fin.get m (key_of command)
 
@@ -39,7 +41,7 @@ reply_to m command = fin.get m (key_of command)
 abbrev pub step : Map → Command → Map × Option ℕ
 step m command = (map_after m command, reply_to m command)
 
--- the map behind a list of commands
+-- the map after a list of commands
 abbrev pub replay : Map → List Command → Map
 replay m [] = m
 replay m (command ∷ commands) = replay (step m command).0 commands
@@ -53,10 +55,10 @@ replies m (command ∷ commands) = (step m command).1 ∷ replies (step m comman
 abbrev pub pairs_between : ℕ → ℕ → List Pair → List Pair
 pairs_between first last pairs = filter (λ p. nat_le first p.key && nat_le p.key last) pairs
 
--- the pairs of a map, rising by key
+-- the pairs of a map, in increasing order of keys
 abbrev pub pairs_of : Map → List Pair
 pairs_of m = map (λ e. record { key = e.0; value = e.1 }) (fin.entries m)
 
--- what a map has from `first` to `last`, both included, rising by key
+-- the pairs of a map with a key from `first` to `last`, both included, in increasing order of keys
 abbrev pub listed : ℕ → ℕ → Map → List Pair
 listed first last m = pairs_between first last (pairs_of m)

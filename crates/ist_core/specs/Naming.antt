@@ -8,8 +8,8 @@ use Rattle.ist_core.specs.References.{Empty, Unset, LeafAt, InnerAt, ChangeAt, R
 use Rattle.ist_core.specs.Pieces.{Leaf, Inner, Change, Rebuild}
 use Rattle.ist_core.specs.Snapshots.{Snapshot}
 
--- the word may stand in slot i of the node: it names nothing, or a leaf, or an inner row above the node, or a change of this
--- slot, or a rebuild for this slot
+-- the word may be in slot i of the node: it names nothing, a leaf, an inner row above the node, a
+-- change of this slot, or a rebuild for this slot
 pub data NamesRow (t : Snapshot) (node i word : ℕ) : Type 0 where
   no_row : ref_of word ≡ Some Empty → NamesRow t node i word
   not_yet : ref_of word ≡ Some Unset → NamesRow t node i word
@@ -22,7 +22,7 @@ pub data NamesRow (t : Snapshot) (node i word : ℕ) : Type 0 where
   a_rebuild : (base : ℕ) (row : RebuildRow) → ref_of word ≡ Some (RebuildAt base)
       → t.pieces base ≡ Some (Rebuild row) → row.parent ≡ node → row.index ≡ i → NamesRow t node i word
 
--- an inner row has as many slots as its degree says, and one key less
+-- an inner row has `degree` slots and one key less
 pub record HasDegree (r : InnerRow) : Type 0 where
   pub keys : length r.keys + 1 ≡ r.degree
   pub slots : length r.slots ≡ r.degree

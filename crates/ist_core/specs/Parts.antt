@@ -2,7 +2,7 @@
 use Rattle.std.specs.Prelude.{ℕ, List, [], ◌∷◌, length, take, drop}
 use Rattle.ist_core.specs.Arithmetic.{part_lens}
 
--- the list cut into pieces of these lengths, one behind another
+-- the list cut into pieces of these lengths, one after another
 abbrev pub cut : {A : Type 0} → List ℕ → List A → List (List A)
 cut [] xs = []
 cut (n ∷ ns) xs = take n xs ∷ cut ns (drop n xs)

@@ -1,4 +1,5 @@
--- Published rows: what each is, which words it has, and how an event's words are read as one.
+-- Published rows: what each is, which words it has, and how the words in an event are read as a
+-- row.
 use Rattle.std.specs.Prelude.{ℕ, ◌+◌, ◌-◌, ◌==◌, if◌then◌else◌, List, [], ◌∷◌, ◌++◌, length, take, drop, slice_set, Option, Some, None, option_map}
 use Rattle.ist_core.specs.declared.states.LeafRow.{LeafRow}
 use Rattle.ist_core.specs.declared.states.InnerRow.{InnerRow}
@@ -30,7 +31,7 @@ words_of (Rebuild r) = r.target ∷ r.parent ∷ r.index ∷ r.root ∷ r.draw �
 abbrev pub size_of : Piece → ℕ
 size_of p = length (words_of p)
 
--- the row at a base, as an event names it
+-- a row with its base, in the form that an event publishes
 abbrev pub row_at : ℕ → Piece → Row
 row_at base p = record { base = base; words = words_of p }
 
@@ -39,7 +40,7 @@ abbrev pub leaf_of : List ℕ → Option Piece
 leaf_of (key ∷ value ∷ []) = Some (Leaf record { key = key; value = value })
 leaf_of _ = None
 
--- words read as an inner row: four fields, then as many keys as the degree says, then the slots
+-- words read as an inner row: four fields, then degree - 1 keys, then the slots
 abbrev pub inner_of : List ℕ → Option Piece
 inner_of (status ∷ count ∷ degree ∷ size ∷ rest) =
     Some (Inner record {
@@ -76,38 +77,38 @@ rebuild_of _ = None
 
 -- ---- rows by kind
 
--- the leaf, if the row is one
+-- the leaf, if the row is a leaf
 abbrev pub as_leaf : Option Piece → Option LeafRow
 as_leaf (Some (Leaf r)) = Some r
 as_leaf _ = None
 
--- the inner row, if the row is one
+-- the inner row, if the row is an inner row
 abbrev pub as_inner : Option Piece → Option InnerRow
 as_inner (Some (Inner r)) = Some r
 as_inner _ = None
 
--- the change, if the row is one
+-- the change, if the row is a change
 abbrev pub as_change : Option Piece → Option ChangeRow
 as_change (Some (Change r)) = Some r
 as_change _ = None
 
--- the rebuild, if the row is one
+-- the rebuild, if the row is a rebuild
 abbrev pub as_rebuild : Option Piece → Option RebuildRow
 as_rebuild (Some (Rebuild r)) = Some r
 as_rebuild _ = None
 
 -- ---- rows that are published or changed
 
--- the rows with this one at the base, where there is one
+-- the rows with this one set at the base, if one is given
 abbrev pub with_row : Pieces → ℕ → Option Piece → Pieces
 with_row ps base None = ps
 with_row ps base (Some p) = λ b. if b == base then Some p else ps b
 
--- the rows with f done to the one at the base, if there is one
+-- the rows with f applied to the one at the base, if there is one
 abbrev pub changed_at : Pieces → ℕ → (Piece → Piece) → Pieces
 changed_at ps base f = λ b. if b == base then option_map f (ps b) else ps b
 
--- the rows with these inner rows published too
+-- the rows, with these inner rows also published
 abbrev pub with_inners : Pieces → List Row → Pieces
 with_inners ps [] = ps
 with_inners ps (row ∷ rows) = with_row (with_inners ps rows) row.base (inner_of row.words)
@@ -137,7 +138,7 @@ abbrev pub with_root : ℕ → Piece → Piece
 with_root word (Rebuild r) = Rebuild record r { root = word }
 with_root word p = p
 
--- a rebuild of which one more part was drawn
+-- a rebuild with one more part drawn
 abbrev pub drawn : Piece → Piece
 drawn (Rebuild r) = Rebuild record r { draw = r.draw + 1 }
 drawn p = p

@@ -1,4 +1,4 @@
--- How far a change and a rebuild have come.
+-- What became of a node, a change and a rebuild so far.
 use Rattle.std.specs.Prelude.{◌≡◌, ℕ, ◌≤◌, ◌⊎◌, ◌≢◌, Some}
 use Rattle.ist_core.specs.declared.states.InnerRow.{InnerRow}
 use Rattle.ist_core.specs.declared.states.ChangeRow.{ChangeRow}
@@ -13,7 +13,7 @@ use Rattle.ist_core.specs.Slots.{SlotHolds}
 abbrev pub IsUpdate : ℕ → Type 0
 IsUpdate kind = (kind ≡ put_kind) ⊎ (kind ≡ remove_kind)
 
--- the row was changed so often that it is to be rebuilt
+-- the row was changed so often that it needs a rebuild
 abbrev pub IsDue : InnerRow → Type 0
 IsDue row = limit row.size ≤ row.count
 
@@ -23,7 +23,7 @@ pub record IsFinishedWith (t : Snapshot) (node k : ℕ) : Type 0 where
   pub published : t.pieces node ≡ Some (Inner row)
   pub status : row.status ≡ finished_word k
 
--- the rebuild is started: the change that put it into its slot was decided yes
+-- the rebuild is started: the change that puts it into its slot was decided yes
 pub record IsStarted (t : Snapshot) (rebuild : ℕ) : Type 0 where
   pub base : ℕ
   pub change : ChangeRow
@@ -32,7 +32,7 @@ pub record IsStarted (t : Snapshot) (rebuild : ℕ) : Type 0 where
   pub decision : change.decision ≡ decided_yes
   pub to : ref_of change.to ≡ Some (RebuildAt rebuild)
 
--- the rebuild is replaced: the change that put its root into its place was decided yes
+-- the rebuild is replaced: the change that puts its root in its slot was decided yes
 pub record IsReplaced (t : Snapshot) (rebuild : ℕ) : Type 0 where
   pub base : ℕ
   pub change : ChangeRow
@@ -41,7 +41,7 @@ pub record IsReplaced (t : Snapshot) (rebuild : ℕ) : Type 0 where
   pub decision : change.decision ≡ decided_yes
   pub from : ref_of change.from ≡ Some (RebuildAt rebuild)
 
--- the root is built: the word is set, and no slot of its row is left to be set
+-- the root is built: its word is set, and no slot of its row is Unset
 pub record IsBuilt (t : Snapshot) (root : ℕ) : Type 0 where
   pub set : root ≢ unset_word
   pub whole : (base i word : ℕ) → ref_of root ≡ Some (InnerAt base) → SlotHolds t base i word

@@ -1,4 +1,4 @@
--- What stands in a slot of a node, as a reference and as the word for it.
+-- What the word in a slot of a node names, and the word for it.
 use Rattle.std.specs.Prelude.{
   ℕ,
   ◌+◌,
@@ -36,7 +36,7 @@ empty_word = 0
 abbrev pub unset_word : ℕ
 unset_word = 7
 
--- the word of a row is its base times this number, and its tag
+-- the word of a row is its base times this number, plus its tag
 abbrev pub tag_count : ℕ
 tag_count = 8
 
@@ -65,7 +65,7 @@ word_of (InnerAt base) = base * tag_count + inner_tag
 word_of (ChangeAt base) = base * tag_count + change_tag
 word_of (RebuildAt base) = base * tag_count + rebuild_tag
 
--- a base at which a row can lie: behind the fixed words, and within the largest table
+-- a base at which a row can lie: after the fixed words, and within the largest table
 pub record IsGoodBase (base : ℕ) : Type 0 where
   pub behind_fixed : first_row ≤ base
   pub below_limit : base < place_limit
@@ -88,12 +88,12 @@ row_tagged tag base =
     else (if tag == rebuild_tag then Some (RebuildAt base)
     else None)))
 
--- the same, of good bases alone
+-- the same, for good bases only
 abbrev pub good_row_tagged : ℕ → ℕ → Option Ref
 good_row_tagged tag base =
     if nat_le first_row base && nat_lt base place_limit then row_tagged tag base else None
 
--- the good reference whose word this is, or none where there is none
+-- the good reference with this word, or none if there is no such reference
 unfoldable pub ref_of : ℕ → Option Ref
 ref_of word =
     if word == empty_word then Some Empty

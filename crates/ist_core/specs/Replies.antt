@@ -1,4 +1,4 @@
--- What a caller of a shared map was told.
+-- What a caller of a shared map learned from its calls.
 use Rattle.std.specs.Prelude.{ℕ, Option}
 use Rattle.ist_core.specs.declared.commands.Command.{Command}
 use Rattle.ist_core.specs.declared.ports.Full.{Full}
@@ -12,11 +12,11 @@ pub record Answered : Type 0 where
 abbrev pub told : Command → Option ℕ → Answered
 told command reply = record { command = command; reply = reply }
 
--- a command, and the numbers with which it was refused
+-- a command that failed because the table is full, and the numbers that it got
 pub record Refused : Type 0 where
   pub command : Command
   pub full : Full
 
--- the command with these numbers
+-- a failed command with these numbers
 abbrev pub refusal : Command → Full → Refused
 refusal command full = record { command = command; full = full }

@@ -1,4 +1,5 @@
--- A table whose passes were all taken back: what its words stand for, and whether all its nodes are in good shape.
+-- A table whose passes were all taken back: what its words mean, and whether all its nodes are open
+-- and below their limits.
 use Rattle.std.specs.Prelude.{◌≡◌, ℕ, ◌+◌, ◌<◌, List, [], ◌∷◌, map, length, Some}
 use Rattle.ist_core.specs.declared.calls.Call.{Call}
 use Rattle.ist_core.specs.declared.pairs.Pair.{Pair}
@@ -22,23 +23,25 @@ pub record IsSettled (t : Snapshot) : Type 0 where
   pub none_due : (node : ℕ) (row : InnerRow) → Linked t node → t.pieces node ≡ Some (Inner row)
       → row.count < limit row.size
 
--- the table is at rest: it has as many callers as passes were taken back, and these are their calls, by number
+-- the table is at rest: `taken` has one list of calls for each of its callers
 abbrev pub AtRest : Snapshot → List (List Call) → Type 0
 AtRest t taken = t.callers ≡ length taken
 
--- what a call was asked, and what was answered
+-- the command of a call, and the reply to it
 abbrev pub told_by_call : Call → Answered
 told_by_call call = record { command = call.command; reply = call.reply }
 
--- the lists of calls stand in the log, each with its number, from this number on
+-- each list of calls is placed in the log, as the calls of the pass with its number; the first list
+-- has this number
 abbrev pub AllStandIn : List Pair → ℕ → Log → ℕ → List (List Call) → Type 0
 AllStandIn pairs words log number [] = Unit {0}
 AllStandIn pairs words log number (calls ∷ more) =
     StandsIn pairs words log number calls × AllStandIn pairs words log (number + 1) more
 
--- the words stand for these pairs at the start and these lists of calls: there is a lawful log that leaves the words so, in
--- which each installed change is resolved, and list w is what the pass with number w was answered. No row is used twice, so
--- the words hold the row of every change that was made
+-- what the words of a table at rest mean: some lawful log from these pairs results in these words,
+-- every change that it installed is resolved, and list number w is what the pass with number w got
+-- for its calls. No row is used twice, so the words still hold the row of every change that was
+-- made
 pub record StandsFor (words : List ℕ) (pairs : List Pair) (told : List (List Answered)) : Type 0 where
   pub log : Log
   pub lawful : Lawful pairs (length words) log

@@ -8,11 +8,11 @@ place_limit = 2 ^ 28
 
 -- ---- the fixed words
 
--- the word that says where the first word lies that is not reserved
+-- the word that holds the place of the first free word
 abbrev pub next_place : ℕ
 next_place = 0
 
--- the word that says how many callers were entered
+-- the word that holds how many callers have entered
 abbrev pub callers_place : ℕ
 callers_place = 1
 
@@ -68,7 +68,7 @@ inner_count_offset = 1
 abbrev pub inner_degree_offset : ℕ
 inner_degree_offset = 2
 
--- over how many keys an inner row was built
+-- how many keys an inner row was built over
 abbrev pub inner_size_offset : ℕ
 inner_size_offset = 3
 
@@ -94,7 +94,7 @@ change_decision_offset = 0
 abbrev pub change_kind_offset : ℕ
 change_kind_offset = 1
 
--- the base of the node in whose slot a change stands
+-- the base of the node in whose slot a change is installed
 abbrev pub change_node_offset : ℕ
 change_node_offset = 2
 
@@ -132,18 +132,18 @@ rebuild_words = 5
 abbrev pub rebuild_target_offset : ℕ
 rebuild_target_offset = 0
 
--- the base of the node above it
+-- the base of the target's parent
 abbrev pub rebuild_parent_offset : ℕ
 rebuild_parent_offset = 1
 
--- the number of the slot of that node
+-- the number of the target's slot in its parent
 abbrev pub rebuild_index_offset : ℕ
 rebuild_index_offset = 2
 
--- the root of the new subtree
+-- the word that names the root of the new subtree
 abbrev pub rebuild_root_offset : ℕ
 rebuild_root_offset = 3
 
--- how many parts of a shared root were drawn
+-- how many parts of a shared root have been drawn
 abbrev pub rebuild_draw_offset : ℕ
 rebuild_draw_offset = 4

@@ -1,4 +1,4 @@
--- Where rows lie: each was reserved with as many words as it has, and no two share a word.
+-- Where rows lie: each was reserved with its own size, and no two share a word.
 use Rattle.std.specs.Prelude.{◌≡◌, ℕ, ◌+◌, ◌<◌, ◌≤◌, ◌⊎◌, List, Some}
 use Rattle.ist_core.specs.declared.pairs.Pair.{Pair}
 use Rattle.ist_core.specs.RowLayout.{first_row}
@@ -14,11 +14,11 @@ pub data IsSetAside (pairs : List Pair) (words : ℕ) (log : Log) (base size : �
   by_caller : (caller : ℕ) → Happened (Reserves caller base size) log
       → IsSetAside pairs words log base size
 
--- no word lies in both rows, of which each is given by its base and its size
+-- two rows share no word, each given by its base and its size
 abbrev pub Apart : ℕ → ℕ → ℕ → ℕ → Type 0
 Apart base size other more = (base + size ≤ other) ⊎ (other + more ≤ base)
 
--- the row has a word, and lies behind the fixed words and below the first free one
+-- the row has a word, and lies after the fixed words and below the first free word
 pub record IsWithin (t : Snapshot) (base size : ℕ) : Type 0 where
   pub some : 0 < size
   pub behind_fixed : first_row ≤ base

@@ -9,7 +9,7 @@ use Rattle.ist_core.specs.Pieces.{Piece, Inner, Change, Rebuild, Pieces}
 use Rattle.ist_core.specs.Snapshots.{Snapshot}
 use Rattle.ist_core.specs.After.{side_of}
 
--- slot i of the node holds the word. The anchor is a node with slot 0 alone
+-- slot i of the node holds the word. The anchor is a node with slot 0 only
 pub data SlotHolds (t : Snapshot) (node i word : ℕ) : Type 0 where
   in_anchor : node ≡ anchor → i ≡ 0 → t.anchor ≡ word → SlotHolds t node i word
   in_row : (r : InnerRow) → t.pieces node ≡ Some (Inner r) → slice_get r.slots i ≡ Some word
@@ -28,12 +28,13 @@ pub data IsChildFor (t : Snapshot) (node key i : ℕ) : Type 0 where
 
 -- ---- logical slots
 
--- what the row at a change's base reads as: `to` where the change was decided yes, and `from` otherwise
+-- what the row at a change's base reads as: `to` if the change was decided yes, and `from`
+-- otherwise
 abbrev pub change_reads : Option Piece → Option Ref
 change_reads (Some (Change change)) = ref_of (side_of change)
 change_reads _ = None
 
--- what a reference reads as once changes are read away
+-- what a reference reads as once a change is replaced by what it reads as
 abbrev pub past_change : Pieces → Option Ref → Option Ref
 past_change ps (Some (ChangeAt base)) = change_reads (ps base)
 past_change ps ref = ref
@@ -43,11 +44,12 @@ abbrev pub rebuild_reads : Option Piece → Option Ref
 rebuild_reads (Some (Rebuild r)) = Some (InnerAt r.target)
 rebuild_reads _ = None
 
--- what a reference reads as once rebuilds are read away
+-- what a reference reads as once a rebuild is replaced by its target
 abbrev pub past_rebuild : Pieces → Option Ref → Option Ref
 past_rebuild ps (Some (RebuildAt base)) = rebuild_reads (ps base)
 past_rebuild ps ref = ref
 
--- what a slot word reads as: a change as the side that its decision leaves, and a rebuild, also one so read, as its target
+-- what a slot word reads as: a change as the side that its decision leaves, and a rebuild as its
+-- target. A change that leaves a rebuild reads as that rebuild's target
 abbrev pub logical : Pieces → ℕ → Option Ref
 logical ps word = past_rebuild ps (past_change ps (ref_of word))

@@ -1,4 +1,4 @@
--- The state of a table at one moment, as a value: the form in which all definitions see it.
+-- The state of a table at one moment, as a value. All definitions use this form.
 use Rattle.std.specs.Prelude.{◌≡◌, ℕ, ◌==◌, not, if◌then◌else◌, List, map, filter, length}
 use Rattle.std.specs.List.{list_any}
 use Rattle.std.specs.FinMap as fin
@@ -9,8 +9,9 @@ use Rattle.ist_core.specs.RowLayout.{anchor}
 use Rattle.ist_core.specs.Elements.{Among, Each}
 use Rattle.ist_core.specs.Pieces.{Pieces, as_leaf, as_inner, as_change, as_rebuild, changed_at, with_slot}
 
--- a table of `words` words, of which those from `next` on are free: how many callers it has, the word in the anchor's slot,
--- the published rows, and the rows that callers hold, in the order of reserving
+-- a table of `words` words, free from `next` on: its number of callers, the word in the anchor's
+-- slot, the published rows, and the rows that callers hold, in the order in which they were
+-- reserved
 pub record Snapshot : Type 0 where
   pub words : ℕ
   pub next : ℕ
@@ -31,7 +32,7 @@ pub record Shows (s : State) (t : Snapshot) : Type 0 where
   pub rebuilds : (base : ℕ) → fin.get s.rebuilds base ≡ as_rebuild (t.pieces base)
   pub held : s.held ≡ t.held
 
--- the snapshot with a word in slot i of a node. No row lies at the base of the anchor
+-- the snapshot with a word in slot i of a node. No row has the anchor's base
 abbrev pub with_slot_at : Snapshot → ℕ → ℕ → ℕ → Snapshot
 with_slot_at t node i word =
     record t {
@@ -49,7 +50,7 @@ bases_of rows = map (λ row. row.base) rows
 abbrev pub sizes_of : List Row → List ℕ
 sizes_of rows = map (λ row. length row.words) rows
 
--- the held rows but those with one of these bases
+-- the held rows except those with one of these bases
 abbrev pub without : List ℕ → List HeldRow → List HeldRow
 without bases held = filter (λ h. not (list_any (λ base. base == h.base) bases)) held
 
@@ -61,6 +62,6 @@ HoldsRow t caller base size = Among record { caller = caller; base = base; size 
 abbrev pub HoldsRows : Snapshot → ℕ → List Row → Type 0
 HoldsRows t caller rows = Each (λ row. HoldsRow t caller row.base (length row.words)) rows
 
--- the sizes of the rows that the caller holds, in the order of reserving
+-- the sizes of the rows that the caller holds, in the order in which they were reserved
 abbrev pub sizes_held : Snapshot → ℕ → List ℕ
 sizes_held t caller = map (λ h. h.size) (filter (λ h. h.caller == caller) t.held)

@@ -1,4 +1,4 @@
--- The table at its opening: the ideal tree of the start pairs, laid out from the first row on.
+-- The new table: the ideal tree of the start pairs, laid out from the first row on.
 use Rattle.std.specs.Prelude.{ℕ, zero, suc, ◌+◌, List, [], ◌∷◌, length, map, zip, drop, Some, None}
 use Rattle.std.specs.List.{flat_map}
 use Rattle.ist_core.specs.declared.pairs.Pair.{Pair}
@@ -11,18 +11,19 @@ use Rattle.ist_core.specs.Parts.{parts, first_keys}
 use Rattle.ist_core.specs.Pieces.{Piece, Leaf, Inner, Pieces, with_row}
 use Rattle.ist_core.specs.Snapshots.{Snapshot}
 
--- what leads to the tree of these pairs, where its first row lies at the base
+-- the reference to the tree of these pairs, if its first row lies at the base
 abbrev pub tree_at : ℕ → List Pair → Ref
 tree_at base [] = Empty
 tree_at base (pair ∷ []) = LeafAt base
 tree_at base (pair ∷ more ∷ pairs) = InnerAt base
 
--- where trees of so many keys begin, one behind another from the base on
+-- the bases of trees with these numbers of keys, laid out one after another from the base on
 abbrev pub bases_from : ℕ → List ℕ → List ℕ
 bases_from base [] = []
 bases_from base (n ∷ ns) = base ∷ bases_from (base + ideal_words n) ns
 
--- the parts of the pairs below an inner row at the base, each with the base of its tree: the first tree behind the row
+-- the parts of the pairs below an inner row at the base, each with the base of its tree: the first
+-- tree follows the row
 abbrev pub placed_parts : ℕ → List Pair → List (ℕ × List Pair)
 placed_parts base pairs =
     zip (bases_from (base + inner_words (degree (length pairs))) (part_lens (length pairs))) (parts pairs)
@@ -39,7 +40,8 @@ top_row base pairs =
       slots = map (λ part. word_of (tree_at part.0 part.1)) (placed_parts base pairs);
     }
 
--- the rows of the tree of these pairs from the base on, of which fuel levels are laid out: a row, then the trees of its parts
+-- the rows of the tree of these pairs from the base on, up to `fuel` levels: a row, then the trees
+-- of its parts
 unfoldable pub rows_within : ℕ → ℕ → List Pair → List (ℕ × Piece)
 rows_within fuel base [] = []
 rows_within fuel base (pair ∷ []) = (base, Leaf record { key = pair.key; value = pair.value }) ∷ []
@@ -48,16 +50,18 @@ rows_within (suc fuel) base (pair ∷ more ∷ pairs) =
     let all = pair ∷ more ∷ pairs in
     (base, top_row base all) ∷ flat_map (λ part. rows_within fuel part.0 part.1) (placed_parts base all)
 
--- the rows of the tree of these pairs from the base on. A part has fewer pairs than the whole, so as many levels are enough
+-- the rows of the tree of these pairs from the base on. A part has fewer pairs than the whole, so
+-- one level per pair is enough
 abbrev pub rows_from : ℕ → List Pair → List (ℕ × Piece)
 rows_from base pairs = rows_within (length pairs) base pairs
 
--- the rows in the list, by their bases
+-- the rows in the list, by base
 abbrev pub pieces_of : List (ℕ × Piece) → Pieces
 pieces_of [] = λ base. None
 pieces_of (row ∷ rows) = with_row (pieces_of rows) row.0 (Some row.1)
 
--- the state of a new table of so many words: the ideal tree of the pairs from the first row on, no callers, no held rows
+-- the state of a new table of `words` words: the ideal tree of the pairs from the first row on, no
+-- callers, no held rows
 abbrev pub start : List Pair → ℕ → Snapshot
 start pairs words =
     record {

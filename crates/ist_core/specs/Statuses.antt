@@ -43,7 +43,7 @@ status_word Open = open_word
 status_word Marked = marked_word
 status_word (Finished k) = finished_word k
 
--- the status whose word this is, or none where there is none with fewer keys than the limit
+-- the status with this word, or none: a finished status must have fewer keys than the limit
 unfoldable pub status_of : ℕ → Option Status
 status_of word =
     if word == open_word then Some Open
@@ -61,7 +61,7 @@ undecided = 0
 abbrev pub decided_yes : ℕ
 decided_yes = 1
 
--- the change is taken back
+-- the change has no effect
 abbrev pub decided_no : ℕ
 decided_no = 2
 
@@ -75,10 +75,10 @@ put_kind = 1
 abbrev pub remove_kind : ℕ
 remove_kind = 2
 
--- it puts a rebuild in the place of the node that is to be rebuilt
+-- it replaces the node that needs a rebuild by a rebuild row
 abbrev pub start_kind : ℕ
 start_kind = 3
 
--- it puts the new subtree in the place of the rebuild
+-- it replaces the rebuild row by the new subtree
 abbrev pub finish_kind : ℕ
 finish_kind = 4

@@ -1,4 +1,4 @@
--- The laws over lawful logs that speak of the tree. `src/laws.rt` lists them.
+-- The laws over lawful logs that are about the tree. `src/laws.rt` lists them.
 use Rattle.std.specs.Prelude.{◌≡◌, ℕ, ◌<◌, List, map, Some}
 use Rattle.std.specs.List.Sorted.{IsStrictlyIncreasing}
 use Rattle.ist_core.specs.declared.pairs.Pair.{Pair}
@@ -24,7 +24,7 @@ SlotsNameRows =
     (pairs : List Pair) (words : ℕ) (log : Log) → Lawful pairs words log → (node i word : ℕ)
     → SlotHolds (state_of pairs words log) node i word → NamesRow (state_of pairs words log) node i word
 
--- each published inner row has as many slots as its degree says, and one key less
+-- each published inner row has `degree` slots and one key less
 abbrev pub RowsHaveTheirDegree : Type 0
 RowsHaveTheirDegree =
     (pairs : List Pair) (words : ℕ) (log : Log) → Lawful pairs words log → (node : ℕ) (row : InnerRow)
@@ -38,14 +38,14 @@ ChildrenLieAbove =
     (pairs : List Pair) (words : ℕ) (log : Log) → Lawful pairs words log → (node i child : ℕ)
     → IsChild (state_of pairs words log) node i child → node < child
 
--- the keys of each published inner row rise
+-- the keys of each published inner row are strictly increasing
 abbrev pub KeysRise : Type 0
 KeysRise =
     (pairs : List Pair) (words : ℕ) (log : Log) → Lawful pairs words log → (node : ℕ) (row : InnerRow)
     → (state_of pairs words log).pieces node ≡ Some (Inner row) → IsStrictlyIncreasing row.keys
 
--- a leaf that a slot of a linked node reads as lies where its key leads: each row on the way from the anchor leads on by the
--- child for the key, and so does the node
+-- if a slot of a linked node reads as a leaf, the leaf's key leads to it: the child for the key
+-- leads from the anchor to the node, and from the node to this slot
 abbrev pub LeavesLieByKey : Type 0
 LeavesLieByKey =
     (pairs : List Pair) (words : ℕ) (log : Log) → Lawful pairs words log → (node i word leaf : ℕ) (row : LeafRow)
@@ -54,7 +54,7 @@ LeavesLieByKey =
     → (state_of pairs words log).pieces leaf ≡ Some (Leaf row)
     → Leads (state_of pairs words log) row.key node × IsChildFor (state_of pairs words log) node row.key i
 
--- the leaves below a slot, of a linked node or not, rise by key
+-- the leaves below a slot, of a linked node or not, have strictly increasing keys
 abbrev pub LeavesRise : Type 0
 LeavesRise =
     (pairs : List Pair) (words : ℕ) (log : Log) → Lawful pairs words log → (node i word : ℕ) (leaves : List PlacedLeaf)
@@ -62,7 +62,7 @@ LeavesRise =
     → HasLeaves (state_of pairs words log).pieces (logical (state_of pairs words log).pieces word) leaves
     → IsStrictlyIncreasing (map (λ leaf. leaf.row.key) leaves)
 
--- so do the contents of the table
+-- the keys of the table's contents are strictly increasing
 abbrev pub ContentsRise : Type 0
 ContentsRise =
     (pairs : List Pair) (words : ℕ) (log : Log) → Lawful pairs words log → (contents : List Pair)
@@ -70,7 +70,7 @@ ContentsRise =
 
 -- ---- finished rows
 
--- the leaves below a finished row stay, behind any log that goes on from this one
+-- the leaves below a finished row stay the same in every longer log
 abbrev pub FinishedLeavesStay : Type 0
 FinishedLeavesStay =
     (pairs : List Pair) (words : ℕ) (earlier log : Log) → Lawful pairs words log → GoesOn earlier log
@@ -80,7 +80,8 @@ FinishedLeavesStay =
 
 -- ---- one parent
 
--- an inner row is the logical child of one slot only, ever: of the slot that it is the child of behind any prefix of the log
+-- an inner row is only ever the logical child of one slot: it was in the same slot after any prefix
+-- of the log
 abbrev pub ParentsAreOne : Type 0
 ParentsAreOne =
     (pairs : List Pair) (words : ℕ) (earlier log : Log) → Lawful pairs words log
@@ -90,7 +91,7 @@ ParentsAreOne =
 
 -- ---- frozen slots
 
--- a frozen slot reads as the word that it was passed with, and a rebuild in it as its target
+-- a frozen slot reads as the word that it was passed with, and if that is a rebuild, as its target
 abbrev pub FrozenSlotsRead : Type 0
 FrozenSlotsRead =
     (pairs : List Pair) (words : ℕ) (log : Log) → Lawful pairs words log → (node i passed word : ℕ)
@@ -98,13 +99,14 @@ FrozenSlotsRead =
     → logical (state_of pairs words log).pieces word ≡ past_rebuild
     (state_of pairs words log).pieces (ref_of passed)
 
--- the node of a frozen slot isn't open, and the slot holds its word still, or a change in vain that would take it out
+-- the node of a frozen slot isn't open, and the slot still holds its word, or a change in vain that
+-- would take it out
 abbrev pub FrozenSlotsKeep : Type 0
 FrozenSlotsKeep =
     (pairs : List Pair) (words : ℕ) (log : Log) → Lawful pairs words log → (node i passed : ℕ)
     → IsFrozen log node i passed → IsClosedOver (state_of pairs words log) log node i passed
 
--- a slot is frozen with one word
+-- all passes of a slot have the same word
 abbrev pub PassesAgree : Type 0
 PassesAgree =
     (pairs : List Pair) (words : ℕ) (log : Log) → Lawful pairs words log → (node i word other : ℕ)

@@ -14,7 +14,8 @@ use Rattle.ist_core.specs.Pieces.{as_inner, as_change, as_rebuild, change_of}
 use Rattle.ist_core.specs.Snapshots.{Snapshot}
 use Rattle.ist_core.specs.After.{decision_word, side_of}
 
--- one step on one word: its place, the word that the step finds there, and the word that it leaves. A load leaves what it finds
+-- one step on one word: its place, the word that the step finds there, and the word that it leaves.
+-- A load leaves what it finds
 pub record Touch : Type 0 where
   pub place : ℕ
   pub found : ℕ
@@ -22,7 +23,7 @@ pub record Touch : Type 0 where
 
 -- ---- places
 
--- the place of slot i of an inner row, and 0 where there is none
+-- the place of slot i of an inner row, or 0 if there is no row
 abbrev pub place_in : ℕ → ℕ → Option InnerRow → ℕ
 place_in node i None = 0
 place_in node i (Some r) = slot_place node r.degree i
@@ -74,14 +75,14 @@ abbrev pub touch_in_root : Snapshot → Option Ref → ℕ → ℕ → Option To
 touch_in_root t (Some (InnerAt root)) i word = Some record { place = place_of_slot t root i; found = unset_word; left = word }
 touch_in_root t _ i word = None
 
--- the root is that of the rebuild
+-- the same, for the root that the rebuild names
 abbrev pub touch_of_place : Snapshot → Option RebuildRow → ℕ → ℕ → Option Touch
 touch_of_place t None i word = None
 touch_of_place t (Some r) i word = touch_in_root t (ref_of r.root) i word
 
 -- ---- all events
 
--- what the step of the event touches. A Lose touches no word of which the image speaks
+-- what the step of the event touches. A Lose touches no word that the image speaks of
 abbrev pub touch_of : Snapshot → Event → Option Touch
 touch_of t (Enter caller) = Some record { place = callers_place; found = t.callers; left = t.callers + 1 }
 touch_of t (Reserve caller base size) = Some record { place = next_place; found = base; left = base + size }
@@ -101,7 +102,7 @@ touch_of t (Draw caller rebuild part) = touch_of_draw rebuild (as_rebuild (t.pie
 touch_of t (Place caller rebuild i word rows) = touch_of_place t (as_rebuild (t.pieces rebuild)) i word
 touch_of t (Lose caller bases) = None
 
--- the words behind a touch
+-- the words after a touch
 abbrev pub touched : List ℕ → Option Touch → List ℕ
 touched words None = words
 touched words (Some touch) = slice_set words touch.place touch.left
@@ -115,7 +116,7 @@ published_by (Root caller rebuild word rows) = rows
 published_by (Place caller rebuild i word rows) = rows
 published_by _ = []
 
--- each of the rows stands in the words, at its base
+-- each of the rows is in the words, at its base
 abbrev pub RowsStand : List ℕ → List Row → Type 0
 RowsStand words rows =
     Each (λ row. (k : ℕ) → k < length row.words → slice_get words (row.base + k) ≡ slice_get row.words k) rows

@@ -1,8 +1,8 @@
-//! A call of one caller, and where in a log it stands.
+//! A call of one caller, and its place in a log.
 use crate::commands::{Command, Reply};
 
-/// A call that was answered. `position` is how many changes of the map lie before it, and `stamp`
-/// its place among the calls that its caller knows of.
+/// A call that got its reply. `position` is how many changes of the map precede it, and `stamp` its
+/// place among the calls that its caller knows of.
 #[derive(Clone, Copy, Debug, PartialEq, Eq, Drop)]
 pub struct Call {
     pub command: Command,

@@ -1,4 +1,4 @@
-//! What a caller asks of a map, and what it is told.
+//! What a caller asks of a map, and the reply.
 
 /// One command on a map from `u64` keys to `u64` values. `Map.antt` says what it does.
 #[derive(Clone, Copy, Debug, PartialEq, Eq, Drop)]

@@ -6,7 +6,7 @@ use crate::lists::{Bases, Rows};
 pub enum Who {
     Maker,
     Caller(u64),
-    /// A note, which tells what its caller has seen, if it was split from one.
+    /// A note, which reports what its caller has seen, if it was split from one.
     Note(Option<u64>),
     /// One that was joined away.
     Spent,

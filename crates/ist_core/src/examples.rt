@@ -21,10 +21,10 @@ pub fn a_table_opens()
     ensures ten { rows_from first_row ten_pairs ≡ ten_rows }
 {}
 
-/// A put of (1, 1) into an empty table of 15 words: it uses them all, and its leaf stands in the
+/// A put of (1, 1) into an empty table of 15 words: it uses them all, and its leaf is in the
 /// anchor's slot.
 ///
-/// It isn't lawful where nobody saw the anchor open, nor where a word is missing.
+/// It isn't lawful if nobody saw the anchor open, or if the table has one word less.
 pub fn a_put_is_lawful()
     ensures lawful { Lawful [] 15 put_resolved }
     ensures next { (state_of [] 15 put_resolved).next ≡ 15 }
@@ -34,7 +34,7 @@ pub fn a_put_is_lawful()
     ensures no_room { ¬ (Lawful [] 14 put_resolved) }
 {}
 
-/// A change in a slot reads as what stood there, and once it is decided yes as what it puts there.
+/// A change in a slot reads as what it takes out, and once it is decided yes as what it puts in.
 pub fn a_change_is_read()
     ensures undecided { logical (state_of [] 15 put_installed).pieces (word_of (ChangeAt 6))
         ≡ Some Empty }
@@ -42,8 +42,8 @@ pub fn a_change_is_read()
         ≡ Some (LeafAt 4) }
 {}
 
-/// The start of a rebuild of the anchor's child is lawful where that child isn't due, and a rebuild
-/// reads as its target.
+/// The start of a rebuild of the anchor's child is lawful even if that child isn't due, and a
+/// rebuild reads as its target.
 pub fn a_start_is_lawful()
     ensures lawful { Lawful start_pairs 100 start_installed }
     ensures rebuild { let ps = (state_of start_pairs 100 start_installed).pieces in
@@ -59,10 +59,10 @@ pub fn a_rebuild_is_lawful()
     ensures contents { HasContents (state_of start_pairs 100 rebuild_replaced) start_pairs }
 {}
 
-/// A put of (20, 9) in the target of a rebuild, whose node was seen open before the mark and which
-/// is decided yes behind it: it takes effect, is counted, and its leaf is what is passed.
+/// A put of (20, 9) in the target of a rebuild. Its node was seen open before the mark, and it is
+/// decided yes after the mark: it takes effect, is counted, and its leaf is what is passed.
 ///
-/// Where it is installed only behind the mark, nobody can have seen the node open, and yes isn't
+/// If it is installed only after the mark, nobody can have seen the node open, and yes isn't
 /// lawful.
 pub fn an_overtaken_put_is_lawful()
     ensures lawful { Lawful start_pairs 100 late_finished }

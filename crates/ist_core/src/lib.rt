@@ -1,6 +1,6 @@
-//! The event model of the tree: what a reader must believe, and nothing that runs.
+//! The event model of the tree: the definitions that its claims rest on. Nothing here runs.
 //!
-//! `specs/Lib.antt` gives the definitions in reading order. Stands on nothing.
+//! `specs/Lib.antt` gives the definitions in reading order. The crate depends on no other.
 #![tactic(auto)]
 
 mod calls;

@@ -3,7 +3,7 @@ ghost use Rattle.std.specs.Prelude.{◌≡◌, slice_set};
 
 use std::marker::Model;
 
-/// Words side by side, as those of a row. Contracts see the list of them.
+/// Words side by side, as in a row. Contracts see the list of them.
 #[derive(Drop)]
 pub struct Words {
     items: Vec<u64>,
@@ -18,28 +18,28 @@ impl Model for Words {
 }
 
 impl Words {
-    /// The list of these words.
+    /// Returns the list of these words.
     pub fn from_vec(items: Vec<u64>) -> Words
         ensures value { result ≡ items.items }
     {
         Words { items }
     }
 
-    /// The words, in order.
+    /// Returns the words, in order.
     pub fn as_slice(&self) -> &[u64]
         ensures value { result.now ≡ self.now }
     {
         &self.items
     }
 
-    /// The vector that this was made from. Takes no memory.
+    /// Returns the vector that this was made from, without allocating.
     pub fn into_vec(self) -> Vec<u64>
         ensures value { result.items ≡ self }
     {
         self.items
     }
 
-    /// Writes word `i`, if there are so many.
+    /// Writes word `i`, if there is one.
     pub fn set(&mut self, i: usize, word: u64)
         ensures value { self.new ≡ slice_set self.old i word }
     {
@@ -64,21 +64,21 @@ impl Model for Bases {
 }
 
 impl Bases {
-    /// The list of these bases.
+    /// Returns the list of these bases.
     pub fn from_vec(items: Vec<u64>) -> Bases
         ensures value { result ≡ items.items }
     {
         Bases { items }
     }
 
-    /// The bases, in order.
+    /// Returns the bases, in order.
     pub fn as_slice(&self) -> &[u64]
         ensures value { result.now ≡ self.now }
     {
         &self.items
     }
 
-    /// The vector that this was made from. Takes no memory.
+    /// Returns the vector that this was made from, without allocating.
     pub fn into_vec(self) -> Vec<u64>
         ensures value { result.items ≡ self }
     {
@@ -86,7 +86,7 @@ impl Bases {
     }
 }
 
-/// A row of the table: the number of its first word, and its words.
+/// A row of the table: the place of its first word, and its words.
 #[derive(Drop)]
 pub struct Row {
     pub base: u64,
@@ -109,21 +109,21 @@ impl Model for Rows {
 }
 
 impl Rows {
-    /// The list of these rows.
+    /// Returns the list of these rows.
     pub fn from_vec(items: Vec<Row>) -> Rows
         ensures value { result ≡ items.items }
     {
         Rows { items }
     }
 
-    /// The rows, in order.
+    /// Returns the rows, in order.
     pub fn as_slice(&self) -> &[Row]
         ensures value { result.now ≡ self.now }
     {
         &self.items
     }
 
-    /// The vector that this was made from. Takes no memory.
+    /// Returns the vector that this was made from, without allocating.
     pub fn into_vec(self) -> Vec<Row>
         ensures value { result.items ≡ self }
     {
@@ -139,7 +139,7 @@ pub struct HeldRow {
     pub size: u64,
 }
 
-/// Held rows in the order of reserving. Contracts see the list of them.
+/// Held rows, in the order in which they were reserved. Contracts see the list of them.
 #[derive(Drop)]
 pub struct HeldRows {
     items: Vec<HeldRow>,
@@ -155,21 +155,21 @@ impl Model for HeldRows {
 }
 
 impl HeldRows {
-    /// The list of these rows.
+    /// Returns the list of these rows.
     pub fn from_vec(items: Vec<HeldRow>) -> HeldRows
         ensures value { result ≡ items.items }
     {
         HeldRows { items }
     }
 
-    /// The rows, in order.
+    /// Returns the rows, in order.
     pub fn as_slice(&self) -> &[HeldRow]
         ensures value { result.now ≡ self.now }
     {
         &self.items
     }
 
-    /// The vector that this was made from. Takes no memory.
+    /// Returns the vector that this was made from, without allocating.
     pub fn into_vec(self) -> Vec<HeldRow>
         ensures value { result.items ≡ self }
     {

@@ -1,6 +1,6 @@
-//! A load of a search, and how much of the log had come then.
+//! A load of a search, and how long the log was at that moment.
 
-/// A load: its place, the word that it gave, and how many events the log had then.
+/// A load: its place, the word that it returned, and how many events the log had at that moment.
 pub struct Load {
     pub place: u64,
     pub word: u64,

@@ -1,7 +1,7 @@
 //! Published rows by their bases. Contracts see each type here as a finite map from bases to rows.
 //!
-//! Each is kept as a vector of bases and rows in which the bases rise; it is made from such a
-//! vector and gives it back.
+//! Each is kept as a vector of bases and rows with strictly increasing bases. It is made from such
+//! a vector and gives it back.
 ghost use Rattle.std.specs.Prelude.{◌≡◌, map};
 ghost use Rattle.std.specs.List.Sorted.{IsStrictlyIncreasing};
 ghost use Rattle.std.specs.Ordering.{nat_cmp};
@@ -34,7 +34,7 @@ impl Model for Leaves {
 }
 
 impl Leaves {
-    /// The map with these entries. Takes no memory.
+    /// Returns the map with these entries, without allocating.
     pub fn from_vec(entries: Vec<(u64, LeafRow)>) -> Leaves
         requires rising { IsStrictlyIncreasing (map (λ e. e.0) entries.items) }
         ensures value { fin.entries result ≡ entries.items }
@@ -42,14 +42,14 @@ impl Leaves {
         Leaves { entries }
     }
 
-    /// The entries, rising by base.
+    /// Returns the entries, with increasing bases.
     pub fn as_slice(&self) -> &[(u64, LeafRow)]
         ensures value { result.now ≡ fin.entries self.now }
     {
         &self.entries
     }
 
-    /// The vector of the entries, rising by base. Takes no memory.
+    /// Returns the vector of the entries, with increasing bases, without allocating.
     pub fn into_vec(self) -> Vec<(u64, LeafRow)>
         ensures value { result.items ≡ fin.entries self }
     {
@@ -81,7 +81,7 @@ impl Model for Inners {
 }
 
 impl Inners {
-    /// The map with these entries. Takes no memory.
+    /// Returns the map with these entries, without allocating.
     pub fn from_vec(entries: Vec<(u64, InnerRow)>) -> Inners
         requires rising { IsStrictlyIncreasing (map (λ e. e.0) entries.items) }
         ensures value { fin.entries result ≡ entries.items }
@@ -89,14 +89,14 @@ impl Inners {
         Inners { entries }
     }
 
-    /// The entries, rising by base.
+    /// Returns the entries, with increasing bases.
     pub fn as_slice(&self) -> &[(u64, InnerRow)]
         ensures value { result.now ≡ fin.entries self.now }
     {
         &self.entries
     }
 
-    /// The vector of the entries, rising by base. Takes no memory.
+    /// Returns the vector of the entries, with increasing bases, without allocating.
     pub fn into_vec(self) -> Vec<(u64, InnerRow)>
         ensures value { result.items ≡ fin.entries self }
     {
@@ -128,7 +128,7 @@ impl Model for Changes {
 }
 
 impl Changes {
-    /// The map with these entries. Takes no memory.
+    /// Returns the map with these entries, without allocating.
     pub fn from_vec(entries: Vec<(u64, ChangeRow)>) -> Changes
         requires rising { IsStrictlyIncreasing (map (λ e. e.0) entries.items) }
         ensures value { fin.entries result ≡ entries.items }
@@ -136,14 +136,14 @@ impl Changes {
         Changes { entries }
     }
 
-    /// The entries, rising by base.
+    /// Returns the entries, with increasing bases.
     pub fn as_slice(&self) -> &[(u64, ChangeRow)]
         ensures value { result.now ≡ fin.entries self.now }
     {
         &self.entries
     }
 
-    /// The vector of the entries, rising by base. Takes no memory.
+    /// Returns the vector of the entries, with increasing bases, without allocating.
     pub fn into_vec(self) -> Vec<(u64, ChangeRow)>
         ensures value { result.items ≡ fin.entries self }
     {
@@ -175,7 +175,7 @@ impl Model for Rebuilds {
 }
 
 impl Rebuilds {
-    /// The map with these entries. Takes no memory.
+    /// Returns the map with these entries, without allocating.
     pub fn from_vec(entries: Vec<(u64, RebuildRow)>) -> Rebuilds
         requires rising { IsStrictlyIncreasing (map (λ e. e.0) entries.items) }
         ensures value { fin.entries result ≡ entries.items }
@@ -183,14 +183,14 @@ impl Rebuilds {
         Rebuilds { entries }
     }
 
-    /// The entries, rising by base.
+    /// Returns the entries, with increasing bases.
     pub fn as_slice(&self) -> &[(u64, RebuildRow)]
         ensures value { result.now ≡ fin.entries self.now }
     {
         &self.entries
     }
 
-    /// The vector of the entries, rising by base. Takes no memory.
+    /// Returns the vector of the entries, with increasing bases, without allocating.
     pub fn into_vec(self) -> Vec<(u64, RebuildRow)>
         ensures value { result.items ≡ fin.entries self }
     {

@@ -6,8 +6,8 @@ ghost use Rattle.ist_core.specs.Replies.{Answered, Refused, told, refusal};
 use crate::commands::{Command, Reply};
 use std::sync::Wait;
 
-/// No row could be reserved: of `words` words the first free one is `next`, and `asked` more were
-/// wanted.
+/// The table is full: `asked` more words were needed, and the first free one of its `words` words
+/// is `next`.
 #[derive(Clone, Copy, Debug, PartialEq, Eq, Drop)]
 pub struct Full {
     pub next: u64,
@@ -17,19 +17,19 @@ pub struct Full {
 
 /// One caller of a shared map.
 pub trait Port {
-    /// What a port of this type is tied to, as a table and a number of a caller.
+    /// What a port of this type belongs to, such as a table and a caller's number.
     type Tie;
 
-    // the calls that were answered, in order
+    // the calls that got a reply, in order
     ghost calls: { Self → List Answered };
-    // the last call that was refused, if one was
+    // the last call that failed, if one did
     ghost refused: { Self → Option Refused };
-    // what this port is tied to
+    // what this port belongs to
     ghost tie: { Self → Self.Tie };
 
-    /// Makes the call, and gives its reply. It may retry or wait.
+    /// Makes the call and returns its reply. It may retry or wait.
     ///
-    /// `Full` where no row is left for it. The call didn't happen then.
+    /// Returns `Full` if no row is left for it. The call then didn't happen.
     fn call<R: Wait>(&mut self, rt: &R, command: Command) -> Result<Reply, Full>
         ensures recorded { IfOk result (λ r.
             calls self.new ≡ calls self.old ++ told command r ∷ []) }

@@ -21,9 +21,9 @@ pub struct InnerRow {
     pub slots: Words,
 }
 
-/// A change: the descriptor of one double-compare single-swap. It puts the word `to` into slot
-/// `index` of `node` where `from` stands there, unless the node is marked. `owner` is the caller
-/// that filled it.
+/// A change: the descriptor of one double-compare single-swap. If slot `index` of `node` holds the
+/// word `from` and the node isn't marked, it puts the word `to` there. `owner` is the caller that
+/// filled it.
 #[derive(Clone, Copy, Debug, PartialEq, Eq, Drop)]
 pub struct ChangeRow {
     pub decision: u64,
@@ -38,7 +38,7 @@ pub struct ChangeRow {
 }
 
 /// A rebuild of the node `target`, which hangs in slot `index` of `parent`. `root` is the word of
-/// the subtree that is to take its place, and `draw` the number of parts of it that were drawn.
+/// the subtree that will replace it, and `draw` the number of its parts that were drawn.
 #[derive(Clone, Copy, Debug, PartialEq, Eq, Drop)]
 pub struct RebuildRow {
     pub target: u64,
@@ -48,9 +48,9 @@ pub struct RebuildRow {
     pub draw: u64,
 }
 
-/// The state of a table of `words` words, of which those from `next` on are free, with `callers`
-/// callers and the word `anchor` in the anchor's slot. The four maps go from bases to published
-/// rows, and `held` are the rows that callers hold.
+/// The state of a table of `words` words, free from `next` on, with `callers` callers and the word
+/// `anchor` in the anchor's slot. The four maps go from bases to published rows, and `held` are the
+/// rows that callers hold.
 #[derive(Drop)]
 pub struct State {
     pub words: u64,

@@ -1,6 +1,5 @@
--- How a seat comes to what an install or a help asks: by a call that it began, by a node that it
--- saw open, by a word
--- that it met in a slot. Serves the crates above.
+-- How a seat gets what an install or a help asks: from a call that it began, from a node that it
+-- saw open, from a word that it met in a slot. Serves the crates above.
 use Rattle.std.proofs.Common.{◌≡◌, ℕ, [], ◌∷◌, length, Option, Some, None, refl, sym, ap, ◌∙◌, subst, inl, inr, arith}
 use Rattle.ist_core.specs.declared.commands.Command.{Command}
 use Rattle.ist_core.specs.declared.states.ChangeRow.{ChangeRow}
@@ -31,7 +30,7 @@ use Rattle.ist_dcss.specs.Helping.{MayHelp, WasSeen}
 use Rattle.ist_dcss.proofs.OutcomeLemmas.{HasFate, IsShut, fate}
 use Rattle.ist_dcss.proofs.DecideLemmas.{open_before}
 
--- what is true behind a log was once true
+-- what is true after a log was once true
 pub ever_now : (first : Snapshot) (P : Snapshot → Type 0) (log : Log) → P (state first log)
     → Ever first P log
 ever_now first P [] p = p

@@ -1,4 +1,4 @@
--- Deciding: when it may be made, and what it tells. Serves `decide`.
+-- Deciding: when it may be made, and what it lets its seat know. Serves `decide`.
 use Rattle.std.proofs.Common.{◌≡◌, ◌≢◌, ℕ, ◌+◌, ◌<◌, ◌⊎◌, ◌&&◌, ◌==◌, Bool, true, false, if◌then◌else◌, Some, None, refl, sym, ap, ap₂, ◌∙◌, subst, inl, inr, arith}
 use Rattle.std.proofs.lemmas.Bool.Decides.{eqb_tells}
 use Rattle.ist_core.specs.declared.states.InnerRow.{InnerRow}
@@ -61,10 +61,10 @@ open_before t u g node (is_inner p f) (row_is q e o) =
     status_is : (a b : InnerRow) → Some (Inner a) ≡ Some (Inner b) → a.status ≡ b.status
     status_is a b e = let same : a ≡ b = cc in ap (λ r. r.status) same
 
--- behind each log that may come an installed change may be decided so, if it is undecided there
+-- after each log that may come an installed change may be decided so, if it is undecided there
 module _ (v : View) (s : IsSound v) (change number : ℕ) (mine : v.who ≡ Caller number)
     (row : ChangeRow) (installed : (now v).pieces change ≡ Some (Change row)) where
-  -- the change behind such a log
+  -- the change after such a log
   pub row_behind : (log : Log) → MayCome v log → (r : ChangeRow)
       × ((state_of v.start v.words log).pieces change ≡ Some (Change r)) × ChangeGrows row r
   row_behind log m =
@@ -72,7 +72,7 @@ module _ (v : View) (s : IsSound v) (change number : ℕ) (mine : v.who ≡ Call
       (grow_between v.start v.words v.log log m.lawful.enabled (later-goes_on m.later)) change
       row installed
 
-  -- the caller is one of the table
+  -- the caller is a caller of the table
   pub number_low : (log : Log) → MayCome v log → number < (state_of v.start v.words log).callers
   number_low log m =
       let before = s.is_true.low number mine in
@@ -123,7 +123,7 @@ module _ (v : View) (s : IsSound v) (change number : ℕ) (mine : v.who ≡ Call
             };
       }
 
--- ---- what the load of the status tells
+-- ---- what the load of the status says
 
 -- the status of an open node is shown as open
 pub open_shown : (v : View) → IsSound v → (node : ℕ) → IsOpen (now v) node
@@ -135,7 +135,7 @@ open_shown v s node (row_is q e o) =
     (sym (status_place_inner node (no_anchor v.start v.words v.log s.lawful.enabled node q e)))
     (shown_row node (Inner q) 0 e (ap Some o))
 
--- where a test names an event and it is named none, the test fails
+-- if a test names an event and none is named, the test fails
 not_named : {A : Type 0} (b : Bool) (x : A) → (if b then Some x else None) ≡ None → b ≡ false
 not_named true x e = absurd (cc)
 not_named false x e = refl
@@ -151,7 +151,7 @@ okay_went v change place word w (as_event event l named) =
     (subst (λ e. made_behind e v.made ≡ v.made) it.1 refl)
 okay_went v change place word w (as_load l none) = looked_went (Serves change) v place word w l
 
--- the change is ready for a yes where the load gave an open node, and for a no otherwise
+-- the change is ready for a yes if the load gave an open node, and for a no otherwise
 okay_ready : (v : View) (change place word : ℕ) (w : View) (node : ℕ) (r : ChangeRow)
     → place ≡ place_of_status node → (l : LoadedAs v (okay_of v change) place word w)
     → (now w).pieces change ≡ Some (Change r) → r.node ≡ node
@@ -202,7 +202,7 @@ pub record MayDecide (change number : ℕ) (said : Bool) (v w : View) : Type 0 w
   pub published : (now w).pieces change ≡ Some (Change row)
   pub ready : IsReady w change row said
 
--- it may decide the change by that word
+-- the helper may decide the change by that word
 pub may_decide : (v : View) (change : ℕ) (m : MayHelp v change) (u : View) → WentOn (Serves change) v u
     → (node : ℕ) → IsField u change change_node_offset node → (place : ℕ)
     → place ≡ place_of_status node → (word : ℕ) (w : View)

@@ -1,4 +1,4 @@
--- How a change was decided, and what a help tells of it. Serves `decide` and `help`.
+-- How a change was decided, and what a help says of it. Serves `decide` and `help`.
 use Rattle.std.proofs.Common.{◌≡◌, ◌≢◌, ℕ, ◌+◌, ◌⊎◌, ◌==◌, Bool, true, false, if◌then◌else◌, ◌∷◌, option_map, Some, refl, sym, ap, ◌∙◌, subst, inl, inr, arith}
 use Rattle.std.proofs.lemmas.Bool.Decides.{eqb_tells}
 use Rattle.ist_core.specs.declared.states.ChangeRow.{ChangeRow}
@@ -19,16 +19,16 @@ use Rattle.ist_rule.specs.Going.{WentOn}
 use Rattle.ist_rule.proofs.WentOnLemmas.{looked_went, logged_went, went_now}
 use Rattle.ist_dcss.proofs.HelperLemmas.{went_row}
 use Rattle.ist_dcss.proofs.OutcomeLemmas.{HasFate, fate, okay_seen}
-use Rattle.ist_links.proofs.ChangeLemmas.{yes_has_okay}
+use Rattle.laws_links.proofs.ChangeLemmas.{yes_has_okay}
 
 -- the word of a decision isn't undecided
 pub said_set : (b : Bool) → decision_word b ≢ undecided
 said_set true e = let one : ◌≡◌ {A = ℕ} 1 0 = e in omega arith
 said_set false e = let two : ◌≡◌ {A = ℕ} 2 0 = e in omega arith
 
--- ---- what the exchange of the decision tells
+-- ---- what the exchange of the decision says
 
--- a seat that exchanged the decision helped, and the change has the decision that stands
+-- a seat that exchanged the decision helped, and the change has the decision that holds
 pub decide_tells : (v : View) (change number : ℕ) (said : Bool) (place stood : ℕ) (w : View)
     (row : ChangeRow) → (now v).pieces change ≡ Some (Change row)
     → place ≡ change + change_decision_offset
@@ -104,9 +104,9 @@ decided_as v s change row there set said is =
     at (inr (inl e)) = e ∙ ap (λ d. decision_word (d == decided_yes)) (sym e)
     at (inr (inr e)) = e.0 ∙ ap (λ d. decision_word (d == decided_yes)) (sym e.0)
 
--- ---- what a help tells
+-- ---- what a help says
 
--- a change that was decided so is so still
+-- a change with this decision keeps it
 pub decided_on : (change : ℕ) (v w : View) → WentOn (Serves change) v w → (said : Bool)
     → IsDecided v change said → IsDecided w change said
 decided_on change v w h said d =
@@ -118,14 +118,14 @@ decided_on change v w h said d =
           on.2.decided (λ e. said_set said (sym d.decision ∙ e)) ∙ d.decision;
     }
 
--- where a change is decided yes its node was seen open
+-- if a change is decided yes, its node was seen open
 pub yes_seen : (v : View) → IsSound v → (change : ℕ) → IsDecided v change true → WasOpen v change
 yes_seen v s change d =
     okay_seen v.start v.words v.log s.lawful.enabled change
     (yes_has_okay v.start v.words s.lawful.opens v.log s.lawful.enabled change d.row d.published
     d.decision)
 
--- where it is decided no its node was seen not to be open
+-- if it is decided no, its node was seen not to be open
 pub no_seen : (v : View) → IsSound v → (change : ℕ) → IsDecided v change false
     → WasClosed v change
 no_seen v s change d = at (fate v.start v.words v.log s.lawful.enabled change d.row d.published)

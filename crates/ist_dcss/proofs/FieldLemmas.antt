@@ -84,7 +84,7 @@ field_is v change offset word i f at stays w h row there =
     (one_piece ((now w).pieces change) (Change on.0) (Change row) on.1 there) in
     some_word word (f i.row) (sym i.is ∙ at i.row) ∙ sym (stays i.row on.0 on.2) ∙ ap f same
 
--- ---- where a slot lies
+-- ---- the place of a slot
 
 -- what a seat needs of the inner row in which a slot lies
 pub record HasPlace (v : View) (node i : ℕ) : Type 0 where
@@ -121,12 +121,13 @@ has_place v s node i slot ne = at slot.word slot.holds
           small = all;
         }
 
--- what the load of the degree tells
+-- what the load of the degree says
 pub record TellsSlot (v : View) (node i degree : ℕ) : Type 0 where
   pub index_low : i < degree
   pub degree_low : degree < place_limit
   pub place : slot_place node degree i ≡ place_of_slot (now v) node i
 
+-- a load of the degree gives the place of the slot
 pub tells_slot : (v : View) (node i : ℕ) → HasPlace v node i → (degree : ℕ) (w : View)
     → Looked v (node + inner_degree_offset) degree w → TellsSlot w node i degree
 tells_slot v node i k degree w l =
@@ -153,7 +154,7 @@ pub record NamesSlot (v : View) (change node index : ℕ) : Type 0 where
   pub index_is : index ≡ row.index
   pub slot : IsSlot v node index
 
--- the words of a change that name its slot name one
+-- the words of a change that name its slot name a slot
 pub names_slot : (u : View) (change node : ℕ) → IsField u change change_node_offset node
     → (v : View)
     → WentOn (Serves change) u v → (index : ℕ) → IsField v change change_index_offset index
@@ -179,7 +180,7 @@ names_slot u change node first v h index second =
       };
     }
 
--- behind more loads, the place of that slot is the place of the change's slot
+-- after more loads, the place of that slot is the place of the change's slot
 pub place_of_change : (v : View) (change node index : ℕ) → NamesSlot v change node index
     → (w : View)
     → GoesOnTo v w → (place : ℕ) → place ≡ place_of_slot (now w) node index

@@ -1,4 +1,4 @@
--- What an Install asks of the log is so behind each longer one. Serves `install`.
+-- What an Install asks of the log holds after each longer one. Serves `install`.
 use Rattle.std.proofs.Common.{◌≡◌, ◌≢◌, ℕ, List, length, Some, refl, sym, ap, ◌∙◌, subst, inl, inr, ⊎_elim, arith}
 use Rattle.ist_core.specs.declared.pairs.Pair.{Pair}
 use Rattle.ist_core.specs.declared.lists.Row.{Row}

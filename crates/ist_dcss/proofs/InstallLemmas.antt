@@ -95,7 +95,7 @@ pub filled : (v : View) (base : ℕ) (f : Filling) → IsInstallable v base f
 filled v base f m =
     record { number = m.number; mine = m.mine; held = m.held.0; stored = m.stored.0 }
 
--- its slot is one still
+-- a slot is still a slot
 pub slot_on : (v w : View) → GoesOnTo v w → (node i word : ℕ) → SlotHolds (now v) node i word
     → IsSlot w node i
 slot_on v w g node i word s =
@@ -127,7 +127,7 @@ came_before pairs words number old _ h (one_more {log = log} event l other) base
     at _ ne before (is_installed {caller = caller} k g) =
         absurd (ne (ap Caller (sym k.owned ∙ sym (ap (λ y. y.owner) g.others) ∙ own)))
 
--- where all its changes are resolved, none that wasn't decided no is
+-- if all changes of a caller are resolved and none on the node was decided no, none is later
 unrefused_later : (pairs : List Pair) (words number node : ℕ) (old log : Log)
     → EachEnabled (start pairs words) old → EachEnabled (start pairs words) log
     → Later (Caller number) old log → AllResolvedOf (state_of pairs words old) old number
@@ -203,7 +203,7 @@ module _ (v : View) (base : ℕ) (f : Filling) (m : IsInstallable v base f) (sv 
   one_change : (x : ChangeRow) → first_change (rows_of f base) ≡ Some x → f.change ≡ x
   one_change x e = let same : Some f.change ≡ Some x = e in cc
 
-  -- the slot behind a log that may come
+  -- the slot after a log that may come
   slot_there : (log : Log) → MayCome w log
       → (word : ℕ) × SlotHolds (state_of v.start v.words log) f.change.node f.change.index word
   slot_there log c =
@@ -219,6 +219,7 @@ module _ (v : View) (base : ℕ) (f : Filling) (m : IsInstallable v base f) (sv 
       (grow_between v.start v.words v.log log c.lawful.enabled
       (later-goes_on (later_all log c.later))) f.change.node f.change.index m.word m.slot
 
+  -- the exchange of the slot may be the Install
   pub can_install_here : (place old new : ℕ)
       → place ≡ place_of_slot (now w) f.change.node f.change.index → old ≡ f.change.from
       → new ≡ word_of (ChangeAt base)
@@ -280,7 +281,7 @@ module _ (v : View) (base : ℕ) (f : Filling) (m : IsInstallable v base f) (sv 
             };
       }
 
--- the same of a seat that went on
+-- the exchange of the slot may be the Install, for a seat that went on
 pub can_install : (v : View) (base : ℕ) (f : Filling) (m : IsInstallable v base f) → IsSound v
     → (w : View) → GoesOnTo v w → (place old new : ℕ)
     → place ≡ place_of_slot (now w) f.change.node f.change.index → old ≡ f.change.from

@@ -1,4 +1,4 @@
--- What an installing tells, whether it found its word or another. Serves `install`.
+-- What an installing says, whether it found its word or another. Serves `install`.
 use Rattle.std.proofs.Common.{◌≡◌, ◌≢◌, ℕ, ◌+◌, ◌*◌, ◌/◌, ◌<◌, List, ◌∷◌, length, slice_get, Some, sym, ap, ap₂, ◌∙◌, subst, arith}
 use Rattle.ist_core.specs.declared.states.ChangeRow.{ChangeRow}
 use Rattle.ist_core.specs.declared.events.Event.{Event}
@@ -17,7 +17,7 @@ use Rattle.ist_core.proofs.MoveLemmas.{without-kept}
 use Rattle.ist_core.proofs.PlaceLemmas.{anchor_free, placed, claimed_within}
 use Rattle.ist_core.proofs.SlotStepLemmas.{install_writes}
 use Rattle.ist_core.proofs.FateLemmas.{grow_between}
-use Rattle.ist_links.proofs.InductionLemmas.{sound_behind}
+use Rattle.laws_links.proofs.InductionLemmas.{sound_behind}
 use Rattle.ist_rule.specs.declared.view.View.{View}
 use Rattle.ist_core.specs.declared.events.Who.TheVariants.{Caller}
 use Rattle.ist_rule.specs.Watching.{number_of}
@@ -88,7 +88,7 @@ place_on v w s g node i word slot =
     (grow_between v.start v.words v.log w.log (goes_on_lawful v w g).enabled
     (later-goes_on g.later)) node i word slot
 
--- an exchange that found another word tells what the slot held
+-- an exchange that found another word says what the slot held
 pub other_tells : (v : View) (base : ℕ) (f : Filling) (m : IsInstallable v base f) (u : View)
     → GoesOnTo v u → (place word : ℕ) (w : View)
     → place ≡ place_of_slot (now u) f.change.node f.change.index → Looked u place word w
@@ -130,13 +130,14 @@ good_held v s base words f some =
 
 -- ---- the words that were loaded
 
--- the seat has gone on, and the words that name the slot and its word are those of the change
+-- the seat has gone on, and the words that name the slot and its word are the change's
 pub record HasLoaded (v : View) (f : Filling) (node index from : ℕ) (w : View) : Type 0 where
   pub seen : GoesOnTo v w
   pub node_is : f.change.node ≡ node
   pub index_is : f.change.index ≡ index
   pub from_is : f.change.from ≡ from
 
+-- three loads give the node, the index and the word that the change expects
 pub has_loaded : (v : View) (f : Filling) (node index from : ℕ) (a b w : View)
     → GoesOnTo v a → slice_get (words_of (Change f.change)) change_node_offset ≡ Some node
     → GoesOnTo a b → slice_get (words_of (Change f.change)) change_index_offset ≡ Some index
@@ -150,7 +151,7 @@ has_loaded v f node index from a b w g e h i k j =
       from_is = some_word f.change.from from j;
     }
 
--- the slot that they name is one
+-- the slot that they name is a slot
 pub loaded_slot : (v : View) (base : ℕ) (f : Filling) (m : IsInstallable v base f)
     (node index from : ℕ) (w : View) → HasLoaded v f node index from w → IsSlot w node index
 loaded_slot v base f m node index from w h =
@@ -161,7 +162,7 @@ loaded_slot v base f m node index from w h =
           (subst (λ i. SlotHolds (now w) f.change.node i it.word) h.index_is it.holds);
     }
 
--- and its place is that of the change's slot
+-- the place of the loaded slot is the place of the change's slot
 pub aimed : (v : View) (f : Filling) (node index from : ℕ) (w : View)
     → HasLoaded v f node index from w → (u : View) → GoesOnTo w u → (place : ℕ)
     → place ≡ place_of_slot (now u) node index → IsAimed v f place from u
@@ -184,7 +185,7 @@ may_exchange v s base f m place from u a word is =
     (sym (installing_is u f m.number base word (goes_on_who a.seen ∙ m.mine) is))
     (can_install v base f m s u a.seen place from word a.at (sym a.from_is) is)
 
--- where it found the word that the change expects, it is installed
+-- if it found the word that the change expects, the change is installed
 pub aimed_yes : (v : View) (base : ℕ) (f : Filling) (m : IsInstallable v base f)
     → (place from : ℕ) (u : View) → IsAimed v f place from u → (word : ℕ)
     → word ≡ word_of (ChangeAt base) → (w : View)
@@ -194,7 +195,7 @@ aimed_yes v base f m place from u a word is w l =
     (subst (λ (e : Event). Logged u e w)
     (installing_is u f m.number base word (goes_on_who a.seen ∙ m.mine) is) l)
 
--- and where it found another, the slot held that
+-- if it found another word, the slot held that
 pub aimed_other : (v : View) (base : ℕ) (f : Filling) (m : IsInstallable v base f)
     → (place from : ℕ) (u : View) → IsAimed v f place from u → (found : ℕ) (w : View)
     → Looked u place found w → found ≢ from → (word : ℕ) → Other found ≡ Other word

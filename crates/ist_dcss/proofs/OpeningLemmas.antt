@@ -1,4 +1,4 @@
--- Whether a node is open, as a load of its status tells. Serves `is_open` and
+-- Whether a node is open, as a load of its status says. Serves `is_open` and
 -- `laws.nodes_close_once`.
 use Rattle.std.proofs.Common.{◌≡◌, ℕ, ◌<◌, ◌==◌, true, false, List, Some, refl, sym, ◌∙◌, subst, ⊎_elim, arith}
 use Rattle.std.proofs.lemmas.Bool.Decides.{eqb_tells}
@@ -54,7 +54,7 @@ shows_open v s node place word w l (is_inner r e) at is =
     let read = looked_row v place word w l node (Inner on.0) 0 on.0.status on.1 refl (omega arith) in
     row_is on.0 on.1 (sym read ∙ is)
 
--- and where the node is open, it gives that word
+-- if the node is open, the load gives that word
 pub open_shows : (v : View) (node place word : ℕ) (w : View) → Looked v place word w
     → place ≡ place_of_status node → IsOpen (now w) node → word ≡ open_word
 open_shows v node place word w l at is =

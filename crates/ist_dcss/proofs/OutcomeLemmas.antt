@@ -14,7 +14,7 @@ use Rattle.ist_core.specs.Slots.{IsOpen}
 use Rattle.ist_core.specs.Deciding.{CanDecide}
 use Rattle.ist_core.specs.Enabled.{Enabled}
 use Rattle.ist_core.specs.Lawful.{EachEnabled, state_of}
-use Rattle.ist_links.proofs.InductionLemmas.{changes_by}
+use Rattle.laws_links.proofs.InductionLemmas.{changes_by}
 use Rattle.ist_dcss.specs.Helping.{WasSeen}
 
 -- what was seen was seen

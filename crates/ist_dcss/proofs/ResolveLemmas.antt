@@ -1,4 +1,4 @@
--- Resolving: when it may be made, and what it tells. Serves `resolve`.
+-- Resolving: when it may be made, and what it lets its seat know. Serves `resolve`.
 use Rattle.std.proofs.Common.{◌≡◌, ◌≢◌, ℕ, ◌+◌, ◌*◌, ◌/◌, ◌⊎◌, ◌==◌, Bool, true, false, if◌then◌else◌, [], ◌∷◌, Some, refl, sym, ap, ap₂, ◌∙◌, subst, inl, inr, ⊎_elim, arith}
 use Rattle.std.proofs.lemmas.Bool.Decides.{eqb_tells}
 use Rattle.ist_core.specs.declared.states.ChangeRow.{ChangeRow}
@@ -14,8 +14,8 @@ use Rattle.ist_core.specs.Slots.{SlotHolds}
 use Rattle.ist_core.specs.Lawful.{state_of}
 use Rattle.ist_core.specs.Writing.{place_of_slot, touch_of_resolve}
 use Rattle.ist_core.proofs.FateLemmas.{grow_between}
-use Rattle.ist_links.proofs.ChangeLemmas.{unresolved_stands}
-use Rattle.ist_links.proofs.ResolvedLemmas.{resolved_gone}
+use Rattle.laws_links.proofs.ChangeLemmas.{unresolved_stands}
+use Rattle.laws_links.proofs.ResolvedLemmas.{resolved_gone}
 use Rattle.ist_rule.specs.declared.view.View.{View}
 use Rattle.ist_core.specs.declared.events.Who.TheVariants.{Caller}
 use Rattle.ist_core.specs.Shown.{IsShown}
@@ -74,7 +74,7 @@ out v s change h =
 -- a caller may take a decided change out of its slot, whatever others do meanwhile
 module _ (v : View) (s : IsSound v) (change number : ℕ) (mine : v.who ≡ Caller number)
     (row : ChangeRow) (installed : (now v).pieces change ≡ Some (Change row)) where
-  -- the slot behind a log that may come
+  -- the slot after a log that may come
   slot_behind : (log : Log) → MayCome v log
       → (word : ℕ) × SlotHolds (state_of v.start v.words log) row.node row.index word
   slot_behind log m =
@@ -83,7 +83,7 @@ module _ (v : View) (s : IsSound v) (change number : ℕ) (mine : v.who ≡ Call
       (grow_between v.start v.words v.log log m.lawful.enabled (later-goes_on m.later)) row.node
       row.index it.0 it.1
 
-  -- its place is the same
+  -- the place of the slot is the same
   place_behind : (log : Log) (m : MayCome v log)
       → place_of_slot (state_of v.start v.words log) row.node row.index
       ≡ place_of_slot (now v) row.node row.index
@@ -101,6 +101,7 @@ module _ (v : View) (s : IsSound v) (change number : ℕ) (mine : v.who ≡ Call
       ∙ ap₂ (λ a b. if row.decision == decided_yes then a else b) (ap (λ x. x.to) g.others)
       (ap (λ x. x.from) g.others)
 
+  -- the exchange of the slot may be the Resolve
   pub can_resolve : row.decision ≢ undecided → (place old side : ℕ)
       → place ≡ place_of_slot (now v) row.node row.index → old ≡ word_of (ChangeAt change)
       → side ≡ side_of row → CanExchange v place old side (Resolve number change)
@@ -220,6 +221,7 @@ side_by v change side false field row there is =
     field_now v change (outcome_offset_of false) side field (λ r. r.from) (λ r. refl) row there
     ∙ sym (ap (λ d. if d == decided_yes then row.to else row.from) is)
 
+-- a helper that loaded the slot's place and the word to leave may resolve
 pub may_resolve : (v : View) (change : ℕ) (m : MayHelp v change) (said : Bool)
     → IsDecided v change said → (u : View) → WentOn (Serves change) v u → (place : ℕ)
     → IsSlotOf u change place → (w : View) → WentOn (Serves change) u w → IsSound u → (side : ℕ)

@@ -27,13 +27,13 @@ use Rattle.ist_rule.proofs.WentOnLemmas.{went_now, went_lawful}
 use Rattle.ist_dcss.specs.Helping.{Serves, IsOut}
 use Rattle.ist_dcss.specs.Installing.{Filling, rows_of, IsInstalled}
 
--- each change of the caller but one has left its slot
+-- each change of the caller except one has left its slot
 abbrev AllResolvedBut : List Pair → ℕ → Log → ℕ → ℕ → Type 0
 AllResolvedBut pairs words log number base =
     (b : ℕ) (r : ChangeRow) → (state_of pairs words log).pieces b ≡ Some (Change r)
     → r.owner ≡ number → (b ≡ base) ⊎ Happened (Resolves b) log
 
--- it is so behind an event that installs none but this one for the caller
+-- after an event that installs no change of the caller but this one, all others are resolved
 resolved_but_on : (pairs : List Pair) (words : ℕ) (log : Log) (event : Event) (number base : ℕ)
     → EachEnabled (start pairs words) (event ∷ log)
     → ((b : ℕ) (rows : List Row) → event ≡ Install number b rows → b ≡ base)
@@ -52,7 +52,7 @@ resolved_but_on pairs words log event number base enabled only all b r there own
         inl (only b rows (is ∙ ap (λ n. Install n b rows)
         (sym h.owned ∙ sym (grows_same_change g).1 ∙ owned)))
 
--- it stays so while the caller makes steps for a change alone
+-- all others stay resolved while the caller only makes steps that serve the change
 resolved_but_later : (pairs : List Pair) (words : ℕ) (number base : ℕ) (old log : Log)
     → EachEnabled (start pairs words) log → LaterBy (Caller number) (Serves base) old log
     → AllResolvedBut pairs words old number base → AllResolvedBut pairs words log number base
@@ -100,7 +100,7 @@ module _ (v w x : View) (number base : ℕ) (f : Filling) (mine : v.who ≡ Call
       (subst (λ p. AllResolvedOf (state_of p w.words v.log) v.log number) (sym start_is)
       (subst (λ n. AllResolvedOf (state_of v.start n v.log) v.log number) (sym words_is) all))
 
-  -- but for it all is resolved behind
+  -- after it all other changes are resolved
   behind : AllResolvedBut w.start w.words w.log number base
   behind =
       subst (λ log. AllResolvedBut w.start w.words log number base) (sym log_is)

@@ -20,7 +20,7 @@ use Rattle.ist_core.proofs.ReferenceLemmas.{ref_of-unset}
 use Rattle.ist_core.proofs.SlotLemmas.{slot_once}
 use Rattle.ist_core.proofs.SlotStepLemmas.{WritesSlot, WritesNoSlot, install_writes, resolve_writes, place_writes, slot_stays}
 use Rattle.ist_core.proofs.FateLemmas.{grow_between}
-use Rattle.ist_links.proofs.InductionLemmas.{changes_by, sound_behind}
+use Rattle.laws_links.proofs.InductionLemmas.{changes_by, sound_behind}
 use Rattle.ist_dcss.proofs.SlotPlaceLemmas.{slot_later}
 
 -- a word that is read as something else isn't Unset
@@ -36,7 +36,7 @@ room_set : (t : Snapshot) (key word : ℕ) → HasRoomFor t key word → word �
 room_set t key word (nothing e) = not_unset word _ e (λ f. cc)
 room_set t key word (same_key leaf e h) = not_unset word _ e (λ f. cc)
 
--- so it is of each kind
+-- a change of each kind has its sides
 fits_sides : (first : Snapshot) (log : Log) (change : ChangeRow) (fresh : List Row)
     → FitsKind first log change fresh → HasSides change
 fits_sides first log change fresh (a_put h) =
@@ -72,7 +72,7 @@ change_set : (base : ℕ) → word_of (ChangeAt base) ≢ unset_word
 change_set base e = let numbers : base * 8 + 3 ≡ 7 = e in omega arith
 
 module _ (pairs : List Pair) (words : ℕ) where
-  -- what the slot holds behind a write of another word
+  -- what the slot holds after a write of another word
   written : (log : Log) (event : Event) → EachEnabled (start pairs words) (event ∷ log)
       → (at j new old : ℕ)
       → WritesSlot (state_of pairs words log) (state_of pairs words (event ∷ log)) at j new old
@@ -137,7 +137,7 @@ module _ (pairs : List Pair) (words : ℕ) where
   set_on log (Draw caller rebuild part) h = quiet log (Draw caller rebuild part) h tt
   set_on log (Lose caller bases) h = quiet log (Lose caller bases) h tt
 
-  -- nor does a log that goes on
+  -- a slot that isn't Unset isn't Unset in a longer log
   pub set_later : (old log : Log) → GoesOn old log → EachEnabled (start pairs words) log
       → (node i : ℕ) → ((word : ℕ) → SlotHolds (state_of pairs words old) node i word
       → word ≢ unset_word)

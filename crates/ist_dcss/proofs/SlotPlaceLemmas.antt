@@ -21,15 +21,15 @@ use Rattle.ist_core.proofs.ImageLemmas.{get_below, get-words_of_slot}
 use Rattle.ist_core.proofs.PlaceLemmas.{placed, claimed_within, anchor_free, next_behind_fixed}
 use Rattle.ist_core.proofs.ShapedLemmas.{shaped}
 use Rattle.ist_core.proofs.GrowingLemmas.{inner_there}
-use Rattle.ist_links.proofs.InductionLemmas.{changes_by, grow_behind}
+use Rattle.laws_links.proofs.InductionLemmas.{changes_by, grow_behind}
 use Rattle.ist_core.specs.Shown.{IsShown, shown_next, shown_callers, shown_status, shown_slot, shown_row, shown_free}
 use Rattle.ist_rule.proofs.WatchLemmas.{shown_in_row, place_inner}
 
--- a word stands in each place of a list
+-- each place of a list has a word
 pub word_in : (xs : List ℕ) (k : ℕ) → k < length xs → (word : ℕ) × (slice_get xs k ≡ Some word)
 word_in xs k low = (get_or xs k 0, slice_get-get_or xs k 0 low)
 
--- a slot is one still where rows grow
+-- a slot is still a slot if rows grow
 pub slot_later : (t u : Snapshot) → AllGrow t.pieces u.pieces → (node i word : ℕ)
     → SlotHolds t node i word → (w : ℕ) × SlotHolds u node i w
 slot_later t u g node i word (in_anchor e f is) = (u.anchor, in_anchor e f refl)
@@ -79,7 +79,7 @@ module _ (pairs : List Pair) (words : ℕ) (log : Log) (enabled : EachEnabled (s
     pub has_degree : (node : ℕ) (r : InnerRow) → t.pieces node ≡ Some (Inner r) → HasDegree r
     has_degree node r e = shaped pairs words log enabled node (Inner r) e
 
-    -- where slot i of an inner row lies among its words
+    -- the place of slot i of an inner row, among its words
     slot_at : (node i word : ℕ) (r : InnerRow) → t.pieces node ≡ Some (Inner r)
         → place_of_slot t node i ≡ node + (4 + length r.keys + i)
     slot_at node i word r e =
@@ -95,7 +95,7 @@ module _ (pairs : List Pair) (words : ℕ) (log : Log) (enabled : EachEnabled (s
     row_above base p e = (claimed_within pairs words log base (size_of p) enabled
         ((placed pairs words log enabled).published base p e)).behind_fixed
 
-    -- what is shown at the place of the anchor's slot stands there
+    -- the word shown at the place of the anchor's slot is the slot's
     shown_anchor : (place word : ℕ) → IsShown t place word → place ≡ anchor_slot_place
         → word ≡ t.anchor
     shown_anchor _ _ shown_next e = absurd (omega arith)
@@ -117,7 +117,7 @@ module _ (pairs : List Pair) (words : ℕ) (log : Log) (enabled : EachEnabled (s
         subst (λ p. IsShown t p word) (sym (slot_at node i word r e))
         (shown_row node (Inner r) (4 + length r.keys + i) e (get-words_of_slot r i ∙ at))
 
-    -- and no other is
+    -- only the slot's word is shown at its place
     pub shown_in_slot : (node i word shown : ℕ) → SlotHolds t node i word
         → IsShown t (place_of_slot t node i) shown → shown ≡ word
     shown_in_slot node i word shown (in_anchor e f is) s =
@@ -126,7 +126,7 @@ module _ (pairs : List Pair) (words : ℕ) (log : Log) (enabled : EachEnabled (s
         shown_in_row pairs words log enabled node (Inner r) (4 + length r.keys + i) word e
         (get-words_of_slot r i ∙ at) (place_of_slot t node i) shown s (slot_at node i word r e)
 
--- the place of a slot stays where rows grow
+-- the place of a slot stays if rows grow
 pub slot_place_later : (pairs : List Pair) (words : ℕ) (old log : Log)
     (before : EachEnabled (start pairs words) old) (enabled : EachEnabled (start pairs words) log)
     → AllGrow (state_of pairs words old).pieces (state_of pairs words log).pieces

@@ -1,4 +1,5 @@
--- Helping a change: when a seat may, what it does to the seat's log, and what comes of the change.
+-- Helping a change: when a seat may, what it does to the seat's log, and what becomes of the
+-- change.
 use Rattle.std.specs.Prelude.{◌≡◌, ℕ, Bool, true, false, List, Some}
 use Rattle.ist_core.specs.declared.states.ChangeRow.{ChangeRow}
 use Rattle.ist_core.specs.declared.events.Event.{Event}
@@ -33,20 +34,20 @@ Serves change (Decide caller other said) = other ≡ change
 Serves change (Resolve caller other) = other ≡ change
 Serves change _ = ⊥
 
--- ---- what comes of the change
+-- ---- what becomes of the change
 
--- is the answer yes
+-- is the decision yes?
 abbrev pub is_yes : Decision → Bool
 is_yes Yes = true
 is_yes No = false
 
--- the change is decided so
+-- the change has this decision
 pub record IsDecided (v : View) (change : ℕ) (said : Bool) : Type 0 where
   pub row : ChangeRow
   pub published : (now v).pieces change ≡ Some (Change row)
   pub decision : row.decision ≡ decision_word said
 
--- behind some prefix of the log the change is installed, and P is true of its node
+-- after some prefix of the log the change is installed, and P is true of its node
 pub record WasSeen (P : Snapshot → ℕ → Type 0) (pairs : List Pair) (words : ℕ) (log : Log)
     (change : ℕ) : Type 0 where
   pub prefix : Log
@@ -55,7 +56,7 @@ pub record WasSeen (P : Snapshot → ℕ → Type 0) (pairs : List Pair) (words 
   pub installed : (state_of pairs words prefix).pieces change ≡ Some (Change row)
   pub node : P (state_of pairs words prefix) row.node
 
--- the node of the change was open behind its installing, at some step that the seat has seen
+-- the node of the change was open after its installing, at some step that the seat has seen
 abbrev pub WasOpen : View → ℕ → Type 0
 WasOpen v change = WasSeen IsOpen v.start v.words v.log change
 
@@ -63,7 +64,7 @@ WasOpen v change = WasSeen IsOpen v.start v.words v.log change
 abbrev pub WasClosed : View → ℕ → Type 0
 WasClosed v change = WasSeen (λ t node. ¬ (IsOpen t node)) v.start v.words v.log change
 
--- the change was resolved, and stands in no slot
+-- the change was resolved, and is in no slot
 pub record IsOut (v : View) (change : ℕ) : Type 0 where
   pub resolved : Happened (Resolves change) v.log
   pub gone : (node i : ℕ) → ¬ (SlotHolds (now v) node i (word_of (ChangeAt change)))

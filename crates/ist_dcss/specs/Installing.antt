@@ -29,7 +29,7 @@ rows_of f base = row_at base (Change f.change) ∷ f.fresh
 
 -- a caller may try to install the change: it holds and has filled its rows, the node was linked and
 -- has the slot, no earlier change of the caller on the node was decided no, the change fits its
--- kind, and its call allows it
+-- kind, and the caller's call allows it
 pub record IsInstallable (v : View) (base : ℕ) (f : Filling) : Type 0 where
   pub number : ℕ
   pub mine : v.who ≡ Caller number
@@ -44,8 +44,8 @@ pub record IsInstallable (v : View) (base : ℕ) (f : Filling) : Type 0 where
   pub fits : FitsKind (start v.start v.words) v.log f.change f.fresh
   pub allowed : MayInstall v number f.change
 
--- the change is installed: the Install is the last event, before which the seat made loads alone.
--- The change stands in its slot, and none of its rows is held any more
+-- the change is installed: the Install is the last event, and before it the seat only made loads;
+-- the change is in its slot, and none of its rows is held any more
 pub record IsInstalled (v : View) (base : ℕ) (f : Filling) (w : View) : Type 0 where
   pub before : View
   pub seen : GoesOnTo v before
@@ -55,7 +55,7 @@ pub record IsInstalled (v : View) (base : ℕ) (f : Filling) (w : View) : Type 0
   pub in_slot : SlotHolds (now w) f.change.node f.change.index (word_of (ChangeAt base))
   pub unheld : (h : HeldRow) → Among h (now w).held → ¬ (Among h.base (bases_of (rows_of f base)))
 
--- the slot held this other word at a load; the seat made loads alone, and holds the rows still
+-- the slot held this other word at a load; the seat only made loads, and still holds the rows
 pub record IsOther (v : View) (base : ℕ) (f : Filling) (word : ℕ) (w : View) : Type 0 where
   pub seen : GoesOnTo v w
   pub in_slot : SlotHolds (now w) f.change.node f.change.index word

@@ -15,21 +15,21 @@ use Rattle.ist_rule.specs.Watching.{IsNode}
 use Rattle.ist_dcss.specs.Helping.{Serves, IsOut}
 use Rattle.ist_dcss.specs.Installing.{Filling, IsInstalled}
 
--- a node that isn't open behind a log isn't open behind a longer one
+-- a node that isn't open after a log isn't open after a longer one
 abbrev pub ClosedNodesStay : Type 0
 ClosedNodesStay =
     (pairs : List Pair) (words : ℕ) (earlier log : Log) → Lawful pairs words log
     → GoesOn earlier log → (node : ℕ) → IsNode (state_of pairs words earlier) node
     → ¬ (IsOpen (state_of pairs words earlier) node) → ¬ (IsOpen (state_of pairs words log) node)
 
--- where a node is open, no change on it was decided no: an Install there may come
+-- if a node is open, no change on it was decided no: an Install there may come
 abbrev pub OpenNodesAreUnrefused : Type 0
 OpenNodesAreUnrefused =
     (v : View) → IsSound v → (node : ℕ) → IsOpen (now v) node → (number : ℕ)
     → IsUnrefused (now v) number node
 
--- where all changes of a caller are resolved, one is installed and helped until it is out, all are
--- resolved
+-- if all changes of a caller are resolved, and one more is installed and helped until it is out,
+-- all are resolved
 abbrev pub HelpedChangesAreResolved : Type 0
 HelpedChangesAreResolved =
     (v w x : View) (number base : ℕ) (f : Filling) → v.who ≡ Caller number → IsResolved v number

@@ -1,9 +1,9 @@
-//! What comes of a change.
+//! What becomes of a change.
 
 /// Whether a change was installed.
 #[derive(Clone, Copy, Debug, PartialEq, Eq, Drop)]
 pub enum Installed {
-    /// It stands in its slot.
+    /// It is in its slot.
     Yes,
     /// The slot held this other word.
     Other(u64),

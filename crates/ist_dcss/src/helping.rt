@@ -18,14 +18,14 @@ use ist_layout::{
 };
 use ist_rule::{TreeSeat, TreeTable, exchange, know, load, load_okay};
 
-// How a change is to be decided where its node had this status.
+// Returns how a change must be decided if its node had this status.
 fn decision_for(status: u64) -> u64
     ensures value { result ≡ decision_word (status == open_word) }
 {
     if status == 0 { DECIDED_YES } else { DECIDED_NO }
 }
 
-// The decision that stands where this one was to be written, and the exchange found `stood`.
+// Returns the decision that holds after an exchange to `wanted` that found `stood`.
 fn decision_of(wanted: u64, stood: u64) -> Decision
     ensures value { is_yes result ≡ (standing wanted stood == decided_yes) }
 {
@@ -37,7 +37,7 @@ fn decision_of(wanted: u64, stood: u64) -> Decision
     }
 }
 
-// Which word of the change its slot gets once it is decided so.
+// Returns which word of the change its slot gets after this decision.
 fn side_offset(decision: Decision) -> u64
     ensures value { result ≡ outcome_offset_of (is_yes decision) }
     ensures within { result < change_words }
@@ -48,7 +48,7 @@ fn side_offset(decision: Decision) -> u64
     }
 }
 
-// A word of the change's row.
+// Loads a word of the change's row.
 fn field(table: &TreeTable, seat: &mut TreeSeat, change: u32, offset: u64) -> u64
     requires same_table { seat.old.table ≡ table.now.table }
     requires may_help { MayHelp seat.old.view change }
@@ -62,7 +62,7 @@ fn field(table: &TreeTable, seat: &mut TreeSeat, change: u32, offset: u64) -> u6
     load(table, seat, u64::from(change) + offset)
 }
 
-// Looks at the node, decides the change by what it saw, and answers the decision that stands.
+// Looks at the node, decides the change by what it saw, and returns the decision that holds.
 fn decide(table: &TreeTable, seat: &mut TreeSeat, change: u32) -> Decision
     requires same_table { seat.old.table ≡ table.now.table }
     requires may_help { MayHelp seat.old.view change }
@@ -72,8 +72,8 @@ fn decide(table: &TreeTable, seat: &mut TreeSeat, change: u32) -> Decision
     ensures decided { IsDecided seat.new.view change (is_yes result) }
 {
     let node = field(table, seat, change, CHANGE_NODE_OFFSET);
-    // Okay, where the node is open and no one has decided the change: else a load. Meets a mark of the
-    // node, and another helper's decide.
+    // Okay if the node is open and no one has decided the change, and otherwise a load. Meets a
+    // mark of the node, and another helper's Decide.
     let status = load_okay(table, seat, change, status_place(node));
     know(seat);
     let wanted = decision_for(status);
@@ -88,7 +88,7 @@ fn decide(table: &TreeTable, seat: &mut TreeSeat, change: u32) -> Decision
     decision_of(wanted, stood)
 }
 
-// Where the slot of the change lies.
+// Returns the place of the change's slot.
 fn slot_of(table: &TreeTable, seat: &mut TreeSeat, change: u32) -> u64
     requires same_table { seat.old.table ≡ table.now.table }
     requires may_help { MayHelp seat.old.view change }
@@ -116,14 +116,14 @@ fn resolve(table: &TreeTable, seat: &mut TreeSeat, change: u32, decision: Decisi
     let side = field(table, seat, change, side_offset(decision));
     know(seat);
     let word = Ref::Change { base: change }.to_word();
-    // Resolve. Meets another helper's, and what was installed behind it.
+    // Resolve. Meets another helper's, and what was installed after it.
     exchange(table, seat, place, word, side);
 }
 
-/// Decides an installed change, if no one has, takes it out of its slot, and answers how it was
+/// Decides an installed change, if no one has, takes it out of its slot, and returns how it was
 /// decided.
 ///
-/// Yes comes only where its node was open at a step behind the installing, and No only where the
+/// Returns `Yes` only if its node was open at a step after the installing, and `No` only if the
 /// node wasn't open at one. Takes a bounded number of steps.
 pub fn help(table: &TreeTable, seat: &mut TreeSeat, change: u32) -> Decision
     requires same_table { seat.old.table ≡ table.now.table }

@@ -10,7 +10,7 @@ use crate::slots::slot_at;
 use ist_layout::{CHANGE_FROM_OFFSET, CHANGE_INDEX_OFFSET, CHANGE_NODE_OFFSET, Ref};
 use ist_rule::{TreeSeat, TreeTable, exchange, know, load};
 
-// A word of a row that the seat's caller holds and has filled.
+// Loads a word of a row that the seat's caller holds and has filled.
 fn own_word(table: &TreeTable, seat: &mut TreeSeat, base: u32, offset: u64) -> u64
     ghost words: { List ℕ }
     requires same_table { seat.old.table ≡ table.now.table }
@@ -24,7 +24,7 @@ fn own_word(table: &TreeTable, seat: &mut TreeSeat, base: u32, offset: u64) -> u
     load(table, seat, u64::from(base) + offset)
 }
 
-// Where the slot of a change lies, and the word that the change expects there.
+// The place of a change's slot, and the word that the change expects there.
 #[derive(Clone, Copy, Drop)]
 struct Aim {
     place: u64,
@@ -46,11 +46,11 @@ fn aim_of(table: &TreeTable, seat: &mut TreeSeat, change: u32) -> Aim
     Aim { place, from }
 }
 
-/// Installs a change whose row is filled, where its slot holds the word that it expects.
+/// Installs a change whose row is filled, if its slot holds the word that it expects.
 ///
-/// Yes comes exactly where the slot held that word at the last step of the call: the slot then
-/// holds the change, and none of its rows is held any more. Otherwise the answer is the word that
-/// the slot held, no word changes, and the rows stay held.
+/// Returns `Yes` exactly if the slot held that word at the last step of the call: the slot then
+/// holds the change, and none of its rows is held any more. Otherwise returns the word that the
+/// slot held; no word changes, and the rows stay held.
 pub fn install(table: &TreeTable, seat: &mut TreeSeat, change: u32) -> Installed
     ghost filling: { Filling }
     requires same_table { seat.old.table ≡ table.now.table }

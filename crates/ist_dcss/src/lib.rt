@@ -1,7 +1,7 @@
 //! Installing a change, and helping one: it takes effect once or never, and leaves its slot.
 //!
 //! Read `specs/Installing.antt`, `specs/Helping.antt` and `specs/Opening.antt`, then `installing.rt`,
-//! `helping.rt` and `opening.rt`. Stands on `ist_core`, `ist_layout`, `ist_links`, `ist_rule` and
+//! `helping.rt` and `opening.rt`. Builds on `ist_core`, `ist_layout`, `laws_links`, `ist_rule` and
 //! `ist_rows`.
 #![tactic(auto)]
 

@@ -9,7 +9,7 @@ ghost use Rattle.ist_rule.specs.Watching.{IsNode};
 use ist_layout::{ANCHOR, ANCHOR_STATUS_PLACE, Status};
 use ist_rule::{TreeSeat, TreeTable, know, load};
 
-/// Where the status of the node lies.
+/// Returns the place of the node's status.
 pub(crate) fn status_place(node: u64) -> u64
     ensures value { result ≡ place_of_status node }
 {
@@ -20,11 +20,11 @@ pub(crate) fn status_place(node: u64) -> u64
     }
 }
 
-/// Whether the node is open, by a load of its status. The anchor always is.
+/// Returns whether the node is open, by a load of its status. The anchor always is.
 ///
-/// The answer is that of the log which the seat has seen behind the load. A node that isn't open
-/// is never open again (`laws::nodes_close_once`); where it is open, none of the caller's changes on
-/// it was decided no.
+/// This is so in the log that the seat has seen after the load. A node that isn't open is never
+/// open again (`laws::nodes_close_once`). If it is open, none of the caller's changes on it was
+/// decided no.
 pub fn is_open(table: &TreeTable, seat: &mut TreeSeat, node: u32) -> bool
     requires same_table { seat.old.table ≡ table.now.table }
     requires node { IsNode (now seat.old.view) node }

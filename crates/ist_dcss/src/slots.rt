@@ -1,4 +1,4 @@
-//! Where a slot lies.
+//! The places of slots.
 ghost use Rattle.std.specs.Prelude.{◌≡◌};
 ghost use Rattle.ist_core.specs.Writing.{place_of_slot};
 ghost use Rattle.ist_rule.specs.Learning.{now, GoesOnTo};
@@ -7,7 +7,7 @@ ghost use Rattle.ist_dcss.specs.Naming.{IsSlot};
 use ist_layout::{ANCHOR, ANCHOR_SLOT_PLACE, INNER_DEGREE_OFFSET, slot_place};
 use ist_rule::{TreeSeat, TreeTable, know, load};
 
-/// Where slot `index` of the node lies. The anchor has one slot, in a word of its own.
+/// Returns the place of slot `index` of the node. The anchor has one slot, in a word of its own.
 pub fn slot_at(table: &TreeTable, seat: &mut TreeSeat, node: u64, index: u64) -> u64
     requires same_table { seat.old.table ≡ table.now.table }
     requires slot { IsSlot seat.old.view node index }

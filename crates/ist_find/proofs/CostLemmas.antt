@@ -11,9 +11,9 @@ use Rattle.ist_core.specs.Slots.{IsChildFor, of_anchor, of_row}
 use Rattle.ist_rule.specs.declared.view.View.{View}
 use Rattle.ist_rule.specs.Rule.{IsSound}
 use Rattle.ist_rule.specs.Learning.{now, GoesOnTo}
-use Rattle.ist_histories.proofs.PositionLemmas.{look_up}
-use Rattle.ist_walks.specs.Walking.{ComesBy, begins_by, goes_by}
-use Rattle.ist_walks.proofs.WalkLemmas.{meeting_comes, met_chain}
+use Rattle.laws_histories.proofs.PositionLemmas.{look_up}
+use Rattle.laws_walks.specs.Walking.{ComesBy, begins_by, goes_by}
+use Rattle.laws_walks.proofs.WalkLemmas.{meeting_comes, met_chain}
 use Rattle.ist_math.specs.Guess.{guess_in, distance}
 use Rattle.ist_rule.specs.Watching.{IsNode, is_anchor, is_inner}
 use Rattle.ist_find.specs.Searches.{IsRow, HasFewLoads, keys_at, row_cost, cost_of}
@@ -47,7 +47,7 @@ module _ (v : View) (s : IsSound v) (key : ℕ) where
   row_met least last node child rows c up (is_anchor e) =
       let high = node_high least node rows c in absurd (omega arith)
 
-  -- and so are all these rows
+  -- and all rows that the search met are published
   pub rows_met : (last node : ℕ) (rows : List ℕ)
       → ComesBy v.start v.words v.log key v.loads.since last node rows → Each (IsRow v) rows
   rows_met _ _ _ begins_by = tt
@@ -68,7 +68,7 @@ row_cost_on v w g key row r =
     ap (λ keys. distance (guess_in keys key) (child_count keys key) + 12) (keys_on v w g row r)
 
 -- so do rows together
-cost_on : (v w : View) → GoesOnTo v w → (key : ℕ) (rows : List ℕ) → Each (IsRow v) rows
+pub cost_on : (v w : View) → GoesOnTo v w → (key : ℕ) (rows : List ℕ) → Each (IsRow v) rows
     → cost_of w key rows ≡ cost_of v key rows
 cost_on v w g key [] h = refl
 cost_on v w g key (row ∷ rows) h =
@@ -77,7 +77,7 @@ cost_on v w g key (row ∷ rows) h =
     ∙ sym (sum_by-append (row_cost v key) (row ∷ []) rows)
 
 -- one row more costs what it costs
-cost_more : (v : View) (key : ℕ) (rows : List ℕ) (row : ℕ)
+pub cost_more : (v : View) (key : ℕ) (rows : List ℕ) (row : ℕ)
     → cost_of v key (rows ++ row ∷ []) ≡ cost_of v key rows + row_cost v key row
 cost_more v key rows row =
     sum_by-append (row_cost v key) rows (row ∷ [])
@@ -104,7 +104,7 @@ look_cost v u m n s g key node i r (of_row row e is) first more =
 
 -- ---- how many they are
 
--- so many loads were made on the way to the node, few enough to be counted
+-- this many loads were made on the way to the node, few enough to be counted
 pub record HasSpent (v w : View) (node loads : ℕ) : Type 0 where
   pub count : w.loaded ≡ v.loaded + loads
   pub few : loads ≤ node * 2 ^ 31
@@ -140,7 +140,7 @@ looks_on u v w s g key node i base j ref l h more =
     let few = l.few in
     record { rows = l.rows ++ base ∷ []; looked = h; few = omega arith }
 
--- a row that a search read is published, behind the anchor
+-- a row that a search read is published
 pub read_row : (v : View) → IsSound v → (key node i base : ℕ) (rows : List ℕ)
     → HasLooked v key node i rows (InnerAt base) → IsRow v base
 read_row v s key node i base rows h =

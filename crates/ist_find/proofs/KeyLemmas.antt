@@ -43,20 +43,20 @@ use Rattle.ist_rule.proofs.GoingOnLemmas.{goes_on_same, goes_on_more}
 use Rattle.ist_find.specs.Searches.{IsRow, keys_at}
 use Rattle.ist_find.proofs.RowLemmas.{row_on, keys_on, keys_rise}
 
--- so many loads were made, and the row has its keys still
+-- this many loads were made, and the row still has its keys
 pub record HasLoaded (v w : View) (node loads : ℕ) : Type 0 where
   pub seen : GoesOnTo v w
   pub row : IsRow w node
   pub keys : keys_at w node ≡ keys_at v node
   pub count : w.loaded ≡ v.loaded + loads
 
--- so many of the keys before `at` are at most the key
+-- this many of the keys before `at` are at most the key
 pub record HasCounted (v w : View) (node at key found : ℕ) : Type 0 where
   pub loaded : HasLoaded v w node at
   pub within : found ≤ at
   pub found_is : child_count (take at (keys_at v node)) key ≡ found
 
--- a gallop among the keys made so many looks, and no other load
+-- a gallop among the keys made this many looks, and no other load
 pub record HasRun (v w : View) (node from key : ℕ) (g : Gallop) (looks : ℕ) : Type 0 where
   pub loaded : HasLoaded v w node looks
   pub galloped : HasGalloped (keys_at v node) key from g looks
@@ -93,6 +93,7 @@ module _ (v w u : View) (node at key found word : ℕ) (h : HasCounted v w node 
   here : word ≡ get_or (keys_at v node) at 0
   here = is ∙ ap (λ ks. get_or ks at 0) h.loaded.keys
 
+  -- a key that is at most the searched one is counted
   pub counted_yes : word ≤ key → HasCounted v u node (at + 1) key (found + 1)
   counted_yes low =
       let same = here in
@@ -106,6 +107,7 @@ module _ (v w u : View) (node at key found word : ℕ) (h : HasCounted v w node 
         found_is = omega arith;
       }
 
+  -- a key above the searched one isn't counted
   pub counted_no : key < word → HasCounted v u node (at + 1) key found
   counted_no high =
       let same = here in
@@ -159,7 +161,7 @@ galloped_first keys x from g less first last = by (nat_lt x (get_or keys from 0)
           gallops = gallops;
         }
 
--- a key that isn't above x isn't the last, where the last is
+-- if the last key is above x, a key that isn't above x isn't the last
 pub before_last : (keys : List ℕ) (x from : ℕ) → from < length keys
     → x < get_or keys (length keys - 1) 0 → nat_lt x (get_or keys from 0) ≡ false
     → from + 1 < length keys
@@ -210,6 +212,7 @@ run_on v w u node from key g next looks at word h go count is up down low high g
 -- at its end the child is found
 module _ (v w : View) (s : IsSound v) (node from key : ℕ) (g : Gallop) (looks : ℕ)
     (h : HasRun v w node from key g looks) (end : g.low + 1 ≡ g.high) where
+  -- its high end is the child for the key
   pub run_to : IsRow v node → g.high ≡ child_count (keys_at v node) key
   run_to r = sym (galloped_to (keys_at v node) key from g looks (keys_rise v s node r) h.galloped end)
 
@@ -217,5 +220,6 @@ module _ (v w : View) (s : IsSound v) (node from key : ℕ) (g : Gallop) (looks 
   pub run-near : looks ≤ distance from g.high + 3
   run-near = end-near g from looks h.galloped.gallops end
 
+  -- and in few looks far from the guess: at most 2 k + 2 if the distance is below 2 ^ k
   pub run-far : (k : ℕ) → distance from g.high < 2 ^ k → looks ≤ 2 * k + 2
   run-far k less = end-far g from looks h.galloped.gallops end k less

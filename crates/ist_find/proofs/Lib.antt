@@ -5,3 +5,5 @@ pub mod ReadLemmas
 pub mod LookLemmas
 pub mod SearchLemmas
 pub mod CostLemmas
+pub mod SpanLemmas
+pub mod EdgeLemmas

@@ -1,4 +1,5 @@
--- What a seat's loads tell the laws on searches, which speak of one log. Serves `reading` and `finding`.
+-- A seat's loads in terms of one log, as the laws on searches need them. Serves `reading` and
+-- `finding`.
 use Rattle.std.proofs.Common.{◌≡◌, ℕ, ◌≤◌, List, length, refl, sym, ap, subst, le_refl, arith}
 use Rattle.ist_core.specs.declared.pairs.Pair.{Pair}
 use Rattle.ist_core.specs.Logs.{Log, GoesOn, same_log, one_event}
@@ -7,13 +8,13 @@ use Rattle.ist_rule.specs.declared.view.View.{View}
 use Rattle.ist_core.specs.Shown.{IsShown}
 use Rattle.ist_rule.specs.Learning.{GoesOnTo, Looked}
 use Rattle.ist_rule.proofs.LaterLemmas.{later-goes_on}
-use Rattle.ist_histories.specs.Loads.{IsLoad}
-use Rattle.ist_histories.proofs.LoadOnLemmas.{at_prefix, load_on}
+use Rattle.laws_histories.specs.Loads.{IsLoad}
+use Rattle.laws_histories.proofs.LoadOnLemmas.{at_prefix, load_on}
 use Rattle.ist_find.specs.Reads.{loaded_in}
 
 -- ---- the table and the log of a seat that went on
 
--- what is so of the table of the first view is so of that of the second
+-- what holds for the first view's table holds for the second's
 pub by_table : (v w : View) → GoesOnTo v w → (P : List Pair → ℕ → Type 0) → P v.start v.words
     → P w.start w.words
 by_table v w g P h =
@@ -30,12 +31,13 @@ length_rises log _ same_log = omega arith
 length_rises log _ (one_event {log = rest} event g) =
     let low = length_rises log rest g in omega arith
 
+-- the log grows no shorter by loads
 pub goes_length : (v w : View) → GoesOnTo v w → length v.log ≤ length w.log
 goes_length v w g = length_rises v.log w.log (goes_log v w g)
 
 -- ---- loads
 
--- a word that was the one shown behind the log of a seat is a load of that log
+-- a word that is the only one shown after a seat's log is a load of that log
 pub shown_load : (pairs : List Pair) (words : ℕ) (log : Log) (place word least : ℕ)
     → ((shown : ℕ) → IsShown (state_of pairs words log) place shown → word ≡ shown)
     → least ≤ length log
@@ -50,7 +52,7 @@ shown_load pairs words log place word least stood low =
       within = le_refl (length log);
     }
 
--- so is what a load gave
+-- what a load of the seat gave is a load of that log
 pub looked_load : (v : View) (place word : ℕ) (w : View) → Looked v place word w → (at : ℕ)
     → place ≡ at → (least : ℕ) → least ≤ length w.log
     → IsLoad w.start w.words w.log at least (loaded_in w at word)
@@ -58,7 +60,7 @@ looked_load v place word w l at is least low =
     shown_load w.start w.words w.log at word least
     (λ x s. l.stood x (subst (λ p. IsShown (state_of w.start w.words w.log) p x) (sym is) s)) low
 
--- a load is one still where the seat goes on
+-- a load stays one when the seat goes on
 pub load_later : (v w : View) → GoesOnTo v w → (at word least : ℕ)
     → IsLoad v.start v.words v.log at least (loaded_in v at word)
     → IsLoad w.start w.words w.log at least (loaded_in v at word)

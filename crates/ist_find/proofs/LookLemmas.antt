@@ -1,4 +1,4 @@
--- Looks at slots and the nodes that a search comes to, by what a seat has loaded. Serves `finding`.
+-- Looks at slots and the nodes that a search reaches, by what a seat has loaded. Serves `finding`.
 use Rattle.std.proofs.Common.{◌≡◌, ◌≢◌, ℕ, ◌<◌, ◌≤◌, ◌⊎◌, List, [], ◌∷◌, ◌++◌, length, Option, Some, refl, sym, subst, inl, inr}
 use Rattle.std.proofs.Math.Nat.{le_trans}
 use Rattle.ist_core.specs.declared.loads.Load.{Load}
@@ -15,21 +15,21 @@ use Rattle.ist_core.specs.Lawful.{EachEnabled, state_of}
 use Rattle.ist_core.proofs.FateLemmas.{enabled_before}
 use Rattle.ist_core.proofs.NamingLemmas.{slot_names}
 use Rattle.ist_core.proofs.OrderLemmas.{names}
-use Rattle.ist_rebuilds.proofs.ContentLemmas.{linked_set}
+use Rattle.laws_rebuilds.proofs.ContentLemmas.{linked_set}
 use Rattle.ist_rule.specs.declared.view.View.{View}
 use Rattle.ist_rule.specs.Rule.{IsSound}
 use Rattle.ist_rule.specs.Learning.{now, GoesOnTo}
 use Rattle.ist_rule.proofs.GoingOnLemmas.{goes_on_more}
 use Rattle.ist_dcss.proofs.SlotPlaceLemmas.{shown_in_slot}
-use Rattle.ist_histories.specs.Loads.{log_at, IsLoad}
-use Rattle.ist_histories.specs.Searching.{ReadsSide}
-use Rattle.ist_walks.specs.Walking.{ComesBy, goes_by}
-use Rattle.ist_walks.proofs.WalkLemmas.{meeting_comes, meeting_on}
-use Rattle.ist_histories.proofs.LoadOnLemmas.{at_on, at_prefix, load_on, side_on}
-use Rattle.ist_histories.proofs.LoadLemmas.{look_of, comes_of}
-use Rattle.ist_histories.proofs.SearchLemmas.{seen, leads_linked, there_on}
-use Rattle.ist_histories.proofs.PositionLemmas.{node_met, look_up}
-use Rattle.ist_histories.proofs.NeededLemmas.{all_needed}
+use Rattle.laws_histories.specs.Loads.{log_at, IsLoad}
+use Rattle.laws_histories.specs.Searching.{ReadsSide}
+use Rattle.laws_walks.specs.Walking.{ComesBy, goes_by}
+use Rattle.laws_walks.proofs.WalkLemmas.{meeting_comes, meeting_on}
+use Rattle.laws_histories.proofs.LoadOnLemmas.{at_on, at_prefix, load_on, side_on}
+use Rattle.laws_histories.proofs.LoadLemmas.{look_of, comes_of}
+use Rattle.laws_histories.proofs.SearchLemmas.{seen, leads_linked, there_on}
+use Rattle.laws_histories.proofs.PositionLemmas.{node_met, look_up}
+use Rattle.laws_histories.proofs.NeededLemmas.{all_needed}
 use Rattle.ist_rule.specs.Watching.{IsNode, is_anchor, is_inner}
 use Rattle.ist_find.specs.Searches.{Names, HasCome}
 use Rattle.ist_find.specs.Reads.{IsPlain, IsFoundAs, IsReached, IsEnd, TellsSide, TellsTarget, HasLooked}
@@ -82,7 +82,7 @@ holds_named v s node i word h =
 
 -- ---- the look
 
--- a search came to a node still where its seat made loads
+-- a search that reached a node has still reached it after loads of its seat
 pub comes_later : (v w : View) → GoesOnTo v w → (key last node : ℕ) (rows : List ℕ)
     → ComesBy v.start v.words v.log key v.loads.since last node rows
     → ComesBy w.start w.words w.log key w.loads.since last node rows
@@ -91,7 +91,7 @@ comes_later v w g key last node rows comes =
     (meeting_on w.start w.words v.log w.log (goes_log v w g) key v.loads.since last node rows
     (by_table v w g (λ p n. ComesBy p n v.log key v.loads.since last node rows) comes))
 
--- so it has come there still
+-- so it has still come there
 pub come_later : (v w : View) → GoesOnTo v w → (key node : ℕ) (rows : List ℕ)
     → HasCome v key node rows → HasCome w key node rows
 come_later v w g key node rows h =
@@ -101,7 +101,7 @@ come_later v w g key node rows h =
       comes = comes_later v w g key h.last node rows h.comes;
     }
 
--- the child, the side and the target tell what a look at the slot tells
+-- the child, the side and the target together are a look at the slot
 pub look_told : (v u t w : View) (key node i word side : ℕ) (ref : Ref) (rows : List ℕ)
     → HasCome v key node rows → GoesOnTo v u → IsChildFor (now u) node key i → SlotHolds (now u) node i word
     → TellsSide u t word side → TellsTarget t w side ref → HasLooked w key node i rows ref
@@ -170,13 +170,13 @@ look_reaches v s key node i rows (InnerAt base) h f = (
 look_reaches v s key node i rows (ChangeAt base) h f = absurd f
 look_reaches v s key node i rows (RebuildAt base) h f = absurd f
 
--- a search that read an inner row has come to it
+-- a search that read an inner row has reached it
 pub look_comes : (v : View) (key node i : ℕ) (rows : List ℕ) (base : ℕ)
     → HasLooked v key node i rows (InnerAt base) → HasCome v key base (rows ++ base ∷ [])
 look_comes v key node i rows base h =
     record { last = h.last; until = h.until; comes = goes_by h.comes h.look }
 
--- where a search read no inner row, it ends
+-- if a search read no inner row, it ends
 pub reached_end : (v : View) (node : ℕ) (ref : Ref) → IsReached v node ref
     → ((base : ℕ) → ref ≢ InnerAt base) → IsEnd v ref
 reached_end v node Empty h other = tt
@@ -186,7 +186,7 @@ reached_end v node (InnerAt base) h other = absurd (other base refl)
 reached_end v node (ChangeAt base) h other = absurd h
 reached_end v node (RebuildAt base) h other = absurd h
 
--- ---- words as they stand
+-- ---- words as they are
 
 -- the word in the slot, which names no change and no rebuild, is a look at it
 pub word_looked : (v w : View) → GoesOnTo v w → (key node i word : ℕ) (ref : Ref) (rows : List ℕ)

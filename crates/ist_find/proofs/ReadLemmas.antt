@@ -14,8 +14,8 @@ use Rattle.ist_rule.specs.Rule.{IsSound}
 use Rattle.ist_rule.specs.Learning.{now, GoesOnTo, Looked}
 use Rattle.ist_rule.proofs.GoingOnLemmas.{goes_on_same, goes_on_more, looked_goes_on}
 use Rattle.ist_dcss.proofs.FieldLemmas.{looked_row}
-use Rattle.ist_histories.specs.Loads.{IsLoad}
-use Rattle.ist_histories.specs.Searching.{no_change, by_to, by_from, no_rebuild, by_target, of_nothing, of_other, of_key}
+use Rattle.laws_histories.specs.Loads.{IsLoad}
+use Rattle.laws_histories.specs.Searching.{no_change, by_to, by_from, no_rebuild, by_target, of_nothing, of_other, of_key}
 use Rattle.ist_find.specs.Searches.{IsRow, SeesLeaf, SeesChange, SeesRebuild, Names}
 use Rattle.ist_dcss.specs.Naming.{outcome_offset_of}
 use Rattle.ist_find.specs.Reads.{IsPlain, IsFoundAs, IsEnd, loaded_in, HasSideRead, TellsSide, TellsTarget, TellsValue}
@@ -24,16 +24,19 @@ use Rattle.ist_find.proofs.LoadLemmas.{goes_length, looked_load, load_later}
 
 -- ---- rows stay
 
+-- a published change stays published when the seat goes on by loads
 pub change_on : (v w : View) → GoesOnTo v w → (base : ℕ) → SeesChange v base → SeesChange w base
 change_on v w g base r =
     let on = change_there (now v).pieces (now w).pieces (goes_grow v w g) base r.row r.published in
     record { row = on.0; published = on.1 }
 
+-- a published rebuild stays published
 pub rebuild_on : (v w : View) → GoesOnTo v w → (base : ℕ) → SeesRebuild v base → SeesRebuild w base
 rebuild_on v w g base r =
     let on = rebuild_there (now v).pieces (now w).pieces (goes_grow v w g) base r.row r.published in
     record { row = on.0; published = on.1 }
 
+-- a published leaf stays published
 pub leaf_on : (v w : View) → GoesOnTo v w → (base : ℕ) → SeesLeaf v base → SeesLeaf w base
 leaf_on v w g base r =
     record {
@@ -55,7 +58,7 @@ side_named v node i (Some (ChangeAt base)) h = absurd h
 side_named v node i (Some (RebuildAt base)) h =
     (record { row = h.row; published = h.published }, λ b e. cc)
 
--- and what may stand in one names a row
+-- and what a slot may hold names a published row or no row
 pub slot_named : (v : View) (node i : ℕ) (ref : Option Ref) → SlotNames (now v).pieces node i ref
     → Names v ref
 slot_named v node i None h = absurd h
@@ -66,15 +69,17 @@ slot_named v node i (Some (InnerAt base)) h = record { row = h.1.0; published = 
 slot_named v node i (Some (ChangeAt base)) h = record { row = h.row; published = h.published }
 slot_named v node i (Some (RebuildAt base)) h = record { row = h.row; published = h.published }
 
--- a change that is named is published, and so is a rebuild
+-- a word that names a change names a published one
 pub change_named : (v : View) (word base : ℕ) → ref_of word ≡ Some (ChangeAt base)
     → Names v (ref_of word) → SeesChange v base
 change_named v word base e h = subst (Names v) e h
 
+-- a word that names a rebuild names a published one
 pub rebuild_named : (v : View) (word base : ℕ) → ref_of word ≡ Some (RebuildAt base)
     → Names v (ref_of word) → SeesRebuild v base
 rebuild_named v word base e h = subst (Names v) e h
 
+-- what names a row or no row is a reference
 pub named_some : (v : View) (ref : Option Ref) → Names v ref → ref ≢ None
 named_some v None h e = h
 named_some v (Some ref) h e = cc
@@ -105,7 +110,7 @@ module _ (v u w : View) (word base decision side p q : ℕ) (is : ref_of word �
   abbrev row : SeesChange w base
   row = change_on u w h base (change_on v u g base r)
 
-  -- the load of the decision, in the log behind both
+  -- the load of the decision, in the log after both
   decided : (least : ℕ) → least ≤ length u.log
       → IsLoad w.start w.words w.log (base + change_decision_offset) least
       (loaded_in u (base + change_decision_offset) decision)
@@ -154,6 +159,7 @@ module _ (v u w : View) (word base decision side p q : ℕ) (is : ref_of word �
             (goes_length v w (goes_on_more v u w g h)));
       }
 
+  -- the word of the change that its decision selects is what the slot reads as
   pub side_told : (offset : ℕ) → q ≡ base + offset → offset ≡ outcome_offset_of (decision == decided_yes)
       → TellsSide v w word side
   side_told offset there which =

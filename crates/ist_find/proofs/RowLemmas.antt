@@ -1,4 +1,5 @@
--- Published rows stay as a seat goes on by loads, and where their words lie. Serves `keys` and `children`.
+-- Published rows stay when a seat goes on by loads, and where their words lie. Serves `keys` and
+-- `children`.
 use Rattle.std.proofs.Common.{◌≡◌, ℕ, zero, suc, ◌+◌, ◌<◌, ◌≤◌, List, [], ◌∷◌, ◌++◌, length, slice_get, get_or, Some, refl, sym, ap, ◌∙◌, subst, arith, length-append}
 use Rattle.std.proofs.lemmas.Option.{slice_get-get_or}
 use Rattle.std.specs.List.Sorted.{IsStrictlyIncreasing}
@@ -30,7 +31,7 @@ row_on v w g node r =
     let on = inner_there (now v).pieces (now w).pieces (goes_grow v w g) node r.row r.published in
     record { row = on.0; published = on.1 }
 
--- the keys of a node are those of its row
+-- the keys of a node are its row's
 pub keys_are : (v : View) (node : ℕ) (r : IsRow v node) → keys_at v node ≡ r.row.keys
 keys_are v node r = ap (λ p. keys_in (as_inner p)) r.published
 
@@ -41,7 +42,7 @@ keys_on v w g node r =
     let on = inner_there (now v).pieces (now w).pieces (goes_grow v w g) node r.row r.published in
     ap (λ p. keys_in (as_inner p)) on.1 ∙ on.2.keys ∙ sym (keys_are v node r)
 
--- a key stands behind the four fields of its row
+-- a key is found among the keys and slots of its row, after the four fields
 behind_fields : (keys slots : List ℕ) (j : ℕ) → j < length keys
     → slice_get (keys ++ slots) j ≡ Some (get_or keys j 0)
 behind_fields [] slots j h = absurd (omega arith)
@@ -57,6 +58,7 @@ pub record KnowsRow (v : View) (node count : ℕ) : Type 0 where
   pub low : node + (5 + count + count) ≤ v.words
   pub small : v.words ≤ place_limit
 
+-- a published inner row has this many keys, and its words lie in the table
 pub knows_row : (v : View) → IsSound v → (node : ℕ) → IsRow v node
     → KnowsRow v node (length (keys_at v node))
 knows_row v s node r =

@@ -20,13 +20,13 @@ use Rattle.ist_rule.specs.Rule.{IsSound}
 use Rattle.ist_rule.specs.Learning.{now, GoesOnTo, Turned, searching}
 use Rattle.ist_rule.proofs.LaterLemmas.{later_more, later-goes_on}
 use Rattle.ist_core.specs.Authors.{Later}
-use Rattle.ist_histories.specs.Loads.{log_at, IsLoad}
-use Rattle.ist_histories.specs.Searching.{LooksAt, ComesTo, HasPosition}
-use Rattle.ist_walks.specs.Walking.{begins_by}
-use Rattle.ist_walks.proofs.WalkLemmas.{meeting_comes}
-use Rattle.ist_histories.proofs.ChangeLemmas.{changes_rise}
-use Rattle.ist_histories.proofs.LoadOnLemmas.{at_on, at_prefix, load_on, come_on, side_on, target_on}
-use Rattle.ist_histories.proofs.PositionLemmas.{search_position, node_met}
+use Rattle.laws_histories.specs.Loads.{log_at, IsLoad}
+use Rattle.laws_histories.specs.Searching.{LooksAt, ComesTo, HasPosition}
+use Rattle.laws_walks.specs.Walking.{begins_by}
+use Rattle.laws_walks.proofs.WalkLemmas.{meeting_comes}
+use Rattle.laws_histories.proofs.ChangeLemmas.{changes_rise}
+use Rattle.laws_histories.proofs.LoadOnLemmas.{at_on, at_prefix, load_on, come_on, side_on, target_on}
+use Rattle.laws_histories.proofs.PositionLemmas.{search_position, node_met}
 use Rattle.ist_find.specs.Searches.{HasSearched, HasFound, HasCome}
 use Rattle.ist_find.specs.Reads.{HasLooked, TellsValue}
 use Rattle.ist_find.proofs.LoadLemmas.{by_table, goes_log, length_rises}
@@ -45,6 +45,8 @@ has_searched v b w t g =
     let low = length_rises v.log b.log (later-goes_on t.later) in
     let one = ap (λ x. x.loaded) t.view in
     let more = g.loaded in
+    let begun = ap (λ x. x.searches) t.view in
+    let kept = ap (λ x. x.searches) g.same in
     record {
       later = later_more t.later (subst (λ x. Later x b.log w.log) (ap (λ x. x.who) t.view) g.later);
       sound = g.sound;
@@ -52,7 +54,13 @@ has_searched v b w t g =
         log = w.log;
         loads = w.loads;
         loaded = w.loaded;
-      }) t.view;
+      }) t.view ∙ ap {B = View} (λ n. record v {
+        log = w.log;
+        loads = w.loads;
+        loaded = w.loaded;
+        searches = n;
+      }) (sym (kept ∙ begun));
+      searches = kept ∙ begun;
       since = omega arith;
       loaded = omega arith;
     }
@@ -70,7 +78,7 @@ log_stays log _ (one_event {log = rest} event g) n h =
 
 module _ (pairs : List Pair) (words : ℕ) (log longer : Log) (g : GoesOn log longer) where
   -- a look is one in a longer log too, at the same slot
-  look_later : (key least last node i : ℕ) (ref : Ref)
+  pub look_later : (key least last node i : ℕ) (ref : Ref)
       → (x : LooksAt pairs words log key least last node ref) → x.index ≡ i
       → (y : LooksAt pairs words longer key least last node ref) × (y.index ≡ i)
   look_later key least last node i ref x e =
@@ -89,15 +97,15 @@ module _ (pairs : List Pair) (words : ℕ) (log longer : Log) (g : GoesOn log lo
         e,
       )
 
--- the child for a key stays where rows grow
-child_later : (t u : Snapshot) → AllGrow t.pieces u.pieces → (node key i : ℕ)
+-- the child for a key stays the same when rows grow
+pub child_later : (t u : Snapshot) → AllGrow t.pieces u.pieces → (node key i : ℕ)
     → IsChildFor t node key i → IsChildFor u node key i
 child_later t u g node key i (of_anchor e f) = of_anchor e f
 child_later t u g node key i (of_row r e f) =
     let on = inner_there t.pieces u.pieces g node r e in
     of_row on.0 on.1 (f ∙ ap (λ ks. child_count ks key) (sym on.2.keys))
 
--- the value was loaded behind the last look
+-- the value was loaded after the last look
 pub has_found : (v w : View) (key node i : ℕ) (rows : List ℕ) (ref : Ref) (value : Option ℕ)
     → HasLooked v key node i rows ref → TellsValue v w key ref value → HasFound w key node i value
 has_found v w key node i rows ref value h t =
@@ -125,7 +133,7 @@ has_found v w key node i rows ref value h t =
 
 -- ---- what was found
 
--- the value stands at a position, not before the changes that were seen when the search began
+-- the map has the value at a position, not before the changes that were seen when the search began
 pub found_position : (v b w : View) → Turned v (searching v) b → GoesOnTo b w
     → (key node i : ℕ) (value : Option ℕ) → HasFound w key node i value
     → HasPosition w.start w.words v.log w.log key value
@@ -152,7 +160,7 @@ found_linked w s key node i value f =
     (node_met w.start w.words s.lawful.opens w.log s.lawful.enabled key w.loads.since
     f.searched.least node f.searched.comes).linked
 
--- the slot is that of the child for the key
+-- the slot is the one of the child for the key
 pub found_child : (w : View) → IsSound w → (key node i : ℕ) (value : Option ℕ)
     → HasFound w key node i value → IsChildFor (now w) node key i
 found_child w s key node i value f =

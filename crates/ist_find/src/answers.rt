@@ -1,4 +1,5 @@
-//! What a search answers, and its steps, with how many loads they made.
+//! What a search and its steps return, and how many loads they made.
+use ist_core::Pair;
 use ist_layout::Ref;
 
 /// What a search for a key found.
@@ -21,20 +22,51 @@ pub struct Child {
     pub word: u64,
 }
 
-/// What some steps of a search gave, and how many loads they made.
+/// What some steps of a search returned, and how many loads they made.
 #[derive(Clone, Copy, Debug, PartialEq, Eq, Drop)]
 pub struct Counted<T> {
-    /// What they gave.
+    /// What they returned.
     pub value: T,
     /// How many words they loaded.
     pub loads: u64,
 }
 
-/// What a look at a slot of a node gave.
+/// What a look at a slot of a node found.
 #[derive(Clone, Copy, Debug, PartialEq, Eq, Drop)]
 pub(crate) struct Look {
     /// The number of the slot.
     pub index: u64,
     /// What the slot read as.
     pub reference: Ref,
+}
+
+/// A range of keys that share one slot of the tree, and the pair in that slot.
+#[derive(Clone, Copy, Debug, PartialEq, Eq, Drop)]
+pub struct Span {
+    /// The least key of the range.
+    pub first: u64,
+    /// The greatest key of the range.
+    pub last: u64,
+    /// The only pair in the range, if there is one.
+    pub pair: Option<Pair>,
+}
+
+/// Two keys and all keys between them.
+#[derive(Clone, Copy, Debug, PartialEq, Eq, Drop)]
+pub(crate) struct Ends {
+    /// The least of these keys.
+    pub first: u64,
+    /// The greatest of them.
+    pub last: u64,
+}
+
+/// What a look at a slot found, for all keys of that slot.
+#[derive(Clone, Copy, Debug, PartialEq, Eq, Drop)]
+pub(crate) struct Shared {
+    /// The number of the slot.
+    pub index: u64,
+    /// What the slot read as.
+    pub reference: Ref,
+    /// The keys for which it is the child.
+    pub ends: Ends,
 }

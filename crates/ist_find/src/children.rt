@@ -12,12 +12,12 @@ use crate::keys::{child_for, key_count};
 use ist_layout::{ANCHOR, ANCHOR_SLOT_PLACE, slot_place};
 use ist_rule::{TreeSeat, TreeTable, know, load};
 
-/// The child for the key of an inner row that is published in the seat's log, and the word that its
-/// slot holds at the last step of this call.
+/// Returns the child for the key of an inner row that is published in the seat's log, and the word
+/// that its slot holds at the last step of this call.
 ///
-/// Of at most four keys it loads each. Otherwise it looks first where linear interpolation between
-/// the end keys points, and gallops from there: it goes on by steps of one, two, four, .. keys, and
-/// halves what lies between once it passed the child.
+/// If the row has at most four keys, it loads each. Otherwise it looks first where linear
+/// interpolation between the end keys points, and gallops from there: it goes on by steps of one, two,
+/// four, .. keys, and halves what lies between once it passed the child.
 ///
 /// Source: Perl, Itai and Avni, "Interpolation search", CACM 1978.
 pub fn child_at(table: &TreeTable, seat: &mut TreeSeat, node: u32, key: u64) -> Child
@@ -65,7 +65,7 @@ fn child_and_loads(table: &TreeTable, seat: &mut TreeSeat, node: u32, key: u64) 
     }
 }
 
-/// The same of the anchor too, whose one child is for all keys.
+/// The same, also for the anchor, whose one child is for all keys.
 #[inline(always)]
 pub(crate) fn slot_for(
     table: &TreeTable,

@@ -6,7 +6,7 @@ ghost use Rattle.ist_core.specs.Slots.{IsChildFor};
 ghost use Rattle.ist_core.specs.Links.{WasLinked};
 ghost use Rattle.ist_layout.specs.Meanings.{ref_meant};
 ghost use Rattle.ist_rule.specs.Learning.{now, GoesOnTo};
-ghost use Rattle.ist_histories.specs.Searching.{HasPosition};
+ghost use Rattle.laws_histories.specs.Searching.{HasPosition};
 ghost use Rattle.ist_find.specs.Searches.{IsRow, HasCome, Came, row_cost};
 ghost use Rattle.ist_find.specs.Searches.{HasSearched, HasFound, HasFewLoads};
 ghost use Rattle.ist_find.specs.Reads.{HasLooked, IsReached};
@@ -17,8 +17,8 @@ use crate::reading::{past_change, past_rebuild, value_in};
 use ist_layout::{ANCHOR, Ref};
 use ist_rule::{TreeSeat, TreeTable, begin_search, know};
 
-// Looks at the slot for the key of a node to which the search has come. It is put where it is called,
-// so that loads which no one asks for aren't counted.
+// Looks at the slot for the key of a node that the search has reached. Inlined, so that callers who
+// ignore the number of loads pay nothing for it.
 #[inline(always)]
 fn look_at(table: &TreeTable, seat: &mut TreeSeat, node: u32, key: u64) -> Counted<Look>
     requires same_table { seat.old.table ≡ table.now.table }
@@ -50,13 +50,15 @@ fn look_at(table: &TreeTable, seat: &mut TreeSeat, node: u32, key: u64) -> Count
     }
 }
 
-/// Searches for the key from the anchor down, by loads alone.
+/// Searches for the key from the anchor down, only by loads, and returns its value, if it has one.
 ///
 /// A change is read by its decision, and a rebuild by its target. An inner row is entered at the
-/// child for the key. The answer stands at some number of changes, no fewer than those that the
-/// seat had seen when the call began. Never waits: each row lies above the one before it, and the
-/// rows that it enters are the chain of the node in which it ends. It makes 10 loads at most, and
-/// for each of these rows as many as the guess lies off the child for the key, and 12.
+/// child for the key. The map has this value for the key after some number of changes, no fewer than
+/// those that the seat had seen when the call began.
+///
+/// Never blocks: each row lies above the one before it. The rows that it enters are the chain of the
+/// node in which it ends. It makes at most 10 loads, plus for each of these rows 12 and the distance
+/// of the guess from the child for the key.
 pub fn find_from_anchor(table: &TreeTable, seat: &mut TreeSeat, key: u64) -> Found
     requires same_table { seat.old.table ≡ table.now.table }
     ensures same_table { seat.new.table ≡ seat.old.table }
@@ -71,7 +73,7 @@ pub fn find_from_anchor(table: &TreeTable, seat: &mut TreeSeat, key: u64) -> Fou
     find_and_loads(table, seat, key).value
 }
 
-/// The same search, and how many words it loaded.
+/// The same search, which also returns how many words it loaded.
 pub fn find_and_loads(table: &TreeTable, seat: &mut TreeSeat, key: u64) -> Counted<Found>
     requires same_table { seat.old.table ≡ table.now.table }
     ensures same_table { seat.new.table ≡ seat.old.table }
@@ -87,7 +89,7 @@ pub fn find_and_loads(table: &TreeTable, seat: &mut TreeSeat, key: u64) -> Count
     ensures loads { HasFewLoads seat.old.view seat.new.view key result.value.node }
     ensures counted { seat.new.view.loaded ≡ seat.old.view.loaded + result.loads }
 {
-    // It begins by one load.
+    // One load begins the search.
     begin_search(table, seat);
     know(seat);
     let mut node = ANCHOR;

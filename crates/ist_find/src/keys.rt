@@ -11,7 +11,7 @@ use ist_layout::{INNER_DEGREE_OFFSET, key_place};
 use ist_math::{FEW_KEYS, Gallop, guess};
 use ist_rule::{TreeSeat, TreeTable, know, load};
 
-/// How many keys an inner row has.
+/// Returns how many keys an inner row has.
 pub(crate) fn key_count(table: &TreeTable, seat: &mut TreeSeat, node: u32) -> u64
     requires same_table { seat.old.table ≡ table.now.table }
     requires row { IsRow seat.old.view node }
@@ -26,8 +26,8 @@ pub(crate) fn key_count(table: &TreeTable, seat: &mut TreeSeat, node: u32) -> u6
     degree - 1
 }
 
-// Key `j` of an inner row, counted from 0.
-fn key_at(table: &TreeTable, seat: &mut TreeSeat, node: u32, j: u64) -> u64
+/// Returns key `j` of an inner row, counted from 0.
+pub(crate) fn key_at(table: &TreeTable, seat: &mut TreeSeat, node: u32, j: u64) -> u64
     requires same_table { seat.old.table ≡ table.now.table }
     requires row { IsRow seat.old.view node }
     requires within { j < length (keys_at seat.old.view node) }
@@ -65,7 +65,7 @@ fn end_keys(table: &TreeTable, seat: &mut TreeSeat, node: u32, count: u64) -> En
     EndKeys { first, last }
 }
 
-// How many keys of a row are at most `key`, by a look at each.
+// How many keys of a row are at most `key`, found by a look at each.
 fn count_through(table: &TreeTable, seat: &mut TreeSeat, node: u32, count: u64, key: u64) -> u64
     requires same_table { seat.old.table ≡ table.now.table }
     requires row { IsRow seat.old.view node }
@@ -85,7 +85,7 @@ fn count_through(table: &TreeTable, seat: &mut TreeSeat, node: u32, count: u64, 
     found
 }
 
-// The child for a key between the end keys, by a gallop from a guess, with its loads.
+// The child for a key between the end keys, found by a gallop from a guess, and its loads.
 fn gallop_from(
     table: &TreeTable,
     seat: &mut TreeSeat,
@@ -126,7 +126,7 @@ fn gallop_from(
     }
 }
 
-// The child in a row of more than four keys, with the loads of its keys.
+// The child in a row of more than four keys, and the loads of its keys.
 #[inline(always)]
 fn child_among_many(
     table: &TreeTable,
@@ -167,8 +167,8 @@ fn child_among_many(
     Counted { value, loads }
 }
 
-/// The child of an inner row for the key: the number of its keys that are at most it. With the
-/// loads of its keys.
+/// Returns the child of an inner row for the key, which is the number of its keys that are at most
+/// `key`, and how many loads this took.
 #[inline(always)]
 pub(crate) fn child_for(
     table: &TreeTable,

@@ -1,8 +1,8 @@
 //! The search without waiting: it loads words, never writes one, and ends.
 //!
-//! Read `specs/Searches.antt`, then `finding.rt`, `walking.rt` and `children.rt`. Stands on `ist_core`,
-//! `ist_layout`, `ist_math`, `ist_rule`, `ist_dcss`, and on the laws of `ist_rebuilds`, `ist_histories`
-//! and `ist_walks`.
+//! Read `specs/Searches.antt`, then `finding.rt`, `walking.rt` and `children.rt`. Builds on `ist_core`,
+//! `ist_layout`, `ist_math`, `ist_rule`, `ist_dcss`, and on the laws of `laws_rebuilds`, `laws_histories`
+//! and `laws_walks`.
 #![tactic(auto)]
 
 mod answers;
@@ -10,9 +10,11 @@ mod children;
 mod finding;
 mod keys;
 mod reading;
+mod spans;
 mod walking;
 
-pub use answers::{Child, Counted, Found};
+pub use answers::{Child, Counted, Found, Span};
 pub use children::child_at;
 pub use finding::{find_and_loads, find_from_anchor};
+pub use spans::find_span;
 pub use walking::step_down;

@@ -1,4 +1,4 @@
-//! What a word of a slot reads as, changes and rebuilds read away, and the value of a leaf.
+//! What a word of a slot reads as after its change and rebuild are followed, and the value of a leaf.
 ghost use Rattle.std.specs.Prelude.{◌≡◌, ◌≢◌, ◌==◌, ◌+◌, ◌<◌, ◌≤◌, ℕ, Some, None, IfSome};
 ghost use Rattle.ist_core.specs.RowLayout.{change_words};
 ghost use Rattle.ist_core.specs.References.{ChangeAt, RebuildAt, LeafAt, ref_of};
@@ -16,7 +16,7 @@ use ist_layout::{
 };
 use ist_rule::{TreeSeat, TreeTable, know, load};
 
-// Which word of a change its slot reads as, where this is its decision.
+// Which word of a change its slot reads as, if this is its decision.
 fn side_offset(decision: u64) -> u64
     ensures value { result ≡ outcome_offset_of (decision == decided_yes) }
     ensures within { result < change_words }
@@ -39,8 +39,8 @@ fn change_in(word: u64) -> Option<u32>
     }
 }
 
-// What the slot of the change at `base` reads as: `to` where the change was decided yes at the
-// first step of this call, and otherwise `from`.
+// What the slot of the change at `base` reads as: `to` if the change was decided yes at the first
+// step of this call, and otherwise `from`.
 fn side(table: &TreeTable, seat: &mut TreeSeat, word: u64, base: u32) -> u64
     requires same_table { seat.old.table ≡ table.now.table }
     requires change { ref_of word ≡ Some (ChangeAt base) }
@@ -55,7 +55,7 @@ fn side(table: &TreeTable, seat: &mut TreeSeat, word: u64, base: u32) -> u64
     load(table, seat, u64::from(base) + side_offset(decision))
 }
 
-/// What the word of a slot reads as once changes are read away.
+/// What the word of a slot reads as after its change, if it names one, is followed.
 pub(crate) fn past_change(table: &TreeTable, seat: &mut TreeSeat, word: u64) -> Counted<u64>
     requires same_table { seat.old.table ≡ table.now.table }
     requires names { Names seat.old.view (ref_of word) }
@@ -116,7 +116,7 @@ fn target(table: &TreeTable, seat: &mut TreeSeat, word: u64, base: u32) -> Ref
     }
 }
 
-/// What such a word reads as once rebuilds are read away too.
+/// What such a word reads as after its rebuild, if it names one, is followed too.
 pub(crate) fn past_rebuild(table: &TreeTable, seat: &mut TreeSeat, word: u64) -> Counted<Ref>
     requires same_table { seat.old.table ≡ table.now.table }
     requires names { Names seat.old.view (ref_of word) }
@@ -139,8 +139,8 @@ pub(crate) fn past_rebuild(table: &TreeTable, seat: &mut TreeSeat, word: u64) ->
     }
 }
 
-// The base of the leaf, if the reference is one.
-fn leaf_in(reference: Ref) -> Option<u32>
+/// The base of the leaf, if the reference is one.
+pub(crate) fn leaf_in(reference: Ref) -> Option<u32>
     ensures some { IfSome result (λ base. ref_meant reference ≡ LeafAt base) }
     ensures none { result ≡ None → (base : ℕ) → ref_meant reference ≢ LeafAt base }
 {
@@ -174,7 +174,7 @@ fn leaf_value(table: &TreeTable, seat: &mut TreeSeat, base: u32, key: u64) -> Co
     }
 }
 
-/// The value that nothing, or a leaf, gives the key.
+/// The value that an empty slot or a leaf gives the key.
 pub(crate) fn value_in(
     table: &TreeTable,
     seat: &mut TreeSeat,

@@ -1,4 +1,4 @@
-//! One step of a search that reads words as they stand, changes and rebuilds too: that of an update.
+//! One step of an update's search, which reads each word as it is, changes and rebuilds included.
 ghost use Rattle.std.specs.Prelude.{◌≡◌, ◌≢◌, ◌++◌, ◌∷◌, ◌<◌, [], List, Some, ℕ};
 ghost use Rattle.ist_core.specs.References.{InnerAt, Unset, ref_of};
 ghost use Rattle.ist_core.specs.Slots.{SlotHolds, IsChildFor};
@@ -9,12 +9,12 @@ use crate::answers::Child;
 use crate::children::slot_for;
 use ist_rule::{TreeSeat, TreeTable, know};
 
-/// The child for the key of a node to which the seat's search has come, and the word that its slot
-/// held at the last step of this call.
+/// Returns the child for the key of a node that the seat's search has reached, and the word that its
+/// slot held at the last step of this call.
 ///
-/// The node may be the anchor, whose one child is for all keys. Where the word is an inner row, the
-/// search has come to that row too, by one row more; it lies above the node. Any other word, which
-/// may be a change or a rebuild, ends the walk: the search has come as far as the node. The word is
+/// The node may be the anchor, whose one child is for all keys. If the word names an inner row, the
+/// search has reached that row too, by one more row, and it lies above the node. Any other word, which
+/// may name a change or a rebuild, ends the walk: the search has come as far as the node. The word is
 /// never Unset.
 pub fn step_down(table: &TreeTable, seat: &mut TreeSeat, node: u32, key: u64) -> Child
     requires same_table { seat.old.table ≡ table.now.table }

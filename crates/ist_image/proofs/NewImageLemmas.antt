@@ -1,4 +1,4 @@
--- The words that are laid are the image of a new table. Serves `images.rt`.
+-- The words that are written are the image of a new table. Serves `images.rt`.
 use Rattle.std.proofs.Common.{◌≡◌, ◌∙◌, ◌+◌, ◌-◌, ◌<◌, ℕ, zero, suc, List, [], ◌∷◌, ◌++◌, length, drop, slice_get, refl, sym, ap, subst, arith, inl, inr, length-append, append_assoc}
 use Rattle.std.proofs.Math.ListN.{set}
 use Rattle.std.proofs.lemmas.List.Edits.{sets, sets-eq}
@@ -32,7 +32,7 @@ get_behind (x ∷ xs) ys k =
     (let e : length (x ∷ xs) + k ≡ suc (length xs + k) = omega arith in e)
     ∙ get_behind xs ys k
 
--- rows that lie one behind another stand where their words do
+-- rows that lie one after another are in the words at their bases
 rows_stand : (front rest : List ℕ) (to : ℕ) (rows : List (ℕ × Piece)) (base : ℕ) (p : Piece)
     → Fills (length front) rows to → Among (base, p) rows
     → StandsAt (front ++ (row_words rows ++ rest)) base p
@@ -58,7 +58,7 @@ rows_stand front rest to (row ∷ rows) base p fills (inr i) k h =
     (subst (λ from. Fills from rows to) long fills.1) i)
     k h
 
--- the fixed words, and the words of the tree behind them
+-- the fixed words, and the words of the tree after them
 pub words_laid : (old new : List ℕ) (next anchor first : ℕ) (pairs : List Pair)
     → next ≡ first_row + ideal_words (length pairs) → anchor ≡ word_of (tree_at first pairs)
     → first ≡ first_row
@@ -72,22 +72,22 @@ words_laid old new next anchor first pairs n a f e =
     ∙ ap (λ b. sets (fixed used (word_of (tree_at b pairs))) b (tree_words b pairs)) f
 
 module _ (pairs : List Pair) (old : List ℕ) (opens : CanOpen pairs (length old)) where
-  -- as many words as the image uses
+  -- the number of words that the image uses
   length-image_words : length (image_words pairs) ≡ first_row + ideal_words (length pairs)
   length-image_words = let tree = length-tree_words first_row pairs in omega arith
 
-  -- the words behind it
+  -- the words after the image
   abbrev rest : List ℕ
   rest = drop (0 + length (image_words pairs)) old
 
-  -- the words are those of the image, and the old ones behind it
+  -- the words are the image's, and then the old ones
   words_are : sets old 0 (image_words pairs) ≡ image_words pairs ++ rest
   words_are =
       let room = opens.room in
       let long = length-image_words in
       sets-eq (image_words pairs) old 0 (omega arith)
 
-  -- behind the image they are 0
+  -- after the image they are 0
   zeros_behind : ZerosFrom (first_row + ideal_words (length pairs)) old
       → ZerosFrom (first_row + ideal_words (length pairs)) (sets old 0 (image_words pairs))
   zeros_behind zeros place behind within =
@@ -103,7 +103,7 @@ module _ (pairs : List Pair) (old : List ℕ) (opens : CanOpen pairs (length old
       ∙ ap (slice_get old) whole
       ∙ zeros place behind (omega arith)
 
-  -- they are the image
+  -- the words are the image
   pub image_laid : ZerosFrom (first_row + ideal_words (length pairs)) old
       → IsImage (start pairs (length old)) (sets old 0 (image_words pairs))
   image_laid zeros =

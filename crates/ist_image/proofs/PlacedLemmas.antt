@@ -35,6 +35,7 @@ cut_part pairs j start len e i =
     ap (λ k. take k (drop start pairs)) (whole ∙ i) ∙ ap (λ k. take (part_len (length pairs) j)
     (drop k pairs)) e
 
+-- cutting out a part gives its length
 pub length-cut_part : (pairs : List Pair) (start len : ℕ) → start + len ≤ length pairs
     → length (take (start + len - start) (drop start pairs)) ≡ len
 length-cut_part pairs start len h =
@@ -45,7 +46,7 @@ length-cut_part pairs start len h =
 
 -- ---- slots
 
--- a part has as many pairs as its length says
+-- the number of a part's pairs is its length
 pub length-part_of : (pairs : List Pair) (n j : ℕ) → length pairs ≡ n → j < degree n
     → length (part_of pairs j) ≡ part_len n j
 length-part_of pairs n j e h =
@@ -89,7 +90,7 @@ row_words-append (x ∷ xs) ys =
     ap (λ ws. words_of x.1 ++ ws) (row_words-append xs ys)
     ∙ sym (append_assoc (words_of x.1) (row_words xs) (row_words ys))
 
--- rows that fill the words from a place to another have as many words
+-- rows that fill the words from one place to another have all these words
 length-row_words : (from to : ℕ) (rows : List (ℕ × Piece)) → Fills from rows to
     → from + length (row_words rows) ≡ to
 length-row_words from to [] h = omega arith
@@ -98,7 +99,7 @@ length-row_words from to (row ∷ rows) h =
     let both = length-append (words_of row.1) (row_words rows) in
     omega arith
 
--- a tree has as many words as its size says
+-- the number of a tree's words is its size
 pub length-tree_words : (base : ℕ) (pairs : List Pair)
     → length (tree_words base pairs) ≡ ideal_words (length pairs)
 length-tree_words base pairs =
@@ -107,7 +108,7 @@ length-tree_words base pairs =
     (fills_rows n base pairs (omega arith)) in
     omega arith
 
--- a top row has as many words as its degree says
+-- the number of a top row's words follows from its degree
 pub length-top_words : (base : ℕ) (pairs : List Pair) → 2 ≤ length pairs
     → length (words_of (top_row base pairs)) ≡ inner_words (degree (length pairs))
 length-top_words base pairs two =
@@ -165,6 +166,7 @@ unfolding rows_within
 nothing_set words base [] none = refl
 nothing_set words base (p ∷ pairs) none = absurd (omega arith)
 
+-- writing the key and the value of one pair writes its tree
 pub leaf_set : (words : List ℕ) (base : ℕ) (pairs : List Pair) (default : Pair) → length pairs ≡ 1
     → set (set words base (get_or pairs 0 default).key) (base + 1) (get_or pairs 0 default).value
     ≡ sets words base (tree_words base pairs)
@@ -175,7 +177,7 @@ leaf_set words base (p ∷ []) default one =
     (let e : base + 1 ≡ suc base = omega arith in e)
 leaf_set words base (p ∷ q ∷ pairs) default one = absurd (omega arith)
 
--- the words of two pairs or more: those of the top row, then those of the parts
+-- the words of at least two pairs: the top row's, then the parts'
 pub tree_set : (old mid new : List ℕ) (base : ℕ) (pairs : List Pair) → 2 ≤ length pairs
     → mid ≡ sets old base (words_of (top_row base pairs))
     → new ≡ sets mid (part_base base (length pairs) 0) (row_words (rows_behind base pairs 0))
@@ -190,7 +192,7 @@ tree_set old mid new base pairs two e i =
     ∙ sym (sets-append old base first rest)
     ∙ ap (λ rows. sets old base (row_words rows)) (sym (rows_from-many base pairs two))
 
--- of the words of the parts, those of the next one are set
+-- of the words of the parts, the next part's are set
 pub part_set : (old new : List ℕ) (base at next j : ℕ) (pairs part : List Pair)
     → j < degree (length pairs) → at ≡ part_base base (length pairs) j → part ≡ part_of pairs j
     → new ≡ sets old at (tree_words at part) → at + ideal_words (length part) ≡ next
@@ -211,7 +213,7 @@ part_set old new base at next j pairs part h e i set n =
     (let end : at + length here ≡ next = omega arith in end)
     ∙ ap (λ ws. sets ws next (row_words behind)) (sym set)
 
--- behind the last part none are set
+-- after the last part none are set
 pub no_part_set : (words : List ℕ) (base at j : ℕ) (pairs : List Pair) → j ≡ degree (length pairs)
     → sets words at (row_words (rows_behind base pairs j)) ≡ words
 no_part_set words base at j pairs e =

@@ -128,7 +128,7 @@ fewer_in_part pairs i two =
     let most = length-take (part_len n i) (drop (part_start n i) pairs) in
     omega arith
 
--- as many levels as pairs are enough
+-- one level per pair is enough
 rows_enough : (f g base : ℕ) (pairs : List Pair) → length pairs ≤ f → length pairs ≤ g
     → rows_within f base pairs ≡ rows_within g base pairs
 unfolding rows_within
@@ -153,7 +153,7 @@ rows_enough (suc f) (suc g) base (pair ∷ more ∷ pairs) h k =
     (ap (flat_map (λ part. rows_within f part.0 part.1)) placed ∙ same ∙ sym other
     ∙ sym (ap (flat_map (λ part. rows_within g part.0 part.1)) placed))
 
--- the rows of two pairs or more: the top row, then those of the parts
+-- the rows of at least two pairs: the top row, then the parts' rows
 pub rows_from-many : (base : ℕ) (pairs : List Pair) → 2 ≤ length pairs
     → rows_from base pairs ≡ (base, top_row base pairs) ∷ rows_behind base pairs 0
 unfolding rows_within
@@ -184,7 +184,7 @@ rows_behind-first base pairs j h =
     ap (λ k. flat_map (λ i. rows_from (part_base base (length pairs) i) (part_of pairs i))
     (range_with_len j k)) left
 
--- behind the last part lies none
+-- there are no rows after the last part
 pub rows_behind-last : (base : ℕ) (pairs : List Pair)
     → rows_behind base pairs (degree (length pairs)) ≡ []
 rows_behind-last base pairs =

@@ -27,13 +27,13 @@ use Rattle.ist_core.proofs.ShapeLemmas.{ideal_words_many}
 use Rattle.ist_core.proofs.WordLemmas.{ideal_words_is}
 use Rattle.ist_image.specs.Placing.{words_before, part_base, FitsAt}
 
--- the trees of one part more
+-- the words of the trees of one part more
 pub words_before-suc : (n j : ℕ)
     → words_before n (j + 1) ≡ words_before n j + ideal_words (part_len n j)
 words_before-suc n j = ap (words_before n) (let e : j + 1 ≡ suc j = omega arith in e) ∙ sum_of_more
     ideal_words n j
 
--- further parts take no less
+-- more parts take at least as many words
 words_before-le : (n j more : ℕ) → words_before n j ≤ words_before n (j + more)
 words_before-le n j zero = let same : j + 0 ≡ j = omega arith in let e = ap (words_before n) same in
     omega arith
@@ -49,11 +49,11 @@ pub part_base-suc : (base n j : ℕ)
     → part_base base n j + ideal_words (part_len n j) ≡ part_base base n (j + 1)
 part_base-suc base n j = let one = words_before-suc n j in omega arith
 
--- the first one lies behind the inner row
+-- the first part begins after the inner row
 pub part_base-first : (base n : ℕ) → base + inner_words (degree n) ≡ part_base base n 0
 part_base-first base n = omega arith
 
--- the last one ends with the words of the whole
+-- the last part ends with the words of the whole
 pub part_base-last : (base n : ℕ) → 2 ≤ n → base + ideal_words n ≡ part_base base n (degree n)
 unfolding part_lens
 part_base-last base n two = let whole = ideal_words_many n two in omega arith
@@ -66,7 +66,7 @@ few_fit base n fits =
     let words = ideal_words_is n in
     omega arith
 
--- a part fits where the whole does
+-- a part fits if the whole does
 pub part_fits : (base n j : ℕ) → 2 ≤ n → j < degree n → FitsAt base n
     → FitsAt (part_base base n j) (part_len n j)
 part_fits base n j two h fits =
@@ -79,7 +79,7 @@ part_fits base n j two h fits =
     let same = ap (words_before n) last in
     record { behind_fixed = omega arith; below_limit = omega arith }
 
--- and its base is one of a row
+-- the base of a part is below the limit
 pub part_base_fits : (base n j : ℕ) → 2 ≤ n → j < degree n → FitsAt base n
     → part_base base n j < 2 ^ 28
 part_base_fits base n j two h fits =
@@ -89,7 +89,7 @@ part_base_fits base n j two h fits =
     let words = ideal_words_is (part_len n j) in
     omega arith
 
--- the same of a part that is known by its base and its length
+-- a part that is known by its base and its length fits if the whole does
 pub part_fits_at : (base n j at len : ℕ) → 2 ≤ n → j < degree n → FitsAt base n
     → at ≡ part_base base n j
     → len ≡ part_len n j → FitsAt at len
@@ -97,7 +97,7 @@ part_fits_at base n j at len two h fits e i =
     subst (λ b. FitsAt b len) (sym e) (subst (FitsAt (part_base base n j)) (sym i)
     (part_fits base n j two h fits))
 
--- it ends within the words of the whole
+-- a part ends within the words of the whole
 pub part_ends : (base n j : ℕ) → 2 ≤ n → j < degree n
     → part_base base n j + ideal_words (part_len n j) ≤ base + ideal_words n
 part_ends base n j two h =

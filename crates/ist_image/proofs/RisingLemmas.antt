@@ -1,4 +1,4 @@
--- Pairs whose keys are the numbers from 0 on. Serves `tests.rt`.
+-- Pairs with the numbers from 0 on as keys. Serves the tests in `test_parts`.
 use Rattle.std.proofs.Common.{
   ◌≡◌,
   ◌∙◌,
@@ -51,7 +51,7 @@ pub length-numbered : (pairs : List Pair) (n : ℕ) → map (λ pair. pair.key) 
 length-numbered pairs n e =
     sym (length-map pairs (λ pair. pair.key)) ∙ ap length e ∙ length-map-range_with_len (λ i. i) 0 n
 
--- a table may begin with them
+-- a table may begin with these pairs
 pub numbered_open : (pairs : List Pair) (n words : ℕ) → map (λ pair. pair.key) pairs ≡ numbers n
     → 4 + 9 * n ≤ words → words ≤ place_limit → CanOpen pairs words
 numbered_open pairs n words e room within =
@@ -63,7 +63,7 @@ numbered_open pairs n words e room within =
       within = within;
     }
 
--- one more
+-- the pairs with one more number as a key
 pub numbered_more : (pairs : List Pair) (n value : ℕ) → map (λ pair. pair.key) pairs ≡ numbers n
     → map (λ pair. pair.key) (pairs ++ pair n value ∷ []) ≡ numbers (n + 1)
 numbered_more pairs n value e =
@@ -84,7 +84,7 @@ two_rise : IsStrictlyIncreasing (map (λ pair. pair.key) two_pairs)
 two_rise zero h = omega arith
 two_rise (suc k) h = absurd (omega arith)
 
--- and with two
+-- a table may begin with two pairs
 pub two_open : CanOpen two_pairs 20
 two_open = record {
   rising = λ k h. two_rise k h;

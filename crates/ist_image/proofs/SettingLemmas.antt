@@ -1,10 +1,10 @@
--- Words that are set one behind another. Serves `laying.rt` and `rows.rt`.
+-- Words that are set one after another. Serves `laying.rt` and `rows.rt`.
 use Rattle.std.proofs.Common.{◌≡◌, ◌∙◌, ◌+◌, ◌-◌, ◌<◌, ℕ, suc, List, [], ◌∷◌, ◌++◌, length, map, sym, ap, arith}
 use Rattle.std.specs.List.{range_with_len}
 use Rattle.std.proofs.Math.ListN.{set}
 use Rattle.std.proofs.lemmas.List.Edits.{sets}
 
--- some words, and others behind them
+-- setting two joined lists is setting the first, and then the second after it
 pub sets-append : (words : List ℕ) (at : ℕ) (xs ys : List ℕ)
     → sets words at (xs ++ ys) ≡ sets (sets words at xs) (at + length xs) ys
 sets-append words at [] ys = ap (λ i. sets words i ys) (let e : at ≡ at + 0 = omega arith in e)
@@ -24,7 +24,7 @@ set_made f words at next j d x h e n =
     ∙ ap (λ v. sets (set words at v) (suc at) more) (sym e)
     ∙ ap (λ i. sets (set words at x) i more) (let s : suc at ≡ next = omega arith in s)
 
--- behind the last one none is set
+-- after the last one none is set
 pub none_made : (f : ℕ → ℕ) (words : List ℕ) (at j d : ℕ) → j ≡ d
     → sets words at (map f (range_with_len j (d - j))) ≡ words
 none_made f words at j d e =

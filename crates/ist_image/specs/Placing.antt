@@ -48,7 +48,7 @@ pub record FitsAt (base n : ℕ) : Type 0 where
 
 -- ---- words
 
--- the words of the rows, one row behind another
+-- the words of the rows, one row after another
 abbrev pub row_words : List (ℕ × Piece) → List ℕ
 row_words rows = flat_map (λ row. words_of row.1) rows
 
@@ -56,7 +56,7 @@ row_words rows = flat_map (λ row. words_of row.1) rows
 abbrev pub tree_words : ℕ → List Pair → List ℕ
 tree_words base pairs = row_words (rows_from base pairs)
 
--- the words of a new table of these pairs that are used: the fixed words, then those of the tree
+-- the used words of a new table with these pairs: the fixed words, then the words of the tree
 abbrev pub image_words : List Pair → List ℕ
 image_words pairs =
     (first_row + ideal_words (length pairs)) ∷ 0 ∷ 0 ∷ word_of (tree_at first_row pairs)

@@ -1,4 +1,4 @@
--- Words behind those of an image.
+-- Words after those of an image.
 use Rattle.std.specs.Prelude.{◌≡◌, ℕ, ◌≤◌, ◌<◌, List, length, slice_get, Some}
 
 -- the words are 0 from a place on

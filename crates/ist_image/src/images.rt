@@ -17,8 +17,8 @@ use std::alloc::{AllocError, Global};
 /// The status of a node that isn't marked.
 const OPEN_WORD: u64 = 0;
 
-/// How many words the image of a new table with so many pairs uses: the fixed words, and the ideal
-/// tree. A table of fewer words has no room for it.
+/// Returns how many words the image of a new table with `pairs` pairs uses: the fixed words, and
+/// the ideal tree. A table of fewer words has no room for it.
 pub fn needed_words(pairs: u64) -> u64
     requires fits { pairs < 2 ^ 32 }
     ensures value { result ≡ first_row + ideal_words pairs }
@@ -26,9 +26,11 @@ pub fn needed_words(pairs: u64) -> u64
     u64::from(FIRST_ROW) + ideal_words(pairs)
 }
 
-/// The words of a new table of so many words with these pairs, whose keys rise: the ideal tree of the
-/// pairs from the first row on, nobody entered, and zeros behind. Fails for want of memory alone.
+/// Builds the words of a new table of `words` words with these pairs, which have strictly
+/// increasing keys: the ideal tree of the pairs from the first row on, no callers, and then zeros.
+/// Fails only if memory runs out.
 ///
+/// Each used word is written once, into a vector of zeros.
 /// Each word that is used is written once, over a vector of zeros.
 pub fn lay_image(alloc: Global, words: u64, pairs: &[Pair]) -> Result<Vec<u64>, AllocError>
     requires opens { CanOpen pairs.now words }
@@ -40,9 +42,10 @@ pub fn lay_image(alloc: Global, words: u64, pairs: &[Pair]) -> Result<Vec<u64>, 
     Ok(image)
 }
 
-/// The memory of images that are laid one after another, with the last of them.
+/// Memory for images that are built one after another, with the last of them.
 ///
-/// From the words on that the last one uses, all are 0, so that the next one touches those words and
+/// All words that the last image doesn't use are 0. So building the next one touches only those
+/// that the last one used and its own.
 /// its own, and no others.
 #[derive(Drop)]
 pub struct Image {
@@ -53,7 +56,7 @@ pub struct Image {
 }
 
 impl Image {
-    /// No words yet.
+    /// Returns an image without words.
     pub fn new(alloc: Global) -> Image
         ensures empty { result.words.items ≡ [] }
     {
@@ -63,11 +66,11 @@ impl Image {
         }
     }
 
-    /// Lays the image of a new table of so many words with these pairs, whose keys rise, into this
-    /// memory, as `lay_image` would. Fails for want of memory alone.
+    /// Builds the image of a new table of `words` words with these pairs, which have strictly
+    /// increasing keys, in this memory, as `lay_image` would. Fails only if memory runs out.
     ///
-    /// It writes the words that the last image used, those that this one uses, and those that there
-    /// are more of. Without memory the words that there are become 0.
+    /// It writes the words that the last image used, the words that this one uses, and the words
+    /// that are added. If it fails, the words that there are become 0.
     pub fn lay(&mut self, words: u64, pairs: &[Pair]) -> Result<(), AllocError>
         requires opens { CanOpen pairs.now words }
         ensures size { OnOk result (length self.new.words.items ≡ words) }
@@ -81,14 +84,14 @@ impl Image {
         Ok(())
     }
 
-    /// The words of the last image.
+    /// Returns the words of the last image.
     pub fn words(&self) -> &Vec<u64>
         ensures value { result.now ≡ self.now.words }
     {
         &self.words
     }
 
-    /// The words of the last image, to keep.
+    /// Returns the words of the last image, to keep.
     pub fn into_words(self) -> Vec<u64>
         ensures value { result ≡ self.words }
     {
@@ -96,7 +99,7 @@ impl Image {
     }
 }
 
-/// Makes the first words 0, where all others are.
+/// Sets the first `used` words to 0; all others are 0 already.
 fn clear(words: &mut [u64], used: usize)
     requires within { used ≤ length words.old }
     requires zeros { ZerosFrom used words.old }
@@ -107,7 +110,7 @@ fn clear(words: &mut [u64], used: usize)
     }
 }
 
-/// Lays the image of a new table with these pairs, where all words behind it are 0.
+/// Writes the image of a new table with these pairs into words that are 0 after it.
 fn put_image(words: &mut [u64], pairs: &[Pair])
     requires opens { CanOpen pairs.now (length words.old) }
     requires zeros { ZerosFrom (first_row + ideal_words (length pairs.now)) words.old }

@@ -1,4 +1,4 @@
-//! The ideal tree of some pairs, laid as words: a row, then the trees of its parts.
+//! The ideal tree of some pairs, as words: a row, then the trees of its parts.
 ghost use Rattle.std.specs.Prelude.{◌≡◌, ◌+◌, ◌≤◌, ◌<◌, ◌^◌, length};
 ghost use Rattle.std.proofs.lemmas.List.Edits.{sets};
 ghost use Rattle.ist_core.specs.Shapes.{ideal_words};
@@ -9,7 +9,7 @@ use ist_core::Pair;
 use ist_layout::inner_words;
 use ist_math::{degree, ideal_words, part};
 
-/// Lays the tree of these pairs, from the base on.
+/// Writes the tree of these pairs, from the base on.
 #[cycle(laying)]
 pub(crate) fn put_tree(words: &mut [u64], base: u64, pairs: &[Pair])
     requires few { length pairs.now < 2 ^ 28 }
@@ -30,7 +30,7 @@ pub(crate) fn put_tree(words: &mut [u64], base: u64, pairs: &[Pair])
     }
 }
 
-/// Lays the trees of the parts, which lie behind an inner row at the base.
+/// Writes the trees of the parts, which follow an inner row at the base.
 #[cycle(laying)]
 fn put_parts(words: &mut [u64], base: u64, pairs: &[Pair])
     requires several { 2 ≤ length pairs.now }

@@ -1,6 +1,7 @@
-//! The words of a new table: the fixed words, the ideal tree of its pairs row by row, and zeros behind.
+//! The words of a new table: the fixed words, the ideal tree of its pairs row by row, and then
+//! zeros.
 //!
-//! Read `images.rt`, then `laying.rt`. Stands on `ist_core`, `ist_math` and `ist_layout`.
+//! Read `images.rt`, then `laying.rt`. Builds on `ist_core`, `ist_math` and `ist_layout`.
 #![tactic(auto)]
 
 mod images;

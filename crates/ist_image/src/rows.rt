@@ -1,4 +1,4 @@
-//! One inner row of a new table, laid as words, and the words for its children.
+//! One inner row of a new table as words, and the words for its children.
 ghost use Rattle.std.specs.Prelude.{◌≡◌, ◌+◌, ◌≤◌, ◌<◌, ◌^◌, List, length, map, drop};
 ghost use Rattle.std.proofs.lemmas.List.Edits.{sets};
 ghost use Rattle.ist_core.specs.declared.pairs.Pair.{Pair as APair};
@@ -17,7 +17,7 @@ use ist_math::{degree, ideal_words, part};
 /// The status of a node that isn't marked.
 const OPEN_WORD: u64 = 0;
 
-/// Lays the first row of the tree of two pairs or more.
+/// Writes the first row of the tree of at least two pairs.
 pub(crate) fn put_row(words: &mut [u64], base: u64, pairs: &[Pair])
     requires several { 2 ≤ length pairs.now }
     requires few { length pairs.now < 2 ^ 28 }
@@ -36,7 +36,7 @@ pub(crate) fn put_row(words: &mut [u64], base: u64, pairs: &[Pair])
     put_slots(words, at + 3 + children as usize, base, pairs);
 }
 
-/// Lays the first key of each part but the first.
+/// Writes the first key of each part but the first.
 fn put_keys(words: &mut [u64], place: usize, pairs: &[Pair])
     requires several { 2 ≤ length pairs.now }
     requires few { length pairs.now < 2 ^ 28 }
@@ -52,7 +52,7 @@ fn put_keys(words: &mut [u64], place: usize, pairs: &[Pair])
     }
 }
 
-/// Lays the words for the trees of the parts, below an inner row at the base.
+/// Writes the words for the trees of the parts, below an inner row at the base.
 fn put_slots(words: &mut [u64], place: usize, base: u64, pairs: &[Pair])
     requires several { 2 ≤ length pairs.now }
     requires few { length pairs.now < 2 ^ 28 }
@@ -72,7 +72,7 @@ fn put_slots(words: &mut [u64], place: usize, base: u64, pairs: &[Pair])
     }
 }
 
-/// The word for the tree of so many pairs at the base.
+/// Returns the word for the tree of `count` pairs at the base.
 pub(crate) fn word_at(base: u64, count: u64) -> u64
     requires behind_fixed { 4 ≤ base }
     requires below_limit { base < 2 ^ 28 }

@@ -1,4 +1,4 @@
--- The references and statuses of this crate, as those that the definitions of `ist_core` speak of.
+-- Which reference or status of the definitions of `ist_core` each one of this crate means.
 use Rattle.ist_core.specs.References as references
 use Rattle.ist_core.specs.Statuses as statuses
 use Rattle.ist_layout.specs.declared.references.Ref.{Ref}

@@ -1,5 +1,5 @@
-//! The constants are those of the definitions, and each word names one reference or one status.
-//! Each law is the contract of a function that does nothing.
+//! The constants have the values of the definitions, and each word names one reference or one
+//! status. Each law is the contract of a function that does nothing.
 ghost use Rattle.std.specs.Prelude.{◌≡◌, ℕ, ◌<◌, Some};
 ghost use Rattle.ist_core.specs.References.{Ref, word_of, ref_of, IsGoodRef};
 ghost use Rattle.ist_core.specs.RowLayout as layout;

@@ -1,9 +1,9 @@
-//! The words of a table: what stands in a slot or in a status, and where the fields of each row
-//! lie. Nothing here takes memory, and no call refuses, except that reading a word answers `None`
-//! where it is no word of its kind.
+//! The words of a table: what is in a slot or in a status, and where the fields of each row lie.
+//! Nothing here allocates. No call fails, but reading a word returns `None` if it is no word of its
+//! kind.
 //!
-//! Read `specs/Meanings.antt`, then `references.rt`, `statuses.rt` and `places.rt`. Stands on
-//! `ist_core`, for the definitions alone.
+//! Read `specs/Meanings.antt`, then `references.rt`, `statuses.rt` and `places.rt`. Builds on
+//! `ist_core`, which it needs only for the definitions.
 #![tactic(auto)]
 
 pub mod laws;

@@ -1,14 +1,14 @@
-//! Where the fixed words of a table lie, how long its rows are, and where the fields of each row
-//! lie behind its base.
+//! Where the fixed words of a table lie, how long its rows are, and at which offsets from its base
+//! the fields of each row lie.
 ghost use Rattle.std.specs.Prelude.{◌≡◌, ℕ, ◌+◌, ◌*◌, ◌<◌, ◌≤◌, ◌^◌};
 ghost use Rattle.ist_core.specs.RowLayout.{inner_words, key_place, slot_place, place_limit};
 
 /// Every place of a table is below this number.
 pub const PLACE_LIMIT: u64 = 1 << 28;
 
-/// The word that says where the first word lies that isn't reserved.
+/// The word that holds the place of the first free word.
 pub const NEXT_PLACE: u64 = 0;
-/// The word that says how many callers were entered.
+/// The word that holds how many callers have entered.
 pub const CALLERS_PLACE: u64 = 1;
 /// The base of the anchor, the node without keys above the whole tree.
 pub const ANCHOR: u32 = 2;
@@ -34,7 +34,7 @@ pub const INNER_STATUS_OFFSET: u64 = 0;
 pub const INNER_COUNT_OFFSET: u64 = 1;
 /// How many slots an inner row has.
 pub const INNER_DEGREE_OFFSET: u64 = 2;
-/// Over how many keys an inner row was built.
+/// How many keys an inner row was built over.
 pub const INNER_SIZE_OFFSET: u64 = 3;
 
 /// How many words a change takes.
@@ -43,7 +43,7 @@ pub const CHANGE_WORDS: u64 = 9;
 pub const CHANGE_DECISION_OFFSET: u64 = 0;
 /// What a change is for.
 pub const CHANGE_KIND_OFFSET: u64 = 1;
-/// The base of the node in whose slot a change stands.
+/// The base of the node in whose slot a change is installed.
 pub const CHANGE_NODE_OFFSET: u64 = 2;
 /// The number of that slot.
 pub const CHANGE_INDEX_OFFSET: u64 = 3;
@@ -62,16 +62,16 @@ pub const CHANGE_VALUE_OFFSET: u64 = 8;
 pub const REBUILD_WORDS: u64 = 5;
 /// The base of the node that is rebuilt.
 pub const REBUILD_TARGET_OFFSET: u64 = 0;
-/// The base of the node above it.
+/// The base of the target's parent.
 pub const REBUILD_PARENT_OFFSET: u64 = 1;
-/// The number of the slot of that node.
+/// The number of the target's slot in its parent.
 pub const REBUILD_INDEX_OFFSET: u64 = 2;
-/// The root of the new subtree.
+/// The word that names the root of the new subtree.
 pub const REBUILD_ROOT_OFFSET: u64 = 3;
 /// How many parts of a shared root were drawn.
 pub const REBUILD_DRAW_OFFSET: u64 = 4;
 
-/// How many words an inner row of this degree takes.
+/// Returns how many words an inner row of this degree takes.
 pub fn inner_words(degree: u64) -> u64
     requires fits { degree < place_limit }
     ensures value { result ≡ inner_words degree }
@@ -79,8 +79,8 @@ pub fn inner_words(degree: u64) -> u64
     2 * degree + 3
 }
 
-/// Where key `j` of the inner row at `base` lies, counted from 1: the smallest key below slot `j`
-/// when the row was built.
+/// Returns the place of key `j` of the inner row at `base`, counted from 1: the smallest key below
+/// slot `j` when the row was built.
 pub fn key_place(base: u32, j: u64) -> u64
     requires first { 1 ≤ j }
     requires fits { j < place_limit }
@@ -89,7 +89,7 @@ pub fn key_place(base: u32, j: u64) -> u64
     u64::from(base) + 3 + j
 }
 
-/// Where slot `i` of the inner row of this degree at `base` lies, counted from 0.
+/// Returns the place of slot `i` of the inner row of this degree at `base`, counted from 0.
 pub fn slot_place(base: u32, degree: u64, i: u64) -> u64
     requires within { i < degree }
     requires fits { degree < place_limit }

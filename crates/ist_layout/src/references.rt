@@ -11,7 +11,7 @@ pub const EMPTY_WORD: u64 = 0;
 /// The word of a part of a shared root that isn't built yet.
 pub const UNSET_WORD: u64 = 7;
 
-/// The word of a row is its base times this number, and its tag.
+/// The word of a row is its base times this number, plus its tag.
 const TAG_COUNT: u64 = 8;
 
 const LEAF_TAG: u64 = 1;
@@ -42,7 +42,7 @@ pub enum Ref {
 impl Ref {
     ghost use Rattle.ist_layout.specs.Meanings.{ref_meant};
 
-    /// The word that stands in a slot for this reference. Its base is at least 4 and below 2^28.
+    /// Returns the word for this reference in a slot. Its base must be at least 4 and below 2^28.
     pub fn to_word(self) -> u64
         requires good { IsGoodRef (ref_meant self) }
         ensures value { result ≡ word_of (ref_meant self) }
@@ -57,8 +57,7 @@ impl Ref {
         }
     }
 
-    /// The reference whose word this is, or `None` where the word is none of a reference with a
-    /// good base.
+    /// Returns the reference with this word, or `None` if no reference with a good base has it.
     pub fn from_word(word: u64) -> Option<Ref>
         ensures value { option_map ref_meant result ≡ ref_of word }
         ensures good { IfSome result (λ found. IsGoodRef (ref_meant found)) }
@@ -71,8 +70,8 @@ impl Ref {
         }
     }
 
-    /// The row with this tag and this base, or `None` where there is no such tag, or the base is
-    /// not good.
+    /// Returns the row with this tag and this base, or `None` if there is no such tag, or the base
+    /// isn't good.
     fn row(tag: u64, base: u64) -> Option<Ref>
         ensures value { option_map ref_meant result ≡ good_row_tagged tag base }
     {

@@ -8,7 +8,7 @@ use Rattle.ist_core.specs.Logs.{Passes}
 use Rattle.ist_core.specs.Marking.{HasTarget, as_child, behind_rebuild, IsFrozen, CountsFor, no_key, one_key}
 use Rattle.ist_core.proofs.GrowingLemmas.{rebuild_there}
 use Rattle.ist_core.proofs.NamingLemmas.{SideNames, IsRebuildFor}
-use Rattle.ist_links.proofs.ClosedLemmas.{same_rebuild}
+use Rattle.laws_links.proofs.ClosedLemmas.{same_rebuild}
 use Rattle.ist_rule.specs.declared.view.View.{View}
 use Rattle.ist_rule.specs.Rule.{IsSound}
 use Rattle.ist_rule.specs.Learning.{now, Looked}
@@ -26,7 +26,7 @@ use Rattle.ist_mark.proofs.NodeLemmas.{frozen_names, target_inner}
 
 -- ---- the target of a rebuild
 
--- the rebuild behind a load of its target
+-- the rebuild after a load of its target
 rebuild_behind : (v : View) (place word : ℕ) (w : View) → Looked v place word w → (rebuild : ℕ)
     → IsRebuildRow (now v) rebuild → place ≡ rebuild + 0
     → (r : RebuildRow) × ((now w).pieces rebuild ≡ Some (Rebuild r)) × (word ≡ r.target)
@@ -38,7 +38,7 @@ rebuild_behind v place word w l rebuild b at =
       looked_row v place word w l rebuild (Rebuild it.0) 0 it.0.target it.1 refl at,
     )
 
--- the load tells the target
+-- the load gives the target
 pub target_told : (v : View) (place word : ℕ) (w : View) → Looked v place word w → (rebuild : ℕ)
     → IsRebuildRow (now v) rebuild → place ≡ rebuild + 0 → HasTarget (now w) rebuild word
 target_told v place word w l rebuild b at =
@@ -146,11 +146,13 @@ pub passed_set : (v : View) → IsSound v → (node i word : ℕ) → IsFrozen v
 passed_set v s node i word p is =
     subst (SideNames (now v).pieces node i) is (side_of_word v s node i word p)
 
+-- a passed word names no change
 pub passed_plain : (v : View) → IsSound v → (node i word change : ℕ) → IsFrozen v.log node i word
     → ref_of word ≢ Some (ChangeAt change)
 passed_plain v s node i word change p is =
     subst (SideNames (now v).pieces node i) is (side_of_word v s node i word p)
 
+-- a passed word names a reference
 pub passed_some : (v : View) → IsSound v → (node i word : ℕ) → IsFrozen v.log node i word
     → ref_of word ≢ None
 passed_some v s node i word p is =

@@ -37,7 +37,7 @@ leads_counts t word child k (to_row is) f =
 leads_counts t word child k (to_target rebuild is h) f =
     subst (λ o. CountsFor t o k) (sym is) (of_target h f)
 
--- an inner row below a passed slot is one of the subtree
+-- an inner row below a passed slot is a row of the subtree
 pub below_under : (v : View) (node i child : ℕ) → PassedWith v node i (Node child)
     → LiesUnder (now v) v.log node child
 below_under v node i child p = one_lower i p.word the_node p.frozen p.is.leads

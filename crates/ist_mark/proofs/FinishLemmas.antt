@@ -1,4 +1,4 @@
--- Finishing: when it may be made, and what it tells. Serves `finish`.
+-- Finishing: when it is allowed, and what is known after it. Serves `finish`.
 use Rattle.std.proofs.Common.{◌≡◌, ◌≢◌, ℕ, ◌+◌, ◌*◌, ◌/◌, ◌≤◌, ◌∷◌, Some, option_map, refl, sym, ap, ◌∙◌, subst, ⊎_elim, arith}
 use Rattle.std.proofs.lemmas.Bool.Decides.{eqb_tells}
 use Rattle.ist_core.specs.declared.events.Event.{Event}
@@ -15,8 +15,8 @@ use Rattle.ist_core.proofs.FateLemmas.{grow_between}
 use Rattle.ist_core.proofs.GrowingLemmas.{inner_there}
 use Rattle.ist_core.proofs.RowLemmas.{changed_at-same}
 use Rattle.ist_core.proofs.ShapedLemmas.{shaped}
-use Rattle.ist_links.proofs.FinishedLemmas.{finished_passed}
-use Rattle.ist_rebuilds.proofs.FinishedLeafLemmas.{finished_few}
+use Rattle.laws_links.proofs.FinishedLemmas.{finished_passed}
+use Rattle.laws_rebuilds.proofs.FinishedLeafLemmas.{finished_few}
 use Rattle.ist_rule.specs.declared.view.View.{View}
 use Rattle.ist_rule.specs.Rule.{IsSound}
 use Rattle.ist_rule.specs.Learning.{now, Looked, Logged, Exchanged}
@@ -24,11 +24,11 @@ use Rattle.ist_rule.specs.Conditions.{CanMake, CanExchange}
 use Rattle.ist_rule.specs.Watching.{number_of}
 use Rattle.ist_rule.proofs.LaterLemmas.{later-goes_on}
 use Rattle.ist_dcss.proofs.FieldLemmas.{looked_row}
-use Rattle.ist_coming.specs.Coming.{IsGone}
+use Rattle.laws_coming.specs.Coming.{IsGone}
 use Rattle.ist_rule.specs.Going.{WentOn}
-use Rattle.ist_coming.proofs.ComingLemmas.{exchange_comes}
+use Rattle.laws_coming.proofs.ComingLemmas.{exchange_comes}
 use Rattle.ist_rule.proofs.WentOnLemmas.{logged_went, looked_went}
-use Rattle.ist_coming.proofs.KnownLemmas.{gone_missed, mark_gone}
+use Rattle.laws_coming.proofs.KnownLemmas.{gone_missed, mark_gone}
 use Rattle.ist_mark.specs.Marking.{the_node, Marks}
 use Rattle.ist_mark.specs.Naming.{finishing}
 use Rattle.ist_mark.specs.Passing.{MayFinish, AreCounted}
@@ -37,7 +37,7 @@ use Rattle.ist_mark.proofs.KeepingLemmas.{inner_went, counted_went}
 use Rattle.ist_mark.proofs.MarkLemmas.{before_enabled, status_known}
 use Rattle.ist_mark.proofs.NodeLemmas.{closed_stays, closed_status}
 
--- behind a Finish the node is finished
+-- after a Finish the node is finished
 finished_behind : (t : Snapshot) (node keys : ℕ) (r : InnerRow) → t.pieces node ≡ Some (Inner r)
     → IsFinishedWith (record t {
       pieces =
@@ -169,7 +169,7 @@ module _ (v : View) (s : IsSound v) (node keys : ℕ) (m : MayFinish v node keys
         (subst (λ n. CanExchange v place marked_word n (Finish m.number node keys)) (sym new_is)
         can_finish))
 
-    -- behind it the node is finished with this number, whoever was first
+    -- after it the node is finished with this number, whoever was first
     pub finish_told : (old new found : ℕ) (w : View) → old ≡ marked_word → new ≡ finished_word keys
         → Exchanged v (finishing v place new) place old found w
         → WentOn (Marks w node) v w × IsFinishedWith (now w) node keys

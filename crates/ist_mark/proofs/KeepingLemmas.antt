@@ -1,4 +1,4 @@
--- What a seat knows of nodes it knows still when it has gone on. Serves each function.
+-- What a seat knows of nodes stays true in later views. Serves each function.
 use Rattle.std.proofs.Common.{◌≡◌, ℕ, Option, Some, ◌∙◌}
 use Rattle.ist_core.specs.declared.events.Event.{Event}
 use Rattle.ist_core.specs.declared.states.InnerRow.{InnerRow}
@@ -10,18 +10,18 @@ use Rattle.ist_core.specs.Logs.{Happened, Passes}
 use Rattle.ist_core.specs.Marking.{IsCalled, as_target, as_child, behind_rebuild, CountsFor, no_key, one_key, of_child, of_target}
 use Rattle.ist_core.specs.Rebuilding.{IsFinishedWith}
 use Rattle.ist_core.proofs.GrowingLemmas.{inner_there}
-use Rattle.ist_links.proofs.FinishedLemmas.{target_grows}
-use Rattle.ist_links.proofs.FormLemmas.{finished_with_grows, started_grows}
+use Rattle.laws_links.proofs.FinishedLemmas.{target_grows}
+use Rattle.laws_links.proofs.FormLemmas.{finished_with_grows, started_grows}
 use Rattle.ist_rule.specs.declared.view.View.{View}
 use Rattle.ist_rule.specs.Learning.{now}
-use Rattle.ist_stability.proofs.LaterLemmas.{happened_later}
+use Rattle.laws_stability.proofs.LaterLemmas.{happened_later}
 use Rattle.ist_rule.specs.Going.{WentOn}
 use Rattle.ist_rule.proofs.WentOnLemmas.{later_by-goes_on, went_grow, went_who}
 use Rattle.ist_mark.specs.Marking.{MayMark}
 use Rattle.ist_mark.specs.Passing.{IsClosed, MayPass, AreCounted, no_slot_yet, one_slot_more}
 use Rattle.ist_mark.proofs.NodeLemmas.{closed_stays}
 
--- what a word counts for it goes on counting for
+-- a word keeps counting for the same number of keys
 pub counts_later : (t u : Snapshot) → AllGrow t.pieces u.pieces → (o : Option Ref) (k : ℕ)
     → CountsFor t o k → CountsFor u o k
 counts_later t u g _ _ no_key = no_key
@@ -36,7 +36,7 @@ module _ (P : Event → Type 0) (v w : View) (g : WentOn P v w) where
   pub happened_went : (Q : Event → Type 0) → Happened Q v.log → Happened Q w.log
   happened_went Q h = happened_later Q (later_by-goes_on g.later) h
 
-  -- an inner row stands there
+  -- an inner row stays an inner row
   pub inner_went : (node : ℕ) (row : InnerRow) → (now v).pieces node ≡ Some (Inner row)
       → (r : InnerRow) × ((now w).pieces node ≡ Some (Inner r)) × InnerGrows row r
   inner_went node row e = inner_there (now v).pieces (now w).pieces (went_grow P v w g) node row e

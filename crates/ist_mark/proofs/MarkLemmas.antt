@@ -1,4 +1,4 @@
--- Marking: when it may be made, and what it tells. Serves `mark` and `degree_of`.
+-- Marking: when it is allowed, and what is known after it. Serves `mark` and `degree_of`.
 use Rattle.std.proofs.Common.{◌≡◌, ◌≢◌, ℕ, ◌+◌, Some, option_map, refl, sym, ap, ap₂, ◌∙◌, subst, ⊎_elim, arith}
 use Rattle.std.proofs.lemmas.Bool.Decides.{eqb_tells}
 use Rattle.ist_core.specs.declared.events.Event.{Event}
@@ -9,6 +9,7 @@ use Rattle.ist_core.specs.Statuses.{Open, Finished, status_of, open_word, marked
 use Rattle.ist_core.specs.Pieces.{Inner, with_status}
 use Rattle.ist_core.specs.StartLayout.{start}
 use Rattle.ist_core.specs.Marking.{IsCalled}
+use Rattle.ist_core.specs.Snapshots.{Snapshot}
 use Rattle.ist_core.specs.Rebuilding.{IsFinishedWith}
 use Rattle.ist_core.specs.Lawful.{EachEnabled, state_of}
 use Rattle.ist_core.proofs.FateLemmas.{grow_between}
@@ -23,11 +24,11 @@ use Rattle.ist_rule.specs.Conditions.{CanMake, IsKnown, CanExchange}
 use Rattle.ist_rule.specs.Watching.{number_of}
 use Rattle.ist_rule.proofs.LaterLemmas.{later-goes_on}
 use Rattle.ist_dcss.proofs.FieldLemmas.{looked_row}
-use Rattle.ist_coming.specs.Coming.{IsGone}
+use Rattle.laws_coming.specs.Coming.{IsGone}
 use Rattle.ist_rule.specs.Going.{WentOn}
-use Rattle.ist_coming.proofs.ComingLemmas.{exchange_comes}
+use Rattle.laws_coming.proofs.ComingLemmas.{exchange_comes}
 use Rattle.ist_rule.proofs.WentOnLemmas.{logged_went, looked_went, went_who}
-use Rattle.ist_coming.proofs.KnownLemmas.{in_piece, fast_known, gone_missed, open_gone}
+use Rattle.laws_coming.proofs.KnownLemmas.{in_piece, fast_known, gone_missed, open_gone}
 use Rattle.ist_mark.specs.Marking.{MayMark, the_node, Marks}
 use Rattle.ist_mark.specs.Naming.{marking}
 use Rattle.ist_mark.specs.Passing.{IsClosed, MayPass}
@@ -79,18 +80,25 @@ pub marking_is : (v : View) (number node place : ℕ) → v.who ≡ Caller numbe
     → marking v place ≡ Mark number node
 marking_is v number node place who at = ap₂ Mark (ap number_of who) at
 
--- ---- what it tells
+-- ---- what is known after it
 
--- what is known of the node behind a mark, or a try to mark it
+-- what is known of the node after a mark, or a try to mark it
 pub record MarkTells (v w : View) (node found : ℕ) : Type 0 where
   pub went : WentOn (Marks w node) v w
   pub closed : IsClosed (now w) node
   pub finished : (k : ℕ) → status_of found ≡ Some (Finished k) → IsFinishedWith (now w) node k
 
+-- the word of a finished status isn't an open status's word
+not_open : (word k : ℕ) → status_of word ≡ Some (Finished k) → word ≢ open_word
+not_open word k e is = clash (sym (ap status_of is ∙ status_of-open) ∙ e)
+  where
+    clash : Some Open ≡ Some (Finished k) → ⊥
+    clash e = cc
+
 module _ (v : View) (number node place found : ℕ) (w : View) (row : InnerRow)
     (published : (now v).pieces node ≡ Some (Inner row)) (at : place ≡ node + inner_status_offset)
   where
-    -- behind a Mark the node is marked
+    -- after a Mark the node is marked
     mark_hit : Logged v (Mark number node) w → found ≡ open_word → MarkTells v w node found
     mark_hit l is =
         let b = state_of v.start v.words l.before in
@@ -108,13 +116,10 @@ module _ (v : View) (number node place found : ℕ) (w : View) (row : InnerRow)
             published = here;
             closed = λ e. omega arith;
           };
-          finished = λ k e. absurd (clash (sym (ap status_of is ∙ status_of-open) ∙ e));
+          finished = λ k e. absurd (not_open found k e is);
         }
-      where
-        clash : {k : ℕ} → Some Open ≡ Some (Finished k) → ⊥
-        clash e = cc
 
-    -- and where another word was found, it is the status of a node that isn't open
+    -- and if another word was found, it is the status of a node that isn't open
     mark_miss : Looked v place found w → found ≢ open_word → MarkTells v w node found
     mark_miss l other =
         let went = looked_went (Marks w node) v place found w l in
@@ -137,7 +142,7 @@ module _ (v : View) (number node place found : ℕ) (w : View) (row : InnerRow)
         ⊎_elim (λ hit. mark_hit (x.0 hit.1) hit.1) (λ miss. mark_miss (x.1 miss.1) miss.1)
         (eqb_tells found open_word)
 
--- a load of the degree tells how many slots may be passed
+-- a load of the degree gives the number of slots that may be passed
 pub degree_tells : (v : View) (place degree : ℕ) (w : View) → Looked v place degree w → (node : ℕ)
     → MayMark v node → IsClosed (now v) node → place ≡ node + 2 → MayPass w node degree
 degree_tells v place degree w l node m c at =
@@ -175,7 +180,15 @@ may_mark v s node m place old new at old_is new_is =
     (sym (marking_is v m.number node place m.mine base))
     (can_mark v s m.number node m.mine it.0 it.1 place at m.called)))
 
--- and tells so much
+-- after a load that finds a finished status, as much is known as after a try to mark the node
+pub finished_told : (v : View) → IsSound v → (node : ℕ) → MayMark v node → (place word k : ℕ) (w : View)
+    → place ≡ node + inner_status_offset → Looked v place word w → status_of word ≡ Some (Finished k)
+    → MarkTells v w node word
+finished_told v s node m place word k w at l is =
+    let it = mark_row v s node m in
+    mark_miss v m.number node place word w it.0 it.1 at l (not_open word k is)
+
+-- and this is known after the exchange
 pub mark_told : (v : View) → IsSound v → (node : ℕ) → MayMark v node → (place old found : ℕ)
     → (w : View) → place ≡ node + inner_status_offset → old ≡ open_word
     → Exchanged v (marking v place) place old found w → MarkTells v w node found
@@ -186,3 +199,12 @@ mark_told v s node m place old found w at old_is x =
     (subst (λ (e : Event). Exchanged v e place open_word found w)
     (marking_is v m.number node place m.mine base)
     (subst (λ n. Exchanged v (marking v place) place n found w) old_is x))
+
+-- a finished node isn't open
+pub finished_closed : (t : Snapshot) (node k : ℕ) → IsFinishedWith t node k → IsClosed t node
+finished_closed t node k f =
+    record {
+      row = f.row;
+      published = f.published;
+      closed = λ e. let is = f.status in omega arith;
+    }

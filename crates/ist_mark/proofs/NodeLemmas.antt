@@ -16,11 +16,11 @@ use Rattle.ist_core.specs.Lawful.{EachEnabled, CanOpen, state_of}
 use Rattle.ist_core.proofs.NamingLemmas.{InnerHere, SlotNames, SideNames, side_grows}
 use Rattle.ist_core.proofs.OrderLemmas.{names}
 use Rattle.ist_core.proofs.ReferenceLemmas.{word_of-ref_of}
-use Rattle.ist_links.proofs.ComesLemmas.{status_comes}
-use Rattle.ist_links.proofs.InductionLemmas.{grow_behind}
-use Rattle.ist_links.proofs.OriginLemmas.{StatusComes, status_was, is_new, marked_now, finished_now}
-use Rattle.ist_links.proofs.PassLemmas.{passing}
-use Rattle.ist_links.proofs.QuietLemmas.{start_quiet}
+use Rattle.laws_links.proofs.ComesLemmas.{status_comes}
+use Rattle.laws_links.proofs.InductionLemmas.{grow_behind}
+use Rattle.laws_links.proofs.OriginLemmas.{StatusComes, status_was, is_new, marked_now, finished_now}
+use Rattle.laws_links.proofs.PassLemmas.{passing}
+use Rattle.laws_links.proofs.QuietLemmas.{start_quiet}
 
 -- ---- statuses
 

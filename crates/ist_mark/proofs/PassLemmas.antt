@@ -1,4 +1,4 @@
--- Passing a slot: what a load of it tells. Serves `look` and `pass`.
+-- Passing a slot: what is known after a load of it. Serves `look` and `pass`.
 use Rattle.std.proofs.Common.{◌≡◌, ◌≢◌, ℕ, ◌+◌, ◌*◌, ◌<◌, ◌&&◌, ◌==◌, not, Bool, true, false, if◌then◌else◌, List, length, get_or, Option, Some, None, refl, sym, ap, ◌∙◌, subst, inl, ⊎_elim, length-append, arith}
 use Rattle.std.proofs.lemmas.Option.{slice_get-get_or}
 use Rattle.ist_core.specs.declared.events.Event.{Event}
@@ -21,11 +21,11 @@ use Rattle.ist_core.proofs.FrozenLemmas.{closed}
 use Rattle.ist_core.proofs.NamingLemmas.{slot_names, SlotNames}
 use Rattle.ist_core.proofs.OrderLemmas.{names}
 use Rattle.ist_core.proofs.PlaceLemmas.{anchor_free}
-use Rattle.ist_core.proofs.ReferenceLemmas.{ref_of-unset}
+use Rattle.ist_core.proofs.ReferenceLemmas.{ref_of-unset, word_of-ref_of}
 use Rattle.ist_core.proofs.RoomLemmas.{published_good, ref_of-change}
 use Rattle.ist_core.proofs.ShapedLemmas.{shaped}
 use Rattle.ist_core.proofs.SlotLemmas.{slot_once}
-use Rattle.ist_links.proofs.FinishedLemmas.{finished_slot}
+use Rattle.laws_links.proofs.FinishedLemmas.{finished_slot}
 use Rattle.ist_rule.specs.declared.view.View.{View}
 use Rattle.ist_core.specs.Shown.{IsShown}
 use Rattle.ist_rule.specs.Rule.{IsSound}
@@ -40,9 +40,10 @@ use Rattle.ist_mark.specs.Marking.{the_node, Marks}
 use Rattle.ist_mark.specs.Passing.{MayPass, IsMetAt, IsNoChange}
 use Rattle.ist_mark.proofs.KeepingLemmas.{may_pass_went}
 use Rattle.ist_mark.proofs.NodeLemmas.{closed_status}
-use Rattle.ist_links.proofs.ClosedLemmas.{closed_was_linked}
-use Rattle.ist_links.proofs.LinkLemmas.{linked_or_finished}
-use Rattle.ist_rebuilds.proofs.ContentLemmas.{linked_set}
+use Rattle.laws_links.proofs.ClosedLemmas.{closed_was_linked}
+use Rattle.laws_links.proofs.LinkLemmas.{linked_or_finished}
+use Rattle.laws_links.proofs.ResolvedLemmas.{resolved_gone}
+use Rattle.laws_rebuilds.proofs.ContentLemmas.{linked_set}
 use Rattle.ist_rule.proofs.WatchLemmas.{place_inner}
 use Rattle.ist_rule.proofs.WentOnLemmas.{went_now}
 
@@ -95,9 +96,9 @@ module _ (pairs : List Pair) (words : ℕ) (opens : CanOpen pairs words) (log : 
           → a ≡ b
       same_row a b e f = cc
 
--- ---- what a load tells
+-- ---- what is known after a load
 
--- where a test names an event and it is named none, the test fails
+-- if a test would name an event and none is named, the test fails
 not_named : {A : Type 0} (b : Bool) (x : A) → (if b then Some x else None) ≡ None → b ≡ false
 not_named true x e = absurd (cc)
 not_named false x e = refl
@@ -119,6 +120,7 @@ unset_by_test true false false e f g = absurd (cc)
 unset_by_test true true c e f g = absurd (cc)
 unset_by_test false b c e f g = absurd (cc)
 
+-- what is known of a slot after a load of it
 pub record LookTells (v w : View) (node i word : ℕ) : Type 0 where
   pub went : WentOn (Marks w node) v w
   pub change : (change : ℕ) → ref_of word ≡ Some (ChangeAt change) → IsMetAt w node change
@@ -147,7 +149,7 @@ module _ (v : View) (node degree i place word : ℕ) (m : MayPass v node degree)
             (sym (ap (λ (x : View). x.log) logged.view)) (inl (refl, refl, refl));
       }
 
-  -- one that is none met a change, or came behind a Pass of another
+  -- a load that isn't a Pass met a change, or came after another Pass
   passed_before : Looked v place word w → pass_of v node i w.log word ≡ None
       → LookTells v w node i word
   passed_before l none =
@@ -166,6 +168,10 @@ module _ (v : View) (node degree i place word : ℕ) (m : MayPass v node degree)
                 installed = named.published;
               };
               node_is = named.node_is;
+              unresolved = λ before.
+                  resolved_gone w.start w.words l.sound.lawful.opens w.log enabled c before node i
+                  (subst (SlotHolds (now w) node i)
+                  (sym (word_of-ref_of word (ChangeAt c) e).same_word) holds);
             };
         frozen = λ plain.
             ⊎_elim

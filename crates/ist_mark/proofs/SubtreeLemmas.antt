@@ -1,10 +1,10 @@
 -- The rows of a subtree, and steps of marking it, as seats go on. Serves each function.
-use Rattle.std.proofs.Common.{◌≡◌, ℕ, refl, sym, ap, ◌∙◌, subst}
+use Rattle.std.proofs.Common.{◌≡◌, ℕ, sym, ap, ◌∙◌, subst}
 use Rattle.ist_core.specs.declared.events.Event.{Event}
 use Rattle.ist_core.specs.declared.events.Event.TheVariants.{Enter, Reserve, Install, Okay, Decide, Resolve, Count, Mark, Pass, Finish, Root, Draw, Place, Lose}
 use Rattle.ist_core.specs.Logs.{Log, Passes}
 use Rattle.ist_core.specs.Snapshots.{Snapshot}
-use Rattle.ist_links.proofs.FinishedLemmas.{target_grows}
+use Rattle.laws_links.proofs.FinishedLemmas.{target_grows}
 use Rattle.ist_rule.specs.declared.view.View.{View}
 use Rattle.ist_rule.specs.Learning.{now}
 use Rattle.ist_rule.specs.Going.{WentOn}
@@ -25,7 +25,7 @@ leads_later v w g word row (to_row is) = to_row is
 leads_later {P = P} v w g word row (to_target rebuild is h) =
     to_target rebuild is (target_grows (now v) (now w) (went_grow P v w g) rebuild row h)
 
--- a row of a subtree is one still
+-- a row of a subtree stays a row of it
 pub under_later : {P : Event → Type 0} (v w : View) → WentOn P v w → (node row : ℕ)
     → LiesUnder (now v) v.log node row → LiesUnder (now w) w.log node row
 under_later v w g node _ the_node = the_node
@@ -40,7 +40,7 @@ under_lower t log node child _ top the_node = top
 under_lower t log node child _ top (one_lower {above = above} i word under p leads) =
     one_lower i word (under_lower t log node child above top under) p leads
 
--- a change on a slot of it is one still
+-- a change on a slot of it stays such a change
 on_later : {P : Event → Type 0} (v w : View) → WentOn P v w → (node base : ℕ)
     → IsOnSubtree v node base → IsOnSubtree w node base
 on_later {P = P} v w g node base s =
@@ -63,7 +63,7 @@ on_lower v node child base top s =
 
 -- ---- steps of marking
 
--- what was a step of marking a subtree is one, as it is known later
+-- a step of marking a subtree stays one in a later view
 marks_later : {P : Event → Type 0} (v w : View) → WentOn P v w → (node : ℕ) (event : Event)
     → Marks v node event → Marks w node event
 marks_later v w g node (Okay caller base) is = on_later v w g node base is
@@ -81,7 +81,7 @@ marks_later v w g node (Draw caller rebuild part) is = absurd is
 marks_later v w g node (Place caller rebuild i word rows) is = absurd is
 marks_later v w g node (Lose caller bases) is = absurd is
 
--- a step of marking what hangs below the node is one of marking the node's subtree
+-- a step of marking what hangs below the node is a step of marking the node's subtree
 marks_lower : (v : View) (node child : ℕ) → LiesUnder (now v) v.log node child → (event : Event)
     → Marks v child event → Marks v node event
 marks_lower v node child top (Okay caller base) is = on_lower v node child base top is

@@ -12,8 +12,8 @@ use Rattle.ist_rule.specs.declared.view.View.{View}
 use Rattle.ist_core.specs.declared.events.Who.TheVariants.{Caller}
 use Rattle.ist_rule.specs.Learning.{now}
 
--- a caller may mark a node where its log has a cause: the node is the target of a started rebuild,
--- or hangs in a slot that was passed
+-- a caller may mark a node if its log has a cause: the node is the target of a started rebuild, or
+-- hangs in a slot that was passed
 pub record MayMark (v : View) (node : ℕ) : Type 0 where
   pub number : ℕ
   pub mine : v.who ≡ Caller number
@@ -21,14 +21,14 @@ pub record MayMark (v : View) (node : ℕ) : Type 0 where
 
 -- ---- the rows of a subtree
 
--- the passed word leads to the inner row: it is that of the row, or of a rebuild of it
+-- the passed word leads to the inner row: it names the row, or a rebuild of it
 pub data LeadsTo (t : Snapshot) (word child : ℕ) : Type 0 where
   to_row : ref_of word ≡ Some (InnerAt child) → LeadsTo t word child
   to_target : (rebuild : ℕ) → ref_of word ≡ Some (RebuildAt rebuild) → HasTarget t rebuild child
       → LeadsTo t word child
 
--- the row is the node, or hangs below it: a slot of a row that does so was passed, with a word that
--- leads to it. A passed slot reads as this word from then on
+-- the row is the node, or hangs below it: a slot of such a row was passed, with a word that leads to
+-- the row. A passed slot reads as this word from then on
 pub data LiesUnder (t : Snapshot) (log : Log) (node : ℕ) : ℕ → Type 0 where
   the_node : LiesUnder t log node node
   one_lower : {above row : ℕ} (i word : ℕ) → LiesUnder t log node above → IsFrozen log above i word

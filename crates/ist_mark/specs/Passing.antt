@@ -6,7 +6,7 @@ use Rattle.ist_core.specs.References.{ChangeAt, ref_of}
 use Rattle.ist_core.specs.Statuses.{open_word}
 use Rattle.ist_core.specs.Pieces.{Inner, Rebuild}
 use Rattle.ist_core.specs.Snapshots.{Snapshot}
-use Rattle.ist_core.specs.Logs.{Log}
+use Rattle.ist_core.specs.Logs.{Happened, Log, Resolves}
 use Rattle.ist_core.specs.Marking.{IsCalled, IsFrozen, CountsFor}
 use Rattle.ist_rule.specs.declared.view.View.{View}
 use Rattle.ist_core.specs.declared.events.Who.TheVariants.{Caller}
@@ -22,7 +22,7 @@ pub record IsClosed (t : Snapshot) (node : ℕ) : Type 0 where
   pub published : t.pieces node ≡ Some (Inner row)
   pub closed : row.status ≢ open_word
 
--- a caller may pass the slots of a node that isn't open, of which there are so many
+-- a caller may pass the slots of a node that isn't open and has `degree` slots
 pub record MayPass (v : View) (node degree : ℕ) : Type 0 where
   pub number : ℕ
   pub mine : v.who ≡ Caller number
@@ -31,7 +31,7 @@ pub record MayPass (v : View) (node degree : ℕ) : Type 0 where
   pub closed : row.status ≢ open_word
   pub degree_is : row.degree ≡ degree
 
--- the word is that of no change
+-- the word names no change
 abbrev pub IsNoChange : ℕ → Type 0
 IsNoChange word = (change : ℕ) → ref_of word ≢ Some (ChangeAt change)
 
@@ -40,10 +40,11 @@ pub record IsRebuildRow (t : Snapshot) (base : ℕ) : Type 0 where
   pub row : RebuildRow
   pub published : t.pieces base ≡ Some (Rebuild row)
 
--- a caller may help a change, which is on a slot of the node
+-- a caller may help a change, which is on a slot of the node and isn't resolved
 pub record IsMetAt (v : View) (node change : ℕ) : Type 0 where
   pub may_help : MayHelp v change
   pub node_is : may_help.row.node ≡ node
+  pub unresolved : ¬ (Happened (Resolves change) v.log)
 
 -- ---- what hangs below a slot
 
@@ -54,7 +55,7 @@ pub record HangsBelow (v : View) (node word child : ℕ) : Type 0 where
   pub called : IsCalled (now v) v.log child
   pub leads : LeadsTo (now v) word child
 
--- what hangs below the node by the word: so many keys without an inner row, or an inner row
+-- what hangs below the node by the word: a number of keys without an inner row, or an inner row
 abbrev pub IsBelow : View → ℕ → ℕ → Below → Type 0
 IsBelow v node word (Keys keys) = CountsFor (now v) (ref_of word) keys
 IsBelow v node word (Node child) = HangsBelow v node word child
@@ -65,19 +66,20 @@ pub record PassedWith (v : View) (node i : ℕ) (below : Below) : Type 0 where
   pub frozen : IsFrozen v.log node i word
   pub is : IsBelow v node word below
 
--- slot i of the node was passed, with a word that counts for so many keys
+-- slot i of the node was passed, with a word that counts for `keys` keys
 pub record IsCounted (v : View) (node i keys : ℕ) : Type 0 where
   pub word : ℕ
   pub frozen : IsFrozen v.log node i word
   pub counts : CountsFor (now v) (ref_of word) keys
 
--- the first slots of the node, so many, were passed with words that count for so many keys in all
+-- the first i slots of the node were passed, with words that count for k keys in all
 pub data AreCounted (t : Snapshot) (log : Log) (node : ℕ) : ℕ → ℕ → Type 0 where
   no_slot_yet : AreCounted t log node 0 0
   one_slot_more : {i k here : ℕ} (word : ℕ) → AreCounted t log node i k → IsFrozen log node i word
       → CountsFor t (ref_of word) here → AreCounted t log node (i + 1) (k + here)
 
--- a caller may finish a node that isn't open with so many keys: all its slots were passed
+-- a caller may finish a node that isn't open with `keys` keys: all its slots were passed, with words
+-- that count for that many in all
 pub record MayFinish (v : View) (node keys : ℕ) : Type 0 where
   pub number : ℕ
   pub mine : v.who ≡ Caller number

@@ -3,7 +3,7 @@
 /// What hangs below a slot that was passed.
 #[derive(Clone, Copy, Debug, PartialEq, Eq, Drop)]
 pub(crate) enum Below {
-    /// So many keys, and no inner row.
+    /// This many keys, and no inner row.
     Keys(u64),
     /// An inner row.
     Node(u32),

@@ -10,18 +10,10 @@ use crate::below::Below;
 use crate::passing::pass_slot;
 use crate::statuses::{degree_of, finish, mark};
 use ist_rule::{TreeSeat, TreeTable, know};
-use std::sync::Wait;
 
-// Passes a slot of the node, marks what hangs below it, and answers how many keys that has.
+// Passes a slot of the node, marks what hangs below it, and returns how many keys that has.
 #[cycle(marking)]
-fn count_slot<R: Wait>(
-    table: &TreeTable,
-    rt: &R,
-    seat: &mut TreeSeat,
-    node: u32,
-    degree: u64,
-    index: u64,
-) -> u64
+fn count_slot(table: &TreeTable, seat: &mut TreeSeat, node: u32, degree: u64, index: u64) -> u64
     requires same_table { seat.old.table ≡ table.now.table }
     requires may_pass { MayPass seat.old.view node degree }
     requires within { index < degree }
@@ -30,20 +22,20 @@ fn count_slot<R: Wait>(
     ensures search { KeepsSearch seat.old.view seat.new.view }
     ensures counted { IsCounted seat.new.view node index result }
 {
-    match pass_slot(table, rt, seat, node, degree, index) {
+    match pass_slot(table, seat, node, degree, index) {
         Below::Keys(keys) => keys,
-        Below::Node(child) => mark_and_count(table, rt, seat, child),
+        Below::Node(child) => mark_and_count(table, seat, child),
     }
 }
 
-/// Marks each row of the subtree below the node, from the node on, until all are finished, and
-/// answers the number of keys.
+/// Marks the node and each inner row below it, until all are finished, and returns the number of
+/// keys.
 ///
-/// No update of a slot of the subtree takes effect from then on. Each change that stands in one is
-/// helped first, and what it leaves is what is counted. Several callers may mark one subtree, and
-/// answer the same. Retries while others install changes.
+/// No later update of a slot of the subtree takes effect. Each change found in a slot is helped first,
+/// and what it leaves is counted. Several callers may mark one subtree at the same time, and all
+/// return the same number. Helps what others install there, and always returns.
 #[cycle(marking)]
-pub fn mark_and_count<R: Wait>(table: &TreeTable, rt: &R, seat: &mut TreeSeat, node: u32) -> u64
+pub fn mark_and_count(table: &TreeTable, seat: &mut TreeSeat, node: u32) -> u64
     requires same_table { seat.old.table ≡ table.now.table }
     requires may_mark { MayMark seat.old.view node }
     ensures same_table { seat.new.table ≡ seat.old.table }
@@ -58,7 +50,7 @@ pub fn mark_and_count<R: Wait>(table: &TreeTable, rt: &R, seat: &mut TreeSeat, n
     know(seat);
     let mut keys = 0;
     for index in 0..degree {
-        keys += count_slot(table, rt, seat, node, degree, index);
+        keys += count_slot(table, seat, node, degree, index);
     }
     finish(table, seat, node, keys);
     keys

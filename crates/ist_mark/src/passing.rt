@@ -1,4 +1,4 @@
-//! Passing the slots of a node that isn't open, behind the changes that stand in them.
+//! Passing the slots of a node that isn't open, after helping the changes in them.
 ghost use Rattle.std.specs.Prelude.{◌≡◌, ℕ, ◌<◌, None, Some};
 ghost use Rattle.ist_core.specs.References.{ref_of, ChangeAt};
 ghost use Rattle.ist_core.specs.Marking.{HasTarget, IsFrozen};
@@ -11,9 +11,8 @@ use crate::below::Below;
 use ist_dcss::help;
 use ist_layout::{REBUILD_TARGET_OFFSET, Ref, slot_place};
 use ist_rule::{TreeSeat, TreeTable, know, load, load_pass};
-use std::sync::Wait;
 
-// The change whose word this is, if it is one's.
+// Returns the change that the word names, if it names one.
 fn change_in(word: u64) -> Option<u32>
     ensures change { (change : ℕ) → result ≡ Some change → ref_of word ≡ Some (ChangeAt change) }
     ensures no_change { result ≡ None → IsNoChange word }
@@ -24,7 +23,8 @@ fn change_in(word: u64) -> Option<u32>
     }
 }
 
-// Loads a slot of the node. It is passed then, unless the word is that of a change.
+// Loads a slot of the node and returns its word. The slot is then passed, unless the word is a
+// change's.
 fn look(table: &TreeTable, seat: &mut TreeSeat, node: u32, degree: u64, index: u64) -> u64
     requires same_table { seat.old.table ≡ table.now.table }
     requires may_pass { MayPass seat.old.view node degree }
@@ -38,20 +38,14 @@ fn look(table: &TreeTable, seat: &mut TreeSeat, node: u32, degree: u64, index: u
 {
     know(seat);
     let place = slot_place(node, degree, index);
-    // Pass, where the node is marked and the word is no change's: else a load. Meets an install in the
+    // Pass, if the node is marked and the word isn't a change's: else a load. Meets an install in the
     // slot, and another's finish of the node.
     load_pass(table, seat, node, index, place)
 }
 
-// Passes a slot of the node, and answers its word. Helps each change that it meets there.
-fn pass<R: Wait>(
-    table: &TreeTable,
-    rt: &R,
-    seat: &mut TreeSeat,
-    node: u32,
-    degree: u64,
-    index: u64,
-) -> u64
+// Passes a slot of the node, and returns its word. Helps each change that it meets there. Helping
+// resolves the change, so that there are few.
+fn pass(table: &TreeTable, seat: &mut TreeSeat, node: u32, degree: u64, index: u64) -> u64
     requires same_table { seat.old.table ≡ table.now.table }
     requires may_pass { MayPass seat.old.view node degree }
     requires within { index < degree }
@@ -61,17 +55,16 @@ fn pass<R: Wait>(
     ensures frozen { IsFrozen seat.new.view.log node index result }
 {
     know(seat);
-    for _ in rt.forever() {
+    'turns: loop {
         let word = look(table, seat, node, degree, index);
         match change_in(word) {
             Some(change) => help(table, seat, change),
             None => return word,
         };
     }
-    unreachable!()
 }
 
-// The node that is rebuilt.
+// Returns the node that is rebuilt.
 fn target_of(table: &TreeTable, seat: &mut TreeSeat, rebuild: u32) -> u32
     requires same_table { seat.old.table ≡ table.now.table }
     requires published { IsRebuildRow (now seat.old.view) rebuild }
@@ -83,10 +76,9 @@ fn target_of(table: &TreeTable, seat: &mut TreeSeat, rebuild: u32) -> u32
     load(table, seat, u64::from(rebuild) + REBUILD_TARGET_OFFSET) as u32
 }
 
-/// Passes a slot of the node, and answers what hangs below it.
-pub(crate) fn pass_slot<R: Wait>(
+/// Passes a slot of the node, and returns what hangs below it.
+pub(crate) fn pass_slot(
     table: &TreeTable,
-    rt: &R,
     seat: &mut TreeSeat,
     node: u32,
     degree: u64,
@@ -100,7 +92,7 @@ pub(crate) fn pass_slot<R: Wait>(
     ensures search { KeepsSearch seat.old.view seat.new.view }
     ensures passed { PassedWith seat.new.view node index result }
 {
-    let word = pass(table, rt, seat, node, degree, index);
+    let word = pass(table, seat, node, degree, index);
     know(seat);
     match Ref::from_word(word) {
         Some(Ref::Inner { base }) => Below::Node(base),

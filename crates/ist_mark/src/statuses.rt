@@ -1,8 +1,8 @@
 //! The status of a node, from open to marked to finished.
-ghost use Rattle.std.specs.Prelude.{◌≡◌, ℕ, None, Some};
+ghost use Rattle.std.specs.Prelude.{◌≡◌, ◌+◌, ◌<◌, ℕ, None, Some};
 ghost use Rattle.ist_core.specs.Statuses.{status_of, Finished};
 ghost use Rattle.ist_core.specs.Rebuilding.{IsFinishedWith};
-ghost use Rattle.ist_rule.specs.Learning.{now, GoesOnTo};
+ghost use Rattle.ist_rule.specs.Learning.{now, GoesOnTo, Looked};
 ghost use Rattle.ist_rule.specs.Going.{WentOn, KeepsSearch};
 ghost use Rattle.ist_mark.specs.Marking.{MayMark, Marks};
 ghost use Rattle.ist_mark.specs.Passing.{IsClosed, MayPass, MayFinish};
@@ -10,7 +10,7 @@ ghost use Rattle.ist_mark.specs.Passing.{IsClosed, MayPass, MayFinish};
 use ist_layout::{INNER_DEGREE_OFFSET, INNER_STATUS_OFFSET, Status};
 use ist_rule::{TreeSeat, TreeTable, exchange, know, load};
 
-// The number of keys of a node with this status, if it is finished.
+// Returns the number of keys of a node with this status, if it is finished.
 fn keys_of(status: u64) -> Option<u64>
     ensures finished { (k : ℕ) → result ≡ Some k → status_of status ≡ Some (Finished k) }
 {
@@ -20,8 +20,34 @@ fn keys_of(status: u64) -> Option<u64>
     }
 }
 
-// Marks the node if it is open, and answers its number of keys if it is finished.
-pub(crate) fn mark(table: &TreeTable, seat: &mut TreeSeat, node: u32) -> Option<u64>
+// Loads one of the first three words of a row that may be marked: its status, its count or its degree.
+pub(crate) fn own_word(table: &TreeTable, seat: &mut TreeSeat, node: u32, offset: u64) -> u64
+    requires same_table { seat.old.table ≡ table.now.table }
+    requires may_mark { MayMark seat.old.view node }
+    requires first { offset < 3 }
+    ensures same_table { seat.new.table ≡ seat.old.table }
+    ensures looked { Looked seat.old.view (node + offset) result seat.new.view }
+{
+    know(seat);
+    // No event.
+    load(table, seat, u64::from(node) + offset)
+}
+
+// Returns the number of keys of the node, if it is finished.
+fn finished_keys(table: &TreeTable, seat: &mut TreeSeat, node: u32) -> Option<u64>
+    requires same_table { seat.old.table ≡ table.now.table }
+    requires may_mark { MayMark seat.old.view node }
+    ensures same_table { seat.new.table ≡ seat.old.table }
+    ensures seen { GoesOnTo seat.old.view seat.new.view }
+    ensures finished { (k : ℕ) → result ≡ Some k → IsFinishedWith (now seat.new.view) node k }
+{
+    know(seat);
+    let status = own_word(table, seat, node, INNER_STATUS_OFFSET);
+    keys_of(status)
+}
+
+// Marks the node if it is open, and returns its number of keys if it is finished.
+fn mark_open(table: &TreeTable, seat: &mut TreeSeat, node: u32) -> Option<u64>
     requires same_table { seat.old.table ≡ table.now.table }
     requires may_mark { MayMark seat.old.view node }
     ensures same_table { seat.new.table ≡ seat.old.table }
@@ -42,7 +68,24 @@ pub(crate) fn mark(table: &TreeTable, seat: &mut TreeSeat, node: u32) -> Option<
     keys_of(stood)
 }
 
-// How many slots the node has.
+// Marks the node if it is open, and returns its number of keys if it is finished. A caller that comes late
+// finds it finished by a load, and so takes the cache line of its status from nobody.
+pub(crate) fn mark(table: &TreeTable, seat: &mut TreeSeat, node: u32) -> Option<u64>
+    requires same_table { seat.old.table ≡ table.now.table }
+    requires may_mark { MayMark seat.old.view node }
+    ensures same_table { seat.new.table ≡ seat.old.table }
+    ensures went { WentOn (Marks seat.new.view node) seat.old.view seat.new.view }
+    ensures search { KeepsSearch seat.old.view seat.new.view }
+    ensures closed { IsClosed (now seat.new.view) node }
+    ensures finished { (k : ℕ) → result ≡ Some k → IsFinishedWith (now seat.new.view) node k }
+{
+    match finished_keys(table, seat, node) {
+        Some(keys) => Some(keys),
+        None => mark_open(table, seat, node),
+    }
+}
+
+// Returns the number of slots of the node.
 pub(crate) fn degree_of(table: &TreeTable, seat: &mut TreeSeat, node: u32) -> u64
     requires same_table { seat.old.table ≡ table.now.table }
     requires may_mark { MayMark seat.old.view node }
@@ -51,8 +94,7 @@ pub(crate) fn degree_of(table: &TreeTable, seat: &mut TreeSeat, node: u32) -> u6
     ensures seen { GoesOnTo seat.old.view seat.new.view }
     ensures degree { MayPass seat.new.view node result }
 {
-    know(seat);
-    load(table, seat, u64::from(node) + INNER_DEGREE_OFFSET)
+    own_word(table, seat, node, INNER_DEGREE_OFFSET)
 }
 
 // Finishes the node, all of whose slots were passed, with this number of keys.

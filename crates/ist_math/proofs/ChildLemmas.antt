@@ -1,4 +1,4 @@
--- The child of a key, found at the place where the keys turn from at most x to above x.
+-- The child of a key, found at the place where the keys change from at most x to above x.
 use Rattle.std.proofs.Common.{
   ◌≡◌,
   ℕ,
@@ -68,7 +68,7 @@ first-lt-last keys rises h =
     let rest = keys_rise keys (0 + 1) (length keys - 1) rises (omega arith) (omega arith) in
     omega arith
 
--- where the keys before `at` are at most x and those from it on are above x, the child is `at`
+-- if the keys before `at` are at most x and the keys from it on are above x, the child is `at`
 pub child_count_is : (keys : List ℕ) (x at : ℕ) → IsStrictlyIncreasing keys → at ≤ length keys
     → (at < length keys → x < get_or keys at 0) → (0 < at → get_or keys (at - 1) 0 ≤ x)
     → child_count keys x ≡ at
@@ -103,14 +103,14 @@ child_count_is keys x at rises within above below =
             let no = count_by_more_no (λ key. nat_le key x) keys j 0 (omega arith) test in
             omega arith
 
--- a gallop from a guess has come between two keys, around the child
+-- a gallop from a guess is between two keys, around the child
 pub record HasGalloped (keys : List ℕ) (x guess : ℕ) (g : Gallop) (looks : ℕ) : Type 0 where
   pub within : g.high < length keys
   pub below : get_or keys g.low 0 ≤ x
   pub above : x < get_or keys g.high 0
   pub gallops : Gallops g guess looks
 
--- a look goes on
+-- a gallop after one more look
 pub galloped_on : (keys : List ℕ) (x guess : ℕ) (g next : Gallop) (looks at : ℕ)
     → HasGalloped keys x guess g looks → g.low < at → at < g.high
     → next.low ≡ cond (nat_lt x (get_or keys at 0)) g.low at
@@ -149,7 +149,7 @@ galloped_on keys x guess g next looks at h up down =
               gallops;
         }
 
--- its end is the child
+-- the end of a gallop is the child
 pub galloped_to : (keys : List ℕ) (x guess : ℕ) (g : Gallop) (looks : ℕ)
     → IsStrictlyIncreasing keys → HasGalloped keys x guess g looks → g.low + 1 ≡ g.high
     → child_count keys x ≡ g.high
@@ -166,6 +166,7 @@ pub child_is_first : (keys : List ℕ) (x : ℕ) → IsStrictlyIncreasing keys �
 child_is_first keys x rises above =
     child_count_is keys x 0 rises (omega arith) (λ _. above) (λ none. absurd (omega arith))
 
+-- if the last key is at most x, the child is the last one
 pub child_is_last : (keys : List ℕ) (x : ℕ) → IsStrictlyIncreasing keys
     → get_or keys (length keys - 1) 0 ≤ x → child_count keys x ≡ length keys
 child_is_last keys x rises below =

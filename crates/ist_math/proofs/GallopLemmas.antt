@@ -14,7 +14,7 @@ use Rattle.ist_math.specs.Gallops.{width, probe_of, next_step_of, least_distance
 abbrev pub gallop : ℕ → ℕ → ℕ → Bool → Gallop
 gallop low high step down = record { low = low; high = high; step = step; down = down }
 
--- the side doesn't change where the two keys come nearer
+-- the side doesn't change as the two keys come nearer
 side_stays : (low high step nearer above next guess : ℕ) (down : Bool) → low ≤ nearer → above ≤ high
     → IsOnSide (gallop low high step down) guess → IsOnSide (gallop nearer above next down) guess
 side_stays low high step nearer above next guess true h l s = omega arith
@@ -188,7 +188,7 @@ module _ (g : Gallop) (guess looks : ℕ) (h : Gallops g guess looks) (between :
       subst (λ n. Gallops (gallop g.low n step g.down) guess (suc looks)) (sym e)
       (subst (λ n. Gallops (gallop g.low (probe_of g) n g.down) guess (suc looks)) (sym f) told_above)
 
-  -- or it isn't
+  -- what a look shows: the key at the probe is at most the one that is sought
   pub goes_below : (at step : ℕ) → at ≡ probe_of g → step ≡ next_step_of g (not g.down)
       → Gallops (gallop at g.high step g.down) guess (suc looks)
   goes_below at step e f =
@@ -240,11 +240,13 @@ looks-far g guess looks h k less =
     let few = exponent-le h.doublings k (omega arith) in
     omega arith
 
--- both, where a gallop has come to its end
+-- a gallop that has ended made at most three looks more than the distance from its guess to the
+-- child
 pub end-near : (g : Gallop) (guess looks : ℕ) → Gallops g guess looks → g.low + 1 ≡ g.high
     → looks ≤ distance guess g.high + 3
 end-near g guess looks h e = let near = looks-near g guess looks h in omega arith
 
+-- a gallop that has ended made at most two looks for each bit of that distance, and two more
 pub end-far : (g : Gallop) (guess looks : ℕ) → Gallops g guess looks → g.low + 1 ≡ g.high → (k : ℕ)
     → distance guess g.high < 2 ^ k → looks ≤ 2 * k + 2
 end-far g guess looks h e k less = looks-far g guess looks h k (omega arith)

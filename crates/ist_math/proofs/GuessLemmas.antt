@@ -1,4 +1,4 @@
--- What the guess comes to.
+-- The value of the guess.
 use Rattle.std.proofs.Common.{
   ◌≡◌,
   ℕ,
@@ -39,7 +39,7 @@ guess_of-le first last m x h = at (nat_lt x first) (nat_le last x) refl refl
         let l : x < last = grind (arith, nat_tests) in
         let k = share-le (x - first) (last - first) (m - 1) (omega arith) in omega arith
 
--- a share of k is less than k, where the part is less than the whole
+-- a share of k is less than k, if the part is less than the whole
 share-lt : (part whole k : ℕ) → part < whole → 0 < k → part * k / whole < k
 share-lt part whole k h some =
     let less = mul-lt-mul_of_pos_right h some in

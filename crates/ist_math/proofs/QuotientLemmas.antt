@@ -12,7 +12,7 @@ use Rattle.std.proofs.Math.Nat.{
 }
 use Rattle.std.specs.Int.Count.{count_leading_zeros}
 
--- so many bits are shifted away for a number to have 64 bits, but the last
+-- how many bits must be shifted away until a number has 64 bits, less one
 abbrev pub shift_of : ℕ → ℕ
 shift_of rest = 63 - count_leading_zeros 64 (rest / 2 ^ 64)
 
@@ -25,6 +25,7 @@ pub record IsFirst (rest shift : ℕ) : Type 0 where
   pub fits : first_of rest shift < 2 ^ 64
   pub high : 2 ^ 63 ≤ first_of rest shift
 
+-- the shift gives the first 64 bits
 pub first_is : (rest : ℕ) → 2 ^ 64 ≤ rest → rest < 2 ^ 128 → IsFirst rest (shift_of rest)
 first_is rest wide fits =
     let top = leading_top 64 (rest / 2 ^ 64) (omega arith) (omega arith) in
@@ -39,7 +40,7 @@ first_is rest wide fits =
           high = le-div (2 ^ 63) (rest / 2) (2 ^ j) (pow_pos j) (omega arith);
         }
 
--- the first 64 bits, by one more than the bits of the divisor that stand over them
+-- the first 64 bits, divided by one more than the divisor's bits at the same places
 abbrev pub low_quotient_of : ℕ → ℕ → ℕ → ℕ
 low_quotient_of rest divisor shift = first_of rest shift / (first_of divisor shift + 1)
 
@@ -66,7 +67,7 @@ low_quotient-le rest divisor shift =
             sym (mul_assoc q (over + 1) (2 * unit)) in
             omega arith
 
--- and not 0, since the divisor has 64 bits, and fewer stand over the first
+-- this quotient isn't 0, since the divisor has 64 bits, and fewer are at the places of the first
 pub low_quotient-pos : (rest divisor shift : ℕ) → IsFirst rest shift → divisor < 2 ^ 64
     → 1 ≤ low_quotient_of rest divisor shift
 low_quotient-pos rest divisor shift h fits =
@@ -74,7 +75,7 @@ low_quotient-pos rest divisor shift h fits =
     let high = h.high in
     le-div 1 (first_of rest shift) (first_of divisor shift + 1) (omega arith) (omega arith)
 
--- what is left goes into the divisor as often as is still wanting
+-- what is left holds the divisor as often as the quotient so far is too low
 pub rest_quotient : (product quotient divisor rest : ℕ) → 0 < divisor
     → product ≡ quotient * divisor + rest → quotient + rest / divisor ≡ product / divisor
 rest_quotient product quotient divisor rest some e =
@@ -84,7 +85,7 @@ rest_quotient product quotient divisor rest some e =
     let same = ap (λ n. n / divisor) whole in
     omega arith
 
--- as many divisors as a product has are a number of 64 bits, where the product is below so many
+-- if the product is below 2^64 divisors, the number of divisors in it has 64 bits
 pub quotient_fits : (product taken divisor : ℕ) → taken * divisor ≤ product
     → product < divisor * 2 ^ 64 → taken < 2 ^ 64
 quotient_fits product taken divisor low fits =

@@ -26,13 +26,14 @@ use Rattle.std.specs.Int.Count.{count_leading_zeros}
 abbrev pub half_bits : ℕ → ℕ
 half_bits n = (63 - count_leading_zeros 64 n) / 2
 
--- the power of so many bits is at most the root, and twice that is above it
+-- 2 to the power of `bits` is at most the root, and twice that is above it
 pub record IsAroundRoot (n bits : ℕ) : Type 0 where
   pub few : bits ≤ 15
   pub small : 2 ^ bits ≤ 2 ^ 15
   pub low : 2 ^ bits * 2 ^ bits ≤ n
   pub high : n < (2 * 2 ^ bits) * (2 * 2 ^ bits)
 
+-- half the bits of a number are around its root
 pub around_root : (n : ℕ) → 1 ≤ n → n < 2 ^ 32 → IsAroundRoot n (half_bits n)
 around_root n some fits =
     let top = leading_top 64 n (omega arith) (omega arith) in

@@ -1,4 +1,4 @@
--- Two trees of which one has one key more: their parts have the same two sizes.
+-- Two trees, one with one key more than the other: their parts have the same two sizes.
 use Rattle.std.proofs.Common.{
   ◌≡◌,
   ◌∙◌,

@@ -7,13 +7,13 @@ ghost use Rattle.ist_math.specs.Guess.{guess_of, guess_in, distance};
 use crate::gallops::Gallop;
 use crate::quotients::share_of;
 
-/// Of so many keys each is looked at, without a guess.
+/// With at most this many keys each key is looked at, without a guess.
 pub const FEW_KEYS: u64 = 4;
 
-/// How many of `m` keys are at most `x`, if they lie evenly between `first` and `last`: a guess at
-/// the child for `x`.
+/// Returns how many of `m` keys are at most `x`, if they are spread evenly between `first` and
+/// `last`: a guess at the child for `x`.
 ///
-/// It is exact for all keys, though the product may have 128 bits, and divides by 64 bits alone.
+/// It is exact for all keys, though the product may have 128 bits, and only divides by 64 bits.
 ///
 /// Source: Perl, Itai and Avni, "Interpolation search", CACM 1978.
 #[inline]
@@ -42,8 +42,8 @@ pub struct ChildFound {
     pub looks: usize,
 }
 
-/// The child of a node with these keys in whose range `x` lies, counted from 0: the number of keys
-/// that are at most `x`.
+/// Returns the child of a node with these keys in whose range `x` lies, counted from 0: the number
+/// of keys that are at most `x`.
 #[inline]
 pub fn child_of(keys: &[u64], x: u64) -> usize
     requires rising { IsStrictlyIncreasing keys.now }
@@ -53,11 +53,12 @@ pub fn child_of(keys: &[u64], x: u64) -> usize
     child_and_looks(keys, x).child
 }
 
-/// The same child, and how many keys were looked at for it.
+/// Returns the child as `child_of` does, and how many keys were looked at for it.
 ///
-/// Of at most four keys each is looked at. Otherwise the search begins at the guess and gallops: it
-/// goes away by steps of one, two, four, .. keys, and halves what lies between once it passed the
-/// child. So it looks at few keys where the guess is near, and never at many.
+/// If there are at most four keys, each is looked at. Otherwise the search begins at the guess and
+/// gallops: it goes away from the guess by steps of one, two, four, .. keys, and halves the range
+/// that is left once it passed the child. So it looks at few keys if the guess is near, and never
+/// at many.
 #[inline]
 pub fn child_and_looks(keys: &[u64], x: u64) -> ChildFound
     requires rising { IsStrictlyIncreasing keys.now }
@@ -95,7 +96,7 @@ pub fn child_and_looks(keys: &[u64], x: u64) -> ChildFound
     }
 }
 
-/// The child, found by a gallop from there.
+/// Finds the child by a gallop that begins at `from`.
 fn gallop_from(keys: &[u64], x: u64, from: usize) -> ChildFound
     requires rising { IsStrictlyIncreasing keys.now }
     requires some { 1 ≤ from }

@@ -1,13 +1,14 @@
-//! The search for the place where keys turn from at most a key to above it, without the keys.
+//! The search for the place at which keys change from at most a key to above it, without the keys.
 ghost use Rattle.std.specs.Prelude.{◌≡◌, ℕ, suc, ◌+◌, ◌-◌, ◌<◌, ◌≤◌, ◌^◌, MatchBool, false, if◌then◌else◌};
 ghost use Rattle.ist_math.specs.Gallops.{probe_of, next_step_of, Gallops};
 
-/// A search between two keys, of which the one at `low` is at most the key that is sought, and the
-/// one at `high` is above it. It ends where they are neighbours: then `high` is the child.
+/// A search between two keys: the one at `low` is at most the key that is sought, and the one at
+/// `high` is above it. It ends when they are neighbours: then `high` is the child.
 ///
-/// It goes away from a guess by steps of one, two, four, .. keys, and once the key is passed it
-/// halves what lies between. Its caller looks at the keys: at the one that `probe` names, and says
-/// by `told` whether that one is above the key that is sought.
+/// It goes away from a guess by steps of one, two, four, .. keys. Once it passed the key that is
+/// sought, it halves the distance between the two keys. Its caller looks at the keys: `probe` names
+/// the next one to look at, and the caller passes to `told` whether that one is above the key that
+/// is sought.
 ///
 /// Source: Bentley and Yao, "An almost optimal algorithm for unbounded searching", Information
 /// Processing Letters, 1976.
@@ -17,15 +18,17 @@ pub struct Gallop {
     pub low: u64,
     /// The number of a key that is above it.
     pub high: u64,
-    /// How far the next look goes. Where this is no less than what lies between, it halves.
+    /// How far the next look goes. If that is at least the distance between the two keys, the
+    /// search halves it.
     pub step: u64,
     /// Whether it goes down from the guess.
     pub down: bool,
 }
 
 impl Gallop {
-    /// Begins at the guess, among so many keys, of which the first is at most the key that is
-    /// sought and the last is above it. `above` says so of the key at the guess: that was a look.
+    /// Begins at the guess, among `count` keys, of which the first is at most the key that is
+    /// sought and the last is above it. `above` says the same of the key at the guess, which counts
+    /// as one look.
     #[inline]
     pub fn begin(count: u64, guess: u64, above: bool) -> Gallop
         requires first { 1 ≤ guess }
@@ -52,7 +55,7 @@ impl Gallop {
         }
     }
 
-    /// Is there a key to look at yet?
+    /// Returns whether there is still a key to look at.
     #[inline]
     pub fn is_open(&self) -> bool
         requires some { self.now.low < self.now.high }
@@ -62,7 +65,7 @@ impl Gallop {
         self.low + 1 < self.high
     }
 
-    /// The number of the key to look at next.
+    /// Returns the number of the key to look at next.
     #[inline]
     pub fn probe(&self) -> u64
         requires between { self.now.low + 1 < self.now.high }
@@ -81,8 +84,8 @@ impl Gallop {
         }
     }
 
-    /// Goes on with what the look at the probe showed: that key is above the one that is sought, or
-    /// isn't.
+    /// Returns the search after a look at the probe, which showed whether that key is above the one
+    /// that is sought.
     #[inline]
     pub fn told(self, at: u64, above: bool) -> Gallop
         requires between { self.low + 1 < self.high }
@@ -110,7 +113,7 @@ impl Gallop {
         }
     }
 
-    // Twice the step, where the look at it stayed on the side to which the gallop goes.
+    // Doubles the step, if the look at it stayed on the side to which the gallop goes.
     #[inline]
     fn next_step(&self, goes_on: bool) -> u64
         requires between { self.now.low < self.now.high }

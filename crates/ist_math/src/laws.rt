@@ -1,5 +1,5 @@
-//! What follows from the definitions alone, for all numbers. Each law is the contract of a function
-//! that does nothing.
+//! What follows from the definitions, for all numbers. Each law is the contract of a function that
+//! does nothing.
 ghost use Rattle.std.specs.Prelude.{◌≡◌, ℕ, ◌+◌, ◌*◌, ◌<◌, ◌≤◌, ◌^◌};
 ghost use Rattle.std.specs.List.{sum};
 ghost use Rattle.ist_core.specs.Arithmetic.{square_root, degree, part_len, part_lens};
@@ -25,8 +25,8 @@ pub fn guess_lies_within()
         → (1 ≤ guess_of first last m x) × (guess_of first last m x < m) }
 {}
 
-/// A gallop that has come to its end made few looks: at most three more than its guess lies off the
-/// child, and at most two for each bit of that distance, and two.
+/// A gallop that has ended made few looks: at most three more than the distance from its guess to
+/// the child, and at most two for each bit of that distance plus two.
 pub fn gallops_are_short()
     ensures near { (g : Gallop) (guess looks : ℕ) → Gallops g guess looks → g.low + 1 ≡ g.high
         → looks ≤ distance guess g.high + 3 }
@@ -55,7 +55,7 @@ pub fn paths_are_short()
     ensures most { (n : ℕ) → n < 2 ^ 32 → depth n ≤ 7 }
 {}
 
-/// The constant is the one that the definitions name, and a shared root has two keys or more.
+/// The constant is the one that the definitions name, and a shared root has at least two keys.
 pub fn shared_roots_have_several_keys()
     ensures value { SHARE_FROM ≡ share_from }
     ensures least { 2 ≤ share_from }

@@ -1,9 +1,9 @@
 //! Arithmetic of the tree: how many children a node has, which keys each has, how many words a
 //! subtree takes, when a node is due for a rebuild, and in which child a key lies. Nothing here
-//! takes memory, and no call refuses.
+//! allocates, and no call fails.
 //!
 //! Read `specs/Guess.antt`, then `shares.rt`, `sizes.rt` and `children.rt`. `laws.rt` has what
-//! follows from the definitions alone. Stands on `ist_core`.
+//! follows from the definitions. Builds on `ist_core`.
 #![tactic(auto)]
 
 mod children;

@@ -1,10 +1,10 @@
-//! The share of a part, by divisions of 64 bits alone.
+//! The share of a part, by divisions that only have 64 bits.
 ghost use Rattle.std.specs.Prelude.{◌≡◌, ℕ, ◌+◌, ◌*◌, ◌/◌, ◌<◌, ◌≤◌, ◌^◌};
 
 /// The largest number of 64 bits.
 const MOST: u128 = 0xffff_ffff_ffff_ffff;
 
-/// `part * all / whole`, rounded down.
+/// Returns `part * all / whole`, rounded down.
 pub(crate) fn share_of(part: u64, all: u64, whole: u64) -> u64
     requires less { part < whole }
     ensures value { result ≡ part * all / whole }
@@ -17,11 +17,11 @@ pub(crate) fn share_of(part: u64, all: u64, whole: u64) -> u64
     wide_quotient(product, whole)
 }
 
-/// `product / divisor`, rounded down, of a product that may have 128 bits.
+/// Returns `product / divisor`, rounded down, of a product that may have 128 bits.
 ///
-/// A quotient by the first 64 bits is a little low at most. So it takes that many divisors away, and
-/// goes on with the rest until the rest has 64 bits. One division does mostly: then the rest is less than
-/// the divisor.
+/// A quotient by the first 64 bits is at most a little low. So it takes that many divisors away,
+/// and goes on with the rest until the rest has 64 bits. Mostly one division is enough: then the
+/// rest is less than the divisor.
 fn wide_quotient(product: u128, divisor: u64) -> u64
     requires some { 1 ≤ divisor }
     requires fits { product < divisor * 2 ^ 64 }
@@ -42,8 +42,8 @@ fn wide_quotient(product: u128, divisor: u64) -> u64
     }
 }
 
-/// At most `rest / divisor`, and at least 1, by the first 64 bits of the rest and the bits of the divisor
-/// that stand over them.
+/// Returns a number from 1 to `rest / divisor`, from the first 64 bits of the rest and the
+/// divisor's bits at the same places.
 fn low_quotient(rest: u128, divisor: u64) -> u64
     requires wide { 2 ^ 64 ≤ rest }
     ensures low { result * divisor ≤ rest }

@@ -4,8 +4,8 @@ ghost use Rattle.ist_core.specs.Arithmetic.{degree, part_len, part_start};
 
 use crate::parts::Part;
 
-/// How many children the root of an ideal tree of `n` keys has: the square root of `n`, rounded
-/// down, but at least 2.
+/// Returns how many children the root of an ideal tree of `n` keys has: the square root of `n`,
+/// rounded down, but at least 2.
 pub fn degree(n: u64) -> u64
     requires several { 2 ≤ n }
     requires fits { n < 2 ^ 32 }
@@ -16,7 +16,7 @@ pub fn degree(n: u64) -> u64
     root(n).max(2)
 }
 
-/// The square root, rounded down: it halves between two neighbouring powers of two.
+/// Returns the square root, rounded down: it halves between two neighbouring powers of two.
 fn root(n: u64) -> u64
     requires some { 1 ≤ n }
     requires fits { n < 2 ^ 32 }
@@ -36,7 +36,7 @@ fn root(n: u64) -> u64
     low
 }
 
-/// The keys of child `j`, counted from 0, of the root of an ideal tree of `n` keys.
+/// Returns the keys of child `j`, counted from 0, of the root of an ideal tree of `n` keys.
 ///
 /// The lengths of two children differ by at most 1, and the longer ones come first.
 pub fn part(n: u64, j: u64) -> Part

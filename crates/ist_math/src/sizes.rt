@@ -1,4 +1,4 @@
-//! How many words an ideal subtree takes, and how many updates it bears.
+//! How many words an ideal subtree takes, and after how many updates a node is due.
 ghost use Rattle.std.specs.Prelude.{◌≡◌, ℕ, ◌+◌, ◌*◌, ◌<◌, ◌≤◌, ◌^◌};
 ghost use Rattle.ist_core.specs.Arithmetic.{degree, limit};
 ghost use Rattle.ist_core.specs.Shapes.{ideal_words};
@@ -11,23 +11,23 @@ pub const SHARE_FROM: u64 = 256;
 /// The words of a leaf.
 const LEAF_WORDS: u64 = 2;
 
-/// The words of an inner row that doesn't grow with its degree.
+/// The part of an inner row's words that doesn't grow with its degree.
 const FIXED_WORDS: u64 = 3;
 
-/// A node is due for a rebuild after at least so many updates.
+/// A node is due for a rebuild after at least this many updates.
 const LEAST_LIMIT: u64 = 8;
 
-/// After how many updates a node that was built over `size` keys is due for a rebuild: a quarter of
-/// its keys, but at least 8.
+/// Returns after how many updates a node that was built over `size` keys is due for a rebuild: a
+/// quarter of its keys, but at least 8.
 pub fn limit(size: u64) -> u64
     ensures value { result ≡ limit size }
 {
     (size / 4).max(LEAST_LIMIT)
 }
 
-/// How many words an ideal tree of `n` keys takes, with its leaves.
+/// Returns how many words an ideal tree of `n` keys takes, with its leaves.
 ///
-/// The parts of all nodes of one level have two sizes at most, so each level costs the same few
+/// The parts of all nodes of one level have at most two sizes, so each level costs the same few
 /// steps.
 pub fn ideal_words(n: u64) -> u64
     requires fits { n < 2 ^ 32 }
@@ -41,14 +41,14 @@ pub fn ideal_words(n: u64) -> u64
     words_of_node(n, shortest, words_of_both(shortest))
 }
 
-/// The words of two ideal trees, of which the second has one key more than the first.
+/// The words of two ideal trees; the second has one key more than the first.
 #[derive(Clone, Copy, Drop)]
 struct Both {
     first: u64,
     second: u64,
 }
 
-/// The words of ideal trees of `n` and of `n + 1` keys.
+/// Returns the words of ideal trees of `n` and of `n + 1` keys.
 fn words_of_both(n: u64) -> Both
     requires fits { n < 2 ^ 31 }
     ensures first { result.first ≡ ideal_words n }
@@ -74,7 +74,7 @@ fn words_of_both(n: u64) -> Both
     }
 }
 
-/// The words of an ideal tree of `n` keys whose parts have `shortest` keys, or one more.
+/// Returns the words of an ideal tree of `n` keys whose parts have `shortest` keys, or one more.
 fn words_of_node(n: u64, shortest: u64, parts: Both) -> u64
     requires several { 2 ≤ n }
     requires fits { n < 2 ^ 32 }

@@ -1,11 +1,11 @@
--- A caller that may help, behind each kind of step that it makes. Serves each function.
+-- A caller that may help, after each kind of step that it makes. Serves each function.
 use Rattle.std.proofs.Common.{◌≡◌, ℕ, List, Option, Some, None, Result, Ok, IfSome, refl, sym, ap, ◌∙◌, subst, le_refl}
 use Rattle.ist_core.specs.declared.events.Event.{Event}
 use Rattle.ist_core.specs.declared.events.Event.TheVariants.{Reserve}
 use Rattle.ist_core.specs.declared.ports.Full.{Full}
 use Rattle.ist_core.specs.Authors.{no_more}
 use Rattle.ist_core.specs.Rebuilding.{IsStarted}
-use Rattle.ist_links.proofs.FormLemmas.{started_grows}
+use Rattle.laws_links.proofs.FormLemmas.{started_grows}
 use Rattle.ist_rule.specs.declared.view.View.{View}
 use Rattle.ist_rule.specs.declared.view.OwnWord.{OwnWord}
 use Rattle.ist_rule.specs.Conditions.{IsResolved}
@@ -68,6 +68,7 @@ module _ (who : Caller) (seat : SeatFace) (able : IsAble who) (P : Event → Typ
   abbrev kept : WentOn KeepsRows who.seat.view seat.view
   kept = went_all P KeepsRows keeps who.seat.view seat.view g
 
+  -- a caller whose seat went on by such events has helped
   pub kept_helped : HasHelped who (record who { seat = seat })
   kept_helped =
       record {
@@ -109,7 +110,7 @@ marks_helped who seat v node able g =
 
 -- ---- events of builds
 
--- a caller that made such, and is one still
+-- a caller that made steps of building, and is still a caller, has helped
 pub builds_helped : (old new : Caller) → IsAble old → IsCaller new → HasRefused new
     → new.number ≡ old.number → new.leaf ≡ old.leaf → new.pair ≡ old.pair
     → WentOn Builds old.seat.view new.seat.view → HasHelped old new
@@ -142,7 +143,7 @@ built_helped old new able c refused number rows g =
 
 -- ---- a change row
 
--- what a reserving of one tells: the caller has it, or was refused it
+-- the result of reserving a change row: the caller has it, or was refused it
 pub record HasRow (old new : Caller) (answer : Result ℕ Full) : Type 0 where
   pub caller : IsCaller new
   pub number : new.number ≡ old.number
@@ -174,6 +175,7 @@ pub record HasTakenRow (old new : Caller) (base : ℕ) : Type 0 where
   pub by : WentOn Builds old.seat.view new.seat.view
   pub row : new.change ≡ Some base
 
+-- a caller that may help and reserved a change row has it
 pub took_row : (old new : Caller) (base : ℕ) → IsAble old → IsSound old.seat.view
     → HasRow old new (Ok base) → HasTakenRow old new base
 took_row old new base able s h = at old.change refl h.held
@@ -195,7 +197,7 @@ took_row old new base able s h = at old.change refl h.held
         let it = reserved_helped old new base able h.caller h.number is f.0 f.1 in
         record { helped = it.0; by = it.1; row = ap (λ own. own.change) f.1 }
 
--- or was refused it
+-- a caller that was refused the row has helped
 pub refused_row : (old new : Caller) (words : ℕ) (full : Full) → IsAble old
     → IsCaller new → new.number ≡ old.number → IsRefused words Change old new full
     → HasHelped old new
@@ -253,7 +255,7 @@ own_helped old own able s =
       };
     }
 
--- loads behind other steps of help
+-- loads after other steps of help
 pub helped_loads : (old mid : Caller) (seat : SeatFace) → HasHelped old mid
     → GoesOnTo mid.seat.view seat.view → HasHelped old (record mid { seat = seat })
 helped_loads old mid seat h g =

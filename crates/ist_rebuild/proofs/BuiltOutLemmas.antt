@@ -1,11 +1,11 @@
--- A rebuild that may be built is so still. Serves `build_out` and `help_rebuild`.
+-- A rebuild that may be built may still be built later. Serves `build_out` and `help_rebuild`.
 use Rattle.std.proofs.Common.{◌≡◌, ℕ, sym, subst}
 use Rattle.ist_core.specs.declared.events.Event.{Event}
 use Rattle.ist_core.specs.Marking.{HasTarget, as_target}
 use Rattle.ist_core.specs.Rebuilding.{IsStarted, IsFinishedWith}
 use Rattle.ist_core.proofs.GrowingLemmas.{rebuild_there}
-use Rattle.ist_links.proofs.FinishedLemmas.{target_grows}
-use Rattle.ist_links.proofs.FormLemmas.{finished_with_grows}
+use Rattle.laws_links.proofs.FinishedLemmas.{target_grows}
+use Rattle.laws_links.proofs.FormLemmas.{finished_with_grows}
 use Rattle.ist_rule.specs.declared.view.View.{View}
 use Rattle.ist_core.specs.declared.events.Who.TheVariants.{Caller as CallerOf}
 use Rattle.ist_rule.specs.Going.{WentOn}
@@ -57,7 +57,7 @@ may_mark_target : (v : View) (number rebuild target : ℕ) → v.who ≡ CallerO
 may_mark_target v number rebuild target mine h started =
     record { number = number; mine = mine; called = as_target rebuild h started }
 
--- and is its target still
+-- the target of a rebuild is still its target
 target_went : (P : Event → Type 0) (v w : View) → WentOn P v w → (rebuild target : ℕ)
     → HasTarget (now v) rebuild target → HasTarget (now w) rebuild target
 target_went P v w g rebuild target h =
@@ -70,6 +70,7 @@ pub record HasMarked (who : Caller) (seat : SeatFace) (rebuild : ℕ) : Type 0 w
   pub helped : HasHelped who (record who { seat = seat })
   pub buildable : IsBuildable (now seat.view) rebuild
 
+-- a caller that loaded the target and marked it may build the rebuild
 pub has_marked : (who : Caller) (mid seat : SeatFace) (rebuild target keys : ℕ) → IsAble who
     → IsStarted (now who.seat.view) rebuild → GoesOnTo who.seat.view mid.view
     → HasTarget (now mid.view) rebuild target → WentOn (Marks seat.view target) mid.view seat.view
@@ -85,7 +86,7 @@ has_marked who mid seat rebuild target keys able started seen h marks finished =
           (started_went Serves who.seat.view seat.view all.went rebuild started) finished;
     }
 
--- it might mark it
+-- the caller might mark the target
 pub may_mark : (who : Caller) (mid : SeatFace) (rebuild target : ℕ) → IsAble who
     → IsStarted (now who.seat.view) rebuild → GoesOnTo who.seat.view mid.view
     → HasTarget (now mid.view) rebuild target → MayMark mid.view target

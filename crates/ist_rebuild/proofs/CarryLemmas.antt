@@ -1,5 +1,5 @@
 -- A finish that was installed, and helped. Serves `carry`.
-use Rattle.std.proofs.Common.{◌≡◌, ℕ, ◌==◌, if◌then◌else◌, true, false, Bool, [], ◌∷◌, Some, None, option_map, refl, sym, ap, ◌∙◌, subst}
+use Rattle.std.proofs.Common.{◌≡◌, ◌≢◌, ℕ, ◌==◌, if◌then◌else◌, true, false, Bool, [], ◌∷◌, Some, None, option_map, refl, sym, ap, ◌∙◌, subst}
 use Rattle.ist_core.specs.declared.events.Event.{Event}
 use Rattle.ist_core.specs.declared.events.Event.TheVariants.{Install}
 use Rattle.ist_core.specs.declared.states.ChangeRow.{ChangeRow}
@@ -44,7 +44,7 @@ use Rattle.ist_rebuild.specs.Going.{Serves}
 use Rattle.ist_rebuild.proofs.EventLemmas.{change_serves}
 use Rattle.ist_rebuild.proofs.SiteLemmas.{rebuild_good}
 
--- a change that was put among the rows is there, also behind a write of a slot
+-- a change that was put among the rows is there, also after a write of a slot
 there_behind : (ps : Pieces) (base node i word : ℕ) (r : ChangeRow)
     → changed_at (with_row ps base (Some (Change r))) node (with_slot i word) base
     ≡ Some (Change r)
@@ -65,7 +65,7 @@ one_change a b e = cc
 same_change : (a b : ChangeRow) → Change a ≡ Change b → a ≡ b
 same_change a b e = cc
 
--- what the caller is behind its Install
+-- the caller after its Install
 pub record HasInstalled (who : Caller) (plan : Plan) (change : ℕ) (seat : SeatFace) : Type 0 where
   pub caller : IsCaller (record who { seat = seat; change = None })
   pub refused : HasRefused (record who { seat = seat; change = None })
@@ -100,6 +100,7 @@ module _ (who : Caller) (plan : Plan) (change : ℕ) (able : IsAble who)
   caller_before : IsCaller before
   caller_before = caller_goes_on who (record who.seat { view = i.before }) able.caller i.seen
 
+  -- the caller after its Install
   pub has_installed : HasInstalled who plan change seat
   has_installed =
       let made = logged_made i.before event seat.view i.logged in
@@ -130,10 +131,10 @@ module _ (who : Caller) (plan : Plan) (change : ℕ) (able : IsAble who)
         };
       }
 
-  -- ---- behind the help
+  -- ---- after the help
 
   module _ (last : SeatFace) (g : WentOn (HelpsWith change) seat.view last.view) where
-    -- it has helped
+    -- the caller has helped
     pub carried_helped : IsOut last.view change
         → HasHelped who (record who { seat = last; change = None })
     carried_helped out =
@@ -158,7 +159,7 @@ module _ (who : Caller) (plan : Plan) (change : ℕ) (able : IsAble who)
               (went_all (HelpsWith change) Serves (change_serves change) seat.view last.view g);
         }
 
-    -- the change is what was installed, but for its decision
+    -- the change is what was installed, except for its decision
     the_change : (r : ChangeRow) × ((now last.view).pieces change ≡ Some (Change r))
         × ChangeGrows (finish_row plan who.number) r
     the_change =
@@ -171,7 +172,7 @@ module _ (who : Caller) (plan : Plan) (change : ℕ) (able : IsAble who)
         same_change the_change.0 r
         (one_piece ((now last.view).pieces change) (Change the_change.0) (Change r) the_change.1 e)
 
-    -- where it was decided yes, the rebuild was replaced
+    -- if it was decided yes, the rebuild was replaced
     pub carried_yes : IsSound who.seat.view → IsPlan who.seat.view plan
         → IsDecided last.view change true → IsReplaced (now last.view) plan.rebuild
     carried_yes s q d =
@@ -188,7 +189,7 @@ module _ (who : Caller) (plan : Plan) (change : ℕ) (able : IsAble who)
               record { row = q.row; published = q.published });
         }
 
-    -- and where no, the parent isn't open
+    -- if it was decided no, the parent isn't open
     pub carried_no : WasClosed last.view change → ¬ (IsOpen (now last.view) plan.parent)
     carried_no c =
         let v = last.view in
@@ -216,6 +217,17 @@ pub other_holds : (who : Caller) (plan : Plan) (change found : ℕ) (w : View)
 other_holds who plan change found w p o word e =
     subst (SlotHolds (now w) plan.parent plan.index) (answer found word e)
     (subst (λ (r : ChangeRow). SlotHolds (now w) r.node r.index found) p.is o.in_slot)
+  where
+    answer : (a b : ℕ) → Other a ≡ Other b → a ≡ b
+    answer a b e = cc
+
+-- the other word isn't the rebuild's
+pub other_differs : (who : Caller) (plan : Plan) (change found : ℕ) (w : View)
+    → IsPrepared who plan change
+    → IsOther who.seat.view change (filling_at who.seat.view change) found w
+    → (word : ℕ) → Other found ≡ Other word → word ≢ word_of (RebuildAt plan.rebuild)
+other_differs who plan change found w p o word e is =
+    o.differs (answer found word e ∙ is ∙ sym (ap (λ (r : ChangeRow). r.from) p.is))
   where
     answer : (a b : ℕ) → Other a ≡ Other b → a ≡ b
     answer a b e = cc

@@ -78,7 +78,7 @@ builds_install_none (Draw caller rebuild part) is = tt
 builds_install_none (Place caller rebuild i word rows) is = tt
 builds_install_none (Lose caller bases) is = tt
 
--- nor does an event that changes nothing of what its caller holds
+-- an event that changes nothing of what its caller holds installs nothing
 pub keeping_installs_none : (event : Event) → KeepsRows event → InstallsNone event
 keeping_installs_none (Install caller base rows) is = absurd is
 keeping_installs_none (Enter caller) is = tt

@@ -14,7 +14,7 @@ use Rattle.ist_core.specs.StartLayout.{start}
 use Rattle.ist_core.specs.Statuses.{undecided, decided_no}
 use Rattle.ist_core.proofs.SoundLemmas.{sound}
 use Rattle.ist_core.proofs.StartLemmas.{sound_start}
-use Rattle.ist_links.proofs.ChangeLemmas.{undecided_unresolved}
+use Rattle.laws_links.proofs.ChangeLemmas.{undecided_unresolved}
 use Rattle.ist_rule.specs.declared.view.View.{View}
 use Rattle.ist_core.specs.declared.events.Who.TheVariants.{Caller as CallerOf}
 use Rattle.ist_rule.specs.Conditions.{IsResolved}
@@ -51,7 +51,7 @@ module _ (pairs : List Pair) (words : ℕ) (opens : CanOpen pairs words) (number
           absurd (out base rows (ap (λ c. Install c base rows)
           (sym h.owned ∙ sym (grows_same_change g).1 ∙ owned)))
 
-  -- so does a log that goes on without an Install of theirs, and they stay resolved
+  -- resolved changes stay resolved in a longer log without an Install of theirs
   stay : (old log : Log) → EachEnabled (start pairs words) log
       → LaterBy (CallerOf number) InstallsNone old log
       → AllResolvedOf (state_of pairs words old) old number

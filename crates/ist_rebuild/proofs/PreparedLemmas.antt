@@ -82,6 +82,7 @@ module _ (mid : Caller) (plan : Plan) (change : ℕ) (row : mid.change ≡ Some 
         };
       }
 
+  -- a caller that filled its change row may install the finish
   pub filled_prepared : IsAble new → IsSound w → IsPlan w plan
       → IsUnrefused (now w) mid.number plan.parent → IsPrepared new plan change
   filled_prepared able s p unrefused =
@@ -101,6 +102,7 @@ pub record HasPrepared (old who : Caller) (plan : Plan) (change : ℕ) : Type 0 
   pub helped : HasHelped old who
   pub prepared : IsPrepared who plan change
 
+-- a caller that reserved and filled its change row has helped and prepared it
 pub has_prepared : (old mid who : Caller) (plan : Plan) (change : ℕ) (words : List ℕ) → IsAble old
     → IsSound old.seat.view → IsPlan old.seat.view plan
     → IsUnrefused (now old.seat.view) old.number plan.parent → HasRow old mid (Ok change)

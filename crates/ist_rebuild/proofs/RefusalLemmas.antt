@@ -4,7 +4,7 @@ use Rattle.std.specs.Result.{IsErrAnd}
 use Rattle.ist_core.specs.declared.ports.Full.{Full}
 use Rattle.ist_core.specs.Rebuilding.{IsFinishedWith}
 use Rattle.ist_core.proofs.GrowingLemmas.{rebuild_there}
-use Rattle.ist_links.proofs.FormLemmas.{finished_with_grows}
+use Rattle.laws_links.proofs.FormLemmas.{finished_with_grows}
 use Rattle.ist_rule.specs.declared.view.View.{View}
 use Rattle.ist_rule.specs.Going.{WentOn}
 use Rattle.ist_rule.specs.Learning.{now}
@@ -41,7 +41,7 @@ short_refused v w rebuild words full h =
           o.several o.few o.asked;
     }
 
--- or the caller a row for the change
+-- the refusal of a row for the change
 pub row_refused : (old new : Caller) (rebuild words : ℕ) (full : Full)
     → IsRefused words Change old new full
     → IsHelpRefused old.seat.view rebuild words full new.seat.view
@@ -58,7 +58,7 @@ row_refused old new rebuild words full h =
       asked = for_change f.asked;
     }
 
--- so it was, where it had helped before
+-- the refusal of a call holds from an earlier view too, if the seat helped in between
 pub refused_more : (u v w : View) (rebuild words : ℕ) (full : Full) → WentOn Serves u v
     → IsHelpRefused v rebuild words full w → IsHelpRefused u rebuild words full w
 refused_more u v w rebuild words full g h =

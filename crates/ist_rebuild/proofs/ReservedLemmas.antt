@@ -115,7 +115,7 @@ module _ (old new : Caller) (base : ℕ) (c : IsCaller old) (none : old.change �
       (ap (λ b. if not b then new_row ∷ [] else []) (spare_here own base))
       ∙ append-nil (filter (λ (h : HeldRow). not (is_spare own h.base)) (held_by t number)))
 
-  -- its refused builds are refused
+  -- the refused builds of the caller stay refused
   pub refused_reserved : HasRefused old → HasRefused new
   refused_reserved refused =
       let was : AreStuck t (build_sizes t number own) =

@@ -21,7 +21,7 @@ use Rattle.ist_core.proofs.NamingLemmas.{IsRebuildFor, SideNames}
 use Rattle.ist_core.proofs.OrderLemmas.{names}
 use Rattle.ist_core.proofs.ReferenceLemmas.{ref_of-word_of}
 use Rattle.ist_core.proofs.RoomLemmas.{published_good}
-use Rattle.ist_links.proofs.ChangeLemmas.{node_was_linked}
+use Rattle.laws_links.proofs.ChangeLemmas.{node_was_linked}
 use Rattle.ist_rule.specs.declared.view.View.{View}
 use Rattle.ist_rule.specs.Going.{WentOn}
 use Rattle.ist_rule.specs.Learning.{now, GoesOnTo, Looked}
@@ -41,7 +41,7 @@ use Rattle.ist_rebuild.proofs.AbleLemmas.{started_went}
 
 -- ---- a started rebuild
 
--- it is published, in the slot of its start
+-- a started rebuild is published, in the slot of its start
 pub started_row : (v : View) → IsSound v → (rebuild : ℕ) → (s : IsStarted (now v) rebuild)
     → IsRebuildFor (now v).pieces s.change.node s.change.index rebuild
 started_row v s rebuild h =
@@ -49,22 +49,25 @@ started_row v s rebuild h =
     ((names v.start v.words s.lawful.opens v.log s.lawful.enabled).rows h.base (Change h.change)
     h.published).1
 
+-- a started rebuild is published
 pub started_rebuild : (v : View) → IsSound v → (rebuild : ℕ) → IsStarted (now v) rebuild
     → IsRebuild (now v) rebuild
 started_rebuild v s rebuild h =
     let it = started_row v s rebuild h in record { row = it.row; published = it.published }
 
--- its base is good, and so are those of its target and of its parent
+-- the base of a rebuild is good
 pub rebuild_good : (v : View) → IsSound v → (rebuild : ℕ) → IsRebuild (now v) rebuild
     → IsGoodBase rebuild
 rebuild_good v s rebuild h =
     published_good v.start v.words s.lawful.opens v.log rebuild (Rebuild h.row) s.lawful.enabled
     h.published
 
+-- the target and the parent of a rebuild fit in 32 bits
 pub record AreLow (row : RebuildRow) : Type 0 where
   pub target : row.target < 2 ^ 32
   pub parent : row.parent < 2 ^ 32
 
+-- the target and the parent of a published rebuild fit in 32 bits
 pub fields_low : (v : View) → IsSound v → (rebuild : ℕ) (row : RebuildRow)
     → (now v).pieces rebuild ≡ Some (Rebuild row) → AreLow row
 fields_low v s rebuild row e =
@@ -78,6 +81,7 @@ fields_low v s rebuild row e =
 
 -- ---- words of its row
 
+-- a published rebuild is still published after loads
 pub rebuild_on : (v w : View) → GoesOnTo v w → (rebuild : ℕ) (row : RebuildRow)
     → (now v).pieces rebuild ≡ Some (Rebuild row)
     → (r : RebuildRow) × ((now w).pieces rebuild ≡ Some (Rebuild r)) × RebuildGrows row r
@@ -106,13 +110,14 @@ pub told_target : (v : View) (rebuild word : ℕ) → IsWordOf (now v) rebuild 0
 told_target v rebuild word h =
     record { row = h.row; published = h.published; target_is = one h.row.target word h.is }
 
--- both are small
+-- the target's word of a rebuild fits in 32 bits
 pub target_small : (v : View) → IsSound v → (rebuild word : ℕ) → IsWordOf (now v) rebuild 0 word
     → word < 2 ^ 32
 target_small v s rebuild word h =
     subst (λ n. n < 2 ^ 32) (one h.row.target word h.is)
     (fields_low v s rebuild h.row h.published).target
 
+-- the parent's word of a rebuild fits in 32 bits
 pub parent_small : (v : View) → IsSound v → (rebuild word : ℕ) → IsWordOf (now v) rebuild 1 word
     → word < 2 ^ 32
 parent_small v s rebuild word h =
@@ -121,7 +126,7 @@ parent_small v s rebuild word h =
 
 -- ---- the plan of a finish
 
--- the words that were loaded one behind another
+-- the words that were loaded one after another
 pub record HasRead (v w : View) (rebuild parent index root : ℕ) : Type 0 where
   pub a : View
   pub b : View
@@ -132,7 +137,7 @@ pub record HasRead (v w : View) (rebuild parent index root : ℕ) : Type 0 where
   pub index_is : IsWordOf (now b) rebuild 2 index
   pub root_is : IsWordOf (now w) rebuild 3 root
 
--- the change that they make up fits, where they are those of the row, and its root is built
+-- the change that they make up fits, if they are the row's, and its root is built
 fits_first : (v : View) → IsSound v → (plan : Plan) (row : RebuildRow)
     → (now v).pieces plan.rebuild ≡ Some (Rebuild row) → IsStarted (now v) plan.rebuild
     → (b : IsBuiltOut (now v) plan.rebuild) → row.parent ≡ plan.parent → row.index ≡ plan.index
@@ -180,10 +185,11 @@ plan_went P v w g plan p =
           (p.fits owner)));
     }
 
+-- a plan is still a plan after loads
 pub plan_on : (v w : View) → GoesOnTo v w → (plan : Plan) → IsPlan v plan → IsPlan w plan
 plan_on v w g plan p = plan_went (λ event. ⊥) v w (goes_on_went (λ event. ⊥) v w g) plan p
 
--- the words that were loaded are a plan
+-- the words that were loaded make a plan
 pub planned : (v w : View) → IsSound v → (plan : Plan) → IsStarted (now v) plan.rebuild
     → IsBuiltOut (now v) plan.rebuild → HasRead v w plan.rebuild plan.parent plan.index plan.root
     → IsPlan w plan
@@ -250,7 +256,7 @@ module _ (v : View) (s : IsSound v) (plan : Plan) (p : IsPlan v plan) where
       (node_was_linked v.start v.words s.lawful.opens v.log s.lawful.enabled p.started.base
       p.started.change p.started.published)
 
-  -- and has the slot
+  -- the parent has the slot
   pub parent_slot : IsSlot v plan.parent plan.index
   parent_slot =
       let it = change_slot v.start v.words v.log s.lawful.enabled p.started.base p.started.change

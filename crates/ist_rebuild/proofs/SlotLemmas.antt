@@ -1,5 +1,4 @@
--- What a load of a rebuild's slot tells of the rebuild. Serves `slot_word`, `settle` and
--- `conclude`.
+-- What a load of a rebuild's slot says of the rebuild. Serves `slot_word`, `settle` and `conclude`.
 use Rattle.std.proofs.Common.{◌≡◌, ◌≢◌, ℕ, ◌<◌, Option, None, Some, refl, sym, ap, ◌∙◌, subst, ⊎_elim, arith}
 use Rattle.ist_core.specs.declared.events.Event.{Event}
 use Rattle.ist_core.specs.Pieces.{Pieces, size_of, words_of}
@@ -12,7 +11,7 @@ use Rattle.ist_core.proofs.ImageLemmas.{get_below}
 use Rattle.ist_core.proofs.PlaceLemmas.{anchor_free, placed, claimed_within}
 use Rattle.ist_core.proofs.RoomLemmas.{next_within, words_same}
 use Rattle.ist_core.proofs.SlotLemmas.{slot_once}
-use Rattle.ist_rebuilds.proofs.RebuiltLemmas.{started_reads, read_unreplaced}
+use Rattle.laws_rebuilds.proofs.RebuiltLemmas.{started_reads, read_unreplaced}
 use Rattle.ist_rule.specs.declared.view.View.{View}
 use Rattle.ist_rule.specs.Going.{WentOn}
 use Rattle.ist_rule.specs.Learning.{now, Looked}
@@ -31,7 +30,7 @@ use Rattle.ist_rebuild.proofs.SiteLemmas.{parent_node}
 
 -- ---- the load
 
--- a word that is shown stands in the table
+-- a word that is shown is in the table
 pub shown_low : (v : View) → IsSound v → (place word : ℕ) → IsShown (now v) place word
     → place < v.words
 shown_low v s _ _ shown_next = let room = s.lawful.opens.room in omega arith
@@ -48,7 +47,7 @@ shown_low v s _ word (shown_row base p k there got) =
 shown_low v s _ _ (shown_free far inside) =
     let all = words_same v.start v.words s.lawful.opens v.log in omega arith
 
--- so does that in a slot
+-- a word in a slot is in the table
 pub slot_low : (v : View) → IsSound v → (node i place : ℕ) → IsSlot v node i
     → place ≡ place_of_slot (now v) node i → place < v.words
 slot_low v s node i place slot at =
@@ -56,7 +55,7 @@ slot_low v s node i place slot at =
     (shown_low v s (place_of_slot (now v) node i) slot.word
     (slot_shown v.start v.words v.log s.lawful.enabled node i slot.word slot.holds))
 
--- and a load of it gives it
+-- a load of the slot gives its word
 pub slot_told : (v : View) → IsSound v → (node i place : ℕ) → IsSlot v node i
     → place ≡ place_of_slot (now v) node i → (word : ℕ) (w : View) → Looked v place word w
     → SlotHolds (now w) node i word
@@ -70,7 +69,7 @@ slot_told v s node i place before at word w l =
     (place_on v w s more node i before.word before.holds ∙ sym at) shown) in
     subst (SlotHolds (now w) node i) (sym same) slot.holds
 
--- ---- what the word tells
+-- ---- what the word says
 
 -- what is no change reads as it is
 read_same : (ps : Pieces) (o : Option Ref) → ((base : ℕ) → o ≢ Some (ChangeAt base))
@@ -85,13 +84,13 @@ read_same ps (Some (ChangeAt base)) none = absurd (none base refl)
 
 module _ (v : View) (s : IsSound v) (plan : Plan) (p : IsPlan v plan) (word : ℕ)
     (holds : SlotHolds (now v) plan.parent plan.index word) where
-  -- in the words of the rebuild's row
+  -- the slot, by the words of the rebuild's row
   in_row_words : SlotHolds (now v) p.row.parent p.row.index word
   in_row_words =
       subst (λ n. SlotHolds (now v) n p.row.index word) (sym p.parent_is)
       (subst (λ i. SlotHolds (now v) plan.parent i word) (sym p.index_is) holds)
 
-  -- any word but the rebuild's and a change's: the rebuild was replaced
+  -- any other word that is no change's: the rebuild was replaced
   pub tells_replaced : ((change : ℕ) → ref_of word ≢ Some (ChangeAt change))
       → ref_of word ≢ Some (RebuildAt plan.rebuild) → IsReplaced (now v) plan.rebuild
   tells_replaced no_change another =
@@ -106,7 +105,7 @@ module _ (v : View) (s : IsSound v) (plan : Plan) (p : IsPlan v plan) (word : �
       (started_reads v.start v.words s.lawful.opens v.log s.lawful.enabled plan.rebuild p.row
       p.published p.started)
 
-  -- the rebuild's own: it stands there
+  -- the rebuild's own: the rebuild is there
   pub tells_left : ref_of word ≡ Some (RebuildAt plan.rebuild) → ¬ (IsOpen (now v) plan.parent)
       → IsLeftToParent (now v) plan.rebuild
   tells_left itself closed =

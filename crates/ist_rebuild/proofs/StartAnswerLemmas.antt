@@ -1,4 +1,4 @@
--- What `start` answers, by what came of putting the start in. Serves `put_in` and `start`.
+-- What `start` returns, by the result of putting the start in. Serves `put_in` and `start`.
 use Rattle.std.proofs.Common.{◌≡◌, ◌≢◌, ℕ, Bool, true, false, Result, Some, Ok, Err, refl, sym, ◌∙◌, subst, inl, inr, ⊎_elim, arith}
 use Rattle.std.specs.Result.{IsErr}
 use Rattle.ist_build.specs.Laying.{Reserves}
@@ -11,7 +11,7 @@ use Rattle.ist_core.specs.Rows.{Apart}
 use Rattle.ist_core.specs.RowLayout.{change_words, rebuild_words}
 use Rattle.ist_core.specs.Slots.{IsOpen}
 use Rattle.ist_core.specs.Snapshots.{Snapshot}
-use Rattle.ist_settling.specs.Settling.{StartsAreDone}
+use Rattle.laws_settling.specs.Settling.{StartsAreDone}
 use Rattle.ist_rule.specs.declared.view.View.{View}
 use Rattle.ist_core.specs.declared.events.Who.TheVariants.{Caller as CallerOf}
 use Rattle.ist_rule.specs.Conditions.{IsResolved}
@@ -39,9 +39,11 @@ use Rattle.ist_rebuild.proofs.StartResultLemmas.{put_closed, put_said, put_start
 pub same_rebuild : (a b : ℕ) → Yes a ≡ Yes b → a ≡ b
 same_rebuild a b e = cc
 
+-- `Other` is injective
 pub same_word : (a b : ℕ) → Other a ≡ Other b → a ≡ b
 same_word a b e = cc
 
+-- `Ok` is injective
 pub same_answer : (a b : Started) → ◌≡◌ {A = Result Started Full} (Ok a) (Ok b) → a ≡ b
 same_answer a b e = cc
 
@@ -88,11 +90,13 @@ module _ (who : Caller) (parent index target rebuild change : ℕ) (f : Filling)
 
   -- ---- how the seat went on
 
+  -- putting a start in only makes steps of a start
   pub put_begins : (said : Bool) → HasPutIn v change plan said w → WentOn Begins v w
   put_begins said h =
       put_went Begins v change plan said w h (λ n. begins_installing change plan refl)
       (begins_serving change)
 
+  -- a start that was put in aims at its target
   pub put_aims : (said : Bool) → HasPutIn v change plan said w → WentOn (StartsAt target) v w
   put_aims said h =
       put_went (StartsAt target) v change plan said w h (aims_installing target change plan refl)
@@ -106,12 +110,14 @@ module _ (who : Caller) (parent index target rebuild change : ℕ) (f : Filling)
 
   -- ---- decided yes
 
+  -- if it was decided yes, the rebuild is started there
   pub yes_started : HasPutIn v change plan true w → (other : ℕ) → Yes rebuild ≡ Yes other
       → IsStartedAt (now w) other parent index target
   yes_started h other is =
       subst (λ n. IsStartedAt (now w) n parent index target) (same_rebuild rebuild other is)
       (put_started who.number parent index target rebuild change apart good v w h)
 
+  -- if it was decided yes, all other starts of the caller are done
   pub yes_done : HasPutIn v change plan true w → StartsAreDone (now v) who.number
       → StartsAreDoneBut (now w) who.number rebuild
   yes_done h done base x e own kind said sent to =
@@ -127,10 +133,12 @@ module _ (who : Caller) (parent index target rebuild change : ℕ) (f : Filling)
   two_sides : (d : ℕ) → d ≡ 1 → d ≡ 2 → ⊥
   two_sides d e f = omega arith
 
+  -- if it was decided no, the parent isn't open
   pub no_closed : HasPutIn v change plan false w → ¬ (IsOpen (now w) parent)
   no_closed h =
       put_closed who.number parent index target rebuild change apart v w h.helped.sound h
 
+  -- if it was decided no, all starts of the caller are done
   pub no_done : HasPutIn v change plan false w → StartsAreDone (now v) who.number
       → StartsAreDone (now w) who.number
   no_done h done base x e own kind said sent to =
@@ -142,6 +150,7 @@ module _ (who : Caller) (parent index target rebuild change : ℕ) (f : Filling)
       (starts_but (InstallsBut who.number change) v w (put_but false h) who.number change
       ready.caller.mine (λ event p. p) ready.quiet.resolved done base x e own kind said sent to)
 
+  -- if it was decided no, no rebuild was started
   pub no_start : HasPutIn v change plan false w → StartsNone (now v) (now w) who.number
   no_start h base x e own kind said =
       own_was (InstallsBut who.number change) v w (put_but false h) who.number change
@@ -152,7 +161,7 @@ module _ (who : Caller) (parent index target rebuild change : ℕ) (f : Filling)
 
 -- ---- refusals
 
--- a refusal behind loads
+-- a refusal after loads
 pub refused_behind : (u v w : View) (words : ℕ) (full : Full) → GoesOnTo u v
     → IsStartRefused v words full w → IsStartRefused u words full w
 refused_behind u v w words full g r =
@@ -167,7 +176,7 @@ refused_behind u v w words full g r =
       asked = r.asked;
     }
 
--- where it was refused, no start came
+-- if it was refused, no start was made
 pub err_done : (t : Snapshot) (number : ℕ) (answer : Result Started Full) → IsErr answer
     → StartsAreDone t number → LeavesDone t number answer
 err_done t number (Ok a) is done = absurd (no is)
@@ -176,7 +185,7 @@ err_done t number (Ok a) is done = absurd (no is)
     no e = cc
 err_done t number (Err full) is done = done
 
--- what a start leaves done, behind reservings
+-- what a start leaves done, after reservings
 pub behind_done : (v u w : View) → WentOn Reserves v u → (number same : ℕ)
     → v.who ≡ CallerOf number → IsResolved v number → same ≡ number → (answer : Result Started Full)
     → (StartsAreDone (now u) same → LeavesDone (now w) same answer)
@@ -188,7 +197,7 @@ behind_done v u w g number same mine resolved is answer leaves done =
 
 -- ---- what is left undone
 
--- where it was refused, nothing was started or installed
+-- if it was refused, nothing was started or installed
 pub err_unstarted : (v w : View) (number : ℕ) (answer : Result Started Full) → IsErr answer
     → StartsNone (now v) (now w) number → LeavesUnstarted (now v) (now w) number answer
 err_unstarted v w number (Ok a) is none = absurd (no is)
@@ -197,6 +206,7 @@ err_unstarted v w number (Ok a) is none = absurd (no is)
     no e = cc
 err_unstarted v w number (Err full) is none = none
 
+-- if it was refused after reservings only, nothing was installed
 pub err_uninstalled : (v w : View) (answer : Result Started Full) → IsErr answer
     → WentOn Reserves v w → LeavesUninstalled v w answer
 err_uninstalled v w (Ok a) is went = absurd (no is)
@@ -205,7 +215,7 @@ err_uninstalled v w (Ok a) is went = absurd (no is)
     no e = cc
 err_uninstalled v w (Err full) is went = went
 
--- behind reservings nothing more was
+-- after reservings nothing more was installed
 pub behind_uninstalled : (v u w : View) → WentOn Reserves v u → (answer : Result Started Full)
     → LeavesUninstalled u w answer → LeavesUninstalled v w answer
 behind_uninstalled v u w g (Ok (Yes rebuild)) left = tt
@@ -213,6 +223,7 @@ behind_uninstalled v u w g (Ok (Other word)) left = went_more Reserves v u w g l
 behind_uninstalled v u w g (Ok Marked) left = tt
 behind_uninstalled v u w g (Err full) left = went_more Reserves v u w g left
 
+-- what was not started after reservings was not started from the beginning
 pub behind_unstarted : (v u w : View) → WentOn Reserves v u → (number same : ℕ)
     → v.who ≡ CallerOf number → IsResolved v number → same ≡ number
     → (answer : Result Started Full) → LeavesUnstarted (now u) (now w) same answer

@@ -44,7 +44,7 @@ held_apart v s g h i j differ =
     (claimed_apart v.start v.words v.log g.base g.size h.base h.size s.lawful.enabled
     (place.held g i) (place.held h j))
 
--- filling the rows changes nothing of the view but the words of its own
+-- filling the rows changes only the own words of the view
 pub start_same : (who : Caller) (rebuild change parent index target : ℕ)
     → (filled_start who rebuild change parent index target).seat.view
     ≡ record who.seat.view {
@@ -61,17 +61,21 @@ start_same who rebuild change parent index target =
 
 module _ (who : Caller) (rebuild change : ℕ) (rows : HasStartRows who rebuild change)
     (c : IsCaller who) where
+  -- the caller holds the rebuild's row
   pub rebuild_held : HoldsRow (now who.seat.view) who.number rebuild rebuild_words
   rebuild_held = c.rows RebuildKind rebuild rows.rebuild_is
 
+  -- the caller holds the change's row
   pub change_held : HoldsRow (now who.seat.view) who.number change change_words
   change_held = c.rows ChangeKind change rows.change_is
 
+  -- the base of the rebuild is good
   pub rebuild_good : IsSound who.seat.view → IsGoodBase rebuild
   rebuild_good s =
       held_good who.seat.view s record { caller = who.number; base = rebuild; size = rebuild_words }
       rebuild_held
 
+  -- the two rows don't overlap
   pub rows_apart : IsSound who.seat.view → Apart rebuild rebuild_words change change_words
   rows_apart s =
       held_apart who.seat.view s
@@ -97,6 +101,7 @@ module _ (who : Caller) (rebuild change : ℕ) (rows : HasStartRows who rebuild 
           ),
         )
 
+    -- the caller holds the rows of the start
     pub start_held : HoldsRows (now who.seat.view) who.number
         (rows_of (start_filling who.number parent index target rebuild) change)
     start_held = (change_held, (rebuild_held, tt))

@@ -18,7 +18,7 @@ pub begins_reserving : (event : Event) → Reserves event → Begins event
 begins_reserving (Reserve c base size) is = tt
 begins_reserving _ is = absurd is
 
--- and so does a step of help
+-- a step of help is a step of a start
 pub begins_serving : (change : ℕ) (event : Event) → Serves change event → Begins event
 begins_serving change (Okay c other) is = tt
 begins_serving change (Decide c other said) is = tt
@@ -30,6 +30,7 @@ pub aims_reserving : (target : ℕ) (event : Event) → Reserves event → Start
 aims_reserving target (Reserve c base size) is = tt
 aims_reserving target _ is = absurd is
 
+-- a step of help aims at any target
 pub aims_serving : (target change : ℕ) (event : Event) → Serves change event
     → StartsAt target event
 aims_serving target change (Okay c other) is = tt
@@ -58,7 +59,7 @@ put_went P v change f said w h installs serves =
     (installs i.number) refl))
     (went_all (Serves change) P serves h.between w h.helped)
 
--- the rows of a start are those of one
+-- the rows of a start are of its kind
 pub begins_installing : (change : ℕ) (f : Filling) → f.change.kind ≡ start_kind
     → IsOfKind start_kind (rows_of f change)
 begins_installing change f kind x is = ap (λ (y : ChangeRow). y.kind) (one x is) ∙ kind
@@ -66,7 +67,7 @@ begins_installing change f kind x is = ap (λ (y : ChangeRow). y.kind) (one x is
     one : (x : ChangeRow) → Some f.change ≡ Some x → x ≡ f.change
     one x e = cc
 
--- and they put it in the place of its target
+-- the install of a start aims at its target
 pub aims_installing : (target change : ℕ) (f : Filling) → f.change.from ≡ word_of (InnerAt target)
     → (number : ℕ) → StartsAt target (Install number change (rows_of f change))
 aims_installing target change f from number x is kind =

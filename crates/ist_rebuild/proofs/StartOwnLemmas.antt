@@ -1,4 +1,4 @@
--- The changes of a caller that starts a rebuild: all but that start are what they were. Serves
+-- The changes of a caller that starts a rebuild: all except that start are what they were. Serves
 -- `start`.
 use Rattle.std.proofs.Common.{◌≡◌, ◌≢◌, ◌⊎◌, ℕ, ◌+◌, List, ◌∷◌, Some, sym, ap, ◌∙◌, subst, inl, inr, ⊎_elim, arith}
 use Rattle.std.proofs.lemmas.Bool.Decides.{eqb_tells}
@@ -17,12 +17,12 @@ use Rattle.ist_core.specs.References.{RebuildAt, ref_of}
 use Rattle.ist_core.specs.StartLayout.{start}
 use Rattle.ist_core.specs.Statuses.{start_kind, decided_yes}
 use Rattle.ist_core.proofs.FateLemmas.{enabled_before}
-use Rattle.ist_links.proofs.ChangeLemmas.{undecided_unresolved}
-use Rattle.ist_links.proofs.ComesLemmas.{change_comes}
-use Rattle.ist_links.proofs.OriginLemmas.{ChangeComes, change_was, is_decided, is_installed}
-use Rattle.ist_stability.proofs.LaterLemmas.{goes_on}
-use Rattle.ist_settling.specs.Settling.{IsDoneStart, StartsAreDone}
-use Rattle.ist_settling.proofs.DoneLemmas.{done_stays}
+use Rattle.laws_links.proofs.ChangeLemmas.{undecided_unresolved}
+use Rattle.laws_links.proofs.ComesLemmas.{change_comes}
+use Rattle.laws_links.proofs.OriginLemmas.{ChangeComes, change_was, is_decided, is_installed}
+use Rattle.laws_stability.proofs.LaterLemmas.{goes_on}
+use Rattle.laws_settling.specs.Settling.{IsDoneStart, StartsAreDone}
+use Rattle.laws_settling.proofs.DoneLemmas.{done_stays}
 use Rattle.ist_rule.specs.declared.view.View.{View}
 use Rattle.ist_core.specs.declared.events.Who.TheVariants.{Caller}
 use Rattle.ist_rule.specs.Conditions.{IsResolved}
@@ -31,12 +31,12 @@ use Rattle.ist_rule.specs.Learning.{now}
 use Rattle.ist_rule.proofs.WentOnLemmas.{went_now, went_lawful}
 use Rattle.ist_rebuild.specs.Starting.{StartsNone}
 
--- the event installs none in the caller's name but this change
+-- the event installs no change of the caller except this one
 abbrev pub InstallsBut : ℕ → ℕ → Event → Type 0
 InstallsBut caller but (Install by base rows) = by ≡ caller → base ≡ but
 InstallsBut caller but _ = Unit {0}
 
--- that of another does so
+-- an event of another installs no change of this caller
 others_but : (caller but : ℕ) (event : Event) → whose event ≢ Caller caller
     → InstallsBut caller but event
 others_but caller but (Install by base rows) other = λ same. absurd (other (ap Caller same))
@@ -54,12 +54,12 @@ others_but caller but (Draw by rebuild part) other = tt
 others_but caller but (Place by rebuild i word rows) other = tt
 others_but caller but (Lose by bases) other = tt
 
--- and so does a reserving
+-- a reserving installs no change
 pub reserves_but : (caller but : ℕ) (event : Event) → Reserves event → InstallsBut caller but event
 reserves_but caller but (Reserve by base size) is = tt
 reserves_but caller but _ is = absurd is
 
--- where others made the events, or none but that change was installed
+-- if others made the events, or only that change was installed
 either_but : (caller but : ℕ) (P : Event → Type 0)
     → ((event : Event) → P event → InstallsBut caller but event) → (event : Event)
     → (whose event ≢ Caller caller) ⊎ P event → InstallsBut caller but event
@@ -67,7 +67,7 @@ either_but caller but P all event e =
     ⊎_elim (λ other. others_but caller but event other) (λ is. all event is) e
 
 module _ (pairs : List Pair) (words : ℕ) (opens : CanOpen pairs words) where
-  -- where all changes of a caller were resolved, each of its changes but this one is what it was
+  -- if all changes of a caller were resolved, each of its changes but this one is what it was
   pub own_stays : (P : Event → Type 0) (earlier : Log) (caller but : ℕ)
       → ((event : Event) → P event → InstallsBut caller but event) → (log : Log)
       → GoesOnBy P earlier log → EachEnabled (start pairs words) log
@@ -102,6 +102,7 @@ module _ (pairs : List Pair) (words : ℕ) (opens : CanOpen pairs words) where
 module _ (P : Event → Type 0) (v w : View) (g : WentOn P v w) (number but : ℕ)
     (mine : v.who ≡ Caller number) (only : (event : Event) → P event → InstallsBut number but event)
     (resolved : IsResolved v number) where
+  -- each change of the caller but that one was what it is
   pub own_was : (base : ℕ) (x : ChangeRow) → (now w).pieces base ≡ Some (Change x) → x.owner ≡ number
       → base ≢ but → (now v).pieces base ≡ Some (Change x)
   own_was base x e own ne =
@@ -111,7 +112,7 @@ module _ (P : Event → Type 0) (v w : View) (g : WentOn P v w) (number but : �
       (subst (λ who. LaterBy who P v.log w.log) mine g.later) (went_lawful P v w g).enabled resolved
       base x (subst (λ t. t.pieces base ≡ Some (Change x)) (went_now P v w g) e) own ne
 
-  -- each start that was decided yes is done, where all were, but for that change
+  -- each start that was decided yes is done, if all were, except that change
   pub starts_but : StartsAreDone (now v) number → (base : ℕ) (x : ChangeRow)
       → (now w).pieces base ≡ Some (Change x) → x.owner ≡ number → x.kind ≡ start_kind
       → x.decision ≡ decided_yes → (rebuild : ℕ) → ref_of x.to ≡ Some (RebuildAt rebuild)
@@ -126,7 +127,7 @@ module _ (P : Event → Type 0) (v w : View) (g : WentOn P v w) (number but : �
       (done base x old own kind said rebuild to))))
       (eqb_tells base but)
 
--- where a seat has reserved alone, no change on the node was decided no since
+-- if a seat has only reserved, no change on the node was decided no since
 pub unrefused_reserving : (v w : View) → WentOn Reserves v w → (number node : ℕ)
     → v.who ≡ Caller number → IsResolved v number → IsUnrefused (now v) number node
     → IsUnrefused (now w) number node
@@ -135,7 +136,7 @@ unrefused_reserving v w g number node mine resolved none base x e own on =
     (own_was Reserves v w g number (base + 1) mine (reserves_but number (base + 1)) resolved base x
     e own (λ same. let more : base ≡ base + 1 = same in omega arith)) own on
 
--- and the starts that were decided yes are done, where all were
+-- if a seat has only reserved, the starts that were decided yes are done, if all were
 pub starts_reserving : (v w : View) → WentOn Reserves v w → (number : ℕ) → v.who ≡ Caller number
     → IsResolved v number → StartsAreDone (now v) number → StartsAreDone (now w) number
 starts_reserving v w g number mine resolved done base x e own kind said rebuild to =
@@ -143,7 +144,7 @@ starts_reserving v w g number mine resolved done base x e own kind said rebuild 
     (starts_but Reserves v w g number (base + 1) mine (reserves_but number (base + 1)) resolved done
     base x e own kind said rebuild to)
 
--- and none was started
+-- if a seat has only reserved, none was started
 pub starts_none_reserving : (v w : View) → WentOn Reserves v w → (number : ℕ)
     → v.who ≡ Caller number → IsResolved v number → StartsNone (now v) (now w) number
 starts_none_reserving v w g number mine resolved base x e own kind said =

@@ -29,7 +29,7 @@ serving_keeps change (Decide c other said) is = tt
 serving_keeps change (Resolve c other) is = tt
 serving_keeps change _ is = absurd is
 
--- ---- where the slot held another word
+-- ---- if the slot held another word
 
 module _ (who : Caller) (seat : SeatFace) (c : IsCaller who) (g : GoesOnTo who.seat.view seat.view)
   where
@@ -46,7 +46,7 @@ module _ (who : Caller) (seat : SeatFace) (c : IsCaller who) (g : GoesOnTo who.s
               (goes_on_went InstallsNone who.seat.view seat.view g);
         }
 
--- ---- where it was installed
+-- ---- if it was installed
 
 -- the rows of a start are the change's and the rebuild's
 pub start_bases : (number parent index target rebuild change : ℕ) (f : Filling)
@@ -58,7 +58,7 @@ start_bases number parent index target rebuild change f is =
 module _ (who : Caller) (rebuild change : ℕ) (rows : HasStartRows who rebuild change)
     (c : IsCaller who) (f : Filling) (bases : bases_of (rows_of f change) ≡ change ∷ rebuild ∷ [])
     (seat : SeatFace) (i : IsInstalled who.seat.view change f seat.view) where
-  -- the caller before the install, and behind it without the rows
+  -- the caller before the install, and after it without the rows
   abbrev before : Caller
   before = record who { seat = record who.seat { view = i.before } }
 
@@ -90,12 +90,15 @@ module _ (who : Caller) (rebuild change : ℕ) (rows : HasStartRows who rebuild 
     kept : WentOn KeepsRows seat.view last.view
     kept = went_all (Serves change) KeepsRows (serving_keeps change) seat.view last.view g
 
+    -- after the help it is a caller without the two rows
     pub put_caller : IsCaller (bare last)
     put_caller = caller_went (bare seat) last bare_caller kept
 
+    -- the refused builds of the caller are still refused
     pub put_refused : HasRefused who → HasRefused (bare last)
     put_refused r = refused_went (bare seat) last bare_caller (bare_refused r) kept
 
+    -- the caller is quiet again
     pub put_quiet : IsQuiet who → IsOut last.view change → IsQuiet (bare last)
     put_quiet q out =
         record {

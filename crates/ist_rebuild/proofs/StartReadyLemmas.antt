@@ -43,14 +43,14 @@ use Rattle.ist_rebuild.proofs.StartFillLemmas.{rebuild_good, start_held, start_s
 
 -- ---- the slot and the target
 
--- the slot that is meant is one still
+-- the slot of the start is still a slot
 pub start_slot : (v : View) → IsSound v → (parent index target : ℕ) → MayStart v parent index target
     → (word : ℕ) × SlotHolds (now v) parent index word
 start_slot v s parent index target m =
     slot_later (state_of v.start v.words m.prefix) (now v)
     (grow_between v.start v.words m.prefix v.log s.lawful.enabled m.goes_on) parent index _ m.stood
 
--- so the parent is a node
+-- the parent is a node
 pub start_node : (v : View) → IsSound v → (parent index target : ℕ) → MayStart v parent index target
     → IsNode (now v) parent
 start_node v s parent index target m =
@@ -61,7 +61,7 @@ start_node v s parent index target m =
     at t word (in_anchor e f is) = is_anchor e
     at t word (in_row r e f) = is_inner r e
 
--- and the target's base is good
+-- the target's base is good
 pub target_good : (v : View) → IsSound v → (parent index target : ℕ)
     → MayStart v parent index target → IsGoodBase target
 target_good v s parent index target m =
@@ -124,7 +124,7 @@ may_start_on v w parent index target g m =
       due = ⊎_elim (λ due. inl (due_on m.row row.0 row.2 due)) (λ top. inr top) m.due;
     }
 
--- so is one that has filled the rows of a start
+-- a caller that has filled the rows of a start is quiet
 pub filled_quiet : (mid who : Caller) (rebuild change parent index target : ℕ)
     → who ≡ filled_start mid rebuild change parent index target → IsQuiet mid → IsQuiet who
 filled_quiet mid who rebuild change parent index target is q =
@@ -181,7 +181,7 @@ module _ (v : View) (parent index target : ℕ) (m : MayStart v parent index tar
       (ever_later (start v.start v.words) (λ t. Linked t parent) v.log u.log
       (later_by-goes_on g.later) m.linked)
 
-  -- with the view in which the rows are filled
+  -- the change may be installed, with the view in which the rows are filled
   installable : IsSound v → IsInstallable full.seat.view change
       (start_filling mid.number parent index target rebuild)
   installable sv =

@@ -83,7 +83,7 @@ spare_here own Rebuild base =
     ∙ ap (λ a. is_base own.leaf base || a) (or_any (is_base own.pair base))
     ∙ or_any (is_base own.leaf base)
 
--- the rows of builds are the same, where one more spare row is held
+-- the rows of builds are the same, if one more spare row is held
 builds_beside : (own : Spares) (kind : Kind) (row : HeldRow) (held : List HeldRow)
     → row_of kind own ≡ None → ((h : HeldRow) → Among h held → row.base ≢ h.base)
     → filter (λ h. not (is_spare (with_row kind row.base own) h.base)) (held ++ row ∷ [])
@@ -98,7 +98,7 @@ builds_beside own kind row (h ∷ held) none apart =
 
 -- ---- refused builds
 
--- what they are depends on the state, the number and the spare rows alone
+-- refused builds depend only on the state, the number and the spare rows
 refused_as : (a b : Caller) → now b.seat.view ≡ now a.seat.view → b.number ≡ a.number
     → spares_of b ≡ spares_of a → HasRefused a → HasRefused b
 refused_as a b now_is number_is rows_are r =
@@ -108,7 +108,7 @@ refused_as a b now_is number_is rows_are r =
     (sym number_is)
     (subst (λ t. AreStuck t (build_sizes t a.number (spares_of a))) (sym now_is) r))
 
--- they stay refused where a spare row is reserved
+-- refused builds stay refused if a spare row is reserved
 refused_beside : (old new : Caller) (kind : Kind) (base : ℕ) → IsCaller old
     → row_of kind (spares_of old) ≡ None
     → Reserved old.seat.view old.number base (kind_words kind) new.seat.view
@@ -210,7 +210,7 @@ module _ (words : ℕ) (kind : Kind) (old new : Caller) (answer : Result ℕ Ful
           goes_on_went Reserves old.seat.view new.seat.view
           (goes_on_more _ _ _ r.cause.seen (looked_goes_on _ _ _ _ r.cause.looked))
 
-  -- and its refused builds are refused still
+  -- the refused builds of the caller stay refused
   pub reserve_refused : IsCaller old → new.number ≡ old.number → HasRefused old → HasRefused new
   reserve_refused c number_is was =
       at (row_of kind (spares_of old)) refl held answer fresh full
@@ -228,7 +228,7 @@ module _ (words : ℕ) (kind : Kind) (old new : Caller) (answer : Result ℕ Ful
           (goes_on_went KeepsRows old.seat.view new.seat.view
           (goes_on_more _ _ _ r.cause.seen (looked_goes_on _ _ _ _ r.cause.looked))))
 
--- ---- for want of words
+-- ---- too few words
 
 -- the rebuild's row was refused
 pub rebuild_short : (v : View) (words : ℕ) (full : Full) (w : View)

@@ -1,4 +1,4 @@
--- What comes of a start that was put in. Serves `start`.
+-- The results of a start that was put in. Serves `start`.
 use Rattle.std.proofs.Common.{◌≡◌, ◌≢◌, ℕ, Bool, true, false, Option, Some, refl, sym, ap, ◌∙◌, subst}
 use Rattle.ist_core.specs.declared.events.Event.TheVariants.{Install}
 use Rattle.ist_core.specs.declared.states.ChangeRow.{ChangeRow}
@@ -15,7 +15,7 @@ use Rattle.ist_core.proofs.InstallLemmas.{with_installed}
 use Rattle.ist_core.proofs.NamingStepLemmas.{changed_at-fixed, installed_stands}
 use Rattle.ist_core.proofs.ReferenceLemmas.{ref_of-word_of}
 use Rattle.ist_core.proofs.RowLemmas.{with_row-same, with_row-other}
-use Rattle.ist_settling.proofs.RefusedLemmas.{refused_closed}
+use Rattle.laws_settling.proofs.RefusedLemmas.{refused_closed}
 use Rattle.ist_rule.specs.declared.view.View.{View}
 use Rattle.ist_rule.specs.Learning.{now}
 use Rattle.ist_rule.specs.Rule.{IsSound}
@@ -33,7 +33,7 @@ module _ (number parent index target rebuild change : ℕ) (apart : rebuild ≢ 
   abbrev fresh_row : RebuildRow
   fresh_row = record { target = target; parent = parent; index = index; root = 7; draw = 0 }
 
-  -- the rows that the Install publishes stand behind it
+  -- the rows that the Install publishes are there after it
   change_stands : (t : Snapshot) → (after t (Install number change
       (rows_of (start_filling number parent index target rebuild) change))).pieces change
       ≡ Some (Change row)
@@ -60,6 +60,7 @@ module _ (number parent index target rebuild change : ℕ) (apart : rebuild ≢ 
     grow : AllGrow (now h.between).pieces (now w).pieces
     grow = went_grow (Serves change) h.between w h.helped
 
+    -- the change is still published
     pub put_change : (x : ChangeRow) × ((now w).pieces change ≡ Some (Change x)) × ChangeGrows row x
     put_change =
         let i = h.installed in
@@ -68,6 +69,7 @@ module _ (number parent index target rebuild change : ℕ) (apart : rebuild ≢ 
         (ap (λ (x : View). (now x).pieces change) i.logged.view
         ∙ change_stands (state_of u.start u.words i.logged.before))
 
+    -- the rebuild is published
     pub put_rebuild : (x : RebuildRow) × ((now w).pieces rebuild ≡ Some (Rebuild x))
         × RebuildGrows fresh_row x
     put_rebuild =
@@ -117,7 +119,7 @@ module _ (number parent index target rebuild change : ℕ) (apart : rebuild ≢ 
       (refused_closed w.start w.words s.lawful.opens w.log s.lawful.enabled change x.0 x.1
       (ap (λ (c : ChangeRow). c.decision) (sym same) ∙ h.decided.decision))
 
-  -- a change that stands there then was decided so, and is of that rebuild
+  -- a change that is there then has this decision, and starts that rebuild
   pub put_said : (v : View) (said : Bool) (w : View)
       → (h : HasPutIn v change (start_filling number parent index target rebuild) said w)
       → (y : ChangeRow) → (now w).pieces change ≡ Some (Change y)
@@ -126,6 +128,7 @@ module _ (number parent index target rebuild change : ℕ) (apart : rebuild ≢ 
       ap (λ (c : ChangeRow). c.decision)
       (one_change v said w h _ y h.decided.row e h.decided.published)
 
+  -- the change starts that rebuild and no other
   pub put_to : (v : View) (said : Bool) (w : View)
       → HasPutIn v change (start_filling number parent index target rebuild) said w
       → IsGoodBase rebuild → (y : ChangeRow) → (now w).pieces change ≡ Some (Change y) → (other : ℕ)
@@ -145,7 +148,7 @@ module _ (number parent index target rebuild change : ℕ) (apart : rebuild ≢ 
           → ref_of (word_of (RebuildAt rebuild)) ≡ Some (RebuildAt rebuild) → other ≡ rebuild
       one_ref o f g k = one_base other rebuild (sym g ∙ sym f ∙ k)
 
--- where the slot held another word it holds that
+-- if the slot held another word, it holds that word
 pub other_stood : (f : Filling) (number parent index target rebuild change : ℕ) (v : View)
     (word : ℕ) (w : View) → f ≡ start_filling number parent index target rebuild
     → IsOther v change f word w → StoodInstead w parent index target word

@@ -1,4 +1,4 @@
--- Words that a seat has stored one behind another. Serves `start_rows`.
+-- Words that a seat has stored one after another. Serves `start_rows`.
 use Rattle.std.proofs.Common.{◌≡◌, ◌≢◌, ℕ, zero, suc, ◌+◌, ◌<◌, List, [], ◌∷◌, ◌++◌, length, take, get_or, slice_get, Some, refl, sym, ap, ◌∙◌, ⊎_elim, arith}
 use Rattle.std.proofs.lemmas.List.{take_more, length-take-le}
 use Rattle.ist_core.specs.Rows.{Apart}
@@ -9,7 +9,7 @@ use Rattle.ist_rule.proofs.StoreLemmas.{own_here, own_else}
 use Rattle.ist_rows.specs.declared.callers.Caller.{Caller}
 use Rattle.ist_rebuild.specs.StartSteps.{storing_all}
 
--- one word more behind the others
+-- one more word after the others
 pub storing_all-more : (v : View) (place : ℕ) (words : List ℕ) (word : ℕ)
     → storing_all v place (words ++ word ∷ [])
     ≡ storing (storing_all v place words) (place + length words) word
@@ -47,7 +47,7 @@ stored_at v place (word ∷ words) (suc k) less =
     ∙ ap (λ p. Some (own_at (storing_all (storing v place word) (place + 1) words).own p))
     (let same : place + 1 + k ≡ place + suc k = omega arith in same)
 
--- and are so still once others were stored apart from them
+-- stored words stay stored when others are stored apart from them
 pub stored_first : (v : View) (place : ℕ) (words : List ℕ) (far : ℕ) (more : List ℕ)
     → Apart place (length words) far (length more) → (k : ℕ) → k < length words
     → slice_get words k
@@ -58,7 +58,7 @@ stored_first v place words far more apart k less =
     (λ j low e. ⊎_elim (λ a. let out : far + j ≢ place + k = omega arith in out e)
     (λ a. let out : far + j ≢ place + k = omega arith in out e) apart)))
 
--- a caller that has stored the first words, and then the next, has stored one more
+-- a caller that has stored the first words, and then the next, has stored one word more
 pub stored_step : (old who new : Caller) (base at i : ℕ) (words : List ℕ) → i < length words
     → at ≡ i
     → who ≡ record old {
@@ -94,7 +94,7 @@ stored_step old who new base at i words less at_is was is =
 
 -- ---- what stays while words are stored
 
--- nothing of the view changes but the words of its own
+-- storing words changes only the own words of the view
 pub storing_all-same : (v : View) (place : ℕ) (words : List ℕ)
     → storing_all v place words ≡ record v { own = (storing_all v place words).own }
 storing_all-same v place [] = refl

@@ -1,4 +1,4 @@
--- Words that a seat has stored one behind another, and the change that they are. Serves
+-- Words that a seat has stored one after another, and the change that they are. Serves
 -- `fill_change` and `prepare`.
 use Rattle.std.proofs.Common.{◌≡◌, ◌≢◌, ℕ, zero, suc, ◌+◌, ◌<◌, List, [], ◌∷◌, ◌++◌, length, take, get_or, slice_get, Some, refl, sym, ap, ◌∙◌, arith}
 use Rattle.std.proofs.lemmas.List.{take_more, length-take-le}
@@ -11,7 +11,7 @@ use Rattle.ist_rule.proofs.StoreLemmas.{own_here, own_else}
 use Rattle.ist_rows.specs.declared.callers.Caller.{Caller}
 use Rattle.ist_rebuild.specs.Finishing.{storing_words, filling_at}
 
--- one word more behind the others
+-- one more word after the others
 storing_words-more : (v : View) (place : ℕ) (words : List ℕ) (word : ℕ)
     → storing_words v place (words ++ word ∷ [])
     ≡ storing (storing_words v place words) (place + length words) word
@@ -49,7 +49,7 @@ stored_at v place (word ∷ words) (suc k) less =
     ∙ ap (λ p. Some (own_at (storing_words (storing v place word) (place + 1) words).own p))
     (let same : place + 1 + k ≡ place + suc k = omega arith in same)
 
--- a caller that has stored the first words, and then the next, has stored one more
+-- a caller that has stored the first words, and then the next, has stored one word more
 pub stored_step : (old who new : Caller) (base at i : ℕ) (words : List ℕ) → i < length words
     → at ≡ i
     → who ≡ record old {
@@ -83,7 +83,7 @@ stored_step old who new base at i words less at_is was is =
     }) was
     ∙ ap {B = Caller} (λ view. record old { seat = record old.seat { view = view } }) views
 
--- nothing but the own words changes
+-- storing words changes only the own words of the view
 pub storing_words-same : (v : View) (place : ℕ) (words : List ℕ)
     → storing_words v place words ≡ record v { own = (storing_words v place words).own }
 storing_words-same v place [] = refl
@@ -130,7 +130,7 @@ module _ (v : View) (base : ℕ) (row : ChangeRow) where
       }
   same a b c d e f g h i p q r s t u x y z = cc
 
-  -- the words of a change that were stored say that change
+  -- the stored words of a change are read back as that change
   pub read_back : (filling_at w base).change ≡ row
   read_back =
       same _ _ _ _ _ _ _ _ _

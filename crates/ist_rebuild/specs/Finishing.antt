@@ -1,5 +1,5 @@
 -- What the parts of a help promise each other: the caller while it helps, the words of a rebuild,
--- and the change that is to finish it.
+-- and the change that will finish it.
 use Rattle.std.specs.Prelude.{◌≡◌, ℕ, ◌+◌, List, [], ◌∷◌, slice_get, Some}
 use Rattle.ist_core.specs.declared.states.ChangeRow.{ChangeRow}
 use Rattle.ist_core.specs.declared.states.RebuildRow.{RebuildRow}
@@ -29,7 +29,7 @@ pub record IsAble (who : Caller) : Type 0 where
   pub refused : HasRefused who
   pub quiet : IsQuiet who
 
--- the caller has made steps of help alone, and may help still
+-- the caller has only made steps of help, and may still help
 pub record HasHelped (old new : Caller) : Type 0 where
   pub able : IsAble new
   pub number : new.number ≡ old.number
@@ -43,7 +43,7 @@ pub record IsRebuild (t : Snapshot) (base : ℕ) : Type 0 where
   pub row : RebuildRow
   pub published : t.pieces base ≡ Some (Rebuild row)
 
--- the word stands so many places behind the base of a published rebuild
+-- the word is at this offset from the base of a published rebuild
 pub record IsWordOf (t : Snapshot) (rebuild offset word : ℕ) : Type 0 where
   pub row : RebuildRow
   pub published : t.pieces rebuild ≡ Some (Rebuild row)
@@ -51,7 +51,7 @@ pub record IsWordOf (t : Snapshot) (rebuild offset word : ℕ) : Type 0 where
 
 -- ---- the change
 
--- the change that puts the root of the rebuild in its place, in the name of this caller
+-- the change that puts the root of the rebuild in its place, owned by this caller
 abbrev pub finish_row : Plan → ℕ → ChangeRow
 finish_row plan owner =
     record {
@@ -66,8 +66,8 @@ finish_row plan owner =
       value = 0;
     }
 
--- the plan is for a started rebuild, and says its slot and its root, which is built: whoever is to
--- finish it, the change fits its kind
+-- the plan is for a started rebuild, and gives its slot and its root, which is built; whoever owns
+-- the finish, the change fits its kind
 pub record IsPlan (v : View) (plan : Plan) : Type 0 where
   pub row : RebuildRow
   pub published : (now v).pieces plan.rebuild ≡ Some (Rebuild row)
@@ -76,7 +76,7 @@ pub record IsPlan (v : View) (plan : Plan) : Type 0 where
   pub started : IsStarted (now v) plan.rebuild
   pub fits : (owner : ℕ) → FitsKind (start v.start v.words) v.log (finish_row plan owner) []
 
--- the view that has stored the words, from the place on
+-- the view that has stored the words one after another, from the place on
 abbrev pub storing_words : View → ℕ → List ℕ → View
 storing_words v place [] = v
 storing_words v place (word ∷ words) = storing_words (storing v place word) (place + 1) words

@@ -1,5 +1,5 @@
--- When a caller may start or help a rebuild, how its seat goes on meanwhile, and for want of which
--- words it is refused.
+-- When a caller may start or help a rebuild, how its seat goes on meanwhile, and when it is refused
+-- words.
 use Rattle.std.specs.Prelude.{◌≡◌, ℕ, ◌+◌, ◌<◌, List, Some}
 use Rattle.ist_core.specs.declared.events.Event.{Event}
 use Rattle.ist_core.specs.declared.events.Event.TheVariants.{Enter, Reserve, Install, Okay, Count, Decide, Resolve}
@@ -41,14 +41,15 @@ Begins (Decide caller base said) = Unit {0}
 Begins (Resolve caller base) = Unit {0}
 Begins _ = ⊥
 
--- a start that the event installs is in the place of this node
+-- a start that the event installs replaces this node
 abbrev pub StartsAt : ℕ → Event → Type 0
 StartsAt target (Install caller base rows) =
     (change : ChangeRow) → first_change rows ≡ Some change → change.kind ≡ start_kind
     → change.from ≡ word_of (InnerAt target)
 StartsAt target _ = Unit {0}
 
--- the event is a step of helping one: of Installs that of a finish alone, no Count, and no Enter
+-- the event is a step of helping a rebuild: it is not a Count and not an Enter, and an Install only
+-- of a finish
 abbrev pub Serves : Event → Type 0
 Serves (Enter caller) = ⊥
 Serves (Install caller base rows) = IsOfKind finish_kind rows
@@ -59,10 +60,10 @@ Serves _ = Unit {0}
 abbrev pub KeepsFresh : Caller → Caller → Type 0
 KeepsFresh old new = (new.leaf ≡ old.leaf) × (new.pair ≡ old.pair)
 
--- ---- for want of words
+-- ---- too few words
 
--- a load of the first word, the last step of the call, gave how many words are used, and fewer are left
--- than were asked for; before it the seat made events that P is true of
+-- a load of the first word, the last step of the call, gave how many words are used, and fewer are
+-- left than were asked for; before it the seat went on by events that P is true of
 pub record IsShortOf (P : Event → Type 0) (v : View) (words : ℕ) (full : Full) (w : View) : Type 0 where
   pub before : View
   pub seen : WentOn P v before

@@ -1,4 +1,4 @@
--- Helping a rebuild: what comes of it.
+-- Helping a rebuild: what becomes of it.
 use Rattle.std.specs.Prelude.{◌≡◌, ℕ, ◌≤◌, Some}
 use Rattle.ist_core.specs.declared.ports.Full.{Full}
 use Rattle.ist_core.specs.declared.states.RebuildRow.{RebuildRow}
@@ -12,15 +12,15 @@ use Rattle.ist_rule.specs.declared.view.View.{View}
 use Rattle.ist_rule.specs.Learning.{now}
 use Rattle.ist_rebuild.specs.Going.{IsShortOf, Serves}
 
--- the rebuild stands in its slot still, in a parent that isn't open
+-- the rebuild is still in its slot, in a parent that isn't open
 pub record IsLeftToParent (t : Snapshot) (rebuild : ℕ) : Type 0 where
   pub row : RebuildRow
   pub published : t.pieces rebuild ≡ Some (Rebuild row)
   pub closed : ¬ (IsOpen t row.parent)
   pub stands : ¬ (IsReplaced t rebuild)
 
--- so many words were asked for: for a change, or for a row over no more keys than the finished target
--- has, and over two at least
+-- this many words were asked for: for a change, or for a row over at least two keys and at most as
+-- many as the finished target has
 pub data IsAskedFor (t : Snapshot) (rebuild asked : ℕ) : Type 0 where
   for_change : asked ≡ change_words → IsAskedFor t rebuild asked
   for_row : (row : RebuildRow) (k some : ℕ) → t.pieces rebuild ≡ Some (Rebuild row)

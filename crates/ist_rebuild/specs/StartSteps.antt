@@ -43,12 +43,12 @@ start_filling number parent index target rebuild =
 
 -- ---- filling
 
--- the view that has stored the words, from the place on
+-- the view that has stored the words one after another, from the place on
 abbrev pub storing_all : View → ℕ → List ℕ → View
 storing_all v place [] = v
 storing_all v place (word ∷ words) = storing_all (storing v place word) (place + 1) words
 
--- the caller that has stored the words, from the place on
+-- the caller that has stored the words one after another, from the place on
 abbrev pub filled_with : Caller → ℕ → List ℕ → Caller
 filled_with who place words =
     record who { seat = record who.seat { view = storing_all who.seat.view place words } }

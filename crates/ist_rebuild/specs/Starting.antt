@@ -1,4 +1,4 @@
--- Starting a rebuild: when a caller may, and what comes of it.
+-- Starting a rebuild: when a caller may, and what becomes of it.
 use Rattle.std.specs.Prelude.{◌≡◌, ◌≢◌, ℕ, ◌⊎◌, Result, Ok, Err, Some}
 use Rattle.ist_core.specs.declared.ports.Full.{Full}
 use Rattle.ist_core.specs.declared.states.ChangeRow.{ChangeRow}
@@ -19,15 +19,15 @@ use Rattle.ist_build.specs.Laying.{Reserves}
 use Rattle.ist_rule.specs.declared.view.View.{View}
 use Rattle.ist_rule.specs.Going.{WentOn}
 use Rattle.ist_rule.specs.Learning.{now}
-use Rattle.ist_settling.specs.Settling.{IsDoneStart, StartsAreDone}
+use Rattle.laws_settling.specs.Settling.{IsDoneStart, StartsAreDone}
 use Rattle.ist_rebuild.specs.declared.answers.Started.{Started}
 use Rattle.ist_rebuild.specs.declared.answers.Started.TheVariants.{Yes, Other, Marked}
 use Rattle.ist_rebuild.specs.Going.{IsShortOf, Begins}
 
 -- ---- when
 
--- the seat has seen the target stand in this slot of the parent, which was linked; and the target is
--- due, or the parent is the anchor
+-- the seat has seen the target in this slot of the parent, which was linked; and the target is due,
+-- or the parent is the anchor
 pub record MayStart (v : View) (parent index target : ℕ) : Type 0 where
   pub prefix : Log
   pub goes_on : GoesOn prefix v.log
@@ -37,7 +37,7 @@ pub record MayStart (v : View) (parent index target : ℕ) : Type 0 where
   pub published : (now v).pieces target ≡ Some (Inner row)
   pub due : IsDue row ⊎ (parent ≡ anchor)
 
--- ---- what comes of it
+-- ---- what becomes of it
 
 -- the rebuild is a started one of this target, in this slot of the parent
 pub record IsStartedAt (t : Snapshot) (rebuild parent index target : ℕ) : Type 0 where
@@ -48,12 +48,12 @@ pub record IsStartedAt (t : Snapshot) (rebuild parent index target : ℕ) : Type
   pub index_is : row.index ≡ index
   pub started : IsStarted t rebuild
 
--- the slot held this word in place of the target when the start was to be installed
+-- the slot held this word, and not the target, when the start was about to be installed
 pub record StoodInstead (w : View) (parent index target word : ℕ) : Type 0 where
   pub holds : SlotHolds (now w) parent index word
   pub differs : word ≢ word_of (InnerAt target)
 
--- each start of the caller that was decided yes is done, but for that of this rebuild
+-- each start of the caller that was decided yes is done, except the start of this rebuild
 abbrev pub StartsAreDoneBut : Snapshot → ℕ → ℕ → Type 0
 StartsAreDoneBut t caller but =
     (base : ℕ) (change : ChangeRow) → t.pieces base ≡ Some (Change change)
@@ -61,7 +61,7 @@ StartsAreDoneBut t caller but =
     → (rebuild : ℕ) → ref_of change.to ≡ Some (RebuildAt rebuild)
     → (rebuild ≡ but) ⊎ IsDoneStart t change rebuild
 
--- where a rebuild was started, the others that the caller started are done; and where none was, all are
+-- if a rebuild was started, all other starts of the caller are done; if none was, all are
 abbrev pub LeavesDone : Snapshot → ℕ → Result Started Full → Type 0
 LeavesDone t caller (Ok (Yes rebuild)) = StartsAreDoneBut t caller rebuild
 LeavesDone t caller (Ok (Other word)) = StartsAreDone t caller
@@ -77,22 +77,22 @@ StartsNone t u caller =
     → change.owner ≡ caller → change.kind ≡ start_kind → change.decision ≡ decided_yes
     → t.pieces base ≡ Some (Change change)
 
--- where no rebuild is answered, none was started
+-- unless a rebuild is returned, none was started
 abbrev pub LeavesUnstarted : Snapshot → Snapshot → ℕ → Result Started Full → Type 0
 LeavesUnstarted t u caller (Ok (Yes rebuild)) = Unit {0}
 LeavesUnstarted t u caller (Ok (Other word)) = StartsNone t u caller
 LeavesUnstarted t u caller (Ok Marked) = StartsNone t u caller
 LeavesUnstarted t u caller (Err full) = StartsNone t u caller
 
--- and where the slot held another word, or a row was refused, nothing was installed: the caller has
--- made reservings alone
+-- if the slot held another word, or a row was refused, nothing was installed: the caller has only
+-- made reservings
 abbrev pub LeavesUninstalled : View → View → Result Started Full → Type 0
 LeavesUninstalled v w (Ok (Yes rebuild)) = Unit {0}
 LeavesUninstalled v w (Ok (Other word)) = WentOn Reserves v w
 LeavesUninstalled v w (Ok Marked) = Unit {0}
 LeavesUninstalled v w (Err full) = WentOn Reserves v w
 
--- ---- for want of words
+-- ---- too few words
 
 -- the caller was refused a row for the rebuild, or for the change
 pub record IsStartRefused (v : View) (words : ℕ) (full : Full) (w : View) : Type 0 where

@@ -1,9 +1,9 @@
-//! What comes of starting a rebuild, and of helping one.
+//! The results of starting a rebuild, and of helping one.
 
-/// What came of starting a rebuild.
+/// The result of starting a rebuild.
 #[derive(Clone, Copy, Debug, PartialEq, Eq, Drop)]
 pub enum Started {
-    /// The rebuild with this base stands in the slot.
+    /// The rebuild with this base is in the slot.
     Yes { rebuild: u32 },
     /// The slot held this word, and not the target.
     Other(u64),
@@ -11,11 +11,11 @@ pub enum Started {
     Marked,
 }
 
-/// What came of helping a rebuild.
+/// The result of helping a rebuild.
 #[derive(Clone, Copy, Debug, PartialEq, Eq, Drop)]
 pub enum Helped {
     /// The root of the rebuild was put in its place.
     Replaced,
-    /// The rebuild stands in its slot still: the parent isn't open.
+    /// The rebuild is still in its slot: the parent isn't open.
     ParentMarked,
 }

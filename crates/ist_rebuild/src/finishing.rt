@@ -1,10 +1,10 @@
 //! Putting the root of a rebuild in its place, by a change.
-ghost use Rattle.std.specs.Prelude.{◌≡◌, ℕ, ◌≤◌, List, length, Ok, Some, IfOk, IfErr};
+ghost use Rattle.std.specs.Prelude.{◌≡◌, ◌≢◌, ℕ, ◌≤◌, List, length, Ok, None, Some, IfOk, IfErr};
 ghost use Rattle.ist_core.specs.Installing.{IsUnrefused};
 ghost use Rattle.ist_core.specs.Pieces.{Change as ChangeRowOf, words_of};
 ghost use Rattle.ist_core.specs.Rebuilding.{IsStarted, IsReplaced};
 ghost use Rattle.ist_core.specs.RowLayout.{change_words};
-ghost use Rattle.ist_core.specs.References.{IsGoodBase};
+ghost use Rattle.ist_core.specs.References.{IsGoodBase, RebuildAt, word_of};
 ghost use Rattle.ist_core.specs.Slots.{SlotHolds, IsOpen};
 ghost use Rattle.ist_rule.specs.Faces.{word_count_of};
 ghost use Rattle.ist_rule.specs.Learning.{now};
@@ -15,6 +15,7 @@ ghost use Rattle.ist_rebuild.specs.declared.finishing.Tried.TheVariants.{Yes, No
 ghost use Rattle.ist_rebuild.specs.Finishing.{IsAble, HasHelped, IsPlan, IsPrepared};
 ghost use Rattle.ist_rebuild.specs.Finishing.{finish_row, storing_words};
 ghost use Rattle.ist_rebuild.specs.Helping.{IsLeftToParent, IsHelpRefused};
+ghost use Rattle.laws_coming.specs.Further.{CameFurther};
 
 use crate::answers::Helped;
 use crate::sites::{Met, Plan, meet, settle};
@@ -24,9 +25,8 @@ use ist_dcss::{Decision, Installed, help, install, is_open};
 use ist_layout::{FINISH_KIND, Ref, UNDECIDED};
 use ist_rows::{Caller, Kind, fill, reserve};
 use ist_rule::{TreeTable, know};
-use std::sync::Wait;
 
-// What came of trying to install a finish.
+// The result of trying to install a finish.
 #[derive(Clone, Copy, Drop)]
 enum Tried {
     // It was decided yes.
@@ -38,12 +38,7 @@ enum Tried {
 }
 
 /// Gives the rebuild its root, and fills the root's parts.
-pub(crate) fn build_out<R: Wait>(
-    table: &TreeTable,
-    rt: &R,
-    who: &mut Caller,
-    rebuild: u32,
-) -> Result<(), Full>
+pub(crate) fn build_out(table: &TreeTable, who: &mut Caller, rebuild: u32) -> Result<(), Full>
     requires same_table { who.old.seat.table ≡ table.now.table }
     requires able { IsAble who.old }
     requires buildable { IsBuildable (now who.old.seat.view) rebuild }
@@ -54,12 +49,12 @@ pub(crate) fn build_out<R: Wait>(
         IsHelpRefused who.old.seat.view rebuild (word_count_of table.now) full who.new.seat.view) }
 {
     know(&who.seat);
-    set_root(table, rt, who, rebuild)?;
+    set_root(table, who, rebuild)?;
     know(&who.seat);
-    fill_parts(table, rt, who, rebuild)
+    fill_parts(table, who, rebuild)
 }
 
-// The words of the finish, in the order of its row.
+// Returns the words of the finish, in the order of its row.
 fn finish_words(plan: Plan, owner: u32) -> [u64; 9]
     requires good { IsGoodBase plan.rebuild }
     ensures value { result ≡ words_of (ChangeRowOf (finish_row plan owner)) }
@@ -96,8 +91,8 @@ fn fill_change(table: &TreeTable, who: &mut Caller, change: u32, words: &[u64])
     }
 }
 
-// Fills the caller's change row as the finish of the plan, and answers it.
-fn prepare<R: Wait>(table: &TreeTable, rt: &R, who: &mut Caller, plan: Plan) -> Result<u32, Full>
+// Fills the caller's change row as the finish of the plan, and returns it.
+fn prepare(table: &TreeTable, who: &mut Caller, plan: Plan) -> Result<u32, Full>
     requires same_table { who.old.seat.table ≡ table.now.table }
     requires able { IsAble who.old }
     requires plan { IsPlan who.old.seat.view plan }
@@ -110,7 +105,7 @@ fn prepare<R: Wait>(table: &TreeTable, rt: &R, who: &mut Caller, plan: Plan) -> 
 {
     know(&who.seat);
     // Reserve, unless the caller holds a change row. Meets the reserving of others.
-    let change = reserve(table, rt, who, Kind::Change)?;
+    let change = reserve(table, who, Kind::Change)?;
     know(&who.seat);
     let words = finish_words(plan, who.number);
     fill_change(table, who, change, &words);
@@ -118,7 +113,7 @@ fn prepare<R: Wait>(table: &TreeTable, rt: &R, who: &mut Caller, plan: Plan) -> 
     Ok(change)
 }
 
-// Installs the prepared finish and helps it, where the slot holds the rebuild.
+// Installs the prepared finish and helps it, if the slot holds the rebuild.
 fn carry(table: &TreeTable, who: &mut Caller, plan: Plan, change: u32) -> Tried
     requires same_table { who.old.seat.table ≡ table.now.table }
     requires able { IsAble who.old }
@@ -130,14 +125,15 @@ fn carry(table: &TreeTable, who: &mut Caller, plan: Plan, change: u32) -> Tried
     ensures no { result ≡ No → ¬ (IsOpen (now who.new.seat.view) plan.parent) }
     ensures other { (word : ℕ) → result ≡ Other word
         → SlotHolds (now who.new.seat.view) plan.parent plan.index word }
+    ensures differs { (word : ℕ) → result ≡ Other word → word ≢ word_of (RebuildAt plan.rebuild) }
 {
     know(&who.seat);
-    // Install. Meets another helper's finish, and the start that still stands in the slot.
+    // Install. Meets another helper's finish, and the start that is still in the slot.
     match install(table, &mut who.seat, change) {
         Installed::Yes => {
             who.change = None;
             know(&who.seat);
-            // Okay, Decide and Resolve. Meets a mark of the parent, and whoever helps the change.
+            // Okay, Decide and Resolve. Meets a mark of the parent, and any helper of the change.
             match help(table, &mut who.seat, change) {
                 Decision::Yes => Tried::Yes,
                 Decision::No => Tried::No,
@@ -147,14 +143,8 @@ fn carry(table: &TreeTable, who: &mut Caller, plan: Plan, change: u32) -> Tried
     }
 }
 
-// What a try tells of the rebuild, if anything: helps a change that was met in its slot.
-fn conclude<R: Wait>(
-    table: &TreeTable,
-    rt: &R,
-    who: &mut Caller,
-    plan: Plan,
-    tried: Tried,
-) -> Option<Helped>
+// Returns what a try says of the rebuild, if anything; helps a change that was met in its slot.
+fn conclude(table: &TreeTable, who: &mut Caller, plan: Plan, tried: Tried) -> Option<Helped>
     requires same_table { who.old.seat.table ≡ table.now.table }
     requires able { IsAble who.old }
     requires plan { IsPlan who.old.seat.view plan }
@@ -162,35 +152,32 @@ fn conclude<R: Wait>(
     requires no { tried ≡ No → ¬ (IsOpen (now who.old.seat.view) plan.parent) }
     requires other { (word : ℕ) → tried ≡ Other word
         → SlotHolds (now who.old.seat.view) plan.parent plan.index word }
+    requires differs { (word : ℕ) → tried ≡ Other word → word ≢ word_of (RebuildAt plan.rebuild) }
     ensures same_table { who.new.seat.table ≡ table.now.table }
     ensures helped { HasHelped who.old who.new }
     ensures replaced { result ≡ Some Replaced → IsReplaced (now who.new.seat.view) plan.rebuild }
     ensures left { result ≡ Some ParentMarked
         → IsLeftToParent (now who.new.seat.view) plan.rebuild }
+    ensures further { result ≡ None → CameFurther who.old.seat.view who.new.seat.view }
 {
     know(&who.seat);
     match tried {
         Tried::Yes => Some(Helped::Replaced),
-        Tried::No => Some(settle(table, rt, who, plan)),
+        Tried::No => Some(settle(table, who, plan)),
         Tried::Other(word) => match meet(word, plan.rebuild) {
             Met::Change(change) => {
-                // Okay, Decide and Resolve. Meets whoever helps the change.
+                // Okay, Decide and Resolve. Meets any helper of the change.
                 help(table, &mut who.seat, change);
                 None
             }
-            Met::Itself => None,
+            Met::Itself => unreachable!(),
             Met::Another => Some(Helped::Replaced),
         },
     }
 }
 
 // Tries once to put the root of the rebuild in its place.
-fn try_finish<R: Wait>(
-    table: &TreeTable,
-    rt: &R,
-    who: &mut Caller,
-    plan: Plan,
-) -> Result<Option<Helped>, Full>
+fn try_finish(table: &TreeTable, who: &mut Caller, plan: Plan) -> Result<Option<Helped>, Full>
     requires same_table { who.old.seat.table ≡ table.now.table }
     requires able { IsAble who.old }
     requires plan { IsPlan who.old.seat.view plan }
@@ -200,27 +187,23 @@ fn try_finish<R: Wait>(
         → IsReplaced (now who.new.seat.view) plan.rebuild }
     ensures left { result ≡ Ok (Some ParentMarked)
         → IsLeftToParent (now who.new.seat.view) plan.rebuild }
+    ensures further { result ≡ Ok None → CameFurther who.old.seat.view who.new.seat.view }
     ensures full { IfErr result (λ full. IsHelpRefused who.old.seat.view plan.rebuild
         (word_count_of table.now) full who.new.seat.view) }
 {
     know(&who.seat);
     // A load. Meets a mark of the parent.
     if !is_open(table, &mut who.seat, plan.parent) {
-        return Ok(Some(settle(table, rt, who, plan)));
+        return Ok(Some(settle(table, who, plan)));
     }
-    let change = prepare(table, rt, who, plan)?;
+    let change = prepare(table, who, plan)?;
     let tried = carry(table, who, plan, change);
-    Ok(conclude(table, rt, who, plan, tried))
+    Ok(conclude(table, who, plan, tried))
 }
 
-/// Puts the root of the rebuild in its place, or finds that it was replaced, or that it stands there
-/// and its parent isn't open.
-pub(crate) fn finish<R: Wait>(
-    table: &TreeTable,
-    rt: &R,
-    who: &mut Caller,
-    plan: Plan,
-) -> Result<Helped, Full>
+/// Puts the root of the rebuild in its place, or finds that the rebuild was replaced, or that it is
+/// in its slot and its parent isn't open.
+pub(crate) fn finish(table: &TreeTable, who: &mut Caller, plan: Plan) -> Result<Helped, Full>
     requires same_table { who.old.seat.table ≡ table.now.table }
     requires able { IsAble who.old }
     requires plan { IsPlan who.old.seat.view plan }
@@ -233,10 +216,9 @@ pub(crate) fn finish<R: Wait>(
         (word_count_of table.now) full who.new.seat.view) }
 {
     know(&who.seat);
-    for _ in rt.forever() {
-        if let Some(helped) = try_finish(table, rt, who, plan)? {
+    'turns: loop {
+        if let Some(helped) = try_finish(table, who, plan)? {
             return Ok(helped);
         }
     }
-    unreachable!()
 }

@@ -16,13 +16,12 @@ use crate::answers::Helped;
 use crate::finishing::{build_out, finish};
 use crate::sites::{plan_of, target_of};
 use ist_core::Full;
-use ist_mark::mark_and_count;
+use ist_mark::mark_and_count_from;
 use ist_rows::Caller;
 use ist_rule::TreeTable;
-use std::sync::Wait;
 
-// Marks the target of a started rebuild, and counts its keys: the rebuild may be built then.
-fn mark_target<R: Wait>(table: &TreeTable, rt: &R, who: &mut Caller, rebuild: u32)
+// Marks the target of a started rebuild, and counts its keys; then the rebuild may be built.
+fn mark_target(table: &TreeTable, who: &mut Caller, rebuild: u32)
     requires same_table { who.old.seat.table ≡ table.now.table }
     requires able { IsAble who.old }
     requires started { IsStarted (now who.old.seat.view) rebuild }
@@ -31,27 +30,23 @@ fn mark_target<R: Wait>(table: &TreeTable, rt: &R, who: &mut Caller, rebuild: u3
     ensures buildable { IsBuildable (now who.new.seat.view) rebuild }
 {
     let target = target_of(table, &mut who.seat, rebuild);
-    mark_and_count(table, rt, &mut who.seat, target);
+    mark_and_count_from(table, &mut who.seat, target, who.number);
 }
 
 /// Helps a started rebuild until it is done: marks its target and counts the keys, sets its root,
-/// fills the root's parts, and puts the root in the place of the target, by a change.
+/// fills the root's parts, and replaces the target by the root, by a change.
 ///
-/// `Replaced` comes exactly where a finish of this rebuild was decided yes. `ParentMarked` comes
-/// only where the parent isn't open: the rebuild stands in its slot still, and reads as its target.
-/// Any number of callers may help one rebuild, and each of them may stand still at any step. `Full`
-/// comes where a load of the first word in this call left too few words for the change, or for a
-/// row of what is built; the rows of a refused build stay held. Retries while others reserve or
-/// install, and takes no memory.
+/// Returns `Replaced` only if a finish of this rebuild was decided yes, and `ParentMarked` only if
+/// the parent isn't open: the rebuild is still in its slot, and reads as its target. In each case
+/// the target is then finished: it is marked, with all below it, and its keys are counted. Any
+/// number of callers may help one rebuild, and each of them may stop at any step. Returns `Full` if
+/// a load of the first word in this call left too few words for the change, or for a row of what is
+/// built; the rows of a refused build stay held. Begins again only after another's change came
+/// between, always returns, and allocates nothing.
 ///
 /// Source: Brown, Prokopec and Alistarh, "Non-Blocking Interpolation Search Trees with
 /// Doubly-Logarithmic Running Time", PPoPP 2020.
-pub fn help_rebuild<R: Wait>(
-    table: &TreeTable,
-    rt: &R,
-    who: &mut Caller,
-    rebuild: u32,
-) -> Result<Helped, Full>
+pub fn help_rebuild(table: &TreeTable, who: &mut Caller, rebuild: u32) -> Result<Helped, Full>
     requires same_table { who.old.seat.table ≡ table.now.table }
     requires caller { IsCaller who.old }
     requires refused { HasRefused who.old }
@@ -64,14 +59,15 @@ pub fn help_rebuild<R: Wait>(
     ensures refused { HasRefused who.new }
     ensures went { WentOn Serves who.old.seat.view who.new.seat.view }
     ensures quiet { IsQuiet who.new }
+    ensures finished { IsBuildable (now who.new.seat.view) rebuild }
     ensures replaced { result ≡ Ok Replaced → IsReplaced (now who.new.seat.view) rebuild }
     ensures parent_marked { result ≡ Ok ParentMarked
         → IsLeftToParent (now who.new.seat.view) rebuild }
     ensures full { IfErr result (λ full. IsHelpRefused who.old.seat.view rebuild
         (word_count_of table.now) full who.new.seat.view) }
 {
-    mark_target(table, rt, who, rebuild);
-    build_out(table, rt, who, rebuild)?;
+    mark_target(table, who, rebuild);
+    build_out(table, who, rebuild)?;
     let plan = plan_of(table, &mut who.seat, rebuild);
-    finish(table, rt, who, plan)
+    finish(table, who, plan)
 }

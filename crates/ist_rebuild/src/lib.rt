@@ -1,8 +1,8 @@
-//! Rebuilding a subtree: starting, which puts a rebuild in the place of its target; and helping, which
-//! marks the target, builds the ideal subtree over its leaves, and puts that in its place.
+//! Rebuilding a subtree. Starting replaces the target by a rebuild. Helping marks the target,
+//! builds the ideal subtree over its leaves, and puts that in its place.
 //!
-//! Read `specs/Starting.antt` and `specs/Helping.antt`, then `starting.rt` and `helping.rt`. Stands on
-//! `ist_rows`, `ist_dcss`, `ist_mark` and `ist_build`, and on the crates below them.
+//! Read `specs/Starting.antt` and `specs/Helping.antt`, then `starting.rt` and `helping.rt`. Builds
+//! on `ist_rows`, `ist_dcss`, `ist_mark` and `ist_build`, and on the crates below them.
 #![tactic(auto)]
 
 mod answers;

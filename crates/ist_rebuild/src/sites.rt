@@ -1,4 +1,4 @@
-//! What a rebuild's row says, and what its slot tells.
+//! What a rebuild's row and its slot say.
 ghost use Rattle.std.specs.Prelude.{◌≡◌, ◌≢◌, ℕ, ◌<◌, Some};
 ghost use Rattle.ist_core.specs.Marking.{HasTarget};
 ghost use Rattle.ist_core.specs.Rebuilding.{IsStarted, IsReplaced};
@@ -19,9 +19,8 @@ use ist_layout::{
 };
 use ist_rows::Caller;
 use ist_rule::{TreeSeat, TreeTable, know, load};
-use std::sync::Wait;
 
-/// What the finish of a rebuild is to do: put this root into slot `index` of the parent.
+/// What the finish of a rebuild will do: put this root into slot `index` of the parent.
 #[derive(Clone, Copy, Drop)]
 pub(crate) struct Plan {
     pub(crate) rebuild: u32,
@@ -30,18 +29,18 @@ pub(crate) struct Plan {
     pub(crate) root: u64,
 }
 
-/// What a word in the slot of a rebuild is to it.
+/// What a word in the slot of a rebuild means for it.
 #[derive(Clone, Copy, Drop)]
 pub(crate) enum Met {
-    /// That of a change.
+    /// The word of a change.
     Change(u32),
-    /// That of the rebuild itself.
+    /// The word of the rebuild itself.
     Itself,
-    /// Another, and of no change.
+    /// Another word, which is no change's.
     Another,
 }
 
-// A word of the rebuild's row.
+// Loads a word of the rebuild's row.
 fn field(table: &TreeTable, seat: &mut TreeSeat, rebuild: u32, offset: u64) -> u64
     requires same_table { seat.old.table ≡ table.now.table }
     requires published { IsRebuild (now seat.old.view) rebuild }
@@ -54,7 +53,7 @@ fn field(table: &TreeTable, seat: &mut TreeSeat, rebuild: u32, offset: u64) -> u
     load(table, seat, u64::from(rebuild) + offset)
 }
 
-/// The node that a started rebuild is to replace.
+/// Returns the node that a started rebuild replaces.
 pub(crate) fn target_of(table: &TreeTable, seat: &mut TreeSeat, rebuild: u32) -> u32
     requires same_table { seat.old.table ≡ table.now.table }
     requires started { IsStarted (now seat.old.view) rebuild }
@@ -68,7 +67,7 @@ pub(crate) fn target_of(table: &TreeTable, seat: &mut TreeSeat, rebuild: u32) ->
     target as u32
 }
 
-/// What the finish of a started rebuild is to do, once its root is built.
+/// Returns what the finish of a started rebuild will do, once its root is built.
 pub(crate) fn plan_of(table: &TreeTable, seat: &mut TreeSeat, rebuild: u32) -> Plan
     requires same_table { seat.old.table ≡ table.now.table }
     requires started { IsStarted (now seat.old.view) rebuild }
@@ -92,7 +91,7 @@ pub(crate) fn plan_of(table: &TreeTable, seat: &mut TreeSeat, rebuild: u32) -> P
     }
 }
 
-/// What the word is to the rebuild in whose slot it stands.
+/// Returns what a word in the slot of the rebuild means for it.
 pub(crate) fn meet(word: u64, rebuild: u32) -> Met
     ensures change { (change : ℕ) → result ≡ Change change → ref_of word ≡ Some (ChangeAt change) }
     ensures itself { result ≡ Itself → ref_of word ≡ Some (RebuildAt rebuild) }
@@ -116,7 +115,7 @@ pub(crate) fn meet(word: u64, rebuild: u32) -> Met
     }
 }
 
-// The word in the slot of the rebuild.
+// Loads the word in the slot of the rebuild.
 fn slot_word(table: &TreeTable, seat: &mut TreeSeat, plan: Plan) -> u64
     requires same_table { seat.old.table ≡ table.now.table }
     requires plan { IsPlan seat.old.view plan }
@@ -131,9 +130,9 @@ fn slot_word(table: &TreeTable, seat: &mut TreeSeat, plan: Plan) -> u64
     load(table, seat, place)
 }
 
-/// What became of a rebuild whose parent isn't open, by a last load of its slot, behind the changes
-/// that stand there.
-pub(crate) fn settle<R: Wait>(table: &TreeTable, rt: &R, who: &mut Caller, plan: Plan) -> Helped
+/// Returns what became of a rebuild whose parent isn't open, by a last load of its slot, after
+/// helping the changes that are there. Each help resolves one, so that there are few.
+pub(crate) fn settle(table: &TreeTable, who: &mut Caller, plan: Plan) -> Helped
     requires same_table { who.old.seat.table ≡ table.now.table }
     requires able { IsAble who.old }
     requires plan { IsPlan who.old.seat.view plan }
@@ -144,15 +143,14 @@ pub(crate) fn settle<R: Wait>(table: &TreeTable, rt: &R, who: &mut Caller, plan:
     ensures left { result ≡ ParentMarked → IsLeftToParent (now who.new.seat.view) plan.rebuild }
 {
     know(&who.seat);
-    for _ in rt.forever() {
+    'turns: loop {
         let word = slot_word(table, &mut who.seat, plan);
         know(&who.seat);
         match meet(word, plan.rebuild) {
-            // Okay, Decide and Resolve. Meets whoever helps the change.
+            // Okay, Decide and Resolve. Meets any helper of the change.
             Met::Change(change) => help(table, &mut who.seat, change),
             Met::Itself => return Helped::ParentMarked,
             Met::Another => return Helped::Replaced,
         };
     }
-    unreachable!()
 }

@@ -17,7 +17,6 @@ use ist_core::Full;
 use ist_layout::{Ref, START_KIND, UNDECIDED};
 use ist_rows::{Caller, Kind, fill, reserve};
 use ist_rule::{TreeTable, know};
-use std::sync::Wait;
 
 /// The rows of a start: the rebuild's and the change's, by their bases.
 #[derive(Clone, Copy, Drop)]
@@ -26,8 +25,8 @@ pub(crate) struct StartRows {
     pub(crate) change: u32,
 }
 
-// Reserves the rows of a start, where the caller doesn't hold them.
-fn reserve_rows<R: Wait>(table: &TreeTable, rt: &R, who: &mut Caller) -> Result<StartRows, Full>
+// Reserves the rows of a start, if the caller doesn't hold them.
+fn reserve_rows(table: &TreeTable, who: &mut Caller) -> Result<StartRows, Full>
     requires same_table { who.old.seat.table ≡ table.now.table }
     requires caller { IsCaller who.old }
     ensures same_table { who.new.seat.table ≡ table.now.table }
@@ -42,9 +41,9 @@ fn reserve_rows<R: Wait>(table: &TreeTable, rt: &R, who: &mut Caller) -> Result<
 {
     know(&who.seat);
     // Reserve. Meets another caller's.
-    let rebuild = reserve(table, rt, who, Kind::Rebuild)?;
+    let rebuild = reserve(table, who, Kind::Rebuild)?;
     // Reserve. Meets another caller's.
-    let change = reserve(table, rt, who, Kind::Change)?;
+    let change = reserve(table, who, Kind::Change)?;
     Ok(StartRows { rebuild, change })
 }
 
@@ -65,7 +64,7 @@ fn fill_row(table: &TreeTable, who: &mut Caller, kind: Kind, base: u32, words: &
     }
 }
 
-// Fills the rows of a start: each word again, since rows that stayed held are used again.
+// Fills the rows of a start. It writes each word again, since rows that stayed held are used again.
 fn fill_rows(
     table: &TreeTable,
     who: &mut Caller,
@@ -96,9 +95,8 @@ fn fill_rows(
 }
 
 /// Reserves the rows of a start and fills them, so that its change may be installed.
-pub(crate) fn prepare<R: Wait>(
+pub(crate) fn prepare(
     table: &TreeTable,
-    rt: &R,
     who: &mut Caller,
     parent: u32,
     index: u64,
@@ -123,7 +121,7 @@ pub(crate) fn prepare<R: Wait>(
         IsStartRefused who.old.seat.view (word_count_of table.now) full who.new.seat.view) }
 {
     know(&who.seat);
-    let rows = reserve_rows(table, rt, who)?;
+    let rows = reserve_rows(table, who)?;
     fill_rows(table, who, rows, parent, index, target);
     know(&who.seat);
     Ok(rows)

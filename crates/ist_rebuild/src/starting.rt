@@ -8,7 +8,7 @@ ghost use Rattle.ist_rule.specs.Going.{WentOn};
 ghost use Rattle.ist_rule.specs.Learning.{now};
 ghost use Rattle.ist_rows.specs.Building.{HasRefused};
 ghost use Rattle.ist_rows.specs.Rows.{IsCaller};
-ghost use Rattle.ist_settling.specs.Settling.{StartsAreDone};
+ghost use Rattle.laws_settling.specs.Settling.{StartsAreDone};
 ghost use Rattle.ist_rebuild.specs.Going.{IsQuiet, Begins, KeepsFresh, StartsAt};
 ghost use Rattle.ist_rebuild.specs.Starting.{MayStart, IsStartedAt, StoodInstead, LeavesDone};
 ghost use Rattle.ist_rebuild.specs.Starting.{IsStartRefused, LeavesUninstalled, LeavesUnstarted};
@@ -20,9 +20,8 @@ use ist_core::Full;
 use ist_dcss::{Decision, Installed, help, install, is_open};
 use ist_rows::Caller;
 use ist_rule::{TreeTable, know};
-use std::sync::Wait;
 
-// A start whose rows are filled: the slot that is meant, the target that stood there, the rows.
+// A start whose rows are filled: its slot, the target that was there, the rows.
 #[derive(Clone, Copy, Drop)]
 struct Plan {
     parent: u32,
@@ -64,7 +63,7 @@ fn put_in(table: &TreeTable, who: &mut Caller, plan: Plan) -> Started
     }
     who.change = None;
     who.rebuild = None;
-    // Okay, Decide and Resolve. Meets a mark of the parent, and who helps the change too.
+    // Okay, Decide and Resolve. Meets a mark of the parent, and any other helper of the change.
     match help(table, &mut who.seat, plan.rows.change) {
         Decision::Yes => Started::Yes {
             rebuild: plan.rows.rebuild,
@@ -73,20 +72,20 @@ fn put_in(table: &TreeTable, who: &mut Caller, plan: Plan) -> Started
     }
 }
 
-/// Starts a rebuild of the target, which stood in slot `index` of the parent: puts a fresh rebuild in
-/// its place, by a change.
+/// Starts a rebuild of the target, which was in slot `index` of the parent: replaces it by a fresh
+/// rebuild, by a change.
 ///
-/// It loads the parent's status first. `Yes` comes where the change was decided yes; `Other` where the
-/// slot held that word and not the target when the change was to be installed; `Marked` only where the
-/// parent isn't open. `Full` comes where a load of the first word in this call left too few words for
-/// the rebuild's row or the change's. With `Other` and `Full` nothing was installed, and with `Marked`
-/// no rebuild was started; a rebuild row that was reserved stays held for the next start. Retries while others reserve, and takes no memory.
+/// It loads the parent's status first. Returns `Yes` if the change was decided yes; `Other` if the
+/// slot held that word and not the target when the change was about to be installed; `Marked` only
+/// if the parent isn't open. Returns `Full` if a load of the first word in this call left too few
+/// words for the rebuild's row or the change's. With `Other` and `Full` nothing was installed, and
+/// with `Marked` no rebuild was started; a rebuild row that was reserved stays held for the next
+/// start. Allocates nothing, and always returns.
 ///
 /// Source: Brown, Prokopec and Alistarh, "Non-Blocking Interpolation Search Trees with
 /// Doubly-Logarithmic Running Time", PPoPP 2020.
-pub fn start<R: Wait>(
+pub fn start(
     table: &TreeTable,
-    rt: &R,
     who: &mut Caller,
     parent: u32,
     index: u64,
@@ -122,7 +121,7 @@ pub fn start<R: Wait>(
     if !is_open(table, &mut who.seat, parent) {
         return Ok(Started::Marked);
     }
-    let rows = prepare(table, rt, who, parent, index, target)?;
+    let rows = prepare(table, who, parent, index, target)?;
     let plan = Plan {
         parent,
         index,

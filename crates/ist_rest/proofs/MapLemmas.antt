@@ -1,4 +1,4 @@
--- Words that stand for some pairs and calls hold the pairs of the map behind the changes of their
+-- Words that represent some pairs and calls hold the pairs of the map after the changes of their
 -- log, and no others.
 use Rattle.std.proofs.Common.{◌≡◌, ◌∙◌, ap, ℕ, List, length}
 use Rattle.std.proofs.lemmas.Option.{get_or_from_slice_get}
@@ -9,8 +9,8 @@ use Rattle.ist_core.specs.Replies.{Answered}
 use Rattle.ist_core.specs.Resting.{StandsFor}
 use Rattle.ist_core.specs.Spending.{spent}
 use Rattle.ist_core.proofs.SpendingLemmas.{words_are_spent}
-use Rattle.ist_histories.specs.Telling.{map_now}
-use Rattle.ist_histories.proofs.ContentLemmas.{contents_at}
+use Rattle.laws_histories.specs.Telling.{map_now}
+use Rattle.laws_histories.proofs.ContentLemmas.{contents_at}
 use Rattle.ist_words.specs.RestingWords.{HoldPairs, Hold, AreListed}
 use Rattle.ist_words.proofs.WholeLemmas.{same_pairs}
 use Rattle.ist_words.specs.WordRows.{word_at}
@@ -18,7 +18,7 @@ use Rattle.ist_rest.specs.Standings.{Stands}
 use Rattle.ist_rest.proofs.PublishedLemmas.{IsStood}
 use Rattle.ist_rest.proofs.StandingLemmas.{hold_contents}
 
--- what stands for pairs and calls is the image of a lawful log
+-- words that represent pairs and calls are the image of a lawful log
 pub stood : (words : List ℕ) (pairs : List Pair) (told : List (List Answered))
     (s : StandsFor words pairs told) → IsStood pairs words s.log
 stood words pairs told s = record { lawful = s.lawful; image = s.image; resolved = s.resolved }

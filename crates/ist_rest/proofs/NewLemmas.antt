@@ -1,4 +1,4 @@
--- The words of a new table stand for its pairs. Serves `laws.new_words_stand`.
+-- The words of a new table represent its pairs. Serves `laws.new_words_stand`.
 use Rattle.std.proofs.Common.{ℕ, List, [], length, refl}
 use Rattle.ist_core.specs.declared.pairs.Pair.{Pair}
 use Rattle.ist_core.specs.StartLayout.{start}
@@ -6,9 +6,9 @@ use Rattle.ist_core.specs.Images.{IsImage}
 use Rattle.ist_core.specs.Lawful.{CanOpen}
 use Rattle.ist_core.specs.Resting.{StandsFor}
 use Rattle.ist_core.specs.Pieces.{Change}
-use Rattle.ist_links.proofs.QuietLemmas.{start_quiet}
+use Rattle.laws_links.proofs.QuietLemmas.{start_quiet}
 
--- no event came, and no change stands in a new table
+-- the words of a new table represent its pairs: it has no event yet, and no slot holds a change
 pub new_stand : (pairs : List Pair) (words : List ℕ) → CanOpen pairs (length words)
     → IsImage (start pairs (length words)) words → StandsFor words pairs []
 new_stand pairs words opens image =

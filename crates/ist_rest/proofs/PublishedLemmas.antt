@@ -35,17 +35,17 @@ use Rattle.ist_core.proofs.LeadingLemmas.{LiesIn}
 use Rattle.ist_core.proofs.UnderLemmas.{slot_reads_as}
 use Rattle.ist_core.proofs.LeafOrderLemmas.{leaves_lie, next_from_rising}
 use Rattle.ist_core.proofs.KeyLemmas.{keys_rising}
-use Rattle.ist_links.proofs.ResolvedLemmas.{resolved_gone}
+use Rattle.laws_links.proofs.ResolvedLemmas.{resolved_gone}
 use Rattle.ist_words.specs.WordRows.{word_at, leaf_key, row_degree, row_keys, row_slots}
 use Rattle.ist_words.specs.WordRows.{past_change_in, past_rebuild_in, rows_on}
 use Rattle.ist_words.specs.WordRows.{IsWithinUsed}
 use Rattle.ist_words.specs.Walks.{Visit, LeadsBy, HasDecision, IsGoodLeaf, IsGoodRow, Reads}
 use Rattle.ist_words.specs.RestingWords.{HasGoodBounds}
-use Rattle.ist_forms.proofs.SizedLemmas.{row_sized}
+use Rattle.laws_rows.proofs.SizedLemmas.{row_sized}
 use Rattle.ist_rest.proofs.RowLemmas.{first_word, degree_is, size_word, keys_are}
 use Rattle.ist_rest.proofs.RowLemmas.{slots_are}
 
--- the words are the image of the state behind a lawful log, in which each installed change is
+-- the words are the image of the state after a lawful log, in which each installed change is
 -- resolved
 pub record IsStood (pairs : List Pair) (words : List ℕ) (log : Log) : Type 0 where
   pub lawful : Lawful pairs (length words) log
@@ -56,9 +56,11 @@ module _ {pairs : List Pair} {words : List ℕ} {log : Log} (s : IsStood pairs w
   abbrev t : Snapshot
   t = state_of pairs (length words) log
 
+  -- each word of the state names what it should
   pub all_names : WordsName t
   all_names = names pairs (length words) s.lawful.opens log s.lawful.enabled
 
+  -- no row is published at the anchor
   pub free : t.pieces anchor ≡ None
   free = anchor_free pairs (length words) log s.lawful.enabled
 
@@ -71,6 +73,7 @@ module _ {pairs : List Pair} {words : List ℕ} {log : Log} (s : IsStood pairs w
   high = let a = next_within pairs (length words) s.lawful.opens log s.lawful.enabled in let b =
       s.image.size in omega arith
 
+  -- the words are in bounds
   pub good_bounds : HasGoodBounds words
   good_bounds =
       let n = next_is in
@@ -102,6 +105,7 @@ module _ {pairs : List Pair} {words : List ℕ} {log : Log} (s : IsStood pairs w
       let n = next_is in
       record { behind_fixed = omega arith; below_next = omega arith }
 
+  -- each published row lies within the words
   pub room : (base : ℕ) (p : Piece) → t.pieces base ≡ Some p → base + size_of p ≤ length words
   room base p e = let it = in_table base p e in let b = it.below_next in let h = high in omega arith
 
@@ -112,12 +116,13 @@ module _ {pairs : List Pair} {words : List ℕ} {log : Log} (s : IsStood pairs w
     pub slot : SlotHolds t visit.node i visit.word
     pub led : (key : ℕ) → LiesIn t key visit.node i → Each (LeadsBy key) visit.ways
 
-  -- what is told of a reference in a slot
+  -- what is known of a reference in a slot
   abbrev Told : Option Ref → Type 0
   Told o = HasDecision words o × Each (IsWithinUsed words) (rows_on words o)
       × (past_rebuild_in words (past_change_in words o) ≡ past_rebuild t.pieces
       (past_change t.pieces o))
 
+  -- a reference in a slot has a known decision, and its rows are within the used words
   pub told : (node i word : ℕ) (o : Option Ref) → SlotHolds t node i word → ref_of word ≡ o
       → SlotNames t.pieces node i o → Told o
   told node i word None slot e n = absurd n
@@ -138,6 +143,7 @@ module _ {pairs : List Pair} {words : List ℕ} {log : Log} (s : IsStood pairs w
         ∙ sym (ap rebuild_reads n.published),
   )
 
+  -- a slot reads, by the words, as its logical reference
   pub reading : (visit : Visit) (i : ℕ) (ref : Ref) → IsAt visit i
       → logical t.pieces visit.word ≡ Some ref → Reads words visit.word ref
   reading visit i ref at e =
@@ -147,6 +153,7 @@ module _ {pairs : List Pair} {words : List ℕ} {log : Log} (s : IsStood pairs w
 
   -- ---- what it reads as is in good shape
 
+  -- a published leaf that a slot reads as is in good shape
   pub good_leaf : (visit : Visit) (i base : ℕ) (r : LeafRow) → IsAt visit i
       → logical t.pieces visit.word ≡ Some (LeafAt base)
       → t.pieces base ≡ Some (Leaf r) → leaf_key words base ≡ r.key → IsGoodLeaf words visit base
@@ -165,24 +172,29 @@ module _ {pairs : List Pair} {words : List ℕ} {log : Log} (s : IsStood pairs w
       → StandsAt words base (Inner r)
   stands base r e = s.image.rows base (Inner r) e
 
+  -- a published inner row has a degree
   pub shape : (base : ℕ) (r : InnerRow) → t.pieces base ≡ Some (Inner r) → HasDegree r
   shape base r e = shaped pairs (length words) log s.lawful.enabled base (Inner r) e
 
+  -- the words give a published inner row's keys
   pub keys_there : (base : ℕ) (r : InnerRow) → t.pieces base ≡ Some (Inner r)
       → row_keys words base ≡ r.keys
   keys_there base r e = keys_are words base r (stands base r e) (shape base r e)
       (room base (Inner r) e)
 
+  -- the words give a published inner row's slots
   pub slots_there : (base : ℕ) (r : InnerRow) → t.pieces base ≡ Some (Inner r)
       → row_slots words base ≡ r.slots
   slots_there base r e = slots_are words base r (stands base r e) (shape base r e)
       (room base (Inner r) e)
 
+  -- the words give a published inner row's degree
   pub degree_there : (base : ℕ) (r : InnerRow) → t.pieces base ≡ Some (Inner r)
       → row_degree words base ≡ r.degree
   degree_there base r e = degree_is words base r (stands base r e) (shape base r e)
       (room base (Inner r) e)
 
+  -- a published inner row that a slot reads as is in good shape
   pub good_row : (visit : Visit) (i base : ℕ) (r : InnerRow) → IsAt visit i
       → logical t.pieces visit.word ≡ Some (InnerAt base)
       → t.pieces base ≡ Some (Inner r) → IsGoodRow words visit.node base

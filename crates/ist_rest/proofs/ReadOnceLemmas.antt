@@ -21,7 +21,7 @@ use Rattle.ist_core.proofs.HomeLemmas.{HasOneHome}
 use Rattle.ist_core.proofs.ParentLemmas.{one_home}
 use Rattle.ist_core.proofs.LeadingLemmas.{LiesIn, lies_above, child_is}
 use Rattle.ist_core.proofs.UnderLemmas.{slot_reads_as}
-use Rattle.ist_links.proofs.ResolvedLemmas.{resolved_gone}
+use Rattle.laws_links.proofs.ResolvedLemmas.{resolved_gone}
 use Rattle.ist_words.specs.WordRows.{rows_on, Span}
 use Rattle.ist_words.specs.Walks.{Visit}
 use Rattle.ist_words.specs.Walks.{Walks}
@@ -90,6 +90,7 @@ module _ {pairs : List Pair} {words : List ℕ} {log : Log} (s : IsStood pairs w
           (free s) visit.node i base j key
           ((slot_reads_as t visit.node i visit.word (all_names s) at.slot).a_row base e) lies
 
+  -- each row of the state has one home
   pub homes : HasOneHome t
   homes = one_home pairs (length words) s.lawful.opens log s.lawful.enabled
 
@@ -124,6 +125,7 @@ module _ {pairs : List Pair} {words : List ℕ} {log : Log} (s : IsStood pairs w
     pub are : AreRows t all
     pub from : (b : ℕ) → Among b (bases all) → Among b (bases rows) ⊎ IsUnder t visit.node i b
 
+  -- the rows that a slot leads through, before rows without its rebuild, are published and distinct
   pub led_through : (visit : Visit) (i : ℕ) (at : IsAt s visit i) (here rows : List Span)
       → AreRows t (here ++ rows)
       → ((b : ℕ) → IsRebuildFor t.pieces visit.node i b → Among b (bases (here ++ rows)) → ⊥)

@@ -48,9 +48,11 @@ module _ (words : List ℕ) (base : ℕ) (r : InnerRow) (h : StandsAt words base
   size_is : size_of (Inner r) ≡ 4 + length r.keys + length r.slots
   size_is = let a = length-append r.keys r.slots in omega arith
 
+  -- the words give the row's degree
   pub degree_is : row_degree words base ≡ r.degree
   degree_is = word_is words base 2 (Inner r) h (omega arith)
 
+  -- the words give the row's size
   pub size_word : row_size words base ≡ r.size
   size_word = word_is words base 3 (Inner r) h (omega arith)
 
@@ -62,6 +64,7 @@ module _ (words : List ℕ) (base : ℕ) (r : InnerRow) (h : StandsAt words base
       ∙ word_is words base (from + k) (Inner r) h (omega arith))
       (omega arith) fits
 
+  -- the words give the row's keys
   pub keys_are : row_keys words base ≡ r.keys
   keys_are =
       let d = degree_is in
@@ -76,6 +79,7 @@ module _ (words : List ℕ) (base : ℕ) (r : InnerRow) (h : StandsAt words base
       let e : 4 + length r.keys ≡ suc (suc (suc (suc (length r.keys)))) = omega arith in
       ap (λ m. drop m (words_of (Inner r))) e ∙ drop_at r.keys r.slots (length r.keys) refl
 
+  -- the words give the row's slots
   pub slots_are : row_slots words base ≡ r.slots
   slots_are =
       let d = degree_is in

@@ -54,6 +54,7 @@ slot_number words base word row used a =
 
 -- ---- the shape of rows that are reached
 
+-- if all rows from a row on are in good shape, so are those from its child on
 pub shape_child : (words : List ℕ) (base child word : ℕ) → AreInShapeFrom words base
     → Among word (row_slots words base)
     → reads_in words word ≡ Some (InnerAt child) → AreInShapeFrom words child
@@ -68,9 +69,11 @@ good_child words visit child g e =
     let same : g.ref ≡ InnerAt child = cc in
     subst (IsGoodAs words visit) same g.good
 
+-- a good row for a slot is an inner row in good shape
 pub row_here : (words : List ℕ) (node base : ℕ) → IsGoodRow words node base → IsRowHere words base
 row_here words node base g = record { within = g.within; degree = g.degree; keys = g.keys }
 
+-- a child of a row in good shape is a good row for its slot
 pub child_good : (words : List ℕ) (base child word : ℕ) → AreInShapeFrom words base
     → Among word (row_slots words base)
     → reads_in words word ≡ Some (InnerAt child) → IsGoodRow words base child
@@ -81,6 +84,7 @@ child_good words base child word h a e =
 
 -- ---- settled rows
 
+-- a row is settled with all below it if it is settled and its children are with all below them
 pub settled_all : (words : List ℕ) (base : ℕ) → IsSettledRow words base
     → ((word child : ℕ) → Among word (row_slots words base) → reads_in words word ≡ Some
     (InnerAt child) → AreSettledFrom words child)
@@ -90,7 +94,7 @@ settled_all words base row all node (through {child = child} word a e r) = all w
 
 -- ---- shape by a walk
 
--- the slot is in good shape, and so is each row that is reached through it
+-- the slot and each row that is reached through it are in good shape
 abbrev AllGood : List ℕ → Visit → Type 0
 AllGood words visit = IsGood words visit
     × ((base : ℕ) → reads_in words visit.word ≡ Some (InnerAt base) → AreInShapeFrom words base)
@@ -150,10 +154,12 @@ walk_good words _ _ _ (goes_on {visit = visit} {visits = visits} {rows = rows} {
       it.1,
     )
 
+-- if the words hold some pairs, all slots from the anchor's on are in good shape
 pub first_good : (words : List ℕ) (pairs : List Pair) → HoldPairs words pairs
     → AllGood words (first_visit words)
 first_good words pairs h = (walk_good words (first_visit words ∷ []) h.rows pairs h.walk).0
 
+-- a number below i + 1 other than i is below i
 pub below_more : (k i : ℕ) → k < i + 1 → k ≢ i → k < i
 below_more k i less other = ⊎_elim (λ same. absurd (other same.1)) (λ no. at (leb_tells i k))
     (eqb_tells k i)
@@ -162,6 +168,7 @@ below_more k i less other = ⊎_elim (λ same. absurd (other same.1)) (λ no. at
     at (inl h) = let l = h.1 in absurd (other (omega arith))
     at (inr h) = h.1
 
+-- equal references to inner rows have equal bases
 pub same_child : (a b : ℕ) → Some (InnerAt a) ≡ Some (InnerAt b) → a ≡ b
 same_child a b e = cc
 

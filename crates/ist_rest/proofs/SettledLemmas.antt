@@ -1,5 +1,4 @@
--- A table is settled just where its words are. Serves `closed.Closed.settled`.
--- `laws.standing_words_hold_the_map`.
+-- A table is settled exactly if its words are. Serves `closed.Closed.settled`.
 use Rattle.std.proofs.Common.{◌≡◌, ℕ, zero, suc, ◌+◌, ◌<◌, ◌⊎◌, List, [], ◌∷◌}
 use Rattle.std.proofs.Common.{length, slice_get, Some, refl, sym, ap}
 use Rattle.std.proofs.Common.{◌∙◌, subst, inl, inr, ⊎_elim, ◌↔◌, arith}
@@ -128,7 +127,7 @@ module _ {pairs : List Pair} {words : List ℕ} {log : Log} (s : IsStood pairs w
   size_there base r e = size_word words base r (stands s base r e) (shape s base r e)
       (room s base (Inner r) e)
 
-  -- the table is settled just where its words are
+  -- the table is settled exactly if its words are
   pub settled_words : AreSettled words ↔ IsSettled t
   settled_words = (there, back)
     where

@@ -35,7 +35,7 @@ module _ {words : List ℕ} {base degree i word : ℕ} (row : IsRowHere words ba
     pub child_row_good : AreInShapeFrom words base → IsGoodRow words base child
     child_row_good shape = child_good words base child word shape among is
 
-    -- and so is what is reached from it
+    -- and the rows reached from it are in good shape
     pub child_in_shape : AreInShapeFrom words base
         → IsRowHere words child × AreInShapeFrom words child
     child_in_shape shape = (

@@ -1,6 +1,5 @@
--- Words that stand for some pairs and calls hold the pairs of the map, in rows that share no word.
+-- Words that represent some pairs and calls hold the pairs of the map, in rows that share no word.
 -- Serves `laws.standing_words_hold_the_map`.
--- `laws.standing_words_hold_the_map`.
 use Rattle.std.proofs.Common.{◌≡◌, ℕ, suc, ◌+◌, List, [], ◌∷◌, ◌++◌}
 use Rattle.std.proofs.Common.{length, map, slice_get, Option, Some, refl, sym, ap}
 use Rattle.std.proofs.Common.{◌∙◌, subst, inl, inr, ⊎_elim, ◌≢◌, arith, length-append}

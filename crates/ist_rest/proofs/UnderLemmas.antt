@@ -43,6 +43,7 @@ leaf_rebuild : (o : Option Piece) (r : LeafRow) (s : RebuildRow) → o ≡ Some 
     → o ≡ Some (Rebuild s) → ⊥
 leaf_rebuild o r s e f = cc
 
+-- a rebuild isn't an inner row
 pub rebuild_inner : (o : Option Piece) (r : RebuildRow) (s : InnerRow) → o ≡ Some (Rebuild r)
     → o ≡ Some (Inner s) → ⊥
 rebuild_inner o r s e f = cc
@@ -143,15 +144,17 @@ module _ (t : Snapshot) (o : WordsName t) (home : HasOneHome t) (free : t.pieces
 
 -- ---- rows by their bases
 
+-- the bases of some rows
 abbrev pub bases : List Span → List ℕ
 bases rows = map (λ span. span.base) rows
 
--- each is a published row, and none stands twice
+-- each is a published row, and none occurs twice
 pub record AreRows (t : Snapshot) (rows : List Span) : Type 0 where
   pub distinct : Distinct (bases rows)
   pub placed : Each (λ span. (p : Piece) × (t.pieces span.base ≡ Some p)
       × (span.size ≡ size_of p)) rows
 
+-- published rows with one more published row of another base are published rows
 pub add_row : (t : Snapshot) (base size : ℕ) (p : Piece) (rows : List Span) → t.pieces base ≡ Some
     p → size ≡ size_of p
     → (Among base (bases rows) → ⊥) → AreRows t rows

@@ -1,4 +1,5 @@
--- Whether all inner rows that are reached are in good shape, as it is read from the words.
+-- Whether all inner rows that are reached are settled, and whether they are in good shape, as read
+-- from the words.
 use Rattle.std.specs.Prelude.{◌≡◌, ℕ, ◌+◌, ◌<◌, List, Some}
 use Rattle.ist_core.specs.Arithmetic.{limit}
 use Rattle.ist_core.specs.RowLayout.{anchor_slot_place, inner_count_offset}
@@ -21,11 +22,11 @@ pub record IsSettledRow (words : List ℕ) (base : ℕ) : Type 0 where
   pub is_open : word_at words base ≡ open_word
   pub not_due : word_at words (base + inner_count_offset) < limit (row_size words base)
 
--- so is each row that is reached from this one
+-- each row that is reached from this one is settled
 abbrev pub AreSettledFrom : List ℕ → ℕ → Type 0
 AreSettledFrom words base = (node : ℕ) → ReachedFrom words base node → IsSettledRow words node
 
--- so is each row that is reached from the anchor
+-- each row that is reached from the anchor is settled
 abbrev pub AreSettled : List ℕ → Type 0
 AreSettled words =
     (base : ℕ) → reads_in words (word_at words anchor_slot_place) ≡ Some (InnerAt base)
@@ -37,6 +38,6 @@ pub record IsRowInShape (words : List ℕ) (base : ℕ) : Type 0 where
   pub slots : (word : ℕ) → Among word (row_slots words base)
       → (visit : Visit) × (visit.word ≡ word) × (visit.node ≡ base) × IsGood words visit
 
--- so is each row that is reached from this one
+-- each row that is reached from this one is in good shape, with its slots
 abbrev pub AreInShapeFrom : List ℕ → ℕ → Type 0
 AreInShapeFrom words base = (node : ℕ) → ReachedFrom words base node → IsRowInShape words node

@@ -8,7 +8,7 @@ ghost use Rattle.ist_core.specs.Replies.{Answered};
 ghost use Rattle.ist_core.specs.Resting.{StandsFor, IsSettled};
 ghost use Rattle.ist_core.specs.RowLayout.{next_place};
 ghost use Rattle.ist_core.specs.Spending.{spent};
-ghost use Rattle.ist_histories.specs.Telling.{map_now};
+ghost use Rattle.laws_histories.specs.Telling.{map_now};
 ghost use Rattle.ist_words.specs.RestingWords.{HoldPairs, AreListed};
 ghost use Rattle.ist_words.specs.WordRows.{word_at};
 ghost use Rattle.ist_rest.specs.Settling.{AreSettled};
@@ -22,9 +22,9 @@ use ist_words::{WordList, all_words, list_words};
 use std::alloc::{AllocError, Global};
 use std::marker::Model;
 
-/// The words of a tree after its last call, in the very memory of its table.
+/// The words of a tree after its last call, in the memory of its table itself.
 ///
-/// Clauses see the list of the words. They stand for some start pairs and some lists of calls.
+/// Clauses see the list of the words. They represent some start pairs and some lists of calls.
 pub struct Closed {
     kept: Kept<(), Global>,
 }
@@ -64,7 +64,7 @@ impl WordList for Closed {
 }
 
 impl Closed {
-    /// The closed tree with these words, none of which is copied.
+    /// Makes the closed tree with these words. None of them is copied.
     pub fn new(kept: Kept<(), Global>) -> Closed
         requires full { IsFull kept.words }
         requires no_slots { slots_len kept.slots ≡ 0 }
@@ -74,10 +74,10 @@ impl Closed {
         Closed { kept }
     }
 
-    /// The pairs with a key from `first` to `last`, both included, rising by key. There are none
-    /// where `first` is above `last`.
+    /// Returns the pairs with a key from `first` to `last`, both included, in increasing order of
+    /// keys. There are none if `first` is above `last`.
     ///
-    /// It looks only at rows that keys of the interval lead to. Fails for want of memory alone.
+    /// It reads only rows that keys of the interval lead to. Fails only if memory runs out.
     pub fn list(&self, alloc: Global, first: u64, last: u64) -> Result<Vec<Pair>, AllocError>
         ensures listed { IfOk result (λ found. AreListed self.now first last found.items) }
         ensures of_map { IfOk result (λ found. (pairs : List Pair) (told : List (List Answered))
@@ -88,7 +88,7 @@ impl Closed {
         list_words(alloc, self, first, last)
     }
 
-    /// All pairs, rising by key. Fails for want of memory alone.
+    /// Returns all pairs, in increasing order of keys. Fails only if memory runs out.
     pub fn pairs(&self, alloc: Global) -> Result<Vec<Pair>, AllocError>
         ensures held { IfOk result (λ found. HoldPairs self.now found.items) }
         ensures of_map { IfOk result (λ found. (pairs : List Pair) (told : List (List Answered))
@@ -99,7 +99,7 @@ impl Closed {
         all_words(alloc, self)
     }
 
-    /// How many words were used: the first that isn't reserved.
+    /// Returns the number of used words: the place of the first that isn't reserved.
     pub fn used(&self) -> u64
         ensures value { result ≡ word_at self.now next_place }
         ensures spent { (pairs : List Pair) (told : List (List Answered))
@@ -109,21 +109,21 @@ impl Closed {
         self.word(NEXT_PLACE)
     }
 
-    /// How many words there are. `word` of `WordList` tells each.
+    /// Returns the number of words. `word` of `WordList` returns each of them.
     pub fn word_count(&self) -> u64
         ensures value { result ≡ length self.now }
     {
         self.kept.words.len() as u64
     }
 
-    /// What the words stand for. It costs nothing.
+    /// States that the words represent some pairs and calls. Costs nothing.
     pub fn know(&self)
         ensures stands { Stands self.now }
     {
         let _ = &self.kept;
     }
 
-    /// Is each linked inner row open, with a count below its limit?
+    /// Returns whether each linked inner row is open, with a count below its limit.
     pub fn settled(&self) -> bool
         ensures of_words { IsTrue result ↔ AreSettled self.now }
         ensures exact { (pairs : List Pair) (told : List (List Answered))

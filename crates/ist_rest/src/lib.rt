@@ -2,7 +2,7 @@
 //! whether all nodes are settled.
 //!
 //! Read `specs/Standings.antt` and `closed.rt`, then `specs/Settling.antt`. Stands on `ist_core`,
-//! `ist_math`, `ist_layout`, `ist_links`, `ist_histories`, `ist_forms`, `ist_words` and
+//! `ist_math`, `ist_layout`, `laws_links`, `laws_histories`, `laws_rows`, `ist_words` and
 //! `atomic_table`.
 #![tactic(auto)]
 

@@ -1,8 +1,8 @@
 //! Whether all inner rows that are reached are open and count few updates.
 //!
 //! It goes down from a row to its children, but never below a row that isn't settled. A settled row
-//! counts few updates: where each update is counted at the rows above it, few rows that updates
-//! made lie on a way down. No clause bounds how many.
+//! counts few updates: if each update is counted at the rows above it, a way down has few rows that
+//! updates made. No clause bounds how many.
 ghost use Rattle.std.specs.Prelude.{◌≡◌, ℕ, ◌+◌, ◌<◌, ◌≤◌, ◌^◌, ◌↔◌, length, IsTrue, IfSome};
 ghost use Rattle.std.specs.Prelude.{Some, None};
 ghost use Rattle.ist_core.specs.RowLayout.{next_place, place_limit, first_row};
@@ -19,7 +19,7 @@ use ist_layout::{
 use ist_math::limit;
 use ist_words::{WordList, degree_at, reads, slot_at};
 
-/// Is each inner row that is reached open, with a count below its limit?
+/// Returns whether each inner row that is reached is open, with a count below its limit.
 pub fn are_settled<W: WordList>(words: &W) -> bool
     requires hold { Hold (W.list words.now) }
     ensures exact { IsTrue result ↔ AreSettled (W.list words.now) }
@@ -31,7 +31,8 @@ pub fn are_settled<W: WordList>(words: &W) -> bool
     }
 }
 
-/// Is this inner row so, and each that is reached from it?
+/// Returns whether this inner row and each that is reached from it is open, with a count below its
+/// limit.
 fn are_settled_from<W: WordList>(words: &W, base: u32) -> bool
     requires some { first_row ≤ length (W.list words.now) }
     requires used { word_at (W.list words.now) next_place ≤ length (W.list words.now) }
@@ -54,7 +55,7 @@ fn are_settled_from<W: WordList>(words: &W, base: u32) -> bool
     true
 }
 
-/// Is the row open, with a count below its limit?
+/// Returns whether the row is open, with a count below its limit.
 fn is_settled_row<W: WordList>(words: &W, base: u32) -> bool
     requires used { word_at (W.list words.now) next_place ≤ length (W.list words.now) }
     requires row { IsRowHere (W.list words.now) base }
@@ -65,7 +66,7 @@ fn is_settled_row<W: WordList>(words: &W, base: u32) -> bool
         && words.word(at + INNER_COUNT_OFFSET) < limit(words.word(at + INNER_SIZE_OFFSET))
 }
 
-/// The inner row that a slot in good shape with this word reads as.
+/// Returns the inner row that a slot in good shape with this word reads as, if it reads as one.
 fn child_row<W: WordList>(words: &W, word: u64) -> Option<u32>
     requires some { first_row ≤ length (W.list words.now) }
     requires used { word_at (W.list words.now) next_place ≤ length (W.list words.now) }

@@ -1,4 +1,4 @@
--- Builds behind longer logs, and how the rows of a caller are merged from builds and others. Serves
+-- Builds after longer logs, and how the rows of a caller are merged from builds and others. Serves
 -- fairness.
 use Rattle.std.proofs.Common.{◌≡◌, ℕ, ◌≤◌, not, Bool, true, false, if◌then◌else◌, List, [], ◌∷◌, ◌++◌, map, filter, refl, sym, ap, ◌∙◌, subst, arith}
 use Rattle.ist_core.specs.Snapshots.{Snapshot}
@@ -9,7 +9,7 @@ use Rattle.ist_core.specs.Rebuilding.{IsStarted, IsFinishedWith}
 use Rattle.ist_core.specs.Fairness.{IsBuilding, IsStuck, AreBuilds, no_build, last_build, stuck_build, IsMerge, at_end, from_left, from_right}
 use Rattle.ist_core.proofs.GrowingLemmas.{inner_there, change_there, rebuild_there}
 
--- the second state came behind the first
+-- the second state comes after the first
 pub record ComesBehind (t u : Snapshot) : Type 0 where
   pub words : u.words ≡ t.words
   pub next : t.next ≤ u.next
@@ -119,7 +119,7 @@ merge_filter f p (x ∷ xs) = at (merge_filter f p xs) (p x) refl
         (map f (if v then x ∷ filter p xs else filter p xs))) (sym e)
         (from_left (f x) rest)
 
--- one more comes last, from the right
+-- one more at the end, from the right
 pub merge_more : (xs left right : List ℕ) (size : ℕ) → IsMerge xs left right
     → IsMerge (xs ++ size ∷ []) left (right ++ size ∷ [])
 merge_more _ _ _ size at_end = from_right size at_end
@@ -128,7 +128,7 @@ merge_more _ _ _ size (from_left {sizes = xs} {left = left} {right = right} n m)
 merge_more _ _ _ size (from_right {sizes = xs} {left = left} {right = right} n m) =
     from_right n (merge_more xs left right size m)
 
--- one more comes last, from the left
+-- one more at the end, from the left
 pub merge_first : (xs left right : List ℕ) (size : ℕ) → IsMerge xs left right
     → IsMerge (xs ++ size ∷ []) (left ++ size ∷ []) right
 merge_first _ _ _ size at_end = from_left size at_end

@@ -21,7 +21,7 @@ use Rattle.ist_rows.proofs.CallerGoingLemmas.{now_is, caller_refused}
 use Rattle.ist_rows.proofs.ReserveLemmas.{looked_next}
 use Rattle.ist_rows.proofs.BuildingLemmas.{IsInBuildIn, stuck_last, at_later, next_fair, taken_inner, taken_at}
 
--- the log behind a reserving, as a list of enabled events, and where the caller was before
+-- the log after a reserving, as a list of enabled events, and the place of the caller before
 pub record Took (v : View) (number base size : ℕ) (w : View) : Type 0 where
   pub before : Log
   pub lawful : Lawful v.start v.words (Reserve number base size ∷ before)
@@ -29,6 +29,7 @@ pub record Took (v : View) (number base size : ℕ) (w : View) : Type 0 where
   pub now_is : now w ≡ state_of v.start v.words (Reserve number base size ∷ before)
   pub who_is : w.who ≡ v.who
 
+-- a seat that reserved a row has such a log
 pub took : (v : View) (number base size : ℕ) (w : View) → Reserved v number base size w
     → Took v number base size w
 took v number base size w r =
@@ -49,7 +50,7 @@ took v number base size w r =
       who_is = ap (λ x. x.who) l.view ∙ goes_on_who r.seen;
     }
 
--- a caller that took the next row of its build is a caller, and is at the row behind
+-- a caller that took the next row of its build is a caller, and is at the row after it
 module _ (who : Caller) (seat : SeatFace) (base size : ℕ) (c : IsCaller who)
     (r : Reserved who.seat.view who.number base size seat.view) where
   abbrev v : View
@@ -78,6 +79,7 @@ module _ (who : Caller) (seat : SeatFace) (base size : ℕ) (c : IsCaller who)
       at_later v.start v.words v.log it.before who.number (spares_of who) stuck done rest before
       later record { sizes = h.sizes; all_stuck = h.all_stuck; building = h.building }
 
+  -- a caller that took the next row is a caller
   pub caller_took : IsNext who size → IsCaller (record who { seat = seat })
   caller_took n =
       let there = subst (λ t. IsCallerIn t who.number (spares_of who)) (sym it.now_is)
@@ -87,6 +89,7 @@ module _ (who : Caller) (seat : SeatFace) (base size : ℕ) (c : IsCaller who)
       (at_before n.stuck n.done (size ∷ n.rest) n.at))) in
       record { mine = it.who_is ∙ c.mine; rows = there.rows; builds = there.builds }
 
+  -- the caller is at the row after the one that it took
   pub at_took : (stuck done rest : List ℕ) → IsInBuild who stuck done (size ∷ rest)
       → IsInBuild (record who { seat = seat }) stuck (done ++ size ∷ []) rest
   at_took stuck done rest h =
@@ -98,7 +101,7 @@ module _ (who : Caller) (seat : SeatFace) (base size : ℕ) (c : IsCaller who)
 
 -- ---- the seat goes on
 
--- a caller is at its build where its seat made loads
+-- a caller is at its build if its seat made loads
 pub at_goes_on : (who : Caller) (seat : SeatFace) (stuck done rest : List ℕ) → IsCaller who
     → GoesOnTo who.seat.view seat.view → IsInBuild who stuck done rest
     → IsInBuild (record who { seat = seat }) stuck done rest
@@ -115,7 +118,7 @@ at_goes_on who seat stuck done rest c g h =
     record { sizes = h.sizes; all_stuck = h.all_stuck; building = h.building }) in
     record { sizes = there.sizes; all_stuck = there.all_stuck; building = there.building }
 
--- and where it stored a word
+-- a caller is at its build if it stored a word
 pub at_storing : (who : Caller) (place word : ℕ) (stuck done rest : List ℕ)
     → IsInBuild who stuck done rest
     → IsInBuild (record who { seat = record who.seat { view = storing who.seat.view place word } })
@@ -123,7 +126,7 @@ pub at_storing : (who : Caller) (place word : ℕ) (stuck done rest : List ℕ)
 at_storing who place word stuck done rest h =
     record { sizes = h.sizes; all_stuck = h.all_stuck; building = h.building }
 
--- a caller whose build was refused has refused builds alone
+-- a caller whose build was refused has only refused builds
 pub refused : (who : Caller) (seat : SeatFace) (words size : ℕ) (full : Full) → IsCaller who
     → words ≡ who.seat.view.words
     → IsNext who size → IsFull who.seat.view words size full seat.view
@@ -147,7 +150,7 @@ refused who seat words size full c words_is n f =
 
 -- ---- what a reserving answers
 
--- a caller is one behind it, whatever it answers
+-- a caller is a caller after the call, whatever it returns
 pub caller_behind : (who : Caller) (seat : SeatFace) (words size : ℕ) (answer : Result ℕ Full)
     → IsCaller who → IsNext who size
     → IfOk answer (λ base. Reserved who.seat.view who.number base size seat.view)
@@ -157,7 +160,7 @@ caller_behind who seat words size (Ok base) c n ok err = caller_took who seat ba
 caller_behind who seat words size (Err full) c n ok err =
     caller_refused who seat words size full c err
 
--- where it answers a row, the caller has taken it
+-- if it returns a row, the caller has taken it
 pub taken_behind : (who : Caller) (seat : SeatFace) (size : ℕ) (answer : Result ℕ Full)
     → IsCaller who
     → IfOk answer (λ base. Reserved who.seat.view who.number base size seat.view)
@@ -166,7 +169,7 @@ taken_behind who seat size (Ok base) c ok =
     λ stuck done rest h. at_took who seat base size c ok stuck done rest h
 taken_behind who seat size (Err full) c ok = tt
 
--- and otherwise its build was refused
+-- if no row is returned, its build was refused
 pub refused_behind : (who : Caller) (seat : SeatFace) (words size : ℕ) (answer : Result ℕ Full)
     → IsCaller who → words ≡ who.seat.view.words → IsNext who size
     → IfErr answer (λ full. IsFull who.seat.view words size full seat.view)

@@ -37,7 +37,7 @@ all_stuck_on t u b _ none_stuck = none_stuck
 all_stuck_on t u b _ (stuck_more {sizes = sizes} {more = more} s rest) =
     stuck_more (stuck_on t u b sizes s) (all_stuck_on t u b more rest)
 
--- builds behind stuck ones are builds
+-- builds after stuck ones are builds
 pub builds_behind : (t : Snapshot) (sizes more : List ℕ) → AreStuck t sizes → AreBuilds t more
     → AreBuilds t (sizes ++ more)
 builds_behind t _ more none_stuck b = b
@@ -45,7 +45,7 @@ builds_behind t _ more (stuck_more {sizes = sizes} {more = others} s rest) b =
     subst (AreBuilds t) (sym (append_assoc sizes others more))
     (stuck_build s (builds_behind t others more rest b))
 
--- one more is stuck behind stuck ones
+-- one more stuck build after stuck ones
 pub stuck_last : (t : Snapshot) (sizes last : List ℕ) → AreStuck t sizes → IsStuck t last
     → AreStuck t (sizes ++ last)
 stuck_last t _ last none_stuck s = subst (AreStuck t) (append-nil last) (stuck_more s none_stuck)
@@ -55,14 +55,14 @@ stuck_last t _ last (stuck_more {sizes = sizes} {more = others} first rest) s =
 
 -- ---- a caller in a build, in a state
 
--- where a caller is in a state
+-- the place of a caller in a build, in a state
 pub record IsInBuildIn (t : Snapshot) (number : ℕ) (own : Spares) (stuck done rest : List ℕ) :
     Type 0 where
   pub sizes : build_sizes t number own ≡ stuck ++ done
   pub all_stuck : AreStuck t stuck
   pub building : IsBuilding t (done ++ rest)
 
--- it is there behind each longer log
+-- the caller is at that place after each longer log
 pub at_later : (pairs : List Pair) (words : ℕ) (old log : Log) (number : ℕ) (own : Spares)
     (stuck done rest : List ℕ) → Lawful pairs words log → Later (CallerOf number) old log
     → IsInBuildIn (state_of pairs words old) number own stuck done rest
@@ -160,7 +160,7 @@ module _ (pairs : List Pair) (words : ℕ) (log : Log) (number : ℕ) (own : Spa
       ∙ map-append (λ (h : HeldRow). h.size)
       (filter (λ (h : HeldRow). not (is_spare own h.base)) (held_by t number)) (new_row ∷ [])
 
-  -- it is a caller still, where what it holds then are builds
+  -- the caller is still a caller, if what it holds then are builds
   pub taken_inner : AreBuilds t (build_sizes t number own ++ size ∷ []) → IsCallerIn u number own
   taken_inner builds =
       record {
@@ -170,7 +170,7 @@ module _ (pairs : List Pair) (words : ℕ) (log : Log) (number : ℕ) (own : Spa
             (subst (AreBuilds t) (sym sizes_now) builds);
       }
 
-  -- it is at the row behind
+  -- the caller is at the row after that one
   pub taken_at : (stuck done rest : List ℕ) → IsInBuildIn t number own stuck done (size ∷ rest)
       → IsInBuildIn u number own stuck (done ++ size ∷ []) rest
   taken_at stuck done rest h =

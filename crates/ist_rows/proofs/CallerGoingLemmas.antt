@@ -39,7 +39,7 @@ use Rattle.ist_rows.proofs.CallerLemmas.{IsCallerIn, caller_later}
 
 -- ---- a caller's seat goes on
 
--- the state that a seat has seen, where it went on from another
+-- the state that a seat has seen, if it went on from another
 pub now_is : (v w : View) → GoesOnTo v w → now w ≡ state_of v.start v.words w.log
 now_is v w g = ap₂ (λ p n. state_of p n w.log) (ap (λ x. x.start) g.same) (ap (λ x. x.words) g.same)
 
@@ -66,10 +66,11 @@ caller_goes_on who seat c g =
 base_differs : (base x : ℕ) → base ≢ x → (base == x) ≡ false
 base_differs base x ne = ⊎_elim (λ k. absurd (ne k.1)) (λ k. k.0) (eqb_tells base x)
 
+-- a base equals itself by the test
 pub base_same : (base : ℕ) → (base == base) ≡ true
 base_same base = ⊎_elim (λ k. k.0) (λ k. absurd (k.1 refl)) (eqb_tells base base)
 
--- either test, where the second holds
+-- a disjunction holds if its second part does
 pub or_any : (a : Bool) → (a || true) ≡ true
 or_any true = refl
 or_any false = refl
@@ -119,7 +120,7 @@ filter_same p q (x ∷ xs) h =
     ap₂ (λ b ys. if b then x ∷ ys else ys) (h x (inl refl))
     (filter_same p q xs (λ y i. h y (inr i)))
 
--- the row of a kind, where one of a kind is taken
+-- the row of a kind, if one of a kind is taken
 row_taken : (own : Spares) (kind other : Kind) (base b : ℕ)
     → row_of other (with_row kind base own) ≡ Some b
     → ((kind ≡ other) × (base ≡ b)) ⊎ (row_of other own ≡ Some b)
@@ -140,7 +141,7 @@ row_taken own Rebuild Leaf base b e = inr e
 row_taken own Rebuild PairKind base b e = inr e
 row_taken own Rebuild Change base b e = inr e
 
--- a caller that reserved a row of a kind, in the state behind
+-- a caller that reserved a row of a kind, in the state after it
 module _ (pairs : List Pair) (words : ℕ) (log : Log) (number : ℕ) (own : Spares) (kind : Kind)
     (base : ℕ)
     (enabled : EachEnabled (start pairs words) (Reserve number base (kind_words kind) ∷ log))
@@ -189,6 +190,7 @@ module _ (pairs : List Pair) (words : ℕ) (log : Log) (number : ℕ) (own : Spa
         all_grow_same t.pieces;
   }
 
+  -- a caller that reserved a row is a caller with that row
   pub taken_caller : IsCallerIn u number (with_row kind base own)
   taken_caller =
       record {

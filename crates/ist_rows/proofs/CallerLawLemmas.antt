@@ -1,4 +1,4 @@
--- A caller whose seat went on by events of its own, in the words of its views. Serves `laws`.
+-- A caller whose seat went on by its own events, in terms of its views. Serves `laws`.
 use Rattle.std.proofs.Common.{◌≡◌, ℕ, ◌==◌, not, List, ◌∷◌, map, filter, sym, ap, ◌∙◌, subst, inl, inr}
 use Rattle.ist_core.specs.declared.events.Event.{Event}
 use Rattle.ist_core.specs.declared.lists.HeldRow.{HeldRow}
@@ -58,6 +58,7 @@ row_went v w g h mine i =
     (among_filter (λ (x : HeldRow). x.caller == h.caller) h (now v).held i
     (own_number h.caller)))).0
 
+-- a caller whose seat went on by events that keep rows is still a caller
 pub caller_went : (who : Caller) (seat : SeatFace) → IsCaller who
     → WentOn KeepsRows who.seat.view seat.view → IsCaller (record who { seat = seat })
 caller_went who seat c g =
@@ -75,6 +76,7 @@ caller_went who seat c g =
       builds = there.builds;
     }
 
+-- the refused builds of such a caller are still refused
 pub refused_went : (who : Caller) (seat : SeatFace) → IsCaller who → HasRefused who
     → WentOn KeepsRows who.seat.view seat.view → HasRefused (record who { seat = seat })
 refused_went who seat c r g =
@@ -86,7 +88,7 @@ refused_went who seat c r g =
     (map (λ (h : HeldRow). h.size) (filter (λ h. not (is_spare (spares_of who) h.base)) held)))
     (sym (same_held who seat c g)) (all_stuck_on (now v) (now seat.view) behind _ r)
 
--- changes that are resolved stay so where the caller installs none
+-- changes that are resolved stay so if the caller installs none
 resolved_by : (pairs : List Pair) (words : ℕ) (number : ℕ) (old log : Log)
     → EachEnabled (start pairs words) log → LaterBy (CallerOf number) InstallsNone old log
     → AllResolvedOf (state_of pairs words old) old number
@@ -99,6 +101,7 @@ resolved_by pairs words number old _ enabled (one_more {log = log} event l (inr 
     resolved_on pairs words log event enabled number (λ base rows e. subst InstallsNone e is)
     (resolved_by pairs words number old log enabled.0 l all)
 
+-- resolved changes stay resolved, if the seat installs none
 pub resolved_went : (v w : View) (number : ℕ) → v.who ≡ CallerOf number → IsResolved v number
     → WentOn InstallsNone v w → IsResolved w number
 resolved_went v w number mine all g =
@@ -108,13 +111,14 @@ resolved_went v w number mine all g =
 
 -- ---- one event
 
--- a seat has made the event, behind which it has seen this log
+-- a seat has made the event after this log
 pub record HasLogged (v : View) (event : Event) (before : Log) (w : View) : Type 0 where
   pub later : Later v.who v.log before
   pub lawful : Lawful v.start v.words (event ∷ before)
   pub now_is : now w ≡ state_of v.start v.words (event ∷ before)
   pub who_is : w.who ≡ v.who
 
+-- a seat that logged an event has made it
 pub logged_made : (v : View) (event : Event) (w : View) (l : Logged v event w)
     → HasLogged v event l.before w
 logged_made v event w l =
@@ -126,6 +130,7 @@ logged_made v event w l =
       who_is = ap (λ x. x.who) l.view;
     }
 
+-- a seat that logged an event at a load has made it
 pub loaded_made : (v : View) (event : Event) (place word : ℕ) (w : View)
     → (l : LoggedLoad v event place word w) → HasLogged v event l.before w
 loaded_made v event place word w l =
@@ -137,7 +142,7 @@ loaded_made v event place word w l =
       who_is = ap (λ x. x.who) l.view;
     }
 
--- it changes what its caller holds just so
+-- the event changes what its caller holds in exactly this way
 pub held_made : (v w : View) (number : ℕ) (event : Event) (before : Log) → v.who ≡ CallerOf number
     → whose event ≡ CallerOf number → HasLogged v event before w
     → held_by (now w) number ≡ held_behind event (held_by (now v) number)
@@ -164,6 +169,7 @@ module _ (old new : Caller) (kinds : List Kind) (event : Event) (bases : List �
   caller_before = caller_later v.start v.words v.log before old.number (spares_of old) lawful_before
       later record { rows = c.rows; builds = c.builds }
 
+  -- a caller that gave up rows of some kinds is a caller without them
   pub caller_made : IsCaller new
   caller_made =
       let it = caller_given v.start v.words before event m.lawful old.number its bases gives kinds
@@ -179,6 +185,7 @@ module _ (old new : Caller) (kinds : List Kind) (event : Event) (bases : List �
         builds = there.builds;
       }
 
+  -- the refused builds of such a caller are still refused
   pub refused_made : HasRefused old → HasRefused new
   refused_made r =
       let t = state_of v.start v.words before in

@@ -39,7 +39,7 @@ next_later pairs words number old _ enabled (one_more {log = log} event l other)
     let more = next-state (start pairs words) log event enabled.1 in
     omega arith
 
--- a later state comes behind an earlier one
+-- a later state comes after an earlier one
 pub comes_behind : (pairs : List Pair) (words : ℕ) (number : ℕ) (old log : Log)
     → Lawful pairs words log → Later (CallerOf number) old log
     → ComesBehind (state_of pairs words old) (state_of pairs words log)
@@ -51,7 +51,7 @@ comes_behind pairs words number old log lawful l =
       grow = grow_between pairs words old log lawful.enabled (later-goes_on l);
     }
 
--- ---- a caller's rows behind a longer log
+-- ---- a caller's rows after a longer log
 
 -- what the rows of a caller are in a state
 pub record IsCallerIn (t : Snapshot) (number : ℕ) (own : Spares) : Type 0 where
@@ -59,7 +59,7 @@ pub record IsCallerIn (t : Snapshot) (number : ℕ) (own : Spares) : Type 0 wher
       → HoldsRow t number base (kind_words kind)
   pub builds : AreBuilds t (build_sizes t number own)
 
--- they are so behind each longer log
+-- a caller is a caller after each longer log
 pub caller_later : (pairs : List Pair) (words : ℕ) (old log : Log) (number : ℕ) (own : Spares)
     → Lawful pairs words log → Later (CallerOf number) old log
     → IsCallerIn (state_of pairs words old) number own
@@ -160,6 +160,7 @@ module _ (pairs : List Pair) (words : ℕ) (log : Log) (enabled : EachEnabled (s
             } held.0 (c.rows k.0 h.base k.1) refl),
       )
 
+  -- spare rows have the sizes of the kinds
   pub few_sizes : (xs : List HeldRow) → ((h : HeldRow) → Among h xs → Among h spares)
       → Each (λ size. Among size spare_sizes) (map (λ h. h.size) xs)
   few_sizes [] sub = tt
@@ -181,6 +182,7 @@ module _ (pairs : List Pair) (words : ℕ) (log : Log) (enabled : EachEnabled (s
       let kinds = kind_of_words a.0 b.0 (sym a.2 ∙ same ∙ b.2) in
       some_one g.base h.base (sym a.1 ∙ ap (λ k. row_of k own) kinds ∙ b.1)
 
+  -- spare rows with distinct bases have distinct sizes
   pub once_each : (xs : List HeldRow) → ((h : HeldRow) → Among h xs → Among h spares)
       → Distinct (map (λ h. h.base) xs) → Distinct (map (λ h. h.size) xs)
   once_each [] sub d = tt
@@ -204,7 +206,7 @@ module _ (pairs : List Pair) (words : ℕ) (log : Log) (enabled : EachEnabled (s
       at_base (y ∷ ys) g (inl same) e = inl (e ∙ ap (λ x. x.base) same)
       at_base (y ∷ ys) g (inr i) e = inr (at_base ys g i e)
 
-  -- a row of another kind is fair beside what the caller holds
+  -- a row of another kind is fair together with what the caller holds
   pub fair_with : (kind : Kind) → row_of kind own ≡ None
       → IsFair (state_of pairs words log)
       (sizes_held (state_of pairs words log) number ++ kind_words kind ∷ [])
@@ -240,7 +242,7 @@ module _ (pairs : List Pair) (words : ℕ) (log : Log) (enabled : EachEnabled (s
           it.1)
       out (h ∷ xs) sub (inr i) = out xs (λ g j. sub g (inr j)) i
 
-  -- a row of a build is fair beside what the caller holds
+  -- a row of a build is fair together with what the caller holds
   pub fair_inner : (size : ℕ)
       → AreBuilds (state_of pairs words log)
       (build_sizes (state_of pairs words log) number own ++ size ∷ [])

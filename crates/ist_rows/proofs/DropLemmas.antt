@@ -14,7 +14,7 @@ use Rattle.ist_rows.specs.Rows.{IsCaller}
 use Rattle.ist_rows.specs.Dropping.{HasPairBelow, HasLost}
 use Rattle.ist_rows.proofs.CallerLawLemmas.{loaded_made, caller_made}
 
--- it may load the node's status, and lose the row
+-- the caller may load the node's status, and so lose the row
 pub may_drop : (who : Caller) (pair node : ℕ) → IsCaller who → HasPairBelow who node
     → who.pair ≡ Some pair → CanLoadPast who.seat.view pair node
 may_drop who pair node c h is =

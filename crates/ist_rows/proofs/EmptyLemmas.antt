@@ -1,4 +1,4 @@
--- A table without pairs opens where it has its fixed words. Serves the tests.
+-- A table without pairs opens if it has its fixed words. Serves the tests.
 use Rattle.std.proofs.Common.{◌≡◌, ℕ, zero, suc, ◌<◌, ◌≤◌, List, [], ◌∷◌, length, replicate, slice_get, slice_set, Some, refl, ap, subst, sym, arith}
 use Rattle.std.proofs.lemmas.List.{length-replicate}
 use Rattle.std.proofs.lemmas.Option.{none-some}
@@ -9,19 +9,19 @@ use Rattle.ist_core.specs.StartLayout.{start, rows_within}
 use Rattle.ist_core.specs.Images.{IsImage}
 use Rattle.ist_core.specs.Lawful.{CanOpen}
 
--- it may be opened
+-- a table without pairs may be opened
 pub empty_opens : (words : ℕ) → first_row ≤ words → words ≤ place_limit → CanOpen [] words
 unfolding ideal_words ideal_words_within
 empty_opens words enough within =
     record { rising = λ k h. absurd (omega arith); room = omega arith; within = within }
 
--- each of some zeros is one
+-- each of some zeros is a zero
 zero_lies : (n i : ℕ) → i < n → slice_get {X = ℕ} (replicate n 0) i ≡ Some 0
 zero_lies zero i low = absurd (omega arith)
 zero_lies (suc n) zero low = refl
 zero_lies (suc n) (suc i) low = zero_lies n i (omega arith)
 
--- its words are a 4, and zeros
+-- the words of such a table are a 4 and zeros
 pub empty_image : (zeros : ℕ) → 3 ≤ zeros → IsImage (start [] (suc zeros)) (4 ∷ replicate zeros 0)
 unfolding ideal_words ideal_words_within rows_within
 empty_image zeros enough =
@@ -40,7 +40,7 @@ empty_image zeros enough =
     free zero low high = absurd (omega arith)
     free (suc place) low high = zero_lies zeros place (omega arith)
 
--- so are some zeros of which the first is set to 4
+-- zeros of which the first is set to 4 are an image too
 pub zeros_image : (pairs : List Pair) → pairs ≡ [] → (n : ℕ) (words : List ℕ)
     → words ≡ replicate n 0 → 4 ≤ n
     → IsImage (start pairs (length (slice_set words 0 4))) (slice_set words 0 4)
@@ -51,7 +51,7 @@ zeros_image pairs none (suc n) words same enough =
     (subst (λ m. IsImage (start [] (suc m)) (4 ∷ replicate n 0)) (sym (length-replicate n 0))
     (empty_image n (omega arith))))
 
--- and the table opens
+-- such a table opens
 pub zeros_open : (pairs : List Pair) → pairs ≡ [] → (n : ℕ) (words : List ℕ) → words ≡ replicate n 0
     → 4 ≤ n
     → n ≤ place_limit → CanOpen pairs (length (slice_set words 0 4))

@@ -51,7 +51,7 @@ module _ (pairs : List PairOf) (words : ℕ) (log : Log)
   shown_next_is _ _ (shown_free far in_it) e = let low =
       next_behind_fixed pairs words log enabled in absurd (omega arith)
 
-  -- the word behind it is the number of callers
+  -- the word at its place is the number of callers
   pub shown_callers_is : (place word : ℕ) → IsShown (state_of pairs words log) place word
       → place ≡ callers_place → word ≡ (state_of pairs words log).callers
   shown_callers_is _ _ shown_next e = absurd (omega arith)
@@ -65,7 +65,7 @@ module _ (pairs : List PairOf) (words : ℕ) (log : Log)
 
 -- ---- entering
 
--- behind each log that may come a maker's callers are as many as it made
+-- after each log that may come, there are as many callers as the maker made
 made_there : (v : View) → IsSound v → v.who ≡ Maker → (log : Log) → MayCome v log
     → (state_of v.start v.words log).callers ≡ v.made
 made_there v s who log m =
@@ -103,6 +103,7 @@ pub record Entered (v w : View) (found : ℕ) : Type 0 where
   pub given : w.given ≡ v.given
   pub who : w.who ≡ Maker
 
+-- a maker that made an Enter has entered the next caller
 pub entered : (v w : View) (found : ℕ) → IsSound v → v.who ≡ Maker → Logged v (Enter found) w
     → Entered v w found
 entered v w found s who l =
@@ -161,6 +162,7 @@ pub record Parts (v : View) (number : ℕ) (left right : View) : Type 0 where
   pub idle : IsIdleIn (CallerOf number) right.log
   pub held : held_by (now right) number ≡ []
 
+-- the two parts of a maker that has entered a caller
 pub parts : (v w : View) (number : ℕ) → v.who ≡ Maker → Logged v (Enter number) w → IsSound w
     → w.given ≡ number → w.given < w.made → Parts v number (split_left w) (split_right w)
 parts v w number who l s given less =

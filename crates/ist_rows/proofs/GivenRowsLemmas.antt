@@ -35,7 +35,7 @@ none_some base e = cc
 some_one : (a b : ℕ) → Some a ≡ Some b → a ≡ b
 some_one a b e = cc
 
--- without the row of one kind there is none of it, and those of the others are the same
+-- without the row of one kind there is no row of it, and the rows of the others are the same
 row_without : (kind other : Kind) (own : Spares)
     → ((kind ≡ other) × (row_of other (without_row kind own) ≡ None))
     ⊎ (row_of other (without_row kind own) ≡ row_of other own)
@@ -62,7 +62,7 @@ none_here PairKind own = refl
 none_here Change own = refl
 none_here Rebuild own = refl
 
--- the row of a kind, where those of some kinds are gone
+-- the row of a kind, if the rows of some kinds are gone
 row_left : (kinds : List Kind) (own : Spares) (other : Kind)
     → (row_of other (without_rows kinds own) ≡ None)
     ⊎ (row_of other (without_rows kinds own) ≡ row_of other own)
@@ -72,7 +72,7 @@ row_left (kind ∷ kinds) own other =
     (λ same. ⊎_elim (λ e. inl (same ∙ e)) (λ e. inr (same ∙ e)) (row_left kinds own other))
     (row_without kind other (without_rows kinds own))
 
--- there is none of these kinds
+-- there is no row of these kinds
 row_gone : (kinds : List Kind) (own : Spares) (other : Kind) → Among other kinds
     → row_of other (without_rows kinds own) ≡ None
 row_gone [] own other i = absurd i
@@ -83,7 +83,7 @@ row_gone (kind ∷ kinds) own other (inr i) =
     ⊎_elim (λ k. k.1) (λ same. same ∙ row_gone kinds own other i)
     (row_without kind other (without_rows kinds own))
 
--- a base among those of some kinds is that of the row of one
+-- a base among the bases of some kinds is the base of the row of one
 kind_given : (kinds : List Kind) (own : Spares) (bases : List ℕ) → AreBasesOf kinds own bases
     → (base : ℕ) → Among base bases
     → (kind : Kind) × Among kind kinds × (row_of kind own ≡ Some base)
@@ -123,7 +123,7 @@ spare_of kind own base e = at kind (ap (λ o. is_base o base) e ∙ base_same ba
         ∙ ap (λ a. is_base own.leaf base || a) (or_any (is_base own.pair base))
         ∙ or_any (is_base own.leaf base)
 
--- a row that isn't that of the kind is as spare without it
+-- a row of another kind is as spare without the row of this kind
 spare_less : (kind : Kind) (own : Spares) (base : ℕ) → is_base (row_of kind own) base ≡ false
     → is_spare (without_row kind own) base ≡ is_spare own base
 spare_less Leaf own base f =
@@ -160,7 +160,7 @@ spare_left (kind ∷ kinds) own (b ∷ bases) a base out =
     second true y e = absurd (cc)
     second false y e = e
 
--- so the rows of builds are the same
+-- the rows of builds stay the same
 builds_left : (kinds : List Kind) (own : Spares) (bases : List ℕ) → AreBasesOf kinds own bases
     → (held : List HeldRow)
     → filter (λ h. not (is_spare (without_rows kinds own) h.base)) (without bases held)
@@ -210,7 +210,7 @@ module _ (pairs : List Pair) (words : ℕ) (log : Log) (event : Event)
       ∙ ap (map (λ (h : HeldRow). h.size))
       (builds_left kinds own bases a (held_by (state_of pairs words log) number))
 
-  -- a row of another kind is none of those that are given up
+  -- a row of another kind is not among those that are given up
   out : (kind : Kind) (base : ℕ) → row_of kind (without_rows kinds own) ≡ Some base
       → row_of kind own ≡ Some base → (b : Bool) → list_any (λ x. x == base) bases ≡ b → b ≡ false
   out kind base e was false f = refl
@@ -224,7 +224,7 @@ module _ (pairs : List Pair) (words : ℕ) (log : Log) (event : Event)
       absurd (none_some base
       (sym (row_gone kinds own kind (subst (λ x. Among x kinds) one k.1)) ∙ e))
 
-  -- and each row that is left is held
+  -- each row that is left is held
   row_held : (kind : Kind) (base : ℕ) → row_of kind (without_rows kinds own) ≡ Some base
       → row_of kind own ≡ Some base
       → HoldsRow (state_of pairs words (event ∷ log)) number base (kind_words kind)
@@ -239,6 +239,7 @@ module _ (pairs : List Pair) (words : ℕ) (log : Log) (event : Event)
       (held_by (state_of pairs words log) number) there
       (ap not (out kind base e was _ refl))))).0
 
+  -- after the event it is a caller without the rows of these kinds
   pub caller_given : IsCallerIn (state_of pairs words (event ∷ log)) number
       (without_rows kinds own)
   caller_given =

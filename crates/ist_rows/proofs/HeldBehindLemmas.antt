@@ -1,4 +1,4 @@
--- What a caller holds behind events of its own. Serves `laws.events_move_rows` and
+-- What a caller holds after its own events. Serves `laws.events_move_rows` and
 -- `laws.callers_go_on`.
 use Rattle.std.proofs.Common.{◌≡◌, ℕ, ◌==◌, not, Bool, true, false, if◌then◌else◌, List, [], ◌∷◌, ◌++◌, map, filter, refl, sym, ap, ◌∙◌, subst, inl, inr, ⊎_elim}
 use Rattle.std.specs.List.{list_any}
@@ -145,7 +145,7 @@ held_behind-given (Draw caller rebuild part) bases held is = absurd is
 
 -- ---- many events
 
--- what a caller holds stays, where its own events keep rows
+-- what a caller holds stays, if its own events keep rows
 pub held_by_went : (pairs : List Pair) (words : ℕ) (number : ℕ) (old log : Log)
     → EachEnabled (start pairs words) log → LaterBy (CallerOf number) KeepsRows old log
     → held_by (state_of pairs words log) number ≡ held_by (state_of pairs words old) number
@@ -158,7 +158,7 @@ held_by_went pairs words number old _ enabled (one_more {log = log} event l (inr
     (held_kept (state_of pairs words log) event is)
     ∙ held_by_went pairs words number old log enabled.0 l
 
--- a later state comes behind an earlier one
+-- a later state comes after an earlier one
 pub behind_between : (pairs : List Pair) (words : ℕ) (old log : Log) → Lawful pairs words log
     → GoesOn old log → ComesBehind (state_of pairs words old) (state_of pairs words log)
 behind_between pairs words old log lawful g =
@@ -173,7 +173,7 @@ behind_between pairs words old log lawful g =
 pub own_number : (n : ℕ) → (n == n) ≡ true
 own_number n = ⊎_elim (λ k. k.0) (λ k. absurd (k.1 refl)) (eqb_tells n n)
 
--- where a caller holds the same rows, its rows are what they were
+-- if a caller holds the same rows, its rows are what they were
 pub caller_between : (pairs : List Pair) (words : ℕ) (old log : Log) (number : ℕ) (own : Spares)
     → Lawful pairs words log → GoesOn old log
     → held_by (state_of pairs words log) number ≡ held_by (state_of pairs words old) number

@@ -63,7 +63,7 @@ filter_out f p z (y ∷ ys) i = at (filter_out f p z ys) (p y) refl
         (subst (λ zs. Among z (map f zs)) (filter_here p y ys true e) i)
     at rest false e = inr (rest (subst (λ zs. Among z (map f zs)) (filter_here p y ys false e) i))
 
--- what a filter leaves of a list without a repetition has none
+-- a filter of a list without repetitions has no repetitions
 pub distinct_filter : {A B : Type 0} (f : A → B) (p : A → Bool) (xs : List A) → Distinct (map f xs)
     → Distinct (map f (filter p xs))
 distinct_filter f p [] d = tt
@@ -75,7 +75,7 @@ distinct_filter f p (x ∷ xs) d = at (distinct_filter f p xs d.1) (p x) refl
         ((λ i. d.0 (filter_out f p (f x) xs i)), rest)
     at rest false e = subst (λ zs. Distinct (map f zs)) (sym (filter_here p x xs false e)) rest
 
--- one more that is not among them
+-- distinct elements with one more that is not among them
 pub distinct_more : {A : Type 0} (xs : List A) (y : A) → Distinct xs → ¬ (Among y xs)
     → Distinct (xs ++ y ∷ [])
 distinct_more [] y d out = ((λ i. i), tt)
@@ -143,7 +143,7 @@ held_distinct pairs words (event ∷ log) enabled =
     at before (Finish caller node keys) can = before
     at before (Draw caller rebuild part) can = before
 
--- what others publish or lose is none of a caller's rows
+-- what others publish or lose is not a row of this caller
 others_without : (t : Snapshot) (number : ℕ) (bases : List ℕ)
     → ((h : HeldRow) → Among h t.held → Among h.base bases → h.caller ≢ number)
     → filter (λ h. h.caller == number) (without bases t.held) ≡ held_by t number
@@ -165,7 +165,7 @@ others_without t number bases apart =
     at h i mine true e = absurd (apart h i (among_bases h.base bases e) (is_number h mine))
     at h i mine false e = ap not e
 
--- what a caller holds stays as a list, where another makes the event
+-- what a caller holds stays as a list, if another makes the event
 pub held_by_step : (pairs : List Pair) (words : ℕ) (log : Log) (event : Event) (number : ℕ)
     → EachEnabled (start pairs words) (event ∷ log)
     → whose event ≢ Caller number → held_by (state_of pairs words (event ∷ log)) number
@@ -233,7 +233,7 @@ held_by_step pairs words log event number enabled other = at event enabled.1 oth
     at (Finish caller node keys) can differ = refl
     at (Draw caller rebuild part) can differ = refl
 
--- the same along a log that goes on by others
+-- what a caller holds stays, along a log that goes on by others
 pub held_by_later : (pairs : List Pair) (words : ℕ) (number : ℕ) (old log : Log)
     → EachEnabled (start pairs words) log → Later (Caller number) old log
     → held_by (state_of pairs words log) number ≡ held_by (state_of pairs words old) number

@@ -6,6 +6,7 @@ pub mod CallerLemmas
 pub mod CallerGoingLemmas
 pub mod EmptyLemmas
 pub mod BuildingLemmas
+pub mod BlockLemmas
 pub mod BuildingCallLemmas
 pub mod HeldBehindLemmas
 pub mod GivenRowsLemmas

@@ -6,7 +6,7 @@ use Rattle.ist_rule.specs.Learning.{now}
 use Rattle.ist_rows.specs.declared.callers.Caller.{Caller}
 use Rattle.ist_rows.specs.Rows.{spares_of, build_sizes}
 
--- the sizes are prefixes of building lists, one behind another, each of them stuck
+-- the sizes are prefixes of building lists, one after another, and each prefix is stuck
 pub data AreStuck (t : Snapshot) : List ℕ → Type 0 where
   none_stuck : AreStuck t []
   stuck_more : {sizes more : List ℕ} → IsStuck t sizes → AreStuck t more
@@ -16,7 +16,7 @@ pub data AreStuck (t : Snapshot) : List ℕ → Type 0 where
 abbrev pub sizes_built : Caller → List ℕ
 sizes_built who = build_sizes (now who.seat.view) who.number (spares_of who)
 
--- the caller is in a build: it holds the rows of stuck builds, and then those of a building list
+-- the caller is in a build: it holds the rows of stuck builds, and then rows of a building list
 -- that goes on with the rest
 pub record IsInBuild (who : Caller) (stuck done rest : List ℕ) : Type 0 where
   pub sizes : sizes_built who ≡ stuck ++ done
@@ -30,7 +30,7 @@ pub record IsNext (who : Caller) (size : ℕ) : Type 0 where
   pub rest : List ℕ
   pub at : IsInBuild who stuck done (size ∷ rest)
 
--- each build that the caller holds rows of was refused
+-- each build of which the caller holds rows was refused
 abbrev pub HasRefused : Caller → Type 0
 HasRefused who = AreStuck (now who.seat.view) (sizes_built who)
 

@@ -1,5 +1,5 @@
--- What becomes of a caller's rows and changes as its seat goes on by events of its own.
--- `src/laws.rt` lists the clauses.
+-- What becomes of a caller's rows and changes as its seat goes on by its own events. `src/laws.rt`
+-- lists the clauses.
 use Rattle.std.specs.Prelude.{◌≡◌, ℕ, List, [], ◌∷◌, ◌++◌, Some, None}
 use Rattle.ist_core.specs.declared.events.Event.{Event}
 use Rattle.ist_core.specs.declared.events.Event.TheVariants.{Reserve, Install, Root, Place, Lose}
@@ -29,13 +29,13 @@ KeepsRows (Place caller rebuild i word rows) = ⊥
 KeepsRows (Lose caller bases) = ⊥
 KeepsRows _ = Unit {0}
 
--- a caller whose seat went on by such events is one still
+-- a caller whose seat went on by such events is still a caller
 abbrev pub CallersGoOn : Type 0
 CallersGoOn =
     (who : Caller) (seat : SeatFace) → IsCaller who → WentOn KeepsRows who.seat.view seat.view
     → IsCaller (record who { seat = seat })
 
--- and its refused builds are refused still
+-- its refused builds are still refused
 abbrev pub RefusedBuildsStay : Type 0
 RefusedBuildsStay =
     (who : Caller) (seat : SeatFace) → IsCaller who → HasRefused who
@@ -46,7 +46,7 @@ abbrev pub InstallsNone : Event → Type 0
 InstallsNone (Install caller change rows) = ⊥
 InstallsNone _ = Unit {0}
 
--- where all changes of a caller are resolved and its seat went on by such events, they are still
+-- if all changes of a caller are resolved and its seat went on by such events, they still are
 abbrev pub ChangesStayResolved : Type 0
 ChangesStayResolved =
     (v w : View) (number : ℕ) → v.who ≡ CallerOf number → IsResolved v number
@@ -54,7 +54,7 @@ ChangesStayResolved =
 
 -- ---- one event
 
--- the rows that a caller holds behind an event of its own, where it held these before
+-- the rows that a caller holds after an event of its own, if it held these before
 abbrev pub held_behind : Event → List HeldRow → List HeldRow
 held_behind (Reserve caller base size) held =
     held ++ record { caller = caller; base = base; size = size } ∷ []
@@ -64,14 +64,14 @@ held_behind (Place caller rebuild i word rows) held = without (bases_of rows) he
 held_behind (Lose caller bases) held = without bases held
 held_behind _ held = held
 
--- an event of a caller changes what it holds just so
+-- an event of a caller changes what it holds in exactly this way
 abbrev pub EventsMoveRows : Type 0
 EventsMoveRows =
     (v w : View) (number : ℕ) (event : Event) → v.who ≡ CallerOf number
     → whose event ≡ CallerOf number → Logged v event w
     → held_by (now w) number ≡ held_behind event (held_by (now v) number)
 
--- so does an event that came at a load, or at an exchange that failed
+-- so does an event that happened at a load, or at an exchange that failed
 abbrev pub LoadsMoveRows : Type 0
 LoadsMoveRows =
     (v w : View) (number : ℕ) (event : Event) (place word : ℕ) → v.who ≡ CallerOf number
@@ -88,26 +88,26 @@ GivesUp (Place caller rebuild i word rows) bases = bases_of rows ≡ bases
 GivesUp (Lose caller lost) bases = lost ≡ bases
 GivesUp _ bases = ⊥
 
--- the bases are those of the rows of these kinds
+-- the bases of the rows of these kinds
 abbrev pub AreBasesOf : List Kind → Spares → List ℕ → Type 0
 AreBasesOf [] own [] = Unit {0}
 AreBasesOf (kind ∷ kinds) own (base ∷ bases) =
     (row_of kind own ≡ Some base) × AreBasesOf kinds own bases
 AreBasesOf _ own _ = ⊥
 
--- the rows but the one of this kind
+-- the rows except the one of this kind
 abbrev pub without_row : Kind → Spares → Spares
 without_row Leaf own = record own { leaf = None }
 without_row Pair own = record own { pair = None }
 without_row Change own = record own { change = None }
 without_row Rebuild own = record own { rebuild = None }
 
--- the rows but those of these kinds
+-- the rows except those of these kinds
 abbrev pub without_rows : List Kind → Spares → Spares
 without_rows [] own = own
 without_rows (kind ∷ kinds) own = without_row kind (without_rows kinds own)
 
--- the caller is the other one, but for its seat and for the rows of these kinds
+-- the caller is the other one, except for its seat and the rows of these kinds
 pub record IsWithout (kinds : List Kind) (old new : Caller) : Type 0 where
   pub number : new.number ≡ old.number
   pub rows : spares_of new ≡ without_rows kinds (spares_of old)
@@ -120,7 +120,7 @@ GivenRowsGo =
     → GivesUp event bases → AreBasesOf kinds (spares_of old) bases → IsWithout kinds old new
     → IsCaller new
 
--- so is one whose event came at a load, or at an exchange that failed
+-- so is one whose event happened at a load, or at an exchange that failed
 abbrev pub LostRowsGo : Type 0
 LostRowsGo =
     (old new : Caller) (kinds : List Kind) (event : Event) (bases : List ℕ) (place word : ℕ)
@@ -128,7 +128,7 @@ LostRowsGo =
     → whose event ≡ CallerOf old.number → GivesUp event bases
     → AreBasesOf kinds (spares_of old) bases → IsWithout kinds old new → IsCaller new
 
--- its refused builds are refused still
+-- its refused builds are still refused
 abbrev pub RefusedBuildsAreKept : Type 0
 RefusedBuildsAreKept =
     (old new : Caller) (kinds : List Kind) (event : Event) (bases : List ℕ) → IsCaller old

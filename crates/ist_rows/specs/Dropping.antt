@@ -1,4 +1,4 @@
--- Giving up a pair row: when it may be, and what it leaves.
+-- Giving up a pair row: when a caller may, and what it leaves.
 use Rattle.std.specs.Prelude.{◌≡◌, ℕ, ◌+◌, ◌<◌, [], ◌∷◌, Some}
 use Rattle.ist_core.specs.declared.states.InnerRow.{InnerRow}
 use Rattle.ist_core.specs.declared.events.Event.TheVariants.{Lose}

@@ -5,12 +5,12 @@ use Rattle.ist_core.specs.Logs.{Log}
 use Rattle.ist_rule.specs.declared.view.View.{View}
 use Rattle.ist_core.specs.Authors.{Later}
 
--- the view that entered the caller behind this log, and has given it its seat
+-- the view that entered the caller after this log, and has given it its seat
 abbrev pub entering : View → Log → ℕ → View
 entering v before number =
     record v { log = Enter number ∷ before; made = v.made + 1; given = v.given + 1 }
 
--- the entering is the last event of the log, and others alone made events before it; all else that
+-- the entering is the last event of the log, and only others made events before it; all else that
 -- the maker knew is as it was
 pub record HasEntered (v : View) (number : ℕ) (w : View) : Type 0 where
   pub before : Log

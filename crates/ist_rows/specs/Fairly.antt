@@ -10,7 +10,7 @@ use Rattle.ist_rule.specs.declared.view.View.{View}
 use Rattle.ist_rule.specs.Conditions.{MayCome}
 use Rattle.ist_rule.specs.Watching.{number_of}
 
--- behind each log that may come what the caller holds is fair with a row of this size
+-- after each log that may come, what the caller holds is fair with a row of this size
 abbrev pub MayTake : View → ℕ → ℕ → Type 0
 MayTake v number size =
     (log : Log) → MayCome v log

@@ -1,4 +1,4 @@
--- Callers and their rows: those that belong to one caller, and what a reserving answers.
+-- Callers and their rows: which rows belong to one caller, and what a reserving returns.
 use Rattle.std.specs.Prelude.{◌≡◌, ℕ, ◌+◌, ◌<◌, ◌==◌, ◌||◌, not, Bool, false, List, map, filter, Option, Some, None, Result, IfOk}
 use Rattle.ist_core.specs.declared.lists.HeldRow.{HeldRow}
 use Rattle.ist_core.specs.declared.ports.Full.{Full}
@@ -21,7 +21,7 @@ pub record Spares : Type 0 where
   pub change : Option ℕ
   pub rebuild : Option ℕ
 
--- those of a caller
+-- the rows of a caller, by kind
 abbrev pub spares_of : Caller → Spares
 spares_of who =
     record { leaf = who.leaf; pair = who.pair; change = who.change; rebuild = who.rebuild }
@@ -46,12 +46,12 @@ with_row Rebuild base spares = record spares { rebuild = Some base }
 
 -- ---- rows that a caller holds
 
--- is this the base
+-- is this the base?
 abbrev pub is_base : Option ℕ → ℕ → Bool
 is_base (Some base) other = base == other
 is_base None other = false
 
--- is the row at the base one of these
+-- is the row at the base one of these?
 abbrev pub is_spare : Spares → ℕ → Bool
 is_spare spares base =
     is_base spares.leaf base || (is_base spares.pair base
@@ -61,12 +61,12 @@ is_spare spares base =
 abbrev pub held_by : Snapshot → ℕ → List HeldRow
 held_by t number = filter (λ h. h.caller == number) t.held
 
--- the sizes of the other rows that the caller holds, which are those of its builds
+-- the sizes of the other rows that the caller holds, which belong to its builds
 abbrev pub build_sizes : Snapshot → ℕ → Spares → List ℕ
 build_sizes t number spares =
     map (λ h. h.size) (filter (λ h. not (is_spare spares h.base)) (held_by t number))
 
--- the seat is that of the caller with this number, each of its rows is held and of its kind, and
+-- the seat belongs to the caller with this number, each of its rows is held and of its kind, and
 -- the sizes of all other rows that it holds are prefixes of building lists, each but the last being
 -- stuck
 pub record IsCaller (who : Caller) : Type 0 where
@@ -78,12 +78,17 @@ pub record IsCaller (who : Caller) : Type 0 where
 
 -- ---- reserving
 
--- a row of the size was reserved at the last step of the call, before which the seat made loads
--- alone
+-- a row of the size was reserved at the last step of the call; before it the seat only made loads
 pub record Reserved (v : View) (number base size : ℕ) (w : View) : Type 0 where
   pub before : View
   pub seen : GoesOnTo v before
   pub reserved : Logged before (Reserve number base size) w
+
+-- a load or a failed exchange gave the first free word; before it the seat only made loads
+pub record HasReadNext (v : View) (next : ℕ) (w : View) : Type 0 where
+  pub before : View
+  pub seen : GoesOnTo v before
+  pub looked : Looked before next_place next w
 
 -- a load of the first word gave how many words are used, and too few are left; nothing was reserved
 pub record IsFull (v : View) (words size : ℕ) (full : Full) (w : View) : Type 0 where
@@ -94,15 +99,15 @@ pub record IsFull (v : View) (words size : ℕ) (full : Full) (w : View) : Type 
   pub words_is : full.words ≡ words
   pub small : words < full.next + size
 
--- where the caller had no row of this kind, an answered row was reserved in this call, and is the
--- caller's
+-- if the caller had no row of this kind and a row is returned, it was reserved in this call and is
+-- the caller's
 abbrev pub IsFresh : Kind → Caller → Caller → Result ℕ Full → Type 0
 IsFresh kind old new answer =
     row_of kind (spares_of old) ≡ None → IfOk answer (λ base.
     Reserved old.seat.view old.number base (kind_words kind) new.seat.view
     × (spares_of new ≡ with_row kind base (spares_of old)))
 
--- nothing was reserved, for want of words
+-- nothing was reserved, because no words are left
 pub record IsRefused (words : ℕ) (kind : Kind) (old new : Caller) (full : Full) : Type 0 where
   pub none : row_of kind (spares_of old) ≡ None
   pub cause : IsFull old.seat.view words (kind_words kind) full new.seat.view
@@ -110,7 +115,7 @@ pub record IsRefused (words : ℕ) (kind : Kind) (old new : Caller) (full : Full
 
 -- ---- filling
 
--- the caller holds the row at the base, which has a word so many places behind it
+-- the caller holds the row at the base, and the row has a word `at` places after it
 pub record HoldsPlace (who : Caller) (base at : ℕ) : Type 0 where
   pub size : ℕ
   pub held : HoldsRow (now who.seat.view) who.number base size

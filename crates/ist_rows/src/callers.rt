@@ -1,4 +1,4 @@
-//! A caller, and the rows that it holds beside its builds.
+//! A caller, and the rows that it holds in addition to its builds.
 ghost use Rattle.std.specs.Prelude.{◌≡◌};
 ghost use Rattle.ist_rows.specs.Rows.{spares_of, row_of, with_row};
 
@@ -7,7 +7,7 @@ use ist_rule::TreeSeat;
 
 /// The seat of one caller with its number, and the row of each kind that it holds, by its base.
 ///
-/// Who publishes such a row by a step on the seat sets its field to `None`.
+/// A step on the seat that publishes such a row must be followed by setting its field to `None`.
 #[derive(Drop)]
 pub struct Caller {
     pub seat: TreeSeat,
@@ -19,7 +19,7 @@ pub struct Caller {
 }
 
 impl Caller {
-    // The row of this kind that the caller holds.
+    // Returns the row of this kind that the caller holds.
     pub(crate) fn row(&self, kind: Kind) -> Option<u32>
         ensures value { result ≡ row_of kind (spares_of self.now) }
     {
@@ -31,7 +31,7 @@ impl Caller {
         }
     }
 
-    // The caller holds this row of this kind.
+    // Notes that the caller holds this row of this kind.
     pub(crate) fn hold(&mut self, kind: Kind, base: u32)
         ensures value { spares_of self.new ≡ with_row kind base (spares_of self.old) }
         ensures same { (self.new.seat ≡ self.old.seat) × (self.new.number ≡ self.old.number) }

@@ -25,7 +25,7 @@ pub fn drop_pair(table: &TreeTable, who: &mut Caller, node: u32)
 {
     know(&who.seat);
     if let Some(pair) = who.pair {
-        // Lose. Meets no other's step: the row is its caller's alone.
+        // Lose. Meets no other's step: only the row's caller uses it.
         load_past(table, &mut who.seat, pair, node);
         who.pair = None;
     }

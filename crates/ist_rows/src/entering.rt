@@ -1,4 +1,4 @@
-//! Entering: one caller more.
+//! Entering one more caller.
 ghost use Rattle.std.specs.Prelude.{◌≡◌, ◌+◌, ◌<◌, ◌-◌, ◌^◌, [], None};
 ghost use Rattle.ist_core.specs.Enabled.{caller_limit};
 ghost use Rattle.ist_core.specs.declared.events.Who.TheVariants.{Maker, Caller as CallerOf};
@@ -12,10 +12,10 @@ use crate::callers::Caller;
 use ist_layout::CALLERS_PLACE;
 use ist_rule::{TreeSeat, TreeTable, add, know, split};
 
-/// The next caller. Its number is the count of the callers before it.
+/// Enters the next caller. Its number is the count of the callers before it.
 ///
 /// The caller holds no row, has made no call and no event, and has the maker's start pairs, log and
-/// stamp. The entering is the last event of that log; what else the maker knew is as it was.
+/// stamp. The entering is the last event of that log; all else that the maker knew is as it was.
 pub fn enter(table: &TreeTable, maker: &mut TreeSeat) -> Caller
     requires same_table { maker.old.table ≡ table.now.table }
     requires maker { maker.old.view.who ≡ Maker }

@@ -1,4 +1,4 @@
-//! The kinds of row that a caller holds one of at most.
+//! The kinds of row of which a caller holds at most one each.
 ghost use Rattle.std.specs.Prelude.{◌≡◌};
 ghost use Rattle.ist_rows.specs.Kinds.{kind_words};
 
@@ -14,7 +14,7 @@ pub enum Kind {
 }
 
 impl Kind {
-    /// How many words a row of this kind has.
+    /// Returns how many words a row of this kind has.
     pub fn words(self) -> u64
         ensures value { result ≡ kind_words self }
     {

@@ -1,9 +1,10 @@
 //! Callers of a table, and the rows that belong to one of them: entering, reserving, filling.
 //!
-//! Read `specs/Rows.antt`, then `callers.rt`, then `reserving.rt`. Stands on `ist_core`, `ist_layout`
-//! and `ist_rule`.
+//! Read `specs/Rows.antt`, then `callers.rt`, then `reserving.rt`. Builds on `ist_core`,
+//! `ist_layout` and `ist_rule`.
 #![tactic(auto)]
 
+mod block;
 mod callers;
 mod dropping;
 mod entering;
@@ -11,6 +12,7 @@ mod kinds;
 pub mod laws;
 mod reserving;
 
+pub use block::reserve_block;
 pub use callers::Caller;
 pub use dropping::drop_pair;
 pub use entering::enter;

@@ -1,4 +1,4 @@
-//! Reserving a row of one's own, and filling it.
+//! Reserving a row for a caller, and filling it.
 ghost use Rattle.std.specs.Prelude.{◌≡◌, ◌+◌, ◌<◌, ◌≤◌, ◌^◌, [], ◌∷◌, IfSome, IfOk, IfErr, Ok};
 ghost use Rattle.ist_core.specs.RowLayout.{inner_words, place_limit};
 ghost use Rattle.ist_core.specs.declared.events.Who.TheVariants.{Caller as CallerOf};
@@ -14,16 +14,10 @@ use crate::kinds::Kind;
 use ist_core::Full;
 use ist_layout::{NEXT_PLACE, inner_words};
 use ist_rule::{TreeSeat, TreeTable, exchange, know, load, store, word_count};
-use std::sync::Wait;
 
-// Takes a fresh row from the front of the free words.
-fn take<R: Wait>(
-    table: &TreeTable,
-    rt: &R,
-    seat: &mut TreeSeat,
-    number: u32,
-    size: u64,
-) -> Result<u32, Full>
+// Takes a fresh row from the front of the free words. Each further turn met another caller's
+// Reserve, so fewer words are free than before.
+fn take(table: &TreeTable, seat: &mut TreeSeat, number: u32, size: u64) -> Result<u32, Full>
     requires same_table { seat.old.table ≡ table.now.table }
     requires caller { seat.old.view.who ≡ CallerOf number }
     requires fair { MayTake seat.old.view number size }
@@ -35,9 +29,9 @@ fn take<R: Wait>(
 {
     let words = word_count(table);
     know(seat);
-    for _ in rt.forever() {
-        // No event. Meets another caller's Reserve.
-        let next = load(table, seat, NEXT_PLACE);
+    // No event. Meets another caller's Reserve.
+    let mut next = load(table, seat, NEXT_PLACE);
+    'turns: loop {
         if next + size > words {
             return Err(Full {
                 next,
@@ -45,26 +39,22 @@ fn take<R: Wait>(
                 words,
             });
         }
-        // Reserve. Meets another caller's.
-        if exchange(table, seat, NEXT_PLACE, next, next + size) == next {
+        // Reserve. Meets another caller's: the next turn tries the word that this one left.
+        let found = exchange(table, seat, NEXT_PLACE, next, next + size);
+        if found == next {
             return Ok(next as u32);
         }
+        next = found;
     }
-    unreachable!()
 }
 
-/// The row of this kind that the caller holds, or a fresh one, which then is it.
+/// Returns the row of this kind that the caller holds, or a fresh one, which it then holds.
 ///
-/// Where the caller holds a row of this kind, no word changes. A fresh row has the words of its kind
-/// and is taken from the front of the free words. `Full` comes where a load of the first word in this
-/// call gave `next` with `next + asked > words`; nothing is reserved then. Retries while others
-/// reserve.
-pub fn reserve<R: Wait>(
-    table: &TreeTable,
-    rt: &R,
-    who: &mut Caller,
-    kind: Kind,
-) -> Result<u32, Full>
+/// If the caller holds a row of this kind, no word changes. A fresh row has the words of its kind
+/// and is taken from the front of the free words. If a load of the first word in this call gave
+/// `next` with `next + asked > words`, it returns `Full` and reserves nothing. Retries while others
+/// reserve, and always returns.
+pub fn reserve(table: &TreeTable, who: &mut Caller, kind: Kind) -> Result<u32, Full>
     requires same_table { who.old.seat.table ≡ table.now.table }
     requires caller { IsCaller who.old }
     ensures same_table { who.new.seat.table ≡ table.now.table }
@@ -80,22 +70,17 @@ pub fn reserve<R: Wait>(
         return Ok(base);
     }
     know(&who.seat);
-    let base = take(table, rt, &mut who.seat, who.number, kind.words())?;
+    let base = take(table, &mut who.seat, who.number, kind.words())?;
     who.hold(kind, base);
     Ok(base)
 }
 
-/// A fresh inner row of this degree, which is the next of the build that the caller is in.
+/// Reserves a fresh inner row of this degree, which is the next of the build that the caller is in.
 ///
-/// `Full` comes where a load of the first word in this call gave `next` with `next + asked > words`.
-/// The build is refused then: nothing is reserved, and the rows that it has stay held. Retries while
-/// others reserve.
-pub fn reserve_inner<R: Wait>(
-    table: &TreeTable,
-    rt: &R,
-    who: &mut Caller,
-    degree: u64,
-) -> Result<u32, Full>
+/// If a load of the first word in this call gave `next` with `next + asked > words`, it returns
+/// `Full`. The build is then refused: nothing is reserved, and the rows that it has stay held.
+/// Retries while others reserve, and always returns.
+pub fn reserve_inner(table: &TreeTable, who: &mut Caller, degree: u64) -> Result<u32, Full>
     requires same_table { who.old.seat.table ≡ table.now.table }
     requires caller { IsCaller who.old }
     requires next { IsNext who.old (inner_words degree) }
@@ -112,10 +97,10 @@ pub fn reserve_inner<R: Wait>(
     ensures refused { IfErr result (λ full. HasRefused who.new) }
 {
     know(&who.seat);
-    take(table, rt, &mut who.seat, who.number, inner_words(degree))
+    take(table, &mut who.seat, who.number, inner_words(degree))
 }
 
-/// Stores a word into a row that the caller holds, as many places behind its base as `at` says.
+/// Stores a word into a row that the caller holds, `at` places after its base.
 pub fn fill(table: &TreeTable, who: &mut Caller, base: u32, at: u64, word: u64)
     requires same_table { who.old.seat.table ≡ table.now.table }
     requires caller { IsCaller who.old }
@@ -126,6 +111,6 @@ pub fn fill(table: &TreeTable, who: &mut Caller, base: u32, at: u64, word: u64)
         who.new ≡ record who.old { seat = record who.old.seat { view = view } } }
 {
     know(&who.seat);
-    // No event. Meets no other's step: the row is its caller's alone.
+    // No event. Meets no other's step: only the row's caller uses it.
     store(table, &mut who.seat, u64::from(base) + at, word);
 }

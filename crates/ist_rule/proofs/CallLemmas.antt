@@ -41,7 +41,7 @@ pub record MayBring (pairs : List Pair) (words : ℕ) (log : Log) (number : ℕ)
   pub none_yet : IsUpdate change.kind → HasMade pairs words log number calls
 
 module _ (pairs : List Pair) (words : ℕ) (number : ℕ) (calls : List Call) where
-  -- between calls the entries stay, and all stays resolved, where the caller installs nothing
+  -- between calls the entries stay, and all stays resolved, if the caller installs nothing
   pub between_on : (log : Log) (event : Event) → EachEnabled (start pairs words) (event ∷ log)
       → ((base : ℕ) (rows : List Row) → event ≢ Install number base rows)
       → IsBetween pairs words log number calls → IsBetween pairs words (event ∷ log) number calls
@@ -56,7 +56,7 @@ module _ (pairs : List Pair) (words : ℕ) (number : ℕ) (calls : List Call) wh
       at (new_entry by base is u entry e more) =
           absurd (none_undecided pairs words log enabled.0 number b.resolved base u)
 
-  -- the same along a log that goes on by others
+  -- between calls all stays so, along a log that goes on by others
   pub between_later : (old log : Log) → EachEnabled (start pairs words) log
       → Later (Caller number) old log
       → IsBetween pairs words old number calls → IsBetween pairs words log number calls
@@ -80,7 +80,7 @@ module _ (pairs : List Pair) (words : ℕ) (number : ℕ) (calls : List Call) wh
       (may : (base : ℕ) (rows : List Row) → event ≡ Install number base rows
       → (h : CanInstall (start pairs words) log number base rows)
       → MayBring pairs words log number calls command h.change) where
-    -- what is undecided behind the event was so, or is installed now, and then it may be
+    -- what is undecided after the event was so, or is installed now, as it may be
     abbrev Comes : ℕ → Type 0
     Comes base =
         (u : IsUndecided (state_of pairs words (event ∷ log)) number base)
@@ -192,8 +192,7 @@ module _ (pairs : List Pair) (words : ℕ) (number : ℕ) (calls : List Call) wh
         at (same_entries e) = e ∙ w.made
         at (new_entry by base is u entry named e) = absurd (w.none base u)
 
-  -- what the changes of the caller have come to goes on at each event, where what it installs may
-  -- be
+  -- what becomes of the caller's changes at each event, if it may install what it installs
   pub call_on : (log : Log) (event : Event) → EachEnabled (start pairs words) (event ∷ log)
       → (o : Option Pending)
       → ((base : ℕ) (rows : List Row) → event ≡ Install number base rows

@@ -37,7 +37,7 @@ pair_no_change key base other_key other =
     (if v then pair_over key other base else pair_over other_key base other))
     [ true ↦ tt | false ↦ tt ]
 
--- a row that an Install publishes beside the change's is no change
+-- a row that an Install publishes with the change's row is not a change
 fresh_no_change : (first : Snapshot) (log : Log) (change : ChangeRow) (fresh : List Row)
     (fits : FitsKind first log change fresh) (base : ℕ) (p : Piece)
     → IsFresh first log change fresh fits base p → NoChange p
@@ -49,7 +49,7 @@ fresh_no_change first log change fresh (a_remove h) base p f = absurd f
 fresh_no_change first log change fresh (a_start h) base p f = subst NoChange (sym f.1) tt
 fresh_no_change first log change fresh (a_finish h) base p f = absurd f
 
--- a change behind an event stood there before, or is the one that the event installs
+-- a change after an event was there before, or is the one that the event installs
 pub data ChangeComes (first : Snapshot) (log : Log) (base : ℕ) (r : ChangeRow) : Event
     → Type 0 where
   stood : {event : Event} (old : ChangeRow) → (state first log).pieces base ≡ Some (Change old)
@@ -59,7 +59,7 @@ pub data ChangeComes (first : Snapshot) (log : Log) (base : ℕ) (r : ChangeRow)
       → ChangeGrows h.change r
       → ChangeComes first log base r (Install caller base rows)
 
--- what grows into a change is one
+-- what grows into a change is a change
 grew : (first : Snapshot) (log : Log) (base : ℕ) (r : ChangeRow) (event : Event) (p : Piece)
     → (state first log).pieces base ≡ Some p → Grows p (Change r)
     → ChangeComes first log base r event
@@ -84,7 +84,7 @@ born_change first log base r _ _ (by_place {rows = rows} i e) (change_grows {old
     ⊎_elim (λ w. absurd (inner_no_change w.0.words old w.3)) (λ w. stood old w k)
     (with_inners-some (state first log).pieces rows base (Change old) e)
 
--- where a change behind an event comes from
+-- where a change after an event comes from
 pub change_comes : (first : Snapshot) (log : Log) (event : Event) → Enabled first log event
     → HeldLieApart (state first log)
     → (base : ℕ) (r : ChangeRow) → (state first (event ∷ log)).pieces base ≡ Some (Change r)

@@ -57,6 +57,7 @@ pub data Authored (event : Event) : Type 0 where
   by_caller : (caller : ℕ) → whose event ≡ Caller caller
       → ((made : ℕ) → made_behind event made ≡ made) → Authored event
 
+-- each event is the maker's Enter or a caller's
 pub authored : (event : Event) → Authored event
 authored (Enter caller) = by_maker caller refl refl
 authored (Reserve caller base size) = by_caller caller refl (λ made. refl)
@@ -100,11 +101,12 @@ pub record Published (t : Snapshot) (event : Event) : Type 0 where
   pub author_is : whose event ≡ Caller caller
   pub held : HoldsRows t caller (published_by event)
 
--- an event publishes no row, or its whose holds those that it publishes
+-- an event publishes no row, or its author holds the rows that it publishes
 pub data Publishes (t : Snapshot) (event : Event) : Type 0 where
   publishes_none : published_by event ≡ [] → Publishes t event
   publishes_held : Published t event → Publishes t event
 
+-- each enabled event publishes no row, or its author holds the rows that it publishes
 pub publishes : (first : Snapshot) (log : Log) (event : Event) → Enabled first log event
     → Publishes (state first log) event
 publishes first log (Install caller change rows) h =

@@ -1,5 +1,5 @@
--- What one event does to the words: those of the image, and those that a caller stored into its
--- rows. Serves the conjuncts `image` and `owns`.
+-- What one event does to the words: the image's, and those that a caller stored into its rows.
+-- Serves the conjuncts `image` and `owns`.
 use Rattle.std.proofs.Common.{◌≡◌, ◌≢◌, ℕ, ◌+◌, ◌≤◌, ◌⊎◌, List, [], ◌∷◌, ◌++◌, length, slice_get, Option, Some, None, refl, sym, ap, ◌∙◌, subst, inl, inr, ⊎_elim, arith}
 use Rattle.ist_core.specs.declared.pairs.Pair.{Pair}
 use Rattle.ist_core.specs.declared.lists.Row.{Row}
@@ -29,7 +29,7 @@ use Rattle.ist_rule.specs.Conditions.{StoredAll}
 use Rattle.ist_rule.proofs.ShownLemmas.{IsLoose, held_loose, touch_tight}
 use Rattle.ist_rule.proofs.EventLemmas.{Publishes, publishes_none, publishes_held, publishes}
 
--- a table has as many words as it was told
+-- a table has as many words as it was given
 pub words_are : (pairs : List Pair) (words : ℕ) (log : Log)
     → (state_of pairs words log).words ≡ words
 words_are pairs words [] = refl
@@ -44,7 +44,7 @@ touched_other words None place out = refl
 touched_other words (Some touch) place out =
     get-set_other words touch.place place touch.left (out touch refl)
 
--- an event is a Lose, which touches no word, or is none
+-- an event is a Lose, which touches no word, or isn't a Lose
 no_lose : (t : Snapshot) (event : Event) → (touch_of t event ≡ None) ⊎ IsNoLose event
 no_lose t (Lose caller bases) = inl refl
 no_lose t (Enter caller) = inr tt
@@ -130,7 +130,7 @@ module _ (pairs : List Pair) (words : ℕ) (opens : CanOpen pairs words) (log : 
           (among-append h before.held (record { caller = r.caller; base = r.base; size = r.size }
           ∷ []) j)
 
-  -- the rows that the whose publishes stand in the words, where it stored them
+  -- the rows that the caller publishes are in the words, if it stored them
   rows_stand : (v : View) (caller : ℕ) → v.who ≡ Caller caller → Owns pairs words log image v
       → (rows : List Row)
       → HoldsRows before caller rows → StoredAll v rows → RowsStand image rows
@@ -145,7 +145,7 @@ module _ (pairs : List Pair) (words : ℕ) (opens : CanOpen pairs words) (log : 
     rows_stand v caller who owns rows held.1 stored.1,
   )
 
-  -- the words behind an event of the seat are the image of the state behind it
+  -- the words after an event of the seat are the image of the state after it
   pub image_behind : (v : View) → whose event ≡ v.who → Owns pairs words log image v
       → StoredAll v (published_by event)
       → IsImage (state_of pairs words (event ∷ log)) behind

@@ -27,15 +27,15 @@ use Rattle.ist_rule.proofs.LaterLemmas.{goes_on_more, goes_on_length}
 use Rattle.ist_rule.proofs.EventLemmas.{callers-state, made_behind-grows, made_by_others, Authored, by_maker, by_caller, authored}
 use Rattle.ist_rule.proofs.CallLemmas.{installs_not, MayBring, between_on, between_later, resolved_later, call_on, call_by_others}
 
--- what is true of each element, where it goes over
+-- what is true of each element, carried over
 pub each_map : {A : Type 0} (P Q : A → Type 0) (xs : List A) → ((x : A) → Among x xs → P x → Q x)
     → Each P xs → Each Q xs
 each_map P Q [] f h = tt
 each_map P Q (x ∷ xs) f h = (f x (inl refl) h.0, each_map P Q xs (λ y i. f y (inr i)) h.1)
 
--- ---- a view by itself, where its log goes on
+-- ---- a view by itself, when its log goes on
 
--- calls stand in a prefix of the longer log too
+-- calls are in a prefix of the longer log too
 pub stands_on : (pairs : List Pair) (words : ℕ) (old log : Log) (number : ℕ) (calls : List _)
     → GoesOn old log
     → StandsInPrefix pairs words old number calls → StandsInPrefix pairs words log number calls
@@ -54,6 +54,7 @@ recalls_on pairs words old log load on r =
       stood = r.stood;
     }
 
+-- a view by itself stays as it should be when its log goes on
 pub well_made_on : (pairs : List Pair) (words : ℕ) (v : View) (log : Log) → GoesOn v.log log
     → IsWellMade pairs words v
     → IsWellMade pairs words (record v { log = log })
@@ -91,7 +92,7 @@ module _ (pairs : List Pair) (words : ℕ) (log : Log) (event : Event)
   next_grows : (state_of pairs words log).next ≤ (state_of pairs words (event ∷ log)).next
   next_grows = let more = next-state (start pairs words) log event enabled.1 in omega arith
 
-  -- callers that were taken back, where others make the event
+  -- callers that were taken back, if others make the event
   taken_behind : (taken : List Taken) → Each (λ t. whose event ≢ Caller t.number) taken
       → Each (IsTakenBack pairs words log) taken
       → Each (IsTakenBack pairs words (event ∷ log)) taken

@@ -1,5 +1,5 @@
 -- The frame of each step: one seat has a new view, the log has gone on or not, a word has changed
--- or not. What is to be shown of the rest. Serves all conjuncts of the rule.
+-- or not. What remains to be shown. Serves all conjuncts of the rule.
 use Rattle.std.proofs.Common.{◌≡◌, ◌≢◌, ℕ, zero, suc, ◌≤◌, ◌⊎◌, List, [], ◌∷◌, ◌++◌, length, slice_set, refl, sym, ap, ◌∙◌, subst, inl, inr, ⊎_elim, le_refl}
 use Rattle.std.proofs.Math.Nat.{le_trans}
 use mathlib.Core.Option.{Option, some, some-injective, some-ne-none}
@@ -23,7 +23,7 @@ Table = T.State (Unit {0}) View
 
 -- ---- one seat has a new view
 
--- the view that stood at i before, which was of the same seat
+-- the view that was at i before, which was the same seat's
 pub was : (vs : List View) (id : ℕ) (v w : View) → get_elem? vs id ≡ some v → w.who ≡ v.who
     → v.given ≤ w.given → (i : ℕ) (u : View)
     → get_elem? (slice_set vs id w) i ≡ some u → (o : View) × (get_elem? vs i ≡ some o)
@@ -148,9 +148,11 @@ grown k s r u fits none new not unborn untaken =
 
 -- ---- a seat that is joined away
 
+-- a spent seat isn't the maker's
 pub spent_maker : Spent ≡ Maker → ⊥
 spent_maker e = cc
 
+-- a spent seat isn't a caller's
 pub spent_caller : (number : ℕ) → Spent ≡ Caller number → ⊥
 spent_caller number e = cc
 

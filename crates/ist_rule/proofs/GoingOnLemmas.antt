@@ -66,7 +66,7 @@ goes_on_more u v w a b =
       loaded = le_trans a.loaded b.loaded;
     }
 
--- what may come behind a seat that went on may have come before
+-- what may come after a seat went on may have come before
 pub may_come_before : (v w : View) → GoesOnTo v w → (log : Log) → MayCome w log → MayCome v log
 may_come_before v w g log m =
     record {
@@ -77,7 +77,7 @@ may_come_before v w g log m =
 
 -- ---- numbers
 
--- callers are no fewer behind a longer log
+-- a longer log has at least as many callers
 pub callers_later : {who : Who} (pairs : List Pair) (words : ℕ) (old log : Log) → Later who old log
     → (state_of pairs words old).callers ≤ (state_of pairs words log).callers
 callers_later pairs words old _ no_more = le_refl (state_of pairs words old).callers

@@ -1,4 +1,4 @@
--- Rows that are held behind one log and behind a longer one. Serves seats that went on.
+-- Rows that are held after one log and after a longer one. Serves seats that went on.
 use Rattle.std.proofs.Common.{◌≡◌, ◌<◌, ◌≤◌, ℕ, List, [], ◌∷◌, ap, subst, le_refl, ⊎_elim, arith}
 use Rattle.ist_core.specs.declared.events.Event.{Event}
 use Rattle.ist_core.specs.declared.pairs.Pair.{Pair}
@@ -23,7 +23,7 @@ next_between pairs words old _ enabled (one_event {log = log} event g) =
     let more = next-state (start pairs words) log event enabled.1 in
     omega arith
 
--- a row that lies below what is used and is held behind an event was held before it
+-- a row below the used words that is held after an event was held before it
 held_before : (pairs : List Pair) (words : ℕ) (h : HeldRow) (log : Log) (event : Event)
     → EachEnabled (start pairs words) (event ∷ log) → h.base < (state_of pairs words log).next
     → Among h (state_of pairs words (event ∷ log)).held → Among h (state_of pairs words log).held
@@ -39,7 +39,7 @@ held_before pairs words h log event enabled low i =
     (moves_or_reserves (start pairs words) log event enabled.1
     (sound (start pairs words) log (sound_start pairs words) enabled.0))
 
--- a row that was held, and is held behind a longer log, was held in between
+-- a row that was held, and is held after a longer log, was held in between
 pub held_between : (pairs : List Pair) (words : ℕ) (h : HeldRow) (a b c : Log)
     → EachEnabled (start pairs words) c → GoesOn a b → GoesOn b c
     → Among h (state_of pairs words a).held → Among h (state_of pairs words c).held

@@ -1,5 +1,4 @@
--- What callers hold, where others make events. Serves the conjuncts `owns` and `unborn`, and
--- stores.
+-- What callers hold, when others make events. Serves the conjuncts `owns` and `unborn`, and stores.
 use Rattle.std.proofs.Common.{◌≡◌, ◌≢◌, ℕ, zero, suc, List, [], ◌∷◌, length, Option, Some, None, refl, sym, ap, ◌∙◌, subst, inl, inr, ⊎_elim}
 use Rattle.ist_core.specs.declared.pairs.Pair.{Pair}
 use Rattle.ist_core.specs.declared.lists.Row.{Row}
@@ -46,7 +45,7 @@ rows_holder t caller rows s held h i among =
     } i (each-among (λ x. HoldsRow t caller x.base (length x.words)) it.0 rows
     held it.1) (sym it.2))
 
--- the same for bases with sizes
+-- the holder of a row among bases with sizes
 sizes_holder : (t : Snapshot) (caller : ℕ) (bases sizes : List ℕ) → HeldLieApart t
     → HoldsSizes t caller bases sizes → (h : HeldRow) → Among h t.held
     → Among h.base bases → h.caller ≡ caller
@@ -73,11 +72,12 @@ held-with_change : (t : Snapshot) (base : ℕ) (fresh : List Row) (change : Opti
 held-with_change t base fresh None = refl
 held-with_change t base fresh (Some change) = refl
 
+-- a Resolve changes nothing of what is held
 pub held-resolved : (t : Snapshot) (change : Option ChangeRow) → (resolved t change).held ≡ t.held
 held-resolved t None = refl
 held-resolved t (Some change) = refl
 
--- a held row stays where another makes the event
+-- a held row stays if another makes the event
 pub held_by_others : (first : Snapshot) (log : Log) (event : Event) → Enabled first log event
     → HeldLieApart (state first log) → (h : HeldRow)
     → Among h (state first log).held → whose event ≢ Caller h.caller
@@ -156,6 +156,7 @@ rows_no_change (suc fuel) base (pair ∷ more ∷ pairs) =
           (placed_parts base all) (λ part. rows_no_change fuel part.0 part.1),
     )
 
+-- the start layout has no change
 pub start_no_change : (pairs : List Pair) (words base : ℕ) (r : ChangeRow)
     → (start pairs words).pieces base ≡ Some (Change r) → ⊥
 start_no_change pairs words base r e =

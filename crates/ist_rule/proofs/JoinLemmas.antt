@@ -62,7 +62,7 @@ module _ (a b log : Log) (p : GoesOn a log) (q : GoesOn b log) where
   longer_is false e = let h : length a ≤ length b =
       grind (arith, nat_tests, e) in (between p q (omega arith), same_log, q)
 
-  -- both logs are prefixes of the longer, which is one of the whole
+  -- both logs are prefixes of the longer, which is a prefix of the whole
   pub longer_goes : GoesOn a (longer a b) × GoesOn b (longer a b) × GoesOn (longer a b) log
   longer_goes = longer_is (nat_le (length b) (length a)) refl
 
@@ -190,7 +190,7 @@ module _ (k : About) (s : Table) (r : Kept k s) (id other : ℕ) (v w : View) (l
   abbrev s1 : Table
   s1 = record { words = s.words; homes = s.homes; views = slice_set s.views other gone }
 
-  -- once the other seat is spent, its caller has none
+  -- once the other seat is spent, its caller has no seat
   retired_both : Each (IsRetired s) v.taken → Each (IsRetired s1) both.taken
   retired_both all =
       with_one (IsRetired s1)
@@ -235,7 +235,7 @@ joins k id other v w live live' can s r mine apart there =
 pub joined_live : (v w : View) → v.who ≢ Spent → (joined v w).who ≢ Spent
 joined_live v w live = live
 
--- ---- what a join tells
+-- ---- what a join learns
 
 module _ (v w u : View) (word : ℕ) (l : Looked (joined v w) 0 word u) where
   -- both seats met, and their log is seen
@@ -246,7 +246,7 @@ module _ (v w u : View) (word : ℕ) (l : Looked (joined v w) 0 word u) where
   pub joined_later : Later v.who v.log u.log
   joined_later = later_more met.0.later l.later
 
-  -- and so did the one that was joined to it
+  -- the seat that was joined went on by others too
   pub joined_away_later : CanJoin v w → w.who ≢ Spent → Later w.who w.log u.log
   joined_away_later can live = at w.who refl
     where

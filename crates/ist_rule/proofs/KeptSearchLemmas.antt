@@ -12,12 +12,12 @@ pub goes_on_keeps : (v w : View) → GoesOnTo v w → KeepsSearch v w
 goes_on_keeps v w g =
     record { own = ap (λ x. x.own) g.same; since = g.since; more = g.more; loads = g.loads }
 
--- so does one that made one load
+-- a seat that made one load keeps its search
 pub looked_keeps : (v : View) (place word : ℕ) (w : View) → Looked v place word w
     → KeepsSearch v w
 looked_keeps v place word w l = goes_on_keeps v w (looked_goes_on v place word w l)
 
--- and one that made an event
+-- a seat that made an event keeps its search
 pub logged_keeps : (v : View) (event : Event) (w : View) → Logged v event w → KeepsSearch v w
 logged_keeps v event w l =
     record {
@@ -27,7 +27,7 @@ logged_keeps v event w l =
       loads = ap (λ x. x.loads.list) l.view;
     }
 
--- the same of a load that is an event
+-- a seat that made a load which is an event keeps its search
 pub logged_load_keeps : (v : View) (event : Event) (place word : ℕ) (w : View)
     → LoggedLoad v event place word w → KeepsSearch v w
 logged_load_keeps v event place word w l =
@@ -38,14 +38,14 @@ logged_load_keeps v event place word w l =
       loads = ap (λ x. x.loads.list) l.view;
     }
 
--- and one that made an exchange
+-- a seat that made an exchange keeps its search
 pub exchanged_keeps : (v : View) (event : Event) (place old found : ℕ) (w : View)
     → Exchanged v event place old found w → KeepsSearch v w
 exchanged_keeps v event place old found w e =
     ⊎_elim (λ k. logged_keeps v event w (e.0 k.1)) (λ k. looked_keeps v place found w (e.1 k.1))
     (eqb_tells found old)
 
--- and one that made a load which may be an event
+-- a seat that made a load which may be an event keeps its search
 pub loaded_as_keeps : (v : View) (named : Naming) (place word : ℕ) (w : View)
     → LoadedAs v named place word w → KeepsSearch v w
 loaded_as_keeps v named place word w (as_event event l is) =

@@ -1,4 +1,4 @@
--- Logs that have gone on, by any events or by those of others. Serves what the rule says of the
+-- Logs that have gone on, by any events or by events of others. Serves what the rule says of the
 -- logs that seats have seen.
 use Rattle.std.proofs.Common.{◌≢◌, ◌≤◌, length, arith}
 use Rattle.ist_core.specs.declared.events.Event.{Event}
@@ -48,12 +48,12 @@ later_before no_more on (one_event event q) =
     let long = goes_on_length on in let short = goes_on_length q in absurd (omega arith)
 later_before (one_more event p ne) on (one_event _ q) = later_before p on q
 
--- who made no event of a log has seen all of its own behind any prefix
+-- a seat that made no event of a log has seen all of its own in any prefix
 pub later_idle : {who : Who} {a log : Log} → GoesOn a log → IsIdleIn who log → Later who a log
 later_idle same_log idle = no_more
 later_idle (one_event event p) idle = one_more event (later_idle p idle.1) idle.0
 
--- the same by those of events that went on
+-- a log that goes on by events which are never this seat's goes on by others
 pub later_any : {who : Who} → ((event : Event) → whose event ≢ who) → {a b : Log} → GoesOn a b
     → Later who a b
 later_any none same_log = no_more

@@ -28,7 +28,7 @@ use Rattle.ist_rule.proofs.LogLemmas.{sound_now, kept, logs, shown_here, shown_t
 
 -- ---- steps that leave the word, and are events
 
--- what the event leaves of the words is all of them
+-- the event leaves all words as they were
 words_stay : (s : Table) (place : ℕ) (o : Option Touch)
     → (o ≡ Some record {
       place = place;
@@ -79,6 +79,7 @@ module _ (k : About) (s : Table) (r : Kept k s) (id : ℕ) (me : Seated) (live :
         stood = shown_here k s r me.0 place f;
       }
 
+  -- a load that is this event keeps the rule
   pub stays : (tells : ℕ → Seated → Type 0)
       → ((l : LoggedLoad me.0 event place (slice_index s.words place) u) → l.before ≡ r.log
       → tells (slice_index s.words place) (u, me.1))
@@ -94,7 +95,7 @@ module _ (k : About) (s : Table) (r : Kept k s) (id : ℕ) (me : Seated) (live :
     told logged_load refl,
   )
 
--- a load that is an event where it is named so keeps the rule
+-- a load that is an event if it is named so keeps the rule
 pub loads_as_moves : (k : About) (slots id : ℕ) (me : Seated) (place : ℕ) (named : Naming)
     → me.0.who ≢ Spent → CanLoadAs me.0 place named
     → Allows (Kept k) slots id me place (λ n. n)
@@ -154,7 +155,7 @@ exchanged_or_lost_sound v event lost place old found w e =
     (λ miss. let l = e.1 miss.1 in (l.sound, ap (λ y. y.words) l.view))
     (eqb_tells found old)
 
--- so is one that made a load that may be an event
+-- a seat that made a load that may be an event stays sound
 pub loaded_as_sound : (v : View) (named : Naming) (place word : ℕ) (w : View)
     → LoadedAs v named place word w → IsSound w × (w.words ≡ v.words)
 loaded_as_sound v named place word w (as_event event l e) = (l.sound, ap (λ y. y.words) l.view)

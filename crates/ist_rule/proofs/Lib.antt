@@ -11,6 +11,7 @@ pub mod FrameLemmas
 pub mod SoundViewLemmas
 pub mod LookLemmas
 pub mod LogLemmas
+pub mod ListLogLemmas
 pub mod LeavingLemmas
 pub mod HeldLemmas
 pub mod StoreLemmas
@@ -23,6 +24,7 @@ pub mod OpenLemmas
 pub mod GoingOnLemmas
 pub mod HeldBetweenLemmas
 pub mod WentOnLemmas
+pub mod SearchedOnLemmas
 pub mod KeptSearchLemmas
 pub mod WatchLemmas
 pub mod WatchedLoadLemmas

@@ -1,4 +1,5 @@
--- A step that is an event of its seat: what it keeps, and what it tells. Serves exchanges and adds.
+-- A step that is an event of its seat: what it keeps, and what it learns. Serves exchanges and
+-- adds.
 use Rattle.std.proofs.Common.{◌≡◌, ◌≢◌, ℕ, ◌+◌, ◌%◌, ◌^◌, eqb, List, [], ◌∷◌, slice_index, slice_set, Some, refl, sym, ap, ◌∙◌, subst, le_refl, ⊎_elim}
 use Rattle.std.proofs.Math.Nat.{mod-eq_of_lt}
 use Rattle.std.proofs.lemmas.Bool.Decides.{eqb_tells}
@@ -35,13 +36,14 @@ use Rattle.ist_rule.proofs.FrameLemmas.{Table, moved}
 use Rattle.ist_rule.proofs.SoundViewLemmas.{as_view, as_table, sound_of}
 use Rattle.ist_rule.proofs.LookLemmas.{Goes, sees}
 
--- an event of the seat, enabled behind the longest log, and the words that its step leaves. The
--- view counts so many loads
+-- an event of the seat, enabled after the longest log, and the words that its step leaves; the view
+-- counts this many loads
 module _ (k : About) (s : Table) (r : Kept k s) (id : ℕ) (me : Seated) (live : me.0.who ≢ Spent)
     (mine : HasView s id me.0) (event : Event) (make : CanMake me.0 event)
     (able : Enabled (start k.start.value.items k.words) r.log event) (words' : List ℕ) (count : ℕ)
     (words_behind : touched s.words (touch_of (state_of k.start.value.items k.words r.log) event)
     ≡ words') where
+  -- the seat's view before the event
   abbrev pub v : View
   v = me.0
 
@@ -87,6 +89,7 @@ module _ (k : About) (s : Table) (r : Kept k s) (id : ℕ) (me : Seated) (live :
             (taken_by_others u.taken (r.retired i u at alive)) g.is_true;
       }
 
+  -- the seat's view after the event
   abbrev pub w : View
   w = record (logging v r.log event) { loaded = count }
 
@@ -121,15 +124,16 @@ module _ (k : About) (s : Table) (r : Kept k s) (id : ℕ) (me : Seated) (live :
           made = t.made;
           idle = t.idle;
           fresh = t.fresh;
-          call =
-              t.call;
+          call = t.call;
           taken = t.taken;
         };
       }
 
+  -- the view after the event is sound
   pub sound_now : IsSound w
   sound_now = sound_of k words' w lawful' live fits_own
 
+  -- the rule holds after the event
   pub kept : Kept k (record { words = words'; homes = s.homes; views = slice_set s.views id w })
   kept =
       moved k s r id v w s.homes mine live refl (le_refl v.given) log' words' lawful'
@@ -138,16 +142,21 @@ module _ (k : About) (s : Table) (r : Kept k s) (id : ℕ) (me : Seated) (live :
       v make.mine f.owns make.stored))
       others fits_own (r.retired id v mine live)
 
+  -- the longest log is the old one with the event
+  pub kept_log : kept.log ≡ log'
+  unfolding kept moved
+  kept_log = refl
+
 -- a step that writes the word of the event
 module _ (k : About) (s : Table) (r : Kept k s) (id : ℕ) (me : Seated) (live : me.0.who ≢ Spent)
     (mine : HasView s id me.0) (event : Event) (make : CanMake me.0 event)
     (able : Enabled (start k.start.value.items k.words) r.log event) (place found left : ℕ)
     (touches : touch_of (state_of k.start.value.items k.words r.log) event ≡ Some record {
-      place =
-          place;
+      place = place;
       found = found;
       left = left;
     }) where
+  -- the event is the last of the seat's log
   pub logged : Logged me.0 event (logging me.0 r.log event)
   logged =
       record {
@@ -158,6 +167,7 @@ module _ (k : About) (s : Table) (r : Kept k s) (id : ℕ) (me : Seated) (live :
             me.0.loaded (ap (touched s.words) touches);
       }
 
+  -- an exchange or an add that is this event keeps the rule
   pub logs : (tells : ℕ → Seated → Type 0)
       → ((l : Logged me.0 event (logging me.0 r.log event)) → l.before ≡ r.log
       → tells (slice_index s.words place) (logging me.0 r.log event, me.1))
@@ -192,20 +202,18 @@ pub shown_there : (k : About) (s : Table) (r : Kept k s) (v : View) (place : ℕ
 shown_there k s r v place f known =
     let it = known r.log record {
       later = f.later;
-      lawful =
-          as_view k r.log s.words v f (λ p n. Lawful p n r.log) r.lawful;
+      lawful = as_view k r.log s.words v f (λ p n. Lawful p n r.log) r.lawful;
     } in
     subst (IsShown (state_of v.start v.words r.log) place)
     (sym (shown_here k s r v place f it.0 it.1)) it.1
 
--- what comes behind the longest log
+-- the event is enabled after the longest log
 pub comes_here : (k : About) (s : Table) (r : Kept k s) (v : View) (f : Fits k r.log s.words v)
     (event : Event) (place found left : ℕ)
     → ComesAt v r.log event place found left
     → Enabled (start k.start.value.items k.words) r.log event
     × (touch_of (state_of k.start.value.items k.words r.log) event ≡ Some record {
-      place =
-          place;
+      place = place;
       found = found;
       left = left;
     })
@@ -214,20 +222,19 @@ comes_here k s r v f event place found left c =
     × (touch_of (state_of p n r.log) event ≡ Some record {
       place = place;
       found = found;
-      left =
-          left;
+      left = left;
     }))
     (c.enabled, c.touches)
 
+-- the longest log may come
 pub may_come : (k : About) (s : Table) (r : Kept k s) (v : View) → Fits k r.log s.words v
     → MayCome v r.log
 may_come k s r v f = record {
   later = f.later;
-  lawful =
-      as_view k r.log s.words v f (λ p n. Lawful p n r.log) r.lawful;
+  lawful = as_view k r.log s.words v f (λ p n. Lawful p n r.log) r.lawful;
 }
 
--- an exchange is its event where it finds the word, and a load where it doesn't
+-- an exchange is its event if it finds the word, and a load if it doesn't
 pub exchange_moves : (k : About) (slots id : ℕ) (me : Seated) (place old new : ℕ) (event : Event)
     (then : ℕ → Seated → Type 0)
     → me.0.who ≢ Spent → CanExchange me.0 place old new event

@@ -25,8 +25,8 @@ use Rattle.ist_rule.proofs.FitLemmas.{each_map, well_made_on}
 use Rattle.ist_rule.proofs.FrameLemmas.{Table, moved}
 use Rattle.ist_rule.proofs.SoundViewLemmas.{as_view, sound_of}
 
--- what is to be given at a step that finds a word at the place and leaves y: a new view under the
--- rule, and what it tells
+-- what to show at a step that finds a word at the place and leaves y: a new view under the rule,
+-- and what it learns
 abbrev pub Goes : About → Table → ℕ → ℕ → Seated → (ℕ → Seated → Type 0) → ℕ → Type 0
 Goes k s place id me then y =
     (w : View) × (a : Act (Unit {0})) × Valid s.homes me.1 a
@@ -62,13 +62,13 @@ module _ (k : About) (s : Table) (r : Kept k s) (v : View) (f : Fits k r.log s.w
     abbrev w : View
     w = seeing v r.log place word
 
-    -- the word at the place is that of the image
+    -- the word at the place is the image's
     stood : (shown : ℕ) → IsShown (state_of k.start.value.items k.words r.log) place shown
         → word ≡ shown
     stood shown is = get_or_from_slice_get s.words place shown 0
         (image_shows (state_of k.start.value.items k.words r.log) s.words r.image is)
 
-    -- the lengths of the loads are within that of the log
+    -- the lengths of the loads are at most the log's
     lengths : (loads : List Load) → Each (Recalls k.start.value.items k.words r.log) loads
         → Each (λ l. l.length ≤ length r.log) loads
     lengths loads all = each_map (Recalls k.start.value.items k.words r.log)
@@ -119,7 +119,7 @@ module _ (k : About) (s : Table) (r : Kept k s) (v : View) (f : Fits k r.log s.w
           };
         }
 
-    -- what the load tells
+    -- what the load learns
     pub looked : v.who ≢ Spent → word < 2 ^ 64 → Looked v place word w
     looked live fits =
         record {
@@ -137,7 +137,7 @@ module _ (k : About) (s : Table) (r : Kept k s) (v : View) (f : Fits k r.log s.w
           fits = fits;
         }
 
--- a load is allowed, and tells what stands there
+-- a load is allowed, and learns the word at the place
 pub sees : (k : About) (s : Table) (r : Kept k s) (id : ℕ) (me : Seated) (place : ℕ) (then : ℕ
     → Seated → Type 0) → me.0.who ≢ Spent
     → HasView s id me.0 → slice_index s.words place < 2 ^ 64
@@ -173,7 +173,7 @@ pub record CanTurn (v : View) (turn : Log → View) : Type 0 where
   pub fits : (k : About) (log : Log) (image : List ℕ) → Lawful k.start.value.items k.words log
       → Fits k log image v → Fits k log image (turn log)
 
--- a load that turns the view is allowed, and tells so
+-- a load that changes the view is allowed, and learns so
 pub turns_moves : (k : About) (slots id : ℕ) (me : Seated) (turn : Log → View) (then : ℕ → Seated
     → Type 0) → me.0.who ≢ Spent → CanTurn me.0 turn
     → ((found : ℕ) (w : View) → Turned me.0 turn w → then found (w, me.1))

@@ -94,7 +94,7 @@ opens k words can image =
           (only v i u at).0 tt;
     }
 
--- what the words are behind the last step
+-- what the words are after the last step
 pub closes : (k : About) (id : ℕ) (v : View) (words : List ℕ) (slots : List (Unit {0}))
     → v.who ≢ Spent → Final (Seen (Kept k) id v) words slots → IsLast v words
 closes k id v words slots live fin =

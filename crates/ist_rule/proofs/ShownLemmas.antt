@@ -85,7 +85,7 @@ module _ (pairs : List Pair) (words : ℕ) (log : Log) (enabled : EachEnabled (s
               ((placed pairs words log enabled).published base p e));
         }
 
-    -- no event touches a loose word: any word may stand there, and the event finds one
+    -- no event touches a loose word: any word may be there, and the event finds one
     pub touch_tight : CanOpen pairs words → (image : List ℕ)
         → IsImage (state_of pairs words log) image
         → (event : Event) → Enabled (start pairs words) log event → IsNoLose event → (touch : Touch)

@@ -1,4 +1,4 @@
--- What a seat learns of its own view where it has seen the whole log. Serves the invariant of
+-- What a seat learns of its own view if it has seen the whole log. Serves the invariant of
 -- `TreeSeat`.
 use Rattle.std.proofs.Common.{◌≢◌, ℕ, List, sym, subst}
 use Rattle.ist_core.specs.declared.pairs.Pair.{Pair}
@@ -12,10 +12,12 @@ use Rattle.ist_rule.specs.Rule.{IsWellMade, IsTrueIn, IsSound, Fits}
 -- what is true of the table's start and number of words is true of those of a view that fits
 module _ (k : About) (log : Log) (image : List ℕ) (v : View) (f : Fits k log image v) (P : List Pair
     → ℕ → Type 0) where
+  -- from the table to the view
   pub as_view : P k.start.value.items k.words → P v.start v.words
   as_view h = subst (λ p. P p v.words) (sym f.start_is)
       (subst (P k.start.value.items) (sym f.words_is) h)
 
+  -- from the view to the table
   pub as_table : P v.start v.words → P k.start.value.items k.words
   as_table h = subst (P k.start.value.items) f.words_is (subst (λ p. P p v.words) f.start_is h)
 

@@ -21,21 +21,26 @@ use Rattle.ist_rule.proofs.HeldLemmas.{idle_holds, idle_between}
 use Rattle.ist_rule.proofs.FitLemmas.{each_map}
 use Rattle.ist_rule.proofs.FrameLemmas.{Table, moved, grown}
 
+-- a note isn't a caller
 pub note_caller : (of : Option ℕ) (number : ℕ) → Note of ≡ Caller number → ⊥
 note_caller of number e = cc
 
+-- a note isn't the maker
 pub note_maker : (of : Option ℕ) → Note of ≡ Maker → ⊥
 note_maker of e = cc
 
+-- a note isn't spent
 pub note_spent : (of : Option ℕ) → Note of ≡ Spent → ⊥
 note_spent of e = cc
 
+-- a caller isn't the maker
 pub caller_maker : (number : ℕ) → Caller number ≡ Maker → ⊥
 caller_maker number e = cc
 
 maker_caller : (number : ℕ) → Maker ≡ Caller number → ⊥
 maker_caller number e = cc
 
+-- a caller isn't spent
 pub caller_spent : (number : ℕ) → Caller number ≡ Spent → ⊥
 caller_spent number e = cc
 
@@ -45,6 +50,7 @@ maker_or (Caller number) = inr (caller_maker number)
 maker_or (Note of) = inr (note_maker of)
 maker_or Spent = inr (λ e. absurd (cc))
 
+-- callers of one name have one number
 pub same_number : (m n : ℕ) → Caller m ≡ Caller n → m ≡ n
 same_number m n e = cc
 
@@ -75,7 +81,7 @@ empty_prefix : (log : Log) → GoesOn [] log
 empty_prefix [] = same_log
 empty_prefix (event ∷ log) = one_event event (empty_prefix log)
 
--- no call stands in any log
+-- an empty list of calls is in any log
 pub none_stands : (pairs : List Pair) (words : ℕ) (log : Log) (number : ℕ)
     → StandsInPrefix pairs words log number []
 none_stands pairs words log number =

@@ -27,7 +27,7 @@ both_true true true e = (refl, refl)
 both_true true false e = absurd (cc)
 both_true false b e = absurd (cc)
 
--- a seat that awaits another's is the maker's, and entered a caller that has none
+-- a seat that awaits another is the maker's, and entered a caller that has no seat
 pub awaits_is : (v : View) → awaits_seat v ≡ true → (v.who ≡ Maker) × (v.given < v.made)
 awaits_is v e = let t = both_true (is_maker v.who) (nat_lt v.given v.made) e in let h : v.given <
     v.made = grind (arith, nat_tests, t.1) in (maker_is v.who t.0, h)
@@ -160,7 +160,7 @@ right_cases v s true is =
       };
     }
 
--- and so is the seat that was split from it
+-- the seat that was split from it is sound
 pub right_sound : (v : View) → IsSound v → IsSound (split_right v)
 right_sound v s = right_cases v s (awaits_seat v) refl
 
@@ -179,6 +179,6 @@ right_words_cases : (v : View) (b : Bool)
 right_words_cases v true = refl
 right_words_cases v false = refl
 
--- and so does the new seat
+-- the new seat has the same number of words
 pub right_words : (v : View) → (split_right v).words ≡ v.words
 right_words v = right_words_cases v (awaits_seat v)

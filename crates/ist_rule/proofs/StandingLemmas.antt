@@ -45,8 +45,8 @@ one_entry : (number : ℕ) (entry : Entry) (b : Bool) → (entry.owner == number
     → entries_by number (entry ∷ []) ≡ (if b then entry ∷ [] else [])
 one_entry number entry b e = ap (λ x. if x then entry ∷ [] else []) e
 
--- what an event adds to the entries of a caller: none, or that of a put or remove that waited to be
--- decided
+-- what an event adds to the entries of a caller: nothing, or the entry of a put or remove that
+-- waited to be decided
 pub data EntriesMove (pairs : List Pair) (words : ℕ) (log : Log) (number : ℕ) (event : Event) : Type
     0 where
   same_entries : entries_by number (changes_of pairs words (event ∷ log))
@@ -64,7 +64,7 @@ module _ (pairs : List Pair) (words : ℕ) (log : Log) (number by base : ℕ) (r
   abbrev before : List Entry
   before = entries_by number (changes_of pairs words log)
 
-  -- the entries behind a yes, by the entries of the row
+  -- the entries after a yes, by the entries of the row
   behind_yes : (new : List Entry)
       → entry_of (state_of pairs words log).pieces ((state_of pairs words log).pieces base) ≡ new
       → entries_by number (changes_of pairs words (Decide by base true ∷ log)) ≡ before
@@ -74,7 +74,7 @@ module _ (pairs : List Pair) (words : ℕ) (log : Log) (number by base : ℕ) (r
       (entry_of (state_of pairs words log).pieces ((state_of pairs words log).pieces base))
       ∙ ap (λ xs. before ++ entries_by number xs) e
 
-  -- by whether the change has a command
+  -- the entries after a yes, by whether the change has a command
   with_command : (o : Option Command) → command_of r ≡ o
       → EntriesMove pairs words log number (Decide by base true)
   with_command None e =

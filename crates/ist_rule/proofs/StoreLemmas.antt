@@ -159,6 +159,7 @@ module _ (k : About) (s : Table) (r : Kept k s) (id : ℕ) (v : View) (live : v.
         };
       }
 
+  -- a store into an own row keeps the rule
   pub kept_storing : Kept k (record {
     words = slice_set s.words place word;
     homes = s.homes;

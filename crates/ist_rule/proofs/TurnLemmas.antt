@@ -40,7 +40,7 @@ caller_maker number e = cc
 same_number : (m n : ℕ) → Caller m ≡ Caller n → m ≡ n
 same_number m n e = cc
 
--- what the changes of a caller have come to, where it is between calls and begins one
+-- what became of the changes of a caller, when it is between calls and begins one
 begun : (pairs : List Pair) (words : ℕ) (log : Log) → Lawful pairs words log
     → (number : ℕ) (calls : List Call) (pending : Pending)
     → IsBetween pairs words log number calls

@@ -29,7 +29,7 @@ use Rattle.ist_rule.proofs.ChangeLemmas.{ChangeComes, stood, is_installed, chang
 
 -- ---- changes that are undecided, and changes that are resolved
 
--- an undecided put or remove behind an event was undecided, with the same command, or is the one
+-- an undecided put or remove after an event was undecided, with the same command, or is the one
 -- that the event installs
 pub data UndecidedComes (first : Snapshot) (log : Log) (number base : ℕ)
     (command : Option Command) : Event → Type 0 where
@@ -48,6 +48,7 @@ module _ (pairs : List Pair) (words : ℕ) (log : Log) (event : Event)
   abbrev first : Snapshot
   first = start pairs words
 
+  -- each undecided put or remove after the event is one of these two
   pub undecided_comes : (number base : ℕ)
       (u : IsUndecided (state_of pairs words (event ∷ log)) number base)
       → UndecidedComes first log number base (command_of u.change) event
@@ -160,7 +161,7 @@ module _ (pairs : List Pair) (words : ℕ) where
   resolved_decided (event ∷ log) enabled base (inr is) =
       decided_on log event enabled base (resolved_decided log enabled.0 base is)
 
-  -- where all is resolved, nothing is undecided
+  -- if all is resolved, nothing is undecided
   pub none_undecided : (log : Log) → EachEnabled (start pairs words) log → (number : ℕ)
       → AllResolvedOf (state_of pairs words log) log number → (base : ℕ)
       → ¬ (IsUndecided (state_of pairs words log) number base)
@@ -174,7 +175,7 @@ module _ (pairs : List Pair) (words : ℕ) where
           → r ≡ s
       same_row o r s e f = cc
 
-  -- what is resolved stays so, where the caller installs nothing
+  -- what is resolved stays so, if the caller installs nothing
   pub resolved_on : (log : Log) (event : Event) → EachEnabled (start pairs words) (event ∷ log)
       → (number : ℕ)
       → ((base : ℕ) (rows : List Row) → event ≢ Install number base rows)

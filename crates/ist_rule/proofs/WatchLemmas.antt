@@ -26,6 +26,7 @@ use Rattle.ist_rule.specs.Watching.{IsNode, is_anchor, is_inner, is_change}
 use Rattle.ist_rule.proofs.HeldLemmas.{start_no_change}
 use Rattle.ist_rule.proofs.ChangeLemmas.{ChangeComes, stood, is_installed, change_comes}
 
+-- `Some` is injective
 pub some_one : {A : Type 0} (a b : A) → Some a ≡ Some b → a ≡ b
 some_one a b e = cc
 
@@ -33,6 +34,7 @@ some_one a b e = cc
 
 module _ (pairs : List Pair) (words : ℕ) (log : Log) (enabled : EachEnabled (start pairs words) log)
   where
+    -- the state after the log
     abbrev pub t : Snapshot
     t = state_of pairs words log
 
@@ -89,7 +91,7 @@ module _ (pairs : List Pair) (words : ℕ) where
   holds_node t node i word (in_anchor e f g) = is_anchor e
   holds_node t node i word (in_row r e f) = is_inner r e
 
-  -- the node of each published change is one
+  -- the node of each published change is a node
   pub change_node : (log : Log) → EachEnabled (start pairs words) log → (base : ℕ) (r : ChangeRow)
       → (state_of pairs words log).pieces base ≡ Some (Change r)
       → IsNode (state_of pairs words log) r.node
@@ -114,6 +116,7 @@ module _ (pairs : List Pair) (words : ℕ) where
 
 -- ---- tests
 
+-- if a conjunction is true, both parts are
 pub both_true : (a b : Bool) → (a && b) ≡ true → (a ≡ true) × (b ≡ true)
 both_true true true e = (refl, refl)
 both_true true false e = absurd (cc)
@@ -125,18 +128,21 @@ pub if_some : {A : Type 0} (b : Bool) (x y : A) → (if b then Some x else None)
 if_some true x y e = (refl, some_one x y e)
 if_some false x y e = absurd (cc)
 
+-- if the test of two numbers is true, they are equal
 pub eq_true : (m n : ℕ) → (m == n) ≡ true → m ≡ n
 eq_true m n e = ⊎_elim (λ k. k.1) (λ k. absurd (clash (sym e ∙ k.0))) (eqb_tells m n)
   where
     clash : true ≡ false → ⊥
     clash f = cc
 
+-- if the negated test of two numbers is true, they differ
 pub not_true : (m n : ℕ) → not (m == n) ≡ true → m ≢ n
 not_true m n e = ⊎_elim (λ k. absurd (clash (sym e ∙ ap not k.0))) (λ k. k.1) (eqb_tells m n)
   where
     clash : true ≡ not true → ⊥
     clash f = cc
 
+-- a word that is tested to be no change's is no change's
 pub no_change : (o : Option Ref) → not (is_change o) ≡ true → (base : ℕ) → o ≢ Some (ChangeAt base)
 no_change o e base is = clash (sym e ∙ ap (λ x. not (is_change x)) is)
   where
@@ -149,6 +155,7 @@ status_place_inner node ne = ⊎_elim (λ k. absurd (ne k.1))
     (λ k. ap (λ b. if b then anchor_status_place else node + inner_status_offset) k.0)
     (eqb_tells node anchor)
 
+-- the place of the anchor's status
 pub status_place_anchor : (node : ℕ) → node ≡ anchor → place_of_status node ≡ anchor_status_place
 status_place_anchor node e = ap place_of_status e
 

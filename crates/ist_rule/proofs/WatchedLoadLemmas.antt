@@ -45,7 +45,7 @@ module _ (v : View) (s : IsSound v) (log : Log) (m : MayCome v log) where
   low number who = let before = s.is_true.low number who in let more =
       callers_later v.start v.words v.log log m.later in omega arith
 
-  -- an inner row stands there still
+  -- an inner row is still there
   inner_later : (node : ℕ) (row : InnerRow) → (now v).pieces node ≡ Some (Inner row)
       → (r : InnerRow) × (u.pieces node ≡ Some (Inner r)) × (r.degree ≡ row.degree)
   inner_later node row e =
@@ -54,7 +54,7 @@ module _ (v : View) (s : IsSound v) (log : Log) (m : MayCome v log) where
       row e in
       (it.0, it.1, it.2.degree)
 
-  -- and so does a change
+  -- a change is still there
   change_later : (base : ℕ) (row : ChangeRow) → (now v).pieces base ≡ Some (Change row)
       → (r : ChangeRow) × (u.pieces base ≡ Some (Change r)) × (r.node ≡ row.node)
   change_later base row e =
@@ -160,7 +160,7 @@ module _ (v : View) (s : IsSound v) (log : Log) (m : MayCome v log) (node i plac
   abbrev st : Snapshot
   st = state_of v.start v.words log
 
-  -- the slot behind the log: its row, its word, and where the word lies
+  -- the slot after the log: its row, its word, and where the word lies
   pub slot_later : (r : InnerRow) × (st.pieces node ≡ Some (Inner r)) × (r.degree ≡ row.degree)
       × ((word : ℕ) × (slice_get r.slots i ≡ Some word)
       × (slice_get (words_of (Inner r)) (4 + length r.keys + i) ≡ Some word)
@@ -175,7 +175,7 @@ module _ (v : View) (s : IsSound v) (log : Log) (m : MayCome v log) (node i plac
       let word = slice_get-get_or r.slots i 0 (omega arith) in
       (r, it.1, it.2, (_, word, get-words_of_slot r i ∙ word, at ∙ omega arith))
 
--- a caller may load a slot of an inner row, and so pass it where the row is marked
+-- a caller may load a slot of an inner row, and so pass it if the row is marked
 pub can_load_pass : (v : View) (node i place : ℕ) → IsSound v → CanLoadPass v node i place
     → CanLoadAs v place (pass_of v node i)
 can_load_pass v node i place s can =
@@ -230,7 +230,7 @@ can_load_pass v node i place s can =
           },
         )
 
--- a caller may give up a pair row by a load beside
+-- a caller may give up a pair row by a load
 pub can_load_past : (v : View) (pair node : ℕ) → IsSound v → CanLoadPast v pair node
     → CanLoadAs v (node + inner_status_offset) (past_of v pair)
 can_load_past v pair node s can =

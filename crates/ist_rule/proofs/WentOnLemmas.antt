@@ -1,5 +1,5 @@
 -- Seats that went on by loads, by events of their own and by stores. Serves the crates above.
-use Rattle.std.proofs.Common.{◌≡◌, ℕ, ◌+◌, ◌∷◌, refl, sym, ap, ap₂, ◌∙◌, subst, inl, inr, ⊎_elim, Some, arith}
+use Rattle.std.proofs.Common.{◌≡◌, ℕ, ◌+◌, ◌∷◌, sym, ap, ap₂, ◌∙◌, subst, inl, inr, ⊎_elim, Some, arith}
 use Rattle.std.proofs.Math.Nat.{le_trans}
 use Rattle.std.proofs.lemmas.Bool.Decides.{eqb_tells}
 use Rattle.ist_core.specs.declared.events.Event.{Event}
@@ -11,7 +11,7 @@ use Rattle.ist_core.proofs.FateLemmas.{grow_between}
 use Rattle.ist_rule.specs.declared.view.View.{View}
 use Rattle.ist_core.specs.declared.events.Who.{Who}
 use Rattle.ist_rule.specs.Rule.{IsSound}
-use Rattle.ist_rule.specs.Learning.{now, made_behind, logging, logging_load, GoesOnTo, Looked, Logged, LoggedLoad, Naming, LoadedAs, as_event, as_load, Exchanged, Turned, searching, storing}
+use Rattle.ist_rule.specs.Learning.{now, made_behind, logging, logging_load, GoesOnTo, Looked, Logged, LoggedLoad, Naming, LoadedAs, as_event, as_load, Exchanged, storing}
 use Rattle.ist_rule.specs.Going.{WentOn}
 use Rattle.ist_rule.proofs.GoingOnLemmas.{goes_on_same, looked_goes_on}
 
@@ -48,13 +48,13 @@ later_by_all all (one_more event k (inr is)) =
 pub went_who : (P : Event → Type 0) (v w : View) → WentOn P v w → w.who ≡ v.who
 went_who P v w h = ap (λ x. x.who) h.same
 
--- the state behind the log of one that went on, by the table of the first view
+-- the state after the log of a seat that went on, by the table of the first view
 pub went_now : (P : Event → Type 0) (v w : View) → WentOn P v w
     → now w ≡ state_of v.start v.words w.log
 went_now P v w h =
     ap₂ (λ p n. state_of p n w.log) (ap (λ x. x.start) h.same) (ap (λ x. x.words) h.same)
 
--- and its log is lawful for that table
+-- the log of a seat that went on is lawful for the table of the first view
 pub went_lawful : (P : Event → Type 0) (v w : View) → WentOn P v w → Lawful v.start v.words w.log
 went_lawful P v w h =
     subst (λ p. Lawful p v.words w.log) (ap (λ x. x.start) h.same)
@@ -97,16 +97,16 @@ goes_on_went P v w g =
       loaded = g.loaded;
     }
 
--- so does one that does nothing
+-- a seat that does nothing went on
 pub went_same : (P : Event → Type 0) (v : View) → IsSound v → WentOn P v v
 went_same P v s = goes_on_went P v v (goes_on_same v s)
 
--- so did one that made one load
+-- a seat that made one load went on
 pub looked_went : (P : Event → Type 0) (v : View) (place word : ℕ) (w : View) → Looked v place word w
     → WentOn P v w
 looked_went P v place word w l = goes_on_went P v w (looked_goes_on v place word w l)
 
--- and one that made an event that P is true of
+-- a seat that made an event that P is true of went on
 pub logged_went : (P : Event → Type 0) (v : View) (event : Event) (w : View) → Logged v event w
     → P event → made_behind event v.made ≡ v.made → WentOn P v w
 logged_went P v event w l is made =
@@ -126,7 +126,7 @@ logged_went P v event w l is made =
       loaded = let is = ap (λ x. x.loaded) l.view in omega arith;
     }
 
--- the same of a load that is such an event
+-- a seat that made a load which is such an event went on
 pub logged_load_went : (P : Event → Type 0) (v : View) (event : Event) (place word : ℕ) (w : View)
     → LoggedLoad v event place word w → P event
     → made_behind event v.made ≡ v.made → WentOn P v w
@@ -149,7 +149,7 @@ logged_load_went P v event place word w l is made =
       loaded = let is = ap (λ x. x.loaded) l.view in omega arith;
     }
 
--- so did one that made an exchange for such an event
+-- a seat that made an exchange for such an event went on
 pub exchanged_went : (P : Event → Type 0) (v : View) (event : Event) (place old found : ℕ) (w : View)
     → Exchanged v event place old found w → P event → made_behind event v.made ≡ v.made
     → WentOn P v w
@@ -157,7 +157,7 @@ exchanged_went P v event place old found w e is made =
     ⊎_elim (λ k. logged_went P v event w (e.0 k.1) is made)
     (λ k. looked_went P v place found w (e.1 k.1)) (eqb_tells found old)
 
--- and one that made a load which is such an event, or none
+-- a seat that made a load which is such an event, or none, went on
 pub loaded_as_went : (P : Event → Type 0) (v : View) (named : Naming) (place word : ℕ) (w : View)
     → LoadedAs v named place word w
     → ((log : Log) (event : Event) → named log word ≡ Some event
@@ -167,28 +167,15 @@ loaded_as_went P v named place word w (as_event event l is) all =
     let it = all l.before event is in logged_load_went P v event place word w l it.0 it.1
 loaded_as_went P v named place word w (as_load l none) all = looked_went P v place word w l
 
--- a seat that began a search went on so
-pub searching_went : (P : Event → Type 0) (v w : View) → Turned v (searching v) w → WentOn P v w
-searching_went P v w t =
-    record {
-      later = later_by t.later;
-      sound = t.sound;
-      same = subst (λ (x : View). x ≡ record v {
-        log = x.log;
-        own = x.own;
-        loads = x.loads;
-        loaded = x.loaded;
-      }) (sym t.view) refl;
-      loaded = let is = ap (λ x. x.loaded) t.view in omega arith;
-    }
-
--- a seat that made loads alone: the state that it has seen, its log, and what is published
+-- a seat that only made loads: the state that it has seen, its log, and what is published
 pub goes_on_now : (v w : View) → GoesOnTo v w → now w ≡ state_of v.start v.words w.log
 goes_on_now v w g = went_now (λ event. ⊥) v w (goes_on_went (λ event. ⊥) v w g)
 
+-- the log of a seat that only made loads is lawful
 pub goes_on_lawful : (v w : View) → GoesOnTo v w → Lawful v.start v.words w.log
 goes_on_lawful v w g = went_lawful (λ event. ⊥) v w (goes_on_went (λ event. ⊥) v w g)
 
+-- rows grow while a seat only makes loads
 pub goes_on_grow : (v w : View) → GoesOnTo v w → AllGrow (now v).pieces (now w).pieces
 goes_on_grow v w g = went_grow (λ event. ⊥) v w (goes_on_went (λ event. ⊥) v w g)
 

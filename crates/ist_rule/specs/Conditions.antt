@@ -1,5 +1,5 @@
--- What a seat owes for a step: that its event is enabled whatever others do meanwhile, and that its
--- call allows it.
+-- What a seat must show for a step: that its event is enabled whatever others do meanwhile, and
+-- that its call allows it.
 use Rattle.std.specs.Prelude.{◌≡◌, ◌≢◌, ◌⊎◌, ℕ, ◌+◌, ◌^◌, ◌<◌, List, [], ◌∷◌, ◌++◌, length, slice_get, Some, None}
 use Rattle.ist_core.specs.declared.calls.Call.{Call}
 use Rattle.ist_core.specs.declared.events.Event.{Event}
@@ -26,12 +26,12 @@ use Rattle.ist_rule.specs.Rule.{own_at}
 use Rattle.ist_rule.specs.Standings.{HasMade}
 use Rattle.ist_rule.specs.Learning.{now, Naming}
 
--- the seat may come to see this log: it is lawful, and goes on by events of others
+-- the seat may come to see this log: it is lawful and goes on from the seat's by events of others
 pub record MayCome (v : View) (log : Log) : Type 0 where
   pub later : Later v.who v.log log
   pub lawful : Lawful v.start v.words log
 
--- the words of the rows are those that the seat stored there
+-- the words of the rows are what the seat stored there
 abbrev pub StoredAll : View → List Row → Type 0
 StoredAll v rows =
     Each (λ row. (k : ℕ) → k < length row.words
@@ -52,7 +52,7 @@ pub record MayInstall (v : View) (caller : ℕ) (change : ChangeRow) : Type 0 wh
   pub command : IsUpdate change.kind → command_of change ≡ pending.command
   pub none_yet : IsUpdate change.kind → HasMade v.start v.words v.log caller v.calls
 
--- the seat may make the event: an Install as its call allows it, and an Enter where all callers
+-- the seat may make the event: an Install if its call allows it, and an Enter if all callers
 -- entered before have their seats
 abbrev pub SeatAllows : View → Event → Type 0
 SeatAllows v (Install caller base rows) = (change : ChangeRow) → first_change rows ≡ Some change
@@ -68,18 +68,18 @@ pub record CanMake (v : View) (event : Event) : Type 0 where
   pub stored : StoredAll v (published_by event)
   pub allowed : SeatAllows v event
 
--- the event is enabled behind the log, and its step finds one word at the place and leaves another
+-- after the log the event is enabled, and its step finds one word at the place and leaves another
 pub record ComesAt (v : View) (log : Log) (event : Event) (place found left : ℕ) : Type 0 where
   pub enabled : Enabled (start v.start v.words) log event
   pub touches : touch_of (state_of v.start v.words log) event
       ≡ Some record { place = place; found = found; left = left }
 
--- the word at the place is one that all know, behind each log that may come
+-- all know the word at the place, after each log that may come
 abbrev pub IsKnown : View → ℕ → Type 0
 IsKnown v place = (log : Log) → MayCome v log → (word : ℕ)
     × IsShown (state_of v.start v.words log) place word
 
--- an exchange of `old` for `new` is the event: behind each log that may come and has `old` there,
+-- an exchange of `old` for `new` is the event: after each log that may come and has `old` there,
 -- the event is enabled
 -- Who meets it: of a Reserve `ist_rows`, by the rows that its caller holds; of an Install and what
 -- follows it the crate of changes, by the filled row and by the Okay, or the mark, in its log; of a
@@ -90,10 +90,11 @@ pub record CanExchange (v : View) (place old new : ℕ) (event : Event) : Type 0
   pub comes : (log : Log) → MayCome v log → IsShown (state_of v.start v.words log) place old
       → ComesAt v log event place old new
 
--- an add is the event that is named for the word found: behind each log that may come it is
--- enabled, and leaves one more
+-- an add is the event that is named for the word found: after each log that may come it is enabled,
+-- and leaves one more
 -- Who meets it: of an Enter `ist_rows`, as the maker has entered all callers; of a Count the owner
--- of a change behind its yes; of a Draw who fills the parts of a root, by the finished target
+-- of a change after its yes; of a Draw the caller that fills the parts of a root, by the finished
+-- target
 pub record CanAdd (v : View) (place : ℕ) (named : ℕ → Event) : Type 0 where
   pub make : (found : ℕ) → CanMake v (named found)
   pub known : IsKnown v place
@@ -104,15 +105,15 @@ pub record CanAdd (v : View) (place : ℕ) (named : ℕ → Event) : Type 0 wher
       → IsShown (state_of v.start v.words log) place found
       → found + 1 < 2 ^ 64
 
--- the event is enabled behind the log, and a step that leaves the word at the place as it is may be
--- it
+-- after the log the event is enabled, and a step that leaves the word at the place as it is may be
+-- this event
 pub record LeavesAt (v : View) (log : Log) (event : Event) (place word : ℕ) : Type 0 where
   pub enabled : Enabled (start v.start v.words) log event
   pub leaves : (touch_of (state_of v.start v.words log) event
       ≡ Some record { place = place; found = word; left = word })
       ⊎ (touch_of (state_of v.start v.words log) event ≡ None)
 
--- a load of the place is the event that is named for the log before it and the word, where one is
+-- a load of the place is the event that is named for the log before it and the word, if one is
 -- Who meets it: `load_okay`, `load_pass` and `load_past`, each by its own condition (`Watching`)
 pub record CanLoadAs (v : View) (place : ℕ) (named : Naming) : Type 0 where
   pub known : IsKnown v place
@@ -121,9 +122,9 @@ pub record CanLoadAs (v : View) (place : ℕ) (named : Naming) : Type 0 where
       → (event : Event) → named log word ≡ Some event
       → CanMake v event × LeavesAt v log event place word
 
--- an exchange is the event where it finds `old`, and otherwise the other one
--- Who meets it: who publishes a root or a part, by the held rows that it built over the finished
--- target; the other event is the Lose of just these rows
+-- an exchange is the event if it finds `old`, and otherwise the other one
+-- Who meets it: the caller that publishes a root or a part, by the held rows that it built over the
+-- finished target; the other event is the Lose of just these rows
 pub record CanExchangeOrLose (v : View) (place old new : ℕ) (event lost : Event) : Type 0 where
   pub hit : CanExchange v place old new event
   pub make : CanMake v lost
@@ -153,10 +154,10 @@ pub record CanBegin (v : View) : Type 0 where
   pub in_none : v.pending ≡ None
 
 -- the seat's call may end as this call: its command is the one in progress and its stamp the next,
--- all that was installed is resolved, the calls of the seat stand in its log with it, and it is
--- fresh for what was seen when it began
--- Who meets it: each call of a pass that answers, by the laws on standing: a get by its search, an
--- update by its yes
+-- all that was installed is resolved, the calls of the seat are in its log with it, and it is fresh
+-- for what was seen when it began
+-- Who meets it: each call of a pass that returns a reply, by the laws on standing: a get by its
+-- search, an update by its yes
 pub record CanEnd (v : View) (call : Call) : Type 0 where
   pub number : ℕ
   pub mine : v.who ≡ Caller number
@@ -173,7 +174,7 @@ pub record CanEnd (v : View) (call : Call) : Type 0 where
 
 -- the call may be given up: all that it installed is resolved, and no put or remove of it was
 -- decided yes
--- Who meets it: each call of a pass that is refused for want of words
+-- Who meets it: each call of a pass that is refused because no words are left
 pub record CanGiveUp (v : View) : Type 0 where
   pub number : ℕ
   pub mine : v.who ≡ Caller number

@@ -9,7 +9,7 @@ pub record TableFace : Type 0 where
   pub table : TableId
   pub start : List Pair
 
--- a seat: the table that it is of, and what it knows
+-- a seat: its table, and what it knows
 pub record SeatFace : Type 0 where
   pub table : TableId
   pub view : View

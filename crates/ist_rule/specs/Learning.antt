@@ -1,4 +1,4 @@
--- What each step tells its seat, and how it changes the view.
+-- What each step lets its seat know, and how it changes the view.
 use Rattle.std.specs.Prelude.{◌≡◌, ℕ, ◌+◌, ◌^◌, ◌<◌, ◌≤◌, ◌≢◌, [], ◌∷◌, ◌++◌, length, Option, Some, None, List}
 use Rattle.ist_core.specs.declared.calls.Call.{Call}
 use Rattle.ist_core.specs.declared.commands.Command.{Command}
@@ -17,12 +17,11 @@ use Rattle.ist_core.specs.Authors.{Later}
 use Rattle.ist_core.specs.Shown.{IsShown}
 use Rattle.ist_rule.specs.Rule.{own_at, IsSound}
 
--- the state behind the log that the seat has seen
+-- the state after the log that the seat has seen
 abbrev pub now : View → Snapshot
 now v = state_of v.start v.words v.log
 
--- the seat has made loads and nothing else: it has seen more events of others, and knows of itself
--- what it knew
+-- the seat has only made loads: it has seen more events of others, and knows of itself what it knew
 pub record GoesOnTo (v w : View) : Type 0 where
   pub later : Later v.who v.log w.log
   pub sound : IsSound w
@@ -38,7 +37,7 @@ pub record GoesOnTo (v w : View) : Type 0 where
 abbrev pub with_load : Loads → Load → Loads
 with_load loads load = record { since = loads.since; list = load ∷ loads.list }
 
--- the view behind a load that gave the word at the place
+-- the view after a load that gave the word at the place
 abbrev pub seeing : View → Log → ℕ → ℕ → View
 seeing v log place word =
     record v {
@@ -47,8 +46,8 @@ seeing v log place word =
       loaded = v.loaded + 1;
     }
 
--- the word that stood at the place when the seat had seen its log: that of the image, or what the
--- seat stored there itself
+-- the word at the place when the seat had seen its log: the image's, or what the seat stored there
+-- itself
 pub record Looked (v : View) (place word : ℕ) (w : View) : Type 0 where
   pub later : Later v.who v.log w.log
   pub sound : IsSound w
@@ -60,12 +59,12 @@ pub record Looked (v : View) (place word : ℕ) (w : View) : Type 0 where
 
 -- ---- an event
 
--- how many callers the maker has entered behind the event
+-- how many callers the maker has entered after the event
 abbrev pub made_behind : Event → ℕ → ℕ
 made_behind (Enter caller) made = made + 1
 made_behind _ made = made
 
--- the view behind an event of its own
+-- the view after an event of its own
 abbrev pub logging : View → Log → Event → View
 logging v before event = record v { log = event ∷ before; made = made_behind event v.made }
 
@@ -77,17 +76,17 @@ pub record Logged (v : View) (event : Event) (w : View) : Type 0 where
   pub sound : IsSound w
 
 -- an add found this word, and is the event that is named for it: the last of the log, before which
--- that word stood at the place
+-- that word was at the place
 pub record LoggedAdd (v : View) (named : ℕ → Event) (place found : ℕ) (w : View) : Type 0 where
   pub logged : Logged v (named found) w
   pub stood : (shown : ℕ) → IsShown (state_of v.start v.words logged.before) place shown
       → found ≡ shown
 
--- the view behind a load, or a failed exchange, that is an event of its own
+-- the view after a load, or a failed exchange, that is an event of its own
 abbrev pub logging_load : View → Log → Event → View
 logging_load v before event = record (logging v before event) { loaded = v.loaded + 1 }
 
--- the event came at a load that gave this word at the place: it is the last of the log, and all
+-- the event happened at a load that gave this word at the place: it is the last of the log, and all
 -- before it is seen
 pub record LoggedLoad (v : View) (event : Event) (place word : ℕ) (w : View) : Type 0 where
   pub before : Log
@@ -100,7 +99,7 @@ pub record LoggedLoad (v : View) (event : Event) (place word : ℕ) (w : View) :
 abbrev pub Naming : Type 0
 Naming = Log → ℕ → Option Event
 
--- a load that is an event where it is named so, and nothing but a load otherwise
+-- a load that is an event if it is named so, and otherwise nothing but a load
 pub data LoadedAs (v : View) (named : Naming) (place word : ℕ) (w : View) : Type 0 where
   as_event : (event : Event) (l : LoggedLoad v event place word w)
       → named l.before word ≡ Some event
@@ -112,7 +111,7 @@ abbrev pub ExchangedOrLost : View → Event → Event → ℕ → ℕ → ℕ �
 ExchangedOrLost v event lost place old found w =
     (found ≡ old → Logged v event w) × (found ≢ old → LoggedLoad v lost place found w)
 
--- the same of a pair of events
+-- the same for a pair of events
 abbrev pub ExchangedEitherWay : View → Event × Event → ℕ → ℕ → ℕ → View → Type 0
 ExchangedEitherWay v events = ExchangedOrLost v events.0 events.1
 
@@ -123,7 +122,7 @@ Exchanged v event place old found w = (found ≡ old → Logged v event w)
 
 -- ---- calls
 
--- the view behind a load that changes it
+-- the view after a load that changes it
 pub record Turned (v : View) (turn : Log → View) (w : View) : Type 0 where
   pub later : Later v.who v.log w.log
   pub view : w ≡ turn w.log
@@ -138,7 +137,12 @@ beginning v command log =
 -- the view that has begun a search
 abbrev pub searching : View → Log → View
 searching v log =
-    record v { log = log; loads = record { since = length log; list = [] }; loaded = v.loaded + 1 }
+    record v {
+      log = log;
+      loads = record { since = length log; list = [] };
+      loaded = v.loaded + 1;
+      searches = v.searches + 1;
+    }
 
 -- the view that has ended its call
 abbrev pub ending : View → Call → Log → View

@@ -5,6 +5,7 @@ pub mod Faces
 pub mod Learning
 pub mod Going
 pub mod Conditions
+pub mod Several
 pub mod Seating
 pub mod Watching
 -- what the functions inside this crate promise each other

@@ -21,12 +21,12 @@ use Rattle.ist_core.specs.Authors.{Later, IsIdleIn}
 use Rattle.ist_core.specs.Shown.{IsShown}
 use Rattle.ist_rule.specs.Standings.{StandsInPrefix, IsBetween, CallStands}
 
--- the word that was stored at the place last, and 0 where none was
+-- the word that was stored at the place last, and 0 if none was
 abbrev pub own_at : List OwnWord → ℕ → ℕ
 own_at [] place = 0
 own_at (own ∷ more) place = if own.place == place then own.word else own_at more place
 
--- the seat is the maker's or a caller's, so that no other seat is the same one's
+-- the seat is the maker's or a caller's; of each there is at most one seat
 abbrev pub IsNamed : Who → Type 0
 IsNamed (Note of) = ⊥
 IsNamed Spent = ⊥
@@ -39,25 +39,25 @@ pub data KeepsCalls (number : ℕ) : Who → Type 0 where
 
 -- ---- what a view says of the log that it has seen
 
--- a load gave the word that the image had there behind so much of the log
+-- a load gave the word that the image had there after a prefix of the log, whose length it notes
 pub record Recalls (pairs : List Pair) (words : ℕ) (log : Log) (load : Load) : Type 0 where
   pub prefix : Log
   pub goes_on : GoesOn prefix log
   pub length_is : load.length ≡ length prefix
   pub stood : (word : ℕ) → IsShown (state_of pairs words prefix) load.place word → load.word ≡ word
 
--- the lengths of the loads never fall, and none is less than that with which the search began
+-- the lengths of the loads never fall, and none is below the length at which the search began
 abbrev pub NeverFall : ℕ → List Load → Type 0
 NeverFall since [] = Unit {0}
 NeverFall since (load ∷ loads) = (since ≤ load.length) × Each (λ l. l.length ≤ load.length) loads
     × NeverFall since loads
 
--- the seat that met another went on to the log of both by events of others, and all that is seen
+-- the seat that met another went on to the log of both by events of others, and all of that is seen
 pub record IsMet (log : Log) (met : Met) : Type 0 where
   pub later : Later met.who met.log met.both
   pub seen : GoesOn met.both log
 
--- the view by itself: where its calls stand, what its loads gave, which seats met at its join
+-- the view by itself: the places of its calls, what its loads gave, which seats met at its join
 pub record IsWellMade (pairs : List Pair) (words : ℕ) (v : View) : Type 0 where
   pub stands : (number : ℕ) → KeepsCalls number v.who
       → StandsInPrefix pairs words v.log number v.calls
@@ -75,15 +75,15 @@ pub record IsWellMade (pairs : List Pair) (words : ℕ) (v : View) : Type 0 wher
 
 -- ---- what a view says of the longest log
 
--- a caller that was taken back: its number is below the callers', its changes are those of its
--- calls, and it made no event behind what its seat had seen
+-- a caller that was taken back: its number is below the callers', its changes are its calls', and
+-- it made no event after what its seat had seen
 pub record IsTakenBack (pairs : List Pair) (words : ℕ) (log : Log) (t : Taken) : Type 0 where
   pub low : t.number < (state_of pairs words log).callers
   pub between : IsBetween pairs words log t.number t.calls
   pub later : Later (Caller t.number) t.log log
 
--- the view and the log: numbers of callers, own words, and what the changes of the caller have come
--- to
+-- what a view and a log agree on: numbers of callers, own words, and what became of the caller's
+-- changes
 pub record IsTrueIn (pairs : List Pair) (words : ℕ) (log : Log) (v : View) : Type 0 where
   pub low : (number : ℕ) → v.who ≡ Caller number → number < (state_of pairs words log).callers
   pub made : v.who ≡ Maker → (v.made ≡ (state_of pairs words log).callers) × (v.given ≤ v.made)
@@ -94,7 +94,7 @@ pub record IsTrueIn (pairs : List Pair) (words : ℕ) (log : Log) (v : View) : T
       → CallStands pairs words log number v.calls v.pending
   pub taken : Each (IsTakenBack pairs words log) v.taken
 
--- what is so of the view of each seat that was not joined away
+-- what holds of the view of each seat that was not joined away
 pub record IsSound (v : View) : Type 0 where
   pub lawful : Lawful v.start v.words v.log
   pub live : v.who ≢ Spent
@@ -118,7 +118,7 @@ pub record Fits (k : About) (log : Log) (image : List ℕ) (v : View) : Type 0 w
   pub well_made : IsWellMade k.start.value.items k.words v
   pub is_true : IsTrueIn k.start.value.items k.words log v
 
--- the views: seat i has this one
+-- seat i has this view
 abbrev pub HasView : T.State (Unit {0}) View → ℕ → View → Type 0
 HasView s i v = get_elem? s.views i ≡ some v
 
@@ -157,12 +157,13 @@ opened_view pairs words =
       stamp = 0;
       loads = record { since = 0; list = [] };
       loaded = 0;
+      searches = 0;
       pending = None;
       made = 0;
       given = 0;
       taken = [];
     }
 
--- the same, by what the table is told
+-- the same, by what the table is given
 abbrev pub first_view : About → View
 first_view k = opened_view k.start.value.items k.words

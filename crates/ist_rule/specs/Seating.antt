@@ -29,8 +29,8 @@ noted_by (Caller number) = Some number
 noted_by (Note of) = of
 noted_by _ = None
 
--- the seat that another was split from: a maker gave a seat to the caller that it entered, or it is
--- as it was
+-- the seat that another was split from: a maker gave a seat to the caller that it entered, or the
+-- seat is as it was
 abbrev pub split_left : View → View
 split_left v = if awaits_seat v then record v { given = v.given + 1 } else v
 
@@ -44,14 +44,15 @@ plain v who calls =
       calls = calls;
       loads = record { since = 0; list = [] };
       loaded = 0;
+      searches = 0;
       pending = None;
       made = 0;
       given = 0;
       taken = [];
     }
 
--- the seat that was split from another: that of the caller that was entered last, which made no
--- call, or a note
+-- the seat that was split from another: the seat of the caller entered last, which made no call, or
+-- a note
 abbrev pub split_right : View → View
 split_right v = if awaits_seat v then plain v (Caller v.given) [] else plain v
     (Note (noted_by v.who)) v.calls
@@ -62,7 +63,7 @@ split_right v = if awaits_seat v then plain v (Caller v.given) [] else plain v
 abbrev pub longer : Log → Log → Log
 longer a b = if nat_le (length b) (length a) then a else b
 
--- the callers that were taken back, with that of a seat that is joined now
+-- the callers that were taken back, with the caller of a seat that is joined now
 abbrev pub with_taken : Who → List Call → Log → List Taken → List Taken
 with_taken (Caller number) calls log taken =
     record { number = number; calls = calls; log = log } ∷ taken
@@ -98,6 +99,7 @@ gone =
       stamp = 0;
       loads = record { since = 0; list = [] };
       loaded = 0;
+      searches = 0;
       pending = None;
       made = 0;
       given = 0;

@@ -1,5 +1,5 @@
--- What is known of the calls of one caller: where they stand in its log, and what its changes have
--- come to in the longest log.
+-- What is known of the calls of one caller: their places in its log, and what became of its changes
+-- in the longest log.
 use Rattle.std.specs.Prelude.{◌≡◌, ℕ, ◌⊎◌, List, [], ◌∷◌, ◌++◌, map, filter, Option, Some, None}
 use Rattle.ist_core.specs.declared.calls.Call.{Call}
 use Rattle.ist_core.specs.declared.commands.Command.{Command}
@@ -18,7 +18,7 @@ use Rattle.ist_rule.specs.declared.view.Pending.{Pending}
 abbrev pub entries_made : ℕ → List Call → List Entry
 entries_made number calls = map (entry_by number) (filter is_change calls)
 
--- the calls stand in a prefix of the log
+-- the calls are in a prefix of the log
 pub record StandsInPrefix (pairs : List Pair) (words : ℕ) (log : Log) (number : ℕ)
     (calls : List Call) : Type 0 where
   pub prefix : Log
@@ -37,8 +37,8 @@ pub record IsUndecided (t : Snapshot) (number base : ℕ) : Type 0 where
   pub owned : change.owner ≡ number
   pub update : IsUpdate change.kind
 
--- between calls: the entries of the caller are those of its calls, and each change that it
--- installed is resolved
+-- between calls: the entries of the caller are its calls', and each change that it installed is
+-- resolved
 pub record IsBetween (pairs : List Pair) (words : ℕ) (log : Log) (number : ℕ) (calls : List Call) :
     Type 0 where
   pub made : HasMade pairs words log number calls
@@ -54,7 +54,7 @@ pub record IsAtWork (pairs : List Pair) (words : ℕ) (log : Log) (number : ℕ)
   pub one : (base other : ℕ) → IsUndecided (state_of pairs words log) number base
       → IsUndecided (state_of pairs words log) number other → base ≡ other
 
--- in a call that made its entry: the entry is that of the call's command, and nothing is undecided
+-- in a call that made its entry: the entry has the call's command, and nothing is undecided
 pub record IsEntered (pairs : List Pair) (words : ℕ) (log : Log) (number : ℕ) (calls : List Call)
     (command : Option Command) : Type 0 where
   pub entry : Entry
@@ -63,8 +63,7 @@ pub record IsEntered (pairs : List Pair) (words : ℕ) (log : Log) (number : ℕ
   pub its_command : command ≡ Some entry.command
   pub none : (base : ℕ) → ¬ (IsUndecided (state_of pairs words log) number base)
 
--- what the caller's changes have come to, where it has ended these calls and is in this call, or in
--- none
+-- what became of the caller's changes, if it has ended these calls and is in this call, or in none
 abbrev pub CallStands : List Pair → ℕ → Log → ℕ → List Call → Option Pending → Type 0
 CallStands pairs words log number calls None = IsBetween pairs words log number calls
 CallStands pairs words log number calls (Some pending) =

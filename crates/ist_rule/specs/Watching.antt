@@ -1,5 +1,5 @@
--- Loads that are events: of a status that shows a node open, of a slot of a marked node, and beside
--- a pair row that is given up.
+-- Loads that are events: of a status that shows a node open, of a slot of a marked node, and one
+-- that gives up a pair row.
 use Rattle.std.specs.Prelude.{◌≡◌, ℕ, ◌+◌, ◌<◌, ◌==◌, ◌&&◌, not, Bool, true, false, if◌then◌else◌, [], ◌∷◌, Option, Some, None}
 use Rattle.ist_core.specs.declared.states.InnerRow.{InnerRow}
 use Rattle.ist_core.specs.declared.states.ChangeRow.{ChangeRow}
@@ -28,12 +28,12 @@ pub data IsNode (t : Snapshot) (node : ℕ) : Type 0 where
   is_anchor : node ≡ anchor → IsNode t node
   is_inner : (r : InnerRow) → t.pieces node ≡ Some (Inner r) → IsNode t node
 
--- is this a change that no one has decided
+-- is this a change that no one has decided?
 abbrev pub waits : Option ChangeRow → Bool
 waits (Some change) = change.decision == undecided
 waits None = false
 
--- the load of a status is an Okay of the change where it shows the node open and the change is
+-- the load of a status is an Okay of the change if it shows the node open and the change is
 -- undecided
 abbrev pub okay_of : View → ℕ → Naming
 okay_of v change log word =
@@ -44,9 +44,9 @@ okay_of v change log word =
 abbrev pub LoadedOkay : View → ℕ → ℕ → ℕ → View → Type 0
 LoadedOkay v change = LoadedAs v (okay_of v change)
 
--- a caller may look whether the node of an installed change is open: at the place of the node's
--- status
--- Who meets it: who helps a change, by its Install in the log
+-- a caller may check, at the place of the node's status, whether the node of an installed change is
+-- open
+-- Who meets it: a helper of a change, by its Install in the log
 pub record CanLoadOkay (v : View) (change place : ℕ) : Type 0 where
   pub number : ℕ
   pub mine : v.who ≡ Caller number
@@ -56,17 +56,17 @@ pub record CanLoadOkay (v : View) (change place : ℕ) : Type 0 where
 
 -- ---- Pass
 
--- is the row marked, and not finished
+-- is the row marked, and not finished?
 abbrev pub is_marked : Option InnerRow → Bool
 is_marked (Some row) = row.status == marked_word
 is_marked None = false
 
--- is this a change
+-- is this a change?
 abbrev pub is_change : Option Ref → Bool
 is_change (Some (ChangeAt base)) = true
 is_change _ = false
 
--- the load of a slot is a Pass where the node is marked and the word is neither a change nor Unset
+-- the load of a slot is a Pass if the node is marked and the word is neither a change nor Unset
 abbrev pub pass_of : View → ℕ → ℕ → Naming
 pass_of v node i log word =
     if is_marked (as_inner ((state_of v.start v.words log).pieces node))
@@ -77,8 +77,8 @@ pass_of v node i log word =
 abbrev pub LoadedPass : View → ℕ → ℕ → ℕ → ℕ → View → Type 0
 LoadedPass v node i = LoadedAs v (pass_of v node i)
 
--- a caller may try to pass a slot of a published node: at the place of the slot
--- Who meets it: who marks a subtree, at each slot of a node behind its mark
+-- a caller may try to pass a slot of a published node, at the place of the slot
+-- Who meets it: a caller that marks a subtree, at each slot of a node after its mark
 pub record CanLoadPass (v : View) (node i place : ℕ) : Type 0 where
   pub number : ℕ
   pub mine : v.who ≡ Caller number
@@ -98,7 +98,7 @@ abbrev pub LoadedPast : View → ℕ → ℕ → ℕ → View → Type 0
 LoadedPast v pair node = LoadedAs v (past_of v pair) (node + inner_status_offset)
 
 -- a caller may give up a pair row below a published inner row
--- Who meets it: who gives up a pair row before it may be too late
+-- Who meets it: a caller that gives up a pair row before it may be too late
 pub record CanLoadPast (v : View) (pair node : ℕ) : Type 0 where
   pub number : ℕ
   pub mine : v.who ≡ Caller number

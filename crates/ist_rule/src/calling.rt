@@ -1,4 +1,4 @@
-//! Beginning and ending calls and searches. Each is a load of word 0 that turns the view of its
+//! Beginning and ending calls and searches. Each is a load of word 0 that changes the view of its
 //! seat.
 ghost use Rattle.std.specs.Prelude.{◌≡◌};
 ghost use Rattle.ist_core.specs.declared.calls.Call.{Call as CallOf};
@@ -18,11 +18,11 @@ fn begin_as<A: Asked>(table: &TreeTable, seat: &mut TreeSeat, command: Option<Co
     ensures begun { Turned seat.old.view (beginning seat.old.view A.command) seat.new.view }
 {
     let _ = command;
-    // No event: a load of word 0, to begin a call. What others did up to here is seen.
+    // No event: a load of word 0, to begin a call. It sees what others did up to here.
     table.table.shared.load::<Begins<A>>(&mut seat.seat, 0);
 }
 
-/// The seat's caller is then in a call with this command, or with none.
+/// Begins a call of the seat's caller, with this command or with none.
 pub fn begin_call(table: &TreeTable, seat: &mut TreeSeat, command: Option<Command>)
     requires same_table { seat.old.table ≡ table.now.table }
     requires may_begin { CanBegin seat.old.view }
@@ -32,13 +32,13 @@ pub fn begin_call(table: &TreeTable, seat: &mut TreeSeat, command: Option<Comman
     begin_as::<Brand>(table, seat, command);
 }
 
-/// A search begins: the view then has no load, and how long its log is.
+/// Begins a search: clears the view's loads, notes the log's length and adds 1 to its `searches`.
 pub fn begin_search(table: &TreeTable, seat: &mut TreeSeat)
     requires same_table { seat.old.table ≡ table.now.table }
     ensures same_table { seat.new.table ≡ seat.old.table }
     ensures begun { Turned seat.old.view (searching seat.old.view) seat.new.view }
 {
-    // No event: a load of word 0, to begin a search. What others did up to here is seen.
+    // No event: a load of word 0, to begin a search. It sees what others did up to here.
     table.table.shared.load::<Searches>(&mut seat.seat, 0);
 }
 
@@ -50,12 +50,12 @@ fn end_as<A: Answered>(table: &TreeTable, seat: &mut TreeSeat, reply: Reply)
     ensures ended { Turned seat.old.view (ending seat.old.view A.call) seat.new.view }
 {
     let _ = reply;
-    // No event: a load of word 0, to end a call. What others did up to here is seen.
+    // No event: a load of word 0, to end a call. It sees what others did up to here.
     table.table.shared.load::<Ends<A>>(&mut seat.seat, 0);
 }
 
-/// The seat's call ends with this reply. It is then the last of its calls, with the next stamp, at
-/// the position that is shown for it.
+/// Ends the seat's call with this reply. The call is then the last of the seat's calls, with the
+/// next stamp, at the position that is shown for it.
 pub fn end_call(table: &TreeTable, seat: &mut TreeSeat, reply: Reply)
     ghost call: { CallOf }
     requires same_table { seat.old.table ≡ table.now.table }
@@ -67,13 +67,13 @@ pub fn end_call(table: &TreeTable, seat: &mut TreeSeat, reply: Reply)
     end_as::<Brand>(table, seat, reply);
 }
 
-/// The seat's call ends without an answer. Its calls are as before.
+/// Ends the seat's call without a reply. The seat's calls stay as they were.
 pub fn give_up(table: &TreeTable, seat: &mut TreeSeat)
     requires same_table { seat.old.table ≡ table.now.table }
     requires may_give_up { CanGiveUp seat.old.view }
     ensures same_table { seat.new.table ≡ seat.old.table }
     ensures given_up { Turned seat.old.view (giving_up seat.old.view) seat.new.view }
 {
-    // No event: a load of word 0, to give up a call. What others did up to here is seen.
+    // No event: a load of word 0, to give up a call. It sees what others did up to here.
     table.table.shared.load::<GivesUp>(&mut seat.seat, 0);
 }

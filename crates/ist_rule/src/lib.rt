@@ -1,8 +1,8 @@
 //! The table under its rule: between any two atomic steps its words are the image of a lawful log,
 //! and each step is one event of it or changes no state.
 //!
-//! Read `specs/Lib.antt`, then `view.rt`, then `steps.rt`. Stands on `ist_core`,
-//! `ist_layout` and `atomic_table`.
+//! Read `specs/Lib.antt`, then `view.rt`, then `steps.rt`. Builds on `ist_core`, `ist_layout` and
+//! `atomic_table`.
 #![tactic(auto)]
 
 mod calling;
@@ -16,9 +16,9 @@ mod watching;
 
 pub use calling::{begin_call, begin_search, end_call, give_up};
 pub use opening::{close, know, open_table, open_table_over};
-pub use plays::{Answered, Asked, Named, NamedByLog, NamedByWord, NamedEitherWay};
+pub use plays::{Answered, Asked, Named, NamedAll, NamedByLog, NamedByWord, NamedEitherWay};
 pub use seating::{join, split};
-pub use steps::{add, exchange, exchange_or_lose, load, store};
+pub use steps::{add, exchange, exchange_all, exchange_or_lose, load, store};
 pub use table::{TreeSeat, TreeTable, word_count};
 pub use view::{About, Loads, Met, OwnWord, Pending, Taken, TreeRule, View};
 pub use watching::{load_okay, load_pass, load_past};

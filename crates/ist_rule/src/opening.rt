@@ -1,4 +1,4 @@
-//! Opening and closing a table, and what is so of each seat.
+//! Opening and closing a table, and what holds of each seat.
 ghost use Rattle.std.specs.Prelude.{◌≡◌, IfOk, length};
 ghost use Rattle.std.specs.Mem.Slots.{slots_items, slots_len, IsFull};
 ghost use Rattle.ist_core.specs.StartLayout.{start};
@@ -15,9 +15,9 @@ use ist_core::Pair;
 use std::alloc::{AllocError, Global};
 use std::snapshot::Snapshot;
 
-/// A table of these words, and the maker's seat, which has seen nothing yet.
+/// Makes a table of these words, and the maker's seat, which has seen nothing yet.
 ///
-/// The words are the image of a new tree of the pairs. Fails for want of memory alone.
+/// The words are the image of a new tree of the pairs. Fails only if memory runs out.
 pub fn open_table(
     alloc: Global,
     image: Vec<u64>,
@@ -33,8 +33,8 @@ pub fn open_table(
     open_table_over(alloc, image.as_slice(), pairs)
 }
 
-/// As `open_table`, over words that stay the caller's. They are copied into the table, so their
-/// memory may serve for the image of the next one.
+/// Opens a table as `open_table` does, but the words stay the caller's. They are copied into the
+/// table, so their memory may serve for the image of the next one.
 pub fn open_table_over(
     alloc: Global,
     image: &[u64],
@@ -55,7 +55,7 @@ pub fn open_table_over(
     Ok((TreeTable { table }, TreeSeat { seat }))
 }
 
-/// What is so of the view of each seat. It costs nothing.
+/// Gives the caller what holds of each seat's view. It costs nothing.
 pub fn know(seat: &TreeSeat)
     ensures sound { IsSound seat.now.view }
     ensures words { seat.now.view.words ≡ seat.now.table.words }
@@ -63,7 +63,7 @@ pub fn know(seat: &TreeSeat)
     let _ = &seat.seat;
 }
 
-/// The words after the last step, without a copy.
+/// Returns the words after the last step, without a copy.
 ///
 /// They are the image of a lawful log that goes on from the seat's own by events of others.
 pub fn close(table: TreeTable, seat: TreeSeat) -> Closed<(), Global>

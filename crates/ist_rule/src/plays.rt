@@ -1,9 +1,9 @@
-//! What each step tells, in the words of `atomic_table`.
+//! What each step learns, in the terms of `atomic_table`.
 use crate::view::View;
 use atomic_table::{Join, Play, Split};
 use std::marker::{Brand, PhantomData};
 
-// A load tells the word.
+// A load learns the word.
 pub(crate) struct Looks;
 
 impl Play<(), View> for Looks {
@@ -12,7 +12,7 @@ impl Play<(), View> for Looks {
     ghost then = { looks };
 }
 
-// A store tells nothing.
+// A store learns nothing.
 pub(crate) struct Stores;
 
 impl Play<(), View> for Stores {
@@ -39,7 +39,7 @@ impl Play<(), View> for GivesUp {
     ghost then = { gives_up };
 }
 
-// A seat in two.
+// One seat becomes two.
 pub(crate) struct Cuts;
 
 impl Split<View> for Cuts {
@@ -50,7 +50,7 @@ impl Split<View> for Cuts {
     ghost right = { split_right };
 }
 
-// Two seats in one.
+// Two seats become one.
 pub(crate) struct Binds;
 
 impl Join<View> for Binds {
@@ -61,10 +61,10 @@ impl Join<View> for Binds {
     ghost spent = { gone };
 }
 
-// What a step is told for the proof alone.
+// What a step is given only for the proof.
 //
-// A step sees only words. Which event it is, which command a call begins with and at which position
-// it ends is named by a type, whose ghost value the caller picks.
+// A step sees only words. A type names which event it is, which command a call begins with and at
+// which position it ends. The caller picks the type's ghost value.
 
 /// The event of an exchange.
 pub trait Named {
@@ -77,6 +77,20 @@ impl Named for Brand {
     ghost use Rattle.ist_core.specs.declared.events.Event.TheVariants.{Enter};
 
     ghost event = { Enter 0 };
+}
+
+/// The events of one exchange, the earliest first.
+pub trait NamedAll {
+    ghost use Rattle.std.specs.Prelude.{List};
+    ghost use Rattle.ist_core.specs.declared.events.Event.{Event};
+
+    ghost events: { List Event };
+}
+
+impl NamedAll for Brand {
+    ghost use Rattle.std.specs.Prelude.{[]};
+
+    ghost events = { [] };
 }
 
 /// The event of an add, for each word that it may find.
@@ -93,7 +107,7 @@ impl NamedByWord for Brand {
     ghost event = { λ found. Enter found };
 }
 
-/// The event of a load, for each log before it and each word that it may give, or none.
+/// The event of a load, for each log before it and each word that it may give, or `None`.
 pub trait NamedByLog {
     ghost use Rattle.ist_rule.specs.Learning.{Naming};
 
@@ -106,7 +120,7 @@ impl NamedByLog for Brand {
     ghost event = { λ log word. None };
 }
 
-/// The events of an exchange: where it finds its word, and where it doesn't.
+/// The events of an exchange: one if it finds its word, and one if it doesn't.
 pub trait NamedEitherWay {
     ghost use Rattle.ist_core.specs.declared.events.Event.{Event};
 
@@ -158,6 +172,17 @@ impl<N: Named> Play<(), View> for Exchanges<N> {
     ghost then = { exchanges N.event };
 }
 
+// An exchange is all its events, or a load.
+pub(crate) struct ExchangesAll<N> {
+    named: PhantomData<N>,
+}
+
+impl<N: NamedAll> Play<(), View> for ExchangesAll<N> {
+    ghost use Rattle.ist_rule.specs.Playing.{exchanges_all};
+
+    ghost then = { exchanges_all N.events };
+}
+
 // An add is an event.
 pub(crate) struct Adds<N> {
     named: PhantomData<N>,
@@ -191,7 +216,7 @@ impl<A: Answered> Play<(), View> for Ends<A> {
     ghost then = { ends A.call };
 }
 
-// A load that is an event where it is named so.
+// A load that is an event if it is named so.
 pub(crate) struct LoadsAs<N> {
     named: PhantomData<N>,
 }

@@ -7,10 +7,10 @@ ghost use Rattle.ist_rule.specs.Seating.{split_left, split_right, joined, CanJoi
 use crate::plays::{Binds, Cuts, Looks};
 use crate::table::{TreeSeat, TreeTable};
 
-/// A seat with the log and the stamp of this one, without rows, and in no call.
+/// Makes a seat with the log and the stamp of this one, without rows, and in no call.
 ///
-/// Where a maker entered a caller that has no seat yet, the new seat is that caller's. Otherwise it
-/// is a note, which keeps the calls of the caller whose seat it was split from.
+/// If a maker entered a caller that has no seat yet, the new seat is that caller's. Otherwise it is
+/// a note, which keeps the calls of the caller whose seat it was split from.
 pub fn split(table: &TreeTable, seat: &mut TreeSeat) -> TreeSeat
     requires same_table { seat.old.table ≡ table.now.table }
     ensures old { (seat.new.table ≡ seat.old.table) × (seat.new.view ≡ split_left seat.old.view) }
@@ -24,9 +24,9 @@ pub fn split(table: &TreeTable, seat: &mut TreeSeat) -> TreeSeat
 
 /// Takes in what the other seat has seen: the longer log, and the greater stamp.
 ///
-/// The seat's log behind the call goes on from each of the two logs by events of others than that
-/// log's owner, as a load of word 0 tells. The maker keeps the calls of a caller that is joined to
-/// it, and its log, from which each log to come goes on without an event of that caller.
+/// After the call, the seat's log goes on from each of the two logs by events of others than that
+/// log's owner; a load of word 0 learns this. The maker keeps the calls of a caller that is joined
+/// to it, and its log, from which each log to come goes on without an event of that caller.
 pub fn join(table: &TreeTable, seat: &mut TreeSeat, other: TreeSeat)
     requires same_table { seat.old.table ≡ table.now.table }
     requires other_table { other.table ≡ table.now.table }
@@ -41,6 +41,6 @@ pub fn join(table: &TreeTable, seat: &mut TreeSeat, other: TreeSeat)
         .table
         .shared
         .join_seat::<Binds>(&mut seat.seat, other.seat);
-    // No event: a load of word 0, which tells that both logs are prefixes of one.
+    // No event: a load of word 0, which learns that both logs are prefixes of one.
     table.table.shared.load::<Looks>(&mut seat.seat, 0);
 }

@@ -1,24 +1,26 @@
 //! The steps on words.
-ghost use Rattle.std.specs.Prelude.{◌≡◌, ◌<◌, ℕ};
+ghost use Rattle.std.specs.Prelude.{◌≡◌, ◌<◌, ℕ, List};
 ghost use Rattle.ist_core.specs.declared.events.Event.{Event};
 ghost use Rattle.ist_rule.specs.Faces.{word_count_of};
 ghost use Rattle.ist_rule.specs.Learning.{Looked, LoggedAdd, Exchanged, ExchangedEitherWay, storing};
 ghost use Rattle.ist_rule.specs.Conditions.{IsOwn, CanExchange, CanAdd, CanExchangeOrLose};
+ghost use Rattle.ist_rule.specs.Several.{CanExchangeAll, ExchangedAll};
 
 use crate::plays::{
-    Adds, Exchanges, ExchangesOrLoses, Looks, Named, NamedByWord, NamedEitherWay, Stores,
+    Adds, Exchanges, ExchangesAll, ExchangesOrLoses, Looks, Named, NamedAll, NamedByWord,
+    NamedEitherWay, Stores,
 };
 use crate::table::{TreeSeat, TreeTable};
 use std::marker::Brand;
 
-/// The word that stands at the place at this step.
+/// Returns the word at the place at this step.
 pub fn load(table: &TreeTable, seat: &mut TreeSeat, place: u64) -> u64
     requires same_table { seat.old.table ≡ table.now.table }
     requires within { place < word_count_of table.now }
     ensures same_table { seat.new.table ≡ seat.old.table }
     ensures looked { Looked seat.old.view place result seat.new.view }
 {
-    // No event. What others did up to here comes into the seat's log.
+    // No event. The seat's log takes in what others did up to here.
     table
         .table
         .shared
@@ -33,7 +35,7 @@ pub fn store(table: &TreeTable, seat: &mut TreeSeat, place: u64, word: u64)
     ensures same_table { seat.new.table ≡ seat.old.table }
     ensures stored { seat.new.view ≡ storing seat.old.view place word }
 {
-    // No event. Meets no other's step: the row is its caller's alone.
+    // No event. Meets no other's step: only the row's caller uses it.
     table
         .table
         .shared
@@ -54,8 +56,8 @@ fn add_as<N: NamedByWord>(table: &TreeTable, seat: &mut TreeSeat, place: u64) ->
         .fetch_add::<Adds<N>>(&mut seat.seat, place as usize, 1)
 }
 
-/// Adds 1 to the word at the place, and answers the word before: the one that the place shows before
-/// the step. The step is the event that is named for that word: the last of the seat's log.
+/// Adds 1 to the word at the place and returns the word before, which the place shows before the
+/// step. The step is the event that is named for that word: the last of the seat's log.
 pub fn add(table: &TreeTable, seat: &mut TreeSeat, place: u64) -> u64
     ghost event: { ℕ → Event }
     requires same_table { seat.old.table ≡ table.now.table }
@@ -67,10 +69,10 @@ pub fn add(table: &TreeTable, seat: &mut TreeSeat, place: u64) -> u64
     add_as::<Brand>(table, seat, place)
 }
 
-// `N` has no value: it carries an event for the proof alone. The step sees three words, and the same
-// words may be exchanged by a Decide and by a Mark. Which event this exchange is, if it finds `old`,
-// is what its caller says by `N.event`: of that event `CanExchange` asks that it is enabled behind
-// each log that may come, and that event is the one that the seat's log then ends with.
+// `N` has no value: it carries an event only for the proof. The step sees three words, and a Decide
+// and a Mark may exchange the same words. The caller says by `N.event` which event this exchange
+// is, if it finds `old`. `CanExchange` asks that this event is enabled after each log that may
+// come. The seat's log then ends with it.
 fn exchange_as<N: Named>(
     table: &TreeTable,
     seat: &mut TreeSeat,
@@ -84,17 +86,17 @@ fn exchange_as<N: Named>(
     ensures same_table { seat.new.table ≡ seat.old.table }
     ensures exchanged { Exchanged seat.old.view N.event place old result seat.new.view }
 {
-    // `N.event` where `old` is found, and otherwise no event. Meets another's write of the word.
+    // `N.event` if `old` is found, and otherwise no event. Meets another's write of the word.
     table
         .table
         .shared
         .compare_exchange::<Exchanges<N>>(&mut seat.seat, place as usize, old, new)
 }
 
-/// Writes `new` where the word at the place is `old`, and answers the word that stood there.
+/// Writes `new` if the word at the place is `old`, and returns the word that was found there.
 ///
-/// Where that was `old`, the step is the event that is named: the last of the seat's log. Otherwise
-/// no word changes, and the step is a load.
+/// If that was `old`, the step is the event that is named: the last of the seat's log. Otherwise no
+/// word changes, and the step is a load.
 pub fn exchange(table: &TreeTable, seat: &mut TreeSeat, place: u64, old: u64, new: u64) -> u64
     ghost event: { Event }
     requires same_table { seat.old.table ≡ table.now.table }
@@ -104,6 +106,42 @@ pub fn exchange(table: &TreeTable, seat: &mut TreeSeat, place: u64, old: u64, ne
     ensures exchanged { Exchanged seat.old.view event place old result seat.new.view }
 {
     exchange_as::<Brand>(table, seat, place, old, new)
+}
+
+fn exchange_all_as<N: NamedAll>(
+    table: &TreeTable,
+    seat: &mut TreeSeat,
+    place: u64,
+    old: u64,
+    new: u64,
+) -> u64
+    requires same_table { seat.old.table ≡ table.now.table }
+    requires within { place < word_count_of table.now }
+    requires events { CanExchangeAll seat.old.view place old new N.events }
+    ensures same_table { seat.new.table ≡ seat.old.table }
+    ensures exchanged { ExchangedAll seat.old.view N.events place old result seat.new.view }
+{
+    // All of `N.events` if `old` is found, and otherwise no event. Meets another's write of the word.
+    table
+        .table
+        .shared
+        .compare_exchange::<ExchangesAll<N>>(&mut seat.seat, place as usize, old, new)
+}
+
+/// Writes `new` if the word at the place is `old`, and returns the word that was found there.
+///
+/// If that was `old`, the step is all the named events: they are the last of the seat's log, in the
+/// order of the list and with no other event between them. Otherwise no word changes, and the step is
+/// a load.
+pub fn exchange_all(table: &TreeTable, seat: &mut TreeSeat, place: u64, old: u64, new: u64) -> u64
+    ghost events: { List Event }
+    requires same_table { seat.old.table ≡ table.now.table }
+    requires within { place < word_count_of table.now }
+    requires events { CanExchangeAll seat.old.view place old new events }
+    ensures same_table { seat.new.table ≡ seat.old.table }
+    ensures exchanged { ExchangedAll seat.old.view events place old result seat.new.view }
+{
+    exchange_all_as::<Brand>(table, seat, place, old, new)
 }
 
 fn exchange_or_lose_as<N: NamedEitherWay>(
@@ -119,18 +157,18 @@ fn exchange_or_lose_as<N: NamedEitherWay>(
     ensures same_table { seat.new.table ≡ seat.old.table }
     ensures exchanged { ExchangedEitherWay seat.old.view N.events place old result seat.new.view }
 {
-    // Root or Place where `old` is found, and otherwise Lose. Meets another's Root or Place.
+    // Root or Place if `old` is found, and otherwise Lose. Meets another's Root or Place.
     table
         .table
         .shared
         .compare_exchange::<ExchangesOrLoses<N>>(&mut seat.seat, place as usize, old, new)
 }
 
-/// Writes `new` where the word at the place is `old`, and answers the word that stood there.
+/// Writes `new` if the word at the place is `old`, and returns the word that was found there.
 ///
-/// Where that was `old`, the step is the first of the events that are named: the last of the seat's
-/// log. Otherwise no word changes, and the step is the second: the loss of the rows that would have
-/// been published.
+/// If that was `old`, the step is the first of the named events: the last of the seat's log.
+/// Otherwise no word changes, and the step is the second: the loss of the rows that would have been
+/// published.
 pub fn exchange_or_lose(
     table: &TreeTable,
     seat: &mut TreeSeat,

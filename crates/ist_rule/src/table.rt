@@ -30,7 +30,7 @@ impl Model for TreeTable {
 
 /// The token by which one thread steps on the words. It has no bytes.
 ///
-/// Contracts see the table that it is of, and what the seat knows.
+/// Contracts see its table and what the seat knows.
 #[derive(Drop)]
 pub struct TreeSeat {
     pub(crate) seat: Seat<(), View>,
@@ -49,7 +49,7 @@ impl Model for TreeSeat {
         × (s.seat.me.0.words ≡ s.seat.table_id.words) };
 }
 
-/// How many words the table has.
+/// Returns how many words the table has.
 pub fn word_count(table: &TreeTable) -> u64
     ensures value { result ≡ word_count_of table.now }
     ensures within { (4 ≤ result) × (result ≤ 2 ^ 28) }

@@ -22,7 +22,7 @@ pub struct Pending {
     pub length: u64,
 }
 
-/// A seat that met another at a join: whose it was, what it had seen, and what both had.
+/// A seat that met another at a join: whose it was, what it had seen, and the log of both.
 pub struct Met {
     pub who: Who,
     pub log: LinkedList<Event>,
@@ -36,13 +36,13 @@ pub struct Taken {
     pub log: LinkedList<Event>,
 }
 
-/// What a seat knows. No value of it is ever made: contracts alone see it.
+/// What a seat knows. No value of it is ever made: only contracts see it.
 ///
-/// `start` and `words` are those of the table. `log` is what was seen, the newest event first, and
-/// `olds` the two seats that met at the last join. `own` are the words of own rows, the newest first;
-/// `calls` the calls that were ended, the oldest first; `loaded` counts loads and failed exchanges.
-/// `made`, `given` and `taken` are the maker's: how many callers it entered, how many of these have
-/// their seats, and those that it took back.
+/// `start` and `words` are the table's. `log` is what was seen, the newest event first, and `olds`
+/// the two seats that met at the last join. `own` are the words of own rows, the newest first;
+/// `calls` the calls that were ended, the oldest first. `loaded` counts loads and failed exchanges,
+/// and `searches` the searches that the seat began. `made`, `given` and `taken` are the maker's:
+/// how many callers it entered, how many of these have their seats, and those that it took back.
 pub struct View {
     pub start: LinkedList<Pair>,
     pub words: u64,
@@ -54,13 +54,15 @@ pub struct View {
     pub stamp: u64,
     pub loads: Loads,
     pub loaded: u64,
+    pub searches: u64,
     pub pending: Option<Pending>,
     pub made: u64,
     pub given: u64,
     pub taken: LinkedList<Taken>,
 }
 
-/// What the table is told once: its start pairs, which contracts alone see, and its number of words.
+/// What the table is given once: its start pairs, which only contracts see, and its number of
+/// words.
 #[derive(Drop)]
 pub struct About {
     pub start: Snapshot<Vec<Pair>>,

@@ -1,5 +1,5 @@
-//! Loads that are events: a status that shows a node open, a slot of a marked node, and beside a
-//! pair row that is given up.
+//! Loads that are events: of a status that shows a node open, of a slot of a marked node, and one
+//! that gives up a pair row.
 ghost use Rattle.std.specs.Prelude.{◌≡◌, ◌+◌, ◌<◌};
 ghost use Rattle.ist_core.specs.RowLayout.{inner_status_offset};
 ghost use Rattle.ist_rule.specs.Faces.{word_count_of};
@@ -14,7 +14,7 @@ use crate::table::{TreeSeat, TreeTable};
 use ist_layout::INNER_STATUS_OFFSET;
 use std::marker::Brand;
 
-// The row and the index are there to name the event by.
+// The row and the index are parameters only to name the event.
 fn load_as<N: NamedByLog>(
     table: &TreeTable,
     seat: &mut TreeSeat,
@@ -36,10 +36,10 @@ fn load_as<N: NamedByLog>(
         .load::<LoadsAs<N>>(&mut seat.seat, place as usize)
 }
 
-/// Loads the status of the node of an installed change, which lies at `place`.
+/// Loads the status at `place`, of the node of an installed change.
 ///
-/// Where it is 0 and the change is undecided at this step, the step is the Okay of the change:
-/// the caller has seen the node open behind the installing. Meets the mark of the node.
+/// If it is 0 and the change is undecided at this step, the step is the Okay of the change: the
+/// caller has seen the node open after the installing. Meets the mark of the node.
 pub fn load_okay(table: &TreeTable, seat: &mut TreeSeat, change: u32, place: u64) -> u64
     requires same_table { seat.old.table ≡ table.now.table }
     requires may_load { CanLoadOkay seat.old.view change place }
@@ -50,10 +50,10 @@ pub fn load_okay(table: &TreeTable, seat: &mut TreeSeat, change: u32, place: u64
     load_as::<Brand>(table, seat, place, change, 0)
 }
 
-/// Loads slot `index` of a published node. The slot lies at `place`.
+/// Loads slot `index`, at `place`, of a published node.
 ///
-/// Where the node is marked at this step, and not finished, and the word is neither a change nor
-/// Unset, the step is the Pass of the slot: it is frozen from then on. Meets an installing in it.
+/// If the node is marked at this step and not finished, and the word is neither a change nor Unset,
+/// the step is the Pass of the slot: it is frozen from then on. Meets an installing in it.
 pub fn load_pass(table: &TreeTable, seat: &mut TreeSeat, node: u32, index: u64, place: u64) -> u64
     requires same_table { seat.old.table ≡ table.now.table }
     requires may_load { CanLoadPass seat.old.view node index place }
@@ -64,8 +64,8 @@ pub fn load_pass(table: &TreeTable, seat: &mut TreeSeat, node: u32, index: u64, 
     load_as::<Brand>(table, seat, place, node, index)
 }
 
-/// Loads the status of an inner row above the held pair row `pair`, which is lost by this step: a
-/// Lose. Meets no other's step.
+/// Loads the status of an inner row above the held pair row `pair`, which this step loses: a Lose.
+/// Meets no other's step.
 pub fn load_past(table: &TreeTable, seat: &mut TreeSeat, pair: u32, node: u32) -> u64
     requires same_table { seat.old.table ≡ table.now.table }
     requires may_load { CanLoadPast seat.old.view pair node }

@@ -22,6 +22,7 @@ module _ (p taken made q : PassFace) (seen : HasSeenMore taken made)
   behind : GoesOnWell made q
   behind = record { tree = looked.seen.tree; seen = looked.seen.seen; lawful = lawful_now }
 
+  -- a total read after a remove is of a position that isn't after the remove
   pub total_before : (shot : Frozen) (first last key : ℕ) (reply : Option ℕ) (total : Total)
       → HasTaken p taken shot → taken.calls ≡ p.calls → AddsCall taken made (Remove key) reply
       → ((position : ℕ) → IsOf made position shot

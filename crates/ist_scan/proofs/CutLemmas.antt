@@ -5,7 +5,7 @@ use Rattle.ist_core.specs.declared.pairs.Pair.{Pair}
 use Rattle.ist_core.specs.Map.{pairs_between}
 use Rattle.ist_scan.specs.Cuts.{CutsAt, IsCut, part_of}
 
--- the cut of the pairs behind the first
+-- the cut of the pairs after the first
 cut_behind : (x : Pair) (pairs : List Pair) (key count : ℕ) → CutsAt (x ∷ pairs) key (suc count)
     → CutsAt pairs key count
 cut_behind x pairs key count c =
@@ -36,7 +36,7 @@ key_within : (from last key : ℕ) → from ≤ key → key ≤ last
     → (nat_le from key && nat_le key last) ≡ true
 key_within from last key h k = grind (arith, nat_tests)
 
--- the pairs behind a first one that is left out, or kept
+-- the pairs after a first one that is left out, or kept
 left_out : (from last : ℕ) (x : Pair) (pairs : List Pair)
     → (nat_le from x.key && nat_le x.key last) ≡ false
     → pairs_between from last (x ∷ pairs) ≡ pairs_between from last pairs
@@ -47,7 +47,7 @@ kept : (from last : ℕ) (x : Pair) (pairs : List Pair)
     → pairs_between from last (x ∷ pairs) ≡ x ∷ pairs_between from last pairs
 kept from last x pairs e = rw e refl
 
--- where both ends of an interval cut the pairs, its pairs are those between
+-- if both ends of an interval cut the pairs, its pairs are those between the cuts
 pub cut_is : (pairs : List Pair) (from to low high : ℕ) → from < to → CutsAt pairs from low
     → CutsAt pairs to high → IsCut pairs from to low high
 cut_is [] from to low high some c d =
@@ -110,7 +110,7 @@ between_is pairs first last from to low high begins ends c =
 outside : (from last key : ℕ) → last < from → (nat_le from key && nat_le key last) ≡ false
 outside from last key h = grind (arith, nat_tests)
 
--- an interval whose last key is below its first has none
+-- an interval whose last key is below its first has no pairs
 pub none_between : (pairs : List Pair) (first last : ℕ) → last < first
     → pairs_between first last pairs ≡ []
 none_between [] first last less = refl

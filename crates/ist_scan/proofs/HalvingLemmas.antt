@@ -8,6 +8,7 @@ use Rattle.ist_core.specs.declared.pairs.Pair.{Pair}
 use Rattle.ist_scan.specs.Cuts.{IsBetween, IsHalved}
 use Rattle.ist_scan.proofs.PairLemmas.{rise}
 
+-- at first the search is between 0 and the number of pairs
 pub between_all : (pairs : List Pair) (key keys : ℕ) → length pairs ≡ keys
     → IsBetween pairs key 0 keys
 between_all pairs key keys long =
@@ -42,7 +43,7 @@ module _ (pairs : List Pair) (rising : IsStrictlyIncreasing (map (λ p. p.key) p
         above = b.above;
       }
 
-  -- it doesn't
+  -- if the bound is at most the key in the middle, the search goes down
   pub go_down : key ≤ x.key → IsBetween pairs key low middle
   go_down more =
       record {
@@ -57,6 +58,7 @@ module _ (pairs : List Pair) (rising : IsStrictlyIncreasing (map (λ p. p.key) p
 
 -- ---- how many looks it takes
 
+-- at first no look was made
 pub none_made : (keys : ℕ) → IsHalved keys 0 (keys - 0)
 none_made keys = record { shrunk = omega arith; few = omega arith }
 
@@ -68,7 +70,7 @@ power_above (suc looks) =
     let next = pow-suc 2 looks in
     omega (arith, before, next)
 
--- the power so far, where something is left
+-- the power so far, if something is left
 power_within : (keys looks left : ℕ) → 0 < left → IsHalved keys looks left → 2 ^ looks ≤ keys
 power_within keys looks left some h =
     let once = mul-le-mul_left {m = 1} {n = left} (2 ^ looks) (omega arith) in
@@ -85,7 +87,7 @@ one_more keys looks left less some h half =
     let double = mul-le-mul_left {m = less + less} {n = left} (2 ^ looks) half in
     record { shrunk = rw next (omega (arith, double, shrunk)); few = omega (arith, within, next) }
 
--- so that the looks can be counted
+-- the number of looks stays below the number of keys
 pub looks_fit : (keys looks left : ℕ) → 0 < left → IsHalved keys looks left → looks + 1 ≤ keys
 looks_fit keys looks left some h =
     let within = power_within keys looks left some h in

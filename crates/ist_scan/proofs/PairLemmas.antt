@@ -1,4 +1,4 @@
--- Pairs whose keys rise, by their numbers. Serves the searches of `looking.rt`.
+-- Pairs with strictly increasing keys, by their numbers. Serves the searches of `looking.rt`.
 use Rattle.std.proofs.Common.{◌≡◌, ℕ, ◌<◌, List, [], ◌∷◌, zero, suc, map, length, slice_get, slice_index_or, Some, ap, arith}
 use Rattle.std.specs.List.Sorted.{IsStrictlyIncreasing}
 use Rattle.std.proofs.lemmas.List.Kept.{AllPairs-from_increasing}

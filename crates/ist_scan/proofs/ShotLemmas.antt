@@ -7,7 +7,7 @@ use Rattle.ist_core.specs.Lawful.{Lawful}
 use Rattle.ist_core.specs.Logs.{GoesOn, same_log, one_event, Log}
 use Rattle.ist_core.specs.Map.{map_of, pairs_of}
 use Rattle.ist_core.specs.StartLayout.{start}
-use Rattle.ist_histories.proofs.ChangeLemmas.{changes_on}
+use Rattle.laws_histories.proofs.ChangeLemmas.{changes_on}
 use Rattle.ist_tree.specs.declared.freezing.Frozen.{Frozen}
 use Rattle.ist_tree.specs.Calls.{HasSeenMore}
 use Rattle.ist_tree.specs.Faces.{TreeFace, PassFace, changes_seen}
@@ -28,7 +28,7 @@ module _ (p q : PassFace) (on : GoesOnWell p q) where
       frozen_stays q.tree.start q.tree.words p.seen q.seen on.lawful on.seen shot
       (subst (λ (t : TreeFace). IsFrozen t.start t.words p.seen shot) (sym on.tree) f)
 
-  -- with its pairs
+  -- the shot keeps its frozen pairs
   pairs_on : (shot : Frozen) (pairs : List Pair) → IsFrozenFor p shot
       → HasFrozenPairs p.tree.start p.tree.words p.seen shot pairs
       → HasFrozenPairs q.tree.start q.tree.words q.seen shot pairs
@@ -37,6 +37,7 @@ module _ (p q : PassFace) (on : GoesOnWell p q) where
       (subst (λ (t : TreeFace). IsFrozen t.start t.words p.seen shot) (sym on.tree) f)
       (subst (λ (t : TreeFace). HasFrozenPairs t.start t.words p.seen shot pairs) (sym on.tree) h)
 
+  -- a shot keeps its pairs
   pub has_on : (shot : Frozen) (pairs : List Pair) → HasPairs p shot pairs → HasPairs q shot pairs
   has_on shot pairs h =
       record {
@@ -63,6 +64,7 @@ module _ (p q : PassFace) (on : GoesOnWell p q) where
       let long = length-append (changes_seen p) front.0 in
       omega arith
 
+  -- a shot keeps its positions
   pub of_on : (position : ℕ) (shot : Frozen) → IsOf p position shot → IsOf q position shot
   of_on position shot o =
       record {
@@ -73,11 +75,13 @@ module _ (p q : PassFace) (on : GoesOnWell p q) where
         number = subst (λ m. length (pairs_of m) ≡ shot.keys) (sym (map_on position o.within)) o.number;
       }
 
+-- shots stay
 pub shots_stay : ShotsStay
 shots_stay p q tree seen lawful position shot o =
     let on : GoesOnWell p q = record { tree = tree; seen = seen; lawful = lawful } in
     (of_on p q on position shot o, map_on p q on position o.within)
 
+-- later calls come after the shot
 pub later_calls : LaterCallsComeBehind
 later_calls p q position shot command reply o added =
     let within = o.within in
@@ -144,7 +148,7 @@ some_pairs p shot lawful f =
     let it = has_its_pairs p.tree.start p.tree.words p.seen lawful shot f in
     (it.found, record { frozen = f; has = it.has; number = it.number; rising = it.rising })
 
--- and no others
+-- a shot has one list of pairs
 pub one_pairs : (p : PassFace) (shot : Frozen) (found others : List Pair) → HasPairs p shot found
     → HasPairs p shot others → found ≡ others
 one_pairs p shot found others h k =
@@ -166,6 +170,7 @@ further : (a b c : Log) → GoesOn a b → GoesOn b c → GoesOn a c
 further a b _ g same_log = g
 further a b _ g (one_event event h) = one_event event (further a b _ g h)
 
+-- a pass that looked twice has looked
 pub looked_more : (p q r : PassFace) → HasLooked p q → HasLooked q r → HasLooked p r
 looked_more p q r a b =
     let low = a.seen.stamp in

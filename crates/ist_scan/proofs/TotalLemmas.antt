@@ -12,6 +12,7 @@ least_swap : (a b : ℕ) (o : Option ℕ) → least_with a (least_with b o) ≡ 
 least_swap a b None = ap Some (omega arith)
 least_swap a b (Some c) = ap Some (omega arith)
 
+-- the least value of some pairs and one more
 pub least_more : (pairs : List Pair) (x : Pair)
     → least_of (pairs ++ x ∷ []) ≡ least_with x.value (least_of pairs)
 least_more [] x = refl
@@ -23,6 +24,7 @@ greatest_swap : (a b : ℕ) (o : Option ℕ)
 greatest_swap a b None = ap Some (omega arith)
 greatest_swap a b (Some c) = ap Some (omega arith)
 
+-- the greatest value of some pairs and one more
 pub greatest_more : (pairs : List Pair) (x : Pair)
     → greatest_of (pairs ++ x ∷ []) ≡ greatest_with x.value (greatest_of pairs)
 greatest_more [] x = refl
@@ -68,12 +70,14 @@ total_more old new pairs x same keys sum least greatest =
 
 -- ---- a list of totals, one of which is written
 
+-- an entry after a write to it
 pub get_set_same : (totals : List Total) (i : ℕ) (x : Total) → i < length totals
     → slice_get (slice_set totals i x) i ≡ Some x
 get_set_same [] i x within = absurd (omega arith)
 get_set_same (t ∷ totals) zero x within = refl
 get_set_same (t ∷ totals) (suc i) x within = get_set_same totals i x (omega arith)
 
+-- another entry after a write
 pub get_set_other : (totals : List Total) (i k : ℕ) (x : Total) → k ≢ i
     → slice_get (slice_set totals i x) k ≡ slice_get totals k
 get_set_other [] i k x apart = refl

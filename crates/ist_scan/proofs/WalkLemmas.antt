@@ -1,4 +1,5 @@
--- A walk: where its next pair is, and that it stays there. Serves `walks.rt` and `laws.shots_stay`.
+-- A walk: the place of its next pair, and that it stays there. Serves `walks.rt` and
+-- `laws.shots_stay`.
 use Rattle.std.proofs.Common.{◌≡◌, ℕ, ◌+◌, ◌-◌, ◌<◌, ◌≤◌, true, List, [], ◌∷◌, zero, suc, length, map, drop, slice_get, Some, None, refl, sym, ap, ◌∙◌, subst, ⊎_elim, arith}
 use Rattle.std.specs.List.Sorted.{IsStrictlyIncreasing}
 use Rattle.std.proofs.lemmas.Bool.{cases_lt, false≢true}
@@ -17,6 +18,7 @@ use Rattle.ist_scan.proofs.CutLemmas.{cut_is, between_is, none_between}
 use Rattle.ist_scan.proofs.PairLemmas.{rise}
 use Rattle.ist_scan.proofs.ShotLemmas.{GoesOnWell, has_on, one_pairs, of_pairs}
 
+-- walks stay
 pub walks_stay : WalksStay
 walks_stay p q tree seen lawful w h =
     let on : GoesOnWell p q = record { tree = tree; seen = seen; lawful = lawful } in
@@ -32,9 +34,9 @@ walks_stay p q tree seen lawful w h =
           });
     }
 
--- ---- a key cuts rising pairs
+-- ---- a key cuts pairs with increasing keys
 
--- a key cuts rising pairs somewhere
+-- a key cuts pairs with increasing keys somewhere
 some_cut : (pairs : List Pair) (key : ℕ)
     → ((i j : ℕ) (x y : Pair) → slice_get pairs i ≡ Some x → slice_get pairs j ≡ Some y → i < j
     → x.key < y.key)
@@ -85,7 +87,7 @@ some_cut (x ∷ pairs) key rises =
 
 -- ---- the next pair
 
--- an interval that isn't empty is cut out of rising pairs
+-- an interval that isn't empty is cut out of pairs with increasing keys
 cut_of : (pairs : List Pair) → IsStrictlyIncreasing (map (λ p. p.key) pairs) → (first last start : ℕ)
     → first ≤ last → CutsAt pairs first start
     → (high : ℕ) × CutsAt pairs (last + 1) high × IsCut pairs first (last + 1) start high
@@ -99,7 +101,7 @@ pub get_part : (pairs : List Pair) (low high given : ℕ) → given < high - low
 get_part pairs low high given less =
     slice_get-take (high - low) (drop low pairs) given less ∙ slice_get-drop low pairs given
 
--- none is behind its end
+-- there is no pair after the end of a part
 pub none_behind : (pairs : List Pair) (low high given : ℕ) → high - low ≤ given
     → slice_get (part_of pairs low high) given ≡ None
 none_behind pairs low high given more =
@@ -108,7 +110,7 @@ none_behind pairs low high given more =
 
 module _ (pairs : List Pair) (rising : IsStrictlyIncreasing (map (λ p. p.key) pairs))
     (first last start given : ℕ) (c : CutsAt pairs first start) where
-  -- no pair comes where those of the interval were given
+  -- no pair comes once the pairs of the interval were given
   none_within : ((high : ℕ) → CutsAt pairs (last + 1) high → high ≤ start + given)
       → slice_get (pairs_between first last pairs) given ≡ None
   none_within behind =
@@ -134,14 +136,14 @@ module _ (pairs : List Pair) (rising : IsStrictlyIncreasing (map (λ p. p.key) p
       ap (λ l. slice_get l given) (between_is pairs first last first (last + 1) start cut.0 refl refl cut.2)
       ∙ get_part pairs start cut.0 given less ∙ at
 
-  -- where a pair is above the interval, none comes
+  -- if a pair is above the interval, no pair comes
   pub none_above : (x : Pair) → slice_get pairs (start + given) ≡ Some x → last < x.key
       → slice_get (pairs_between first last pairs) given ≡ None
   none_above x at over = none_within
       (λ high cut. ⊎_elim (λ (l : start + given < high). (let less = cut.below (start + given) x l at in
       absurd (omega (arith, less, over)))) (λ (h : high ≤ start + given). h) (cases_lt (start + given) high))
 
-  -- nor where all pairs were given
+  -- if all pairs were given, no pair comes
   pub none_left : length pairs ≤ start + given
       → slice_get (pairs_between first last pairs) given ≡ None
   none_left all = none_within (λ high cut. (let within = cut.within in omega arith))
@@ -172,7 +174,7 @@ begun_more p w b =
       next_is = omega arith;
     }
 
--- it is where it should be
+-- a walk that has begun is where it should be
 pub walked : (p : PassFace) (w : WalkFace) → w.begun ≡ true → HasBegun p w → HasWalked p w
 walked p w begun b =
     record { fresh = λ not. absurd (false≢true (sym not ∙ begun)); way = λ _. b }
@@ -192,7 +194,7 @@ record HasBegunBy (pairs : List Pair) (w : WalkFace) : Type 0 where
   cut : CutsAt pairs w.first start
   next_is : w.next ≡ start + w.given
 
--- what comes next in a walk that has begun, by the pair with the number that it has come to: of the
+-- what comes next in a walk that has begun, by the pair whose number it has reached; stated of the
 -- walk as it was
 module _ (p : PassFace) (v w : WalkFace) (b : HasBegun p w) (one : AreOneWalk v w)
     (given : w.given ≡ v.given) (pairs : List Pair) (h : HasPairs p w.shot pairs) where
@@ -209,18 +211,21 @@ module _ (p : PassFace) (v w : WalkFace) (b : HasBegun p w) (one : AreOneWalk v 
       ∙ ap (λ n. slice_get (pairs_between v.first n pairs) w.given) one.last
       ∙ ap (slice_get (pairs_between v.first v.last pairs)) given
 
+  -- if the pair is in the interval, it is the next one
   pub comes : (x : Pair) → slice_get pairs w.next ≡ Some x → x.key ≤ w.last
       → Some x ≡ slice_get (pairs_between v.first v.last pairs) v.given
   comes x at low =
       sym (next_is pairs h.rising w.first w.last these.start w.given these.cut x
       (ap (slice_get pairs) (sym these.next_is) ∙ at) low) ∙ as_it_was
 
+  -- if the pair is above the interval, no pair comes next
   pub ends_above : (x : Pair) → slice_get pairs w.next ≡ Some x → w.last < x.key
       → None ≡ slice_get (pairs_between v.first v.last pairs) v.given
   ends_above x at over =
       sym (none_above pairs h.rising w.first w.last these.start w.given these.cut x
       (ap (slice_get pairs) (sym these.next_is) ∙ at) over) ∙ as_it_was
 
+  -- if all pairs were given, no pair comes next
   pub ends_with_all : w.shot.keys ≤ w.next
       → None ≡ slice_get (pairs_between v.first v.last pairs) v.given
   ends_with_all all =

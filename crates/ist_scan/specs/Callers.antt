@@ -1,4 +1,4 @@
--- What a caller gets that takes a shot, goes on, and reads the shot then.
+-- The result of a caller that takes a shot, goes on, and then reads the shot.
 use Rattle.std.specs.Prelude.{◌≡◌, ℕ, ◌≤◌, [], ◌∷◌, ◌++◌, length}
 use Rattle.ist_core.specs.declared.calls.Call.{Call}
 use Rattle.ist_core.specs.declared.commands.Command.TheVariants.{Remove}
@@ -8,8 +8,8 @@ use Rattle.ist_scan.specs.declared.totals.Total.{Total}
 use Rattle.ist_scan.specs.Shots.{map_seen}
 use Rattle.ist_scan.specs.Totals.{total_of}
 
--- the total is that of the map at one position, no lower than what the pass had seen; and the pass made
--- one call more, a remove of the key, at that position or behind it
+-- the total is the map's at one position, not before what the pass had seen; and the pass made one
+-- more call, a remove of the key, at that position or after it
 pub record IsTotalBefore (p q : PassFace) (first last key : ℕ) (total : Total) : Type 0 where
   pub position : ℕ
   pub fresh : length (changes_seen p) ≤ position

@@ -12,19 +12,19 @@ use Rattle.ist_tree.specs.Calls.{HasSeenMore, AddsCall}
 use Rattle.ist_tree.specs.Faces.{PassFace, changes_seen}
 use Rattle.ist_tree.specs.Freezing.{IsFrozenFor, HasFrozenPairs}
 
--- the map behind so many of the changes that the pass has seen
+-- the map after this many of the changes that the pass has seen
 abbrev pub map_seen : PassFace → ℕ → Map
 map_seen p position = map_at (map_of p.tree.start) (changes_seen p) position
 
 -- the shot is of this position, for the pass: it is frozen in what the pass has seen, and its pairs
--- are those of the map there, as many as it has keys
+-- are the map's there, as many as it has keys
 pub record IsOf (p : PassFace) (position : ℕ) (shot : Frozen) : Type 0 where
   pub within : position ≤ length (changes_seen p)
   pub frozen : IsFrozenFor p shot
   pub pairs : HasFrozenPairs p.tree.start p.tree.words p.seen shot (pairs_of (map_seen p position))
   pub number : length (pairs_of (map_seen p position)) ≡ shot.keys
 
--- the shot was taken in the call: it is of a position that isn't before what the pass had seen
+-- the shot was taken in the call: its position isn't before what the pass had seen
 pub record HasTaken (p q : PassFace) (shot : Frozen) : Type 0 where
   pub position : ℕ
   pub fresh : length (changes_seen p) ≤ position
@@ -37,8 +37,8 @@ pub record HasPairs (p : PassFace) (shot : Frozen) (pairs : List Pair) : Type 0 
   pub number : length pairs ≡ shot.keys
   pub rising : IsStrictlyIncreasing (map (λ pair. pair.key) pairs)
 
--- the pass looked at a shot: it has seen more, and its calls and refusals are as before; and each
--- shot is of the positions that it was of, and has the pairs that it had
+-- the pass looked at a shot: it has seen more, its calls and refusals are as before, and each shot
+-- keeps its positions and its pairs
 pub record HasLooked (p q : PassFace) : Type 0 where
   pub seen : HasSeenMore p q
   pub calls : q.calls ≡ p.calls
@@ -49,7 +49,7 @@ pub record HasLooked (p q : PassFace) : Type 0 where
 
 -- ---- laws
 
--- a shot of a position is so for each pass that has seen more, and the map there is the same
+-- a shot of a position keeps it for each pass that has seen more, and the map there is the same
 abbrev pub ShotsStay : Type 0
 ShotsStay =
     (p q : PassFace) → q.tree ≡ p.tree → GoesOn p.seen q.seen
@@ -57,7 +57,7 @@ ShotsStay =
     → (position : ℕ) (shot : Frozen) → IsOf p position shot
     → IsOf q position shot × (map_seen q position ≡ map_seen p position)
 
--- each later call of the pass is at the position of the shot or behind it
+-- each later call of the pass is at the position of the shot or after it
 abbrev pub LaterCallsComeBehind : Type 0
 LaterCallsComeBehind =
     (p q : PassFace) (position : ℕ) (shot : Frozen) (command : Command) (reply : Option ℕ)

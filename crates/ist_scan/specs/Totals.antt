@@ -1,4 +1,4 @@
--- What the readings of some pairs come to.
+-- The readings of some pairs, summed up.
 use Rattle.std.specs.Prelude.{ℕ, ◌+◌, ◌*◌, ◌-◌, min, max, List, [], ◌∷◌, length, Option, Some, None}
 use Rattle.std.specs.List.{sum_by}
 use Rattle.ist_core.specs.declared.pairs.Pair.{Pair}
@@ -10,7 +10,7 @@ abbrev pub least_with : ℕ → Option ℕ → Option ℕ
 least_with n None = Some n
 least_with n (Some m) = Some (min n m)
 
--- the greater of both
+-- the greater of a number and of another, if there is one
 abbrev pub greatest_with : ℕ → Option ℕ → Option ℕ
 greatest_with n None = Some n
 greatest_with n (Some m) = Some (max n m)
@@ -20,7 +20,7 @@ abbrev pub least_of : List Pair → Option ℕ
 least_of [] = None
 least_of (pair ∷ pairs) = least_with pair.value (least_of pairs)
 
--- the greatest one
+-- the greatest value of some pairs, if there are any
 abbrev pub greatest_of : List Pair → Option ℕ
 greatest_of [] = None
 greatest_of (pair ∷ pairs) = greatest_with pair.value (greatest_of pairs)

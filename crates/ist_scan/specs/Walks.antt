@@ -8,8 +8,8 @@ use Rattle.ist_tree.specs.Faces.{PassFace}
 use Rattle.ist_scan.specs.Cuts.{CutsAt}
 use Rattle.ist_scan.specs.Shots.{HasPairs}
 
--- a walk: the shot that it is of, its interval, how many pairs it has given; and the number of the next
--- pair, once the first one was looked for
+-- a walk: its shot, its interval, how many pairs it has given, and the number of the next pair once
+-- the first one was looked for
 pub record WalkFace : Type 0 where
   pub shot : Frozen
   pub first : ℕ
@@ -24,8 +24,8 @@ pub record AreOneWalk (w v : WalkFace) : Type 0 where
   pub first : v.first ≡ w.first
   pub last : v.last ≡ w.last
 
--- a walk that has begun: where the first pair of its interval is among those of the shot, and the next
--- one behind those that were given
+-- a walk that has begun: where the first pair of its interval is among the pairs of the shot; the
+-- next pair comes after those that were given
 pub record HasBegun (p : PassFace) (w : WalkFace) : Type 0 where
   pub pairs : List Pair
   pub has : HasPairs p w.shot pairs

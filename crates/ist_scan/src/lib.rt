@@ -1,8 +1,8 @@
-//! Listing a tree while passes work on it: a shot is the map as it was at one position, which is listed, added up and walked
-//! over while puts and removes go on.
+//! Listing a tree while passes work on it: a shot is the map as it was at one position, which is
+//! listed, added up and walked over while puts and removes go on.
 //!
-//! `specs/Shots.antt` says what a shot is; `src/shots.rt` has the calls; `src/callers.rt` is a caller to start from. Stands on
-//! `ist_tree` by its `freeze` and `frozen_pair` alone.
+//! `specs/Shots.antt` says what a shot is; `src/shots.rt` has the calls; `src/callers.rt` is a
+//! caller to start from. Of `ist_tree` only `freeze` and `frozen_pair` are used.
 #![tactic(auto)]
 
 mod callers;

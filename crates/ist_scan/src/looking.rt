@@ -8,21 +8,21 @@ ghost use Rattle.ist_scan.specs.Shots.{HasLooked, HasPairs};
 use ist_core::Pair;
 use ist_tree::{Frozen, Pass, Tree};
 
-// Where a key cuts the pairs, and at how many pairs the search for that looked.
+// The place where a key cuts the pairs, and how many pairs the search looked at.
 #[derive(Clone, Copy, Drop)]
 pub(crate) struct Cut {
     pub(crate) count: u64,
     pub(crate) looks: u64,
 }
 
-// The pairs from number `low` on, to the one before `high`.
+// The pairs from number `low` on, up to the one before `high`.
 #[derive(Clone, Copy, Drop)]
 pub(crate) struct Ends {
     pub(crate) low: u64,
     pub(crate) high: u64,
 }
 
-// The pair number `i` of the shot.
+// Returns pair number `i` of the shot.
 pub(crate) fn pair_at(tree: &Tree, pass: &mut Pass, shot: Frozen, i: u64) -> Pair
     requires same_tree { pass.old.tree ≡ tree.now }
     requires frozen { IsFrozenFor pass.old shot }
@@ -36,15 +36,15 @@ pub(crate) fn pair_at(tree: &Tree, pass: &mut Pass, shot: Frozen, i: u64) -> Pai
     pair
 }
 
-// How many pairs the shot has.
+// Returns how many pairs the shot has.
 fn keys_of(shot: Frozen) -> u64
     ensures value { result ≡ shot.keys }
 {
     shot.keys
 }
 
-// How many pairs of the shot have keys below the bound, by halving: at no more looks than one and the
-// logarithm of the keys, to base two.
+// Returns how many pairs of the shot have keys below the bound, by halving: with at most one look
+// more than the logarithm of the keys to base two.
 pub(crate) fn count_below(tree: &Tree, pass: &mut Pass, shot: Frozen, bound: u128) -> Cut
     requires same_tree { pass.old.tree ≡ tree.now }
     requires frozen { IsFrozenFor pass.old shot }
@@ -69,7 +69,7 @@ pub(crate) fn count_below(tree: &Tree, pass: &mut Pass, shot: Frozen, bound: u12
     Cut { count: low, looks }
 }
 
-// The pairs of the shot with keys from one number on and below another.
+// Returns the pairs of the shot with keys from `from` on and below `to`, as numbers.
 pub(crate) fn ends_of(tree: &Tree, pass: &mut Pass, shot: Frozen, from: u128, to: u128) -> Ends
     requires same_tree { pass.old.tree ≡ tree.now }
     requires frozen { IsFrozenFor pass.old shot }

@@ -1,4 +1,4 @@
-//! A shot: the map as it was at one position, and what it answers.
+//! A shot: the map as it was at one position, and its readings.
 ghost use Rattle.std.specs.Prelude.{◌≡◌, ℕ, ◌+◌, ◌-◌, ◌*◌, ◌<◌, ◌≤◌, List, length, slice_get, Some, IfOk, IfErr, OnErr};
 ghost use Rattle.ist_core.specs.declared.pairs.Pair.{Pair};
 ghost use Rattle.ist_tree.specs.Faces.{PassFace};
@@ -18,13 +18,12 @@ use ist_core::{Full, Pair};
 use ist_tree::{Frozen, Pass, Tree};
 use std::alloc::{AllocError, Global};
 use std::marker::Model;
-use std::sync::Wait;
 
 /// The map as it was at one position among the changes: what a pass froze.
 ///
-/// Whatever other passes do, each answer of a shot is of that one position. Each call asks that it
-/// is frozen in what the pass has seen: so it is for the pass that took it, and for each pass that
-/// has learnt of that since.
+/// Whatever other passes do, all that a shot returns is of that one position. Each call asks that
+/// the shot is frozen in what the pass has seen. This holds for the pass that took it, and for each
+/// pass that has learnt of that since.
 #[derive(Debug, Drop)]
 pub struct Shot {
     frozen: Frozen,
@@ -38,7 +37,7 @@ impl Model for Shot {
     ghost view = { λ s. s.frozen };
 }
 
-// The total of the pairs of the shot from number `low` on, to the one before `high`.
+// Returns the total of the pairs of the shot from number `low` on, up to the one before `high`.
 fn total_at(tree: &Tree, pass: &mut Pass, shot: Frozen, ends: Ends) -> Total
     requires same_tree { pass.old.tree ≡ tree.now }
     requires frozen { IsFrozenFor pass.old shot }
@@ -56,7 +55,7 @@ fn total_at(tree: &Tree, pass: &mut Pass, shot: Frozen, ends: Ends) -> Total
     total
 }
 
-// The pairs of the shot from number `low` on, to the one before `high`.
+// Returns the pairs of the shot from number `low` on, up to the one before `high`.
 fn list_at(
     alloc: Global,
     tree: &Tree,
@@ -79,7 +78,7 @@ fn list_at(
     Ok(list)
 }
 
-// The total of bin number `j` of this width.
+// Returns the total of bin number `j` of this width.
 fn bin_at(tree: &Tree, pass: &mut Pass, shot: Frozen, first: u64, width: u64, j: u64) -> Total
     requires same_tree { pass.old.tree ≡ tree.now }
     requires frozen { IsFrozenFor pass.old shot }
@@ -96,9 +95,10 @@ fn bin_at(tree: &Tree, pass: &mut Pass, shot: Frozen, first: u64, width: u64, j:
 impl Shot {
     /// Takes a shot of the map: freezes the tree at one moment of the call, and rebuilds it.
     ///
-    /// Its position isn't before what the pass had seen. The calls of the pass are as before. `Full`
-    /// where the tree had too few words left for a row of the rebuild's start; then none was taken.
-    pub fn take<R: Wait>(tree: &Tree, rt: &R, pass: &mut Pass) -> Result<Shot, Full>
+    /// Its position isn't before what the pass had seen. The calls of the pass are as before.
+    /// Returns `Full` if the tree had too few words left for a row of the rebuild's start; then no
+    /// shot was taken.
+    pub fn take(tree: &Tree, pass: &mut Pass) -> Result<Shot, Full>
         requires same_tree { pass.old.tree ≡ tree.now }
         ensures seen { HasSeenMore pass.old pass.new }
         ensures frozen { IfOk result (IsFrozenFor pass.new) }
@@ -109,28 +109,28 @@ impl Shot {
         ensures unrefused { OnErr result (pass.new.refused ≡ pass.old.refused) }
         ensures refused { KeepsRefusal pass.old pass.new }
     {
-        let frozen = tree.freeze(rt, pass)?;
+        let frozen = tree.freeze(pass)?;
         pass.know();
         Ok(Shot { frozen })
     }
 
-    // What was frozen.
+    // Returns what was frozen.
     pub(crate) fn frozen(&self) -> Frozen
         ensures value { result ≡ self.now }
     {
         self.frozen
     }
 
-    /// How many pairs it has.
+    /// Returns how many pairs it has.
     pub fn keys(&self) -> u64
         ensures value { result ≡ self.now.keys }
     {
         self.frozen.keys
     }
 
-    /// The pairs with keys from `first` to `last`, both included, rising by key; none where `first` is
-    /// above `last`. Looks at about two logarithms of pairs to find the ends, and then at those that
-    /// it lists. Fails for want of memory alone.
+    /// Returns the pairs with keys from `first` to `last`, both included, by increasing key; no
+    /// pairs if `first` is above `last`. Looks at about two logarithms of pairs to find the ends,
+    /// and then at the pairs that it lists. Fails only if memory runs out.
     pub fn list(
         &self,
         alloc: Global,
@@ -154,8 +154,8 @@ impl Shot {
         list_at(alloc, tree, pass, shot, ends)
     }
 
-    /// How many pairs have keys from `first` to `last`, both included, the sum of their values, the
-    /// least and the greatest of them. Takes no memory.
+    /// Returns how many pairs have keys from `first` to `last`, both included, the sum of their
+    /// values, and the least and the greatest of these. Allocates nothing.
     pub fn total(&self, tree: &Tree, pass: &mut Pass, first: u64, last: u64) -> Total
         requires same_tree { pass.old.tree ≡ tree.now }
         requires frozen { IsFrozenFor pass.old self.now }
@@ -172,9 +172,9 @@ impl Shot {
         total_at(tree, pass, shot, ends)
     }
 
-    /// The totals of bins of one width: entry `j` becomes that of the keys from `first + j * width` to
-    /// `first + (j + 1) * width - 1`, whatever it was. A bin above all keys has no pairs. Takes no
-    /// memory.
+    /// Writes the totals of bins of one width. Entry `j` becomes the total of the keys from
+    /// `first + j * width` to `first + (j + 1) * width - 1`, whatever it was. A bin above all keys
+    /// has no pairs. Allocates nothing.
     pub fn bins(&self, tree: &Tree, pass: &mut Pass, first: u64, width: u64, out: &mut [Total])
         requires same_tree { pass.old.tree ≡ tree.now }
         requires frozen { IsFrozenFor pass.old self.now }
@@ -192,7 +192,7 @@ impl Shot {
         }
     }
 
-    /// A walk over the pairs with keys from `first` to `last`, both included.
+    /// Begins a walk over the pairs with keys from `first` to `last`, both included.
     pub fn walk(&self, first: u64, last: u64) -> Walk
         ensures shot { result.shot ≡ self.now }
         ensures first { result.first ≡ first }

@@ -1,8 +1,8 @@
-//! What the readings of some pairs come to.
+//! The readings of some pairs, summed up.
 ghost use Rattle.std.specs.Prelude.{◌≡◌, ◌+◌, ◌*◌, ◌^◌, ◌<◌, ◌≤◌, []};
 ghost use Rattle.ist_scan.specs.Totals.{total_of, least_with, greatest_with};
 
-/// What the readings of some pairs come to: how many pairs there are, the sum of their values, the
+/// The readings of some pairs, summed up: how many pairs there are, the sum of their values, the
 /// least and the greatest of them.
 #[derive(Clone, Copy, Debug, PartialEq, Eq, Drop)]
 pub struct Total {
@@ -10,14 +10,14 @@ pub struct Total {
     pub keys: u64,
     /// The sum of their values.
     pub sum: u128,
-    /// The least value; none of no pairs.
+    /// The least value; `None` if there are no pairs.
     pub least: Option<u64>,
-    /// The greatest value; none of no pairs.
+    /// The greatest value; `None` if there are no pairs.
     pub greatest: Option<u64>,
 }
 
 impl Total {
-    /// The total of no pairs.
+    /// Returns the total of no pairs.
     pub fn of_none() -> Total
         ensures value { result ≡ total_of [] }
     {
@@ -29,7 +29,7 @@ impl Total {
         }
     }
 
-    // The total with one value more.
+    // Returns the total with one more value.
     pub(crate) fn with(self, value: u64) -> Total
         requires few { self.keys + 1 < 2 ^ 64 }
         requires sum { self.sum ≤ self.keys * 2 ^ 64 }

@@ -11,10 +11,10 @@ use ist_core::Pair;
 use ist_tree::{Frozen, Pass, Tree};
 use std::marker::Model;
 
-/// A walk over the pairs of a shot between two keys, both included, rising by key.
+/// A walk over the pairs of a shot between two keys, both included, by increasing key.
 ///
-/// Contracts see the shot that it is of, its interval, how many pairs it has given, and the number of
-/// the next pair, once the first was looked for.
+/// Contracts see its shot, its interval, how many pairs it has given, and the number of the next
+/// pair once the first was looked for.
 #[derive(Debug, Drop)]
 pub struct Walk {
     frozen: Frozen,
@@ -44,7 +44,7 @@ impl Model for Walk {
 }
 
 impl Walk {
-    // A walk that has given no pair.
+    // Makes a walk that has given no pair.
     pub(crate) fn new(frozen: Frozen, first: u64, last: u64) -> Walk
         ensures shot { result.shot ≡ frozen }
         ensures first { result.first ≡ first }
@@ -62,7 +62,8 @@ impl Walk {
         }
     }
 
-    // Looks for the first pair of the interval, unless that was done. Gives at how many pairs it looked.
+    // Looks for the first pair of the interval, unless that was done. Returns how many pairs it
+    // looked at.
     fn begin(&mut self, tree: &Tree, pass: &mut Pass, shot: Frozen) -> u64
         requires same_tree { pass.old.tree ≡ tree.now }
         requires its_shot { self.old.shot ≡ shot }
@@ -86,12 +87,12 @@ impl Walk {
         cut.looks
     }
 
-    /// The next pair; none exactly behind the last. The shot is that of the walk, which is where it
-    /// should be for the pass: so it is for the pass that walked so far, and for each pass that has
-    /// learnt of that since.
+    /// Returns the next pair, and `None` exactly after the last. The shot must be the walk's, and
+    /// the walk must be where it should be for the pass. This holds for the pass that walked so
+    /// far, and for each pass that has learnt of that since.
     ///
-    /// The first call looks for the first key, at about a logarithm of pairs; each call looks at one
-    /// pair besides. Takes no memory.
+    /// The first call looks for the first key, at about a logarithm of pairs; each call also looks
+    /// at one pair. Allocates nothing.
     pub fn next(&mut self, tree: &Tree, pass: &mut Pass, shot: &Shot) -> Option<Pair>
         requires same_tree { pass.old.tree ≡ tree.now }
         requires its_shot { self.old.shot ≡ shot.now }

@@ -4,8 +4,8 @@ use Rattle.ist_core.specs.declared.commands.Command.{Command}
 use Rattle.ist_core.specs.Deciding.{AllResolvedOf}
 use Rattle.ist_core.specs.Lawful.{state_of}
 use Rattle.ist_core.specs.Logs.{same_log}
-use Rattle.ist_histories.specs.Calls.{HasCalls}
-use Rattle.ist_histories.proofs.CallLemmas.{keep_calls}
+use Rattle.laws_histories.specs.Calls.{HasCalls}
+use Rattle.laws_histories.proofs.CallLemmas.{keep_calls}
 use Rattle.ist_rule.specs.declared.view.View.{View}
 use Rattle.ist_core.specs.declared.events.Who.TheVariants.{Caller as CallerOf}
 use Rattle.ist_core.specs.Authors.{Later}
@@ -24,15 +24,18 @@ use Rattle.std.proofs.Math.Nat.{le_refl}
 module _ (who : Caller) (seat : SeatFace) (command : Command) (s : IsSound who.seat.view)
     (p : IsPass who)
     (begun : Turned who.seat.view (beginning who.seat.view (Some command)) seat.view) where
+  -- the view before the call
   abbrev v : View
   v = who.seat.view
 
+  -- the view when the call has begun
   abbrev b : View
   b = seat.view
 
   later : Later (CallerOf who.number) v.log b.log
   later = subst (λ x. Later x v.log b.log) p.caller.mine begun.later
 
+  -- the begun view is a later one
   pub begun_view : IsLaterView v b
   begun_view =
       record {
@@ -43,7 +46,7 @@ module _ (who : Caller) (seat : SeatFace) (command : Command) (s : IsSound who.s
         sound = begun.sound;
       }
 
-  -- its calls stand in the log that it has seen by then
+  -- its calls are placed in the log that it has seen by then
   pub begun_calls : HasCalls b.start b.words b.log who.number b.stamp b.calls
   begun_calls =
       subst (λ (y : View). HasCalls y.start y.words b.log who.number y.stamp y.calls)

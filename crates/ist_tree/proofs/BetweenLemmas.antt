@@ -1,10 +1,10 @@
--- A caller between calls: its calls stand in the log that it has seen, and in each that goes on from
--- it by others. Serves all calls of a pass.
+-- A caller between calls: its calls are placed in the log that it has seen, and in each log that
+-- goes on from it by others. Serves all calls of a pass.
 use Rattle.std.proofs.Common.{◌≡◌, ℕ, None, sym, ◌∙◌, subst}
 use Rattle.ist_core.specs.Logs.{Log}
 use Rattle.ist_core.specs.Lawful.{Lawful}
-use Rattle.ist_histories.specs.Calls.{MadeNoEntry, HasCalls}
-use Rattle.ist_histories.proofs.CallLemmas.{stand_on}
+use Rattle.laws_histories.specs.Calls.{MadeNoEntry, HasCalls}
+use Rattle.laws_histories.proofs.CallLemmas.{stand_on}
 use Rattle.ist_rule.specs.declared.view.View.{View}
 use Rattle.ist_core.specs.declared.events.Who.TheVariants.{Caller as CallerOf}
 use Rattle.ist_core.specs.Authors.{Later}
@@ -14,23 +14,23 @@ use Rattle.ist_rule.proofs.CallLemmas.{between_later}
 
 module _ (v : View) (number : ℕ) (s : IsSound v) (mine : v.who ≡ CallerOf number)
     (none : v.pending ≡ None) where
-  -- the entries of the caller are those of its calls, and its changes are resolved
+  -- the entries of the caller are its calls' entries, and its changes are resolved
   pub between_calls : IsBetween v.start v.words v.log number v.calls
   between_calls =
       subst (CallStands v.start v.words v.log number v.calls) none (s.is_true.call number mine)
 
-  -- so it is in a log that goes on by others
+  -- this stays so in a log that goes on by others
   pub between_behind : (log : Log) → Lawful v.start v.words log → Later (CallerOf number) v.log log
       → IsBetween v.start v.words log number v.calls
   between_behind log lawful l =
       between_later v.start v.words number v.calls v.log log lawful.enabled l between_calls
 
-  -- the caller has no entry more there
+  -- the caller has no more entries there
   pub no_entry_behind : (log : Log) → Lawful v.start v.words log
       → Later (CallerOf number) v.log log → MadeNoEntry v.start v.words number v.log log
   no_entry_behind log lawful l = (between_behind log lawful l).made ∙ sym between_calls.made
 
-  -- its calls stand in all that it has seen, and have stamps up to its own
+  -- its calls are placed in all that it has seen, and have stamps up to its own
   pub has_its_calls : HasCalls v.start v.words v.log number v.stamp v.calls
   has_its_calls =
       let at = s.well_made.stands number (subst (KeepsCalls number) (sym mine) its_own) in

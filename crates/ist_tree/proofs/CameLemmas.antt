@@ -1,5 +1,5 @@
--- The rows that came to their limits by the counts of a call, and the closed rows above them. Serves
--- `update`.
+-- The rows that reached their limits by the counts of a call, and the closed rows above them.
+-- Serves `update`.
 use Rattle.std.proofs.Common.{◌≡◌, ℕ, ◌≤◌, ◌⊎◌, List, [], ◌∷◌, ◌++◌, length, refl, sym, ◌∙◌, subst, inl, inr, ⊎_elim, arith}
 use Rattle.ist_core.specs.declared.events.Event.{Event}
 use Rattle.ist_core.specs.declared.events.Event.TheVariants.{Count}
@@ -17,9 +17,9 @@ use Rattle.ist_core.proofs.ElementLemmas.{among-append, among_left, among_right}
 use Rattle.ist_core.proofs.FateLemmas.{enabled_before}
 use Rattle.ist_core.proofs.MentionLemmas.{one_parent}
 use Rattle.ist_core.proofs.PrefixLemmas.{ever_from}
-use Rattle.ist_settling.specs.Settling.{CountsNothing, DueRowsAreClosed, HasClosedAbove, MadeDue, due_before, due_now}
-use Rattle.ist_settling.proofs.DoneLemmas.{closed_above_stays}
-use Rattle.ist_stability.proofs.LaterLemmas.{ever_later}
+use Rattle.laws_settling.specs.Settling.{CountsNothing, DueRowsAreClosed, HasClosedAbove, MadeDue, due_before, due_now}
+use Rattle.laws_settling.proofs.DoneLemmas.{closed_above_stays}
+use Rattle.laws_stability.proofs.LaterLemmas.{ever_later}
 use Rattle.ist_rule.proofs.LaterLemmas.{between, goes_on_length, goes_on_more}
 use Rattle.ist_updates.specs.Counting.{CameToLimit}
 use Rattle.ist_tree.specs.Working.{IsShut}
@@ -59,10 +59,10 @@ up_to event at before on never =
     ⊎_elim (λ e. absurd (never (subst (GoesOn (event ∷ at)) (sym e) same_log))) (λ k. k)
     (whole_or_before before event at on)
 
--- ---- rows that came to their limits
+-- ---- rows that reached their limits
 
 module _ (pairs : List Pair) (words number : ℕ) where
-  -- what came so in a part of a log came so in all of it
+  -- a row that reached its limit in a part of a log did so in all of it
   pub came_within : (earlier before log longer : Log) → GoesOn earlier before → GoesOn log longer
       → (node : ℕ) → CameToLimit pairs words before log number node
       → CameToLimit pairs words earlier longer number node
@@ -76,7 +76,7 @@ module _ (pairs : List Pair) (words number : ℕ) where
         reached = c.reached;
       }
 
-  -- and the other way round, where nothing was counted before and behind
+  -- and the other way round, if nothing was counted before and after
   pub came_inside : (P Q : Event → Type 0) → ((event : Event) → P event → CountsNothing number event)
       → ((event : Event) → Q event → CountsNothing number event)
       → (earlier before log longer : Log) → GoesOnBy P earlier before → GoesOn before log
@@ -111,7 +111,7 @@ module _ (pairs : List Pair) (words number : ℕ) where
       begun (inl k) = absurd (later k)
       begun (inr k) = up_to (Count number node) c.at before k later
 
-  -- a row that was made due was so before, or came to its limit since
+  -- a row that was made due was made so before, or reached its limit since
   pub made_or_came : (earlier log : Log) → GoesOn earlier log → (node : ℕ)
       → MadeDue (start pairs words) number node log
       → MadeDue (start pairs words) number node earlier
@@ -143,7 +143,8 @@ module _ (pairs : List Pair) (words number : ℕ) where
       at event (due_before _ m) before =
           ⊎_elim (λ k. inl k) (λ c. inr (more event c)) (before m)
 
-  -- so all rows that were made due have a closed row above, where those that came so have
+  -- so all rows that were made due have a closed row above, if each that reached its limit since
+  -- has one
   pub due_since : (earlier log : Log) → Lawful pairs words log → GoesOn earlier log
       → ((node : ℕ) → CameToLimit pairs words earlier log number node
       → HasClosedAbove (start pairs words) log node)
@@ -156,7 +157,7 @@ module _ (pairs : List Pair) (words number : ℕ) where
 
 -- ---- the row above
 
--- what is true of the state behind a log was true at some moment of it
+-- what is true of the state after a log was true at some moment of it
 pub ever_here : (first : Snapshot) (P : Snapshot → Type 0) (at : Log) → P (state first at)
     → Ever first P at
 ever_here first P [] h = h
@@ -208,7 +209,7 @@ module _ (pairs : List Pair) (words : ℕ) (l : CanOpen pairs words) (log : Log)
           (λ b. inr (among_left parent rows (child ∷ []) (subst (λ n. Among n rows) e b)))
           (on_own_chain (state_of pairs words m) above rows chain)
 
-  -- so where a row on a chain or its parent isn't open, some row on the chain isn't
+  -- so if a row on a chain or its parent isn't open, some row on the chain isn't
   pub closed_above : (node row parent index : ℕ) → WasOnChain (start pairs words) log node row
       → Ever (start pairs words) (λ t. IsChild t parent index row) log
       → IsShut (state_of pairs words log) parent row → HasClosedAbove (start pairs words) log node

@@ -1,5 +1,6 @@
--- What carrying out an update comes to, with the rebuild of the row that it made due. Serves `update`.
-use Rattle.std.proofs.Common.{◌≡◌, ◌≢◌, ℕ, ◌⊎◌, true, List, Option, Some, None, Result, Ok, Err, IfErr, OnOk, sym, ap, ◌∙◌, subst, ⊎_elim}
+-- The result of carrying out an update, with the rebuild of the row that it made due. Serves
+-- `update`.
+use Rattle.std.proofs.Common.{arith, ◌≡◌, ◌≢◌, ℕ, ◌⊎◌, true, List, Option, Some, None, Result, Ok, Err, IfErr, OnOk, sym, ap, ◌∙◌, subst, ⊎_elim}
 use Rattle.std.specs.Result.{result_err}
 use Rattle.ist_core.specs.declared.commands.Command.{Command}
 use Rattle.ist_core.specs.declared.pairs.Pair.{Pair}
@@ -17,12 +18,15 @@ use Rattle.ist_core.specs.Standing.{makes_entry}
 use Rattle.ist_core.specs.StartLayout.{start}
 use Rattle.ist_core.proofs.ReferenceLemmas.{ref_of-word_of}
 use Rattle.ist_core.proofs.RoomLemmas.{published_good}
-use Rattle.ist_settling.specs.Settling.{DueRowsAreClosed}
-use Rattle.ist_stability.proofs.LaterLemmas.{ever_later}
+use Rattle.laws_settling.specs.Settling.{DueRowsAreClosed}
+use Rattle.laws_stability.proofs.LaterLemmas.{ever_later}
 use Rattle.ist_rule.specs.declared.view.View.{View}
 use Rattle.ist_core.specs.declared.events.Who.TheVariants.{Caller as CallerOf}
 use Rattle.ist_rule.specs.Conditions.{CanGiveUp, IsResolved}
-use Rattle.ist_rule.specs.Going.{WentOn}
+use Rattle.ist_rule.specs.Going.{SearchedOn, WentOn}
+use Rattle.ist_rule.proofs.SearchedOnLemmas.{searched_all, searched_more, went_searched}
+use Rattle.ist_updates.specs.Further.{HasWalkedFew}
+use Rattle.laws_progress.proofs.ProgressLemmas.{never_falls}
 use Rattle.ist_rule.specs.Learning.{now}
 use Rattle.ist_rule.proofs.LaterLemmas.{goes_on_more}
 use Rattle.ist_rule.proofs.WentOnLemmas.{later_by-goes_on, went_all, went_lawful, went_more, went_now}
@@ -30,19 +34,20 @@ use Rattle.ist_rows.specs.declared.callers.Caller.{Caller}
 use Rattle.ist_rows.specs.Building.{HasRefused}
 use Rattle.ist_rows.specs.Rows.{IsCaller}
 use Rattle.ist_rebuild.specs.Going.{IsQuiet}
+use Rattle.std.specs.Prelude.{IfSome}
+use Rattle.ist_updates.specs.declared.updates.Applied.{Applied}
 use Rattle.ist_updates.specs.declared.updates.Due.{Due}
 use Rattle.ist_updates.specs.Asking.{MayEnd, Updates}
 use Rattle.ist_updates.specs.Counting.{CameToLimit, IsCounted, LeavesDue}
-use Rattle.ist_updates.specs.Refusals.{IsUpdateRefused}
-use Rattle.ist_settling.proofs.DoneLemmas.{others_count_nothing}
-use Rattle.ist_tree.specs.Working.{CarriesOut, IsDueRefused, IsShut, IsTopShut, IsTurnedDown, KeepsDone, LeavesShut, Rebuilds, RebuildsOn, Works, is_shut, none_came, was_refused}
+use Rattle.laws_settling.proofs.DoneLemmas.{others_count_nothing}
+use Rattle.ist_tree.specs.Working.{CarriesOut, IsDueRefused, IsLetGo, IsShut, IsTopShut, KeepsDone, LeavesShut, Rebuilds, RebuildsOn, Works, is_shut, none_came, was_refused}
 use Rattle.ist_tree.proofs.CameLemmas.{came_inside, came_within, closed_above, due_since, ever_here}
 use Rattle.ist_tree.proofs.CarryLemmas.{counted_on, may_end_on}
 use Rattle.ist_tree.proofs.DueLemmas.{done_more}
 use Rattle.ist_tree.proofs.EventLemmas.{rebuilds_count_none, rebuilds_work, updates_start_none, updates_work}
 use Rattle.ist_tree.proofs.RebuildLemmas.{starts_went}
 
--- ---- what `apply` tells
+-- ---- what `apply` ensures
 
 -- an update took effect, or found nothing to remove
 pub record Applies (old mid : Caller) (command : Command) (reply : Option ℕ)
@@ -51,30 +56,56 @@ pub record Applies (old mid : Caller) (command : Command) (reply : Option ℕ)
   pub refused : HasRefused mid
   pub quiet : IsQuiet mid
   pub number : mid.number ≡ old.number
-  pub went : WentOn Updates old.seat.view mid.seat.view
+  pub went : SearchedOn Updates old.seat.view mid.seat.view
+  pub few_walks : HasWalkedFew old.seat.view mid.seat.view
   pub may : MayEnd mid command reply
   pub counted : let v = old.seat.view in makes_entry command reply ≡ true
       → IsCounted v.start v.words v.log mid.seat.view.log old.number command
   pub due : LeavesDue old.seat.view mid.seat.view old.number of
 
+-- an update that took effect although it might have met another value ensures the same
+pub applied_of : (old mid : Caller) (command : Command) (o : Option Applied) (done : Applied)
+    (due : Option Due) → o ≡ Some done → done.due ≡ due → IsCaller mid → HasRefused mid → IsQuiet mid
+    → mid.number ≡ old.number → SearchedOn Updates old.seat.view mid.seat.view
+    → HasWalkedFew old.seat.view mid.seat.view → IfSome o (λ x. MayEnd mid command x.reply)
+    → IfSome o (λ x. makes_entry command x.reply ≡ true → IsCounted old.seat.view.start
+    old.seat.view.words old.seat.view.log mid.seat.view.log old.number command)
+    → IfSome o (λ x. LeavesDue old.seat.view mid.seat.view old.number x.due)
+    → Applies old mid command done.reply due
+applied_of old mid command o done due is same c r q n w few may counted left =
+    record {
+      caller = c;
+      refused = r;
+      quiet = q;
+      number = n;
+      went = w;
+      few_walks = few;
+      may = subst (λ x. IfSome x (λ y. MayEnd mid command y.reply)) is may;
+      counted = subst (λ x. IfSome x (λ y. makes_entry command y.reply ≡ true
+          → IsCounted old.seat.view.start old.seat.view.words old.seat.view.log mid.seat.view.log
+          old.number command)) is counted;
+      due = subst (LeavesDue old.seat.view mid.seat.view old.number) same
+          (subst (λ x. IfSome x (λ y. LeavesDue old.seat.view mid.seat.view old.number y.due)) is left);
+    }
+
 -- it starts no rebuild
 applied_done : (old mid : Caller) → old.seat.view.who ≡ CallerOf old.number
-    → IsResolved old.seat.view old.number → WentOn Updates old.seat.view mid.seat.view
+    → IsResolved old.seat.view old.number → SearchedOn Updates old.seat.view mid.seat.view
     → KeepsDone old mid
 applied_done old mid mine resolved went =
-    starts_went Updates old.number old.seat.view mid.seat.view mine went
+    starts_went Updates old.number _ mid.seat.view mine went.went
     (updates_start_none old.number) resolved
 
--- where no row came to its limit, the rows that were due before are all
-none_due : (old : Caller) (w : View) → WentOn Updates old.seat.view w
+-- if no row reached its limit, the rows that were made due still have a closed row above
+none_due : (old : Caller) (w : View) → SearchedOn Updates old.seat.view w
     → ((row : ℕ) → ¬ (CameToLimit old.seat.view.start old.seat.view.words old.seat.view.log w.log
     old.number row))
     → DueRowsAreClosed (start old.seat.view.start old.seat.view.words) old.seat.view.log old.number
     → DueRowsAreClosed (start old.seat.view.start old.seat.view.words) w.log old.number
 none_due old w went came =
     let v = old.seat.view in
-    due_since v.start v.words old.number v.log w.log (went_lawful Updates v w went)
-    (later_by-goes_on went.later) (λ node c. absurd (came node c))
+    due_since v.start v.words old.number v.log w.log (went_lawful Updates _ w went.went)
+    (later_by-goes_on went.went.later) (λ node c. absurd (came node c))
 
 -- it was carried out, and made no row due
 pub carried_none : (old mid : Caller) (words : ℕ) (command : Command) (reply : Option ℕ)
@@ -84,7 +115,8 @@ carried_none old mid words command reply mine resolved a =
     record {
       ready = record { caller = a.caller; refused = a.refused; quiet = a.quiet };
       number = a.number;
-      went = went_all Updates Works updates_work old.seat.view mid.seat.view a.went;
+      went = searched_all Updates Works updates_work old.seat.view mid.seat.view a.went;
+      few_walks = a.few_walks;
       may = a.may;
       counted = a.counted;
       shut = none_came a.due;
@@ -92,27 +124,33 @@ carried_none old mid words command reply mine resolved a =
       due = λ unrefused. none_due old mid.seat.view a.went a.due;
     }
 
--- it was refused
-pub turned_down : (old new : Caller) (words key : ℕ) (value : Option ℕ) (full : Full)
-    → old.seat.view.who ≡ CallerOf old.number → IsResolved old.seat.view old.number
-    → IsCaller new → HasRefused new → new.number ≡ old.number
-    → WentOn Updates old.seat.view new.seat.view
-    → IsUpdateRefused old.seat.view key value words full new.seat.view → CanGiveUp new.seat.view
-    → LeavesDue old.seat.view new.seat.view old.number None
-    → IsTurnedDown old new words key value full
-turned_down old new words key value full mine resolved c refused number went cause can due =
+-- it took no effect
+pub let_go : (old new : Caller) → old.seat.view.who ≡ CallerOf old.number
+    → IsResolved old.seat.view old.number → IsCaller new → HasRefused new → new.number ≡ old.number
+    → SearchedOn Updates old.seat.view new.seat.view → HasWalkedFew old.seat.view new.seat.view
+    → CanGiveUp new.seat.view
+    → LeavesDue old.seat.view new.seat.view old.number None → IsLetGo old new
+let_go old new mine resolved c refused number went few can due =
     record {
       caller = c;
       refused = refused;
       number = number;
-      went = went_all Updates Works updates_work old.seat.view new.seat.view went;
-      cause = cause;
+      went = searched_all Updates Works updates_work old.seat.view new.seat.view went;
+      few_walks = few;
       can = can;
+      none_came = due;
       starts = applied_done old new mine resolved went;
       due = none_due old new.seat.view went due;
     }
 
 -- ---- a row was made due
+
+-- a rebuild begins no walk
+few_with : (u v w : View) → HasWalkedFew u v → WentOn Rebuilds v w → HasWalkedFew u w
+few_with u v w few g =
+    let none : w.searches ≡ v.searches = ap (λ (y : View). y.searches) g.same in
+    let more = never_falls v.log w.log (later_by-goes_on g.later) in
+    omega arith
 
 -- a row in whose slot the target stood was its parent
 stood_child : (pairs : List Pair) (words : ℕ) (m log longer : Log) → Lawful pairs words log
@@ -135,18 +173,19 @@ stood_child pairs words m log longer l on to parent index target row e holds =
 module _ (old mid new : Caller) (words : ℕ) (command : Command) (reply : Option ℕ) (due : Due)
     (mine : old.seat.view.who ≡ CallerOf old.number) (resolved : IsResolved old.seat.view old.number)
     (a : Applies old mid command reply (Some due)) (on : RebuildsOn mid new) where
-  abbrev v : View
-  v = old.seat.view
-
   abbrev w : View
   w = mid.seat.view
+
+  -- what was known before, as if as many searches had been begun
+  abbrev v : View
+  v = record old.seat.view { searches = w.searches }
 
   abbrev x : View
   x = new.seat.view
 
   all_went : WentOn Works v x
   all_went =
-      went_more Works v w x (went_all Updates Works updates_work v w a.went)
+      went_more Works v w x (went_all Updates Works updates_work v w a.went.went)
       (went_all Rebuilds Works rebuilds_work w x on.went)
 
   lawful : Lawful v.start v.words x.log
@@ -155,7 +194,7 @@ module _ (old mid new : Caller) (words : ℕ) (command : Command) (reply : Optio
   longer : GoesOn w.log x.log
   longer = later_by-goes_on on.went.later
 
-  -- a row that came to its limit did so before the rebuild
+  -- a row that reached its limit did so before the rebuild
   came_before : (row : ℕ) → CameToLimit v.start v.words v.log x.log old.number row
       → CameToLimit v.start v.words v.log w.log old.number row
   came_before row =
@@ -164,12 +203,12 @@ module _ (old mid new : Caller) (words : ℕ) (command : Command) (reply : Optio
       (λ event never. absurd never)
       (λ event. ⊎_elim (others_count_nothing old.number event)
       (rebuilds_count_none old.number event))
-      v.log v.log w.log x.log no_more (later_by-goes_on a.went.later)
+      v.log v.log w.log x.log no_more (later_by-goes_on a.went.went.later)
       (subst (λ n. LaterBy (CallerOf n) Rebuilds w.log x.log) a.number
       (subst (λ who. LaterBy who Rebuilds w.log x.log) a.caller.mine on.went.later)) row
 
   -- the row or its parent isn't open
-  top_shut : IsShut (now x) due.parent due.target → IsTopShut v x old.number due.target
+  top_shut : IsShut (now x) due.parent due.target → IsTopShut old.seat.view x old.number due.target
   top_shut shut =
       record {
         came =
@@ -182,17 +221,17 @@ module _ (old mid new : Caller) (words : ℕ) (command : Command) (reply : Optio
         index = due.index;
         was_child =
             subst (λ pairs. Ever (start pairs v.words) (λ t. IsChild t due.parent due.index due.target)
-            x.log) (ap (λ (y : View). y.start) a.went.same)
+            x.log) (ap (λ (y : View). y.start) a.went.went.same)
             (subst (λ words. Ever (start w.start words) (λ t. IsChild t due.parent due.index due.target)
-            x.log) (ap (λ (y : View). y.words) a.went.same)
-            (stood_child w.start w.words a.due.may.prefix w.log x.log a.went.sound.lawful
+            x.log) (ap (λ (y : View). y.words) a.went.went.same)
+            (stood_child w.start w.words a.due.may.prefix w.log x.log a.went.went.sound.lawful
             a.due.may.goes_on longer due.parent due.index due.target a.due.may.row a.due.may.published
             a.due.may.stood));
         shut = subst (λ t. IsShut t due.parent due.target) (went_now Works v x all_went) shut;
       }
 
-  -- each row that came to its limit then has a closed row above
-  due_closed : IsTopShut v x old.number due.target
+  -- each row that was made due then has a closed row above
+  due_closed : IsTopShut old.seat.view x old.number due.target
       → DueRowsAreClosed (start v.start v.words) v.log old.number
       → DueRowsAreClosed (start v.start v.words) x.log old.number
   due_closed t =
@@ -210,19 +249,21 @@ module _ (old mid new : Caller) (words : ℕ) (command : Command) (reply : Optio
       record {
         ready = on.ready;
         number = on.number ∙ a.number;
-        went = all_went;
+        went = searched_more Works old.seat.view w x (searched_all Updates Works updates_work old.seat.view w a.went)
+            (went_searched Works w x (went_all Rebuilds Works rebuilds_work w x on.went));
+        few_walks = few_with old.seat.view w x a.few_walks on.went;
         may = may_end_on mid new command reply a.caller.mine on a.may;
         counted = λ entry.
             counted_on v.start v.words v.log v.log w.log x.log same_log longer lawful old.number command
             (a.counted entry);
-        shut = subst (LeavesShut v x old.number words) (sym is) (outcome answer shut full);
+        shut = subst (LeavesShut old.seat.view x old.number words) (sym is) (outcome answer shut full);
         starts = λ unrefused. starts_done answer (sym is ∙ unrefused) done;
         due = λ unrefused. rows_closed answer (sym is ∙ unrefused) shut;
       }
     where
       outcome : (r : Result (Unit {0}) Full) → OnOk r (IsShut (now x) due.parent due.target)
           → IfErr r (λ f. IsDueRefused x words f)
-          → LeavesShut v x old.number words (result_err r)
+          → LeavesShut old.seat.view x old.number words (result_err r)
       outcome (Ok u) s f = is_shut due.target (top_shut s)
       outcome (Err e) s f = was_refused e f
 

@@ -1,5 +1,5 @@
--- What an update knows stays so while its caller rebuilds: its call may end still, and its change is
--- counted. Serves `update`.
+-- What an update knows stays so while its caller rebuilds: its call may end still, and its change
+-- is counted. Serves `update`.
 use Rattle.std.proofs.Common.{◌≡◌, ◌≢◌, ℕ, ◌⊎◌, List, [], ◌∷◌, ◌++◌, Option, Some, sym, ap, ◌∙◌, subst, inl, inr, arith}
 use Rattle.ist_core.specs.declared.calls.Call.{Call}
 use Rattle.ist_core.specs.declared.commands.Command.{Command}
@@ -19,13 +19,13 @@ use Rattle.ist_core.specs.Writing.{first_change}
 use Rattle.ist_core.proofs.FateLemmas.{grow_between}
 use Rattle.ist_core.proofs.GrowingLemmas.{change_there}
 use Rattle.ist_core.proofs.PlaceLemmas.{no_piece}
-use Rattle.ist_links.proofs.ComesLemmas.{change_comes}
-use Rattle.ist_links.proofs.OriginLemmas.{ChangeComes, change_was, is_decided, is_installed}
-use Rattle.ist_histories.specs.Calls.{MadeNoEntry}
-use Rattle.ist_histories.proofs.CallLemmas.{stand_on}
-use Rattle.ist_outcomes.proofs.AcceptedLemmas.{resolved_no_entry}
-use Rattle.ist_outcomes.proofs.CountedLemmas.{command_update}
-use Rattle.ist_outcomes.specs.Accepting.{NoneAcceptedSince}
+use Rattle.laws_links.proofs.ComesLemmas.{change_comes}
+use Rattle.laws_links.proofs.OriginLemmas.{ChangeComes, change_was, is_decided, is_installed}
+use Rattle.laws_histories.specs.Calls.{MadeNoEntry}
+use Rattle.laws_histories.proofs.CallLemmas.{stand_on}
+use Rattle.laws_walks.proofs.AcceptedLemmas.{resolved_no_entry}
+use Rattle.laws_walks.proofs.CountedLemmas.{command_update}
+use Rattle.laws_walks.specs.Accepting.{NoneAcceptedSince}
 use Rattle.ist_rule.specs.declared.view.View.{View}
 use Rattle.ist_core.specs.declared.events.Who.TheVariants.{Caller as CallerOf}
 use Rattle.ist_rule.specs.Conditions.{CanEnd, IsResolved}
@@ -34,7 +34,7 @@ use Rattle.ist_rule.specs.Learning.{now}
 use Rattle.ist_rule.proofs.LaterLemmas.{goes_on_more}
 use Rattle.ist_rule.proofs.WentOnLemmas.{later_by-goes_on, went_lawful}
 use Rattle.ist_rows.specs.declared.callers.Caller.{Caller}
-use Rattle.ist_walks.specs.Walking.{IsChainOf}
+use Rattle.laws_walks.specs.Walking.{IsChainOf}
 use Rattle.ist_updates.specs.Asking.{MayEnd}
 use Rattle.ist_updates.specs.Counting.{IsCounted}
 use Rattle.ist_tree.specs.Working.{Rebuilds, RebuildsOn}
@@ -146,6 +146,7 @@ can_end_on v w number call mine went resolved c =
     one_number : (a b : ℕ) → CallerOf a ≡ CallerOf b → a ≡ b
     one_number a b e = cc
 
+-- a command that may end with a reply may do so after steps of rebuilding too
 pub may_end_on : (old new : Caller) (command : Command) (reply : Option ℕ)
     → old.seat.view.who ≡ CallerOf old.number → RebuildsOn old new → MayEnd old command reply
     → MayEnd new command reply
@@ -161,7 +162,7 @@ may_end_on old new command reply mine on m =
 
 -- ---- a change that was counted
 
--- what was counted in a part of a log was so in all of it
+-- what was counted in a part of a log was counted in all of it
 pub counted_on : (pairs : List Pair) (words : ℕ) (earlier before log longer : Log)
     → GoesOn earlier before → GoesOn log longer → Lawful pairs words longer → (number : ℕ)
     (command : Command) → IsCounted pairs words before log number command

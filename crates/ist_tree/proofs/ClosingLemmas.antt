@@ -12,9 +12,9 @@ use Rattle.ist_core.specs.Resting.{AllStandIn, IsSettled}
 use Rattle.ist_core.specs.Standing.{StandsIn}
 use Rattle.ist_core.proofs.ElementLemmas.{each-among}
 use Rattle.ist_core.proofs.RoomLemmas.{words_same}
-use Rattle.ist_links.proofs.OwnerLemmas.{owner_known}
-use Rattle.ist_histories.proofs.CallLemmas.{stand_on}
-use Rattle.ist_histories.proofs.EntryLemmas.{entry_update}
+use Rattle.laws_links.proofs.OwnerLemmas.{owner_known}
+use Rattle.laws_histories.proofs.CallLemmas.{stand_on}
+use Rattle.laws_histories.proofs.EntryLemmas.{entry_update}
 use Rattle.ist_rule.specs.declared.view.View.{View}
 use Rattle.ist_rule.specs.declared.view.Taken.{Taken}
 use Rattle.ist_rule.specs.Faces.{SeatFace}
@@ -22,14 +22,14 @@ use Rattle.ist_rule.specs.Rule.{IsTakenBack}
 use Rattle.ist_rule.specs.Seating.{IsLast}
 use Rattle.ist_rule.specs.Standings.{StandsInPrefix}
 use Rattle.ist_rule.proofs.LaterLemmas.{later-goes_on, goes_on_more}
-use Rattle.ist_settling.proofs.SettledLemmas.{settled}
+use Rattle.laws_settling.proofs.SettledLemmas.{settled}
 use Rattle.ist_tree.specs.Faces.{MakerFace}
 use Rattle.ist_tree.specs.Closing.{calls_numbered, calls_taken, ClosesWith}
 use Rattle.ist_tree.specs.Insides.{taken_pass, maker_face, IsMakerWith, HasSettled}
 use Rattle.ist_tree.proofs.SettlingLemmas.{settled_later}
 use Rattle.ist_tree.proofs.TakenLemmas.{all_below, each_number, numbers_long, IsNumbered, numbered_is, lists_long, lists_stand, each_get}
 
--- what is so of the last log, in a table of so many words
+-- what is true of the last log, in a table of this many words
 record EndsIn (m : MakerFace) (image : List ℕ) (log : Log) (words : ℕ) : Type 0 where
   pub lawful : Lawful m.tree.start words log
   pub is_image : IsImage (state_of m.tree.start words log) image
@@ -64,7 +64,7 @@ module _ (seat : SeatFace) (image : List ℕ) (refused : Bool) (is : IsMakerWith
       (subst (λ n. Each (λ (t : Taken). t.number < n) v.taken) given last.well_made.taken_given))
       (long ∙ all_back) number lt)
 
-  -- and its calls stand in the last log
+  -- and its calls are placed in the last log
   stands : (number : ℕ) → number < v.made
       → StandsIn v.start v.words last.log number (calls_numbered number (map taken_pass v.taken))
   stands number lt =
@@ -89,7 +89,7 @@ module _ (seat : SeatFace) (image : List ℕ) (refused : Bool) (is : IsMakerWith
       let made = made_is in
       omega arith
 
-  -- all of its own is settled, where none met a refused rebuild
+  -- all of its own is settled, if none met a refused rebuild
   own_settled : refused ≡ false → (number : ℕ) → number < v.made
       → HasSettled v.start v.words last.log number
   own_settled unrefused number lt =
@@ -139,7 +139,7 @@ module _ (seat : SeatFace) (image : List ℕ) (refused : Bool) (is : IsMakerWith
   pub image_long : length image ≡ v.words
   image_long = last.is_image.size ∙ words_same v.start v.words last.lawful.opens last.log
 
-  -- they stand for the calls of all passes
+  -- the words represent the calls of all passes
   pub closes_with : ClosesWith m image
   closes_with =
       let e = subst (EndsIn m image last.log) (sym image_long) ends_here in

@@ -1,4 +1,4 @@
--- What an attempt to rebuild a row comes to. Serves `try_due` and `rebuild_due`.
+-- What an attempt to rebuild a row results in. Serves `try_due` and `rebuild_due`.
 use Rattle.std.proofs.Common.{◌≡◌, ℕ, ◌⊎◌, Result, Ok, refl, sym, ap, ◌∙◌, subst, inl, inr, ⊎_elim}
 use Rattle.ist_core.specs.declared.ports.Full.{Full}
 use Rattle.ist_core.specs.Rebuilding.{IsReplaced}
@@ -11,7 +11,7 @@ use Rattle.ist_rule.specs.Learning.{now}
 use Rattle.ist_rows.specs.declared.callers.Caller.{Caller}
 use Rattle.ist_rows.specs.Building.{HasRefused}
 use Rattle.ist_rows.specs.Rows.{IsCaller}
-use Rattle.ist_settling.specs.Settling.{StartsAreDone}
+use Rattle.laws_settling.specs.Settling.{StartsAreDone}
 use Rattle.ist_rebuild.specs.declared.answers.Helped.{Helped}
 use Rattle.ist_rebuild.specs.declared.answers.Helped.TheVariants.{Replaced, ParentMarked}
 use Rattle.ist_rebuild.specs.declared.answers.Started.{Started}
@@ -43,21 +43,24 @@ serves_on old new c refused quiet went number =
 
 -- ---- what starting left done
 
+-- if a rebuild was started, all starts are done except its own
 pub yes_leaves : (t : Snapshot) (number : ℕ) (answer : Started) (rebuild : ℕ)
     → answer ≡ Yes rebuild → LeavesDone t number (Ok answer) → StartsAreDoneBut t number rebuild
 yes_leaves t number answer rebuild is done = subst (λ a. LeavesDone t number (Ok a)) is done
 
+-- if the slot held another word, all starts are done
 pub other_leaves : (t : Snapshot) (number : ℕ) (answer : Started) (word : ℕ)
     → answer ≡ Other word → LeavesDone t number (Ok answer) → StartsAreDone t number
 other_leaves t number answer word is done = subst (λ a. LeavesDone t number (Ok a)) is done
 
+-- if the parent was marked, all starts are done
 pub marked_leaves : (t : Snapshot) (number : ℕ) (answer : Started) → answer ≡ Marked
     → LeavesDone t number (Ok answer) → StartsAreDone t number
 marked_leaves t number answer is done = subst (λ a. LeavesDone t number (Ok a)) is done
 
 -- ---- a rebuild that was helped
 
--- what helping answers
+-- what helping returns
 abbrev pub said : Helped → Result Helped Full
 said answer = Ok answer
 
@@ -90,13 +93,14 @@ helped_done old mid new on went rebuild but either =
 
 -- ---- starts done, twice
 
+-- two steps that keep starts done keep them done together
 pub done_more : (a b c : Caller) → b.number ≡ a.number → KeepsDone a b → KeepsDone b c
     → KeepsDone a c
 done_more a b c number one two done =
     subst (StartsAreDone (now c.seat.view)) number
     (two (subst (StartsAreDone (now b.seat.view)) (sym number) (one done)))
 
--- where that was so of another caller's number
+-- starts stay done, if they were done for another caller with the same number
 pub done_behind : (a b c : Caller) → b.number ≡ a.number
     → StartsAreDone (now b.seat.view) a.number → KeepsDone b c
     → StartsAreDone (now c.seat.view) a.number

@@ -1,5 +1,5 @@
--- The call with which a put or a remove ends, as its view and its reply tell it: at its caller's one
--- entry since it began, or, where it made none, at the first position with this reply. Serves
+-- The call with which a put or a remove ends, by its view and its reply: at its caller's one
+-- entry since it began, or at the first position with this reply, if it made no entry. Serves
 -- `update`.
 use Rattle.std.proofs.Common.{◌≡◌, ℕ, ◌+◌, ◌≤◌, ◌==◌, Bool, true, false, if◌then◌else◌, List, [], ◌∷◌, ◌++◌, length, map, filter, slice_get, Option, Some, None, refl, sym, ap, ◌∙◌, subst, inl, ⊎_elim, zero, suc, arith, append-nil, length-append}
 use Rattle.std.proofs.lemmas.List.{length-map}
@@ -15,11 +15,11 @@ use Rattle.ist_core.specs.Map.{key_of}
 use Rattle.ist_core.specs.Standing.{IsFresh, entries_by, entry_by, is_change, makes_entry}
 use Rattle.ist_core.specs.StartLayout.{start}
 use Rattle.ist_core.proofs.ElementLemmas.{among_right}
-use Rattle.ist_histories.specs.Calls.{HasCalls, MadeNoEntry}
-use Rattle.ist_histories.specs.Loads.{log_at}
-use Rattle.ist_histories.proofs.CallLemmas.{add_reading}
-use Rattle.ist_histories.proofs.ChangeLemmas.{changes_on}
-use Rattle.ist_histories.proofs.LoadOnLemmas.{at_prefix}
+use Rattle.laws_histories.specs.Calls.{HasCalls, MadeNoEntry}
+use Rattle.laws_histories.specs.Loads.{log_at}
+use Rattle.laws_histories.proofs.CallLemmas.{add_reading}
+use Rattle.laws_histories.proofs.ChangeLemmas.{changes_on}
+use Rattle.laws_histories.proofs.LoadOnLemmas.{at_prefix}
 use Rattle.ist_rule.specs.declared.view.Pending.{Pending}
 use Rattle.ist_rule.specs.declared.view.View.{View}
 use Rattle.ist_core.specs.declared.events.Who.{Who}
@@ -59,6 +59,7 @@ ending_in v (Some pending) reply =
       stamp = v.stamp + 1;
     }
 
+-- the call with which the view ends its pending command
 abbrev pub ended_call : View → Option ℕ → Call
 ended_call v reply = ending_in v v.pending reply
 
@@ -69,7 +70,7 @@ some_of_one : (n : ℕ) (x : Entry) (xs : List Entry) (b : Bool)
 some_of_one n x xs true le = omega arith
 some_of_one n x xs false le = le
 
--- where an entry is the caller's, there is one of its
+-- if an entry is the caller's, the caller has at least one entry
 owned_some : (number : ℕ) (xs : List Entry) (i : ℕ) → is_owned number (slice_get xs i) ≡ true
     → 1 ≤ length (entries_by number xs)
 owned_some number [] i e = absurd (cc)
@@ -87,7 +88,7 @@ two number x xs few e some =
     e few in
     omega arith
 
--- where there is no more than one, it is at one place
+-- if there is at most one, it is at one place
 one_owned : (number : ℕ) (xs : List Entry) → length (entries_by number xs) ≤ 1 → (i j : ℕ)
     → is_owned number (slice_get xs i) ≡ true → is_owned number (slice_get xs j) ≡ true → i ≡ j
 one_owned number [] few i j e f = absurd (cc)
@@ -108,7 +109,7 @@ one_owned number (x ∷ xs) few (suc i) (suc j) e f =
     fewer : (n : ℕ) {m : ℕ} → n ≤ m → m ≤ 1 → n ≤ 1
     fewer n a b = omega arith
 
--- so it is behind some entries
+-- this holds after some older entries too
 one_owned_behind : (number : ℕ) (old more : List Entry) → length (entries_by number more) ≤ 1
     → (i j : ℕ) → length old ≤ i → length old ≤ j
     → is_owned number (slice_get (old ++ more) i) ≡ true
@@ -140,7 +141,7 @@ module _ (v : View) (call : Call) (c : CanEnd v call)
   on : (more : List Entry) × (entries ≡ old ++ more)
   on = changes_on (start v.start v.words) c.seen v.log c.goes_on
 
-  -- where it changed the map, the caller has one entry since
+  -- if it changed the map, the caller has one entry since
   one_since : is_change call ≡ true → length (entries_by c.number on.0) ≤ 1
   one_since e =
       let all = ap length c.stand.exactly
@@ -178,7 +179,7 @@ module _ (v : View) (call : Call) (c : CanEnd v call)
   abbrev moved : ℕ → Call
   moved position = record call { position = position }
 
-  -- where it changed nothing, the first position with its reply is right
+  -- if it changed nothing, the first position with its reply is right
   moved_reading : is_change call ≡ false
       → CanEnd v (moved (position_of v.start v.words c.seen v.log (key_of call.command) call.reply))
   moved_reading e =

@@ -1,21 +1,21 @@
 -- A put or a remove from its beginning to its end, in the words of its steps. Serves `update`.
-use Rattle.std.proofs.Common.{◌≡◌, ℕ, true, length, Option, Some, None, refl, sym, ap, ◌∙◌, subst, arith}
+use Rattle.std.proofs.Common.{◌≡◌, ℕ, true, length, Option, Some, None, refl, sym, ap, ◌∙◌, subst}
 use Rattle.std.specs.Option.{option_or}
 use Rattle.ist_core.specs.declared.calls.Call.{Call}
 use Rattle.ist_core.specs.declared.commands.Command.{Command}
 use Rattle.ist_core.specs.declared.ports.Full.{Full}
 use Rattle.ist_core.specs.Logs.{Log}
 use Rattle.ist_core.specs.Standing.{makes_entry}
-use Rattle.ist_histories.specs.Calls.{HasCalls}
-use Rattle.ist_histories.specs.Loads.{log_at}
-use Rattle.ist_histories.proofs.LoadOnLemmas.{at_prefix}
+use Rattle.laws_histories.specs.Calls.{HasCalls}
+use Rattle.laws_histories.specs.Loads.{log_at}
+use Rattle.laws_histories.proofs.LoadOnLemmas.{at_prefix}
 use Rattle.ist_rule.specs.declared.view.Pending.{Pending}
 use Rattle.ist_rule.specs.declared.view.View.{View}
 use Rattle.ist_core.specs.declared.events.Who.TheVariants.{Caller as CallerOf}
-use Rattle.ist_rule.specs.Conditions.{CanEnd, IsResolved}
+use Rattle.ist_rule.specs.Conditions.{CanEnd}
 use Rattle.ist_rule.specs.Faces.{SeatFace}
-use Rattle.ist_rule.specs.Going.{WentOn}
-use Rattle.ist_rule.specs.Learning.{Turned, beginning, ending, giving_up}
+use Rattle.ist_rule.specs.Going.{SearchedOn}
+use Rattle.ist_rule.specs.Learning.{Turned, beginning, ending}
 use Rattle.ist_rule.specs.Rule.{IsSound}
 use Rattle.ist_rule.proofs.WentOnLemmas.{later_by-goes_on}
 use Rattle.ist_rows.specs.declared.callers.Caller.{Caller}
@@ -24,13 +24,13 @@ use Rattle.ist_tree.specs.Calls.{AddsCall, HasSeenMore}
 use Rattle.ist_tree.specs.DueRows.{HasCounted, LeavesNoneDue, StartsOnlyDue}
 use Rattle.ist_tree.specs.Faces.{PassFace}
 use Rattle.ist_tree.specs.Insides.{IsPass, IsPassWith, face_as, pass_face}
-use Rattle.ist_tree.specs.Refusals.{IsRebuildRefused, IsRefused, KeepsRefusal}
+use Rattle.ist_tree.specs.Refusals.{IsRebuildRefused, KeepsRefusal}
 use Rattle.ist_tree.specs.Working as working
-use Rattle.ist_tree.specs.Working.{CarriesOut, IsTurnedDown, Works, StartsDue}
+use Rattle.ist_tree.specs.Working.{CarriesOut, IsLetGo, Works, StartsDue}
 use Rattle.ist_tree.proofs.InstallLemmas.{way_starts}
 use Rattle.ist_tree.proofs.BeginningLemmas.{begun_calls}
 use Rattle.ist_tree.proofs.EndingLemmas.{can_end_so, ended_call, ending_in}
-use Rattle.ist_tree.proofs.RefusalLemmas.{keeps_first, rebuild_was_refused, update_was_refused}
+use Rattle.ist_tree.proofs.RefusalLemmas.{keeps_first, rebuild_was_refused}
 use Rattle.ist_tree.proofs.UpdateLemmas.{adds_call, has_counted, leaves_none_due, stamp_up}
 use Rattle.ist_tree.proofs.WayLemmas.{IsWay, final_pass, seen_more, settled_then}
 
@@ -55,13 +55,13 @@ its_command w call command n c is = at c.pending (sym is ∙ c.in_call) c.comman
 module _ (who began new : Caller) (command : Command) (s : IsSound who.seat.view) (p : IsPass who)
     (begun : Turned who.seat.view (beginning who.seat.view (Some command)) began.seat.view)
     (began_number : began.number ≡ who.number)
-    (went : WentOn Works began.seat.view new.seat.view) (number : new.number ≡ began.number) where
+    (went : SearchedOn Works began.seat.view new.seat.view) (number : new.number ≡ began.number) where
   pending_is : new.seat.view.pending
       ≡ Some record { command = Some command; length = length began.seat.view.log }
   pending_is =
-      ap (λ (y : View). y.pending) went.same ∙ ap (λ (y : View). y.pending) begun.view
+      ap (λ (y : View). y.pending) went.went.same ∙ ap (λ (y : View). y.pending) begun.view
 
-  -- its calls stand in what it had seen when it began
+  -- its calls are placed in what it had seen when it began
   had : (call : Call) (c : CanEnd new.seat.view call) → new.seat.view.who ≡ CallerOf who.number
       → HasCalls new.seat.view.start new.seat.view.words c.seen c.number new.seat.view.stamp
       new.seat.view.calls
@@ -70,13 +70,13 @@ module _ (who began new : Caller) (command : Command) (s : IsSound who.seat.view
       let w = new.seat.view in
       let old = begun_calls who began.seat command s p begun in
       let same_seen = seen_is w.log c.seen b.log (at_prefix c.seen w.log c.goes_on)
-      (at_prefix b.log w.log (later_by-goes_on went.later)) (lengths c.pending (sym pending_is
+      (at_prefix b.log w.log (later_by-goes_on went.went.later)) (lengths c.pending (sym pending_is
       ∙ c.in_call) c.length_is) in
       subst (λ n. HasCalls w.start w.words c.seen n w.stamp w.calls)
       (one_number who.number c.number (sym mine ∙ c.mine))
       (subst (λ (l : Log). HasCalls w.start w.words l who.number w.stamp w.calls) (sym same_seen)
       (subst (λ (y : View). HasCalls y.start y.words b.log who.number y.stamp y.calls)
-      (sym went.same) old))
+      (sym went.went.same) old))
     where
       one_number : (a d : ℕ) → CallerOf a ≡ CallerOf d → a ≡ d
       one_number a d e = cc
@@ -104,7 +104,7 @@ module _ (who began new : Caller) (command : Command) (s : IsSound who.seat.view
 
 -- ---- the call was answered
 
--- what a put or a remove comes to, for a pass that contracts saw so
+-- what a put or a remove results in, for a pass with this face
 pub record UpdateEnds (old : PassFace) (new : Caller) (seat : SeatFace) (q : Option Full)
     (command : Command) (reply : Option ℕ) : Type 0 where
   pub pass : IsPassWith (record new { seat = seat }) q
@@ -115,7 +115,7 @@ pub record UpdateEnds (old : PassFace) (new : Caller) (seat : SeatFace) (q : Opt
   pub due : LeavesNoneDue old (face_as seat new.number q)
   pub refused : KeepsRefusal old (face_as seat new.number q)
 
--- a refusal that isn't kept wasn't met
+-- if no refusal is kept, none was met
 none_kept : (r met : Option Full) → option_or r met ≡ None → (r ≡ None) × (met ≡ None)
 none_kept None met e = (refl, e)
 none_kept (Some full) met e = absurd (cc)
@@ -200,79 +200,15 @@ module _ (who began new : Caller) (seat : SeatFace) (command : Command) (s : IsS
         cause _ (working.none_came none) full e = absurd (cc)
         cause _ (working.is_shut row t) full e = absurd (cc)
 
-    -- for a pass that contracts saw so
+    -- for a pass with this face
     pub update_ends : (old : PassFace) → pass_face who r ≡ old
         → UpdateEnds old new seat q command reply
     update_ends old view =
         subst (λ (o : PassFace). UpdateEnds o new seat q command reply) view ends_here
 
+    -- each rebuild that the pass started in the call was of a row at its limit
     pub update_starts : StartsDue began new → (old : PassFace) → pass_face who r ≡ old
         → StartsOnlyDue old (face_as seat new.number q)
     update_starts d old view =
         subst (λ (o : PassFace). StartsOnlyDue o (face_as seat new.number q)) view
         (way_starts who began new seat command it r q d)
-
-  -- ---- the call was refused
-
-  module _ (key : ℕ) (value : Option ℕ) (full : Full)
-      (d : IsTurnedDown began new words key value full)
-      (given : Turned new.seat.view (giving_up new.seat.view) seat.view) where
-    stops : IsWay who began new seat command
-    stops =
-        record {
-          sound = s;
-          pass = p.pass;
-          begun = begun;
-          began_number = began_number;
-          went = d.went;
-          number = d.number;
-          caller = d.caller;
-          refused = d.refused;
-          last = record {
-            who_is = ap (λ (y : View). y.who) given.view;
-            start_is = ap (λ (y : View). y.start) given.view;
-            words_is = ap (λ (y : View). y.words) given.view;
-            later = given.later;
-            sound = given.sound;
-          };
-          none = ap (λ (y : View). y.pending) given.view;
-          table = table;
-        }
-
-    pub stopped_pass : IsPassWith (record new { seat = seat }) r
-    stopped_pass =
-        record {
-          pass = final_pass who began new seat command stops;
-          settled = λ unrefused.
-              settled_then who began new seat command stops
-              (subst (IsResolved new.seat.view) (one_number d.can.number new.number
-              (sym d.can.mine ∙ d.caller.mine)) d.can.resolved)
-              d.starts d.due (p.settled unrefused);
-        }
-      where
-        one_number : (a b : ℕ) → CallerOf a ≡ CallerOf b → a ≡ b
-        one_number a b e = cc
-
-    stopped_stamp : seat.view.stamp ≡ who.seat.view.stamp
-    stopped_stamp =
-        ap (λ (y : View). y.stamp) given.view ∙ ap (λ (y : View). y.stamp) d.went.same
-        ∙ ap (λ (y : View). y.stamp) begun.view
-
-    pub stopped_seen : (old : PassFace) → pass_face who r ≡ old
-        → HasSeenMore old (face_as seat new.number r)
-    stopped_seen old view =
-        subst (λ (o : PassFace). HasSeenMore o (face_as seat new.number r)) view
-        (seen_more who began new seat command stops r r (let e = stopped_stamp in omega arith))
-
-    pub stopped_full : (old : PassFace) → pass_face who r ≡ old
-        → IsRefused old (face_as seat new.number r) key value full
-    stopped_full old view =
-        subst (λ (o : PassFace). IsRefused o (face_as seat new.number r) key value full) view
-        (update_was_refused who began new seat command stops r r words key value full same_words
-        d.cause)
-
-    pub stopped_starts : StartsDue began new → (old : PassFace) → pass_face who r ≡ old
-        → StartsOnlyDue old (face_as seat new.number r)
-    stopped_starts due old view =
-        subst (λ (o : PassFace). StartsOnlyDue o (face_as seat new.number r)) view
-        (way_starts who began new seat command stops r r due)

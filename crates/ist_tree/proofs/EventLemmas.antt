@@ -7,7 +7,7 @@ use Rattle.ist_core.specs.Rebuilding.{IsUpdate}
 use Rattle.ist_core.specs.Statuses.{start_kind, finish_kind}
 use Rattle.ist_dcss.specs.Helping as dcss
 use Rattle.ist_rows.specs.CallerLaws.{KeepsRows, InstallsNone}
-use Rattle.ist_settling.specs.Settling.{InstallsNoStart, CountsNothing}
+use Rattle.laws_settling.specs.Settling.{InstallsNoStart, CountsNothing}
 use Rattle.ist_rebuild.specs.Going.{Begins, Serves, StartsAt}
 use Rattle.ist_updates.specs.Asking.{Updates}
 use Rattle.ist_tree.specs.Working.{Rebuilds, Works}
@@ -19,12 +19,12 @@ start_no_update : (kind : ℕ) → kind ≡ start_kind → ¬ (IsUpdate kind)
 start_no_update kind is (inl e) = omega arith
 start_no_update kind is (inr e) = omega arith
 
--- nor is a finish
+-- a finish is no put or remove
 finish_no_update : (kind : ℕ) → kind ≡ finish_kind → ¬ (IsUpdate kind)
 finish_no_update kind is (inl e) = omega arith
 finish_no_update kind is (inr e) = omega arith
 
--- and a finish is no start
+-- a finish is no start
 finish_no_start : (kind : ℕ) → kind ≡ finish_kind → kind ≢ start_kind
 finish_no_start kind is e = omega arith
 
@@ -46,7 +46,7 @@ begins_rebuild (Draw caller rebuild part) p = tt
 begins_rebuild (Place caller rebuild i word rows) p = tt
 begins_rebuild (Lose caller bases) p = tt
 
--- so is a step of helping a rebuild
+-- a step of helping a rebuild is one of rebuilding
 pub serves_rebuild : (event : Event) → Serves event → Rebuilds event
 serves_rebuild (Install caller base rows) p =
     λ change is. finish_no_update change.kind (p change is)
@@ -64,12 +64,13 @@ serves_rebuild (Draw caller rebuild part) p = tt
 serves_rebuild (Place caller rebuild i word rows) p = tt
 serves_rebuild (Lose caller bases) p = tt
 
--- and a step of helping a change, which installs nothing and leaves all rows
+-- the event is a step of rebuilding that installs nothing and leaves the caller's rows
 pub record IsPlainHelp (event : Event) : Type 0 where
   pub rebuilds : Rebuilds event
   pub keeps : KeepsRows event
   pub installs : InstallsNone event
 
+-- each event of helping a change is a plain one
 pub help_plain : (base : ℕ) (event : Event) → dcss.Serves base event → IsPlainHelp event
 help_plain base (Okay caller other) p = record { rebuilds = tt; keeps = tt; installs = tt }
 help_plain base (Decide caller other said) p = record { rebuilds = tt; keeps = tt; installs = tt }
@@ -124,7 +125,7 @@ serves_aims target (Draw caller rebuild part) p = tt
 serves_aims target (Place caller rebuild i word rows) p = tt
 serves_aims target (Lose caller bases) p = tt
 
--- nor does helping a change
+-- helping a change starts none, so that no start is out of place
 pub help_aims : (target base : ℕ) (event : Event) → dcss.Serves base event → StartsAt target event
 help_aims target base (Okay caller other) p = tt
 help_aims target base (Decide caller other said) p = tt
@@ -149,7 +150,7 @@ serves_start_none number (Draw caller rebuild part) p = tt
 serves_start_none number (Place caller rebuild i word rows) p = tt
 serves_start_none number (Lose caller bases) p = tt
 
--- nor does an update
+-- an update starts no rebuild
 pub updates_start_none : (number : ℕ) (event : Event) → Updates event
     → InstallsNoStart number event
 updates_start_none number (Install caller base rows) p = λ mine change is. p change is
@@ -204,7 +205,7 @@ rebuilds_work (Draw caller rebuild part) p = tt
 rebuilds_work (Place caller rebuild i word rows) p = tt
 rebuilds_work (Lose caller bases) p = tt
 
--- so is a step of an update
+-- a step of an update is a step of a call
 pub updates_work : (event : Event) → Updates event → Works event
 updates_work (Enter caller) p = p
 updates_work (Count caller node) p = tt

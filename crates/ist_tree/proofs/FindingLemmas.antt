@@ -1,5 +1,5 @@
--- A find: its call may end at the position that the search has, and is then added to those of its
--- pass. Serves `find`.
+-- A find: its call may end at the position that the search has, and is then added to the calls of
+-- its pass. Serves `find`.
 use Rattle.std.proofs.Common.{◌≡◌, ℕ, ◌+◌, ◌≤◌, Option, Some, None, List, [], ◌∷◌, ◌++◌, length, take, refl, sym, ap, ◌∙◌, subst, arith, length-append}
 use Rattle.std.proofs.lemmas.List.{take-append-le}
 use Rattle.ist_core.specs.declared.calls.Call.{Call}
@@ -11,11 +11,11 @@ use Rattle.ist_core.specs.Changes.{changes_of, map_at, map_behind}
 use Rattle.ist_core.specs.Lawful.{Lawful}
 use Rattle.ist_core.specs.Standing.{IsRead, IsFresh}
 use Rattle.ist_core.specs.StartLayout.{start}
-use Rattle.ist_histories.specs.Calls.{HasCalls, IsAdded}
-use Rattle.ist_histories.specs.Searching.{HasPosition}
-use Rattle.ist_histories.proofs.CallLemmas.{add_reading}
-use Rattle.ist_histories.proofs.ChangeLemmas.{changes_on}
-use Rattle.ist_histories.proofs.LoadOnLemmas.{at_prefix}
+use Rattle.laws_histories.specs.Calls.{HasCalls, IsAdded}
+use Rattle.laws_histories.specs.Searching.{HasPosition}
+use Rattle.laws_histories.proofs.CallLemmas.{add_reading}
+use Rattle.laws_histories.proofs.ChangeLemmas.{changes_on}
+use Rattle.laws_histories.proofs.LoadOnLemmas.{at_prefix}
 use Rattle.ist_rule.specs.declared.view.View.{View}
 use Rattle.ist_rule.specs.declared.view.Loads.{Loads}
 use Rattle.ist_core.specs.declared.events.Who.TheVariants.{Caller as CallerOf}
@@ -34,28 +34,18 @@ changes_rise pairs words earlier log g =
     let same = ap length on.1 in
     omega (arith, length-append (changes_of pairs words earlier) on.0)
 
--- the map behind so many changes is that of each longer log
-pub map_at_on : (pairs : List Pair) (words : ℕ) (log longer : Log) (position : ℕ)
-    → GoesOn log longer → position ≤ length (changes_of pairs words log)
-    → map_at (map_of pairs) (changes_of pairs words longer) position
-    ≡ map_at (map_of pairs) (changes_of pairs words log) position
-map_at_on pairs words log longer position g low =
-    let on = changes_on (start pairs words) log longer g in
-    ap (λ entries. map_behind (map_of pairs) entries)
-    (ap (take position) on.1
-    ∙ take-append-le position (changes_of pairs words log) on.0 low)
-
 -- a view that began to get the key when it had seen the earlier log, and then searched
-abbrev pub searched_view : View → ℕ → Log → Log → Loads → ℕ → View
-searched_view v key earlier log loads loaded =
+abbrev pub searched_view : View → ℕ → Log → Log → Loads → ℕ → ℕ → View
+searched_view v key earlier log loads loaded searches =
     record v {
       log = log;
       loads = loads;
       loaded = loaded;
+      searches = searches;
       pending = Some record { command = Some (Get key); length = length earlier };
     }
 
--- the call that its caller then makes, where it has found this value
+-- the call that its caller then makes, if it has found this value
 abbrev pub get_call : View → ℕ → Log → Log → Option ℕ → Call
 get_call v key earlier log value =
     record {
@@ -96,22 +86,23 @@ module _ (v : View) (number key : ℕ) (s : IsSound v) (mine : v.who ≡ CallerO
       (no_entry_behind v number s mine none log lawful all_later) refl
       (its_fresh v.log (later-goes_on before)) its_read
 
+  -- the call of the get is added to the pass's calls
   pub its_added : IsAdded v.start v.words v.log log number v.stamp v.calls (get_call v key earlier log value)
   its_added = record { has_calls = its_calls; fresh = its_fresh v.log (later-goes_on before) }
 
   -- the call is the one that is picked
-  pub found_is : (loads : Loads) (loaded : ℕ)
-      → found_call (searched_view v key earlier log loads loaded) value
+  pub found_is : (loads : Loads) (loaded searches : ℕ)
+      → found_call (searched_view v key earlier log loads loaded searches) value
       ≡ get_call v key earlier log value
-  found_is loads loaded =
+  found_is loads loaded searches =
       ap (λ (l : Log). get_call v key l log value) (at_prefix earlier log (later-goes_on later))
 
   -- and the view may end it
-  pub may_end : (loads : Loads) (loaded : ℕ)
-      → CanEnd (searched_view v key earlier log loads loaded)
-      (found_call (searched_view v key earlier log loads loaded) value)
-  may_end loads loaded =
-      subst (CanEnd (searched_view v key earlier log loads loaded)) (sym (found_is loads loaded))
+  pub may_end : (loads : Loads) (loaded searches : ℕ)
+      → CanEnd (searched_view v key earlier log loads loaded searches)
+      (found_call (searched_view v key earlier log loads loaded searches) value)
+  may_end loads loaded searches =
+      subst (CanEnd (searched_view v key earlier log loads loaded searches)) (sym (found_is loads loaded searches))
       record {
         number = number;
         mine = mine;

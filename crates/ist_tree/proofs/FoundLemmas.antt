@@ -10,10 +10,11 @@ use Rattle.ist_core.specs.Logs.{Log, GoesOn}
 use Rattle.ist_core.specs.Lawful.{Lawful, state_of}
 use Rattle.ist_core.specs.Standing.{IsFresh}
 use Rattle.ist_core.proofs.FateLemmas.{grow_between}
-use Rattle.ist_walks.specs.Walking.{IsChainOf}
-use Rattle.ist_histories.specs.Calls.{HasCalls}
-use Rattle.ist_histories.specs.Searching.{HasPosition}
-use Rattle.ist_histories.proofs.WovenLemmas.{learnt_first}
+use Rattle.laws_walks.specs.Walking.{IsChainOf}
+use Rattle.laws_histories.specs.Calls.{HasCalls}
+use Rattle.laws_histories.specs.Searching.{HasPosition}
+use Rattle.laws_histories.proofs.PositionOnLemmas.{position_on}
+use Rattle.laws_histories.proofs.WovenLemmas.{learnt_first}
 use Rattle.ist_rule.specs.declared.view.View.{View}
 use Rattle.ist_rule.specs.declared.view.Loads.{Loads}
 use Rattle.ist_core.specs.declared.events.Who.{Who}
@@ -33,30 +34,13 @@ use Rattle.ist_tree.proofs.BetweenLemmas.{has_its_calls}
 use Rattle.ist_tree.proofs.GoingLemmas.{IsLaterView, lawful_behind, pass_with_later}
 use Rattle.ist_tree.proofs.LoadingLemmas.{chain_on, costs_rise}
 use Rattle.ist_tree.proofs.PositionLemmas.{found_call}
-use Rattle.ist_tree.proofs.FindingLemmas.{changes_rise, map_at_on, searched_view, get_call, its_fresh, may_end, found_is}
+use Rattle.ist_tree.proofs.FindingLemmas.{searched_view, get_call, its_fresh, may_end, found_is}
 
 -- a caller in no call may begin one
 pub may_begin : (who : Caller) → IsPass who → CanBegin who.seat.view
 may_begin who p = record { number = who.number; mine = p.caller.mine; in_none = p.in_none }
 
--- a position in a log is one in a log that goes on, and for an earlier beginning
-pub position_later : (pairs : List Pair) (words : ℕ) (seen began log longer : Log) (key : ℕ)
-    (value : Option ℕ) → GoesOn seen began → GoesOn log longer
-    → HasPosition pairs words began log key value → HasPosition pairs words seen longer key value
-position_later pairs words seen began log longer key value g on h =
-    let less = changes_rise pairs words seen began g in
-    let more = changes_rise pairs words log longer on in
-    let from = h.from in
-    let to = h.to in
-    record {
-      position = h.position;
-      from = omega arith;
-      to = omega arith;
-      value_is = h.value_is ∙ ap (λ m. fin.get m key) (sym (map_at_on pairs words log longer
-          h.position on h.to));
-    }
-
--- what a find comes to, for a pass that contracts saw so
+-- what a find results in, for a pass with this face
 pub record FindEnds (old : PassFace) (who : Caller) (refused : Option Full) (seat : SeatFace)
     (key : ℕ) (value : Option ℕ) : Type 0 where
   pub pass : IsPassWith (record who { seat = seat }) refused
@@ -64,16 +48,18 @@ pub record FindEnds (old : PassFace) (who : Caller) (refused : Option Full) (sea
   pub added : AddsCall old (face_as seat who.number refused) (Get key) value
   pub position : HasPosition old.tree.start old.tree.words old.seen seat.view.log key value
   pub loads : HasLoadedFew old (face_as seat who.number refused) key
+  pub others : Later (CallerOf old.number) old.seen seat.view.log
 
--- the view behind a find
-abbrev pub ended_view : View → Log → Log → Call → Loads → ℕ → View
-ended_view v log last call loads loaded =
+-- the view after a find
+abbrev pub ended_view : View → Log → Log → Call → Loads → ℕ → ℕ → View
+ended_view v log last call loads loaded searches =
     record v {
       log = last;
       calls = v.calls ++ call ∷ [];
       stamp = v.stamp + 1;
       loads = loads;
       loaded = loaded;
+      searches = searches;
       pending = None;
     }
 
@@ -81,28 +67,33 @@ ended_view v log last call loads loaded =
 module _ (who : Caller) (key : ℕ) (value : Option ℕ) (b w : View) (s : IsSound who.seat.view)
     (p : IsPass who) (begun : Turned who.seat.view (beginning who.seat.view (Some (Get key))) b)
     (seen : HasSearched b w) (has : HasPosition w.start w.words b.log w.log key value) where
+  -- the view before the find
   abbrev v : View
   v = who.seat.view
 
   -- what became of its view
-  w_is : w ≡ searched_view v key b.log w.log w.loads w.loaded
+  pub w_is : w ≡ searched_view v key b.log w.log w.loads w.loaded w.searches
   w_is =
-      seen.same ∙ ap (λ (y : View). record y { log = w.log; loads = w.loads; loaded = w.loaded })
+      seen.same ∙ ap (λ (y : View). record y { log = w.log; loads = w.loads; loaded = w.loaded; searches = w.searches })
       begun.view
 
-  before : Later (CallerOf who.number) v.log b.log
+  -- others made the events up to the beginning of the find
+  pub before : Later (CallerOf who.number) v.log b.log
   before = subst (λ x. Later x v.log b.log) p.caller.mine begun.later
 
   b_who : b.who ≡ CallerOf who.number
   b_who = ap (λ (y : View). y.who) begun.view ∙ p.caller.mine
 
-  later : Later (CallerOf who.number) b.log w.log
+  -- others made the events during the search
+  pub later : Later (CallerOf who.number) b.log w.log
   later = subst (λ x. Later x b.log w.log) b_who seen.later
 
-  lawful : Lawful v.start v.words w.log
+  -- the log after the search is lawful
+  pub lawful : Lawful v.start v.words w.log
   lawful = subst (λ (y : View). Lawful y.start y.words w.log) w_is seen.sound.lawful
 
-  its_position : HasPosition v.start v.words b.log w.log key value
+  -- the key had the value at a position of the find
+  pub its_position : HasPosition v.start v.words b.log w.log key value
   its_position =
       subst (λ (y : View). HasPosition y.start y.words b.log w.log key value) w_is has
 
@@ -113,14 +104,14 @@ module _ (who : Caller) (key : ℕ) (value : Option ℕ) (b w : View) (s : IsSou
   call_is =
       ap (λ (y : View). found_call y value) w_is
       ∙ found_is v who.number key s p.caller.mine p.in_none b.log w.log before later lawful value
-      its_position w.loads w.loaded
+      its_position w.loads w.loaded w.searches
 
   -- it may end its call
   pub can_end : CanEnd w (found_call w value)
   can_end =
       subst (λ y. CanEnd y (found_call y value)) (sym w_is)
       (may_end v who.number key s p.caller.mine p.in_none b.log w.log before later lawful value
-      its_position w.loads w.loaded)
+      its_position w.loads w.loaded w.searches)
 
   fresh : IsFresh v.start v.words v.log v.stamp call
   fresh =
@@ -131,10 +122,11 @@ module _ (who : Caller) (key : ℕ) (value : Option ℕ) (b w : View) (s : IsSou
   module _ (seat : SeatFace) (refused : Option Full) (all : IsPassWith who refused)
       (same_table : seat.table ≡ who.seat.table)
       (ended : Turned w (ending w (found_call w value)) seat.view) where
+    -- the view after the find
     abbrev x : View
     x = seat.view
 
-    x_is : x ≡ ended_view v w.log x.log call w.loads (w.loaded + 1)
+    x_is : x ≡ ended_view v w.log x.log call w.loads (w.loaded + 1) w.searches
     x_is =
         ended.view
         ∙ ap₂ (λ (y : View) (c : Call). ending y c x.log) w_is call_is
@@ -145,6 +137,7 @@ module _ (who : Caller) (key : ℕ) (value : Option ℕ) (b w : View) (s : IsSou
         (subst (λ (a : Who). Later a w.log x.log)
         (ap (λ (y : View). y.who) w_is ∙ p.caller.mine) ended.later)
 
+    -- the view after the find is a later one
     pub later_view : IsLaterView v x
     later_view =
         record {
@@ -180,7 +173,7 @@ module _ (who : Caller) (key : ℕ) (value : Option ℕ) (b w : View) (s : IsSou
         (has_its_calls x who.number ended.sound (later_view.who_is ∙ p.caller.mine)
         (ap (λ (y : View). y.pending) x_is))
 
-    -- and has one call more
+    -- and has one more call
     pub adds_call : AddsCall (pass_face who refused) (face_as seat who.number refused) (Get key) value
     adds_call =
         record {
@@ -196,12 +189,12 @@ module _ (who : Caller) (key : ℕ) (value : Option ℕ) (b w : View) (s : IsSou
               l.tree h) l.seen l.stamp fresh;
         }
 
-    -- the reply is that of the map at a position that is no lower than what the pass had seen
+    -- the reply is the map's at a position that is no lower than what the pass had seen
     pub has_position : HasPosition v.start v.words v.log x.log key value
     has_position =
-        position_later v.start v.words v.log b.log w.log x.log key value (later-goes_on before)
+        position_on v.start v.words v.log b.log w.log x.log (later-goes_on before)
         (later-goes_on (subst (λ (a : Who). Later a w.log x.log)
-        (ap (λ (y : View). y.who) w_is ∙ p.caller.mine) ended.later)) its_position
+        (ap (λ (y : View). y.who) w_is ∙ p.caller.mine) ended.later)) key value its_position
 
     longer : GoesOn w.log x.log
     longer =
@@ -229,7 +222,7 @@ module _ (who : Caller) (key : ℕ) (value : Option ℕ) (b w : View) (s : IsSou
           few = omega arith;
         }
 
-    -- all of this together, for a pass that contracts saw so
+    -- all of this together, for a pass with this face
     pub find_ends : (old : PassFace) → pass_face who refused ≡ old → (node : ℕ) → HasFewLoads b w key node
         → FindEnds old who refused seat key value
     find_ends old view node few =
@@ -240,4 +233,5 @@ module _ (who : Caller) (key : ℕ) (value : Option ℕ) (b w : View) (s : IsSou
           added = adds_call;
           position = has_position;
           loads = has_loaded_few node few;
+          others = all_later;
         }

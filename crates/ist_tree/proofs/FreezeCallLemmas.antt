@@ -1,4 +1,4 @@
--- A freeze from the beginning of its call to its end, and the pass behind it. Serves `begin` and
+-- A freeze from the beginning of its call to its end, and the pass after it. Serves `begin` and
 -- `freeze`.
 use Rattle.std.proofs.Common.{◌≡◌, ℕ, List, length, Option, None, sym, ap, ap₂, ◌∙◌, subst, arith}
 use Rattle.ist_core.specs.declared.pairs.Pair.{Pair}
@@ -17,7 +17,7 @@ use Rattle.ist_rule.specs.Standings.{HasMade, IsBetween}
 use Rattle.ist_rule.proofs.LaterLemmas.{goes_on_more, later-goes_on}
 use Rattle.ist_rule.proofs.WentOnLemmas.{later_by-goes_on}
 use Rattle.ist_rows.specs.declared.callers.Caller.{Caller}
-use Rattle.ist_settling.specs.Settling.{DueRowsAreClosed}
+use Rattle.laws_settling.specs.Settling.{DueRowsAreClosed}
 use Rattle.ist_tree.specs.Calls.{HasSeenMore}
 use Rattle.ist_tree.specs.Insides.{HasSettled, IsPass, IsPassWith, face_as, pass_face}
 use Rattle.ist_tree.specs.Working.{IsReady, KeepsDone, Rebuilds, RebuildsOn}
@@ -65,7 +65,7 @@ module _ (who : Caller) (seat : SeatFace) (s : IsSound who.seat.view) (p : IsPas
         };
       }
 
-  -- and its entries are those of its calls
+  -- and its entries are its calls' entries
   pub begun_made : HasMade seat.view.start seat.view.words seat.view.log who.number seat.view.calls
   begun_made =
       subst (λ (y : View). HasMade y.start y.words seat.view.log who.number y.calls) (sym begun.view)
@@ -108,21 +108,27 @@ may_give_up who began new s p number begun ready on =
     }
 
 module _ (who began new : Caller) (seat : SeatFace) (it : IsWay who began new seat) where
+  -- the view before the call
   abbrev v : View
   v = who.seat.view
 
+  -- the view when the call has begun
   abbrev b : View
   b = began.seat.view
 
+  -- the view after the work
   abbrev w : View
   w = new.seat.view
 
+  -- the view after the call
   abbrev x : View
   x = seat.view
 
+  -- the begun view is later than the first
   pub b_view : IsLaterView v b
   b_view = begun_view who began.seat it.sound it.pass it.begun
 
+  -- the last view is later than the view after the work
   pub x_view : IsLaterView w x
   x_view =
       record {
@@ -133,44 +139,55 @@ module _ (who began new : Caller) (seat : SeatFace) (it : IsWay who began new se
         sound = it.given.sound;
       }
 
+  -- the start pairs are the same after the work
   pub w_start : w.start ≡ v.start
   w_start = ap (λ (y : View). y.start) it.on.went.same ∙ b_view.start_is
 
+  -- the number of words is the same after the work
   pub w_words : w.words ≡ v.words
   w_words = ap (λ (y : View). y.words) it.on.went.same ∙ b_view.words_is
 
+  -- the start pairs are the same after the call
   pub x_start : x.start ≡ v.start
   x_start = x_view.start_is ∙ w_start
 
+  -- the number of words is the same after the call
   pub x_words : x.words ≡ v.words
   x_words = x_view.words_is ∙ w_words
 
+  -- the log goes on while the call begins
   pub v_to_b : GoesOn v.log b.log
   v_to_b = later-goes_on it.begun.later
 
+  -- the log goes on during the work
   pub b_to_w : GoesOn b.log w.log
   b_to_w = later_by-goes_on it.on.went.later
 
+  -- the log goes on while the call ends
   pub w_to_x : GoesOn w.log x.log
   w_to_x = later-goes_on it.given.later
 
-  -- what is so by the last table is so by the first
+  -- what is true by the last view's table is true by the first's
   by_first : (Q : List Pair → ℕ → Type 0) → Q x.start x.words → Q v.start v.words
   by_first Q h = subst (λ pairs. Q pairs v.words) x_start (subst (λ words. Q x.start words) x_words h)
 
+  -- what is true by the table after the work is true by the first view's table
   pub by_middle : (Q : List Pair → ℕ → Type 0) → Q w.start w.words → Q v.start v.words
   by_middle Q h = subst (λ pairs. Q pairs v.words) w_start (subst (λ words. Q w.start words) w_words h)
 
+  -- the log after the work is lawful
   pub lawful_w : Lawful v.start v.words w.log
   lawful_w = by_middle (λ pairs words. Lawful pairs words w.log) it.on.went.sound.lawful
 
+  -- the log after the call is lawful
   pub lawful_x : Lawful v.start v.words x.log
   lawful_x = by_first (λ pairs words. Lawful pairs words x.log) it.given.sound.lawful
 
+  -- the caller keeps its number
   pub number_is : new.number ≡ who.number
   number_is = it.on.number ∙ it.began_number
 
-  -- ---- the pass behind it
+  -- ---- the pass after it
 
   -- the caller is a pass again
   pub ended_pass : IsPass (record new { seat = seat })
@@ -182,7 +199,7 @@ module _ (who began new : Caller) (seat : SeatFace) (it : IsWay who began new se
         in_none = ap (λ (y : View). y.pending) it.given.view;
       }
 
-  -- where its starts are done, all that was settled is so
+  -- if its starts are done, all that was settled is still settled
   settled_w : KeepsDone began new → HasSettled v.start v.words v.log who.number
       → HasSettled w.start w.words w.log new.number
   settled_w done h =
@@ -204,6 +221,7 @@ module _ (who began new : Caller) (seat : SeatFace) (it : IsWay who began new se
             (rebuilds_count_none began.number) at_b.due);
       }
 
+  -- the caller is a pass again, and all of its own is settled if no rebuild was refused
   pub ended_pass_with : (r q : Option Full) → IsPassWith who r → (q ≡ None → r ≡ None)
       → (q ≡ None → KeepsDone began new) → IsPassWith (record new { seat = seat }) q
   ended_pass_with r q all old done =

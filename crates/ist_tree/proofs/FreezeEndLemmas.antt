@@ -1,4 +1,4 @@
--- What a freeze answers, in the words of its pass. Serves `freeze`.
+-- What a freeze returns, in the words of its pass. Serves `freeze`.
 use Rattle.std.proofs.Common.{◌≡◌, ℕ, ◌+◌, ◌<◌, ◌≤◌, ◌⊎◌, length, filter, Option, Some, None, IfSome, refl, sym, ap, ◌∙◌, subst, inl, inr, arith, length-append}
 use Rattle.std.specs.Option.{option_or}
 use Rattle.std.proofs.lemmas.List.Elements.{filter-append}
@@ -9,9 +9,9 @@ use Rattle.ist_core.specs.Rebuilding.{IsFinishedWith}
 use Rattle.ist_core.specs.RowLayout.{change_words, rebuild_words}
 use Rattle.ist_core.specs.Spending.{spent}
 use Rattle.ist_core.specs.StartLayout.{start}
-use Rattle.ist_finished.specs.Finishing.{is_put, puts_in}
-use Rattle.ist_finished.proofs.NumberLemmas.{finished_few}
-use Rattle.ist_histories.proofs.ChangeLemmas.{changes_on}
+use Rattle.laws_rows.specs.Finishing.{is_put, puts_in}
+use Rattle.laws_rows.proofs.NumberLemmas.{finished_few}
+use Rattle.laws_histories.proofs.ChangeLemmas.{changes_on}
 use Rattle.ist_rebuild.specs.Helping.{IsAskedFor, for_change, for_row}
 use Rattle.ist_rebuild.specs.Starting.{StartsNone}
 use Rattle.ist_rule.specs.declared.view.View.{View}
@@ -35,20 +35,25 @@ use Rattle.ist_tree.proofs.BetweenLemmas.{between_calls}
 use Rattle.ist_tree.proofs.StartLemmas.{starts_none_later, starts_none_more}
 
 module _ (who began new : Caller) (seat : SeatFace) (it : IsWay who began new seat) where
+  -- the view before the call
   abbrev v : View
   v = who.seat.view
 
+  -- the view when the call has begun
   abbrev b : View
   b = began.seat.view
 
+  -- the view after the work
   abbrev w : View
   w = new.seat.view
 
+  -- the view after the call
   abbrev x : View
   x = seat.view
 
-  -- ---- what it answers
+  -- ---- what it returns
 
+  -- a tree that the work froze was frozen in the call
   pub has_frozen : (r q : Option Full) (frozen : Frozen)
       → WasFrozen b.start b.words b.log w.log frozen
       → HasFrozen (pass_face who r) (face_as seat new.number q) frozen
@@ -83,6 +88,7 @@ module _ (who began new : Caller) (seat : SeatFace) (it : IsWay who began new se
         };
       }
 
+  -- a start that was refused in the work was refused in the call
   pub freeze_refused : (r q : Option Full) (words : ℕ) (full : Full) → words ≡ v.words
       → IsShort w words full → (full.asked ≡ rebuild_words) ⊎ (full.asked ≡ change_words)
       → IsFreezeRefused (pass_face who r) (face_as seat new.number q) full
@@ -98,7 +104,7 @@ module _ (who began new : Caller) (seat : SeatFace) (it : IsWay who began new se
       (filter (λ (e : Entry). is_put e.command) on.0) in
       omega arith
 
-  -- where it started no rebuild, none was started in the call
+  -- if it started no rebuild, none was started in the call
   pub has_started_none : StartsNone (now b) (now w) began.number
       → StartsNone (now v) (now x) who.number
   has_started_none none =
@@ -182,6 +188,7 @@ pub record FreezeEnds (old : PassFace) (new : Caller) (seat : SeatFace) (q : Opt
   pub calls : seat.view.calls ≡ old.calls
   pub refused : KeepsRefusal old (face_as seat new.number q)
 
+-- a freeze that succeeds ends so
 pub freeze_ends : (who began new : Caller) (seat : SeatFace) (it : IsWay who began new seat)
     (r q : Option Full) → IsPassWith who r → (words : ℕ) → words ≡ who.seat.view.words
     → seat.table ≡ who.seat.table → (outcome : Outcome) → Freezes began new words outcome
@@ -218,6 +225,7 @@ pub record StopEnds (old : PassFace) (new : Caller) (seat : SeatFace) (r : Optio
   pub unrefused : r ≡ old.refused
   pub refused : KeepsRefusal old (face_as seat new.number r)
 
+-- a freeze that is refused ends so
 pub stop_ends : (who began new : Caller) (seat : SeatFace) (it : IsWay who began new seat)
     (r : Option Full) → IsPassWith who r → (words : ℕ) → words ≡ who.seat.view.words
     → seat.table ≡ who.seat.table → (full : Full) → IsStopped began new words full

@@ -9,8 +9,8 @@ use Rattle.ist_core.specs.Links.{IsChild}
 use Rattle.ist_core.specs.Logs.{Log, same_log}
 use Rattle.ist_core.specs.Rebuilding.{IsFinishedWith}
 use Rattle.ist_core.specs.RowLayout.{anchor}
-use Rattle.ist_links.proofs.FinishedLemmas.{target_grows}
-use Rattle.ist_links.proofs.FormLemmas.{started_grows}
+use Rattle.laws_links.proofs.FinishedLemmas.{target_grows}
+use Rattle.laws_links.proofs.FormLemmas.{started_grows}
 use Rattle.ist_rebuild.specs.declared.answers.Started.{Started}
 use Rattle.ist_rebuild.specs.declared.answers.Started.TheVariants.{Marked, Other}
 use Rattle.ist_rebuild.specs.Going.{Begins}
@@ -23,7 +23,7 @@ use Rattle.ist_rule.specs.Rule.{IsSound}
 use Rattle.ist_rule.proofs.LaterLemmas.{goes_on_more}
 use Rattle.ist_rule.proofs.WentOnLemmas.{later_by-goes_on, went_grow, went_lawful, went_now}
 use Rattle.ist_rows.specs.declared.callers.Caller.{Caller}
-use Rattle.ist_settling.specs.Settling.{StartsAreDone}
+use Rattle.laws_settling.specs.Settling.{StartsAreDone}
 use Rattle.ist_tree.specs.declared.freezing.Frozen.{Frozen}
 use Rattle.ist_tree.specs.declared.freezing.Outcome.{Outcome}
 use Rattle.ist_tree.specs.declared.freezing.Site.{Site}
@@ -40,7 +40,7 @@ use Rattle.ist_tree.proofs.StartLemmas.{starts_none_more, starts_none_went}
 
 -- ---- one table
 
--- what is so by the table of a view that went on is so by that of the first
+-- what is true by the table of a view that went on is true by the first view's table
 pub by_table : (P : Event → Type 0) (v w : View) → WentOn P v w → (Q : List Pair → ℕ → Type 0)
     → Q w.start w.words → Q v.start v.words
 by_table P v w g Q h =
@@ -49,7 +49,7 @@ by_table P v w g Q h =
 
 -- ---- what was met
 
--- a row that was the anchor's child since the second view was so since the first
+-- a row that was the anchor's child since the second view was its child since the first
 pub top_more : (P : Event → Type 0) (u v : View) (log : Log) → WentOn P u v → (target : ℕ)
     → WasTop v log target → WasTop u log target
 top_more P u v log g target t =
@@ -69,7 +69,7 @@ frozen_more P u v log g frozen l w =
     by_table P u v g (λ pairs words. WasFrozen pairs words u.log log frozen)
     (was_frozen_on v.start v.words u.log v.log log log l (later_by-goes_on g.later) same_log frozen w)
 
--- starts that were done but for one are so still, seen from an earlier caller
+-- starts that are kept done, except one, are kept so from an earlier caller on
 pub but_more : (a b c : Caller) (o : Option ℕ) → b.number ≡ a.number → KeepsDone a b
     → KeepsDoneBut b c o → KeepsDoneBut a c o
 but_more a b c None number one two = done_more a b c number one two
@@ -78,14 +78,14 @@ but_more a b c (Some rebuild) number one two =
     subst (λ n. StartsAreDoneBut (now c.seat.view) n rebuild) number
     (two (subst (StartsAreDone (now b.seat.view)) (sym number) (one done)))
 
--- where all are done, all but one are
+-- if all are done, all but one are
 pub all_but : (a c : Caller) (rebuild : ℕ) → KeepsDone a c → KeepsDoneBut a c (Some rebuild)
 all_but a c rebuild done =
     λ was base change e own kind said other to. inr (done was base change e own kind said other to)
 
 -- ---- going on without a start
 
--- a caller goes on so to itself
+-- a caller goes on without a start to itself
 pub idle_same : (who : Caller) → IsSound who.seat.view → IsReady who → GoesIdle who who
 idle_same who s r =
     record {
@@ -94,7 +94,7 @@ idle_same who s r =
       none = λ base change e own kind said. e;
     }
 
--- and goes on twice
+-- two such parts, one after the other, are one
 pub idle_more : (a b c : Caller) → GoesIdle a b → GoesIdle b c → GoesIdle a c
 idle_more a b c one two =
     record {
@@ -119,7 +119,7 @@ plain_idle P all who seat r went =
           seat.view r.caller.mine r.quiet.resolved went;
     }
 
--- and so is a start that started none
+-- a start that started none is idle
 pub begins_idle : (old new : Caller) → RebuildsOn old new → KeepsDone old new
     → StartsNone (now old.seat.view) (now new.seat.view) old.number → GoesIdle old new
 begins_idle old new on done none = record { on = on; done = done; none = none }
@@ -131,6 +131,7 @@ pub other_unstarted : (v w : View) (number : ℕ) (answer : Started) (word : ℕ
 other_unstarted v w number answer word is left =
     subst (λ a. LeavesUnstarted (now v) (now w) number (Ok a)) is left
 
+-- if the parent was marked, no rebuild was started
 pub marked_unstarted : (v w : View) (number : ℕ) (answer : Started) → answer ≡ Marked
     → LeavesUnstarted (now v) (now w) number (Ok answer) → StartsNone (now v) (now w) number
 marked_unstarted v w number answer is left =
@@ -138,6 +139,7 @@ marked_unstarted v w number answer is left =
 
 -- ---- what was met, over further steps
 
+-- what is met after further steps is met from the beginning
 pub met_more : (a b c : Caller) (site : Site) → RebuildsOn a b → KeepsDone a b → HasMet b c site
     → HasMet a c site
 met_more a b c site on done m =
@@ -156,6 +158,7 @@ met_more a b c site on done m =
     here (Rebuilt rebuild target) w =
         (w.0, top_more Rebuilds a.seat.view b.seat.view c.seat.view.log on.went target w.1)
 
+-- what may be met after idle steps may be met from the beginning
 pub may_have_met_more : (a b c : Caller) (o : Option Site) → GoesIdle a b → MayHaveMet b c o
     → MayHaveMet a c o
 may_have_met_more a b c (Some site) g m = met_more a b c site g.on g.done m
@@ -163,6 +166,7 @@ may_have_met_more a b c None g m = idle_more a b c g m
 
 -- ---- refusals
 
+-- a start that is refused after idle steps is refused from the beginning
 pub stopped_more : (a b c : Caller) (words : ℕ) (full : Full) → GoesIdle a b
     → IsStopped b c words full → IsStopped a c words full
 stopped_more a b c words full g s =
@@ -180,7 +184,7 @@ start_stopped old new words full g r =
 
 -- ---- a rebuild
 
--- one of this target is so still
+-- a rebuild of this target stays one
 pub rebuild_on : (P : Event → Type 0) (v w : View) → WentOn P v w → (rebuild target : ℕ)
     → IsRebuildOf (now v) rebuild target → IsRebuildOf (now w) rebuild target
 rebuild_on P v w g rebuild target r =
@@ -234,21 +238,21 @@ target_frozen a b c words rebuild target outcome m f =
     lawful : Lawful v.start v.words w.log
     lawful = went_lawful Rebuilds v w all.went
 
--- ---- answers
+-- ---- results
 
--- what is so of an answer may be said in other words
+-- a fact about a success may be replaced by one that it implies
 pub ok_map : {A : Type 0} (P Q : A → Type 0) (answer : Result A Full) → ((a : A) → P a → Q a)
     → IfOk answer P → IfOk answer Q
 ok_map P Q (Ok a) all h = all a h
 ok_map P Q (Err full) all h = tt
 
--- and so of a refusal
+-- a fact about a refusal may be replaced by one that it implies
 pub err_map : {A : Type 0} (P Q : Full → Type 0) (answer : Result A Full)
     → ((full : Full) → P full → Q full) → IfErr answer P → IfErr answer Q
 err_map P Q (Ok a) all h = tt
 err_map P Q (Err full) all h = all full h
 
--- where no site was met, the caller has gone on
+-- if no site was met, the caller has only gone on
 pub none_met : (old new : Caller) (o : Option Site) → ((site : Site) → o ≢ Some site)
     → MayHaveMet old new o → GoesIdle old new
 none_met old new (Some site) other m = absurd (other site refl)

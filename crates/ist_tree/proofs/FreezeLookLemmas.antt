@@ -1,4 +1,4 @@
--- What stands below the anchor: by the word in its slot. Serves `look` and what it calls.
+-- What is below the anchor, by the word in its slot. Serves `look` and what it calls.
 use Rattle.std.proofs.Common.{◌≡◌, ℕ, Some, refl, sym, ap, ◌∙◌, subst, inr}
 use Rattle.ist_core.specs.declared.states.RebuildRow.{RebuildRow}
 use Rattle.ist_core.specs.Links.{Linked, at_anchor}
@@ -18,10 +18,10 @@ use Rattle.ist_core.proofs.ReferenceLemmas.{word_of-ref_of}
 use Rattle.ist_core.proofs.SlotLemmas.{no_row}
 use Rattle.ist_find.specs.Searches.{SeesChange}
 use Rattle.ist_layout.specs.Meanings.{ref_meant}
-use Rattle.ist_links.proofs.FormLemmas.{started_grows}
+use Rattle.laws_links.proofs.FormLemmas.{started_grows}
 use Rattle.ist_rebuild.specs.Starting.{MayStart}
 use Rattle.ist_rebuild.proofs.SiteLemmas.{started_rebuild}
-use Rattle.ist_settling.proofs.ReadLemmas.{read_started}
+use Rattle.laws_settling.proofs.ReadLemmas.{read_started}
 use Rattle.ist_rule.specs.declared.view.View.{View}
 use Rattle.ist_rule.specs.Faces.{SeatFace}
 use Rattle.ist_rule.specs.Going.{WentOn}
@@ -41,7 +41,7 @@ use Rattle.ist_tree.proofs.FreezingLemmas.{top_was_frozen}
 use Rattle.ist_tree.proofs.RebuildLemmas.{load_plain, plain_done, plain_on}
 
 module _ (v : View) (s : IsSound v) (word : ℕ) (holds : SlotHolds (now v) anchor 0 word) where
-  -- the word is that of the anchor's slot
+  -- the word is in the anchor's slot
   anchor_is : (now v).anchor ≡ word
   anchor_is = at holds
     where
@@ -64,10 +64,12 @@ module _ (v : View) (s : IsSound v) (word : ℕ) (holds : SlotHolds (now v) anch
 
   -- ---- an inner row
 
+  -- an inner row that the word names was the anchor's child
   pub row_top : (target : ℕ) → ref_of word ≡ Some (InnerAt target) → WasTop v v.log target
   row_top target is =
       child_top target (ap (λ o. past_rebuild (now v).pieces (past_change (now v).pieces o)) is)
 
+  -- a rebuild of an inner row that the word names may be started
   pub row_may_start : (target : ℕ) → ref_of word ≡ Some (InnerAt target) → MayStart v anchor 0 target
   row_may_start target is =
       let named = subst (SlotNames (now v).pieces anchor 0) is
@@ -86,12 +88,14 @@ module _ (v : View) (s : IsSound v) (word : ℕ) (holds : SlotHolds (now v) anch
 
   -- ---- a rebuild
 
+  -- a rebuild that the word names is started
   pub rebuild_started : (rebuild : ℕ) → ref_of word ≡ Some (RebuildAt rebuild)
       → IsStarted (now v) rebuild
   rebuild_started rebuild is =
       read_started v.start v.words s.lawful.opens v.log s.lawful.enabled anchor 0 rebuild
       record { word = word; holds = holds; reads = ap (past_change (now v).pieces) is }
 
+  -- the target of a rebuild that the word names was the anchor's child
   pub rebuild_top : (rebuild : ℕ) → ref_of word ≡ Some (RebuildAt rebuild) → (target : ℕ)
       → HasTarget (now v) rebuild target → WasTop v v.log target
   rebuild_top rebuild is target h =
@@ -101,6 +105,7 @@ module _ (v : View) (s : IsSound v) (word : ℕ) (holds : SlotHolds (now v) anch
 
   -- ---- a change
 
+  -- a change that the word names is seen
   pub change_seen : (base : ℕ) → ref_of word ≡ Some (ChangeAt base) → SeesChange v base
   change_seen base is =
       let named = subst (SlotNames (now v).pieces anchor 0) is
@@ -122,6 +127,7 @@ module _ (v : View) (s : IsSound v) (word : ℕ) (holds : SlotHolds (now v) anch
       ap (logical (now v).pieces) anchor_is
       ∙ ap (λ o. past_rebuild (now v).pieces (past_change (now v).pieces o)) is
 
+  -- a tree that the word names is frozen now if no step changes it
   pub still_top : (frozen : Frozen) → ref_of word ≡ Some (ref_meant frozen.root)
       → IsStill (now v) (ref_meant frozen.root) frozen.keys
       → WasFrozen v.start v.words v.log v.log frozen
@@ -129,6 +135,7 @@ module _ (v : View) (s : IsSound v) (word : ℕ) (holds : SlotHolds (now v) anch
       top_was_frozen v.start v.words v.log s.lawful frozen
       (still_reads (ref_meant frozen.root) frozen.keys still is) still
 
+  -- a leaf that the word names is a frozen tree with one key
   pub leaf_still : (base : ℕ) → ref_of word ≡ Some (LeafAt base) → IsStill (now v) (LeafAt base) 1
   leaf_still base is =
       let named = subst (SlotNames (now v).pieces anchor 0) is
@@ -142,9 +149,11 @@ module _ (who : Caller) (seat : SeatFace) (ready : IsReady who)
   went : WentOn (λ event. ⊥) who.seat.view seat.view
   went = goes_on_went (λ event. ⊥) who.seat.view seat.view seen
 
+  -- the caller started no rebuild
   pub looked_idle : GoesIdle who (record who { seat = seat })
   looked_idle = plain_idle (λ event. ⊥) load_plain who seat ready went
 
+  -- the caller has met the frozen tree
   pub looked_still : (frozen : Frozen)
       → WasFrozen seat.view.start seat.view.words seat.view.log seat.view.log frozen
       → HasMet who (record who { seat = seat }) (Still frozen)

@@ -5,7 +5,7 @@ use Rattle.ist_core.specs.declared.events.Event.{Event}
 use Rattle.ist_core.specs.declared.ports.Full.{Full}
 use Rattle.ist_core.specs.Marking.{as_target}
 use Rattle.ist_core.specs.Rebuilding.{IsFinishedWith, IsReplaced}
-use Rattle.ist_links.proofs.FormLemmas.{finished_with_grows}
+use Rattle.laws_links.proofs.FormLemmas.{finished_with_grows}
 use Rattle.ist_mark.specs.Marking.{MayMark, Marks}
 use Rattle.ist_mark.proofs.SubtreeLemmas.{marks_keep}
 use Rattle.ist_rebuild.specs.declared.answers.Helped.{Helped}

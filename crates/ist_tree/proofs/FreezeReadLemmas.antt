@@ -20,7 +20,7 @@ use Rattle.ist_find.proofs.ReadLemmas.{leaf_on}
 use Rattle.ist_layout.specs.Meanings.{ref_meant}
 use Rattle.ist_layout.specs.declared.references.Ref as layouts
 use Rattle.ist_layout.specs.declared.references.Ref.TheVariants.{Change, Empty, Inner, Leaf as LeafRef, Rebuild, Unset}
-use Rattle.ist_rebuilds.proofs.FewLeafLemmas.{leaves_stand}
+use Rattle.laws_rebuilds.proofs.FewLeafLemmas.{leaves_stand}
 use Rattle.ist_rule.specs.declared.view.View.{View}
 use Rattle.ist_rule.specs.Faces.{SeatFace}
 use Rattle.ist_rule.specs.Learning.{GoesOnTo, Looked, now}
@@ -40,7 +40,7 @@ use Rattle.ist_tree.proofs.GoingLemmas.{IsLaterView, pass_with_later}
 
 -- ---- the leaf
 
--- that of a row's leaves
+-- a leaf among a row's leaves has its number
 pub leaf_numbered : (v : View) → IsSound v → (ref : Ref) (keys target i base : ℕ) (found : Ref)
     → IsStill (now v) ref keys → ref ≡ InnerAt target
     → ((leaves : List PlacedLeaf) → HasLeaves (now v).pieces (Some (InnerAt target)) leaves
@@ -70,7 +70,7 @@ inner_meant (Inner other) base e = ap Inner (same other base e)
 inner_meant (Change other) base e = absurd (cc)
 inner_meant (Rebuild other) base e = absurd (cc)
 
--- that of a leaf alone
+-- a leaf that is the root is leaf number 0
 pub leaf_itself : (t : Snapshot) (root : layouts.Ref) (keys i base : ℕ)
     → IsStill t (ref_meant root) keys → i < keys → ((b : ℕ) → root ≢ Inner b)
     → ((b : ℕ) → ref_meant root ≡ LeafAt b → base ≡ b) → IsLeafNumber t (ref_meant root) i base
@@ -172,7 +172,7 @@ numbered_pair v w s frozen i base pair still n g p =
 
 -- ---- the pass
 
--- the pass behind the reading
+-- the pass after the reading
 pub record ReadEnds (old : PassFace) (who : Caller) (refused : Option Full) (seat : SeatFace)
     (frozen : Frozen) : Type 0 where
   pub pass : IsPassWith (record who { seat = seat }) refused
@@ -180,6 +180,7 @@ pub record ReadEnds (old : PassFace) (who : Caller) (refused : Option Full) (sea
   pub calls : seat.view.calls ≡ old.calls
   pub still : IsFrozenFor (face_as seat who.number refused) frozen
 
+-- a pass that has only loaded ends the reading so
 pub read_ends : (who : Caller) (refused : Option Full) (seat : SeatFace) → IsPassWith who refused
     → GoesOnTo who.seat.view seat.view → seat.table ≡ who.seat.table → (frozen : Frozen)
     (old : PassFace) → pass_face who refused ≡ old → IsFrozenFor old frozen

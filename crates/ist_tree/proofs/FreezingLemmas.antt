@@ -21,21 +21,22 @@ use Rattle.ist_core.proofs.FateLemmas.{grow_between}
 use Rattle.ist_core.proofs.GrowingLemmas.{leaf_there}
 use Rattle.ist_core.proofs.KeepingLemmas.{finished_leaves_stay}
 use Rattle.ist_core.proofs.LeafLemmas.{reached, same_leaves}
-use Rattle.ist_finished.proofs.FinishLemmas.{finished_rise}
-use Rattle.ist_finished.proofs.FreezeLemmas.{frozen_pairs}
-use Rattle.ist_histories.specs.Telling.{map_now}
-use Rattle.ist_histories.proofs.ContentLemmas.{contents_at}
+use Rattle.laws_rows.proofs.FinishLemmas.{finished_rise}
+use Rattle.laws_rows.proofs.FreezeLemmas.{frozen_pairs}
+use Rattle.laws_histories.specs.Telling.{map_now}
+use Rattle.laws_histories.proofs.ContentLemmas.{contents_at}
 use Rattle.ist_layout.specs.Meanings.{ref_meant}
 use Rattle.ist_layout.specs.declared.references.Ref.TheVariants.{Inner}
-use Rattle.ist_links.proofs.FormLemmas.{finished_with_grows}
-use Rattle.ist_rebuilds.proofs.FinishedLeafLemmas.{finished_leaves}
+use Rattle.laws_links.proofs.FormLemmas.{finished_with_grows}
+use Rattle.laws_rebuilds.proofs.FinishedLeafLemmas.{finished_leaves}
 use Rattle.ist_tree.specs.declared.freezing.Frozen.{Frozen}
 use Rattle.ist_tree.specs.Freezing.{HasFrozenPairs, HasItsPairs, IsFrozen, IsStill, WasFrozen, all_keys, no_key, one_key}
-use Rattle.ist_tree.proofs.FindingLemmas.{changes_rise, map_at_on}
+use Rattle.laws_histories.proofs.PositionOnLemmas.{map_at_on}
+use Rattle.ist_tree.proofs.FindingLemmas.{changes_rise}
 
 -- ---- what is frozen stays so
 
--- what no step changes is so where rows grow
+-- what no step changes stays so while rows grow
 pub still_stays : (t u : Snapshot) → AllGrow t.pieces u.pieces → (ref : Ref) (keys : ℕ)
     → IsStill t ref keys → IsStill u ref keys
 still_stays t u g _ _ no_key = no_key
@@ -104,6 +105,7 @@ none_rise k less = absurd (omega arith)
 one_rises : (key : ℕ) → IsStrictlyIncreasing (key ∷ [])
 one_rises key k less = absurd (omega arith)
 
+-- a reference that no step changes has its leaves
 pub still_leaves : (pairs : List Pair) (words : ℕ) (log : Log) → Lawful pairs words log
     → (ref : Ref) (keys : ℕ) → IsStill (state_of pairs words log) ref keys
     → HasItsLeaves (state_of pairs words log) ref keys
@@ -145,7 +147,7 @@ has_its_pairs pairs words log l frozen f =
       rising = pairs_rise it.leaves it.rising;
     }
 
--- and no others
+-- a frozen tree has at most one list of pairs
 pub frozen_pairs_are_one : (pairs : List Pair) (words : ℕ) (log : Log) (frozen : Frozen)
     (found others : List Pair) → HasFrozenPairs pairs words log frozen found
     → HasFrozenPairs pairs words log frozen others → found ≡ others
@@ -158,7 +160,7 @@ frozen_pairs_are_one pairs words log frozen found others a b =
 
 -- ---- what was frozen
 
--- what was frozen between two logs was so between an earlier one and a later one
+-- what was frozen between two logs was frozen between an earlier one and a later one
 pub was_frozen_on : (pairs : List Pair) (words : ℕ) (first earlier log longer : Log)
     → Lawful pairs words longer → GoesOn first earlier → GoesOn log longer → (frozen : Frozen)
     → WasFrozen pairs words earlier log frozen → WasFrozen pairs words first longer frozen

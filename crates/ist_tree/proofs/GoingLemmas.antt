@@ -34,7 +34,7 @@ lawful_behind v w l =
     subst (λ p. Lawful p v.words w.log) l.start_is
     (subst (λ n. Lawful w.start n w.log) l.words_is l.sound.lawful)
 
--- a caller whose refused builds are told
+-- a caller, with the fact that its builds were refused
 pub record IsCallerWith (who : Caller) : Type 0 where
   pub caller : IsCaller who
   pub refused : HasRefused who
@@ -75,7 +75,7 @@ caller_on who seat c refused l =
           (filter (λ (h : HeldRow). h.caller == who.number) t.held)))) now_is stuck;
     }
 
--- a caller in no call is a pass still
+-- a caller in no call is still a pass's caller
 pub pass_later : (who : Caller) (seat : SeatFace) → IsPass who
     → IsLaterView who.seat.view seat.view → seat.view.pending ≡ None
     → IsPass (record who { seat = seat })
@@ -83,7 +83,7 @@ pass_later who seat p l none =
     let it = caller_on who seat p.caller p.refused l in
     record { caller = it.caller; refused = it.refused; in_none = none }
 
--- and what it has settled is so still
+-- a caller in no call is still a pass's caller, and what it has settled is still settled
 pub pass_with_later : (who : Caller) (seat : SeatFace) (refused : Option Full)
     → IsPassWith who refused → IsLaterView who.seat.view seat.view → seat.view.pending ≡ None
     → IsPassWith (record who { seat = seat }) refused

@@ -18,18 +18,18 @@ use Rattle.ist_core.specs.References.{InnerAt, word_of}
 use Rattle.ist_core.specs.StartLayout.{start}
 use Rattle.ist_core.proofs.FateLemmas.{enabled_before, grow_between}
 use Rattle.ist_core.proofs.GrowingLemmas.{inner_there}
-use Rattle.ist_settling.specs.Settling.{InstallsNoStart}
+use Rattle.laws_settling.specs.Settling.{InstallsNoStart}
 use Rattle.ist_rule.specs.declared.view.View.{View}
 use Rattle.ist_core.specs.declared.events.Who.TheVariants.{Caller as CallerOf}
 use Rattle.ist_core.specs.Authors.{LaterBy, whose}
-use Rattle.ist_rule.specs.Going.{WentOn}
+use Rattle.ist_rule.specs.Going.{SearchedOn, WentOn}
 use Rattle.ist_rule.proofs.LaterLemmas.{goes_on_length}
 use Rattle.ist_rule.specs.Faces.{SeatFace}
 use Rattle.ist_rule.proofs.WentOnLemmas.{later_by-goes_on, went_lawful}
 use Rattle.ist_rows.specs.declared.callers.Caller.{Caller}
 use Rattle.ist_rows.specs.Rows.{IsCaller}
 use Rattle.ist_rebuild.specs.Going.{StartsAt}
-use Rattle.ist_settling.proofs.DoneLemmas.{others_start_nothing}
+use Rattle.laws_settling.proofs.DoneLemmas.{others_start_nothing}
 use Rattle.ist_updates.specs.declared.updates.Due.{Due}
 use Rattle.ist_updates.specs.Asking.{Updates}
 use Rattle.ist_updates.specs.Counting.{HasMadeDue}
@@ -40,22 +40,22 @@ use Rattle.ist_tree.proofs.CameLemmas.{event_since, in_order, whole_or_before}
 use Rattle.ist_tree.proofs.EventLemmas.{updates_start_none}
 use Rattle.ist_tree.proofs.WayLemmas as way
 
--- a row that came to its limit is at it still
+-- a row that reached its limit is still at it
 still_due : (old new : InnerRow) → InnerGrows old new → IsDue old → IsDue new
 still_due old new g d =
     let count = g.count in
     subst (λ s. limit s ≤ new.count) (sym g.size) (le_trans d count)
 
 module _ (pairs : List Pair) (words caller : ℕ) where
-  -- an event behind a log isn't in it
-  not_before : (event : Event) (earlier at : Log) → GoesOn earlier at
+  -- an event after a log isn't in it
+  pub not_before : (event : Event) (earlier at : Log) → GoesOn earlier at
       → ¬ (GoesOn (event ∷ at) earlier)
   not_before event earlier at a b =
       let x = goes_on_length a in
       let y = goes_on_length b in
       omega arith
 
-  -- where no start was installed, each was in the place of a due row
+  -- if no start was installed, each start was of a due row: there is none
   pub none_due : (Q : Event → Type 0) → ((event : Event) → Q event → InstallsNoStart caller event)
       → (earlier log : Log) → GoesOnBy Q earlier log → InstallsDue pairs words earlier log caller
   none_due Q none earlier log g at base rows change since until is kind =
@@ -63,7 +63,7 @@ module _ (pairs : List Pair) (words caller : ℕ) where
       (λ q. absurd (none (Install caller base rows) q refl change is kind))
       (event_since Q (Install caller base rows) earlier at log g until)
 
-  -- and so it was of two parts of a log, where it was of each
+  -- if this holds of two parts of a log, one after the other, it holds of both together
   pub due_more : (a b c : Log) → GoesOn b c → InstallsDue pairs words a b caller
       → InstallsDue pairs words b c caller → InstallsDue pairs words a c caller
   due_more a b c g one two at base rows change since until is kind =
@@ -77,7 +77,7 @@ module _ (pairs : List Pair) (words caller : ℕ) where
           (subst (GoesOn (Install caller base rows ∷ at)) (sym e) same_log) is kind
       behind (inr k) = two at base rows change k until is kind
 
-  -- a start in the place of a row that was due was in that of a due row
+  -- if all starts are of one row that was due before, each was of a due row
   pub aimed_due : (earlier log : Log) → EachEnabled (start pairs words) log → (target : ℕ)
       → LaterBy (CallerOf caller) (StartsAt target) earlier log → (row : InnerRow)
       → (state_of pairs words earlier).pieces target ≡ Some (Inner row) → IsDue row
@@ -114,19 +114,19 @@ unstarted P number none event either =
     ⊎_elim (others_start_nothing number event) (none event)
     either
 
--- an update alone starts nothing
+-- an update by itself starts nothing
 pub applied_starts : (old mid : Caller) → old.seat.view.who ≡ CallerOf old.number
-    → WentOn Updates old.seat.view mid.seat.view → StartsDue old mid
+    → SearchedOn Updates old.seat.view mid.seat.view → StartsDue old mid
 applied_starts old mid mine went =
     let v = old.seat.view in
     none_due v.start v.words old.number
     (λ event. (whose event ≢ CallerOf old.number) ⊎ Updates event)
     (unstarted Updates old.number (updates_start_none old.number)) v.log mid.seat.view.log
-    (subst (λ x. LaterBy x Updates v.log mid.seat.view.log) mine went.later)
+    (subst (λ x. LaterBy x Updates v.log mid.seat.view.log) mine went.went.later)
 
--- and the rebuild behind it is of the row that it made due
+-- and the rebuild after it is of the row that it made due
 pub carried_starts : (old mid new : Caller) (due : Due) → old.seat.view.who ≡ CallerOf old.number
-    → IsCaller mid → mid.number ≡ old.number → WentOn Updates old.seat.view mid.seat.view
+    → IsCaller mid → mid.number ≡ old.number → SearchedOn Updates old.seat.view mid.seat.view
     → HasMadeDue old.seat.view mid.seat.view old.number due.parent due.index due.target
     → WentOn (StartsAt due.target) mid.seat.view new.seat.view → StartsDue old new
 carried_starts old mid new due mine c number went made aims =
@@ -136,9 +136,9 @@ carried_starts old mid new due mine c number went made aims =
     due_more v.start v.words old.number v.log m.log w.log (later_by-goes_on aims.later)
     (applied_starts old mid mine went)
     (subst (λ pairs. InstallsDue pairs v.words m.log w.log old.number)
-    (ap (λ (x : View). x.start) went.same)
+    (ap (λ (x : View). x.start) went.went.same)
     (subst (λ words. InstallsDue m.start words m.log w.log old.number)
-    (ap (λ (x : View). x.words) went.same)
+    (ap (λ (x : View). x.words) went.went.same)
     (aimed_due m.start m.words old.number m.log w.log
     (went_lawful (StartsAt due.target) m w aims).enabled due.target
     (subst (λ x. LaterBy x (StartsAt due.target) m.log w.log) (c.mine ∙ ap CallerOf number)

@@ -16,6 +16,7 @@ pub mod InstallLemmas
 pub mod RefusalLemmas
 pub mod UpdateLemmas
 pub mod EndsLemmas
+pub mod LetGoLemmas
 pub mod PortLemmas
 pub mod GoingLemmas
 pub mod LoadingLemmas
@@ -33,3 +34,11 @@ pub mod FreezeCallLemmas
 pub mod FreezeEndLemmas
 pub mod FreezeReadLemmas
 pub mod FreezeMarkLemmas
+pub mod FurtherLemmas
+pub mod WalkCountLemmas
+pub mod DueFurtherLemmas
+pub mod InsteadLemmas
+pub mod SpanLemmas
+pub mod RoundLemmas
+pub mod FewChangesLemmas
+pub mod LookedLemmas

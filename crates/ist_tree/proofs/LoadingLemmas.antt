@@ -1,4 +1,4 @@
--- What a search costs is told by each longer log: chains and keys stay. Serves `find`.
+-- What a search costs is the same by each longer log: chains and keys stay. Serves `find`.
 use Rattle.std.proofs.Common.{◌≡◌, ℕ, ◌+◌, ◌≤◌, List, [], ◌∷◌, Option, Some, None, refl, sym, ap, ◌∙◌, le_refl, arith}
 use Rattle.std.specs.List.{sum_by}
 use Rattle.std.proofs.lemmas.List.Sums.{sum_by-append}
@@ -16,8 +16,8 @@ use Rattle.ist_core.proofs.GrowingLemmas.{inner_there}
 use Rattle.ist_core.proofs.PrefixLemmas.{ever_from}
 use Rattle.ist_math.specs.Guess.{guess_in, distance}
 use Rattle.ist_rule.proofs.LaterLemmas.{goes_on_more}
-use Rattle.ist_walks.specs.Walking.{IsChainOf, WalksTo, at_top, walks_down}
-use Rattle.ist_walks.proofs.WalkLemmas.{walked_chain}
+use Rattle.laws_walks.specs.Walking.{IsChainOf, WalksTo, at_top, walks_down}
+use Rattle.laws_walks.proofs.WalkLemmas.{walked_chain}
 use Rattle.ist_find.specs.Searches.{keys_in}
 use Rattle.ist_tree.specs.Calls.{row_loads}
 
@@ -75,7 +75,7 @@ row_rises t u g key row = at (t.pieces row) refl
     at (Some (Rebuild r)) e = least (Some (Rebuild r)) e refl
     at None e = least None e refl
 
--- nor do rows together
+-- what rows cost together doesn't fall
 pub costs_rise : (t u : Snapshot) → AllGrow t.pieces u.pieces → (key : ℕ) (rows : List ℕ)
     → sum_by (row_loads t key) rows ≤ sum_by (row_loads u key) rows
 costs_rise t u g key [] = le_refl 0

@@ -5,10 +5,10 @@ use Rattle.ist_core.specs.Logs.{same_log}
 use Rattle.ist_core.specs.Lawful.{Lawful}
 use Rattle.ist_core.specs.Standing.{StandsIn}
 use Rattle.ist_core.specs.Histories.{StandInPrefixes}
-use Rattle.ist_histories.specs.Calls.{HasCalls}
-use Rattle.ist_histories.proofs.ContentLemmas.{told_at}
-use Rattle.ist_histories.proofs.WovenLemmas.{woven_legal}
-use Rattle.ist_histories.proofs.PlacedLemmas.{has_places}
+use Rattle.laws_histories.specs.Calls.{HasCalls}
+use Rattle.laws_histories.proofs.ContentLemmas.{told_at}
+use Rattle.laws_histories.proofs.WovenLemmas.{woven_legal}
+use Rattle.laws_histories.proofs.PlacedLemmas.{has_places}
 use Rattle.ist_rule.specs.declared.view.View.{View}
 use Rattle.ist_core.specs.Authors.{Later}
 use Rattle.ist_rule.specs.Faces.{SeatFace}
@@ -22,7 +22,7 @@ use Rattle.ist_tree.specs.Insides.{tree_of, face_as, pass_face, note_face, noted
 use Rattle.ist_tree.proofs.BetweenLemmas.{has_its_calls}
 use Rattle.ist_tree.proofs.GoingLemmas.{IsLaterView, pass_with_later}
 
--- what a meeting comes to, for a pass and a note that contracts saw so
+-- what a meeting results in, for a pass and a note with these faces
 pub record MeetEnds (old note : PassFace) (who : Caller) (refused : Option Full) (seat : SeatFace)
     : Type 0 where
   pub pass : IsPassWith (record who { seat = seat }) refused
@@ -31,7 +31,7 @@ pub record MeetEnds (old note : PassFace) (who : Caller) (refused : Option Full)
   pub learnt : HasLearnt (face_as seat who.number refused) note
   pub woven : WeavesWith (face_as seat who.number refused) note
 
--- two passes of one tree of which each has its calls are woven where one has seen what the other had
+-- two passes of one tree that each have their calls are woven, if one has seen what the other had
 weaves : (p other : PassFace) → Lawful p.tree.start p.tree.words p.seen → HasItsCalls p
     → HasItsCalls other → HasLearnt p other → WeavesWith p other
 weaves p other lawful mine theirs learnt =

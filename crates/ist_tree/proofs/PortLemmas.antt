@@ -5,7 +5,7 @@ use Rattle.ist_core.specs.declared.commands.Command.TheVariants.{Get, Put, Remov
 use Rattle.ist_core.specs.declared.ports.Full.{Full}
 use Rattle.ist_core.specs.Replies.{Refused, refusal}
 use Rattle.ist_rule.proofs.LaterLemmas.{goes_on_more}
-use Rattle.ist_finished.specs.Finishing.{puts_in}
+use Rattle.laws_rows.specs.Finishing.{puts_in}
 use Rattle.ist_core.specs.Changes.{changes_of}
 use Rattle.ist_tree.specs.Calls.{HasSeenMore}
 use Rattle.ist_tree.specs.Faces.{PassFace, TreeFace}
@@ -13,7 +13,7 @@ use Rattle.ist_tree.specs.Insides.{IsPort}
 use Rattle.ist_tree.specs.Refusals.{IsAskedIn, IsForNode, IsRefused, LeavesTooFew, MayBeAsked, WasRefused, for_leaf, for_pair, for_put, for_rebuild, for_remove}
 use Rattle.ist_tree.proofs.RefusalLemmas.{puts_rise}
 
--- words for a node are so for a pass that has seen more
+-- the size of a node is still one for a pass that has seen more
 node_more : (p q : PassFace) (asked : ℕ) → HasSeenMore p q → IsForNode p asked → IsForNode q asked
 node_more p q asked m n =
     let rise = puts_rise p.tree.start p.tree.words p.seen q.seen m.seen in
@@ -80,6 +80,7 @@ refused_now p q key value command full m update r =
 pub put_no_get : (key value k : ℕ) → Put key value ≢ Get k
 put_no_get key value k e = cc
 
+-- a remove isn't a get
 pub remove_no_get : (key k : ℕ) → Remove key ≢ Get k
 remove_no_get key k e = cc
 
@@ -93,12 +94,12 @@ port_more tree p q said m i =
     keep None c = c
     keep (Some r) c = refused_more p q r m c
 
--- and with a refusal of this call
+-- a port that has seen more and keeps a refusal of this call is a port
 pub port_refused : (tree : TreeFace) (p q : PassFace) (said : Option Refused) (now : Refused)
     → HasSeenMore p q → IsPort tree p said → WasRefused q now → IsPort tree q (Some now)
 port_refused tree p q said now m i r = record { same_tree = m.tree ∙ i.same_tree; cause = r }
 
--- an answer that is such a refusal
+-- a result that is such a refusal
 pub answer_refused : {A : Type 0} (answer : Result A Full) (p q : PassFace) (key : ℕ)
     (value : Option ℕ) (command : Command) → HasSeenMore p q → ((k : ℕ) → command ≢ Get k)
     → IfErr answer (λ full. IsRefused p q key value full)

@@ -1,5 +1,5 @@
--- The first position at which a map replies so: where a call that changes nothing is said to stand.
--- Serves `find`.
+-- The first position at which a map replies so: the position that a call gets if it changes
+-- nothing. Serves `find`.
 use Rattle.std.proofs.Common.{◌≡◌, ℕ, ◌+◌, ◌<◌, ◌≤◌, ◌==◌, ◌⊎◌, Bool, true, false, if◌then◌else◌, List, length, Option, Some, None, refl, sym, ap, ◌∙◌, subst, ⊎_elim, zero, suc, arith}
 use Rattle.std.specs.FinMap as fin
 use Rattle.std.proofs.lemmas.Bool.Decides.{eqb_tells}
@@ -10,19 +10,19 @@ use Rattle.ist_core.specs.Map.{map_of, key_of}
 use Rattle.ist_core.specs.Logs.{Log}
 use Rattle.ist_core.specs.Changes.{changes_of, map_at}
 use Rattle.ist_core.specs.declared.pairs.Pair.{Pair}
-use Rattle.ist_histories.specs.Loads.{log_at}
-use Rattle.ist_histories.specs.Searching.{HasPosition}
+use Rattle.laws_histories.specs.Loads.{log_at}
+use Rattle.laws_histories.specs.Searching.{HasPosition}
 use Rattle.ist_rule.specs.declared.view.View.{View}
 use Rattle.ist_rule.specs.declared.view.Pending.{Pending}
 
 -- ---- the first number of which a test is true
 
--- the first from this one on, of so many, of which the test is true, and else the one behind them
+-- the first of `more` numbers from this one on that passes the test, or else the number after them
 abbrev pub first_from : (ℕ → Bool) → ℕ → ℕ → ℕ
 first_from test from zero = from
 first_from test from (suc more) = if test from then from else first_from test (from + 1) more
 
--- where the test is true of one of them, the first is such a one, and no greater
+-- if one of the numbers passes the test, the first does too, and is no greater
 pub record IsFirst (test : ℕ → Bool) (from first last : ℕ) : Type 0 where
   pub low : from ≤ first
   pub high : first ≤ last
@@ -34,7 +34,7 @@ false_true e = cc
 at_or_above : (a b : ℕ) → a ≤ b → (a ≡ b) ⊎ (a + 1 ≤ b)
 at_or_above a b le = grind arith
 
--- so it is, where it is so of what comes behind a number of which the test isn't true
+-- the first is such a one, if this holds of the later numbers when this number fails the test
 first_or_more : (test : ℕ → Bool) (from more last : ℕ) (b : Bool) → test from ≡ b → from ≤ last
     → test last ≡ true → (from + 1 ≤ last → IsFirst test (from + 1)
     (first_from test (from + 1) more) last)
@@ -49,7 +49,7 @@ first_or_more test from more last false is low t rest =
     let least = it.low in
     record { low = omega arith; high = it.high; passes = it.passes }
 
--- and so in general
+-- if a number passes the test, the first that passes is no greater
 pub first_is : (test : ℕ → Bool) (from more last : ℕ) → from ≤ last → last < from + more
     → test last ≡ true → IsFirst test from (first_from test from more) last
 first_is test from zero last low high t = absurd (omega arith)
@@ -70,11 +70,11 @@ same_itself : (x : Option ℕ) → same_reply x x ≡ true
 same_itself None = refl
 same_itself (Some n) = ⊎_elim (λ k. k.0) (λ k. absurd (k.1 refl)) (eqb_tells n n)
 
--- and as one that equals it
+-- equal replies are the same
 pub same_reply_of : (a b : Option ℕ) → a ≡ b → same_reply a b ≡ true
 same_reply_of a b e = subst (λ x. same_reply a x ≡ true) e (same_itself a)
 
--- and as no other
+-- replies that are the same are equal
 pub reply_is_same : (a b : Option ℕ) → same_reply a b ≡ true → a ≡ b
 reply_is_same None None e = refl
 reply_is_same (Some a) (Some b) e =
@@ -84,7 +84,7 @@ reply_is_same (Some a) None e = absurd (false_true e)
 
 -- ---- the position of a reading
 
--- does the map behind so many changes of the log have this value for the key
+-- does the map after this many changes of the log have this value for the key
 abbrev pub has_value : List Pair → ℕ → Log → ℕ → Option ℕ → ℕ → Bool
 has_value pairs words log key value position =
     same_reply value (fin.get (map_at (map_of pairs) (changes_of pairs words log) position) key)
@@ -103,7 +103,7 @@ pub record IsPlace (pairs : List Pair) (words : ℕ) (earlier log : Log) (key : 
   pub value_is : value
       ≡ fin.get (map_at (map_of pairs) (changes_of pairs words log) position) key
 
--- where there is such a position, the first is one
+-- if there is such a position, the first is one
 pub first_place : (pairs : List Pair) (words : ℕ) (earlier log : Log) (key : ℕ) (value : Option ℕ)
     → HasPosition pairs words earlier log key value
     → IsPlace pairs words earlier log key value (position_of pairs words earlier log key value)

@@ -12,9 +12,9 @@ use Rattle.ist_core.specs.Slots.{SlotHolds}
 use Rattle.ist_core.specs.StartLayout.{start}
 use Rattle.std.proofs.Math.Nat.{le_trans}
 use Rattle.ist_core.proofs.GrowingLemmas.{inner_there}
-use Rattle.ist_settling.specs.Settling.{StartsAreDone, InstallsNoStart, CountsNothing, DueRowsAreClosed}
-use Rattle.ist_settling.proofs.DoneLemmas.{due_stay, others_count_nothing, others_start_nothing, starts_stay}
-use Rattle.ist_stability.proofs.LaterLemmas.{ever_later}
+use Rattle.laws_settling.specs.Settling.{StartsAreDone, InstallsNoStart, CountsNothing, DueRowsAreClosed}
+use Rattle.laws_settling.proofs.DoneLemmas.{due_stay, others_count_nothing, others_start_nothing, starts_stay}
+use Rattle.laws_stability.proofs.LaterLemmas.{ever_later}
 use Rattle.ist_rule.specs.declared.view.View.{View}
 use Rattle.ist_core.specs.declared.events.Who.TheVariants.{Caller as CallerOf}
 use Rattle.ist_core.specs.Authors.{whose, LaterBy}
@@ -39,7 +39,7 @@ pub rebuilds_same : (who : Caller) → IsSound who.seat.view → IsReady who →
 rebuilds_same who s r =
     record { ready = r; number = refl; went = went_same Rebuilds who.seat.view s }
 
--- and goes on twice
+-- two parts of rebuilding, one after the other, are one
 pub rebuilds_more : (a b c : Caller) → RebuildsOn a b → RebuildsOn b c → RebuildsOn a c
 rebuilds_more a b c one two =
     record {
@@ -66,7 +66,7 @@ module _ (P : Event → Type 0) (number : ℕ) (v w : View) (mine : v.who ≡ Ca
   by_caller : LaterBy (CallerOf number) P v.log w.log
   by_caller = subst (λ x. LaterBy x P v.log w.log) mine went.later
 
-  -- starts stay done, where none was started
+  -- starts stay done, if none was started
   pub starts_went : ((event : Event) → P event → InstallsNoStart number event)
       → IsResolved v number → StartsAreDone (now v) number → StartsAreDone (now w) number
   starts_went none resolved done =
@@ -77,7 +77,7 @@ module _ (P : Event → Type 0) (number : ℕ) (v w : View) (mine : v.who ≡ Ca
       (λ event. ⊎_elim (others_start_nothing number event) (none event))
       by_caller lawful.enabled resolved done)
 
-  -- rows that were made due keep a closed row above, where nothing was counted
+  -- rows that were made due keep a closed row above, if nothing was counted
   pub due_went : ((event : Event) → P event → CountsNothing number event)
       → DueRowsAreClosed (start v.start v.words) v.log number
       → DueRowsAreClosed (start v.start v.words) w.log number

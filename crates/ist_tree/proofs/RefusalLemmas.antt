@@ -13,11 +13,11 @@ use Rattle.ist_core.specs.RowLayout.{rebuild_words}
 use Rattle.ist_core.specs.Spending.{spent}
 use Rattle.ist_core.specs.StartLayout.{start}
 use Rattle.ist_core.proofs.FateLemmas.{grow_between}
-use Rattle.ist_finished.specs.Finishing.{is_put, puts_in}
-use Rattle.ist_finished.proofs.NumberLemmas.{finished_few}
-use Rattle.ist_histories.proofs.ChangeLemmas.{changes_on}
-use Rattle.ist_histories.specs.Searching.{HasPosition}
-use Rattle.ist_links.proofs.FormLemmas.{replaced_grows, started_grows}
+use Rattle.laws_rows.specs.Finishing.{is_put, puts_in}
+use Rattle.laws_rows.proofs.NumberLemmas.{finished_few}
+use Rattle.laws_histories.proofs.ChangeLemmas.{changes_on}
+use Rattle.laws_histories.specs.Searching.{HasPosition}
+use Rattle.laws_links.proofs.FormLemmas.{replaced_grows, started_grows}
 use Rattle.ist_rule.specs.declared.view.View.{View}
 use Rattle.ist_rule.specs.Faces.{SeatFace}
 use Rattle.ist_rule.specs.Learning.{now}
@@ -30,7 +30,7 @@ use Rattle.ist_tree.specs.Faces.{PassFace}
 use Rattle.ist_tree.specs.Insides.{face_as, pass_face}
 use Rattle.ist_tree.specs.Refusals.{HadTooFew, IsAskedIn, IsForRebuild, IsRebuildRefused, IsRefused, KeepsRefusal, for_leaf, for_pair, for_put, for_remove, for_rebuild}
 use Rattle.ist_tree.specs.Working as working
-use Rattle.ist_tree.proofs.FoundLemmas.{position_later}
+use Rattle.laws_histories.proofs.PositionOnLemmas.{position_on}
 use Rattle.ist_tree.proofs.GoingLemmas.{lawful_behind}
 use Rattle.ist_tree.proofs.ShortLemmas.{short_now}
 use Rattle.ist_tree.proofs.WayLemmas.{IsWay, b_start, b_view, b_words, b_to_w, lawful_w, lawful_x, v_to_b, w_start, w_to_x, w_words, x_start, x_words}
@@ -48,18 +48,23 @@ puts_rise pairs words earlier log g =
 
 module _ (who began new : Caller) (seat : SeatFace) (command : Command)
     (it : IsWay who began new seat command) (r q : Option Full) where
+  -- the pass before the call
   abbrev before : PassFace
   before = pass_face who r
 
+  -- the pass after the call
   abbrev behind : PassFace
   behind = face_as seat new.number q
 
+  -- the view before the call
   abbrev v : View
   v = who.seat.view
 
+  -- the view after the work
   abbrev w : View
   w = new.seat.view
 
+  -- the view after the call
   abbrev x : View
   x = seat.view
 
@@ -79,7 +84,7 @@ module _ (who began new : Caller) (seat : SeatFace) (command : Command)
         };
       }
 
-  -- the state behind the work, by the pass's table
+  -- the state after the work, by the pass's table
   now_w : now w ≡ state_of v.start v.words w.log
   now_w =
       ap₂ (λ pairs words. state_of pairs words w.log) (w_start who began new seat command it)
@@ -106,7 +111,7 @@ module _ (who began new : Caller) (seat : SeatFace) (command : Command)
         asked_is = is;
       }
 
-  -- a rebuild behind the update was refused
+  -- a rebuild after the update was refused
   pub rebuild_was_refused : (words : ℕ) (full : Full) → words ≡ v.words
       → working.IsDueRefused w words full → IsRebuildRefused before behind full
   rebuild_was_refused words full same d =
@@ -122,23 +127,25 @@ module _ (who began new : Caller) (seat : SeatFace) (command : Command)
 
   -- the update itself was
   pub update_was_refused : (words key : ℕ) (value : Option ℕ) (full : Full) → words ≡ v.words
-      → updates.IsUpdateRefused began.seat.view key value words full w
+      → updates.WasRefused began.seat.view key value words full w
       → IsRefused before behind key value full
   update_was_refused words key value full same d =
       record {
-        had = had_too_few words full same (short_now Updates began.seat.view words full w d.short);
+        had = had_too_few words full same (short_now Updates (record began.seat.view { searches = w.searches }) words full w d.short);
         asked = asked value full.asked d.asked;
       }
     where
-      asked : (value : Option ℕ) (n : ℕ) → updates.IsAskedBy began.seat.view w key value n
+      asked : (value : Option ℕ) (n : ℕ)
+          → updates.IsAskedBy (record began.seat.view { searches = w.searches }) w key value n
           → IsAskedIn before behind key value n
       asked _ n (updates.for_leaf e) = for_leaf e
       asked _ n (updates.for_pair e) = for_pair e
       asked _ n (updates.for_put e) = for_put e
       asked _ n (updates.for_remove found has e) =
           for_remove found
-          (position_later v.start v.words v.log began.seat.view.log w.log x.log key (Some found)
-          (v_to_b who began new seat command it) (w_to_x who began new seat command it)
+          (position_on v.start v.words v.log began.seat.view.log w.log x.log
+          (v_to_b who began new seat command it) (w_to_x who began new seat command it) key
+          (Some found)
           (subst (λ pairs. HasPosition pairs v.words began.seat.view.log w.log key (Some found))
           (b_start who began new seat command it)
           (subst (λ words. HasPosition began.seat.view.start words began.seat.view.log w.log key

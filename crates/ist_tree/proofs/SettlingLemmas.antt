@@ -13,16 +13,16 @@ use Rattle.ist_core.specs.Statuses.{start_kind}
 use Rattle.ist_core.specs.Writing.{first_change}
 use Rattle.ist_core.specs.Deciding.{AllResolvedOf}
 use Rattle.ist_core.proofs.FateLemmas.{enabled_before}
-use Rattle.ist_links.proofs.ChangeLemmas.{undecided_unresolved}
-use Rattle.ist_links.proofs.ComesLemmas.{change_comes}
-use Rattle.ist_links.proofs.OriginLemmas.{ChangeComes, change_was, is_decided, is_installed}
-use Rattle.ist_stability.proofs.LaterLemmas.{goes_on}
-use Rattle.ist_links.proofs.OwnerLemmas.{owner_known}
+use Rattle.laws_links.proofs.ChangeLemmas.{undecided_unresolved}
+use Rattle.laws_links.proofs.ComesLemmas.{change_comes}
+use Rattle.laws_links.proofs.OriginLemmas.{ChangeComes, change_was, is_decided, is_installed}
+use Rattle.laws_stability.proofs.LaterLemmas.{goes_on}
+use Rattle.laws_links.proofs.OwnerLemmas.{owner_known}
 use Rattle.ist_core.specs.declared.events.Who.TheVariants.{Caller as CallerOf}
 use Rattle.ist_rule.proofs.CallLemmas.{resolved_later}
 use Rattle.ist_rule.proofs.LaterLemmas.{later_idle}
-use Rattle.ist_settling.specs.Settling.{InstallsNoStart, MadeDue, due_now, due_before}
-use Rattle.ist_settling.proofs.DoneLemmas.{due_stay, others_count_nothing, others_start_nothing, starts_stay}
+use Rattle.laws_settling.specs.Settling.{InstallsNoStart, MadeDue, due_now, due_before}
+use Rattle.laws_settling.proofs.DoneLemmas.{due_stay, others_count_nothing, others_start_nothing, starts_stay}
 use Rattle.ist_tree.specs.Insides.{HasSettled}
 
 -- each log goes on from none
@@ -77,7 +77,8 @@ module _ (pairs : List Pair) (words : ℕ) where
 -- ---- starts
 
 module _ (pairs : List Pair) (words : ℕ) (opens : CanOpen pairs words) where
-  -- a start of a caller whose changes were all resolved is what it was, where it installs no other
+  -- a start of a caller whose changes were all resolved is what it was, if the caller installs no
+  -- other
   pub own_start_stays : (P : Event → Type 0) (earlier : Log) (caller : ℕ)
       → ((event : Event) → P event → InstallsNoStart caller event) → (log : Log)
       → GoesOnBy P earlier log → EachEnabled (start pairs words) log

@@ -1,5 +1,6 @@
--- Starts and helps that were refused for want of words. Serves `rebuild_due` and `freeze`.
-use Rattle.std.proofs.Common.{◌≡◌, ℕ, ◌⊎◌, Result, Ok, Err, IsErrAnd, IfErr, sym, ◌∙◌, subst, ⊎_elim}
+-- Starts and helps that were refused because too few words were left. Serves `rebuild_due` and
+-- `freeze`.
+use Rattle.std.proofs.Common.{◌≡◌, ℕ, Result, Ok, Err, IsErrAnd, IfErr, sym, ◌∙◌, subst, ⊎_elim}
 use Rattle.ist_core.specs.declared.events.Event.{Event}
 use Rattle.ist_core.specs.declared.ports.Full.{Full}
 use Rattle.ist_core.specs.Shown.{shown_next}
@@ -12,7 +13,7 @@ use Rattle.ist_rebuild.specs.Starting.{IsStartRefused}
 use Rattle.ist_tree.specs.Working.{IsShort, for_start, for_help, IsDueRefused}
 use Rattle.ist_rebuild.specs.Helping as helping
 
--- ---- for want of words
+-- ---- too few words
 
 -- fewer words are left than were asked for
 pub short_now : (P : Event → Type 0) (v : View) (words : ℕ) (full : Full) (w : View)
@@ -34,13 +35,13 @@ start_refused v words full w r =
       asked = ⊎_elim (λ k. for_start k) (λ k. for_help 0 (helping.for_change k)) r.asked;
     }
 
--- helping a rebuild was
+-- helping a rebuild was refused
 pub help_refused : (v : View) (rebuild words : ℕ) (full : Full) (w : View)
     → IsHelpRefused v rebuild words full w → IsDueRefused w words full
 help_refused v rebuild words full w r =
     record { short = short_now Serves v words full w r.short; asked = for_help rebuild r.asked }
 
--- ---- answers
+-- ---- results
 
 -- what is handed on as a refusal is that refusal
 pub passed_on : {A : Type 0} (answer : Result A Full) (full : Full) (P : Full → Type 0)

@@ -1,23 +1,24 @@
--- What a rebuild that was helped leaves closed and done, and what stands in the place of a row. Serves
--- `try_due` and `help_other`.
-use Rattle.std.proofs.Common.{◌≡◌, ℕ, ◌⊎◌, Bool, true, false, not, IsTrue, ◌↔◌, Some, sym, ap, ◌∙◌, subst, inl, inr, ⊎_elim}
+-- What a rebuild that was helped leaves closed and done, and what a slot holds instead of a row.
+-- Serves `try_due` and `help_other`.
+use Rattle.std.proofs.Common.{◌≡◌, ℕ, refl, Result, Ok, ◌⊎◌, Bool, true, false, not, IsTrue, ◌↔◌, Some, sym, ap, ◌∙◌, subst, inl, inr, ⊎_elim}
 use Rattle.ist_core.specs.declared.events.Event.{Event}
+use Rattle.ist_core.specs.declared.ports.Full.{Full}
 use Rattle.ist_core.specs.declared.states.RebuildRow.{RebuildRow}
 use Rattle.ist_core.specs.Pieces.{Rebuild}
 use Rattle.ist_core.specs.Rebuilding.{IsStarted, IsReplaced}
 use Rattle.ist_core.specs.References.{ChangeAt, RebuildAt, ref_of}
 use Rattle.ist_core.specs.Slots.{IsOpen, past_change}
 use Rattle.ist_core.proofs.DrawLemmas.{same_rebuild}
-use Rattle.ist_links.specs.Linking.{IsFinished}
+use Rattle.laws_links.specs.Linking.{IsFinished}
 use Rattle.ist_core.proofs.GrowingLemmas.{rebuild_there}
 use Rattle.ist_core.proofs.NamingLemmas.{slot_names, SlotNames}
 use Rattle.ist_core.proofs.OrderLemmas.{names}
-use Rattle.ist_links.proofs.FormedLemmas.{changes_are_formed}
-use Rattle.ist_links.proofs.LinkLemmas.{open_unfinished}
-use Rattle.ist_rebuilds.proofs.StartingLemmas.{finish_of, side_rebuild}
-use Rattle.ist_settling.specs.Settling.{StartsAreDone, IsDoneStart}
-use Rattle.ist_settling.proofs.DoneLemmas.{done_stays}
-use Rattle.ist_settling.proofs.ReadLemmas.{read_started}
+use Rattle.laws_links.proofs.FormedLemmas.{changes_are_formed}
+use Rattle.laws_links.proofs.LinkLemmas.{open_unfinished}
+use Rattle.laws_rebuilds.proofs.StartingLemmas.{finish_of, side_rebuild}
+use Rattle.laws_settling.specs.Settling.{StartsAreDone, IsDoneStart}
+use Rattle.laws_settling.proofs.DoneLemmas.{done_stays}
+use Rattle.laws_settling.proofs.ReadLemmas.{read_started}
 use Rattle.ist_rule.specs.declared.view.View.{View}
 use Rattle.ist_core.specs.declared.events.Who.TheVariants.{Caller as CallerOf}
 use Rattle.ist_rule.specs.Conditions.{IsResolved}
@@ -49,7 +50,7 @@ replaced_shut v s rebuild row e r opened =
     open_unfinished v.start v.words s.lawful.opens v.log enabled row.target opened
     (subst (λ (x : RebuildRow). IsFinished (now v) x.target) one f.form.finished)
 
--- so the target or the parent of a rebuild that was helped isn't open: where it was replaced
+-- so the target or the parent of a rebuild that was helped isn't open, if the rebuild was replaced
 pub replaced_is_shut : (P : Event → Type 0) (v w : View) → WentOn P v w → (rebuild parent index target : ℕ)
     → IsStartedAt (now v) rebuild parent index target → IsReplaced (now w) rebuild
     → IsShut (now w) parent target
@@ -59,7 +60,7 @@ replaced_is_shut P v w went rebuild parent index target s r =
     inl (subst (λ n. ¬ (IsOpen (now w) n)) (it.2.target ∙ s.target_is)
     (replaced_shut w went.sound rebuild it.0 it.1 r))
 
--- and where its parent was marked
+-- and if the rebuild was left to its parent
 pub left_is_shut : (P : Event → Type 0) (v w : View) → WentOn P v w → (rebuild parent index target : ℕ)
     → IsStartedAt (now v) rebuild parent index target → IsLeftToParent (now w) rebuild
     → IsShut (now w) parent target
@@ -72,7 +73,7 @@ left_is_shut P v w went rebuild parent index target s l =
 
 -- ---- starts that were helped
 
--- where a rebuild is done behind its help, all starts of the caller are, if the others were
+-- if a rebuild is done after its help, all starts of the caller are, if the others were
 pub all_done : (number : ℕ) (v w : View) → v.who ≡ CallerOf number → IsResolved v number
     → WentOn Serves v w → (rebuild : ℕ) → StartsAreDoneBut (now v) number rebuild
     → IsReplaced (now w) rebuild ⊎ IsLeftToParent (now w) rebuild
@@ -102,17 +103,17 @@ all_done number v w mine resolved went rebuild but done base change e own kind s
         l.closed))
         done
 
--- ---- what stands in the place of a row
+-- ---- what a slot holds instead of a row
 
 module _ (v : View) (s : IsSound v) (parent index target word base : ℕ)
     (stood : StoodInstead v parent index target word) where
-  -- a rebuild that stands there is started
+  -- a rebuild that the slot holds is started
   pub other_started : ref_of word ≡ Some (RebuildAt base) → IsStarted (now v) base
   other_started is =
       read_started v.start v.words s.lawful.opens v.log s.lawful.enabled parent index base
       record { word = word; holds = stood.holds; reads = ap (past_change (now v).pieces) is }
 
-  -- and a change that stands there may be helped
+  -- and a change that the slot holds may be helped
   pub other_helped : (number : ℕ) → v.who ≡ CallerOf number → ref_of word ≡ Some (ChangeAt base)
       → dcss.MayHelp v base
   other_helped number mine is =
@@ -121,9 +122,9 @@ module _ (v : View) (s : IsSound v) (parent index target word base : ℕ)
       stood.holds) in
       record { number = number; mine = mine; row = named.row; installed = named.published }
 
--- ---- answers
+-- ---- results
 
--- a node that is found not to be open isn't
+-- if a node is reported shut, it isn't open
 pub not_open_shut : (b : Bool) (P : Type 0) → IsTrue b ↔ P → not b ≡ true → ¬ P
 not_open_shut true P iff is p = clash is
   where
@@ -133,3 +134,19 @@ not_open_shut false P iff is p = clash (iff.1 p)
   where
     clash : false ≡ true → ⊥
     clash e = cc
+
+-- and if it is reported open, it was open
+pub not_shut_open : (b : Bool) (P : Type 0) → IsTrue b ↔ P → not b ≡ false → P
+not_shut_open true P iff is = iff.0 refl
+not_shut_open false P iff is = absurd (clash is)
+  where
+    clash : true ≡ false → ⊥
+    clash e = cc
+
+-- a bool that is returned
+abbrev ok_of : Bool → Result Bool Full
+ok_of a = Ok a
+
+-- equal results have equal bools
+pub same_ok : (a b : Bool) → ok_of a ≡ Ok b → a ≡ b
+same_ok a b e = cc

@@ -6,8 +6,8 @@ use Rattle.ist_core.specs.Lawful.{state_of}
 use Rattle.ist_core.specs.Pieces.{Change}
 use Rattle.ist_core.specs.Snapshots.{Snapshot}
 use Rattle.ist_core.specs.Statuses.{start_kind}
-use Rattle.ist_settling.specs.Settling.{InstallsNoStart}
-use Rattle.ist_settling.proofs.DoneLemmas.{others_start_nothing}
+use Rattle.laws_settling.specs.Settling.{InstallsNoStart}
+use Rattle.laws_settling.proofs.DoneLemmas.{others_start_nothing}
 use Rattle.ist_rule.specs.declared.view.View.{View}
 use Rattle.ist_core.specs.declared.events.Who.TheVariants.{Caller as CallerOf}
 use Rattle.ist_core.specs.Authors.{whose, Later, LaterBy}
@@ -19,7 +19,7 @@ use Rattle.ist_rebuild.specs.Starting.{StartsNone}
 use Rattle.ist_tree.proofs.GoingLemmas.{IsLaterView, lawful_behind}
 use Rattle.ist_tree.proofs.SettlingLemmas.{own_start_stays}
 
--- one behind another
+-- two parts in which the caller started none, one after the other, are one such part
 pub starts_none_more : (t u w : Snapshot) (number : ℕ) → StartsNone t u number
     → StartsNone u w number → StartsNone t w number
 starts_none_more t u w number one two base x e own kind said =
@@ -28,7 +28,7 @@ starts_none_more t u w number one two base x e own kind said =
 module _ (P : Event → Type 0) (number : ℕ)
     (none : (event : Event) → P event → InstallsNoStart number event) (v w : View)
     (mine : v.who ≡ CallerOf number) (resolved : IsResolved v number) (went : WentOn P v w) where
-  -- a start that the caller has behind its steps was there before, where none of them installs one
+  -- a start that the caller has after its steps was there before, if none of the steps installs one
   pub own_start_was : (base : ℕ) (change : ChangeRow) → (now w).pieces base ≡ Some (Change change)
       → change.owner ≡ number → change.kind ≡ start_kind
       → (now v).pieces base ≡ Some (Change change)
@@ -40,11 +40,11 @@ module _ (P : Event → Type 0) (number : ℕ)
       w.log (subst (λ x. LaterBy x P v.log w.log) mine went.later) lawful.enabled resolved base
       change (subst (λ t. t.pieces base ≡ Some (Change change)) (went_now P v w went) e) own kind
 
-  -- so it has started none
+  -- so the caller has started none
   pub starts_none_went : StartsNone (now v) (now w) number
   starts_none_went base change e own kind said = own_start_was base change e own kind
 
--- nor has it where others alone made events
+-- the caller has started none if only others made events
 pub starts_none_later : (v w : View) → IsLaterView v w → (number : ℕ) → v.who ≡ CallerOf number
     → IsResolved v number → StartsNone (now v) (now w) number
 starts_none_later v w l number mine resolved base x e own kind said =

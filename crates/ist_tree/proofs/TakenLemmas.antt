@@ -44,13 +44,14 @@ pub numbers_long : (ts : List Taken)
 numbers_long [] = refl
 numbers_long (t ∷ ts) = ap suc (numbers_long ts)
 
--- a number of theirs is that of one whose calls are those with the number
+-- one of these has this number, and its calls are the calls with the number
 pub record IsNumbered (number : ℕ) (ts : List Taken) : Type 0 where
   pub taken : Taken
   pub among : Among taken ts
   pub number_is : taken.number ≡ number
   pub calls_are : calls_numbered number (map taken_pass ts) ≡ taken.calls
 
+-- a number among theirs has its caller and its calls
 pub numbered_is : (number : ℕ) (ts : List Taken) → Among number (map (λ (t : Taken). t.number) ts)
     → IsNumbered number ts
 numbered_is number [] i = absurd i
@@ -84,7 +85,7 @@ pub lists_long : (number count : ℕ) (taken : List PassCalls)
 lists_long number zero taken = refl
 lists_long number (suc count) taken = ap suc (lists_long (number + 1) count taken)
 
--- they stand where each of them does
+-- the lists are placed in the log if each of them is
 pub lists_stand : (pairs : List Pair) (words : ℕ) (log : Log) (taken : List PassCalls)
     (number count : ℕ)
     → ((w : ℕ) → w < number + count → StandsIn pairs words log w (calls_numbered w taken))
@@ -95,7 +96,7 @@ lists_stand pairs words log taken number (suc count) stands = (
   lists_stand pairs words log taken (number + 1) count (λ w lt. stands w (omega arith)),
 )
 
--- what is true of what stands at each place is true of each element
+-- what is true of the element at each index is true of each element
 pub each_get : {A : Type 0} (P : A → Type 0) (xs : List A)
     → ((i : ℕ) (x : A) → slice_get xs i ≡ Some x → P x) → Each P xs
 each_get P [] h = tt

@@ -35,7 +35,7 @@ new_pass who c holds none =
       in_none = none;
     }
 
--- and none that it started or made due
+-- a new caller is a pass's caller: it started and made due nothing
 pub new_pass_with : (who : Caller) → IsCaller who → held_by (now who.seat.view) who.number ≡ []
     → who.seat.view.pending ≡ None → IsSound who.seat.view
     → IsIdleIn (CallerOf who.number) who.seat.view.log → IsPassWith who None
@@ -54,7 +54,7 @@ entered_goes_on v number w h =
     subst (GoesOn v.log) (sym (ap (λ (x : View). x.log) h.view))
     (one_event (Enter number) (later-goes_on h.later))
 
--- and keeps the passes that it took back
+-- a maker that enters a caller keeps the passes that it took back
 pub entered_maker : (v : View) (number : ℕ) (w : View) (refused : Bool) → HasEntered v number w
     → w.who ≡ Maker → w.given ≡ w.made → IsMakerWith v refused → IsMakerWith w refused
 entered_maker v number w refused h maker given m =
@@ -116,7 +116,7 @@ note_is v number mine =
     (awaits_none v number mine)
     ∙ ap (λ (x : Who). plain v (Note (noted_by x)) v.calls) mine
 
--- and keeps its calls
+-- a note of a pass keeps the pass's calls
 pub new_note : (who : Caller) (w : View) → IsSound who.seat.view → IsPass who
     → w ≡ split_right who.seat.view → IsNote w
 new_note who w s p is =

@@ -1,4 +1,4 @@
--- What a put or a remove comes to for its pass, where it was answered. Serves `update`.
+-- What a put or a remove results in for its pass, if it wasn't refused. Serves `update`.
 use Rattle.std.proofs.Common.{◌≡◌, ◌≢◌, ℕ, ◌≤◌, List, [], ◌∷◌, ◌++◌, length, Option, Some, None, refl, sym, ap, ◌∙◌, subst, inl, inr, ⊎_elim, arith}
 use Rattle.std.specs.Option.{option_or}
 use Rattle.ist_core.specs.declared.calls.Call.{Call}
@@ -17,10 +17,10 @@ use Rattle.ist_core.proofs.FateLemmas.{grow_between}
 use Rattle.ist_core.proofs.GrowingLemmas.{inner_there}
 use Rattle.ist_core.proofs.PrefixLemmas.{ever_from}
 use Rattle.ist_dcss.proofs.OpeningLemmas.{closed_node_stays}
-use Rattle.ist_histories.specs.Calls.{HasCalls}
-use Rattle.ist_histories.proofs.WovenLemmas.{learnt_first}
-use Rattle.ist_settling.proofs.DoneLemmas.{others_count_nothing}
-use Rattle.ist_stability.proofs.LaterLemmas.{ever_later}
+use Rattle.laws_histories.specs.Calls.{HasCalls}
+use Rattle.laws_histories.proofs.WovenLemmas.{learnt_first}
+use Rattle.laws_settling.proofs.DoneLemmas.{others_count_nothing}
+use Rattle.laws_stability.proofs.LaterLemmas.{ever_later}
 use Rattle.ist_rule.specs.declared.view.Pending.{Pending}
 use Rattle.ist_rule.specs.declared.view.View.{View}
 use Rattle.ist_core.specs.declared.events.Who.TheVariants.{Caller as CallerOf}
@@ -33,7 +33,7 @@ use Rattle.ist_rule.proofs.LaterLemmas.{between, goes_on_length, goes_on_more}
 use Rattle.ist_rows.specs.declared.callers.Caller.{Caller}
 use Rattle.ist_updates.specs.Counting.{CameToLimit, IsCounted}
 use Rattle.ist_tree.specs.Calls.{AddsCall}
-use Rattle.ist_tree.specs.DueRows.{HasCounted, LeavesNoneDue, first_refusal, is_closed, none_came, was_refused}
+use Rattle.ist_tree.specs.DueRows.{CameDue, HasCounted, LeavesNoneDue, first_refusal, is_closed, none_came, was_refused}
 use Rattle.ist_tree.specs.Faces.{PassFace}
 use Rattle.ist_tree.specs.Insides.{face_as, pass_face}
 use Rattle.ist_tree.specs.Working as working
@@ -46,26 +46,33 @@ use Rattle.ist_tree.proofs.WayLemmas as way
 
 module _ (who began new : Caller) (seat : SeatFace) (command : Command)
     (it : way.IsWay who began new seat command) (r q : Option Full) where
+  -- the pass before the call
   abbrev before : PassFace
   before = pass_face who r
 
+  -- the pass after the call
   abbrev behind : PassFace
   behind = face_as seat new.number q
 
+  -- the view before the call
   abbrev v : View
   v = who.seat.view
 
+  -- the view when the call has begun
   abbrev b : View
   b = began.seat.view
 
+  -- the view after the work
   abbrev w : View
   w = new.seat.view
 
+  -- the view after the call
   abbrev x : View
   x = seat.view
 
   -- ---- what was counted
 
+  -- what the work counted is counted in the call
   pub has_counted : IsCounted b.start b.words b.log w.log began.number command
       → HasCounted before behind command
   has_counted c =
@@ -78,7 +85,7 @@ module _ (who began new : Caller) (seat : SeatFace) (command : Command)
       (subst (λ words. IsCounted b.start words b.log w.log began.number command)
       (way.b_words who began new seat command it) c)))
 
-  -- what came to its limit in the call did so in its work
+  -- a row that reached its limit in the call did so in its work
   came_at_work : (row : ℕ) → CameToLimit v.start v.words v.log x.log who.number row
       → CameToLimit v.start v.words b.log w.log began.number row
   came_at_work row c =
@@ -124,7 +131,7 @@ module _ (who began new : Caller) (seat : SeatFace) (command : Command)
           node s e in
           is_inner k.0 k.1
 
-  -- the topmost row that came to its limit, or its parent, isn't open
+  -- the topmost row that reached its limit, or its parent, isn't open
   top_is_shut : (row : ℕ) → working.IsTopShut (record (beginning v (Some command) b.log) {
     log = b.log;
   }) w began.number row
@@ -161,13 +168,18 @@ module _ (who began new : Caller) (seat : SeatFace) (command : Command)
       in_view = subst (λ tree. LeavesNoneDue before (record behind { tree = tree }))
           (sym (way.same_tree who began new seat command it))
 
-  -- what became of the rows that came to their limits
+  -- if the work brought no row to its limit, the call didn't
+  pub came_nowhere : ((row : ℕ) → ¬ (CameToLimit b.start b.words b.log w.log began.number row))
+      → (row : ℕ) → ¬ (CameDue before behind row)
+  came_nowhere none row c =
+      none row
+      (subst (λ (y : View). CameToLimit y.start y.words b.log w.log began.number row)
+      (sym it.begun.view) (came_at_work row c))
+
+  -- what became of the rows that reached their limits
   pub leaves_none_due : (words : ℕ) (met : Option Full) → words ≡ v.words → q ≡ option_or r met
       → working.LeavesShut b w began.number words met → LeavesNoneDue before behind
-  leaves_none_due words _ same is (working.none_came none) =
-      none_came (λ row c. none row
-      (subst (λ (y : View). CameToLimit y.start y.words b.log w.log began.number row)
-      (sym it.begun.view) (came_at_work row c)))
+  leaves_none_due words _ same is (working.none_came none) = none_came (came_nowhere none)
   leaves_none_due words _ same is (working.was_refused full d) =
       was_refused full (rebuild_was_refused who began new seat command it r q words full same d)
       (is ∙ first r)
@@ -189,14 +201,15 @@ module _ (who began new : Caller) (seat : SeatFace) (command : Command)
     x_calls =
         ap (λ (y : View). y.calls) ended.view
         ∙ ap (λ (calls : List Call). calls ++ call ∷ [])
-        (ap (λ (y : View). y.calls) it.went.same ∙ ap (λ (y : View). y.calls) it.begun.view)
+        (ap (λ (y : View). y.calls) it.went.went.same ∙ ap (λ (y : View). y.calls) it.begun.view)
 
     w_stamp : w.stamp ≡ v.stamp
-    w_stamp = ap (λ (y : View). y.stamp) it.went.same ∙ ap (λ (y : View). y.stamp) it.begun.view
+    w_stamp = ap (λ (y : View). y.stamp) it.went.went.same ∙ ap (λ (y : View). y.stamp) it.begun.view
 
     x_stamp : x.stamp ≡ call.stamp
     x_stamp = ap (λ (y : View). y.stamp) ended.view
 
+    -- the stamp doesn't fall
     pub stamp_up : v.stamp ≤ x.stamp
     stamp_up =
         let a = w_stamp in
@@ -216,7 +229,7 @@ module _ (who began new : Caller) (seat : SeatFace) (command : Command)
       where
         pending_is : w.pending ≡ Some record { command = Some command; length = length b.log }
         pending_is =
-            ap (λ (y : View). y.pending) it.went.same ∙ ap (λ (y : View). y.pending) it.begun.view
+            ap (λ (y : View). y.pending) it.went.went.same ∙ ap (λ (y : View). y.pending) it.begun.view
 
         one_length : (p : Pending) → Some record { command = Some command; length = length b.log }
             ≡ Some p → p.length ≡ length b.log

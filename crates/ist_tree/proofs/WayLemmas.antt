@@ -8,13 +8,13 @@ use Rattle.ist_core.specs.Lawful.{Lawful, state_of}
 use Rattle.ist_core.proofs.FateLemmas.{enabled_before}
 use Rattle.ist_core.specs.Logs.{GoesOn}
 use Rattle.ist_core.specs.StartLayout.{start}
-use Rattle.ist_settling.specs.Settling.{DueRowsAreClosed, StartsAreDone}
+use Rattle.laws_settling.specs.Settling.{DueRowsAreClosed, StartsAreDone}
 use Rattle.ist_rule.specs.declared.view.View.{View}
 use Rattle.ist_core.specs.declared.events.Who.TheVariants.{Caller as CallerOf}
 use Rattle.ist_core.specs.Authors.{Later}
 use Rattle.ist_rule.specs.Conditions.{IsResolved}
 use Rattle.ist_rule.specs.Faces.{SeatFace}
-use Rattle.ist_rule.specs.Going.{WentOn}
+use Rattle.ist_rule.specs.Going.{SearchedOn}
 use Rattle.ist_rule.specs.Learning.{Turned, beginning, now}
 use Rattle.ist_rule.specs.Rule.{IsSound}
 use Rattle.ist_rule.proofs.LaterLemmas.{goes_on_more, later-goes_on}
@@ -35,7 +35,7 @@ pub record IsWay (who began new : Caller) (seat : SeatFace) (command : Command) 
   pub pass : IsPass who
   pub begun : Turned who.seat.view (beginning who.seat.view (Some command)) began.seat.view
   pub began_number : began.number ≡ who.number
-  pub went : WentOn Works began.seat.view new.seat.view
+  pub went : SearchedOn Works began.seat.view new.seat.view
   pub number : new.number ≡ began.number
   pub caller : IsCaller new
   pub refused : HasRefused new
@@ -45,59 +45,77 @@ pub record IsWay (who began new : Caller) (seat : SeatFace) (command : Command) 
 
 module _ (who began new : Caller) (seat : SeatFace) (command : Command)
     (way : IsWay who began new seat command) where
+  -- the view before the call
   abbrev v : View
   v = who.seat.view
 
+  -- the view when the call has begun
   abbrev b : View
   b = began.seat.view
 
+  -- the view after the work
   abbrev w : View
   w = new.seat.view
 
+  -- the view after the call
   abbrev x : View
   x = seat.view
 
+  -- the caller keeps its number
   pub number_is : new.number ≡ who.number
   number_is = way.number ∙ way.began_number
 
+  -- the begun view is later than the first
   pub b_view : IsLaterView v b
   b_view = begun_view who began.seat command way.sound way.pass way.begun
 
+  -- the start pairs are the same when the call has begun
   pub b_start : b.start ≡ v.start
   b_start = ap (λ (y : View). y.start) way.begun.view
 
+  -- the number of words is the same when the call has begun
   pub b_words : b.words ≡ v.words
   b_words = ap (λ (y : View). y.words) way.begun.view
 
+  -- the start pairs are the same after the work
   pub w_start : w.start ≡ v.start
-  w_start = ap (λ (y : View). y.start) way.went.same ∙ b_start
+  w_start = ap (λ (y : View). y.start) way.went.went.same ∙ b_start
 
+  -- the number of words is the same after the work
   pub w_words : w.words ≡ v.words
-  w_words = ap (λ (y : View). y.words) way.went.same ∙ b_words
+  w_words = ap (λ (y : View). y.words) way.went.went.same ∙ b_words
 
+  -- the start pairs are the same after the call
   pub x_start : x.start ≡ v.start
   x_start = way.last.start_is ∙ w_start
 
+  -- the number of words is the same after the call
   pub x_words : x.words ≡ v.words
   x_words = way.last.words_is ∙ w_words
 
+  -- the log goes on while the call begins
   pub v_to_b : GoesOn v.log b.log
   v_to_b = later-goes_on b_view.later
 
+  -- the log goes on during the work
   pub b_to_w : GoesOn b.log w.log
-  b_to_w = later_by-goes_on way.went.later
+  b_to_w = later_by-goes_on way.went.went.later
 
+  -- the log goes on while the call ends
   pub w_to_x : GoesOn w.log x.log
   w_to_x = later-goes_on way.last.later
 
+  -- the log goes on during the whole call
   pub v_to_x : GoesOn v.log x.log
   v_to_x = goes_on_more (goes_on_more v_to_b b_to_w) w_to_x
 
+  -- the log after the call is lawful
   pub lawful_x : Lawful v.start v.words x.log
   lawful_x =
       subst (λ pairs. Lawful pairs v.words x.log) x_start
       (subst (λ words. Lawful x.start words x.log) x_words way.last.sound.lawful)
 
+  -- the log after the work is lawful
   pub lawful_w : Lawful v.start v.words w.log
   lawful_w =
       record {
@@ -105,15 +123,19 @@ module _ (who began new : Caller) (seat : SeatFace) (command : Command)
         enabled = enabled_before (start v.start v.words) w.log x.log w_to_x lawful_x.enabled;
       }
 
+  -- the seat is still the caller's after the work
   pub w_mine : w.who ≡ CallerOf who.number
   w_mine = way.caller.mine ∙ ap CallerOf number_is
 
+  -- the seat is the caller's when the call has begun
   pub b_mine : b.who ≡ CallerOf who.number
   b_mine = b_view.who_is ∙ way.pass.caller.mine
 
+  -- others made the events while the call began
   pub later_b : Later (CallerOf who.number) v.log b.log
   later_b = subst (λ a. Later a v.log b.log) way.pass.caller.mine b_view.later
 
+  -- others made the events while the call ended
   pub later_x : Later (CallerOf who.number) w.log x.log
   later_x = subst (λ a. Later a w.log x.log) w_mine way.last.later
 
@@ -140,7 +162,7 @@ module _ (who began new : Caller) (seat : SeatFace) (command : Command)
         stamp = up;
       }
 
-  -- what it had settled is settled, where the work kept it so
+  -- what it had settled is settled, if the work kept it so
   pub settled_then : IsResolved w new.number → KeepsDone began new
       → (DueRowsAreClosed (start b.start b.words) b.log began.number
       → DueRowsAreClosed (start b.start b.words) w.log began.number)

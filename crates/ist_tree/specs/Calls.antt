@@ -1,5 +1,5 @@
--- How a pass goes on: what it has seen and learnt, which call it was answered, how its calls are
--- woven with those of another.
+-- How a pass goes on: what it has seen and learnt, which call was added to it, how its calls are
+-- woven with the calls of another.
 use Rattle.std.specs.Prelude.{◌≡◌, ℕ, ◌+◌, ◌≤◌, List, [], ◌∷◌, ◌++◌, Option}
 use Rattle.std.specs.List.{sum_by}
 use Rattle.ist_core.specs.declared.calls.Call.{Call}
@@ -13,16 +13,17 @@ use Rattle.ist_core.specs.Logs.{GoesOn}
 use Rattle.ist_core.specs.Lawful.{state_of}
 use Rattle.ist_core.specs.Standing.{Follows}
 use Rattle.ist_core.specs.Histories.{woven, IsLegal}
+use Rattle.laws_progress.specs.Progress.{progress}
 use Rattle.ist_math.specs.Guess.{guess_in, distance}
-use Rattle.ist_histories.specs.Calls.{IsAdded}
-use Rattle.ist_histories.specs.Placing.{HasPlaces}
-use Rattle.ist_walks.specs.Walking.{IsChainOf}
+use Rattle.laws_histories.specs.Calls.{IsAdded}
+use Rattle.laws_histories.specs.Placing.{HasPlaces}
+use Rattle.laws_walks.specs.Walking.{IsChainOf}
 use Rattle.ist_find.specs.Searches.{keys_in}
 use Rattle.ist_tree.specs.Faces.{PassFace, changes_seen, calls_in, HasItsCalls}
 
 -- ---- seeing and learning
 
--- the pass is the one that it was, on its tree; it has seen what it had seen, and perhaps more; and
+-- the pass is the same, on the same tree; it has seen all that it had seen, and perhaps more; and
 -- its stamp didn't fall
 pub record HasSeenMore (p q : PassFace) : Type 0 where
   pub tree : q.tree ≡ p.tree
@@ -37,11 +38,11 @@ pub record HasLearnt (p other : PassFace) : Type 0 where
   pub seen : GoesOn other.seen p.seen
   pub stamp : other.stamp ≤ p.stamp
 
--- ---- one call more
+-- ---- one more call
 
--- the pass was answered one call more, with this command and this reply. It stands behind its
--- earlier calls among the changes that the pass has seen, and is fresh: at a position behind all
--- changes that the pass had seen before, and with a higher stamp. So it comes after each call that
+-- the pass made one more call, with this command and this reply. The call follows the pass's
+-- earlier calls among the changes that the pass has seen. It is fresh: its position is after all
+-- changes that the pass had seen before, and its stamp is higher. So it comes after each call that
 -- the pass had learnt of
 pub record AddsCall (p q : PassFace) (command : Command) (reply : Option ℕ) : Type 0 where
   pub call : Call
@@ -53,11 +54,18 @@ pub record AddsCall (p q : PassFace) (command : Command) (reply : Option ℕ) : 
   pub learnt : (other : PassFace) → HasLearnt p other → HasItsCalls other
       → Each (λ known. Follows known call) other.calls
 
+-- ---- walks
+
+-- the pass began one walk, and at most one more for each step of progress that it saw the table
+-- make
+abbrev pub BeginsFewWalks : PassFace → PassFace → Type 0
+BeginsFewWalks p q = q.searches + progress p.seen ≤ p.searches + 1 + progress q.seen
+
 -- ---- weaving
 
--- the calls of each of both passes stand by themselves, and together they are woven into one legal
--- history, among the changes that the first has seen: each change once, and each other call of theirs
--- once, in order of position and stamp
+-- each of the two passes has its calls, and together they are woven into one legal history, among
+-- the changes that the first has seen: each change once, and each other call of theirs once, in
+-- order of position and stamp
 pub record WeavesWith (p other : PassFace) : Type 0 where
   pub mine : HasItsCalls p
   pub theirs : HasItsCalls other
@@ -67,14 +75,14 @@ pub record WeavesWith (p other : PassFace) : Type 0 where
 
 -- ---- loads
 
--- how many loads an inner row costs a search for the key: as many as the guess lies off the child
--- for the key, and 12
+-- how many loads an inner row costs a search for the key: 12, and one for each child that the guess
+-- is off the child for the key
 abbrev pub row_loads : Snapshot → ℕ → ℕ → ℕ
 row_loads t key row =
     let keys = keys_in (as_inner (t.pieces row)) in
     distance (guess_in keys key) (child_count keys key) + 12
 
--- the pass made few loads: 12 at most, and what the rows on the chain of one node cost
+-- the pass made few loads: at most 12, and what the rows on the chain of one node cost
 pub record HasLoadedFew (p q : PassFace) (key : ℕ) : Type 0 where
   pub node : ℕ
   pub rows : List ℕ

@@ -1,4 +1,4 @@
--- A tree that is closed: what its words stand for.
+-- A tree that is closed: what its words represent.
 use Rattle.std.specs.Prelude.{◌≡◌, ℕ, ◌+◌, ◌<◌, ◌==◌, false, if◌then◌else◌, List, [], ◌∷◌, map, length, zero, suc}
 use Rattle.ist_core.specs.declared.calls.Call.{Call}
 use Rattle.ist_core.specs.Elements.{Each}
@@ -16,7 +16,7 @@ calls_numbered number [] = []
 calls_numbered number (pass ∷ more) =
     if pass.number == number then pass.calls else calls_numbered number more
 
--- the calls of so many passes, with the numbers from this one on
+-- the calls of `count` passes, with the numbers from this one on
 abbrev pub calls_from : ℕ → ℕ → List PassCalls → List (List Call)
 calls_from number zero taken = []
 calls_from number (suc count) taken =
@@ -26,13 +26,13 @@ calls_from number (suc count) taken =
 abbrev pub calls_taken : MakerFace → List (List Call)
 calls_taken m = calls_from 0 m.made m.taken
 
--- what each of them was asked and answered
+-- the commands and replies of each of these passes
 abbrev pub told_to : MakerFace → List (List Answered)
 told_to m = map (map told_by_call) (calls_taken m)
 
--- the words stand for the opening pairs and the calls of each pass by its number; and the changes of
+-- the words represent the opening pairs and the calls of each pass by its number. The changes of
 -- the final log, which goes on from what the maker had seen, are the changing calls of these passes
--- and no others. Where no pass had met a refused rebuild, its state is settled
+-- and no others. If no pass had met a refused rebuild, the final state is settled
 pub record ClosesWith (m : MakerFace) (words : List ℕ) : Type 0 where
   pub stands : StandsFor words m.tree.start (told_to m)
   pub calls_are : stands.calls ≡ calls_taken m

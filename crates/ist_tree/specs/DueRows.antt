@@ -1,5 +1,5 @@
--- What a put or a remove has counted, what became of the rows that it made due, and which rebuilds it
--- started.
+-- What a put or a remove has counted, what became of the rows that it made due, and which rebuilds
+-- it started.
 use Rattle.std.specs.Prelude.{◌≡◌, ◌⊎◌, ℕ, List, ◌∷◌, Option, Some, None}
 use Rattle.ist_core.specs.declared.commands.Command.{Command}
 use Rattle.ist_core.specs.declared.events.Event.TheVariants.{Install}
@@ -23,15 +23,16 @@ use Rattle.ist_updates.specs.Counting.{IsCounted, CameToLimit}
 use Rattle.ist_tree.specs.Faces.{PassFace}
 use Rattle.ist_tree.specs.Refusals.{IsRebuildRefused}
 
--- in the call the pass has put or removed so, and counted that at each row on the chain of its change
+-- in the call the pass has put or removed as the command says, and counted that at each row on the
+-- chain of its change
 abbrev pub HasCounted : PassFace → PassFace → Command → Type 0
 HasCounted p q command = IsCounted p.tree.start p.tree.words p.seen q.seen p.number command
 
--- a count of the pass in the call found a count that is at the row's limit with one more
+-- an increment of the pass in this call brought the row's counter to its limit, or beyond it
 abbrev pub CameDue : PassFace → PassFace → ℕ → Type 0
 CameDue p q row = CameToLimit p.tree.start p.tree.words p.seen q.seen p.number row
 
--- the row did so, and stands on the chain of each that did
+-- the row reached its limit in this call, and was on the chain of each row that did
 pub record IsTopmostDue (p q : PassFace) (row : ℕ) : Type 0 where
   pub came : CameDue p q row
   pub above : (other : ℕ) → CameDue p q other
@@ -45,13 +46,13 @@ pub record IsClosedAt (p : PassFace) (row : ℕ) : Type 0 where
   pub closed : let t = state_of p.tree.start p.tree.words p.seen in
       (¬ (IsOpen t row)) ⊎ ¬ (IsOpen t parent)
 
--- the first refusal that a pass keeps, where it met this one behind those that it had met
+-- the refusal that a pass keeps after it met this one: the first of all that it met
 abbrev pub first_refusal : Option Full → Full → Option Full
 first_refusal (Some first) full = Some first
 first_refusal None full = Some full
 
--- no row came to its limit by the counts of the call; or the topmost that did, or its parent, isn't
--- open; or a rebuild was refused in this very call
+-- no row reached its limit by the counts of the call; or the topmost that did, or its parent, isn't
+-- open; or a rebuild was refused in this call
 pub data LeavesNoneDue (p q : PassFace) : Type 0 where
   none_came : ((row : ℕ) → ¬ (CameDue p q row)) → LeavesNoneDue p q
   is_closed : (row : ℕ) → IsTopmostDue p q row → IsClosedAt q row → LeavesNoneDue p q
@@ -60,7 +61,7 @@ pub data LeavesNoneDue (p q : PassFace) : Type 0 where
 
 -- ---- which rebuilds it started
 
--- the word is that of an inner row whose count has come to its limit
+-- the word names an inner row whose count has reached its limit
 pub record IsDueAt (t : Snapshot) (word : ℕ) : Type 0 where
   pub target : ℕ
   pub word_is : word ≡ word_of (InnerAt target)
@@ -68,14 +69,14 @@ pub record IsDueAt (t : Snapshot) (word : ℕ) : Type 0 where
   pub published : t.pieces target ≡ Some (Inner row)
   pub due : IsDue row
 
--- each start of a rebuild that the caller installed behind the earlier log took, at that moment, the
--- place of a row whose count had come to its limit
+-- each start of a rebuild that the caller installed after the earlier log was, at that moment, of a
+-- row whose count had reached its limit
 abbrev pub InstallsDue : List Pair → ℕ → Log → Log → ℕ → Type 0
 InstallsDue pairs words earlier log caller =
     (at : Log) (base : ℕ) (rows : List Row) (change : ChangeRow) → GoesOn earlier at
     → GoesOn (Install caller base rows ∷ at) log → first_change rows ≡ Some change
     → change.kind ≡ start_kind → IsDueAt (state_of pairs words at) change.from
 
--- so did each that the pass installed in the call
+-- each start of a rebuild that the pass installed in the call was of a row at its limit
 abbrev pub StartsOnlyDue : PassFace → PassFace → Type 0
 StartsOnlyDue p q = InstallsDue p.tree.start p.tree.words p.seen q.seen p.number

@@ -8,7 +8,7 @@ use Rattle.ist_core.specs.Logs.{Log}
 use Rattle.ist_core.specs.Changes.{Entry, changes_of}
 use Rattle.ist_core.specs.Histories.{PassCalls}
 use Rattle.ist_core.specs.Replies.{Refused}
-use Rattle.ist_histories.specs.Calls.{HasCalls}
+use Rattle.laws_histories.specs.Calls.{HasCalls}
 
 -- a tree: which one it is, the pairs that it was opened with, and how many words it has
 pub record TreeFace : Type 0 where
@@ -16,9 +16,10 @@ pub record TreeFace : Type 0 where
   pub start : List Pair
   pub words : ℕ
 
--- a pass, or what a note keeps of one: its tree and its number, the log that it has seen, its stamp,
--- and the calls that it was answered, the oldest first. `loaded` counts its loads, and `refused` is
--- the first refusal of a rebuild that one of its calls met behind its own change
+-- a pass, or what a note keeps of one: its tree and its number, the log that it has seen, its
+-- stamp, and its calls with their replies, the oldest first. `loaded` counts its loads, `searches`
+-- the walks that it began from the anchor, and `refused` is the first refusal of a rebuild that one
+-- of its calls met after its own change, or that a freeze met after a rebuild was in place
 pub record PassFace : Type 0 where
   pub tree : TreeFace
   pub number : ℕ
@@ -26,10 +27,11 @@ pub record PassFace : Type 0 where
   pub stamp : ℕ
   pub calls : List Call
   pub loaded : ℕ
+  pub searches : ℕ
   pub refused : Option Full
 
 -- a maker: its tree, how many passes it made, the log that it has seen, its stamp, and the passes
--- that it took back, the last first. `refused` tells that one of these had met a refused rebuild
+-- that it took back, the last first. `refused` says whether one of these had met a refused rebuild
 pub record MakerFace : Type 0 where
   pub tree : TreeFace
   pub made : ℕ
@@ -38,7 +40,7 @@ pub record MakerFace : Type 0 where
   pub taken : List PassCalls
   pub refused : Bool
 
--- a port: its pass, and what it was refused last, if it was
+-- a port: its pass, and its last refusal, if there was one
 pub record PortFace : Type 0 where
   pub pass : PassFace
   pub refused : Option Refused
@@ -47,14 +49,15 @@ pub record PortFace : Type 0 where
 abbrev pub changes_seen : PassFace → List Entry
 changes_seen p = changes_of p.tree.start p.tree.words p.seen
 
--- a pass as one whose calls are woven with those of others
+-- a pass's number and calls, to weave them with the calls of others
 abbrev pub calls_in : PassFace → PassCalls
 calls_in p = record { number = p.number; calls = p.calls }
 
--- the calls of a pass stand among the changes that it has seen, and none has a stamp above its own
+-- the calls of a pass have their positions among the changes that it has seen, and none has a stamp
+-- above the pass's own
 abbrev pub HasItsCalls : PassFace → Type 0
 HasItsCalls p = HasCalls p.tree.start p.tree.words p.seen p.number p.stamp p.calls
 
--- what a note of a pass keeps: all that the pass knew, but none of its loads and refusals
+-- what a note of a pass keeps: all that the pass knew, but none of its loads, walks and refusals
 abbrev pub noted : PassFace → PassFace
-noted p = record p { loaded = 0; refused = None }
+noted p = record p { loaded = 0; searches = 0; refused = None }

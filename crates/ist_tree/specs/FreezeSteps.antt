@@ -1,5 +1,5 @@
--- What the functions that freeze a tree promise each other: what stands below the anchor, and what
--- comes of freezing it.
+-- What the functions that freeze a tree promise each other: what is below the anchor, and what
+-- freezing it results in.
 use Rattle.std.specs.Prelude.{◌≡◌, ℕ, ◌⊎◌, List, slice_get, Option, Some, None, IfSome}
 use Rattle.ist_core.specs.declared.pairs.Pair.{Pair}
 use Rattle.ist_core.specs.declared.ports.Full.{Full}
@@ -15,7 +15,7 @@ use Rattle.ist_core.specs.References.{Ref}
 use Rattle.ist_core.specs.RowLayout.{anchor, change_words, rebuild_words}
 use Rattle.ist_core.specs.Snapshots.{Snapshot}
 use Rattle.ist_layout.specs.declared.references.Ref.TheVariants.{Inner}
-use Rattle.ist_settling.specs.Settling.{StartsAreDone}
+use Rattle.laws_settling.specs.Settling.{StartsAreDone}
 use Rattle.ist_rule.specs.declared.view.View.{View}
 use Rattle.ist_rule.specs.Learning.{now}
 use Rattle.ist_rows.specs.declared.callers.Caller.{Caller}
@@ -26,26 +26,27 @@ use Rattle.ist_tree.specs.declared.freezing.Site.TheVariants.{Still, Rebuilt}
 use Rattle.ist_tree.specs.Freezing.{WasFrozen}
 use Rattle.ist_tree.specs.Working.{IsDueRefused, IsShort, KeepsDone, RebuildsOn}
 
--- ---- what stands below the anchor
+-- ---- what is below the anchor
 
 -- the rebuild is a started one of this target
 pub record IsRebuildOf (t : Snapshot) (rebuild target : ℕ) : Type 0 where
   pub started : IsStarted t rebuild
   pub target_is : HasTarget t rebuild target
 
--- behind some log between these the row was the anchor's child
+-- the row was the anchor's child after some log between these
 pub record WasTop (v : View) (log : Log) (target : ℕ) : Type 0 where
   pub at : Log
   pub since : GoesOn v.log at
   pub until : GoesOn at log
   pub child : IsChild (state_of v.start v.words at) anchor 0 target
 
--- what a look at the anchor's slot found: a tree that is frozen, or a rebuild of what stood there
+-- what a look at the anchor's slot found: a tree that is frozen, or a rebuild of what was there
 abbrev pub IsSite : View → View → Site → Type 0
 IsSite v w (Still frozen) = WasFrozen v.start v.words v.log w.log frozen
 IsSite v w (Rebuilt rebuild target) = IsRebuildOf (now w) rebuild target × WasTop v w.log target
 
--- where the starts of the caller were done, they are; but for this one, where one is named
+-- if all starts of the caller were done, they still are, except the start of this rebuild, if one
+-- is named
 abbrev pub KeepsDoneBut : Caller → Caller → Option ℕ → Type 0
 KeepsDoneBut old new None = KeepsDone old new
 KeepsDoneBut old new (Some rebuild) = StartsAreDone (now old.seat.view) old.number
@@ -57,7 +58,7 @@ pub record GoesIdle (old new : Caller) : Type 0 where
   pub done : KeepsDone old new
   pub none : StartsNone (now old.seat.view) (now new.seat.view) old.number
 
--- the rebuild that is to be helped, if there is one
+-- the rebuild to help, if there is one
 abbrev pub rebuild_in : Site → Option ℕ
 rebuild_in (Still frozen) = None
 rebuild_in (Rebuilt rebuild target) = Some rebuild
@@ -79,7 +80,7 @@ HasBegun old new target (Some rebuild) = RebuildsOn old new
     × IsRebuildOf (now new.seat.view) rebuild target × KeepsDoneBut old new (Some rebuild)
 HasBegun old new target None = GoesIdle old new
 
--- ---- what comes of it
+-- ---- what it results in
 
 -- the caller was refused a row for the start, and has started no rebuild
 pub record IsStopped (old new : Caller) (words : ℕ) (full : Full) : Type 0 where
@@ -87,7 +88,7 @@ pub record IsStopped (old new : Caller) (words : ℕ) (full : Full) : Type 0 whe
   pub short : IsShort new.seat.view words full
   pub asked : (full.asked ≡ rebuild_words) ⊎ (full.asked ≡ change_words)
 
--- the caller has finished the target; where it wasn't refused, the rebuild is done too
+-- the caller has finished the target; if it wasn't refused, the rebuild is done too
 pub record FreezesTarget (old new : Caller) (words rebuild target : ℕ) (outcome : Outcome)
     : Type 0 where
   pub on : RebuildsOn old new
@@ -97,7 +98,7 @@ pub record FreezesTarget (old new : Caller) (words rebuild target : ℕ) (outcom
       → StartsAreDone (now new.seat.view) old.number
   pub refused : IfSome outcome.refused (IsDueRefused new.seat.view words)
 
--- the caller has frozen the tree; where it wasn't refused, all that it started is done
+-- the caller has frozen the tree; if it wasn't refused, all that it started is done
 pub record Freezes (old new : Caller) (words : ℕ) (outcome : Outcome) : Type 0 where
   pub on : RebuildsOn old new
   pub frozen : let v = old.seat.view in

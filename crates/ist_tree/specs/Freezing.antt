@@ -12,7 +12,7 @@ use Rattle.ist_core.specs.Rebuilding.{IsFinishedWith}
 use Rattle.ist_core.specs.References.{Ref, Empty, LeafAt, InnerAt}
 use Rattle.ist_core.specs.RowLayout.{change_words, rebuild_words}
 use Rattle.ist_core.specs.Snapshots.{Snapshot}
-use Rattle.ist_finished.specs.Freezing.{WereThePairs}
+use Rattle.laws_rows.specs.Freezing.{WereThePairs}
 use Rattle.ist_layout.specs.Meanings.{ref_meant}
 use Rattle.ist_rebuild.specs.Starting.{StartsNone}
 use Rattle.ist_tree.specs.declared.freezing.Frozen.{Frozen}
@@ -21,8 +21,8 @@ use Rattle.ist_tree.specs.Refusals.{HadTooFew}
 
 -- ---- what is frozen
 
--- no step changes what lies below the reference, and it has so many keys: nothing, a published
--- leaf, or an inner row that is finished with this number
+-- no step changes what lies below the reference, and it has this many keys: it is nothing, a
+-- published leaf, or an inner row that is finished with this number
 pub data IsStill (t : Snapshot) : Ref → ℕ → Type 0 where
   no_key : IsStill t Empty 0
   one_key : (base : ℕ) (row : LeafRow) → t.pieces base ≡ Some (Leaf row) → IsStill t (LeafAt base) 1
@@ -33,7 +33,7 @@ abbrev pub IsFrozen : List Pair → ℕ → Log → Frozen → Type 0
 IsFrozen pairs words log frozen =
     IsStill (state_of pairs words log) (ref_meant frozen.root) frozen.keys
 
--- these are its pairs there: those of the leaves below its root
+-- these are the pairs of the frozen tree in this log: the pairs of the leaves below its root
 pub record HasFrozenPairs (pairs : List Pair) (words : ℕ) (log : Log) (frozen : Frozen)
     (found : List Pair) : Type 0 where
   pub leaves : List PlacedLeaf
@@ -42,14 +42,14 @@ pub record HasFrozenPairs (pairs : List Pair) (words : ℕ) (log : Log) (frozen 
 
 -- ---- laws
 
--- a tree that is frozen is so in each lawful log that goes on
+-- a tree that is frozen in a log stays frozen in each lawful log that goes on
 abbrev pub FrozenTreesStay : Type 0
 FrozenTreesStay =
     (pairs : List Pair) (words : ℕ) (earlier log : Log) → Lawful pairs words log
     → GoesOn earlier log → (frozen : Frozen) → IsFrozen pairs words earlier frozen
     → IsFrozen pairs words log frozen
 
--- with the same pairs
+-- a frozen tree keeps its pairs in each lawful log that goes on
 abbrev pub FrozenPairsStay : Type 0
 FrozenPairsStay =
     (pairs : List Pair) (words : ℕ) (earlier log : Log) → Lawful pairs words log
@@ -57,30 +57,30 @@ FrozenPairsStay =
     → IsFrozen pairs words earlier frozen → HasFrozenPairs pairs words earlier frozen found
     → HasFrozenPairs pairs words log frozen found
 
--- it has such pairs, as many as it has keys, which rise by key
+-- the frozen tree has a list of pairs, one for each of its keys, strictly increasing by key
 pub record HasItsPairs (pairs : List Pair) (words : ℕ) (log : Log) (frozen : Frozen) : Type 0 where
   pub found : List Pair
   pub has : HasFrozenPairs pairs words log frozen found
   pub number : length found ≡ frozen.keys
   pub rising : IsStrictlyIncreasing (map (λ pair. pair.key) found)
 
--- this is so of each frozen tree
+-- each frozen tree has its pairs
 abbrev pub FrozenTreesHavePairs : Type 0
 FrozenTreesHavePairs =
     (pairs : List Pair) (words : ℕ) (log : Log) → Lawful pairs words log → (frozen : Frozen)
     → IsFrozen pairs words log frozen → HasItsPairs pairs words log frozen
 
--- and no others
+-- a frozen tree has at most one list of pairs
 abbrev pub FrozenPairsAreOne : Type 0
 FrozenPairsAreOne =
     (pairs : List Pair) (words : ℕ) (log : Log) (frozen : Frozen) (found others : List Pair)
     → HasFrozenPairs pairs words log frozen found → HasFrozenPairs pairs words log frozen others
     → found ≡ others
 
--- ---- what a freeze answers
+-- ---- what a freeze returns
 
--- the tree is frozen in the log, and its pairs are those that the map had behind some number of
--- changes, no fewer than those of the earlier log
+-- the tree is frozen in the log, and its pairs are the map's pairs after some number of changes, no
+-- fewer than the earlier log has
 pub record WasFrozen (pairs : List Pair) (words : ℕ) (earlier log : Log) (frozen : Frozen)
     : Type 0 where
   pub frozen_is : IsFrozen pairs words log frozen
@@ -92,18 +92,19 @@ pub record WasFrozen (pairs : List Pair) (words : ℕ) (earlier log : Log) (froz
 abbrev pub IsFrozenFor : PassFace → Frozen → Type 0
 IsFrozenFor p frozen = IsFrozen p.tree.start p.tree.words p.seen frozen
 
--- the tree was frozen in the call: its pairs are those of the map behind some number of changes, no
+-- the tree was frozen in the call: its pairs are the map's pairs after some number of changes, no
 -- fewer than the pass had seen before, and no more than it has seen then
 abbrev pub HasFrozen : PassFace → PassFace → Frozen → Type 0
 HasFrozen p q frozen = WasFrozen p.tree.start p.tree.words p.seen q.seen frozen
 
--- the rebuild that the freeze was to start was refused a row, for itself or for its change
+-- the freeze couldn't start its rebuild: too few words were left for the rebuild's row or its
+-- change
 pub record IsFreezeRefused (p q : PassFace) (full : Full) : Type 0 where
   pub had : HadTooFew p q full
   pub asked : (full.asked ≡ rebuild_words) ⊎ (full.asked ≡ change_words)
 
--- the pass has started no rebuild in the call: each start of it that was decided yes by the end was so
--- before
+-- the pass has started no rebuild in the call: each of its starts that was decided yes by the end
+-- was decided yes before
 abbrev pub HasStartedNone : PassFace → PassFace → Type 0
 HasStartedNone p q =
     StartsNone (state_of p.tree.start p.tree.words p.seen)
@@ -117,6 +118,6 @@ pub record IsPairAt (pairs : List Pair) (words : ℕ) (log : Log) (frozen : Froz
   pub rising : IsStrictlyIncreasing (map (λ other. other.key) found)
   pub there : slice_get found i ≡ Some pair
 
--- it is so in what the pass has seen
+-- the pair is number i of the frozen tree in what the pass has seen
 abbrev pub IsFrozenPair : PassFace → Frozen → ℕ → Pair → Type 0
 IsFrozenPair p frozen i pair = IsPairAt p.tree.start p.tree.words p.seen frozen i pair

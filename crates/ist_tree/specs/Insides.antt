@@ -1,4 +1,4 @@
--- What the tokens of a tree are inside: which seat each has, and what of it contracts see.
+-- What the tokens of a tree are inside: which seat each has, and what contracts see of it.
 use Rattle.std.specs.Prelude.{◌≡◌, ℕ, Bool, false, List, map, Option, Some, None, IfSome}
 use Rattle.ist_core.specs.declared.commands.Command.{Command}
 use Rattle.ist_core.specs.declared.pairs.Pair.{Pair}
@@ -10,8 +10,8 @@ use Rattle.ist_core.specs.Lawful.{state_of}
 use Rattle.ist_core.specs.Logs.{Log}
 use Rattle.ist_core.specs.Replies.{Refused, refusal}
 use Rattle.ist_core.specs.StartLayout.{start}
-use Rattle.ist_histories.specs.Calls.{HasCalls}
-use Rattle.ist_settling.specs.Settling.{StartsAreDone, DueRowsAreClosed}
+use Rattle.laws_histories.specs.Calls.{HasCalls}
+use Rattle.laws_settling.specs.Settling.{StartsAreDone, DueRowsAreClosed}
 use Rattle.ist_rule.specs.declared.view.View.{View}
 use Rattle.ist_rule.specs.declared.view.Taken.{Taken}
 use Rattle.ist_core.specs.declared.events.Who.{Who}
@@ -27,7 +27,7 @@ use Rattle.ist_tree.specs.Refusals.{WasRefused}
 abbrev pub tree_of : SeatFace → TreeFace
 tree_of s = record { table = s.table; start = s.view.start; words = s.view.words }
 
--- what a seat knows as that of the pass with this number, which met this refusal
+-- what a seat knows, as the face of the pass with this number, which met this refusal
 abbrev pub face_as : SeatFace → ℕ → Option Full → PassFace
 face_as s number refused =
     record {
@@ -37,17 +37,18 @@ face_as s number refused =
       stamp = s.view.stamp;
       calls = s.view.calls;
       loaded = s.view.loaded;
+      searches = s.view.searches;
       refused = refused;
     }
 
--- what a caller knows as a pass, which met this refusal
+-- what a caller knows, as the face of a pass which met this refusal
 abbrev pub pass_face : Caller → Option Full → PassFace
 pass_face who = face_as who.seat who.number
 
 -- ---- what is settled
 
--- of the caller's own: each change is resolved, each start that was decided yes is done, and each row
--- that it made due has a row on its chain that isn't open
+-- each change of the caller is resolved, each of its starts that was decided yes is done, and each
+-- row that it made due has a row on its chain that isn't open
 pub record HasSettled (pairs : List Pair) (words : ℕ) (log : Log) (number : ℕ) : Type 0 where
   pub resolved : AllResolvedOf (state_of pairs words log) log number
   pub starts : StartsAreDone (state_of pairs words log) number
@@ -55,14 +56,15 @@ pub record HasSettled (pairs : List Pair) (words : ℕ) (log : Log) (number : �
 
 -- ---- passes and notes
 
--- the caller may be that of a pass: it is in no call, and each build that it holds rows of was
+-- the caller may be a pass's caller: it is in no call, and each build that it holds rows of was
 -- refused
 pub record IsPass (who : Caller) : Type 0 where
   pub caller : IsCaller who
   pub refused : HasRefused who
   pub in_none : who.seat.view.pending ≡ None
 
--- and where it met no refused rebuild, all of its own is settled
+-- the caller may be a pass's caller, and if the pass met no refused rebuild, all of its own is
+-- settled
 pub record IsPassWith (who : Caller) (refused : Option Full) : Type 0 where
   pub pass : IsPass who
   pub settled : refused ≡ None
@@ -77,7 +79,7 @@ noted_number _ = 0
 abbrev pub note_face : SeatFace → PassFace
 note_face s = face_as s (noted_number s.view.who) None
 
--- the seat is a note of a pass, in no call, and the calls that it keeps stand in its log
+-- the seat is a note of a pass, in no call, and the calls that it keeps are in its log
 pub record IsNote (v : View) : Type 0 where
   pub number : ℕ
   pub of_pass : v.who ≡ Note (Some number)
@@ -105,7 +107,8 @@ pub record IsMaker (v : View) : Type 0 where
   pub maker : v.who ≡ Maker
   pub given : v.given ≡ v.made
 
--- and where no pass that was taken back had met a refused rebuild, all of the own of each was settled
+-- the seat is the maker's, and if no pass that was taken back had met a refused rebuild, all
+-- changes, starts and due rows of each were settled
 pub record IsMakerWith (v : View) (refused : Bool) : Type 0 where
   pub maker : IsMaker v
   pub settled : refused ≡ false

@@ -2,12 +2,15 @@
 pub mod Faces
 pub mod Opening
 pub mod Calls
+pub mod Spans
 pub mod Refusals
 pub mod DueRows
 pub mod Closing
 pub mod Freezing
+pub mod Walks
 -- what the tokens of a tree are inside
 pub mod Insides
 -- what the functions inside this crate promise each other
+pub mod Rounds
 pub mod Working
 pub mod FreezeSteps

@@ -11,8 +11,8 @@ use Rattle.ist_tree.specs.Faces.{TreeFace, MakerFace}
 abbrev pub words_for : List Pair → ℕ
 words_for pairs = first_row + ideal_words (length pairs)
 
--- the tree is a new one of the pairs, for which there is room in so many words; its maker has made no
--- pass and seen no event, so that the words are the image of the start
+-- the tree is a new one of the pairs, and they fit in this many words. Its maker has made no pass
+-- and seen no event, so that the words are the image of the start
 pub record IsNewTree (words : ℕ) (pairs : List Pair) (tree : TreeFace) (maker : MakerFace)
     : Type 0 where
   pub room : words_for pairs ≤ words
@@ -25,8 +25,8 @@ pub record IsNewTree (words : ℕ) (pairs : List Pair) (tree : TreeFace) (maker 
   pub taken : maker.taken ≡ []
   pub unrefused : maker.refused ≡ false
 
--- the fault is `Small`, with both numbers, where there are too few words, and `Memory` only where
--- there are enough
+-- the fault is `Small`, with both numbers, if there are too few words, and `Memory` only if there
+-- are enough
 abbrev pub IsFaultOf : ℕ → List Pair → OpenFault → Type 0
 IsFaultOf words pairs (Small needed given) =
     (needed ≡ words_for pairs) × (given ≡ words) × (words < needed)

@@ -1,4 +1,4 @@
--- Why a put or a remove is refused, and why a rebuild behind one.
+-- Why a put or a remove is refused, and why the rebuild after one is refused.
 use Rattle.std.specs.Prelude.{◌≡◌, ◌≢◌, ℕ, ◌+◌, ◌*◌, ◌<◌, ◌≤◌, ◌⊎◌, length, Option, Some, None}
 use Rattle.ist_core.specs.declared.commands.Command.TheVariants.{Get}
 use Rattle.ist_core.specs.declared.ports.Full.{Full}
@@ -9,20 +9,20 @@ use Rattle.ist_core.specs.Rebuilding.{IsStarted, IsReplaced}
 use Rattle.ist_core.specs.Replies.{Refused}
 use Rattle.ist_core.specs.RowLayout.{leaf_words, pair_words, change_words, rebuild_words}
 use Rattle.ist_core.specs.Spending.{spent}
-use Rattle.ist_finished.specs.Finishing.{puts_in}
-use Rattle.ist_histories.specs.Searching.{HasPosition}
+use Rattle.laws_rows.specs.Finishing.{puts_in}
+use Rattle.laws_histories.specs.Searching.{HasPosition}
 use Rattle.ist_tree.specs.Faces.{PassFace, changes_seen}
 
 -- ---- how many words there were
 
--- of the tree's words `next` were spent behind this log, and fewer are left than were asked for
+-- after this log `next` of the tree's words were spent, and fewer were left than were asked for
 pub record LeavesTooFew (p : PassFace) (at : Log) (full : Full) : Type 0 where
   pub next_is : full.next ≡ spent p.tree.start at
   pub words_is : full.words ≡ p.tree.words
   pub small : p.tree.words < full.next + full.asked
 
--- so it was behind a log that the pass had seen by the end of a call, no shorter than that which it
--- had seen before it
+-- too few words were left after some log, which goes on from what the pass had seen before a call,
+-- and which it had seen by the end of the call
 pub record HadTooFew (p q : PassFace) (full : Full) : Type 0 where
   pub at : Log
   pub since : GoesOn p.seen at
@@ -31,27 +31,27 @@ pub record HadTooFew (p q : PassFace) (full : Full) : Type 0 where
 
 -- ---- how many were asked for
 
--- so many words take a node over no more keys than there were pairs at the opening and puts since,
--- together, and over two at least
+-- `asked` is the size of a node over at least two keys, and over no more keys than there were pairs
+-- at the opening and puts since, together
 pub record IsForNode (p : PassFace) (asked : ℕ) : Type 0 where
   pub keys : ℕ
   pub least : 2 ≤ keys
   pub most : keys ≤ length p.tree.start + puts_in (changes_seen p)
   pub asked_is : asked ≡ 2 * degree keys + 3
 
--- so many words helping a rebuild takes at a time: those of a change, or of a node
+-- helping a rebuild asks for this many words at a time: the size of a change, or of a node
 abbrev pub IsForRebuild : PassFace → ℕ → Type 0
 IsForRebuild p asked = (asked ≡ change_words) ⊎ IsForNode p asked
 
--- a rebuild was started by the end of a call and wasn't replaced when it began
+-- a rebuild was started by the end of a call, and hadn't been replaced when the call began
 pub record HasMetRebuild (p q : PassFace) : Type 0 where
   pub rebuild : ℕ
   pub started : IsStarted (state_of q.tree.start q.tree.words q.seen) rebuild
   pub unreplaced : ¬ (IsReplaced (state_of p.tree.start p.tree.words p.seen) rebuild)
 
--- so many words were asked for in a call with this key: a put asks for a leaf, a pair row or a change,
--- and a remove for a change, where the map had the key at some position that is no lower than what the
--- pass had seen; both for what a rebuild takes that they met
+-- this many words were asked for in a call with this key. A put asks for a leaf, a pair row or a
+-- change. A remove asks for a change, if the map had the key at some position no lower than what
+-- the pass had seen. Both ask for what helping a rebuild takes, if they met one
 pub data IsAskedIn (p q : PassFace) (key : ℕ) : Option ℕ → ℕ → Type 0 where
   for_leaf : {value asked : ℕ} → asked ≡ leaf_words → IsAskedIn p q key (Some value) asked
   for_pair : {value asked : ℕ} → asked ≡ pair_words → IsAskedIn p q key (Some value) asked
@@ -64,31 +64,32 @@ pub data IsAskedIn (p q : PassFace) (key : ℕ) : Option ℕ → ℕ → Type 0 
 
 -- ---- refusals
 
--- a put of the value at the key, or with none a remove of the key, was refused for want of words
+-- a put of the value at the key, or a remove of the key if there is no value, was refused because
+-- too few words were left
 pub record IsRefused (p q : PassFace) (key : ℕ) (value : Option ℕ) (full : Full) : Type 0 where
   pub had : HadTooFew p q full
   pub asked : IsAskedIn p q key value full.asked
 
--- a rebuild was refused for want of words: that of the rebuild's row, or of what helping it takes
+-- a rebuild was refused because too few words were left: for the rebuild's row, or for helping it
 pub record IsRebuildRefused (p q : PassFace) (full : Full) : Type 0 where
   pub had : HadTooFew p q full
   pub asked : (full.asked ≡ rebuild_words) ⊎ IsForRebuild q full.asked
 
--- a refusal of a rebuild stays, and one that is new came in this call
+-- a pass keeps its refusal of a rebuild, and a new one came in this call
 pub record KeepsRefusal (p q : PassFace) : Type 0 where
   pub stays : (full : Full) → p.refused ≡ Some full → q.refused ≡ Some full
   pub cause : (full : Full) → q.refused ≡ Some full
       → (p.refused ≡ Some full) ⊎ IsRebuildRefused p q full
 
--- ---- what a port tells
+-- ---- what a port reports
 
--- so many words a put or a remove may ask for at a time: those of a leaf, a pair row, a change or a
--- node
+-- a put or a remove may ask for this many words at a time: the size of a leaf, a pair row, a change
+-- or a node
 abbrev pub MayBeAsked : PassFace → ℕ → Type 0
 MayBeAsked p asked =
     (asked ≡ leaf_words) ⊎ ((asked ≡ pair_words) ⊎ ((asked ≡ change_words) ⊎ IsForNode p asked))
 
--- a put or a remove of the pass was refused so, by a log that it has seen
+-- a put or a remove of the pass was refused with these numbers, after a log that the pass has seen
 pub record WasRefused (p : PassFace) (said : Refused) : Type 0 where
   pub update : (key : ℕ) → said.command ≢ Get key
   pub at : Log

@@ -1,5 +1,5 @@
--- What the functions inside this crate promise each other: a caller in its call, the rebuild of a row
--- that came to its limit, and an update from its beginning to its end.
+-- What the functions inside this crate promise each other: a caller in its call, the rebuild of a
+-- row that reached its limit, and an update from its beginning to its end.
 use Rattle.std.specs.Prelude.{◌≡◌, ◌⊎◌, ℕ, ◌+◌, ◌<◌, Bool, true, Option, Some, None}
 use Rattle.ist_core.specs.declared.commands.Command.{Command}
 use Rattle.ist_core.specs.declared.events.Event.{Event}
@@ -8,8 +8,9 @@ use Rattle.ist_core.specs.declared.ports.Full.{Full}
 use Rattle.ist_core.specs.declared.states.ChangeRow.{ChangeRow}
 use Rattle.ist_core.specs.Lawful.{state_of}
 use Rattle.ist_core.specs.Links.{IsChild, WasOnChain}
-use Rattle.ist_core.specs.Logs.{Ever}
+use Rattle.ist_core.specs.Logs.{Ever, Happened, Resolves}
 use Rattle.ist_core.specs.Rebuilding.{IsUpdate}
+use Rattle.ist_core.specs.References.{ChangeAt, RebuildAt, Ref, ref_of}
 use Rattle.ist_core.specs.RowLayout.{rebuild_words}
 use Rattle.ist_core.specs.Slots.{IsOpen}
 use Rattle.ist_core.specs.Snapshots.{Snapshot}
@@ -19,23 +20,27 @@ use Rattle.ist_core.specs.StartLayout.{start}
 use Rattle.ist_core.specs.Writing.{first_change}
 use Rattle.ist_rule.specs.declared.view.View.{View}
 use Rattle.ist_rule.specs.Conditions.{CanGiveUp}
-use Rattle.ist_rule.specs.Going.{WentOn}
+use Rattle.ist_rule.specs.Going.{SearchedOn, WentOn}
 use Rattle.ist_rule.specs.Learning.{now}
 use Rattle.ist_rows.specs.declared.callers.Caller.{Caller}
 use Rattle.ist_rows.specs.Building.{HasRefused}
 use Rattle.ist_rows.specs.Rows.{IsCaller}
-use Rattle.ist_settling.specs.Settling.{StartsAreDone, DueRowsAreClosed}
+use Rattle.laws_settling.specs.Settling.{StartsAreDone, DueRowsAreClosed}
+use Rattle.ist_build.specs.Calls.{IsBuildable}
 use Rattle.ist_rebuild.specs.Going.{IsQuiet}
 use Rattle.ist_rebuild.specs.Helping.{IsAskedFor}
 use Rattle.ist_updates.specs.Asking.{MayEnd}
-use Rattle.ist_updates.specs.Counting.{IsCounted, CameToLimit}
-use Rattle.ist_updates.specs.Refusals.{IsUpdateRefused}
+use Rattle.ist_updates.specs.Counting.{IsCounted, CameToLimit, LeavesDue}
+use Rattle.ist_updates.specs.Further.{HasWalkedFew}
+use Rattle.ist_updates.specs.Refusals.{WasRefused}
+use Rattle.ist_tree.specs.declared.rebuilding.Instead.{Instead}
+use Rattle.ist_tree.specs.declared.rebuilding.Instead.TheVariants.{Rebuild, Change, Other}
 use Rattle.ist_tree.specs.DueRows.{InstallsDue}
 
 -- ---- a caller in its call
 
--- the caller is in a call, in which each change that it installed is resolved; and each build that it
--- holds rows of was refused
+-- the caller is in a call in which each change that it installed is resolved, and each build that
+-- it holds rows of was refused
 pub record IsReady (who : Caller) : Type 0 where
   pub caller : IsCaller who
   pub refused : HasRefused who
@@ -61,46 +66,59 @@ pub record RebuildsOn (old new : Caller) : Type 0 where
   pub number : new.number ≡ old.number
   pub went : WentOn Rebuilds old.seat.view new.seat.view
 
--- where the starts of the caller were done, they are
+-- if all starts of the caller were done, they still are
 abbrev pub KeepsDone : Caller → Caller → Type 0
 KeepsDone old new = StartsAreDone (now old.seat.view) old.number
     → StartsAreDone (now new.seat.view) old.number
 
--- each start that the caller installed meanwhile took the place of a row that was due
+-- each start that the caller installed meanwhile was of a row that was due
 abbrev pub StartsDue : Caller → Caller → Type 0
 StartsDue old new =
     let v = old.seat.view in
     InstallsDue v.start v.words v.log new.seat.view.log old.number
 
--- ---- the rebuild of a row that came to its limit
+-- ---- the rebuild of a row that reached its limit
 
 -- the row or its parent isn't open
 abbrev pub IsShut : Snapshot → ℕ → ℕ → Type 0
 IsShut t parent target = (¬ (IsOpen t target)) ⊎ ¬ (IsOpen t parent)
 
--- what an attempt to rebuild answers: where it is the last, the row or its parent isn't open
+-- if an attempt to rebuild was the last, the row or its parent isn't open
 abbrev pub IsLastFor : Bool → Snapshot → ℕ → ℕ → Type 0
 IsLastFor last t parent target = last ≡ true → IsShut t parent target
 
--- so many words of the table are used, and fewer are left than were asked for
+-- what a reference names instead of a row: a rebuild, a change or neither
+abbrev pub instead_of : Option Ref → Instead
+instead_of (Some (RebuildAt base)) = Rebuild base
+instead_of (Some (ChangeAt base)) = Change base
+instead_of _ = Other
+
+-- what the word named was helped: a change is out of its slot, and the target of a rebuild is
+-- finished
+pub record IsHelpedWord (w : View) (word : ℕ) : Type 0 where
+  pub change : (base : ℕ) → ref_of word ≡ Some (ChangeAt base) → Happened (Resolves base) w.log
+  pub rebuild : (base : ℕ) → ref_of word ≡ Some (RebuildAt base) → IsBuildable (now w) base
+
+-- `next` words of the table are used, and fewer are left than were asked for
 pub record IsShort (w : View) (words : ℕ) (full : Full) : Type 0 where
   pub next_is : full.next ≡ spent w.start w.log
   pub words_is : full.words ≡ words
   pub small : words < full.next + full.asked
 
--- so many words were asked for: for a rebuild, or for what helping one takes
+-- this many words were asked for: the size of a rebuild, or what helping one takes
 pub data IsAskedToRebuild (t : Snapshot) : ℕ → Type 0 where
   for_start : {asked : ℕ} → asked ≡ rebuild_words → IsAskedToRebuild t asked
   for_help : {asked : ℕ} (rebuild : ℕ) → IsAskedFor t rebuild asked → IsAskedToRebuild t asked
 
--- a rebuild was refused for want of words
+-- a rebuild was refused because too few words were left
 pub record IsDueRefused (w : View) (words : ℕ) (full : Full) : Type 0 where
   pub short : IsShort w words full
   pub asked : IsAskedToRebuild (now w) full.asked
 
 -- ---- an update
 
--- the topmost row that came to its limit by the counts of the caller since, or its parent, isn't open
+-- of the rows that reached their limits by the caller's counts since, the topmost isn't open, or
+-- its parent isn't
 pub record IsTopShut (v w : View) (number row : ℕ) : Type 0 where
   pub came : CameToLimit v.start v.words v.log w.log number row
   pub top : (other : ℕ) → CameToLimit v.start v.words v.log w.log number other
@@ -110,19 +128,21 @@ pub record IsTopShut (v w : View) (number row : ℕ) : Type 0 where
   pub was_child : Ever (start v.start v.words) (λ t. IsChild t parent index row) w.log
   pub shut : IsShut (state_of v.start v.words w.log) parent row
 
--- what became of the rows that came to their limits, where the rebuild was refused so, or wasn't
+-- what became of the rows that reached their limits: there were none, the topmost or its parent
+-- isn't open, or the rebuild was refused with this `Full`
 pub data LeavesShut (v w : View) (number words : ℕ) : Option Full → Type 0 where
   none_came : ((row : ℕ) → ¬ (CameToLimit v.start v.words v.log w.log number row))
       → LeavesShut v w number words None
   is_shut : (row : ℕ) → IsTopShut v w number row → LeavesShut v w number words None
   was_refused : (full : Full) → IsDueRefused w words full → LeavesShut v w number words (Some full)
 
--- the caller carried out the command with this reply, and met this refusal of a rebuild behind it
+-- the caller carried out the command with this reply, and met this refusal of the rebuild after it
 pub record CarriesOut (old new : Caller) (words : ℕ) (command : Command) (reply : Option ℕ)
     (refused : Option Full) : Type 0 where
   pub ready : IsReady new
   pub number : new.number ≡ old.number
-  pub went : WentOn Works old.seat.view new.seat.view
+  pub went : SearchedOn Works old.seat.view new.seat.view
+  pub few_walks : HasWalkedFew old.seat.view new.seat.view
   pub may : MayEnd new command reply
   pub counted : let v = old.seat.view in makes_entry command reply ≡ true
       → IsCounted v.start v.words v.log new.seat.view.log old.number command
@@ -132,15 +152,21 @@ pub record CarriesOut (old new : Caller) (words : ℕ) (command : Command) (repl
       → DueRowsAreClosed (start v.start v.words) v.log old.number
       → DueRowsAreClosed (start v.start v.words) new.seat.view.log old.number
 
--- the caller was refused a row for the put or remove, and nothing took effect
-pub record IsTurnedDown (old new : Caller) (words key : ℕ) (value : Option ℕ) (full : Full)
-    : Type 0 where
+-- the caller's call had no effect on the map, and may be given up
+pub record IsLetGo (old new : Caller) : Type 0 where
   pub caller : IsCaller new
   pub refused : HasRefused new
   pub number : new.number ≡ old.number
-  pub went : WentOn Works old.seat.view new.seat.view
-  pub cause : IsUpdateRefused old.seat.view key value words full new.seat.view
+  pub went : SearchedOn Works old.seat.view new.seat.view
+  pub few_walks : HasWalkedFew old.seat.view new.seat.view
   pub can : CanGiveUp new.seat.view
+  pub none_came : LeavesDue old.seat.view new.seat.view old.number None
   pub starts : KeepsDone old new
   pub due : let v = old.seat.view in DueRowsAreClosed (start v.start v.words) v.log old.number
       → DueRowsAreClosed (start v.start v.words) new.seat.view.log old.number
+
+-- the caller was refused a row for the put or remove, and nothing took effect
+pub record IsTurnedDown (old new : Caller) (words key : ℕ) (value : Option ℕ) (full : Full)
+    : Type 0 where
+  pub let_go : IsLetGo old new
+  pub cause : WasRefused old.seat.view key value words full new.seat.view

@@ -7,9 +7,9 @@ use std::alloc::AllocError;
 /// Why a tree isn't opened.
 #[derive(Clone, Copy, Debug, PartialEq, Eq, Drop)]
 pub enum OpenFault {
-    /// The tree of the pairs takes `needed` words, and there are to be only `words`.
+    /// The tree of the pairs takes `needed` words, and only `words` were asked for.
     Small { needed: u64, words: u64 },
-    /// There is no memory for it.
+    /// Out of memory.
     Memory,
 }
 

@@ -1,8 +1,10 @@
 //! Freezing the whole tree, and reading what was frozen.
-ghost use Rattle.std.specs.Prelude.{◌≡◌, ◌+◌, ◌<◌, ◌≤◌, ◌^◌, ℕ, None, IfOk, IfErr, OnErr};
+ghost use Rattle.std.specs.Prelude.{◌≡◌, ◌+◌, ◌<◌, ◌≤◌, ◌^◌, ℕ, None, Ok, Some, IfOk, IfErr, OnErr};
 ghost use Rattle.ist_core.specs.Marking.{HasTarget};
 ghost use Rattle.ist_core.specs.Rebuilding.{IsStarted};
-ghost use Rattle.ist_core.specs.References.{LeafAt};
+ghost use Rattle.ist_core.specs.References.{InnerAt, LeafAt, ref_of};
+ghost use Rattle.ist_dcss.specs.Helping.{IsOut};
+ghost use Rattle.laws_coming.specs.Further.{CameFurther};
 ghost use Rattle.ist_core.specs.RowLayout.{anchor};
 ghost use Rattle.ist_core.specs.Slots.{SlotHolds};
 ghost use Rattle.ist_find.specs.Searches.{SeesChange, SeesLeaf};
@@ -33,12 +35,11 @@ use ist_mark::mark_and_count;
 use ist_rebuild::{Started, help_rebuild, start};
 use ist_rows::Caller;
 use ist_rule::{TreeSeat, TreeTable, begin_call, give_up, know, load};
-use std::sync::Wait;
 
-/// A tree as it was at one moment: no step changes what lies below its root any more.
+/// A tree as it was at one moment: no later step changes what lies below its root.
 #[derive(Clone, Copy, Debug, PartialEq, Eq, Drop)]
 pub struct Frozen {
-    /// What stood below the anchor: nothing, a leaf, or an inner row.
+    /// What was below the anchor: nothing, a leaf, or an inner row.
     pub root: Ref,
     /// How many keys it has.
     pub keys: u64,
@@ -53,7 +54,7 @@ pub(crate) enum Site {
     Rebuilt(u32, u32),
 }
 
-/// What comes of a freeze: the tree, and the refusal of the rebuild behind it, if it met one.
+/// The result of a freeze: the tree, and the refusal of the rebuild after it, if it met one.
 #[derive(Clone, Copy, Drop)]
 struct Outcome {
     frozen: Frozen,
@@ -72,7 +73,7 @@ pub(crate) fn anchor_word(table: &TreeTable, seat: &mut TreeSeat) -> u64
     load(table, seat, ANCHOR_SLOT_PLACE)
 }
 
-// The node that a started rebuild is to replace.
+// The node that a started rebuild will replace.
 fn target_of(table: &TreeTable, seat: &mut TreeSeat, rebuild: u32) -> u32
     requires same_table { seat.old.table ≡ table.now.table }
     requires started { IsStarted (now seat.old.view) rebuild }
@@ -86,50 +87,46 @@ fn target_of(table: &TreeTable, seat: &mut TreeSeat, rebuild: u32) -> u32
     target as u32
 }
 
-// Starts a rebuild of the row below the anchor, or finds that something else came there meanwhile.
-fn begin_rebuild<R: Wait>(
-    table: &TreeTable,
-    rt: &R,
-    who: &mut Caller,
-    target: u32,
-) -> Result<Option<u32>, Full>
+// Starts a rebuild of the row below the anchor, or finds that something else got there meanwhile.
+fn begin_rebuild(table: &TreeTable, who: &mut Caller, target: u32) -> Result<Option<u32>, Full>
     requires same_table { who.old.seat.table ≡ table.now.table }
     requires ready { IsReady who.old }
     requires may_start { MayStart who.old.seat.view anchor 0 target }
     ensures same_table { who.new.seat.table ≡ table.now.table }
     ensures begun { IfOk result (HasBegun who.old who.new target) }
+    ensures further { result ≡ Ok None → (word : ℕ) → ref_of word ≡ Some (InnerAt target)
+        → SlotHolds (now who.old.seat.view) anchor 0 word
+        → CameFurther who.old.seat.view who.new.seat.view }
     ensures full { IfErr result (IsStopped who.old who.new (word_count_of table.now)) }
 {
     // Install, Okay, Decide and Resolve of a start. Meets whoever changes the anchor's slot.
-    match start(table, rt, who, ANCHOR, 0, target)? {
+    match start(table, who, ANCHOR, 0, target)? {
         Started::Yes { rebuild } => Ok(Some(rebuild)),
         Started::Marked => Ok(None),
         Started::Other(_) => Ok(None),
     }
 }
 
-// A rebuild of the row that stands below the anchor.
-fn met_row<R: Wait>(
-    table: &TreeTable,
-    rt: &R,
-    who: &mut Caller,
-    target: u32,
-) -> Result<Option<Site>, Full>
+// Starts a rebuild of the row that is below the anchor.
+fn met_row(table: &TreeTable, who: &mut Caller, target: u32) -> Result<Option<Site>, Full>
     requires same_table { who.old.seat.table ≡ table.now.table }
     requires ready { IsReady who.old }
     requires top { WasTop who.old.seat.view who.old.seat.view.log target }
     requires may_start { MayStart who.old.seat.view anchor 0 target }
     ensures same_table { who.new.seat.table ≡ table.now.table }
     ensures met { IfOk result (MayHaveMet who.old who.new) }
+    ensures further { result ≡ Ok None → (word : ℕ) → ref_of word ≡ Some (InnerAt target)
+        → SlotHolds (now who.old.seat.view) anchor 0 word
+        → CameFurther who.old.seat.view who.new.seat.view }
     ensures full { IfErr result (IsStopped who.old who.new (word_count_of table.now)) }
 {
-    match begin_rebuild(table, rt, who, target)? {
+    match begin_rebuild(table, who, target)? {
         Some(rebuild) => Ok(Some(Site::Rebuilt(rebuild, target))),
         None => Ok(None),
     }
 }
 
-// The rebuild that stands below the anchor, with its target.
+// The rebuild that is below the anchor, with its target.
 fn met_rebuild(table: &TreeTable, who: &mut Caller, rebuild: u32) -> Site
     requires same_table { who.old.seat.table ≡ table.now.table }
     requires ready { IsReady who.old }
@@ -144,31 +141,33 @@ fn met_rebuild(table: &TreeTable, who: &mut Caller, rebuild: u32) -> Site
     Site::Rebuilt(rebuild, target)
 }
 
-// Helps the change that stands below the anchor.
+// Helps the change that is below the anchor.
 fn met_change(table: &TreeTable, who: &mut Caller, change: u32)
     requires same_table { who.old.seat.table ≡ table.now.table }
     requires ready { IsReady who.old }
     requires row { SeesChange who.old.seat.view change }
     ensures same_table { who.new.seat.table ≡ table.now.table }
     ensures idle { GoesIdle who.old who.new }
+    ensures out { IsOut who.new.seat.view change }
 {
     // Okay, Decide and Resolve. Meets whoever helps the change.
     help(table, &mut who.seat, change);
 }
 
 // Looks below the anchor once.
-fn look<R: Wait>(table: &TreeTable, rt: &R, who: &mut Caller) -> Result<Option<Site>, Full>
+fn look(table: &TreeTable, who: &mut Caller) -> Result<Option<Site>, Full>
     requires same_table { who.old.seat.table ≡ table.now.table }
     requires ready { IsReady who.old }
     ensures same_table { who.new.seat.table ≡ table.now.table }
     ensures met { IfOk result (MayHaveMet who.old who.new) }
+    ensures further { result ≡ Ok None → CameFurther who.old.seat.view who.new.seat.view }
     ensures full { IfErr result (IsStopped who.old who.new (word_count_of table.now)) }
 {
     know(&who.seat);
     let word = anchor_word(table, &mut who.seat);
     know(&who.seat);
     match Ref::from_word(word) {
-        Some(Ref::Inner { base }) => met_row(table, rt, who, base),
+        Some(Ref::Inner { base }) => met_row(table, who, base),
         Some(Ref::Rebuild { base }) => Ok(Some(met_rebuild(table, who, base))),
         Some(Ref::Change { base }) => {
             met_change(table, who, base);
@@ -187,8 +186,8 @@ fn look<R: Wait>(table: &TreeTable, rt: &R, who: &mut Caller) -> Result<Option<S
     }
 }
 
-// Looks below the anchor until a tree is frozen there, or a rebuild stands.
-pub(crate) fn look_below<R: Wait>(table: &TreeTable, rt: &R, who: &mut Caller) -> Result<Site, Full>
+// Looks below the anchor until it finds a frozen tree or a rebuild there.
+pub(crate) fn look_below(table: &TreeTable, who: &mut Caller) -> Result<Site, Full>
     requires same_table { who.old.seat.table ≡ table.now.table }
     requires ready { IsReady who.old }
     ensures same_table { who.new.seat.table ≡ table.now.table }
@@ -196,22 +195,15 @@ pub(crate) fn look_below<R: Wait>(table: &TreeTable, rt: &R, who: &mut Caller) -
     ensures full { IfErr result (IsStopped who.old who.new (word_count_of table.now)) }
 {
     know(&who.seat);
-    for _ in rt.forever() {
-        if let Some(site) = look(table, rt, who)? {
+    'turns: loop {
+        if let Some(site) = look(table, who)? {
             return Ok(site);
         }
     }
-    unreachable!()
 }
 
 // Marks the target of the rebuild and counts its keys, and helps the rebuild.
-fn freeze_target<R: Wait>(
-    table: &TreeTable,
-    rt: &R,
-    who: &mut Caller,
-    rebuild: u32,
-    target: u32,
-) -> Outcome
+fn freeze_target(table: &TreeTable, who: &mut Caller, rebuild: u32, target: u32) -> Outcome
     requires same_table { who.old.seat.table ≡ table.now.table }
     requires ready { IsReady who.old }
     requires of { IsRebuildOf (now who.old.seat.view) rebuild target }
@@ -220,9 +212,9 @@ fn freeze_target<R: Wait>(
 {
     know(&who.seat);
     // Mark, Pass and Finish of each row. Meets each update of the subtree, and whoever marks it.
-    let keys = mark_and_count(table, rt, &mut who.seat, target);
+    let keys = mark_and_count(table, &mut who.seat, target);
     know(&who.seat);
-    let refused = help_rebuild(table, rt, who, rebuild).err();
+    let refused = help_rebuild(table, who, rebuild).err();
     let root = Ref::Inner { base: target };
     Outcome {
         frozen: Frozen { root, keys },
@@ -230,20 +222,20 @@ fn freeze_target<R: Wait>(
     }
 }
 
-// Freezes what stands below the anchor.
-fn freeze_below<R: Wait>(table: &TreeTable, rt: &R, who: &mut Caller) -> Result<Outcome, Full>
+// Freezes what is below the anchor.
+fn freeze_below(table: &TreeTable, who: &mut Caller) -> Result<Outcome, Full>
     requires same_table { who.old.seat.table ≡ table.now.table }
     requires ready { IsReady who.old }
     ensures same_table { who.new.seat.table ≡ table.now.table }
     ensures froze { IfOk result (Freezes who.old who.new (word_count_of table.now)) }
     ensures full { IfErr result (IsStopped who.old who.new (word_count_of table.now)) }
 {
-    match look_below(table, rt, who)? {
+    match look_below(table, who)? {
         Site::Still(frozen) => Ok(Outcome {
             frozen,
             refused: None,
         }),
-        Site::Rebuilt(rebuild, target) => Ok(freeze_target(table, rt, who, rebuild, target)),
+        Site::Rebuilt(rebuild, target) => Ok(freeze_target(table, who, rebuild, target)),
     }
 }
 
@@ -271,7 +263,8 @@ fn base_of(reference: Ref) -> u32
     }
 }
 
-// The leaf number `i` below the root of a frozen tree, and how many words were loaded on the way to it.
+// The leaf number `i` below the root of a frozen tree, and how many words were loaded on the way to
+// it.
 fn frozen_leaf(table: &TreeTable, seat: &mut TreeSeat, frozen: Frozen, i: u64) -> (u32, u64)
     requires same_table { seat.old.table ≡ table.now.table }
     requires frozen { IsStill (now seat.old.view) (ref_meant frozen.root) frozen.keys }
@@ -331,15 +324,17 @@ pub(crate) fn pair_and_loads(
 }
 
 impl Tree {
-    /// Freezes the whole tree as it was at one moment, and rebuilds it. Retries while others change
-    /// the anchor's slot or install changes, helps what it meets, and takes no memory.
+    /// Freezes the whole tree as it was at one moment, and rebuilds it. Helps what it meets, never
+    /// allocates, always returns: it looks below the anchor again only after the table made
+    /// progress.
     ///
-    /// What was the tree stays as it was for good, while the map goes on in the rebuilt one. The
-    /// pairs are those of the map at some number of changes, no fewer than the pass had seen before.
-    /// Nothing or a leaf below the anchor is frozen as it is. The calls of the pass are as before.
-    /// `Full` where the tree had too few words left for a row of the start: no rebuild was started in
-    /// the call then. Where only the rebuild behind it met that, the tree is frozen, and the pass keeps the first such refusal.
-    pub fn freeze<R: Wait>(&self, rt: &R, pass: &mut Pass) -> Result<Frozen, Full>
+    /// The old tree stays as it was for good, while the map goes on in the rebuilt one. The frozen
+    /// pairs are the map's pairs after some number of changes, no fewer than the pass had seen
+    /// before. If the tree is empty or a single leaf, it is frozen as it is. The calls of the pass
+    /// are as before. It returns `Full` if the tree had too few words left for a row of the start:
+    /// no rebuild was started in the call then. If only the rebuild after the start was short of
+    /// words, the tree is frozen, and the pass keeps the first such refusal.
+    pub fn freeze(&self, pass: &mut Pass) -> Result<Frozen, Full>
         requires same_tree { pass.old.tree ≡ self.now }
         ensures seen { HasSeenMore pass.old pass.new }
         ensures frozen { IfOk result (IsFrozenFor pass.new) }
@@ -351,7 +346,7 @@ impl Tree {
         ensures refused { KeepsRefusal pass.old pass.new }
     {
         begin(&self.table, &mut pass.caller);
-        match freeze_below(&self.table, rt, &mut pass.caller) {
+        match freeze_below(&self.table, &mut pass.caller) {
             Ok(outcome) => {
                 know(&pass.caller.seat);
                 give_up(&self.table, &mut pass.caller.seat);
@@ -366,9 +361,9 @@ impl Tree {
         }
     }
 
-    /// The pair number `i` of a frozen tree, counted from 0 in the order of the keys, whatever
-    /// happened since. Never waits, takes no memory, and always answers: it goes down from the
-    /// frozen root once. The calls of the pass are as before.
+    /// Returns pair number `i` of a frozen tree, counted from 0 in the order of the keys, whatever
+    /// happened since. Never blocks, never allocates, always returns: it goes down from the frozen
+    /// root once. The calls of the pass are as before.
     pub fn frozen_pair(&self, pass: &mut Pass, frozen: &Frozen, i: u64) -> Pair
         requires same_tree { pass.old.tree ≡ self.now }
         requires frozen { IsFrozenFor pass.old frozen.now }

@@ -1,8 +1,8 @@
 //! The tree: an ordered map that threads share, each by a pass of its own, without a lock.
 //!
-//! Read `README.md`, then `specs/Faces.antt` and `specs/Calls.antt`, then `trees.rt`. Stands on
-//! `ist_rule`, `ist_rows`, `ist_find`, `ist_updates`, `ist_rebuild` and `ist_rest`, and on the crates of
-//! laws below them.
+//! Read `README.md`, then `specs/Faces.antt` and `specs/Calls.antt`, then `trees.rt`. Built on
+//! `ist_rule`, `ist_rows`, `ist_find`, `ist_updates`, `ist_rebuild` and `ist_rest`, and on the
+//! crates of laws below them.
 #![tactic(auto)]
 
 mod faults;

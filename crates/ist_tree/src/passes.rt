@@ -7,10 +7,10 @@ use ist_rows::Caller;
 use ist_rule::{TreeSeat, know};
 use std::marker::Model;
 
-/// The one that makes passes, takes them back, and closes the tree.
+/// Makes passes, takes them back, and closes the tree.
 ///
-/// Contracts see its tree, how many passes it made, what it has seen, the calls of each pass that it
-/// took back, and whether one of these had met a refused rebuild.
+/// Contracts see its tree, how many passes it made, what it has seen, the calls of each pass that
+/// it took back, and whether one of these passes had met a refused rebuild.
 #[derive(Drop)]
 pub struct Maker {
     pub(crate) seat: TreeSeat,
@@ -28,7 +28,7 @@ impl Model for Maker {
     ghost invariant = { λ m. IsMakerWith m.seat.view m.refused };
 }
 
-/// What one thread calls the tree by.
+/// A thread's handle to call the tree with.
 ///
 /// Contracts see its tree and its number, what it has seen, its calls, and the first refusal of a
 /// rebuild that it met.
@@ -50,22 +50,22 @@ impl Model for Pass {
 }
 
 impl Pass {
-    /// The number of passes that were made before this one.
+    /// Returns the number of passes that were made before this one.
     pub fn number(&self) -> u64
         ensures value { result ≡ self.now.number }
     {
         u64::from(self.caller.number)
     }
 
-    /// What a pass has seen is lawful. It costs nothing, and is for proofs alone.
+    /// For proofs only: what the pass has seen is lawful. It costs nothing.
     pub fn know(&self)
         ensures lawful { let p = self.now in Lawful p.tree.start p.tree.words p.seen }
     {
         know(&self.caller.seat);
     }
 
-    /// The first `Full` of a rebuild that a put or remove of this pass met after its own change had
-    /// taken effect, or that a freeze met after a rebuild stood, if one did.
+    /// Returns the first `Full` of a rebuild that a call of this pass met, if one did: a put or
+    /// remove after its own change had taken effect, or a freeze after a rebuild was in place.
     pub fn rebuild_refused(&self) -> Option<Full>
         ensures value { result ≡ self.now.refused }
     {
@@ -73,7 +73,7 @@ impl Pass {
     }
 }
 
-/// What a pass knew, to be told to another.
+/// What a pass knew, for another pass to learn.
 ///
 /// Contracts see what they see of a pass.
 #[derive(Drop)]

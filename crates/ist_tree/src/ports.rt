@@ -11,7 +11,7 @@ use std::marker::Model;
 use std::sync::Wait;
 
 // Makes the call by the pass.
-fn answer<R: Wait>(tree: &Tree, rt: &R, pass: &mut Pass, command: Command) -> Result<Reply, Full>
+fn answer(tree: &Tree, pass: &mut Pass, command: Command) -> Result<Reply, Full>
     requires same_tree { pass.old.tree ≡ tree.now }
     ensures seen { HasSeenMore pass.old pass.new }
     ensures added { IfOk result (λ reply. AddsCall pass.old pass.new command reply) }
@@ -20,8 +20,8 @@ fn answer<R: Wait>(tree: &Tree, rt: &R, pass: &mut Pass, command: Command) -> Re
     ensures calls { OnErr result (pass.new.calls ≡ pass.old.calls) }
 {
     match command {
-        Command::Put { key, value } => tree.put(rt, pass, key, value),
-        Command::Remove { key } => tree.remove(rt, pass, key),
+        Command::Put { key, value } => tree.put(pass, key, value),
+        Command::Remove { key } => tree.remove(pass, key),
         Command::Get { key } => Ok(tree.find(pass, key)),
     }
 }
@@ -50,7 +50,7 @@ impl<'a> Model for TreePort<'a> {
 }
 
 impl<'a> TreePort<'a> {
-    /// The port of a pass on its tree, which has made no call.
+    /// Makes the port of a pass on its tree. The pass has made no call.
     pub fn new(tree: &'a Tree, pass: Pass) -> TreePort<'a>
         requires same_tree { pass.tree ≡ tree.now }
         requires no_calls { pass.calls ≡ [] }
@@ -64,7 +64,7 @@ impl<'a> TreePort<'a> {
         }
     }
 
-    /// The pass of the port.
+    /// Returns the pass of the port.
     pub fn into_pass(self) -> Pass
         ensures value { result ≡ self.entry.pass }
     {
@@ -72,7 +72,7 @@ impl<'a> TreePort<'a> {
         pass
     }
 
-    /// What the port keeps of its last refusal.
+    /// For proofs only: why the port's last refusal came, if it keeps one.
     pub fn know(&self)
         ensures cause { IfSome self.now.refused (WasRefused self.now.pass) }
     {
@@ -93,7 +93,8 @@ impl<'a> Port for TreePort<'a> {
     ghost tie = { λ p. (p.pass.tree, p.pass.number) };
 
     fn call<R: Wait>(&mut self, rt: &R, command: Command) -> Result<Reply, Full> {
-        match answer(self.tree, rt, &mut self.pass, command) {
+        let _ = rt;
+        match answer(self.tree, &mut self.pass, command) {
             Ok(reply) => Ok(reply),
             Err(full) => {
                 self.refused = Some((command, full));

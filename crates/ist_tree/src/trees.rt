@@ -1,32 +1,34 @@
 //! The tree and its calls.
-ghost use Rattle.std.specs.Prelude.{◌≡◌, ◌+◌, ◌^◌, ◌<◌, ◌≤◌, ◌||◌, true, [], ◌∷◌, length, map, is_some};
-ghost use Rattle.std.specs.Prelude.{Some, None, IfOk, IfErr, OnOk, OnErr};
+ghost use Rattle.std.specs.Prelude.{◌≡◌, ◌≢◌, ◌+◌, ◌^◌, ◌<◌, ◌≤◌, ◌||◌, true, [], ◌∷◌, length, map, is_some};
+ghost use Rattle.std.specs.Prelude.{Some, None, IfSome, IfOk, IfErr, OnOk, OnErr};
 ghost use Rattle.std.specs.List.Sorted.{IsStrictlyIncreasing};
 ghost use Rattle.ist_core.specs.RowLayout.{place_limit};
 ghost use Rattle.ist_core.specs.declared.commands.Command.TheVariants.{Get, Put, Remove};
 ghost use Rattle.ist_core.specs.Enabled.{caller_limit};
 ghost use Rattle.ist_core.specs.Logs.{GoesOn};
 ghost use Rattle.ist_core.specs.Standing.{makes_entry};
-ghost use Rattle.ist_histories.specs.Searching.{HasPosition};
+ghost use Rattle.laws_histories.specs.Searching.{HasPosition};
+ghost use Rattle.ist_find.specs.Spans.{pair_value, EndAtEdges};
 ghost use Rattle.ist_tree.specs.Faces.{noted, calls_in};
-ghost use Rattle.ist_tree.specs.Calls.{HasSeenMore, HasLearnt, AddsCall, WeavesWith, HasLoadedFew};
+ghost use Rattle.ist_tree.specs.Calls.{HasSeenMore, HasLearnt, AddsCall, BeginsFewWalks};
+ghost use Rattle.ist_tree.specs.Calls.{WeavesWith, HasLoadedFew};
 ghost use Rattle.ist_tree.specs.Closing.{ClosesWith};
 ghost use Rattle.ist_tree.specs.DueRows.{HasCounted, LeavesNoneDue, StartsOnlyDue};
 ghost use Rattle.ist_tree.specs.Opening.{IsNewTree, IsFaultOf};
 ghost use Rattle.ist_tree.specs.Refusals.{IsRefused, KeepsRefusal};
+ghost use Rattle.ist_tree.specs.Spans.{AllHave, HasLoadedFewOver, state_seen};
 
 use crate::faults::OpenFault;
 use crate::passes::{Maker, Note, Pass};
-use crate::updating::update;
+use crate::updating::{update, update_if};
 use ist_core::{Command, Full, Pair, Reply};
-use ist_find::find_from_anchor;
+use ist_find::{Span, find_from_anchor, find_span};
 use ist_image::{Image, needed_words};
 use ist_rest::Closed;
 use ist_rows::{Caller, enter};
 use ist_rule::{TreeTable, begin_call, close, end_call, join, know, open_table_over, split};
 use std::alloc::Global;
 use std::marker::Model;
-use std::sync::Wait;
 
 /// An ordered map from `u64` keys to `u64` values that threads share.
 ///
@@ -45,10 +47,12 @@ impl Model for Tree {
 }
 
 impl Tree {
-    /// A tree of the pairs, whose keys rise, in so many words, and its maker.
+    /// Makes a tree of the pairs, with this many words, and its maker. The keys are strictly
+    /// increasing.
     ///
-    /// All memory of the tree is taken here. `Small` exactly where the tree of the pairs takes more
-    /// words, which is seen before any memory is taken; `Memory` for want of memory alone.
+    /// All memory of the tree is allocated here. It returns `Small` exactly if the tree of the
+    /// pairs takes more words, and decides this before it allocates. It returns `Memory` only if
+    /// allocation failed.
     pub fn open(alloc: Global, words: u32, pairs: &[Pair]) -> Result<(Tree, Maker), OpenFault>
         requires rising { IsStrictlyIncreasing (map (λ pair. pair.key) pairs.now) }
         requires few { length pairs.now < 2 ^ 32 }
@@ -60,8 +64,8 @@ impl Tree {
         Tree::open_over(alloc, &mut image, words, pairs)
     }
 
-    /// As `open`, with the memory of an image that serves for the next opening too: it lays the words
-    /// of this tree there, and clears only those that the last one used.
+    /// As `open`, with the memory of an image that the next opening can use again: it writes the
+    /// words of this tree there, and clears only the words that the last tree used.
     pub fn open_over(
         alloc: Global,
         image: &mut Image,
@@ -92,7 +96,7 @@ impl Tree {
         ))
     }
 
-    /// The next pass. It has seen what the maker has seen, and has made no call.
+    /// Makes the next pass. It has seen what the maker has seen, and has made no call.
     pub fn pass(&self, maker: &mut Maker) -> Pass
         requires same_tree { maker.old.tree ≡ self.now }
         requires few { maker.old.made < caller_limit }
@@ -116,8 +120,8 @@ impl Tree {
         }
     }
 
-    /// Gives a pass back to its maker, which has then seen what the pass has seen, and keeps its
-    /// calls, and whether it had met a refused rebuild.
+    /// Gives a pass back to its maker. The maker has then seen what the pass has seen. It keeps the
+    /// pass's calls, and whether the pass had met a refused rebuild.
     pub fn take_back(&self, maker: &mut Maker, pass: Pass)
         requires same_tree { maker.old.tree ≡ self.now }
         requires its_tree { pass.tree ≡ self.now }
@@ -136,7 +140,8 @@ impl Tree {
         maker.refused |= refused.is_some();
     }
 
-    /// A note of all that the pass has seen. A note that is dropped is lost, and nothing else changes.
+    /// Makes a note of all that the pass has seen. If a note is dropped it is lost, and nothing
+    /// else changes.
     pub fn note(&self, pass: &mut Pass) -> Note
         requires same_tree { pass.old.tree ≡ self.now }
         ensures value { result ≡ noted pass.old }
@@ -147,9 +152,9 @@ impl Tree {
         Note { seat }
     }
 
-    /// The pass has then seen what the note holds. Its calls are as before.
+    /// Lets the pass learn what the note holds. Its calls are as before.
     ///
-    /// Those of the note's pass are woven with them into one history. Each later call of this pass
+    /// The calls of both passes are then woven into one legal history. Each later call of this pass
     /// comes after each call that the note keeps.
     pub fn meet(&self, pass: &mut Pass, note: Note)
         requires same_tree { pass.old.tree ≡ self.now }
@@ -164,10 +169,10 @@ impl Tree {
         join(&self.table, &mut pass.caller.seat, seat);
     }
 
-    /// The value of the key, if it has one. Never waits, takes no memory, and always answers.
+    /// Returns the value of the key, if it has one. Never allocates, always returns.
     ///
-    /// The call is added to those of the pass: the map has this value for the key behind some number
-    /// of changes, no fewer than the pass had seen. It makes few loads.
+    /// The call is added to the calls of the pass: the map has this value for the key after some
+    /// number of changes, no fewer than the pass had seen. It makes few loads.
     pub fn find(&self, pass: &mut Pass, key: u64) -> Reply
         requires same_tree { pass.old.tree ≡ self.now }
         ensures seen { HasSeenMore pass.old pass.new }
@@ -188,20 +193,101 @@ impl Tree {
         found.value
     }
 
-    /// Puts the value at the key, and gives the value that the key had before. Retries while others
-    /// change the same slots, helps what it meets, and takes no memory.
+    /// Returns the range of keys that share the key's slot, and the pair in that slot, if there is
+    /// one. Never blocks, never allocates, always returns.
     ///
-    /// The call is added to those of the pass: the map was changed so in one step, behind all that the
-    /// pass had seen. It counts the change at each node above it; where counts came to their limits, the
-    /// topmost such node is rebuilt, and no rebuild of a node below its limit is started. `Full` where
-    /// the tree had too few words left for a row of the put, or for a rebuild on its way: the call didn't
-    /// happen then. Where only the rebuild behind the change met that, the call is answered, and the pass
-    /// keeps the first such refusal.
-    pub fn put<R: Wait>(&self, rt: &R, pass: &mut Pass, key: u64, value: u64) -> Result<Reply, Full>
+    /// Each key of the range has what the result says at some number of changes of its own, no
+    /// fewer than the pass had seen: different keys may have different numbers. The range ends at
+    /// keys of the tree's inner rows, so the next range begins at `last + 1`. It isn't a call of
+    /// the map: the calls of the pass stay as they are. It makes few loads.
+    pub fn span(&self, pass: &mut Pass, key: u64) -> Span
+        requires same_tree { pass.old.tree ≡ self.now }
+        ensures seen { HasSeenMore pass.old pass.new }
+        ensures first { result.first ≤ key }
+        ensures last { key ≤ result.last }
+        ensures within { IfSome result.pair (λ p. (result.first ≤ p.key) × (p.key ≤ result.last)) }
+        ensures values { AllHave pass.old pass.new result.first result.last result.pair }
+        ensures edges { EndAtEdges (state_seen pass.new) result.first result.last }
+        ensures loads { let value = pair_value result.pair key in
+            HasLoadedFewOver pass.old pass.new key value }
+        ensures calls { pass.new.calls ≡ pass.old.calls }
+        ensures stamp { pass.new.stamp ≡ pass.old.stamp }
+        ensures refused { pass.new.refused ≡ pass.old.refused }
+    {
+        know(&pass.caller.seat);
+        find_span(&self.table, &mut pass.caller.seat, key)
+    }
+
+    /// Inserts or replaces the value at the key, and returns the value that the key had before.
+    /// Helps what it meets, never allocates, always returns: it walks down again only after the
+    /// table made progress.
+    ///
+    /// The call is added to the calls of the pass: the map changed so in one step, after all that
+    /// the pass had seen. The change is counted at each node above it. If counts reached their
+    /// limits, the topmost such node is rebuilt. No rebuild of a node below its limit is started.
+    /// It returns `Full` if the tree had too few words left for a row of the put, or for a rebuild
+    /// on its way: the call didn't happen then. If only the rebuild after the change was short of
+    /// words, the call returns its reply, and the pass keeps the first such refusal.
+    pub fn put(&self, pass: &mut Pass, key: u64, value: u64) -> Result<Reply, Full>
         requires same_tree { pass.old.tree ≡ self.now }
         ensures seen { HasSeenMore pass.old pass.new }
         ensures added { IfOk result (λ reply. AddsCall pass.old pass.new (Put key value) reply) }
         ensures counted { OnOk result (HasCounted pass.old pass.new (Put key value)) }
+        ensures due { OnOk result (LeavesNoneDue pass.old pass.new) }
+        ensures starts { StartsOnlyDue pass.old pass.new }
+        ensures few_walks { BeginsFewWalks pass.old pass.new }
+        ensures full { IfErr result (λ full. IsRefused pass.old pass.new key (Some value) full) }
+        ensures calls { OnErr result (pass.new.calls ≡ pass.old.calls) }
+        ensures unrefused { OnErr result (pass.new.refused ≡ pass.old.refused) }
+        ensures refused { KeepsRefusal pass.old pass.new }
+    {
+        update(self, pass, key, Some(value))
+    }
+
+    /// Removes the key, and returns the value that it had, if it had one. All else is as with
+    /// `put`. If the key has no value, nothing is changed or counted.
+    pub fn remove(&self, pass: &mut Pass, key: u64) -> Result<Reply, Full>
+        requires same_tree { pass.old.tree ≡ self.now }
+        ensures seen { HasSeenMore pass.old pass.new }
+        ensures added { IfOk result (λ reply. AddsCall pass.old pass.new (Remove key) reply) }
+        ensures counted { IfOk result (λ reply. makes_entry (Remove key) reply ≡ true
+            → HasCounted pass.old pass.new (Remove key)) }
+        ensures due { OnOk result (LeavesNoneDue pass.old pass.new) }
+        ensures starts { StartsOnlyDue pass.old pass.new }
+        ensures few_walks { BeginsFewWalks pass.old pass.new }
+        ensures full { IfErr result (λ full. IsRefused pass.old pass.new key None full) }
+        ensures calls { OnErr result (pass.new.calls ≡ pass.old.calls) }
+        ensures unrefused { OnErr result (pass.new.refused ≡ pass.old.refused) }
+        ensures refused { KeepsRefusal pass.old pass.new }
+    {
+        update(self, pass, key, None)
+    }
+
+    /// Puts the value at the key if the key has the value that is expected, or no value if none is
+    /// expected, and returns the value that the key had.
+    ///
+    /// If the reply is what was expected, the call is a put in the history of the pass, as with
+    /// `put`. If it is another value, the call is a find, and nothing was changed or counted.
+    /// `Full` is as with `put`: the call didn't happen then. It never allocates and always returns:
+    /// it tries again only after another change of the map.
+    ///
+    /// Source: compare-and-set of a map's entry, as in `java.util.concurrent.ConcurrentMap.replace`
+    /// and `putIfAbsent`.
+    pub fn put_if(
+        &self,
+        pass: &mut Pass,
+        key: u64,
+        expected: Option<u64>,
+        value: u64,
+    ) -> Result<Reply, Full>
+        requires same_tree { pass.old.tree ≡ self.now }
+        ensures seen { HasSeenMore pass.old pass.new }
+        ensures put { IfOk result (λ reply. reply ≡ expected
+            → AddsCall pass.old pass.new (Put key value) reply) }
+        ensures got { IfOk result (λ reply. reply ≢ expected
+            → AddsCall pass.old pass.new (Get key) reply) }
+        ensures counted { IfOk result (λ reply. reply ≡ expected
+            → HasCounted pass.old pass.new (Put key value)) }
         ensures due { OnOk result (LeavesNoneDue pass.old pass.new) }
         ensures starts { StartsOnlyDue pass.old pass.new }
         ensures full { IfErr result (λ full. IsRefused pass.old pass.new key (Some value) full) }
@@ -209,16 +295,19 @@ impl Tree {
         ensures unrefused { OnErr result (pass.new.refused ≡ pass.old.refused) }
         ensures refused { KeepsRefusal pass.old pass.new }
     {
-        update(self, rt, pass, key, Some(value))
+        update_if(self, pass, key, Some(value), expected)
     }
 
-    /// Removes the key, and gives the value that it had, if it had one. All else is as with `put`; where
-    /// the key has no value, nothing is changed or counted.
-    pub fn remove<R: Wait>(&self, rt: &R, pass: &mut Pass, key: u64) -> Result<Reply, Full>
+    /// Removes the key if it has the value that is expected, and returns the value that it had. All
+    /// else is as with `put_if`.
+    pub fn remove_if(&self, pass: &mut Pass, key: u64, expected: u64) -> Result<Reply, Full>
         requires same_tree { pass.old.tree ≡ self.now }
         ensures seen { HasSeenMore pass.old pass.new }
-        ensures added { IfOk result (λ reply. AddsCall pass.old pass.new (Remove key) reply) }
-        ensures counted { IfOk result (λ reply. makes_entry (Remove key) reply ≡ true
+        ensures removed { IfOk result (λ reply. reply ≡ Some expected
+            → AddsCall pass.old pass.new (Remove key) reply) }
+        ensures got { IfOk result (λ reply. reply ≢ Some expected
+            → AddsCall pass.old pass.new (Get key) reply) }
+        ensures counted { IfOk result (λ reply. reply ≡ Some expected
             → HasCounted pass.old pass.new (Remove key)) }
         ensures due { OnOk result (LeavesNoneDue pass.old pass.new) }
         ensures starts { StartsOnlyDue pass.old pass.new }
@@ -227,13 +316,14 @@ impl Tree {
         ensures unrefused { OnErr result (pass.new.refused ≡ pass.old.refused) }
         ensures refused { KeepsRefusal pass.old pass.new }
     {
-        update(self, rt, pass, key, None)
+        update_if(self, pass, key, None, Some(expected))
     }
 
-    /// The words after the last call, without a copy. All passes were taken back.
+    /// Closes the tree and returns its words after the last call, without a copy. All passes were
+    /// taken back.
     ///
-    /// They stand for the opening pairs and the calls of each pass by its number. Where no pass had met
-    /// a refused rebuild, each node is open, with a count below its limit.
+    /// The words represent the opening pairs and the calls of each pass by its number. If no pass
+    /// had met a refused rebuild, each node of the tree is open, with a count below its limit.
     pub fn close(self, maker: Maker) -> Closed
         requires same_tree { maker.tree ≡ self }
         requires all_back { length maker.taken ≡ maker.made }

@@ -1,26 +1,31 @@
 //! A put or a remove of a pass, from the beginning of its call to its end.
-ghost use Rattle.std.specs.Prelude.{◌≡◌, true, Some, IfOk, IfErr, OnOk, OnErr};
+ghost use Rattle.std.specs.Prelude.{◌≡◌, ◌≢◌, true, Option, Some, None, Result, Ok, IfOk, IfErr, IfSome, OnSome, OnOk, OnErr};
+ghost use Rattle.ist_core.specs.declared.commands.Command.TheVariants.{Get};
+ghost use Rattle.ist_core.specs.declared.events.Who.TheVariants.{Caller as CallerOf};
+ghost use Rattle.ist_core.specs.Authors.{Later};
 ghost use Rattle.ist_core.specs.Standing.{makes_entry};
 ghost use Rattle.ist_rule.specs.Faces.{word_count_of};
 ghost use Rattle.ist_rule.specs.Learning.{Turned, beginning};
 ghost use Rattle.ist_rule.specs.Rule.{IsSound};
 ghost use Rattle.ist_updates.specs.Asking.{command_for, IsAsked};
-ghost use Rattle.ist_tree.specs.Calls.{HasSeenMore, AddsCall};
+ghost use Rattle.ist_updates.specs.Meeting.{IsMetBy, WasMissed};
+ghost use Rattle.ist_tree.specs.Calls.{HasSeenMore, AddsCall, BeginsFewWalks};
 ghost use Rattle.ist_tree.specs.DueRows.{HasCounted, LeavesNoneDue, StartsOnlyDue};
 ghost use Rattle.ist_tree.specs.Insides.{IsPass};
 ghost use Rattle.ist_tree.specs.Refusals.{IsRefused, KeepsRefusal};
-ghost use Rattle.ist_tree.specs.Working.{CarriesOut, IsTurnedDown, StartsDue};
+ghost use Rattle.ist_tree.specs.Rounds.{HadMissed, HadValue, HasLetGo};
+ghost use Rattle.ist_tree.specs.Working.{CarriesOut, IsLetGo, IsTurnedDown, StartsDue};
 
 use crate::passes::Pass;
 use crate::rebuilding::rebuild_due;
 use crate::trees::Tree;
 use ist_core::{Command, Full, Reply};
+use ist_find::find_from_anchor;
 use ist_rows::Caller;
 use ist_rule::{TreeTable, begin_call, end_call, give_up, know};
-use ist_updates::apply;
-use std::sync::Wait;
+use ist_updates::{When, apply_when};
 
-// The put of a value at the key, or with none the remove of the key.
+// The put of a value at the key, or the remove of the key if there is no value.
 fn command_of(key: u64, value: Option<u64>) -> Command
     ensures value { result ≡ command_for key value }
 {
@@ -45,46 +50,53 @@ pub(crate) fn begin(table: &TreeTable, who: &mut Caller, command: Command)
     begin_call(table, &mut who.seat, Some(command));
 }
 
-// What came of an update: its reply, and the refusal of a rebuild behind it, if one was.
+// The result of an update: its reply, and the refusal of the rebuild after it, if there was one.
 #[derive(Clone, Copy, Drop)]
 struct Carried {
     reply: Reply,
     refused: Option<Full>,
 }
 
-// Carries out the update, and rebuilds the topmost row that came to its limit by its counts.
-fn carry_out<R: Wait>(
+// Carries out the update, and rebuilds the topmost row that reached its limit by the update's
+// counts. Returns `None` if the key had a value at which the update isn't meant to take effect.
+fn carry_out_when(
     table: &TreeTable,
-    rt: &R,
     who: &mut Caller,
     key: u64,
     value: Option<u64>,
-) -> Result<Carried, Full>
+    when: When,
+) -> Result<Option<Carried>, Full>
     requires same_table { who.old.seat.table ≡ table.now.table }
     requires asked { IsAsked who.old (command_for key value) }
     ensures same_table { who.new.seat.table ≡ table.now.table }
-    ensures carried { IfOk result (λ c. CarriesOut who.old who.new (word_count_of table.now)
-        (command_for key value) c.reply c.refused) }
+    ensures carried { IfOk result (λ o. IfSome o (λ c. CarriesOut who.old who.new
+        (word_count_of table.now) (command_for key value) c.reply c.refused)) }
+    ensures met { IfOk result (λ o. IfSome o (λ c. IsMetBy when c.reply)) }
+    ensures let_go { result ≡ Ok None → IsLetGo who.old who.new }
+    ensures missed { result ≡ Ok None → WasMissed who.old.seat.view who.new.seat.view key when }
     ensures full { IfErr result (λ full.
         IsTurnedDown who.old who.new (word_count_of table.now) key value full) }
     ensures starts { StartsDue who.old who.new }
 {
     know(&who.seat);
-    let done = apply(table, rt, who, key, value)?;
-    let refused = match done.due {
-        Some(due) => rebuild_due(table, rt, who, due).err(),
-        None => None,
-    };
-    Ok(Carried {
-        reply: done.reply,
-        refused,
-    })
+    match apply_when(table, who, key, value, when)? {
+        Some(done) => {
+            let refused = match done.due {
+                Some(due) => rebuild_due(table, who, due).err(),
+                None => None,
+            };
+            Ok(Some(Carried {
+                reply: done.reply,
+                refused,
+            }))
+        }
+        None => Ok(None),
+    }
 }
 
-/// Puts the value at the key, or with none removes the key, in a call of the pass.
-pub(crate) fn update<R: Wait>(
+/// Puts the value at the key, or removes the key if there is no value, in a call of the pass.
+pub(crate) fn update(
     tree: &Tree,
-    rt: &R,
     pass: &mut Pass,
     key: u64,
     value: Option<u64>,
@@ -97,23 +109,132 @@ pub(crate) fn update<R: Wait>(
         → HasCounted pass.old pass.new (command_for key value)) }
     ensures due { OnOk result (LeavesNoneDue pass.old pass.new) }
     ensures starts { StartsOnlyDue pass.old pass.new }
+    ensures few_walks { BeginsFewWalks pass.old pass.new }
+    ensures full { IfErr result (λ full. IsRefused pass.old pass.new key value full) }
+    ensures calls { OnErr result (pass.new.calls ≡ pass.old.calls) }
+    ensures unrefused { OnErr result (pass.new.refused ≡ pass.old.refused) }
+    ensures refused { KeepsRefusal pass.old pass.new }
+{
+    match update_when(tree, pass, key, value, When::Always)? {
+        Some(reply) => Ok(reply),
+        None => unreachable!(),
+    }
+}
+
+/// As `update`, if `when` allows the value that the key has. Otherwise the call is given up and it
+/// returns `None`: at a position of this call, the key had a value that `when` doesn't allow.
+pub(crate) fn update_when(
+    tree: &Tree,
+    pass: &mut Pass,
+    key: u64,
+    value: Option<u64>,
+    when: When,
+) -> Result<Option<Reply>, Full>
+    requires same_tree { pass.old.tree ≡ tree.now }
+    ensures seen { HasSeenMore pass.old pass.new }
+    ensures added { IfOk result (λ o. IfSome o (λ reply.
+        AddsCall pass.old pass.new (command_for key value) reply)) }
+    ensures met { IfOk result (λ o. IfSome o (λ reply. IsMetBy when reply)) }
+    ensures counted { IfOk result (λ o. IfSome o (λ reply.
+        makes_entry (command_for key value) reply ≡ true
+        → HasCounted pass.old pass.new (command_for key value))) }
+    ensures due { IfOk result (λ o. IfSome o (λ reply. LeavesNoneDue pass.old pass.new)) }
+    ensures let_go { result ≡ Ok None → HasLetGo pass.old pass.new }
+    ensures missed { result ≡ Ok None → HadMissed pass.old pass.new key when }
+    ensures starts { StartsOnlyDue pass.old pass.new }
+    ensures few_walks { BeginsFewWalks pass.old pass.new }
     ensures full { IfErr result (λ full. IsRefused pass.old pass.new key value full) }
     ensures calls { OnErr result (pass.new.calls ≡ pass.old.calls) }
     ensures unrefused { OnErr result (pass.new.refused ≡ pass.old.refused) }
     ensures refused { KeepsRefusal pass.old pass.new }
 {
     begin(&tree.table, &mut pass.caller, command_of(key, value));
-    match carry_out(&tree.table, rt, &mut pass.caller, key, value) {
-        Ok(done) => {
-            know(&pass.caller.seat);
-            end_call(&tree.table, &mut pass.caller.seat, done.reply);
-            pass.refused = pass.refused.or(done.refused);
-            Ok(done.reply)
-        }
+    match carry_out_when(&tree.table, &mut pass.caller, key, value, when) {
+        Ok(carried) => match carried {
+            Some(done) => {
+                know(&pass.caller.seat);
+                end_call(&tree.table, &mut pass.caller.seat, done.reply);
+                pass.refused = pass.refused.or(done.refused);
+                Ok(Some(done.reply))
+            }
+            None => {
+                know(&pass.caller.seat);
+                give_up(&tree.table, &mut pass.caller.seat);
+                Ok(None)
+            }
+        },
         Err(full) => {
             know(&pass.caller.seat);
             give_up(&tree.table, &mut pass.caller.seat);
             Err(full)
         }
+    }
+}
+
+/// Finds the key in a call of the pass, unless the key has the value that is expected. Then the
+/// call is given up: the map had that value at a position of the call.
+fn find_unless(tree: &Tree, pass: &mut Pass, key: u64, expected: Reply) -> Option<Reply>
+    requires same_tree { pass.old.tree ≡ tree.now }
+    ensures seen { HasSeenMore pass.old pass.new }
+    ensures others { Later (CallerOf pass.old.number) pass.old.seen pass.new.seen }
+    ensures refused { pass.new.refused ≡ pass.old.refused }
+    ensures other { IfSome result (λ reply. reply ≢ expected) }
+    ensures added { IfSome result (AddsCall pass.old pass.new (Get key)) }
+    ensures calls { result ≡ None → pass.new.calls ≡ pass.old.calls }
+    ensures stamp { result ≡ None → pass.new.stamp ≡ pass.old.stamp }
+    ensures value { result ≡ None → HadValue pass.old pass.new key expected }
+{
+    let seat = &mut pass.caller.seat;
+    know(seat);
+    begin_call(&tree.table, seat, Some(Command::Get { key }));
+    know(seat);
+    let found = find_from_anchor(&tree.table, seat, key);
+    know(seat);
+    if found.value == expected {
+        give_up(&tree.table, seat);
+        know(seat);
+        return None;
+    }
+    end_call(&tree.table, seat, found.value);
+    know(seat);
+    Some(found.value)
+}
+
+/// As `update`, if the key has the value that is expected; otherwise finds what it has.
+///
+/// Each round tries the update, and finds the key if it met another value. If the find meets the
+/// expected value, the map was changed in between, and the next round begins.
+pub(crate) fn update_if(
+    tree: &Tree,
+    pass: &mut Pass,
+    key: u64,
+    value: Option<u64>,
+    expected: Reply,
+) -> Result<Reply, Full>
+    requires same_tree { pass.old.tree ≡ tree.now }
+    ensures seen { HasSeenMore pass.old pass.new }
+    ensures took { IfOk result (λ reply. reply ≡ expected
+        → AddsCall pass.old pass.new (command_for key value) reply) }
+    ensures got { IfOk result (λ reply. reply ≢ expected
+        → AddsCall pass.old pass.new (Get key) reply) }
+    ensures counted { IfOk result (λ reply. reply ≡ expected
+        → makes_entry (command_for key value) reply ≡ true
+        → HasCounted pass.old pass.new (command_for key value)) }
+    ensures due { OnOk result (LeavesNoneDue pass.old pass.new) }
+    ensures starts { StartsOnlyDue pass.old pass.new }
+    ensures full { IfErr result (λ full. IsRefused pass.old pass.new key value full) }
+    ensures calls { OnErr result (pass.new.calls ≡ pass.old.calls) }
+    ensures unrefused { OnErr result (pass.new.refused ≡ pass.old.refused) }
+    ensures refused { KeepsRefusal pass.old pass.new }
+{
+    pass.know();
+    'rounds: loop {
+        if let Some(reply) = update_when(tree, pass, key, value, When::Had(expected))? {
+            return Ok(reply);
+        }
+        if let Some(reply) = find_unless(tree, pass, key, expected) {
+            return Ok(reply);
+        }
+        pass.know();
     }
 }

@@ -1,4 +1,4 @@
--- A try of the whole walk, from its begin to what it came to. Serves `apply`.
+-- A try of the whole walk, from its begin to its result. Serves `apply`.
 use Rattle.std.proofs.Common.{◌≡◌, ◌≢◌, ℕ, ◌≤◌, true, List, [], length, Option, Some, None, Ok, sym, ap, ◌∙◌, subst, inl}
 use Rattle.ist_core.specs.declared.commands.Command.{Command}
 use Rattle.ist_core.specs.declared.commands.Command.TheVariants.{Remove}
@@ -10,12 +10,13 @@ use Rattle.ist_core.specs.RowLayout.{anchor}
 use Rattle.ist_core.specs.Standing.{makes_entry}
 use Rattle.ist_rule.specs.declared.view.View.{View}
 use Rattle.ist_rule.specs.Faces.{SeatFace}
-use Rattle.ist_rule.specs.Going.{WentOn}
+use Rattle.ist_rule.specs.Going.{SearchedOn, WentOn}
 use Rattle.ist_rule.specs.Learning.{Turned, searching}
 use Rattle.ist_rule.specs.Standings.{HasMade}
 use Rattle.ist_rule.proofs.LaterLemmas.{goes_on_length}
-use Rattle.ist_rule.proofs.WentOnLemmas.{went_all, went_now, went_lawful, went_more, later_by-goes_on, searching_went}
-use Rattle.ist_walks.proofs.WalkLemmas.{met_chain}
+use Rattle.ist_rule.proofs.SearchedOnLemmas.{searched_all, searched_more, searching_on, went_searched}
+use Rattle.ist_rule.proofs.WentOnLemmas.{went_all, went_now, went_lawful, went_more, later_by-goes_on}
+use Rattle.laws_walks.proofs.WalkLemmas.{met_chain}
 use Rattle.ist_rows.specs.declared.callers.Caller.{Caller}
 use Rattle.ist_rows.specs.Rows.{IsCaller}
 use Rattle.ist_rebuild.specs.Going.{IsQuiet}
@@ -26,47 +27,51 @@ use Rattle.ist_updates.specs.declared.updates.Due.{Due}
 use Rattle.ist_updates.specs.declared.walking.Walked.TheVariants.{Took}
 use Rattle.ist_updates.specs.Asking.{Updates, command_for, IsAsked, MayEnd}
 use Rattle.ist_updates.specs.Counting.{IsCounted, LeavesDue}
-use Rattle.ist_updates.specs.Refusals.{IsUpdateRefused}
+use Rattle.ist_updates.specs.Refusals.{IsUpdateRefused, WasRefused}
 use Rattle.ist_updates.specs.Trying.{Tries, BeganSince}
-use Rattle.ist_updates.specs.Walking.{HasStood, IsDueBy, HasCounted, HasTriedSince, IsAskedStill, IsNotThere, HasWalked}
-use Rattle.ist_updates.proofs.AskedStillLemmas.{NoEvent, asked_went}
+use Rattle.ist_updates.specs.Walking.{HasStood, IsDueBy, HasCounted, HasTriedSince, IsAskedAgain, IsAskedStill, IsNotThere, HasWalked}
+use Rattle.ist_updates.proofs.AskedStillLemmas.{NoEvent, asked_searched, recounted}
 use Rattle.ist_updates.proofs.EndingLemmas.{taken_ends, nothing_ends}
 use Rattle.ist_updates.proofs.OwnCountLemmas.{CountsNone, came_none}
 use Rattle.ist_updates.proofs.TriedWalkLemmas.{tries_update, went_table, tried_by}
 
 -- ---- the begin
 
--- the caller began a walk at the anchor, behind walks of which none took effect
+-- the caller began a walk at the anchor, after walks of which none took effect
 pub record HasBegun (old who : Caller) (key : ℕ) (command : Command) : Type 0 where
   pub number : who.number ≡ old.number
   pub asked : IsAsked who command
-  pub went : WentOn Tries old.seat.view who.seat.view
+  pub went : SearchedOn Tries old.seat.view who.seat.view
   pub come : HasCome who.seat.view key anchor []
   pub since : who.seat.view.loads.since ≡ length who.seat.view.log
 
 -- it does so by beginning a search
 pub begun_walk : (old who : Caller) (seat : SeatFace) (key : ℕ) (command : Command)
-    → who.number ≡ old.number → IsAskedStill old who command
+    → who.number ≡ old.number → IsAskedAgain old who command
     → Turned who.seat.view (searching who.seat.view) seat.view
     → HasBegun old (record who { seat = seat }) key command
 begun_walk old who seat key command number s t =
     record {
       number = number;
-      asked = asked_went who seat command s.asked
-          (searching_went NoEvent who.seat.view seat.view t);
-      went = went_more Tries old.seat.view who.seat.view seat.view s.went
-          (searching_went Tries who.seat.view seat.view t);
+      asked = asked_searched who seat command s.asked
+          (searching_on NoEvent who.seat.view seat.view t);
+      went = searched_more Tries old.seat.view who.seat.view seat.view s.went
+          (searching_on Tries who.seat.view seat.view t);
       come = begun_comes who.seat.view seat.view key t;
       since = ap (λ x. x.loads.since) t.view ∙ ap length (sym (ap (λ x. x.log) t.view));
     }
 
 module _ (old who : Caller) (key : ℕ) (value : Option ℕ) (a : IsAsked old (command_for key value))
     (b : HasBegun old who key (command_for key value)) where
-  abbrev first : View
-  first = old.seat.view
-
   abbrev v : View
   v = who.seat.view
+
+  -- the caller as it was, as if it had begun as many searches
+  abbrev was : Caller
+  was = record old { seat = record old.seat { view = record old.seat.view { searches = v.searches } } }
+
+  abbrev first : View
+  first = was.seat.view
 
   -- ---- the end
 
@@ -74,29 +79,45 @@ module _ (old who : Caller) (key : ℕ) (value : Option ℕ) (a : IsAsked old (c
   pub all_went : (new : Caller) → WentOn Updates v new.seat.view
       → WentOn Updates first new.seat.view
   all_went new g =
-      went_more Updates first v new.seat.view (went_all Tries Updates tries_update first v b.went) g
+      went_more Updates first v new.seat.view (went_all Tries Updates tries_update first v b.went.went) g
+
+  -- apart from the searches that it began
+  pub all_searched : (new : Caller) → WentOn Updates v new.seat.view
+      → SearchedOn Updates old.seat.view new.seat.view
+  all_searched new g =
+      searched_more Updates old.seat.view v new.seat.view
+      (searched_all Tries Updates tries_update old.seat.view v b.went)
+      (went_searched Updates v new.seat.view g)
 
   -- a walk that took no effect leaves the caller as it was asked
   pub still_on : (new : Caller) → IsAskedStill who new (command_for key value)
-      → IsAskedStill old new (command_for key value)
+      → IsAskedAgain old new (command_for key value)
   still_on new s =
-      record { went = went_more Tries first v new.seat.view b.went s.went; asked = s.asked }
+      record {
+        went = searched_more Tries old.seat.view v new.seat.view b.went
+            (went_searched Tries v new.seat.view s.went);
+        asked = s.asked;
+      }
 
   -- it was refused since the call began
   pub refused_first : (words : ℕ) (full : Full) (new : Caller)
       → ((before : View) → BeganSince before v
       → IsUpdateRefused before key value words full new.seat.view)
-      → IsUpdateRefused first key value words full new.seat.view
-  refused_first words full new h =
-      h first record {
-        went = went_all Tries Updates tries_update first v b.went;
+      → WentOn Updates v new.seat.view
+      → WasRefused old.seat.view key value words full new.seat.view
+  refused_first words full new h g =
+      let none = ap (λ x. x.searches) g.same in
+      subst (λ n. IsUpdateRefused (record old.seat.view { searches = n }) key value words full
+      new.seat.view) (sym none)
+      (h first record {
+        went = went_all Tries Updates tries_update first v b.went.went;
         since = subst (λ n. length first.log ≤ n) (sym b.since)
-            (goes_on_length (later_by-goes_on b.went.later));
-      }
+            (goes_on_length (later_by-goes_on b.went.went.later));
+      })
 
   tried : HasTriedSince first v who.number
   tried = record {
-    went = b.went;
+    went = b.went.went;
     none_yet = subst (λ n. HasMade first.start first.words first.log n first.calls) (sym b.number)
         a.none_yet;
   }
@@ -109,7 +130,7 @@ module _ (old who : Caller) (key : ℕ) (value : Option ℕ) (a : IsAsked old (c
       (subst (λ m. GoesOnBy (CountsNone m) first.log new.seat.view.log) b.number
       (tried_by who (command_for key value) b.asked first tried new.seat.view s.went))
 
-  -- ---- where it took effect
+  -- ---- if it took effect
 
   module _ (new : Caller) (words : ℕ) (done : Applied) (g : WentOn Updates v new.seat.view)
       (h : HasWalked who key value anchor words (Ok (Took done)) new) where
@@ -127,9 +148,10 @@ module _ (old who : Caller) (key : ℕ) (value : Option ℕ) (a : IsAsked old (c
       where
         back : (Q : List Pair → ℕ → Type 0) → Q v.start v.words → Q first.start first.words
         back Q y =
-            subst (λ p. Q p first.words) (ap (λ x. x.start) b.went.same)
-            (subst (Q v.start) (ap (λ x. x.words) b.went.same) y)
+            subst (λ p. Q p first.words) (ap (λ x. x.start) b.went.went.same)
+            (subst (Q v.start) (ap (λ x. x.words) b.went.went.same) y)
 
+    -- the update was counted at each row on the chain of its change
     pub took_is_counted : IsCounted first.start first.words first.log w.log old.number
         (command_for key value)
     took_is_counted =
@@ -152,16 +174,16 @@ module _ (old who : Caller) (key : ℕ) (value : Option ℕ) (a : IsAsked old (c
     pub took_ends : IsCaller new → new.number ≡ who.number → IsQuiet new
         → MayEnd new (command_for key value) done.reply
     took_ends c same q =
-        taken_ends old new (command_for key value) a (all_went new g) [] done took_counted c
+        taken_ends was new (command_for key value) (recounted old (command_for key value) v.searches a) (all_went new g) [] done took_counted c
         (same ∙ b.number) q
 
-    -- and the topmost row that came to its limit is told
-    pub took_due : LeavesDue first w old.number done.due
+    -- and the topmost row that reached its limit is returned
+    pub took_due : LeavesDue old.seat.view w old.number done.due
     took_due = due_told done.due took_counted.due
       where
         due_told : (due : Option Due)
             → IsDueBy first.start first.words first.log w.log old.number due
-            → LeavesDue first w old.number due
+            → LeavesDue old.seat.view w old.number due
         due_told None none = none
         due_told (Some due) d =
             let stood = went_table Updates first w (all_went new g)
@@ -182,10 +204,11 @@ module _ (old who : Caller) (key : ℕ) (value : Option ℕ) (a : IsAsked old (c
               top = d.top;
             }
 
-  -- ---- where there was nothing to remove
+  -- ---- if there was nothing to remove
 
   module _ (new : Caller) (s : IsAskedStill who new (command_for key value))
       (n : IsNotThere v new.seat.view key value) where
+    -- if there was nothing to remove, the call may end with no value
     pub nothing_told : IsCaller new → new.number ≡ who.number → IsQuiet new
         → MayEnd new (command_for key value) None
     nothing_told c same q =

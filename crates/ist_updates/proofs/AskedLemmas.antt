@@ -1,4 +1,4 @@
--- Callers that are asked still: nothing of their call took effect. Serves each step of a try.
+-- Callers that are still asked: nothing of their call took effect. Serves each step of a try.
 use Rattle.std.proofs.Common.{◌≡◌, ◌≢◌, ℕ, List, ◌∷◌, sym, ap, ◌∙◌, subst, inl, inr, arith}
 use Rattle.ist_core.specs.declared.commands.Command.{Command}
 use Rattle.ist_core.specs.declared.events.Event.{Event}
@@ -24,9 +24,9 @@ use Rattle.ist_rule.proofs.WentOnLemmas.{later_by_all, later_by-goes_on, went_la
 use Rattle.ist_rows.specs.declared.callers.Caller.{Caller}
 use Rattle.ist_rows.specs.CallerLaws.{InstallsNone}
 use Rattle.ist_rows.proofs.CallerLawLemmas.{resolved_went}
-use Rattle.ist_histories.specs.Calls.{HasCalls, MadeNoEntry}
-use Rattle.ist_outcomes.specs.Accepting.{InstallsNoYes}
-use Rattle.ist_outcomes.proofs.InstalledLemmas.{installed_no_entry}
+use Rattle.laws_histories.specs.Calls.{HasCalls, MadeNoEntry}
+use Rattle.laws_walks.specs.Accepting.{InstallsNoYes}
+use Rattle.laws_walks.proofs.InstalledLemmas.{installed_no_entry}
 use Rattle.ist_rebuild.specs.Going.{IsQuiet, Serves}
 use Rattle.ist_updates.specs.Asking.{IsAsked}
 use Rattle.ist_updates.specs.Changing.{HasGone}
@@ -115,6 +115,7 @@ module _ (pairs : List Pair) (words : ℕ) (last : Log) (h : EachEnabled (start 
   finish_no_yes log (Place c o i w rows) until is = tt
   finish_no_yes log (Lose c bases) until is = tt
 
+  -- a caller that only helped a rebuild installed no update that was decided yes
   pub served_no_yes : (earlier log : Log) → GoesOn log last
       → LaterBy (CallerOf number) Serves earlier log
       → GoesOnBy (InstallsNoYes (state_of pairs words last) number) earlier log
@@ -160,7 +161,7 @@ module _ (P : Event → Type 0) (old new : Caller) (command : Command) (a : IsAs
             (sym h.went.same) (none ∙ a.none_yet));
       }
 
-  -- so is one that installed nothing
+  -- a caller that installed nothing is still asked
   pub asked_gone : ((event : Event) → P event → InstallsNone event) → IsAsked new command
   asked_gone all =
       let lawful = went_lawful P v w h.went in
@@ -173,7 +174,7 @@ module _ (P : Event → Type 0) (old new : Caller) (command : Command) (a : IsAs
       (later_by_all (λ event is. none_no_yes t old.number event (all event is)) h.went.later)))
       a.resolved)
 
--- so is one that helped a rebuild
+-- a caller that helped a rebuild is still asked
 pub asked_served : (old new : Caller) (command : Command) → IsAsked old command
     → HasGone Serves old new → IsResolved new.seat.view new.number → IsAsked new command
 asked_served old new command a h resolved =

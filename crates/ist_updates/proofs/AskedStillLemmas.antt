@@ -1,16 +1,16 @@
--- A caller that was asked an update is so still behind loads, and where it began a search. Serves
+-- A caller that was asked an update is still asked it after loads, and after it began a search. Serves
 -- `descend` and `apply`.
-use Rattle.std.proofs.Common.{◌≡◌, sym, ap, ◌∙◌, subst, inl, inr}
+use Rattle.std.proofs.Common.{ℕ, ◌≡◌, sym, ap, ◌∙◌, subst, inl, inr}
 use Rattle.ist_core.specs.declared.commands.Command.{Command}
 use Rattle.ist_core.specs.declared.events.Event.{Event}
 use Rattle.ist_core.specs.Authors.{no_more, one_more, Later, LaterBy}
 use Rattle.ist_core.specs.Logs.{Log}
-use Rattle.ist_histories.specs.Calls.{HasCalls}
+use Rattle.laws_histories.specs.Calls.{HasCalls}
 use Rattle.ist_rule.specs.declared.view.View.{View}
 use Rattle.ist_core.specs.declared.events.Who.{Who}
 use Rattle.ist_core.specs.declared.events.Who.TheVariants.{Caller as CallerOf}
 use Rattle.ist_rule.specs.Faces.{SeatFace}
-use Rattle.ist_rule.specs.Going.{WentOn}
+use Rattle.ist_rule.specs.Going.{SearchedOn, WentOn}
 use Rattle.ist_rule.specs.Standings.{HasMade}
 use Rattle.ist_rule.proofs.CallLemmas.{between_later}
 use Rattle.ist_rule.proofs.LaterLemmas.{goes_on_more}
@@ -58,7 +58,7 @@ module _ (who : Caller) (seat : SeatFace) (command : Command) (a : IsAsked who c
   calls_are : w.calls ≡ v.calls
   calls_are = ap (λ x. x.calls) g.same
 
-  -- it is so still
+  -- the caller is still asked
   pub asked_went : IsAsked (record who { seat = seat }) command
   asked_went =
       record {
@@ -79,3 +79,33 @@ module _ (who : Caller) (seat : SeatFace) (command : Command) (a : IsAsked who c
         none_yet = went_table NoEvent v w g (λ p n. HasMade p n w.log who.number w.calls)
             (subst (λ calls. HasMade v.start v.words w.log who.number calls) (sym calls_are) made);
       }
+
+-- what is asked doesn't depend on how many searches the seat began
+pub recounted : (who : Caller) (command : Command) (n : ℕ) → IsAsked who command
+    → IsAsked (record who { seat = record who.seat { view = record who.seat.view { searches = n } } }) command
+recounted who command n a =
+    record {
+      caller = record {
+        mine = a.caller.mine;
+        rows = a.caller.rows;
+        builds = a.caller.builds;
+      };
+      refused = a.refused;
+      pending = a.pending;
+      in_call = a.in_call;
+      command_is = a.command_is;
+      seen = a.seen;
+      goes_on = a.goes_on;
+      length_is = a.length_is;
+      had = a.had;
+      resolved = a.resolved;
+      none_yet = a.none_yet;
+    }
+
+-- a search that is begun leaves the caller as it was asked
+pub asked_searched : (who : Caller) (seat : SeatFace) (command : Command) → IsAsked who command
+    → SearchedOn NoEvent who.seat.view seat.view → IsAsked (record who { seat = seat }) command
+asked_searched who seat command a g =
+    let n = seat.view.searches in
+    asked_went (record who { seat = record who.seat { view = record who.seat.view { searches = n } } })
+    seat command (recounted who command n a) g.went

@@ -36,8 +36,8 @@ use Rattle.ist_rows.proofs.CallerLawLemmas.{resolved_went}
 use Rattle.ist_dcss.specs.Helping.{Serves, MayHelp, IsDecided, IsOut}
 use Rattle.ist_dcss.specs.Installing.{rows_of, IsInstallable, IsInstalled}
 use Rattle.ist_dcss.proofs.ResolvedLemmas.{resolved_helped}
-use Rattle.ist_outcomes.specs.Accepting.{InstallsNoYes}
-use Rattle.ist_outcomes.proofs.InstalledLemmas.{installed_no_entry}
+use Rattle.laws_walks.specs.Accepting.{InstallsNoYes}
+use Rattle.laws_walks.proofs.InstalledLemmas.{installed_no_entry}
 use Rattle.ist_rebuild.specs.Going.{IsQuiet}
 use Rattle.ist_updates.specs.declared.plans.Plan.{Plan}
 use Rattle.ist_updates.specs.Asking.{IsAsked}
@@ -181,6 +181,7 @@ module _ (old mid : Caller) (seat : SeatFace) (plan : Plan) (c : IsCaller old)
       one_change : (a b : ChangeRow) → Some a ≡ Some b → a ≡ b
       one_change a b e = cc
 
+  -- the caller's seat went on by tries only
   pub carried_gone : HasGone Tries old new
   carried_gone =
       let it = caller_gone (Serves base) (help_keeps base) mid seat caller refused g in
@@ -201,6 +202,7 @@ module _ (old mid : Caller) (seat : SeatFace) (plan : Plan) (c : IsCaller old)
       resolved_helped v x w old.number base (filling_of plan) c.mine
       (subst (IsResolved v) number_is m.allowed.resolved) i g out
 
+  -- if the change has left its slot, the caller is quiet
   pub carried_quiet : IsOut w base → IsQuiet new
   carried_quiet out =
       record {
@@ -211,7 +213,7 @@ module _ (old mid : Caller) (seat : SeatFace) (plan : Plan) (c : IsCaller old)
 
   -- ---- its row
 
-  -- it stands as it was filled, but for its decision
+  -- it is as it was filled, except for its decision
   grown : (row : ChangeRow) → (now w).pieces base ≡ Some (Change row) → ChangeGrows plan.row row
   grown row there =
       let on = change_there (now x).pieces (now w).pieces (went_grow (Serves base) x w g) base
@@ -224,7 +226,7 @@ module _ (old mid : Caller) (seat : SeatFace) (plan : Plan) (c : IsCaller old)
       (sound_now v s).unpublished record { caller = old.number; base = base; size = 9 }
       (c.rows ChangeKind base rows.0)
 
-  -- ---- where it was decided yes
+  -- ---- if it was decided yes
 
   alone : length (entries_by old.number (changes_of v.start v.words w.log))
       ≤ length (entries_by old.number (changes_of v.start v.words v.log)) + 1
@@ -247,6 +249,7 @@ module _ (old mid : Caller) (seat : SeatFace) (plan : Plan) (c : IsCaller old)
           one_more_entry old.number _ _ entered.entry
           (entered.made ∙ ap (λ es. es ++ entered.entry ∷ []) (sym before))
 
+  -- if the change was decided yes, the command took effect
   pub carried_yes : IsDecided w base true → (command : Command)
       → command_of plan.row ≡ Some command
       → HasTaken v w old.number command plan.row.node (reply_of (now v).pieces plan.row)
@@ -275,8 +278,9 @@ module _ (old mid : Caller) (seat : SeatFace) (plan : Plan) (c : IsCaller old)
       clash : (r : ChangeRow) → None ≡ Some (Change r) → ⊥
       clash r e = cc
 
-  -- ---- where it was decided no
+  -- ---- if it was decided no
 
+  -- if the change was decided no and has left its slot, the caller is still asked
   pub carried_no : IsDecided w base false → IsOut w base → (command : Command)
       → IsAsked old command → IsAsked new command
   carried_no d out command a =

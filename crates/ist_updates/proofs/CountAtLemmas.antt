@@ -1,4 +1,4 @@
--- What an add to the count of a row tells, and then a load of its size. Serves `count_at`.
+-- What an add to the count of a row shows, and then a load of its size. Serves `count_at`.
 use Rattle.std.proofs.Common.{◌≡◌, ℕ, ◌+◌, ◌-◌, ◌^◌, ◌<◌, ◌≤◌, nat_le, false, ◌∷◌, Some, refl, sym, ap, ◌∙◌, subst, arith}
 use Rattle.std.proofs.lemmas.Bool.Decides.{nat_tests}
 use Rattle.ist_core.specs.declared.events.Event.TheVariants.{Count}
@@ -25,7 +25,7 @@ use Rattle.ist_rule.specs.Watching.{number_of}
 use Rattle.ist_rule.proofs.LaterLemmas.{later-goes_on}
 use Rattle.ist_rule.proofs.WentOnLemmas.{logged_went, looked_went, went_more, went_grow}
 use Rattle.ist_dcss.proofs.FieldLemmas.{looked_row, row_low}
-use Rattle.ist_coming.proofs.AddingLemmas.{count_comes}
+use Rattle.laws_coming.proofs.AddingLemmas.{count_comes}
 use Rattle.ist_updates.specs.Walking.{MayCount, counting, IsCountAt, HasCountedAt}
 
 module _ (v : View) (s : IsSound v) (row : ℕ) (m : MayCount v row) where
@@ -87,6 +87,7 @@ module _ (v : View) (s : IsSound v) (row : ℕ) (m : MayCount v row) where
         (subst (λ q. IsShown (state_of v.start v.words l.logged.before) q row_before.0.count) (sym at)
         (shown_row row (Inner row_before.0) 1 row_before.1 refl))
 
+    -- the count with one more fits a word
     pub found_fits : found + 1 < 2 ^ 64
     found_fits =
         let low = count_low v.start v.words s.lawful.opens l.logged.before
@@ -94,6 +95,7 @@ module _ (v : View) (s : IsSound v) (row : ℕ) (m : MayCount v row) where
         let is = found_is in
         omega arith
 
+    -- the seat went on by Counts of its caller at the row only
     pub count_went : WentOn (IsCountAt (number_of v.who) row) v w
     count_went =
         logged_went (IsCountAt (number_of v.who) row) v
@@ -101,6 +103,7 @@ module _ (v : View) (s : IsSound v) (row : ℕ) (m : MayCount v row) where
 
     module _ (at_size size : ℕ) (size_at : at_size ≡ row + inner_size_offset) (u : View)
         (k : Looked w at_size size u) where
+      -- and so it did with the load of the size
       pub all_went : WentOn (IsCountAt (number_of v.who) row) v u
       all_went =
           went_more (IsCountAt (number_of v.who) row) v w u count_went
@@ -113,7 +116,7 @@ module _ (v : View) (s : IsSound v) (row : ℕ) (m : MayCount v row) where
           looked_row w at_size size u k row (Inner r.0) 3 r.0.size r.1 refl size_at
           ∙ r.2.size ∙ sym row_before.2.size
 
-      -- the Count, and whether the row came to its limit by it
+      -- the Count, and whether it brought the row to its limit
       pub counted_at : (most : ℕ) → most ≡ limit size
           → HasCountedAt v.start v.words v.log (number_of v.who) row (nat_le most (found + 1)) u.log
       counted_at most most_is =

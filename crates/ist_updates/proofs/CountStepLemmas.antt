@@ -1,4 +1,4 @@
--- One Count on the way back: what was counted behind it, and which row is due. Serves `counting`.
+-- One Count on the way back: what was counted after it, and which row is due. Serves `counting`.
 use Rattle.std.proofs.Common.{◌≡◌, ◌≢◌, ℕ, ◌+◌, ◌≤◌, Bool, true, false, Option, List, [], ◌∷◌, ◌++◌, length, option_map, Some, None, refl, sym, ap, ◌∙◌, subst, ⊎_elim, append_assoc, arith}
 use Rattle.std.proofs.Math.Nat.{le_trans}
 use Rattle.ist_core.specs.declared.commands.Command.{Command}
@@ -22,14 +22,14 @@ use Rattle.ist_core.proofs.GrowingLemmas.{inner_there}
 use Rattle.ist_core.proofs.RowLemmas.{changed_at-same}
 use Rattle.ist_core.specs.declared.events.Who.TheVariants.{Caller as CallerOf}
 use Rattle.ist_rule.proofs.LaterLemmas.{goes_on_more, later-goes_on}
-use Rattle.ist_histories.specs.Calls.{MadeNoEntry}
-use Rattle.ist_stability.proofs.LaterLemmas.{ever_later}
-use Rattle.ist_walks.specs.Walking.{ComesBy}
-use Rattle.ist_walks.proofs.WalkLemmas.{meeting_on, met_chain, upper_rows}
-use Rattle.ist_outcomes.specs.Accepting.{InstallsNoYes}
-use Rattle.ist_outcomes.specs.Counting.{CountsFrom}
-use Rattle.ist_outcomes.proofs.InstalledLemmas.{installed_no_entry}
-use Rattle.ist_outcomes.proofs.UpLemmas.{counts_from}
+use Rattle.laws_histories.specs.Calls.{MadeNoEntry}
+use Rattle.laws_stability.proofs.LaterLemmas.{ever_later}
+use Rattle.laws_walks.specs.Walking.{ComesBy}
+use Rattle.laws_walks.proofs.WalkLemmas.{meeting_on, met_chain, upper_rows}
+use Rattle.laws_walks.specs.Accepting.{InstallsNoYes}
+use Rattle.laws_walks.specs.Counting.{CountsFrom}
+use Rattle.laws_walks.proofs.InstalledLemmas.{installed_no_entry}
+use Rattle.laws_walks.proofs.UpLemmas.{counts_from}
 use Rattle.ist_updates.specs.declared.updates.Applied.{Applied}
 use Rattle.ist_updates.specs.declared.updates.Due.{Due}
 use Rattle.ist_updates.specs.Counting.{WasCounted, CameToLimit}
@@ -90,7 +90,7 @@ module _ (pairs : List Pair) (words : ℕ) (opens : CanOpen pairs words) (earlie
       (one_more (Count caller row) (others_install t caller log log c.at no_more c.later) tt) c.more)
       resolved
 
-  -- the Count is behind the earlier log
+  -- the Count is after the earlier log
   pub count_was : GoesOn earlier log → WasCounted earlier longer caller row
   count_was since =
       record {
@@ -99,7 +99,7 @@ module _ (pairs : List Pair) (words : ℕ) (opens : CanOpen pairs words) (earlie
         until = later-goes_on c.more;
       }
 
-  -- what stood in a slot stood there
+  -- a row that a slot held was held by it in the longer log too
   pub stood_on : (parent index target : ℕ) → HasStood pairs words log parent index target
       → HasStood pairs words longer parent index target
   stood_on parent index target s =
@@ -110,7 +110,7 @@ module _ (pairs : List Pair) (words : ℕ) (opens : CanOpen pairs words) (earlie
         linked = ever_later (start pairs words) (λ t. Linked t parent) counted_log s.linked;
       }
 
-  -- the row is due where the Count came to its limit
+  -- the row is due if the Count reached its limit
   row_due : reached ≡ true → (r : InnerRow)
       × ((state_of pairs words longer).pieces row ≡ Some (Inner r)) × IsDue r
   row_due hit =
@@ -126,12 +126,12 @@ module _ (pairs : List Pair) (words : ℕ) (opens : CanOpen pairs words) (earlie
         subst (λ n. limit n ≤ it.0.count) (sym it.2.size) (le_trans (c.yes hit) it.2.count),
       )
 
-  -- ---- where the count came to no limit
+  -- ---- if the count reached no limit
 
   same_inner : (a b : InnerRow) → Some (Inner a) ≡ Some (Inner b) → a ≡ b
   same_inner a b e = cc
 
-  -- what came to its limit came to it before
+  -- a row that reached its limit reached it before
   came_before : reached ≡ false → (node : ℕ) → CameToLimit pairs words earlier longer caller node
       → CameToLimit pairs words earlier log caller node
   came_before miss node k =
@@ -157,7 +157,7 @@ module _ (pairs : List Pair) (words : ℕ) (opens : CanOpen pairs words) (earlie
       })
       (last_or_sooner (Count caller node) (Count caller row) here.at c.at here.until)
 
-  -- and the row that was due is so still
+  -- and the row that was due is still due
   pub due_before : reached ≡ false → (due : Option Due) → IsDueBy pairs words earlier log caller due
       → IsDueBy pairs words earlier longer caller due
   due_before miss None none = λ node k. none node (came_before miss node k)
@@ -197,7 +197,7 @@ module _ (pairs : List Pair) (words : ℕ) (opens : CanOpen pairs words) (earlie
         (later_none c.later)))
         (later_none c.more)
 
-    -- the row is the topmost that came to its limit
+    -- the row is the topmost that reached its limit
     pub due_here : reached ≡ true → (parent index : ℕ)
         → HasStood pairs words log parent index row
         → IsTopmost pairs words earlier longer caller

@@ -1,5 +1,5 @@
--- A caller whose seat has made one Count is one still, and has counted its update at one row more. Serves
--- `count_update`.
+-- A caller whose seat made one Count is still well-formed, and has counted its update at one row more.
+-- Serves `count_update`.
 use Rattle.std.proofs.Common.{◌≡◌, ℕ, Bool, true, false, List, [], ◌∷◌, ◌++◌, Some, refl, sym, ap, ◌∙◌, subst}
 use Rattle.ist_core.specs.declared.commands.Command.{Command}
 use Rattle.ist_core.specs.declared.events.Event.{Event}
@@ -39,15 +39,19 @@ module _ (who : Caller) (row : ℕ) (c : IsCaller who) (q : IsQuiet who) where
     by_count P is =
         went_all (IsCountAt (number_of v.who) row) P (λ event e. subst P (sym e) is) v seat.view g
 
+    -- the seat went on by steps of an update
     pub counted_went : WentOn Updates v seat.view
     counted_went = by_count Updates tt
 
+    -- the caller is still well-formed
     pub counted_caller : IsCaller (record who { seat = seat })
     counted_caller = caller_went who seat c (by_count KeepsRows tt)
 
+    -- the builds of which it holds rows are still refused
     pub counted_refused : HasRefused who → HasRefused (record who { seat = seat })
     counted_refused r = refused_went who seat c r (by_count KeepsRows tt)
 
+    -- the caller is still quiet
     pub counted_quiet : IsQuiet (record who { seat = seat })
     counted_quiet =
         record {
@@ -70,7 +74,7 @@ module _ (who : Caller) (row : ℕ) (c : IsCaller who) (q : IsQuiet who) where
       module _ (earlier : Log) (command : Command) (rows : List ℕ) (below : Applied)
           (x : HasCounted v.start v.words earlier v.log who.number command (rows ++ row ∷ []) below)
         where
-          -- where the count came to the limit, the row is due
+          -- if the count reached the limit, the row is due
           pub counted_due : reached ≡ true → (parent index : ℕ)
               → HasStood v.start v.words v.log parent index row
               → HasCounted v.start v.words earlier seat.view.log who.number command rows record {

@@ -1,5 +1,5 @@
--- What an update may answer: its yes where it took effect, and its search where there was nothing to
--- remove. Serves `apply`.
+-- What an update may return: its yes if it took effect, and its search if there was nothing to remove.
+-- Serves `apply`.
 use Rattle.std.proofs.Common.{◌≡◌, ◌≢◌, ℕ, ◌+◌, ◌≤◌, List, [], ◌∷◌, ◌++◌, length, Some, None, refl, sym, ap, ◌∙◌, subst, arith}
 use Rattle.ist_core.specs.declared.calls.Call.{Call}
 use Rattle.ist_core.specs.declared.commands.Command.{Command}
@@ -15,13 +15,13 @@ use Rattle.ist_core.specs.Standing.{entries_by, StandsIn, IsFresh}
 use Rattle.ist_core.specs.StartLayout.{start}
 use Rattle.ist_core.specs.Statuses.{decided_yes}
 use Rattle.ist_core.proofs.FateLemmas.{enabled_before}
-use Rattle.ist_histories.specs.Calls.{MadeNoEntry, HasCalls, CameToCall, IsAdded}
-use Rattle.ist_histories.specs.Loads.{log_at}
-use Rattle.ist_histories.specs.Searching.{SearchIsAdded}
-use Rattle.ist_histories.proofs.CallLemmas.{add_update}
-use Rattle.ist_histories.proofs.EffectLemmas.{took_effect}
-use Rattle.ist_histories.proofs.LoadOnLemmas.{at_prefix}
-use Rattle.ist_histories.proofs.PositionLemmas.{search_added}
+use Rattle.laws_histories.specs.Calls.{MadeNoEntry, HasCalls, CameToCall, IsAdded}
+use Rattle.laws_histories.specs.Loads.{log_at}
+use Rattle.laws_histories.specs.Searching.{SearchIsAdded}
+use Rattle.laws_histories.proofs.CallLemmas.{add_update}
+use Rattle.laws_histories.proofs.EffectLemmas.{took_effect}
+use Rattle.laws_histories.proofs.LoadOnLemmas.{at_prefix}
+use Rattle.laws_histories.proofs.PositionLemmas.{search_added}
 use Rattle.ist_rule.specs.declared.view.View.{View}
 use Rattle.ist_rule.specs.Conditions.{CanEnd}
 use Rattle.ist_rule.specs.Going.{WentOn}
@@ -38,7 +38,7 @@ use Rattle.ist_updates.specs.Walking.{HasCounted}
 use Rattle.ist_updates.proofs.OneUpdateLemmas.{yes_stays}
 use Rattle.ist_updates.proofs.TriedWalkLemmas.{went_table}
 
--- what is so of the table, the calls and the stamp of a view is so of those of one that it went on to
+-- what holds for a view's table, calls and stamp holds for a view's that it went on to
 went_calls : (P : Event → Type 0) (v w : View) → WentOn P v w
     → (Q : List Pair → ℕ → ℕ → List Call → Type 0) → Q v.start v.words v.stamp v.calls
     → Q w.start w.words w.stamp w.calls
@@ -47,7 +47,7 @@ went_calls P v w g Q h =
     (subst (λ calls. Q v.start v.words w.stamp calls) (sym (ap (λ x. x.calls) g.same))
     (subst (λ stamp. Q v.start v.words stamp v.calls) (sym (ap (λ x. x.stamp) g.same)) h))
 
--- a call that is added to those of a caller that was asked may end there
+-- a call that is added to the calls of an asked caller may end there
 added_ends : {P : Event → Type 0} (old new : Caller) (command : Command) (a : IsAsked old command)
     → WentOn P old.seat.view new.seat.view → IsCaller new → new.number ≡ old.number → IsQuiet new
     → (call : Call) → call.command ≡ command → call.stamp ≡ old.seat.view.stamp + 1
@@ -153,7 +153,7 @@ module _ (old new : Caller) (key : ℕ) (a : IsAsked old (Remove key)) (b : IsAs
       ≡ entries_made n w2.calls) same b.none_yet
       ∙ sym had_there.stand.exactly
 
-  -- the search began behind all that was seen
+  -- the search began after all that was seen
   behind : GoesOn a.seen (log_at w2.log w2.loads.since)
   behind =
       subst (GoesOn a.seen)

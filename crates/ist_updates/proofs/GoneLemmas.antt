@@ -82,7 +82,7 @@ gone_all P Q all old new a =
       went = went_all P Q all old.seat.view new.seat.view a.went;
     }
 
--- words that were wanting behind what was done are wanting behind what was done before it
+-- if too few words were left since a later view, too few were left since the earlier view
 pub short_behind : (P : Event → Type 0) (u v : View) (words : ℕ) (full : Full) (w : View)
     → WentOn P u v → IsShortOf P v words full w → IsShortOf P u words full w
 short_behind P u v words full w a s =
@@ -94,7 +94,7 @@ short_behind P u v words full w a s =
       small = s.small;
     }
 
--- and are so by events of which more may be said
+-- and also for a wider class of events
 pub short_all : (P Q : Event → Type 0) → ((event : Event) → P event → Q event) → (v : View)
     (words : ℕ) (full : Full) (w : View) → IsShortOf P v words full w → IsShortOf Q v words full w
 short_all P Q all v words full w s =
@@ -112,14 +112,14 @@ pub asked_behind : {size : ℕ} (P : Event → Type 0) (u v : View) (words : ℕ
     → (full.asked ≡ size) × IsShortOf P u words full w
 asked_behind P u v words full w a s = (s.0, short_behind P u v words full w a s.1)
 
--- so a way is refused
+-- so a change of the slot is refused
 pub way_refused : {size : ℕ} (u v : View) (words : ℕ) (full : Full) (w : View) (x : Way)
     → WentOn Prepares u v → (full.asked ≡ size) × IsShortOf Prepares v words full w
     → (full.asked ≡ size → MayAskFor x full.asked) → IsWayRefused u x words full w
 way_refused u v words full w x a s may =
     record { short = short_behind Prepares u v words full w a s.1; asked = may s.0 }
 
--- a way that was refused behind what was done was refused behind what was done before it
+-- a change that was refused since a later view was refused since the earlier view
 pub refused_behind : (u v : View) (x : Way) (words : ℕ) (full : Full) (w : View)
     → WentOn Prepares u v → IsWayRefused v x words full w → IsWayRefused u x words full w
 refused_behind u v x words full w a r =

@@ -1,4 +1,4 @@
--- A change or a rebuild that stands in the slot, and its help. Serves `help_change` and `help_target`.
+-- A change or a rebuild in the slot, and its help. Serves `help_change` and `help_target`.
 use Rattle.std.proofs.Common.{◌≡◌, ◌≢◌, ℕ, Option, Some, sym, ap, ◌∙◌, subst, arith}
 use Rattle.ist_core.specs.declared.ports.Full.{Full}
 use Rattle.ist_core.specs.Growing.{AllGrow}
@@ -14,8 +14,8 @@ use Rattle.ist_rule.specs.declared.view.View.{View}
 use Rattle.ist_rule.specs.Learning.{now}
 use Rattle.ist_rule.specs.Rule.{IsSound}
 use Rattle.ist_rule.proofs.WentOnLemmas.{went_more, went_grow, looked_went}
-use Rattle.ist_settling.proofs.ReadLemmas.{read_started}
-use Rattle.ist_rebuilds.proofs.RebuiltLemmas as rebuilt
+use Rattle.laws_settling.proofs.ReadLemmas.{read_started}
+use Rattle.laws_rebuilds.proofs.RebuiltLemmas as rebuilt
 use Rattle.ist_rebuild.specs.Going.{Serves}
 use Rattle.ist_rebuild.specs.Helping.{IsHelpRefused}
 use Rattle.ist_rows.specs.declared.callers.Caller.{Caller}
@@ -31,7 +31,7 @@ use Rattle.ist_updates.proofs.GoneLemmas.{short_behind, short_all}
 one_two : (n : ℕ) → n ≡ decided_yes → n ≢ undecided
 one_two n e f = let one : ◌≡◌ {A = ℕ} 1 0 = sym e ∙ f in omega arith
 
--- a started rebuild is started, where rows grow
+-- a started rebuild is still started when rows grow
 started_on : (t u : Snapshot) → AllGrow t.pieces u.pieces → (rebuild : ℕ) → IsStarted t rebuild
     → IsStarted u rebuild
 started_on t u g rebuild s =
@@ -61,7 +61,7 @@ replaced_on t u g rebuild s =
 
 module _ (v : View) (s : IsSound v) (key node index word rebuild : ℕ)
     (at : IsAtSlot v key node index word) (is : ref_of word ≡ Some (RebuildAt rebuild)) where
-  -- a rebuild that stands in a slot was started
+  -- a rebuild in a slot was started
   pub slot_started : IsStarted (now v) rebuild
   slot_started =
       read_started v.start v.words s.lawful.opens v.log s.lawful.enabled node index rebuild record {
@@ -88,7 +88,7 @@ module _ (v : View) (s : IsSound v) (key node index word rebuild : ℕ)
         reads = ap (past_change (now v).pieces) is;
       } replaced
 
-  -- for want of words for its help an update is refused
+  -- an update is refused if its help of a rebuild finds too few words
   pub help_refused : (value : Option ℕ) (words : ℕ) (full : Full) (w : View)
       → IsHelpRefused v rebuild words full w → (first : View) → BeganSince first v
       → IsUpdateRefused first key value words full w

@@ -26,3 +26,7 @@ pub mod SlotLemmas
 pub mod LeafLemmas
 pub mod HelpedLemmas
 pub mod TriedLemmas
+pub mod MissLemmas
+pub mod BehindLemmas
+pub mod FurtherLemmas
+pub mod WalkCountLemmas

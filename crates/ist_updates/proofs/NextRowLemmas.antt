@@ -8,14 +8,14 @@ use Rattle.ist_core.specs.Deciding.{CanCount}
 use Rattle.ist_core.specs.Lawful.{EachEnabled, CanOpen}
 use Rattle.ist_core.specs.Logs.{Log}
 use Rattle.ist_core.specs.StartLayout.{start}
-use Rattle.ist_walks.specs.Walking.{IsChainOf}
-use Rattle.ist_walks.proofs.WalkLemmas.{met_chain}
-use Rattle.ist_outcomes.specs.Counting.{CountsFrom}
-use Rattle.ist_outcomes.proofs.UpLemmas.{may_count_up}
+use Rattle.laws_walks.specs.Walking.{IsChainOf}
+use Rattle.laws_walks.proofs.WalkLemmas.{met_chain}
+use Rattle.laws_walks.specs.Counting.{CountsFrom}
+use Rattle.laws_walks.proofs.UpLemmas.{may_count_up}
 use Rattle.ist_updates.specs.declared.updates.Applied.{Applied}
 use Rattle.ist_updates.specs.Walking.{HasCounted}
 
--- the element behind the front of a list
+-- the element after the front of a list
 pub get_here : (xs ys : List ℕ) (x : ℕ) → slice_get (xs ++ x ∷ ys) (length xs) ≡ Some x
 get_here [] ys x = refl
 get_here (y ∷ xs) ys x = get_here xs ys x
@@ -34,7 +34,7 @@ module _ (pairs : List Pair) (words : ℕ) (opens : CanOpen pairs words) (earlie
       (met_chain pairs words opens log h x.met.key x.met.began x.met.last x.update.change.node
       ((rows ++ row ∷ []) ++ x.below) x.met.comes)
 
-  -- those behind it were counted at
+  -- the rows after it were counted at
   pub counted_behind : GoesOnBy (CountsFrom caller (rows ++ row ∷ x.below) (length rows + 1)) earlier log
   counted_behind =
       subst (λ n. GoesOnBy (CountsFrom caller (rows ++ row ∷ x.below) n) earlier log)

@@ -7,7 +7,7 @@ use Rattle.ist_core.specs.Authors.{GoesOnBy, no_more, one_more, whose, Later, La
 use Rattle.ist_core.specs.Logs.{Log, Counts, GoesOn, same_log, one_event}
 use Rattle.ist_core.specs.declared.events.Who.TheVariants.{Caller as CallerOf}
 use Rattle.ist_rule.proofs.LaterLemmas.{goes_on_more, goes_on_length}
-use Rattle.ist_outcomes.specs.Counting.{CountsFrom}
+use Rattle.laws_walks.specs.Counting.{CountsFrom}
 use Rattle.ist_updates.specs.Counting.{CameToLimit, WasCounted}
 use Rattle.ist_updates.specs.Trying.{Tries}
 
@@ -73,7 +73,7 @@ by-goes_on (one_more event l is) = one_event event (by-goes_on l)
 
 -- ---- Counts from an index on
 
--- where the caller counted nothing, it counted from each index on
+-- if the caller counted nothing more, its counts from an index on are unchanged
 pub from_none : (caller i : ℕ) (rows : List ℕ) (earlier a b : Log)
     → GoesOnBy (CountsFrom caller rows i) earlier a → GoesOnBy (CountsNone caller) a b
     → GoesOnBy (CountsFrom caller rows i) earlier b
@@ -94,21 +94,21 @@ event_by P earlier _ (one_more {log = log} last later p) event before since (one
 
 -- ---- one Count
 
--- a Count that stands in the longer log stood before, where the caller counted nothing since
+-- a Count of the longer log was in the earlier one, if the caller counted nothing since
 count_stood : {caller node : ℕ} {at a b : Log} → GoesOnBy (CountsNone caller) a b
     → GoesOn (Count caller node ∷ at) b → GoesOn (Count caller node ∷ at) a
 count_stood no_more g = g
 count_stood {node = node} (one_more _ l none) same_log = absurd (none node (refl, refl))
 count_stood (one_more event l none) (one_event _ sooner) = count_stood l sooner
 
--- an event of a log is its last, or stood before that
+-- an event of a log is its last or precedes it
 pub last_or_sooner : (event last : Event) (a b : Log) → GoesOn (event ∷ a) (last ∷ b)
     → ((event ≡ last) × (a ≡ b)) ⊎ GoesOn (event ∷ a) b
 last_or_sooner event _ a _ same_log = inl (refl, refl)
 last_or_sooner event _ a _ (one_event _ sooner) = inr sooner
 
 module _ (pairs : List Pair) (words : ℕ) (earlier : Log) (caller : ℕ) where
-  -- a Count that came to the limit stands in a longer log too
+  -- a row that reached its limit in a log reached it in a longer log too
   pub came_on : (a b : Log) → GoesOn a b → (node : ℕ)
       → CameToLimit pairs words earlier a caller node
       → CameToLimit pairs words earlier b caller node
@@ -122,7 +122,7 @@ module _ (pairs : List Pair) (words : ℕ) (earlier : Log) (caller : ℕ) where
         reached = c.reached;
       }
 
-  -- and stood before, where the caller counted nothing since
+  -- and reached it in the earlier log, if the caller counted nothing since
   pub came_back : (a b : Log) → GoesOnBy (CountsNone caller) a b → (node : ℕ)
       → CameToLimit pairs words earlier b caller node
       → CameToLimit pairs words earlier a caller node
@@ -136,7 +136,7 @@ module _ (pairs : List Pair) (words : ℕ) (earlier : Log) (caller : ℕ) where
         reached = c.reached;
       }
 
-  -- none came to it where the caller counted nothing since the earlier log
+  -- no row reached its limit, if the caller counted nothing since the earlier log
   pub came_none : (log : Log) → GoesOnBy (CountsNone caller) earlier log → (node : ℕ)
       → ¬ (CameToLimit pairs words earlier log caller node)
   came_none log l node c =

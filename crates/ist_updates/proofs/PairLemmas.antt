@@ -60,14 +60,14 @@ row_good who s c kind base is some =
       size = kind_words kind;
     } (c.rows kind base is) some
 
--- a node is one still where rows grow
+-- a node stays one when rows grow
 pub node_on : (t u : Snapshot) → AllGrow t.pieces u.pieces → (node : ℕ) → IsNode t node
     → IsNode u node
 node_on t u g node (is_anchor e) = is_anchor e
 node_on t u g node (is_inner r e) =
     let it = inner_there t.pieces u.pieces g node r e in is_inner it.0 it.1
 
--- a node lies below each good base behind what is used
+-- a node lies below each good base after the words in use
 pub fresh_above : (v : View) → IsSound v → (node base : ℕ) → IsNode (now v) node
     → (now v).next ≤ base → IsGoodBase base → node < base
 fresh_above v s node base (is_anchor e) high good = let low = good.behind_fixed in omega arith
@@ -83,7 +83,7 @@ module _ (who : Caller) (s : IsSound who.seat.view) (c : IsCaller who) (base : �
   pub pair_good : IsGoodBase base
   pair_good = held_good who.seat.view s row (c.rows Pair base is) (omega arith)
 
-  -- where it lies below a node, that is an inner row
+  -- if it lies below a node, that node is an inner row
   pub pair_below : (node : ℕ) → IsNode (now who.seat.view) node → base < node
       → HasPairBelow who node
   pair_below node (is_anchor e) less = let low = pair_good.behind_fixed in absurd (omega arith)
@@ -104,6 +104,7 @@ module _ (who : Caller) (s : IsSound who.seat.view) (c : IsCaller who) (base : �
 
 -- ---- giving it up
 
+-- a caller that gave up its pair row went on by preparing steps only
 pub dropped : (old new : Caller) (node pair : ℕ) → IsCaller old → HasRefused old
     → old.pair ≡ Some pair
     → IfSome old.pair (λ p. HasLost old.seat.view old.number p node new.seat.view) → IsCaller new

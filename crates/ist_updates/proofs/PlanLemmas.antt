@@ -25,15 +25,15 @@ use Rattle.ist_dcss.proofs.FitsLemmas.{fits_later}
 use Rattle.ist_dcss.proofs.InstallLemmas.{slot_on}
 use Rattle.ist_find.specs.Searches.{HasCome}
 use Rattle.ist_find.proofs.LookLemmas.{come_node, come_later}
-use Rattle.ist_histories.specs.Searching.{WasMet}
-use Rattle.ist_histories.proofs.PositionLemmas.{node_met}
-use Rattle.ist_walks.proofs.WalkLemmas.{meeting_comes}
+use Rattle.laws_histories.specs.Searching.{WasMet}
+use Rattle.laws_histories.proofs.PositionLemmas.{node_met}
+use Rattle.laws_walks.proofs.WalkLemmas.{meeting_comes}
 use Rattle.ist_updates.specs.declared.plans.Aim.{Aim}
 use Rattle.ist_updates.specs.declared.plans.Fresh.TheVariants.{Nothing, Leaf, Pair}
 use Rattle.ist_updates.specs.declared.plans.Way.TheVariants as way
 use Rattle.ist_updates.specs.Changing.{WasAtSlot, IsPlanned, row_for}
 
--- a child for the key is one still where rows grow
+-- a child for the key stays one when rows grow
 child_later : (t u : Snapshot) → AllGrow t.pieces u.pieces → (node key i : ℕ)
     → IsChildFor t node key i → IsChildFor u node key i
 child_later t u g node key i (of_anchor e f) = of_anchor e f
@@ -70,7 +70,7 @@ module _ (v : View) (aim : Aim) (at : WasAtSlot v aim) where
   pub slot_holds : IsSlot v aim.node aim.index
   slot_holds = slot_on at.before v at.seen aim.node aim.index aim.word at.at.holds
 
-  -- and so it is behind more loads
+  -- after more loads, the seat has still made only loads since it was at the slot
   pub slot_loads : (w : View) → GoesOnTo v w → WasAtSlot w aim
   slot_loads w g =
       record {
@@ -80,7 +80,7 @@ module _ (v : View) (aim : Aim) (at : WasAtSlot v aim) where
         seen = goes_on_more at.before v w at.seen g;
       }
 
--- a change that fits its kind does so still where the seat went on
+-- a change that fits its kind still does when the seat went on
 pub fits_went : (P : Event → Type 0) (v w : View) → WentOn P v w → (row : ChangeRow)
     (fresh : List Row) → FitsKind (start v.start v.words) v.log row fresh
     → FitsKind (start w.start w.words) w.log row fresh
@@ -98,7 +98,7 @@ module _ (P : Event → Type 0) (old new : Caller)
   abbrev v : View
   v = old.seat.view
 
-  -- the change comes to its slot by its key
+  -- the change's key leads to its slot
   by_key : (kind value to owner : ℕ)
       → ComesByKey (start v.start v.words) v.log (row_for aim kind value to owner)
   by_key kind value to owner =

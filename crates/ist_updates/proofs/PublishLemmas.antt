@@ -13,7 +13,7 @@ use Rattle.ist_core.specs.Snapshots.{Snapshot}
 use Rattle.ist_core.specs.StartLayout.{start}
 use Rattle.ist_rows.proofs.CallerGoingLemmas.{base_same}
 
--- behind its Install the change is published as its row was filled
+-- after its Install the change is published as its row was filled
 pub installed_row : (pairs : List Pair) (words : ℕ) (log : Log) (caller base : ℕ) (rows : List Row)
     → (h : CanInstall (start pairs words) log caller base rows)
     → (state_of pairs words (Install caller base rows ∷ log)).pieces base ≡ Some (Change h.change)

@@ -17,7 +17,7 @@ use Rattle.ist_core.specs.Statuses.{undecided}
 use Rattle.ist_core.specs.Slots.{SlotHolds}
 use Rattle.ist_core.proofs.FreezingLemmas.{same_change}
 use Rattle.ist_core.proofs.GrowingLemmas.{change_there}
-use Rattle.ist_links.proofs.ChangeLemmas.{undecided_unresolved}
+use Rattle.laws_links.proofs.ChangeLemmas.{undecided_unresolved}
 use Rattle.ist_rule.specs.declared.view.View.{View}
 use Rattle.ist_core.specs.declared.events.Who.TheVariants.{Caller as CallerOf}
 use Rattle.ist_core.specs.Authors.{whose}
@@ -32,9 +32,9 @@ use Rattle.ist_rows.specs.Building.{HasRefused}
 use Rattle.ist_rows.specs.Rows.{IsCaller}
 use Rattle.ist_dcss.specs.Installing.{IsInstallable, rows_of}
 use Rattle.ist_dcss.proofs.SlotPlaceLemmas.{slot_later}
-use Rattle.ist_outcomes.proofs.BetweenLemmas.{event_by}
-use Rattle.ist_settling.specs.Owning.{HasChange, WasInstalled}
-use Rattle.ist_settling.proofs.OwnLemmas.{change_since}
+use Rattle.laws_walks.proofs.BetweenLemmas.{event_by}
+use Rattle.laws_settling.specs.Owning.{HasChange, WasInstalled}
+use Rattle.laws_settling.proofs.OwnLemmas.{change_since}
 use Rattle.ist_updates.specs.declared.plans.Aim.{Aim}
 use Rattle.ist_updates.specs.declared.plans.Fresh.{Fresh}
 use Rattle.ist_updates.specs.declared.plans.Fresh.TheVariants.{Nothing, Leaf, Pair}
@@ -71,7 +71,7 @@ ever_on : (first : Snapshot) (P : Snapshot → Type 0) (a b : Log) → GoesOn a 
 ever_on first P a _ same_log e = e
 ever_on first P a _ (one_event {log = log} event g) e = inr (ever_on first P a log g e)
 
--- where a caller prepared alone, none of its changes on a node was decided no still
+-- if a caller only prepared, still none of its changes on a node was decided no
 pub unrefused_on : (v w : View) (number node : ℕ) → v.who ≡ CallerOf number → IsResolved v number
     → WentOn Prepares v w → IsUnrefused (now v) number node → IsUnrefused (now w) number node
 unrefused_on v w number node mine resolved g h base change there own at refused =
@@ -210,6 +210,7 @@ pub record IsPrepared (old new : Caller) (aim : Aim) (x : Way) (plan : Plan) : T
   pub installable : IsInstallable new.seat.view plan.base (filling_of plan)
   pub is_for : IsPlanFor new.number aim x plan
 
+-- a planned change whose rows are stored is prepared
 pub prepared : (old first mid new : Caller) (aim : Aim) (x : Way) (plan : Plan)
     → IsAsked old (command_by aim.key x) → HasGone Prepares old first
     → WasAtSlot first.seat.view aim → IsUnrefused (now first.seat.view) first.number aim.node
@@ -230,7 +231,7 @@ prepared old first mid new aim x plan a o at unrefused h planned c s same stored
       is_for = subst (λ n. IsPlanFor n aim x plan) (sym f.number) planned.is_for;
     }
 
--- where it took effect then, it took effect since
+-- if it took effect since the rows were prepared, it took effect since the first view
 pub prepared_taken : (old new : Caller) (aim : Aim) (x : Way) (plan : Plan)
     → IsAsked old (command_by aim.key x) → IsPrepared old new aim x plan
     → IsWay old.seat.view aim.key aim.word x → (w : View)

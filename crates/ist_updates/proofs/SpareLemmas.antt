@@ -1,4 +1,4 @@
--- A row of a kind is none of a build: what the sizes of a caller's builds are once it took one. Serves
+-- A row of a kind belongs to no build: the sizes of a caller's builds once it took such a row. Serves
 -- `take`.
 use Rattle.std.proofs.Common.{◌≡◌, ◌≢◌, ℕ, ◌==◌, ◌||◌, not, Bool, true, false, if◌then◌else◌, List, [], ◌∷◌, ◌++◌, map, filter, None, refl, sym, ap, ap₂, ◌∙◌, inl, inr, ⊎_elim, append-nil, arith}
 use Rattle.std.proofs.lemmas.Bool.Decides.{eqb_tells}
@@ -21,7 +21,7 @@ use Rattle.ist_rows.specs.Rows.{Spares, row_of, with_row, is_base, is_spare, hel
 use Rattle.ist_rows.proofs.CallerGoingLemmas.{base_same, or_any}
 use Rattle.ist_rows.proofs.HeldBehindLemmas.{held_by_own}
 
--- ---- a row of a kind is none of a build
+-- ---- a row of a kind belongs to no build
 
 base_differs : (base x : ℕ) → base ≢ x → (base == x) ≡ false
 base_differs base x ne = ⊎_elim (λ k. absurd (ne k.1)) (λ k. k.0) (eqb_tells base x)
@@ -71,7 +71,7 @@ filter_same p q (x ∷ xs) h =
     ap₂ (λ b ys. if b then x ∷ ys else ys) (h x (inl refl))
     (filter_same p q xs (λ y i. h y (inr i)))
 
--- so the sizes of its builds are as they were
+-- so the sizes of its builds are unchanged
 module _ (pairs : List Pair) (words : ℕ) (log : Log) (number : ℕ) (own : Spares) (kind : Kind)
     (base : ℕ)
     (enabled : EachEnabled (start pairs words) (Reserve number base (kind_words kind) ∷ log))
@@ -93,6 +93,7 @@ module _ (pairs : List Pair) (words : ℕ) (log : Log) (number : ℕ) (own : Spa
       let at_next = enabled.1.base_is in
       omega arith
 
+  -- a row that the caller took as a spare leaves the sizes of its builds unchanged
   pub sizes_taken : build_sizes u number (with_row kind base own) ≡ build_sizes t number own
   sizes_taken =
       ap (λ held. map (λ h. h.size) (filter (λ h. not (is_spare (with_row kind base own) h.base))

@@ -1,4 +1,4 @@
--- What stands in the slot of an update, and the reply that it gives. Serves `carry_out` and
+-- What the slot of an update holds, and the reply that it gives. Serves `carry_out` and
 -- `change_slot`.
 use Rattle.std.proofs.Common.{◌≡◌, ℕ, List, Option, Some, refl, sym, ap, ap₂, ◌∙◌, subst, inl, inr, arith}
 use Rattle.ist_core.specs.declared.states.ChangeRow.{ChangeRow}
@@ -31,16 +31,18 @@ value_stays t u g key leaf row ref is there =
     subst (λ r. value_at t.pieces r key ≡ value_at u.pieces r key) (sym is)
     (ap (λ o. value_in o key) (there ∙ sym (leaf_there t.pieces u.pieces g leaf row there)))
 
--- what stands where an update is to come: nothing, or a leaf
+-- what a slot that an update may change holds: nothing, or a leaf
 pub data StandsFor (t : Snapshot) (word : ℕ) : Type 0 where
   nothing_there : ref_of word ≡ Some Empty → StandsFor t word
   leaf_there_is : (leaf : ℕ) (row : LeafRow) → ref_of word ≡ Some (LeafAt leaf)
       → t.pieces leaf ≡ Some (Leaf row) → StandsFor t word
 
+-- a word that leaves room for a key names nothing or a leaf
 pub room_stands : (t : Snapshot) (key word : ℕ) → HasRoomFor t key word → StandsFor t word
 room_stands t key word (nothing e) = nothing_there e
 room_stands t key word (same_key leaf e l) = leaf_there_is leaf l.row e l.published
 
+-- an update is no start of a rebuild
 pub no_start : {k : ℕ} → k ≡ start_kind → IsUpdate k → ⊥
 no_start e (inl f) = omega arith
 no_start e (inr f) = omega arith
@@ -49,6 +51,7 @@ no_finish : {k : ℕ} → k ≡ finish_kind → IsUpdate k → ⊥
 no_finish e (inl f) = omega arith
 no_finish e (inr f) = omega arith
 
+-- the word that an update's change expects names nothing or a leaf
 pub fits_stands : (first : Snapshot) (log : Log) (row : ChangeRow) (fresh : List Row)
     → FitsKind first log row fresh → IsUpdate row.kind → StandsFor (state first log) row.from
 fits_stands first log row fresh (a_put h) update =
@@ -68,7 +71,7 @@ reply_stays t u g key word (nothing_there e) =
 reply_stays t u g key word (leaf_there_is leaf row e there) =
     value_stays t u g key leaf row (ref_of word) e there
 
--- ---- what stands in the slot
+-- ---- what the slot holds
 
 -- a leaf of a key stays one
 leaf_on : (t u : Snapshot) → AllGrow t.pieces u.pieces → (base key : ℕ) → IsLeafOf t base key
@@ -96,7 +99,7 @@ way_on v w g key word (way.Pair value other other_key) h = (
 )
 way_on v w g key word way.Clear h = (h.0, h.1, leaf_on (now v) (now w) g h.0 key h.2)
 
--- nothing stands there, or a leaf
+-- the slot holds nothing or a leaf
 pub way_stands : (v : View) (key word : ℕ) (x : Way) → IsWay v key word x → StandsFor (now v) word
 way_stands v key word (way.Leaf value) h = room_stands (now v) key word h
 way_stands v key word (way.Pair value other other_key) h =

@@ -140,6 +140,6 @@ serves_tries (Draw c o p) is = tt
 serves_tries (Place c o i w rows) is = tt
 serves_tries (Lose c bases) is = tt
 
--- so is one of preparing
+-- a preparing step is a step of an update
 pub prepares_updates : (event : Event) → Prepares event → Updates event
 prepares_updates event is = tries_updates event (prepares_tries event is)

@@ -1,4 +1,4 @@
--- Words that a caller has stored one behind another into a row. Serves `filling`.
+-- Words that a caller has stored one after another into a row. Serves `filling`.
 use Rattle.std.proofs.Common.{◌≡◌, ◌≢◌, ℕ, zero, suc, ◌+◌, ◌<◌, ◌≤◌, List, [], ◌∷◌, ◌++◌, nat_lt, true, false, if◌then◌else◌, length, take, get_or, Some, refl, sym, ap, ◌∙◌, subst, ⊎_elim, arith}
 use Rattle.std.proofs.lemmas.List.{take_more, length-take-le}
 use Rattle.ist_core.specs.declared.lists.HeldRow.{HeldRow}
@@ -26,7 +26,7 @@ use Rattle.ist_updates.specs.Changing.{fresh_rows, kinds_of}
 use Rattle.ist_updates.specs.Filling.{storing_all, with_own, filled_with, StandAt, KeepsOthers}
 use Rattle.ist_updates.proofs.PairLemmas.{sound_now}
 
--- one word more behind the others
+-- storing one word more, after the others
 storing_all-more : (own : List OwnWord) (place : ℕ) (words : List ℕ) (word : ℕ)
     → storing_all own place (words ++ word ∷ [])
     ≡ record { place = place + length words; word = word } ∷ storing_all own place words
@@ -103,12 +103,13 @@ kinds_apart who s c k j a b first second differ same =
     record { caller = who.number; base = b; size = kind_words j } (c.rows k a first)
     (c.rows j b second) same))
 
--- what the filling of a row comes to
+-- what the filling of a row results in
 pub record HasFilledRow (old new : Caller) (base : ℕ) (words : List ℕ) : Type 0 where
   pub same : new ≡ with_own old new.seat.view.own
   pub stands : StandAt new.seat.view.own base words
   pub others : KeepsOthers (λ at. at ≡ base) old new
 
+-- a caller that stored words into a row of its own has filled it so
 pub row_filled : (old new : Caller) (kind : Kind) (base : ℕ) (words : List ℕ) → IsSound old.seat.view
     → IsCaller old → row_of kind (spares_of old) ≡ Some base → length words ≤ kind_words kind
     → new ≡ filled_with old base words → HasFilledRow old new base words
@@ -139,7 +140,7 @@ row_filled old new kind base words s c held within is =
         (c.rows kind base held))
         (set.held h i))
 
--- words of another row stand still
+-- words of another row are kept
 pub stand_kept : (old new : Caller) (base : ℕ) → KeepsOthers (λ at. at ≡ base) old new
     → (h : HeldRow) → h.caller ≡ old.number → Among h (now old.seat.view).held → h.base ≢ base
     → (words : List ℕ) → length words ≤ h.size → StandAt old.seat.view.own h.base words
@@ -148,7 +149,7 @@ stand_kept old new base kept h mine i out words low stand k less =
     let more : k < h.size = omega arith in
     stand k less ∙ ap Some (sym (kept h mine i out k more))
 
--- what a row of a kind is where other words are its caller's own
+-- the row of a kind stays the same if only the caller's own words change
 held_as : (old mid : Caller) (kind : Kind) (base : ℕ) → mid ≡ with_own old mid.seat.view.own
     → row_of kind (spares_of old) ≡ Some base → row_of kind (spares_of mid) ≡ Some base
 held_as old mid kind base same e = ap (λ (x : Caller). row_of kind (spares_of x)) same ∙ e
@@ -165,7 +166,7 @@ pair_length key leaf other_key other =
 
 module _ (old mid new : Caller) (s : IsSound old.seat.view) (c : IsCaller old) (d : IsCaller mid)
     (same : mid ≡ with_own old mid.seat.view.own) where
-  -- the words of a row of another kind stand still
+  -- the words of a row of another kind are kept
   other_stands : (kind that : Kind) (base other : ℕ) → row_of kind (spares_of old) ≡ Some base
       → row_of that (spares_of old) ≡ Some other → kind_words that ≢ kind_words kind
       → KeepsOthers (λ at. at ≡ base) mid new → (words : List ℕ) → length words ≤ kind_words that
@@ -176,7 +177,7 @@ module _ (old mid new : Caller) (s : IsSound old.seat.view) (c : IsCaller old) (
       (d.rows that other (held_as old mid that other same second))
       (kinds_apart old s c that kind other base second first differ) words low stands
 
-  -- the words of a pair row and its leaf stand
+  -- the words of a pair row and its leaf are stored
   pub pair_stored : (row : ChangeRow) (base leaf other other_key : ℕ) → old.pair ≡ Some base
       → old.leaf ≡ Some leaf → KeepsOthers (λ at. at ≡ base) mid new
       → StandAt mid.seat.view.own leaf (words_of (new_leaf row))
@@ -191,7 +192,7 @@ module _ (old mid new : Caller) (s : IsSound old.seat.view) (c : IsCaller old) (
     ),
   )
 
-  -- the fresh rows stand still while the change's row is filled
+  -- the fresh rows keep their words while the change's row is filled
   pub fresh_kept : (row : ChangeRow) (base : ℕ) (fresh : Fresh) → old.change ≡ Some base
       → AreBasesOf (kinds_of fresh) (spares_of old) (bases_of (fresh_rows row fresh))
       → KeepsOthers (λ at. at ≡ base) mid new → StoredAll mid.seat.view (fresh_rows row fresh)

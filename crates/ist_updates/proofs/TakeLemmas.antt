@@ -96,9 +96,9 @@ module _ (old new : Caller) (kind : Kind) (base : ℕ) (c : IsCaller old)
       let at_next = lawful.enabled.1.base_is in
       omega arith
 
--- ---- what a reserving answers
+-- ---- what a reservation returns
 
--- what a call that reserves tells
+-- what a call that reserves promises
 pub record HasReserved (old new : Caller) (kind : Kind) (words : ℕ) (answer : Result ℕ Full)
     : Type 0 where
   pub caller : IsCaller new
@@ -107,7 +107,7 @@ pub record HasReserved (old new : Caller) (kind : Kind) (words : ℕ) (answer : 
   pub fresh : IsFresh kind old new answer
   pub full : IfErr answer (λ full. IsRefused words kind old new full)
 
--- what it comes to
+-- what a taken row promises
 pub record HasTaken (old new : Caller) (kind : Kind) (words : ℕ) (answer : Result ℕ Full)
     : Type 0 where
   pub gone : HasGone Prepares old new
@@ -204,7 +204,7 @@ module _ (old new : Caller) (kind : Kind) (words : ℕ) (c : IsCaller old) (refu
         );
       }
 
-  -- what it comes to
+  -- so the taken row promises
   pub taken : (answer : Result ℕ Full) → HasReserved old new kind words answer
       → HasTaken old new kind words answer
   taken answer r =

@@ -1,4 +1,4 @@
--- What a try tells: that nothing of the key was found, or that it was, and why the update is refused.
+-- What a try shows: that the key was or wasn't found, and why the update is refused.
 -- Serves `try_empty`, `put_at` and `remove_at`.
 use Rattle.std.proofs.Common.{◌≡◌, ◌≢◌, ◌⊎◌, ℕ, ◌+◌, ◌≤◌, Bool, true, false, length, Result, Ok, Err, IfOk, IfErr, Option, Some, None, refl, sym, ◌∙◌, subst, ⊎_elim}
 use Rattle.std.proofs.Math.Nat.{le_trans}
@@ -16,11 +16,11 @@ use Rattle.ist_rule.specs.declared.view.View.{View}
 use Rattle.ist_rule.specs.Learning.{now, GoesOnTo}
 use Rattle.ist_rule.proofs.GoingOnLemmas.{goes_on_same}
 use Rattle.ist_rule.proofs.WentOnLemmas.{later_by-goes_on, goes_on_went, went_more, went_lawful, looked_went}
-use Rattle.ist_histories.specs.Loads.{IsLoad, log_at}
-use Rattle.ist_histories.specs.Searching.{Searched, of_nothing, of_other, of_key}
-use Rattle.ist_histories.proofs.ChangeLemmas.{changes_rise}
-use Rattle.ist_histories.proofs.LoadOnLemmas.{at_prefix, at_rises, end_on}
-use Rattle.ist_histories.proofs.PositionLemmas.{search_position}
+use Rattle.laws_histories.specs.Loads.{IsLoad, log_at}
+use Rattle.laws_histories.specs.Searching.{Searched, of_nothing, of_other, of_key}
+use Rattle.laws_histories.proofs.ChangeLemmas.{changes_rise}
+use Rattle.laws_histories.proofs.LoadOnLemmas.{at_prefix, at_rises, end_on}
+use Rattle.laws_histories.proofs.PositionLemmas.{search_position}
 use Rattle.ist_find.specs.Searches.{SeesLeaf, Names}
 use Rattle.ist_find.proofs.ReadLemmas.{leaf_on}
 use Rattle.ist_find.specs.Reads.{HasLooked, TellsValue}
@@ -32,7 +32,7 @@ use Rattle.ist_updates.specs.declared.plans.Aim.{Aim}
 use Rattle.ist_rule.specs.Faces.{SeatFace}
 use Rattle.ist_rows.specs.declared.callers.Caller.{Caller}
 use Rattle.ist_updates.specs.declared.updates.Tried.{Tried}
-use Rattle.ist_updates.specs.declared.updates.Tried.TheVariants.{Took, Nothing, Again}
+use Rattle.ist_updates.specs.declared.updates.Tried.TheVariants.{Took, Nothing, Again, Unmet}
 use Rattle.ist_updates.specs.Answering.{IsTried, IsTryRefused}
 use Rattle.ist_updates.specs.Asking.{command_for, IsAsked, Updates}
 use Rattle.ist_updates.specs.Changing.{WasAtSlot, Prepares}
@@ -43,7 +43,7 @@ use Rattle.ist_updates.proofs.GoneLemmas.{short_behind, short_all, loads_gone}
 use Rattle.ist_updates.proofs.StepLemmas.{prepares_none, prepares_updates}
 use Rattle.ist_updates.proofs.SinceLemmas.{taken_since}
 
--- ---- what a leaf tells
+-- ---- what a leaf shows
 
 module _ (v : View) (aim : Aim) (at : WasAtSlot v aim) where
   abbrev b : View
@@ -119,7 +119,7 @@ module _ (v : View) (aim : Aim) (at : WasAtSlot v aim) where
         (has_found b v aim.key aim.node aim.index at.at.came.0 (LeafAt base) (Some row.value) looked
         tells).searched
 
--- ---- for want of words
+-- ---- too few words
 
 module _ (first v w : View) (words : ℕ) (full : Full) (began : BeganSince first v)
     (short : IsShortOf Prepares v words full w) where
@@ -137,7 +137,7 @@ module _ (first v w : View) (words : ℕ) (full : Full) (began : BeganSince firs
         asked = ⊎_elim (λ e. for_leaf e) (λ k. ⊎_elim (λ e. for_pair e) (λ e. for_put e) k) asked;
       }
 
-  -- so is a remove of a key that was found
+  -- a remove of a key that was found is refused
   pub remove_refused : (key node found : ℕ) → full.asked ≡ change_words
       → Searched v.start v.words v.log key v.loads.since node (Some found)
       → IsUpdateRefused first key None words full w
@@ -169,9 +169,9 @@ module _ (first v w : View) (words : ℕ) (full : Full) (began : BeganSince firs
         } asked;
       }
 
--- ---- answers
+-- ---- results
 
--- what was answered of a change that was decided so
+-- what a try returns if its change was decided so
 pub answered : (old new : Caller) (key : ℕ) (value : Option ℕ) (node : ℕ) (told reply : Option ℕ)
     (taken : Bool) (tried : Tried) → (taken ≡ true → tried ≡ Took reply)
     → (taken ≡ false → tried ≡ Again) → told ≡ reply
@@ -200,7 +200,7 @@ module _ (old : Caller) (seat : SeatFace) (key : ℕ) (value : Option ℕ)
       asked_gone Prepares old mid (command_for key value) a
       (loads_gone Prepares old seat a.caller a.refused g) prepares_none
 
-  -- what came of a try behind loads came of one that made them first
+  -- the result of a try after loads is the result of a try that makes them first
   pub tried_behind : (node : ℕ) (new : Caller) (tried : Tried) → IsTried mid key value node new tried
       → IsTried old key value node new tried
   tried_behind node new (Took reply) t =
@@ -208,7 +208,9 @@ module _ (old : Caller) (seat : SeatFace) (key : ℕ) (value : Option ℕ)
       (loads_gone Prepares old seat a.caller a.refused g) new.seat.view node reply reply refl t
   tried_behind node new Nothing t = (t.0, t.1, t.2, t.3 ∙ g.since)
   tried_behind node new Again t = t
+  tried_behind node new Unmet t = t
 
+  -- a try that was refused after loads was refused with them
   pub refused_loads : (words : ℕ) (full : Full) (new : Caller)
       → IsTryRefused mid key value words full new → IsTryRefused old key value words full new
   refused_loads words full new r =
@@ -221,33 +223,43 @@ module _ (old : Caller) (seat : SeatFace) (key : ℕ) (value : Option ℕ)
         };
       }
 
+  -- any result but `Full` after loads is a result of the try with them
   pub ok_behind : (node : ℕ) (new : Caller) (r : Result Tried Full)
       → IfOk r (λ t. IsTried mid key value node new t) → IfOk r (λ t. IsTried old key value node new t)
   ok_behind node new (Ok t) h = tried_behind node new t h
   ok_behind node new (Err full) h = tt
 
+  -- and so is a `Full` after loads
   pub err_behind : (words : ℕ) (new : Caller) (r : Result Tried Full)
       → IfErr r (λ full. IsTryRefused mid key value words full new)
       → IfErr r (λ full. IsTryRefused old key value words full new)
   err_behind words new (Ok t) h = tt
   err_behind words new (Err full) h = refused_loads words full new h
 
--- ---- what an answer tells
+-- ---- what a result promises
 
--- the clauses on each answer follow from what came of the try
+-- the clauses on each result follow from what the try promises
 module _ (old new : Caller) (key : ℕ) (value : Option ℕ) (node : ℕ) (r : Result Tried Full)
     (h : IfOk r (λ t. IsTried old key value node new t)) where
+  -- the update took effect with this reply
   pub told_took : (reply : Option ℕ) → r ≡ Ok (Took reply)
       → HasTaken old.seat.view new.seat.view old.number (command_for key value) node reply
   told_took reply e = subst (λ x. IfOk x (λ t. IsTried old key value node new t)) e h
 
+  -- there was nothing to remove
   pub told_nothing : r ≡ Ok Nothing → (value ≡ None) × HasFoundNone new.seat.view key
       × IsAsked new (command_for key value) × (new.seat.view.loads.since ≡ old.seat.view.loads.since)
   told_nothing e = subst (λ x. IfOk x (λ t. IsTried old key value node new t)) e h
 
+  -- the caller is still asked, after `Again`
   pub told_again : r ≡ Ok Again → IsAsked new (command_for key value)
   told_again e = subst (λ x. IfOk x (λ t. IsTried old key value node new t)) e h
 
+  -- the caller is still asked, after `Unmet`
+  pub told_unmet : r ≡ Ok Unmet → IsAsked new (command_for key value)
+  told_unmet e = subst (λ x. IfOk x (λ t. IsTried old key value node new t)) e h
+
+-- with `Full` the update is refused, counted from any view since which its search began
 pub told_full : (old new : Caller) (key : ℕ) (value : Option ℕ) (words : ℕ) (r : Result Tried Full)
     → IfErr r (λ full. IsTryRefused old key value words full new)
     → IfErr r (λ full. (first : View) → BeganSince first old.seat.view
@@ -255,6 +267,7 @@ pub told_full : (old new : Caller) (key : ℕ) (value : Option ℕ) (words : ℕ
 told_full old new key value words (Ok t) h = tt
 told_full old new key value words (Err full) h = h.cause
 
+-- with `Full` the caller is still asked
 pub told_still : (old new : Caller) (key : ℕ) (value : Option ℕ) (words : ℕ) (r : Result Tried Full)
     → IfErr r (λ full. IsTryRefused old key value words full new)
     → IfErr r (λ full. IsAsked new (command_for key value))

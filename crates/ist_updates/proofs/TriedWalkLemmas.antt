@@ -1,4 +1,4 @@
--- An update that took effect at its slot, as its walk tells it: counted at no row yet. Serves `try_at`.
+-- An update that took effect at its slot, as its walk reports it: not yet counted. Serves `try_at`.
 use Rattle.std.proofs.Common.{◌≡◌, ℕ, List, [], ◌++◌, length, Option, Some, None, sym, ap, ◌∙◌, subst, append-nil, arith}
 use Rattle.ist_core.specs.declared.commands.Command.{Command}
 use Rattle.ist_core.specs.declared.events.Event.{Event}
@@ -16,9 +16,9 @@ use Rattle.ist_rule.specs.Going.{WentOn}
 use Rattle.ist_rule.specs.Learning.{now}
 use Rattle.ist_rule.specs.Standings.{HasMade}
 use Rattle.ist_rule.proofs.WentOnLemmas.{went_who, went_now, went_lawful, went_more, later_by-goes_on}
-use Rattle.ist_walks.specs.Walking.{ComesBy}
-use Rattle.ist_walks.proofs.WalkLemmas.{meeting_on}
-use Rattle.ist_outcomes.specs.Counting.{IsOneUpdate}
+use Rattle.laws_walks.specs.Walking.{ComesBy}
+use Rattle.laws_walks.proofs.WalkLemmas.{meeting_on}
+use Rattle.laws_walks.specs.Counting.{IsOneUpdate}
 use Rattle.ist_rows.specs.declared.callers.Caller.{Caller}
 use Rattle.ist_find.specs.Searches.{HasCome}
 use Rattle.ist_updates.specs.Asking.{Updates, IsAsked}
@@ -43,7 +43,7 @@ tries_update (Draw c rebuild part) t = t
 tries_update (Place c rebuild i word rows) t = t
 tries_update (Lose c bases) t = t
 
--- what is so of the table of a view is so of that of one that it went on to
+-- what holds for a view's table holds for the table of a view that it went on to
 pub went_table : (P : Event → Type 0) (v w : View) → WentOn P v w → (Q : List Pair → ℕ → Type 0)
     → Q v.start v.words → Q w.start w.words
 went_table P v w g Q h =

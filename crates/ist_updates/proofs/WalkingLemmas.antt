@@ -16,14 +16,14 @@ use Rattle.ist_rule.specs.Faces.{SeatFace}
 use Rattle.ist_rule.specs.Going.{WentOn}
 use Rattle.ist_rule.specs.Learning.{now, GoesOnTo}
 use Rattle.ist_rule.proofs.WentOnLemmas.{went_same, went_more, goes_on_went, later_by-goes_on}
-use Rattle.ist_histories.proofs.PositionLemmas.{node_met}
-use Rattle.ist_stability.proofs.LaterLemmas.{ever_later}
-use Rattle.ist_walks.proofs.WalkLemmas.{meeting_comes}
+use Rattle.laws_histories.proofs.PositionLemmas.{node_met}
+use Rattle.laws_stability.proofs.LaterLemmas.{ever_later}
+use Rattle.laws_walks.proofs.WalkLemmas.{meeting_comes}
 use Rattle.ist_rows.specs.declared.callers.Caller.{Caller}
 use Rattle.ist_find.specs.Searches.{HasCome, Came}
 use Rattle.ist_updates.specs.declared.updates.Applied.{Applied}
 use Rattle.ist_updates.specs.declared.walking.Walked.{Walked}
-use Rattle.ist_updates.specs.declared.walking.Walked.TheVariants.{Took, Nothing, Again}
+use Rattle.ist_updates.specs.declared.walking.Walked.TheVariants.{Took, Nothing, Again, Unmet}
 use Rattle.ist_updates.specs.Asking.{Updates, command_for, IsAsked}
 use Rattle.ist_updates.specs.Refusals.{IsUpdateRefused}
 use Rattle.ist_updates.specs.Trying.{Tries, BeganSince}
@@ -42,26 +42,29 @@ module _ (old : Caller) (seat : SeatFace) (g : GoesOnTo old.seat.view seat.view)
   abbrev there : Caller
   there = record old { seat = seat }
 
-  -- what is so of its table was so of that before
+  -- what holds for its table held for the table before
   back : (Q : List Pair → ℕ → Type 0) → Q w.start w.words → Q v.start v.words
   back Q h =
       subst (λ p. Q p v.words) (ap (λ x. x.start) g.same)
       (subst (Q w.start) (ap (λ x. x.words) g.same) h)
 
-  -- what it came to from there, it came to from before
+  -- what it reached from there, it reached from before
   pub went_before : (P : Event → Type 0) (u : View) → WentOn P w u → WentOn P v u
   went_before P u h = went_more P v w u (goes_on_went P v w g) h
 
+  -- a caller that is still asked after the step down is still asked after the whole walk
   pub still_before : (new : Caller) (command : Command) → IsAskedStill there new command
       → IsAskedStill old new command
   still_before new command h =
       record { went = went_before Tries new.seat.view h.went; asked = h.asked }
 
+  -- if there was nothing to remove after the step down, there was nothing in the whole walk
   pub not_there_before : (u : View) (key : ℕ) (value : Option ℕ) → IsNotThere w u key value
       → IsNotThere v u key value
   not_there_before u key value h =
       record { remove = h.remove; found = h.found; since = h.since ∙ g.since }
 
+  -- what holds for each first view of the later view's search holds for each of the earlier view's
   pub refused_before : (R : View → Type 0) → ((first : View) → BeganSince first w → R first)
       → (first : View) → BeganSince first v → R first
   refused_before R h first b =
@@ -92,6 +95,8 @@ module _ (old : Caller) (seat : SeatFace) (g : GoesOnTo old.seat.view seat.view)
   )
   walked_here key value node words (Ok Again) new stays h =
       still_before new (command_for key value) h
+  walked_here key value node words (Ok Unmet) new stays h =
+      still_before new (command_for key value) h
   walked_here key value node words (Err full) new stays h = (
     still_before new (command_for key value) h.0,
     refused_before (λ first. IsUpdateRefused first key value words full new.seat.view) h.1,
@@ -106,6 +111,7 @@ module _ (old : Caller) (seat : SeatFace) (g : GoesOnTo old.seat.view seat.view)
     refused_before (λ first. IsUpdateRefused first key value words full new.seat.view) h.1,
   )
 
+  -- a walk that found nothing to remove from a row below found nothing from this node
   pub nothing_below : (key : ℕ) (value : Option ℕ) (node row words : ℕ) (new : Caller)
       → HasWalked there key value row words (Ok Nothing) new
       → HasWalked old key value node words (Ok Nothing) new
@@ -114,10 +120,17 @@ module _ (old : Caller) (seat : SeatFace) (g : GoesOnTo old.seat.view seat.view)
     not_there_before new.seat.view key value h.1,
   )
 
+  -- a walk that must begin again from a row below must begin again from this node
   pub again_below : (key : ℕ) (value : Option ℕ) (node row words : ℕ) (new : Caller)
       → HasWalked there key value row words (Ok Again) new
       → HasWalked old key value node words (Ok Again) new
   again_below key value node row words new h = still_before new (command_for key value) h
+
+  -- a walk that met another value from a row below met it from this node
+  pub unmet_below : (key : ℕ) (value : Option ℕ) (node row words : ℕ) (new : Caller)
+      → HasWalked there key value row words (Ok Unmet) new
+      → HasWalked old key value node words (Ok Unmet) new
+  unmet_below key value node row words new h = still_before new (command_for key value) h
 
   -- a walk that went on from a row below
   module _ (key : ℕ) (value : Option ℕ) (node index word row : ℕ)
@@ -131,7 +144,7 @@ module _ (old : Caller) (seat : SeatFace) (g : GoesOnTo old.seat.view seat.view)
       abbrev u : View
       u = second.seat.view
 
-      -- what was counted below, by the table and the number of the caller behind it
+      -- what was counted below, by the table and the number of the caller after it
       counted_there : (first : View) (rows : List ℕ) → HasTriedSince first w old.number
           → HasCome w key row rows
           → HasCounted u.start u.words first.log u.log second.number (command_for key value) rows below

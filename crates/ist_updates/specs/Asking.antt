@@ -1,4 +1,4 @@
--- A put or a remove that a caller was asked: how its seat goes on, and what its call may answer.
+-- A put or a remove that a caller was asked: how its seat goes on, and what its call may return.
 use Rattle.std.specs.Prelude.{◌≡◌, ◌≢◌, ℕ, length, Option, Some, None}
 use Rattle.ist_core.specs.declared.calls.Call.{Call}
 use Rattle.ist_core.specs.declared.commands.Command.{Command}
@@ -9,7 +9,7 @@ use Rattle.ist_core.specs.declared.states.ChangeRow.{ChangeRow}
 use Rattle.ist_core.specs.Logs.{Log, GoesOn}
 use Rattle.ist_core.specs.Statuses.{start_kind}
 use Rattle.ist_core.specs.Writing.{first_change}
-use Rattle.ist_histories.specs.Calls.{HasCalls}
+use Rattle.laws_histories.specs.Calls.{HasCalls}
 use Rattle.ist_rule.specs.declared.view.Pending.{Pending}
 use Rattle.ist_rule.specs.Conditions.{IsResolved, CanEnd}
 use Rattle.ist_rule.specs.Standings.{HasMade}
@@ -17,13 +17,13 @@ use Rattle.ist_rows.specs.declared.callers.Caller.{Caller}
 use Rattle.ist_rows.specs.Building.{HasRefused}
 use Rattle.ist_rows.specs.Rows.{IsCaller}
 
--- the put of a value at the key, or with none the remove of the key
+-- the put of a value at the key, or without a value the remove of the key
 abbrev pub command_for : ℕ → Option ℕ → Command
 command_for key (Some value) = Put key value
 command_for key None = Remove key
 
--- the caller is in a call with this command, which began behind its earlier calls and of which nothing
--- took effect; each change that it installed is resolved, and each build that it holds rows of was
+-- the caller is in a call with this command, which began after its earlier calls and has had no effect
+-- yet; each change that the caller installed is resolved, and each build of which it holds rows was
 -- refused
 pub record IsAsked (who : Caller) (command : Command) : Type 0 where
   pub caller : IsCaller who
@@ -40,7 +40,7 @@ pub record IsAsked (who : Caller) (command : Command) : Type 0 where
   pub none_yet : HasMade who.seat.view.start who.seat.view.words who.seat.view.log who.number
       who.seat.view.calls
 
--- the event is a step of an update, or of the help that it gives on its way: no start is installed
+-- the event is a step of an update, or of its help on the way: it installs no start of a rebuild
 abbrev pub Updates : Event → Type 0
 Updates (Enter caller) = ⊥
 Updates (Install caller base rows) =

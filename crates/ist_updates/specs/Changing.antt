@@ -36,9 +36,9 @@ use Rattle.ist_updates.specs.declared.plans.Plan.{Plan}
 use Rattle.ist_updates.specs.declared.plans.Way.{Way}
 use Rattle.ist_updates.specs.declared.plans.Way.TheVariants as way
 
--- ---- where the slot is
+-- ---- at the slot
 
--- the seat made loads alone since it was at the slot, which held the word then
+-- the seat has made only loads since it was at the slot, which held the word then
 pub record WasAtSlot (v : View) (aim : Aim) : Type 0 where
   pub before : View
   pub at : IsAtSlot before aim.key aim.node aim.index aim.word
@@ -53,8 +53,8 @@ Prepares (Reserve caller base size) = Unit {0}
 Prepares (Lose caller bases) = Unit {0}
 Prepares _ = ⊥
 
--- the caller's seat went on by such events; it is a caller still, and its refused builds are refused
--- still
+-- the caller's seat went on by such events only; the caller is still well-formed, and the builds whose
+-- rows it holds are still refused
 pub record HasGone (P : Event → Type 0) (old new : Caller) : Type 0 where
   pub caller : IsCaller new
   pub number : new.number ≡ old.number
@@ -63,13 +63,13 @@ pub record HasGone (P : Event → Type 0) (old new : Caller) : Type 0 where
 
 -- ---- what is put into the slot
 
--- the command that is carried out so
+-- the command that this change of the slot carries out
 abbrev pub command_by : ℕ → Way → Command
 command_by key (way.Leaf value) = Put key value
 command_by key (way.Pair value other other_key) = Put key value
 command_by key way.Clear = Remove key
 
--- what the word of the slot names leaves room for it
+-- the slot holds what such a change may replace
 abbrev pub IsWay : View → ℕ → ℕ → Way → Type 0
 IsWay v key word (way.Leaf value) = HasRoomFor (now v) key word
 IsWay v key word (way.Pair value other other_key) =
@@ -77,12 +77,12 @@ IsWay v key word (way.Pair value other other_key) =
 IsWay v key word way.Clear =
     (leaf : ℕ) × (ref_of word ≡ Some (LeafAt leaf)) × IsLeafOf (now v) leaf key
 
--- so many words may be asked for
+-- such a change may ask for this number of words
 abbrev pub MayAskFor : Way → ℕ → Type 0
 MayAskFor way.Clear asked = asked ≡ change_words
 MayAskFor _ asked = (asked ≡ leaf_words) ⊎ ((asked ≡ pair_words) ⊎ (asked ≡ change_words))
 
--- the caller was refused one of the rows
+-- the table had too few words for one of the rows
 pub record IsWayRefused (v : View) (w : Way) (words : ℕ) (full : Full) (x : View) : Type 0 where
   pub short : IsShortOf Prepares v words full x
   pub asked : MayAskFor w full.asked
@@ -111,7 +111,7 @@ fresh_rows row (Leaf base) = row_at base (new_leaf row) ∷ []
 fresh_rows row (Pair base leaf other other_key) =
     row_at base (pair_row row.key leaf other_key other) ∷ row_at leaf (new_leaf row) ∷ []
 
--- the change with them
+-- the change together with these rows
 abbrev pub filling_of : Plan → Filling
 filling_of plan = record { change = plan.row; fresh = fresh_rows plan.row plan.fresh }
 
@@ -132,7 +132,7 @@ abbrev pub AreGood : Fresh → Type 0
 AreGood (Pair base leaf other other_key) = IsGoodBase leaf × IsGoodBase other
 AreGood _ = Unit {0}
 
--- the plan is one for this slot, by which the caller of this number puts so into it
+-- the plan is for this slot, and its change carries out this command for the caller of this number
 pub record IsPlanFor (number : ℕ) (aim : Aim) (w : Way) (plan : Plan) : Type 0 where
   pub node : plan.row.node ≡ aim.node
   pub index : plan.row.index ≡ aim.index
@@ -143,8 +143,7 @@ pub record IsPlanFor (number : ℕ) (aim : Aim) (w : Way) (plan : Plan) : Type 0
   pub update : IsUpdate plan.row.kind
   pub command : command_of plan.row ≡ Some (command_by aim.key w)
 
--- the caller has the rows of such a plan, and the change fits its kind in the log that the seat has
--- seen
+-- the caller holds the rows of such a plan, and the change fits its kind in the seat's log
 pub record IsPlanned (who : Caller) (aim : Aim) (w : Way) (plan : Plan) : Type 0 where
   pub rows : HasRows who plan
   pub good : AreGood plan.fresh

@@ -1,4 +1,4 @@
--- What an update has counted on its way, and which row it has made due.
+-- At which rows an update was counted, and which row it made due.
 use Rattle.std.specs.Prelude.{◌≡◌, ◌≤◌, ℕ, ◌+◌, List, ◌∷◌, Option, Some, None}
 use Rattle.ist_core.specs.declared.pairs.Pair.{Pair}
 use Rattle.ist_core.specs.Lawful.{state_of}
@@ -16,19 +16,19 @@ use Rattle.ist_core.specs.Arithmetic.{limit}
 use Rattle.ist_core.specs.StartLayout.{start}
 use Rattle.ist_core.specs.Statuses.{decided_yes}
 use Rattle.ist_rule.specs.declared.view.View.{View}
-use Rattle.ist_walks.specs.Walking.{IsChainOf}
+use Rattle.laws_walks.specs.Walking.{IsChainOf}
 use Rattle.ist_rebuild.specs.Starting.{MayStart}
 use Rattle.ist_updates.specs.declared.updates.Due.{Due}
 
 -- ---- counts
 
--- the caller counted a change at the node behind the earlier log
+-- the caller counted at the node after the earlier log
 pub record WasCounted (earlier log : Log) (caller node : ℕ) : Type 0 where
   pub at : Log
   pub since : GoesOn earlier at
   pub until : GoesOn (Count caller node ∷ at) log
 
--- the caller's update was decided yes, and was counted behind the earlier log at each row of its chain
+-- the caller's update was decided yes, and was counted after the earlier log at each row of its chain
 pub record IsCounted (pairs : List Pair) (words : ℕ) (earlier log : Log) (caller : ℕ) (command : Command)
     : Type 0 where
   pub base : ℕ
@@ -43,8 +43,7 @@ pub record IsCounted (pairs : List Pair) (words : ℕ) (earlier log : Log) (call
 
 -- ---- due rows
 
--- a Count of the caller at the node, behind the earlier log, found a count that is at the limit with one
--- more
+-- a Count of the caller after the earlier log brought the node's count to its limit
 pub record CameToLimit (pairs : List Pair) (words : ℕ) (earlier log : Log) (caller node : ℕ)
     : Type 0 where
   pub at : Log
@@ -54,8 +53,8 @@ pub record CameToLimit (pairs : List Pair) (words : ℕ) (earlier log : Log) (ca
   pub published : (state_of pairs words at).pieces node ≡ Some (Inner row)
   pub reached : limit row.size ≤ row.count + 1
 
--- the row came to its limit by the counts of the update, and stands on the chain of each that did so: it
--- is the topmost. A rebuild of it may be started
+-- the row is the topmost that the counts of the update brought to its limit: it is on the chain of
+-- each such row; a rebuild of it may be started
 pub record HasMadeDue (v w : View) (caller parent index target : ℕ) : Type 0 where
   pub may : MayStart w parent index target
   pub due : IsDue may.row
@@ -63,7 +62,7 @@ pub record HasMadeDue (v w : View) (caller parent index target : ℕ) : Type 0 w
   pub top : (node : ℕ) → CameToLimit v.start v.words v.log w.log caller node
       → WasOnChain (start v.start v.words) w.log node target
 
--- which row the counts of the update made due, the topmost, if any
+-- the topmost row that the counts of the update made due, or none
 abbrev pub LeavesDue : View → View → ℕ → Option Due → Type 0
 LeavesDue v w caller None = (node : ℕ) → ¬ (CameToLimit v.start v.words v.log w.log caller node)
 LeavesDue v w caller (Some due) = HasMadeDue v w caller due.parent due.index due.target

@@ -7,7 +7,7 @@ use Rattle.ist_rule.specs.Learning.{now}
 use Rattle.ist_rule.specs.Rule.{own_at}
 use Rattle.ist_rows.specs.declared.callers.Caller.{Caller}
 
--- the own words with these, from the place on
+-- the own words after these are stored from the place on
 abbrev pub storing_all : List OwnWord → ℕ → List ℕ → List OwnWord
 storing_all own place [] = own
 storing_all own place (word ∷ words) =
@@ -22,13 +22,12 @@ with_own who own =
 abbrev pub filled_with : Caller → ℕ → List ℕ → Caller
 filled_with who base words = with_own who (storing_all who.seat.view.own base words)
 
--- the words stand from the base on in the own words
+-- the own words hold these words from the base on
 abbrev pub StandAt : List OwnWord → ℕ → List ℕ → Type 0
 StandAt own base words =
     (k : ℕ) → k < length words → slice_get words k ≡ Some (own_at own (base + k))
 
--- the caller has stored into the rows at some bases alone: the words of its other rows are as they
--- were
+-- the caller has stored only into the rows at such bases: the words of its other rows are unchanged
 abbrev pub KeepsOthers : (ℕ → Type 0) → Caller → Caller → Type 0
 KeepsOthers At old new =
     (h : HeldRow) → h.caller ≡ old.number → Among h (now old.seat.view).held → ¬ (At h.base)

@@ -1,5 +1,5 @@
--- What a walk promises: by which rows it came down, what was counted on its way back, and which row that
--- made due.
+-- What a walk promises: by which rows it came down, what it counted on its way back, and which row
+-- this made due.
 use Rattle.std.specs.Prelude.{◌≡◌, ◌≤◌, ℕ, ◌+◌, Bool, true, false, length, List, ◌++◌, ◌∷◌, Option, Some, None, Result, Ok, Err}
 use Rattle.ist_core.specs.declared.commands.Command.{Command}
 use Rattle.ist_core.specs.declared.events.Event.{Event}
@@ -23,17 +23,17 @@ use Rattle.ist_core.specs.StartLayout.{start}
 use Rattle.ist_rule.specs.declared.view.View.{View}
 use Rattle.ist_core.specs.declared.events.Who.TheVariants.{Caller as CallerOf}
 use Rattle.ist_rule.specs.Conditions.{IsResolved}
-use Rattle.ist_rule.specs.Going.{WentOn}
+use Rattle.ist_rule.specs.Going.{SearchedOn, WentOn}
 use Rattle.ist_rule.specs.Standings.{HasMade}
 use Rattle.ist_rule.specs.Watching.{number_of}
 use Rattle.ist_rows.specs.declared.callers.Caller.{Caller}
-use Rattle.ist_walks.specs.Walking.{ComesBy}
-use Rattle.ist_outcomes.specs.Counting.{IsOneUpdate, CountsFrom}
+use Rattle.laws_walks.specs.Walking.{ComesBy}
+use Rattle.laws_walks.specs.Counting.{IsOneUpdate, CountsFrom}
 use Rattle.ist_find.specs.Searches.{HasCome}
 use Rattle.ist_updates.specs.declared.updates.Applied.{Applied}
 use Rattle.ist_updates.specs.declared.updates.Due.{Due}
 use Rattle.ist_updates.specs.declared.walking.Walked.{Walked}
-use Rattle.ist_updates.specs.declared.walking.Walked.TheVariants.{Took, Nothing, Again}
+use Rattle.ist_updates.specs.declared.walking.Walked.TheVariants.{Took, Nothing, Again, Unmet}
 use Rattle.ist_updates.specs.Asking.{command_for, IsAsked}
 use Rattle.ist_updates.specs.Counting.{WasCounted, CameToLimit}
 use Rattle.ist_updates.specs.Refusals.{IsUpdateRefused}
@@ -48,12 +48,12 @@ pub record MayCount (v : View) (row : ℕ) : Type 0 where
   pub resolved : IsResolved v number
   pub can : CanCount (start v.start v.words) v.log number row
 
--- the Count that an add to the count of a row is
+-- the Count event of an add to the count of a row
 abbrev pub counting : View → ℕ → ℕ → Event
 counting v row found = Count (number_of v.who) row
 
--- of own events the log went on by a Count of the caller at the row alone; whether it found a count that
--- is at the limit with one more is told
+-- the caller's only event since the log was one Count at the row; `reached` says whether it brought
+-- the row's count to its limit
 pub record HasCountedAt (pairs : List Pair) (words : ℕ) (log : Log) (caller row : ℕ) (reached : Bool)
     (longer : Log) : Type 0 where
   pub at : Log
@@ -70,14 +70,14 @@ IsCountAt caller row event = event ≡ Count caller row
 
 -- ---- which row is due
 
--- the row stood in this slot of the parent, which was linked
+-- this slot of the parent held the row at some moment, and the parent was linked
 pub record HasStood (pairs : List Pair) (words : ℕ) (log : Log) (parent index target : ℕ) : Type 0 where
   pub prefix : Log
   pub goes_on : GoesOn prefix log
   pub stood : SlotHolds (state_of pairs words prefix) parent index (word_of (InnerAt target))
   pub linked : WasLinked (start pairs words) log parent
 
--- of the rows that the caller counted at since the earlier log, this is the topmost that came to its limit
+-- this is the topmost row that the caller's counts since the earlier log brought to its limit
 pub record IsTopmost (pairs : List Pair) (words : ℕ) (earlier log : Log) (caller : ℕ) (due : Due)
     : Type 0 where
   pub stood : HasStood pairs words log due.parent due.index due.target
@@ -88,7 +88,7 @@ pub record IsTopmost (pairs : List Pair) (words : ℕ) (earlier log : Log) (call
   pub top : (node : ℕ) → CameToLimit pairs words earlier log caller node
       → WasOnChain (start pairs words) log node due.target
 
--- which row is due by these Counts, if any
+-- the topmost row that is due by these Counts, or none
 abbrev pub IsDueBy : List Pair → ℕ → Log → Log → ℕ → Option Due → Type 0
 IsDueBy pairs words earlier log caller None =
     (node : ℕ) → ¬ (CameToLimit pairs words earlier log caller node)
@@ -96,7 +96,7 @@ IsDueBy pairs words earlier log caller (Some due) = IsTopmost pairs words earlie
 
 -- ---- the way back
 
--- a search came to the node by way of these rows
+-- a search came to the node through these rows
 pub record WasMetBy (pairs : List Pair) (words : ℕ) (log : Log) (node : ℕ) (rows : List ℕ)
     : Type 0 where
   pub key : ℕ
@@ -104,8 +104,8 @@ pub record WasMetBy (pairs : List Pair) (words : ℕ) (log : Log) (node : ℕ) (
   pub last : ℕ
   pub comes : ComesBy pairs words log key began last node rows
 
--- since the earlier log the caller has put or removed so, and counted that at each row of its chain but
--- these, which are the upper ones
+-- since the earlier log the caller's command took effect, and was counted at each row on its way
+-- except these, which are the upper ones
 pub record HasCounted (pairs : List Pair) (words : ℕ) (earlier log : Log) (caller : ℕ)
     (command : Command) (rows : List ℕ) (done : Applied) : Type 0 where
   pub base : ℕ
@@ -120,23 +120,28 @@ pub record HasCounted (pairs : List Pair) (words : ℕ) (earlier log : Log) (cal
 
 -- ---- the walk
 
--- the seat came here from the first view by tries alone, and nothing of its call took effect before that
+-- the seat came here from the first view only by tries, and its call had no effect before that view
 pub record HasTriedSince (first v : View) (caller : ℕ) : Type 0 where
   pub went : WentOn Tries first v
   pub none_yet : HasMade first.start first.words first.log caller first.calls
 
--- the caller made tries alone, of which none took effect
+-- the caller made only tries, of which none took effect
 pub record IsAskedStill (old new : Caller) (command : Command) : Type 0 where
   pub went : WentOn Tries old.seat.view new.seat.view
   pub asked : IsAsked new command
 
--- there is nothing to remove: the search, begun as the seat's was, found no value
+-- the same over any number of walks, each from the anchor
+pub record IsAskedAgain (old new : Caller) (command : Command) : Type 0 where
+  pub went : SearchedOn Tries old.seat.view new.seat.view
+  pub asked : IsAsked new command
+
+-- there is nothing to remove: the search, which began when the first view's did, found no value
 pub record IsNotThere (v w : View) (key : ℕ) (value : Option ℕ) : Type 0 where
   pub remove : value ≡ None
   pub found : HasFoundNone w key
   pub since : w.loads.since ≡ v.loads.since
 
--- what became of the walk from the node on
+-- what each result of the walk from the node on means
 abbrev pub HasWalked : Caller → ℕ → Option ℕ → ℕ → ℕ → Result Walked Full → Caller → Type 0
 HasWalked old key value node words (Ok (Took done)) new =
     (first : View) (rows : List ℕ) → HasTriedSince first old.seat.view old.number
@@ -147,6 +152,7 @@ HasWalked old key value node words (Ok Nothing) new =
     IsAskedStill old new (command_for key value)
     × IsNotThere old.seat.view new.seat.view key value
 HasWalked old key value node words (Ok Again) new = IsAskedStill old new (command_for key value)
+HasWalked old key value node words (Ok Unmet) new = IsAskedStill old new (command_for key value)
 HasWalked old key value node words (Err full) new =
     IsAskedStill old new (command_for key value)
     × ((first : View) → BeganSince first old.seat.view

@@ -1,35 +1,39 @@
 //! Carrying out one put or remove.
-ghost use Rattle.std.specs.Prelude.{◌≡◌, true, None, IfOk, IfErr, OnErr};
+ghost use Rattle.std.specs.Prelude.{◌≡◌, true, None, Ok, IfOk, IfErr, IfSome, OnErr};
 ghost use Rattle.ist_core.specs.Standing.{makes_entry};
 ghost use Rattle.ist_rule.specs.Conditions.{CanGiveUp};
 ghost use Rattle.ist_rule.specs.Faces.{word_count_of};
-ghost use Rattle.ist_rule.specs.Going.{WentOn};
+ghost use Rattle.ist_rule.specs.Going.{SearchedOn};
 ghost use Rattle.ist_rows.specs.Building.{HasRefused};
 ghost use Rattle.ist_rows.specs.Rows.{IsCaller};
 ghost use Rattle.ist_rebuild.specs.Going.{IsQuiet};
 ghost use Rattle.ist_updates.specs.Asking.{command_for, IsAsked, Updates, MayEnd};
 ghost use Rattle.ist_updates.specs.Counting.{IsCounted, LeavesDue};
-ghost use Rattle.ist_updates.specs.Refusals.{IsUpdateRefused};
+ghost use Rattle.ist_updates.specs.Further.{HasWalkedFew};
+ghost use Rattle.ist_updates.specs.Meeting.{IsMetBy, WasMissed};
+ghost use Rattle.ist_updates.specs.Refusals.{WasRefused};
 
-use crate::updates::Applied;
+use crate::updates::{Applied, When};
 use crate::walking::{Walked, descend};
 use ist_core::Full;
 use ist_layout::ANCHOR;
 use ist_rows::Caller;
 use ist_rule::{TreeTable, begin_search, know};
-use std::sync::Wait;
 
-/// Puts the value at the key, or with `None` removes the key: from the anchor down, until it took effect
-/// or there was nothing to remove.
+/// Inserts or replaces the value at the key, or with `None` removes the key. Returns the value that
+/// the key had before.
 ///
-/// It helps each change and rebuild that it meets, and begins again at the anchor. Where it took effect
-/// it was counted at each inner row on its way, from the lowest up, and `due` is the topmost row whose
-/// count came to its limit by that. `Full` comes where a load of the first word in this call left too
-/// few words for a row of the update, or of a rebuild that it met; nothing took effect then. Retries
-/// while others change the same slots, and takes no memory.
-pub fn apply<R: Wait>(
+/// It walks from the anchor down, helps each change and rebuild that it meets, and begins again after
+/// each. Once the update took effect, it is counted at each inner row on its way, from the lowest up.
+/// `due` is the topmost row whose count reached its limit by this.
+///
+/// Returns `Full` if a load of the first word in this call left too few words for a row of the update,
+/// or for a row of a rebuild that it met. Nothing took effect then.
+///
+/// Always returns, and takes no memory. It begins one walk, and another only after the table made
+/// progress since the last one began.
+pub fn apply(
     table: &TreeTable,
-    rt: &R,
     who: &mut Caller,
     key: u64,
     value: Option<u64>,
@@ -41,32 +45,80 @@ pub fn apply<R: Wait>(
     ensures number { who.new.number ≡ who.old.number }
     ensures refused { HasRefused who.new }
     ensures quiet { IsQuiet who.new }
-    ensures went { WentOn Updates who.old.seat.view who.new.seat.view }
+    ensures went { SearchedOn Updates who.old.seat.view who.new.seat.view }
+    ensures few_walks { HasWalkedFew who.old.seat.view who.new.seat.view }
     ensures answered { IfOk result (λ done. MayEnd who.new (command_for key value) done.reply) }
     ensures counted { let v = who.old.seat.view in let command = command_for key value in
         IfOk result (λ done. makes_entry command done.reply ≡ true
         → IsCounted v.start v.words v.log who.new.seat.view.log who.old.number command) }
     ensures due { IfOk result (λ done.
         LeavesDue who.old.seat.view who.new.seat.view who.old.number done.due) }
-    ensures full { IfErr result (λ full. IsUpdateRefused who.old.seat.view key value
+    ensures full { IfErr result (λ full. WasRefused who.old.seat.view key value
+        (word_count_of table.now) full who.new.seat.view) }
+    ensures given_up { IfErr result (λ full. CanGiveUp who.new.seat.view) }
+    ensures none_due { OnErr result
+        (LeavesDue who.old.seat.view who.new.seat.view who.old.number None) }
+{
+    match apply_when(table, who, key, value, When::Always)? {
+        Some(done) => Ok(done),
+        None => unreachable!(),
+    }
+}
+
+/// As `apply`, but takes effect only if the key has the value that `when` names.
+///
+/// Returns `None` if the key had another value at a moment of this call. Nothing took effect then, no
+/// row was brought to its limit, and the call may be given up.
+///
+/// The value is compared after the slot's word was loaded, and the change is installed over that very
+/// word: if the value was replaced in between, the install fails and the walk begins again.
+pub fn apply_when(
+    table: &TreeTable,
+    who: &mut Caller,
+    key: u64,
+    value: Option<u64>,
+    when: When,
+) -> Result<Option<Applied>, Full>
+    requires same_table { who.old.seat.table ≡ table.now.table }
+    requires asked { IsAsked who.old (command_for key value) }
+    ensures same_table { who.new.seat.table ≡ table.now.table }
+    ensures caller { IsCaller who.new }
+    ensures number { who.new.number ≡ who.old.number }
+    ensures refused { HasRefused who.new }
+    ensures quiet { IsQuiet who.new }
+    ensures went { SearchedOn Updates who.old.seat.view who.new.seat.view }
+    ensures few_walks { HasWalkedFew who.old.seat.view who.new.seat.view }
+    ensures answered { IfOk result (λ o. IfSome o (λ done.
+        MayEnd who.new (command_for key value) done.reply)) }
+    ensures counted { let v = who.old.seat.view in let command = command_for key value in
+        IfOk result (λ o. IfSome o (λ done. makes_entry command done.reply ≡ true
+        → IsCounted v.start v.words v.log who.new.seat.view.log who.old.number command)) }
+    ensures due { IfOk result (λ o. IfSome o (λ done.
+        LeavesDue who.old.seat.view who.new.seat.view who.old.number done.due)) }
+    ensures met { IfOk result (λ o. IfSome o (λ done. IsMetBy when done.reply)) }
+    ensures missed { result ≡ Ok None → WasMissed who.old.seat.view who.new.seat.view key when }
+    ensures unmet { result ≡ Ok None → CanGiveUp who.new.seat.view }
+    ensures none_came { result ≡ Ok None
+        → LeavesDue who.old.seat.view who.new.seat.view who.old.number None }
+    ensures full { IfErr result (λ full. WasRefused who.old.seat.view key value
         (word_count_of table.now) full who.new.seat.view) }
     ensures given_up { IfErr result (λ full. CanGiveUp who.new.seat.view) }
     ensures none_due { OnErr result
         (LeavesDue who.old.seat.view who.new.seat.view who.old.number None) }
 {
     know(&who.seat);
-    for _ in rt.forever() {
+    'turns: loop {
         begin_search(table, &mut who.seat);
-        match descend(table, rt, who, key, value, ANCHOR)? {
-            Walked::Took(done) => return Ok(done),
+        match descend(table, who, key, value, when, ANCHOR)? {
+            Walked::Took(done) => return Ok(Some(done)),
             Walked::Nothing => {
-                return Ok(Applied {
+                return Ok(Some(Applied {
                     reply: None,
                     due: None,
-                });
+                }));
             }
+            Walked::Unmet => return Ok(None),
             Walked::Again => {}
         }
     }
-    unreachable!()
 }

@@ -7,6 +7,9 @@ ghost use Rattle.ist_core.specs.References.{ref_of};
 ghost use Rattle.ist_rule.specs.Faces.{word_count_of};
 ghost use Rattle.ist_rule.specs.Learning.{now, GoesOnTo};
 ghost use Rattle.ist_rule.specs.Watching.{IsNode};
+ghost use Rattle.laws_coming.specs.Further.{CameFurther};
+ghost use Rattle.ist_updates.specs.Further.{HasAimed, HoldsElse};
+ghost use Rattle.ist_rule.specs.declared.view.View.{View};
 ghost use Rattle.ist_rows.specs.Building.{HasRefused};
 ghost use Rattle.ist_rows.specs.CallerLaws.{without_rows};
 ghost use Rattle.ist_rows.specs.declared.kinds.Kind.TheVariants as kind;
@@ -28,12 +31,11 @@ use ist_dcss::{Decision, Installed, help, install, is_open};
 use ist_layout::{EMPTY_WORD, PUT_KIND, REMOVE_KIND, Ref, UNDECIDED};
 use ist_rows::{Caller, Kind, drop_pair, reserve};
 use ist_rule::{TreeTable, know};
-use std::sync::Wait;
 
 // ---- rows
 
 // The row of this kind that the caller holds, or a fresh one.
-fn take<R: Wait>(table: &TreeTable, rt: &R, who: &mut Caller, kind: Kind) -> Result<u32, Full>
+fn take(table: &TreeTable, who: &mut Caller, kind: Kind) -> Result<u32, Full>
     requires same_table { who.old.seat.table ≡ table.now.table }
     requires caller { IsCaller who.old }
     requires refused { HasRefused who.old }
@@ -48,8 +50,8 @@ fn take<R: Wait>(table: &TreeTable, rt: &R, who: &mut Caller, kind: Kind) -> Res
         × IsShortOf Prepares who.old.seat.view (word_count_of table.now) full who.new.seat.view) }
 {
     know(&who.seat);
-    // Reserve, where the caller holds none. Meets another caller's.
-    let taken = reserve(table, rt, who, kind);
+    // Reserve, if the caller holds none. Meets another caller's.
+    let taken = reserve(table, who, kind);
     know(&who.seat);
     taken
 }
@@ -65,7 +67,7 @@ fn is_below(pair: Option<u32>, node: u32) -> bool
     }
 }
 
-// Gives up the pair row that the caller holds, where it lies below the node.
+// Gives up the pair row that the caller holds, if it lies below the node.
 fn drop_below(table: &TreeTable, who: &mut Caller, node: u32)
     requires same_table { who.old.seat.table ≡ table.now.table }
     requires caller { IsCaller who.old }
@@ -80,12 +82,12 @@ fn drop_below(table: &TreeTable, who: &mut Caller, node: u32)
     if !is_below(who.pair, node) {
         return;
     }
-    // Lose. Meets no other's step: the row is its caller's alone.
+    // Lose. Meets no other's step: only the caller knows the row.
     drop_pair(table, who, node);
 }
 
 // A pair row above the node: the one that the caller holds, or a fresh one.
-fn take_pair<R: Wait>(table: &TreeTable, rt: &R, who: &mut Caller, node: u32) -> Result<u32, Full>
+fn take_pair(table: &TreeTable, who: &mut Caller, node: u32) -> Result<u32, Full>
     requires same_table { who.old.seat.table ≡ table.now.table }
     requires caller { IsCaller who.old }
     requires refused { HasRefused who.old }
@@ -101,7 +103,7 @@ fn take_pair<R: Wait>(table: &TreeTable, rt: &R, who: &mut Caller, node: u32) ->
 {
     know(&who.seat);
     drop_below(table, who, node);
-    let base = take(table, rt, who, Kind::Pair)?;
+    let base = take(table, who, Kind::Pair)?;
     Ok(base)
 }
 
@@ -124,14 +126,8 @@ fn change_for(aim: Aim, kind: u64, value: u64, to: u64, owner: u32) -> ChangeRow
     }
 }
 
-// A plan to put a leaf where nothing stands, or a leaf of the key.
-fn plan_leaf<R: Wait>(
-    table: &TreeTable,
-    rt: &R,
-    who: &mut Caller,
-    aim: Aim,
-    value: u64,
-) -> Result<Plan, Full>
+// A plan to put a leaf into a slot that is empty or holds a leaf of the key.
+fn plan_leaf(table: &TreeTable, who: &mut Caller, aim: Aim, value: u64) -> Result<Plan, Full>
     requires same_table { who.old.seat.table ≡ table.now.table }
     requires caller { IsCaller who.old }
     requires refused { HasRefused who.old }
@@ -144,8 +140,8 @@ fn plan_leaf<R: Wait>(
         (word_count_of table.now) full who.new.seat.view) }
 {
     know(&who.seat);
-    let leaf = take(table, rt, who, Kind::Leaf)?;
-    let base = take(table, rt, who, Kind::Change)?;
+    let leaf = take(table, who, Kind::Leaf)?;
+    let base = take(table, who, Kind::Change)?;
     know(&who.seat);
     let to = Ref::Leaf { base: leaf }.to_word();
     let row = change_for(aim, PUT_KIND, value, to, who.number);
@@ -153,10 +149,9 @@ fn plan_leaf<R: Wait>(
     Ok(Plan { base, row, fresh })
 }
 
-// A plan to put a pair row where a leaf of another key stands.
-fn plan_pair<R: Wait>(
+// A plan to replace a leaf of another key by a pair row.
+fn plan_pair(
     table: &TreeTable,
-    rt: &R,
     who: &mut Caller,
     aim: Aim,
     value: u64,
@@ -176,10 +171,10 @@ fn plan_pair<R: Wait>(
         IsWayRefused who.old.seat.view w (word_count_of table.now) full who.new.seat.view) }
 {
     know(&who.seat);
-    let leaf = take(table, rt, who, Kind::Leaf)?;
+    let leaf = take(table, who, Kind::Leaf)?;
     know(&who.seat);
-    let pair = take_pair(table, rt, who, aim.node)?;
-    let base = take(table, rt, who, Kind::Change)?;
+    let pair = take_pair(table, who, aim.node)?;
+    let base = take(table, who, Kind::Change)?;
     know(&who.seat);
     let to = Ref::Inner { base: pair }.to_word();
     let row = change_for(aim, PUT_KIND, value, to, who.number);
@@ -192,8 +187,8 @@ fn plan_pair<R: Wait>(
     Ok(Plan { base, row, fresh })
 }
 
-// A plan to take the leaf of the key away.
-fn plan_clear<R: Wait>(table: &TreeTable, rt: &R, who: &mut Caller, aim: Aim) -> Result<Plan, Full>
+// A plan to remove the leaf of the key.
+fn plan_clear(table: &TreeTable, who: &mut Caller, aim: Aim) -> Result<Plan, Full>
     requires same_table { who.old.seat.table ≡ table.now.table }
     requires caller { IsCaller who.old }
     requires refused { HasRefused who.old }
@@ -206,21 +201,15 @@ fn plan_clear<R: Wait>(table: &TreeTable, rt: &R, who: &mut Caller, aim: Aim) ->
         (word_count_of table.now) full who.new.seat.view) }
 {
     know(&who.seat);
-    let base = take(table, rt, who, Kind::Change)?;
+    let base = take(table, who, Kind::Change)?;
     know(&who.seat);
     let row = change_for(aim, REMOVE_KIND, 0, EMPTY_WORD, who.number);
     let fresh = Fresh::Nothing;
     Ok(Plan { base, row, fresh })
 }
 
-// Reserves the rows that it takes, and says how they are to be filled.
-fn plan_for<R: Wait>(
-    table: &TreeTable,
-    rt: &R,
-    who: &mut Caller,
-    aim: Aim,
-    way: Way,
-) -> Result<Plan, Full>
+// Reserves the rows that the change needs, and plans how they will be filled.
+fn plan_for(table: &TreeTable, who: &mut Caller, aim: Aim, way: Way) -> Result<Plan, Full>
     requires same_table { who.old.seat.table ≡ table.now.table }
     requires caller { IsCaller who.old }
     requires refused { HasRefused who.old }
@@ -233,19 +222,19 @@ fn plan_for<R: Wait>(
         (word_count_of table.now) full who.new.seat.view) }
 {
     match way {
-        Way::Leaf { value } => plan_leaf(table, rt, who, aim, value),
+        Way::Leaf { value } => plan_leaf(table, who, aim, value),
         Way::Pair {
             value,
             other,
             other_key,
-        } => plan_pair(table, rt, who, aim, value, other, other_key),
-        Way::Clear => plan_clear(table, rt, who, aim),
+        } => plan_pair(table, who, aim, value, other, other_key),
+        Way::Clear => plan_clear(table, who, aim),
     }
 }
 
 // ---- the change
 
-// The caller holds the rows of the plan no more.
+// Takes the rows of the plan from those that the caller holds.
 fn give_away(who: &mut Caller, fresh: Fresh)
     ensures same { (who.new.seat ≡ who.old.seat) × (who.new.number ≡ who.old.number) }
     ensures rows { let kinds = kind.Change ∷ kinds_of fresh in
@@ -267,7 +256,7 @@ fn give_away(who: &mut Caller, fresh: Fresh)
     who.change = None;
 }
 
-// Installs the change of the plan. Where it stands in its slot the caller holds the rows no more.
+// Installs the change of the plan. If this succeeds, the caller no longer holds the rows.
 fn install_plan(table: &TreeTable, who: &mut Caller, plan: Plan) -> bool
     ghost filling: { Filling }
     requires same_table { who.old.seat.table ≡ table.now.table }
@@ -283,8 +272,9 @@ fn install_plan(table: &TreeTable, who: &mut Caller, plan: Plan) -> bool
     ensures yes { result ≡ true
         → IsInstalled who.old.seat.view plan.base filling who.new.seat.view }
     ensures no { result ≡ false → GoesOnTo who.old.seat.view who.new.seat.view }
+    ensures other { result ≡ false → HoldsElse (now who.new.seat.view) plan.row }
 {
-    // Install, where the slot holds the word still. Meets another caller's, and what a helper left
+    // Install, if the slot still holds the word. Meets another caller's, and what a helper left
     // there.
     match install(table, &mut who.seat, plan.base) {
         Installed::Yes => {
@@ -295,7 +285,7 @@ fn install_plan(table: &TreeTable, who: &mut Caller, plan: Plan) -> bool
     }
 }
 
-// Installs the change of the plan and helps it; answers whether it took effect.
+// Installs the change of the plan and helps it. Returns whether it took effect.
 fn carry_out(table: &TreeTable, who: &mut Caller, plan: Plan) -> bool
     requires same_table { who.old.seat.table ≡ table.now.table }
     requires caller { IsCaller who.old }
@@ -311,6 +301,9 @@ fn carry_out(table: &TreeTable, who: &mut Caller, plan: Plan) -> bool
         plan.row.node (reply_of (now v).pieces plan.row) }
     ensures lost { result ≡ false → (command : Command) → IsAsked who.old command
         → IsAsked who.new command }
+    ensures further { result ≡ false → (first : View) → let row = plan.row in
+        HasAimed first who.old.seat.view row.node row.index row.from
+        → CameFurther first who.new.seat.view }
 {
     know(&who.seat);
     if !install_plan(table, who, plan) {
@@ -324,12 +317,11 @@ fn carry_out(table: &TreeTable, who: &mut Caller, plan: Plan) -> bool
     }
 }
 
-/// Puts so into the slot, where its node is open and it holds the word still.
+/// Changes the slot in this way, if its node is open and the slot still holds the word.
 ///
-/// Answers whether it took effect. `Full` comes where a row for it was wanting.
-pub(crate) fn change_slot<R: Wait>(
+/// Returns whether the change took effect, or `Full` if the table has too few words for a row of it.
+pub(crate) fn change_slot(
     table: &TreeTable,
-    rt: &R,
     who: &mut Caller,
     aim: Aim,
     way: Way,
@@ -345,6 +337,9 @@ pub(crate) fn change_slot<R: Wait>(
         let reply = value_at (now v).pieces (ref_of aim.word) aim.key in
         HasTaken v who.new.seat.view who.old.number (command_by aim.key way) aim.node reply }
     ensures lost { result ≡ Ok false → IsAsked who.new (command_by aim.key way) }
+    ensures further { result ≡ Ok false → (first : View)
+        → HasAimed first who.old.seat.view aim.node aim.index aim.word
+        → CameFurther first who.new.seat.view }
     ensures still { IfErr result (λ full. IsAsked who.new (command_by aim.key way)) }
     ensures full { IfErr result (λ full. IsWayRefused who.old.seat.view way
         (word_count_of table.now) full who.new.seat.view) }
@@ -354,7 +349,7 @@ pub(crate) fn change_slot<R: Wait>(
     if !is_open(table, &mut who.seat, aim.node) {
         return Ok(false);
     }
-    let plan = plan_for(table, rt, who, aim, way)?;
+    let plan = plan_for(table, who, aim, way)?;
     know(&who.seat);
     fill_rows(table, who, plan);
     know(&who.seat);

@@ -1,4 +1,4 @@
-//! Counting an update at the rows of its way.
+//! Counting an update at the rows on its way.
 ghost use Rattle.std.specs.Prelude.{◌≡◌, ℕ, List, [], ◌∷◌, ◌++◌};
 ghost use Rattle.ist_core.specs.declared.commands.Command.{Command};
 ghost use Rattle.ist_core.specs.Deciding.{CanCount};
@@ -18,7 +18,7 @@ use ist_math::limit;
 use ist_rows::Caller;
 use ist_rule::{TreeSeat, TreeTable, add, know, load};
 
-// Counts the caller's update at the row, and answers whether the count came to the row's limit by it.
+// Counts the caller's update at the row, and returns whether the count reached the row's limit by it.
 fn count_at(table: &TreeTable, seat: &mut TreeSeat, row: u32) -> bool
     requires same_table { seat.old.table ≡ table.now.table }
     requires may_count { MayCount seat.old.view row }
@@ -36,8 +36,8 @@ fn count_at(table: &TreeTable, seat: &mut TreeSeat, row: u32) -> bool
     found + 1 >= limit(size)
 }
 
-/// Counts at a row an update that was counted at each row below it, and tells the topmost row that is
-/// due by that: this one, which stood in the slot of its parent, or the one that was due before.
+/// Counts at a row an update that was counted at each row below it. Returns the topmost row that is
+/// due by this: this row, with its parent's slot that held it, or else the row that was due before.
 pub(crate) fn count_update(
     table: &TreeTable,
     who: &mut Caller,
@@ -65,6 +65,7 @@ pub(crate) fn count_update(
         → HasCounted v.start v.words earlier v.log who.old.number command (rows ++ row ∷ []) below
         → HasCounted v.start v.words earlier who.new.seat.view.log who.old.number command rows
         result }
+    ensures reply { result.reply ≡ below.reply }
 {
     if count_at(table, &mut who.seat, row) {
         return Applied {

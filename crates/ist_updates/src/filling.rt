@@ -35,7 +35,7 @@ fn fill_row(table: &TreeTable, who: &mut Caller, kind: Kind, base: u32, words: &
     }
 }
 
-// Fills the row of a leaf, which others don't see.
+// Fills the row of a leaf, which no other caller knows yet.
 fn fill_leaf(table: &TreeTable, who: &mut Caller, base: u32, row: ChangeRow)
     requires same_table { who.old.seat.table ≡ table.now.table }
     requires caller { IsCaller who.old }

@@ -1,9 +1,9 @@
-//! One put or remove of a caller, from the anchor down to its slot and back: it takes effect once, and
-//! is counted at each row of its way.
+//! One put or remove of a caller, from the anchor down to its slot and back up. It takes effect once,
+//! and is counted at each row on its way.
 //!
-//! Read `specs/Asking.antt`, `specs/Counting.antt` and `specs/Refusals.antt`, then `applying.rt`. Stands
-//! on `ist_find`, `ist_rebuild`, `ist_dcss`, `ist_rows` and `ist_rule`, and on the crates of laws below
-//! them.
+//! Read `specs/Asking.antt`, `specs/Counting.antt`, `specs/Refusals.antt` and `specs/Meeting.antt`, then
+//! `applying.rt`. Builds on `ist_find`, `ist_rebuild`, `ist_dcss`, `ist_rows` and `ist_rule`, and on the
+//! crates of laws below them.
 #![tactic(auto)]
 
 mod applying;
@@ -15,5 +15,5 @@ mod trying;
 mod updates;
 mod walking;
 
-pub use applying::apply;
-pub use updates::{Applied, Due};
+pub use applying::{apply, apply_when};
+pub use updates::{Applied, Due, When};

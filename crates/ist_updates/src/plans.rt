@@ -1,4 +1,4 @@
-//! What an update is to do to its slot.
+//! What an update will do to its slot.
 use ist_core::ChangeRow;
 
 /// The slot of a node's child for a key, and the word that it held.
@@ -13,18 +13,18 @@ pub(crate) struct Aim {
 /// What an update puts into its slot.
 #[derive(Clone, Copy, Drop)]
 pub(crate) enum Way {
-    /// A fresh leaf with this value, where nothing stands or a leaf of the key.
+    /// A fresh leaf with this value, if the slot is empty or holds a leaf of the key.
     Leaf {
         value: u64,
     },
-    /// A fresh pair row, over a fresh leaf with this value and the leaf of another key that stands
-    /// there.
+    /// A fresh pair row over a fresh leaf with this value and the leaf of another key that the slot
+    /// holds.
     Pair {
         value: u64,
         other: u32,
         other_key: u64,
     },
-    /// Nothing, where a leaf of the key stands.
+    /// Nothing, if the slot holds a leaf of the key.
     Clear,
 }
 
@@ -44,7 +44,7 @@ pub(crate) enum Fresh {
     },
 }
 
-/// A change as its row at the base is to be filled, and the rows that are published with it.
+/// The change with which its row at the base will be filled, and the rows that are published with it.
 #[derive(Clone, Copy, Drop)]
 pub(crate) struct Plan {
     pub base: u32,

@@ -1,10 +1,14 @@
 //! Trying an update at the slot of its key.
-ghost use Rattle.std.specs.Prelude.{◌≡◌, ℕ, true, false, Option, Some, None, Ok, IfOk, IfErr};
-ghost use Rattle.ist_updates.specs.declared.updates.Tried.TheVariants.{Took, Nothing, Again};
+ghost use Rattle.std.specs.Prelude.{◌≡◌, ◌≢◌, ℕ, true, false, Option, Some, None, Ok, IfOk, IfErr};
+ghost use Rattle.ist_updates.specs.declared.updates.When.{When as WhenOf};
+ghost use Rattle.ist_updates.specs.declared.updates.Tried.TheVariants.{Took, Nothing, Again, Unmet};
+ghost use Rattle.ist_core.specs.Changes.{value_in};
 ghost use Rattle.ist_core.specs.Pieces.{Leaf};
 ghost use Rattle.ist_core.specs.References.{Empty, LeafAt, ChangeAt, RebuildAt, ref_of};
-ghost use Rattle.ist_rule.specs.declared.view.View.{View};
 ghost use Rattle.ist_rule.specs.Learning.{now, GoesOnTo};
+ghost use Rattle.laws_coming.specs.Further.{CameFurther};
+ghost use Rattle.ist_updates.specs.Further.{HasAimed, IsFresh};
+ghost use Rattle.ist_rule.specs.declared.view.View.{View};
 ghost use Rattle.ist_find.specs.Searches.{SeesLeaf};
 ghost use Rattle.ist_updates.specs.Answering.{IsTried, IsTryRefused};
 ghost use Rattle.ist_updates.specs.Changing.{HasGone, WasAtSlot};
@@ -14,12 +18,13 @@ ghost use Rattle.ist_rows.specs.Building.{HasRefused};
 ghost use Rattle.ist_rows.specs.Rows.{IsCaller};
 ghost use Rattle.ist_rebuild.specs.Going.{IsQuiet};
 ghost use Rattle.ist_updates.specs.Asking.{command_for, IsAsked};
+ghost use Rattle.ist_updates.specs.Meeting.{IsMetBy, IsMissedBy, RepliesWith, IsMetAs, HasMissed};
 ghost use Rattle.ist_updates.specs.Refusals.{IsUpdateRefused};
 ghost use Rattle.ist_updates.specs.Trying.{Tries, BeganSince, IsAtSlot, HasTaken, HasFoundNone};
 
 use crate::changing::change_slot;
 use crate::plans::{Aim, Way};
-use crate::updates::Tried;
+use crate::updates::{Tried, When};
 use ist_core::{Full, LeafRow, Reply};
 use ist_dcss::help;
 use ist_find::Child;
@@ -27,12 +32,13 @@ use ist_layout::{LEAF_KEY_OFFSET, LEAF_VALUE_OFFSET, Ref};
 use ist_rebuild::help_rebuild;
 use ist_rows::Caller;
 use ist_rule::{TreeSeat, TreeTable, know, load};
-use std::sync::Wait;
 
-// The answer where a change was decided so.
+// What a try returns if its change was decided so.
 fn answer(taken: bool, reply: Reply) -> Tried
     ensures took { taken ≡ true → result ≡ Took reply }
     ensures again { taken ≡ false → result ≡ Again }
+    ensures only { result ≡ Again → taken ≡ false }
+    ensures replies { RepliesWith reply result }
 {
     if taken {
         Tried::Took(reply)
@@ -41,7 +47,29 @@ fn answer(taken: bool, reply: Reply) -> Tried
     }
 }
 
-// The leaf that stands at the base.
+// Whether the update should take effect if the key has this value.
+fn meets(when: When, had: Reply) -> bool
+    ensures met { result ≡ true → IsMetBy when had }
+    ensures missed { result ≡ false → IsMissedBy when had }
+{
+    match when {
+        When::Always => true,
+        When::Had(value) => had == value,
+    }
+}
+
+// The value that the leaf gives the key.
+fn had_in(leaf: LeafRow, key: u64) -> Reply
+    ensures value { result ≡ value_in (Some (Leaf leaf)) key }
+{
+    if leaf.key == key {
+        Some(leaf.value)
+    } else {
+        None
+    }
+}
+
+// The leaf at the base.
 fn read_leaf(table: &TreeTable, seat: &mut TreeSeat, base: u32) -> LeafRow
     requires same_table { seat.old.table ≡ table.now.table }
     requires leaf { SeesLeaf seat.old.view base }
@@ -56,13 +84,13 @@ fn read_leaf(table: &TreeTable, seat: &mut TreeSeat, base: u32) -> LeafRow
     LeafRow { key, value }
 }
 
-// Tries the update where nothing stands in the slot.
-fn try_empty<R: Wait>(
+// Tries the update at an empty slot.
+fn try_empty(
     table: &TreeTable,
-    rt: &R,
     who: &mut Caller,
     aim: Aim,
     value: Option<u64>,
+    when: When,
 ) -> Result<Tried, Full>
     requires same_table { who.old.seat.table ≡ table.now.table }
     requires asked { IsAsked who.old (command_for aim.key value) }
@@ -73,23 +101,31 @@ fn try_empty<R: Wait>(
     ensures quiet { IsQuiet who.new }
     ensures tried { IfOk result (λ tried.
         IsTried who.old aim.key value aim.node who.new tried) }
+    ensures further { result ≡ Ok Again → (first : View)
+        → HasAimed first who.old.seat.view aim.node aim.index aim.word
+        → CameFurther first who.new.seat.view }
     ensures full { IfErr result (λ full.
         IsTryRefused who.old aim.key value (word_count_of table.now) full who.new) }
+    ensures met { IfOk result (IsMetAs when) }
+    ensures missed { result ≡ Ok Unmet
+        → HasMissed who.old.seat.view who.new.seat.view aim.key when }
 {
     know(&who.seat);
+    if !meets(when, None) {
+        return Ok(Tried::Unmet);
+    }
     match value {
         Some(value) => {
-            let taken = change_slot(table, rt, who, aim, Way::Leaf { value })?;
+            let taken = change_slot(table, who, aim, Way::Leaf { value })?;
             Ok(answer(taken, None))
         }
         None => Ok(Tried::Nothing),
     }
 }
 
-// Puts the value where a leaf stands in the slot.
-fn put_at<R: Wait>(
+// Puts the value into a slot that holds a leaf.
+fn put_at(
     table: &TreeTable,
-    rt: &R,
     who: &mut Caller,
     aim: Aim,
     value: u64,
@@ -106,11 +142,15 @@ fn put_at<R: Wait>(
     ensures quiet { IsQuiet who.new }
     ensures tried { IfOk result (λ tried.
         IsTried who.old aim.key (Some value) aim.node who.new tried) }
+    ensures further { result ≡ Ok Again → (first : View)
+        → HasAimed first who.old.seat.view aim.node aim.index aim.word
+        → CameFurther first who.new.seat.view }
     ensures full { IfErr result (λ full.
         IsTryRefused who.old aim.key (Some value) (word_count_of table.now) full who.new) }
+    ensures had { IfOk result (RepliesWith (value_in (Some (Leaf leaf)) aim.key)) }
 {
     if leaf.key == aim.key {
-        let taken = change_slot(table, rt, who, aim, Way::Leaf { value })?;
+        let taken = change_slot(table, who, aim, Way::Leaf { value })?;
         return Ok(answer(taken, Some(leaf.value)));
     }
     let way = Way::Pair {
@@ -118,14 +158,13 @@ fn put_at<R: Wait>(
         other: base,
         other_key: leaf.key,
     };
-    let beside = change_slot(table, rt, who, aim, way)?;
+    let beside = change_slot(table, who, aim, way)?;
     Ok(answer(beside, None))
 }
 
-// Removes the key where a leaf stands in the slot.
-fn remove_at<R: Wait>(
+// Removes the key from a slot that holds a leaf.
+fn remove_at(
     table: &TreeTable,
-    rt: &R,
     who: &mut Caller,
     aim: Aim,
     base: u32,
@@ -141,24 +180,28 @@ fn remove_at<R: Wait>(
     ensures quiet { IsQuiet who.new }
     ensures tried { IfOk result (λ tried.
         IsTried who.old aim.key None aim.node who.new tried) }
+    ensures further { result ≡ Ok Again → (first : View)
+        → HasAimed first who.old.seat.view aim.node aim.index aim.word
+        → CameFurther first who.new.seat.view }
     ensures full { IfErr result (λ full.
         IsTryRefused who.old aim.key None (word_count_of table.now) full who.new) }
+    ensures had { IfOk result (RepliesWith (value_in (Some (Leaf leaf)) aim.key)) }
 {
     know(&who.seat);
     if leaf.key != aim.key {
         return Ok(Tried::Nothing);
     }
-    let removed = change_slot(table, rt, who, aim, Way::Clear)?;
+    let removed = change_slot(table, who, aim, Way::Clear)?;
     Ok(answer(removed, Some(leaf.value)))
 }
 
-// Tries the update where a leaf stands in the slot.
-fn try_leaf<R: Wait>(
+// Tries the update at a slot that holds a leaf.
+fn try_leaf(
     table: &TreeTable,
-    rt: &R,
     who: &mut Caller,
     aim: Aim,
     value: Option<u64>,
+    when: When,
     base: u32,
 ) -> Result<Tried, Full>
     requires same_table { who.old.seat.table ≡ table.now.table }
@@ -170,19 +213,28 @@ fn try_leaf<R: Wait>(
     ensures quiet { IsQuiet who.new }
     ensures tried { IfOk result (λ tried.
         IsTried who.old aim.key value aim.node who.new tried) }
+    ensures further { result ≡ Ok Again → (first : View)
+        → HasAimed first who.old.seat.view aim.node aim.index aim.word
+        → CameFurther first who.new.seat.view }
     ensures full { IfErr result (λ full.
         IsTryRefused who.old aim.key value (word_count_of table.now) full who.new) }
+    ensures met { IfOk result (IsMetAs when) }
+    ensures missed { result ≡ Ok Unmet
+        → HasMissed who.old.seat.view who.new.seat.view aim.key when }
 {
     know(&who.seat);
     let leaf = read_leaf(table, &mut who.seat, base);
     know(&who.seat);
+    if !meets(when, had_in(leaf, aim.key)) {
+        return Ok(Tried::Unmet);
+    }
     match value {
-        Some(value) => put_at(table, rt, who, aim, value, base, leaf),
-        None => remove_at(table, rt, who, aim, base, leaf),
+        Some(value) => put_at(table, who, aim, value, base, leaf),
+        None => remove_at(table, who, aim, base, leaf),
     }
 }
 
-// Helps the change that stands in the slot.
+// Helps the change in the slot.
 fn help_change(
     table: &TreeTable,
     who: &mut Caller,
@@ -199,6 +251,9 @@ fn help_change(
     ensures quiet { IsQuiet who.new }
     ensures again { result ≡ Again }
     ensures asked { IsAsked who.new (command_for aim.key value) }
+    ensures further { (first : View)
+        → HasAimed first who.old.seat.view aim.node aim.index aim.word
+        → CameFurther first who.new.seat.view }
 {
     know(&who.seat);
     // Okay, Decide and Resolve. Meets another helper's, and a mark of the node.
@@ -206,10 +261,9 @@ fn help_change(
     Tried::Again
 }
 
-// Helps the rebuild that stands in the slot.
-fn help_target<R: Wait>(
+// Helps the rebuild in the slot.
+fn help_target(
     table: &TreeTable,
-    rt: &R,
     who: &mut Caller,
     aim: Aim,
     value: Option<u64>,
@@ -224,22 +278,27 @@ fn help_target<R: Wait>(
     ensures quiet { IsQuiet who.new }
     ensures tried { IfOk result (λ tried.
         IsTried who.old aim.key value aim.node who.new tried) }
+    ensures further { result ≡ Ok Again → (first : View)
+        → HasAimed first who.old.seat.view aim.node aim.index aim.word
+        → CameFurther first who.new.seat.view }
     ensures full { IfErr result (λ full.
         IsTryRefused who.old aim.key value (word_count_of table.now) full who.new) }
+    ensures met { (when : WhenOf) → IfOk result (IsMetAs when) }
+    ensures unmissed { result ≢ Ok Unmet }
 {
     know(&who.seat);
-    // Steps of its help alone, of installs that of its finish. Meets other helpers of the rebuild.
-    help_rebuild(table, rt, who, base)?;
+    // Only steps of its help, and of installs only the finish's. Meets other helpers of the rebuild.
+    help_rebuild(table, who, base)?;
     Ok(Tried::Again)
 }
 
-// Tries the update by what the word of the slot names.
-fn try_word<R: Wait>(
+// Tries the update, according to what the word of the slot names.
+fn try_word(
     table: &TreeTable,
-    rt: &R,
     who: &mut Caller,
     aim: Aim,
     value: Option<u64>,
+    when: When,
 ) -> Result<Tried, Full>
     requires same_table { who.old.seat.table ≡ table.now.table }
     requires asked { IsAsked who.old (command_for aim.key value) }
@@ -249,31 +308,38 @@ fn try_word<R: Wait>(
     ensures quiet { IsQuiet who.new }
     ensures tried { IfOk result (λ tried.
         IsTried who.old aim.key value aim.node who.new tried) }
+    ensures further { result ≡ Ok Again → (first : View)
+        → HasAimed first who.old.seat.view aim.node aim.index aim.word
+        → CameFurther first who.new.seat.view }
     ensures full { IfErr result (λ full.
         IsTryRefused who.old aim.key value (word_count_of table.now) full who.new) }
+    ensures met { IfOk result (IsMetAs when) }
+    ensures missed { result ≡ Ok Unmet
+        → HasMissed who.old.seat.view who.new.seat.view aim.key when }
 {
     know(&who.seat);
     match Ref::from_word(aim.word) {
-        Some(Ref::Empty) => try_empty(table, rt, who, aim, value),
-        Some(Ref::Leaf { base }) => try_leaf(table, rt, who, aim, value, base),
+        Some(Ref::Empty) => try_empty(table, who, aim, value, when),
+        Some(Ref::Leaf { base }) => try_leaf(table, who, aim, value, when, base),
         Some(Ref::Change { base }) => Ok(help_change(table, who, aim, value, base)),
-        Some(Ref::Rebuild { base }) => help_target(table, rt, who, aim, value, base),
+        Some(Ref::Rebuild { base }) => help_target(table, who, aim, value, base),
         Some(Ref::Inner { base: _ }) => unreachable!(),
         Some(Ref::Unset) => unreachable!(),
         None => unreachable!(),
     }
 }
 
-/// Tries the update once at the slot to which its walk came.
+/// Tries the update once, at the slot at which its walk ended.
 ///
-/// A change or a rebuild that stands there is helped, and the walk is to begin again. So it is where the
-/// node isn't open, where the slot held another word by then, and where the update was decided no.
-pub(crate) fn try_slot<R: Wait>(
+/// If the slot holds a change or a rebuild, it is helped, and the walk must begin again. The walk must
+/// also begin again if the node isn't open, if the slot holds another word by then, and if the update
+/// was decided no.
+pub(crate) fn try_slot(
     table: &TreeTable,
-    rt: &R,
     who: &mut Caller,
     key: u64,
     value: Option<u64>,
+    when: When,
     node: u32,
     child: Child,
 ) -> Result<Tried, Full>
@@ -294,6 +360,12 @@ pub(crate) fn try_slot<R: Wait>(
     ensures since { result ≡ Ok Nothing
         → who.new.seat.view.loads.since ≡ who.old.seat.view.loads.since }
     ensures again { result ≡ Ok Again → IsAsked who.new (command_for key value) }
+    ensures further { result ≡ Ok Again → (first : View) → IsFresh first who.old.seat.view node
+        → CameFurther first who.new.seat.view }
+    ensures unmet { result ≡ Ok Unmet → IsAsked who.new (command_for key value) }
+    ensures met { IfOk result (IsMetAs when) }
+    ensures missed { result ≡ Ok Unmet
+        → HasMissed who.old.seat.view who.new.seat.view key when }
     ensures full { IfErr result (λ full. (first : View) → BeganSince first who.old.seat.view
         → IsUpdateRefused first key value (word_count_of table.now) full who.new.seat.view) }
     ensures still { IfErr result (λ full. IsAsked who.new (command_for key value)) }
@@ -305,5 +377,5 @@ pub(crate) fn try_slot<R: Wait>(
         word: child.word,
         key,
     };
-    try_word(table, rt, who, aim, value)
+    try_word(table, who, aim, value, when)
 }

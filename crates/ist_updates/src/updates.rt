@@ -1,7 +1,16 @@
-//! What an update answers.
+//! What an update returns.
 use ist_core::Reply;
 
-/// A row whose count came to its limit, in the slot of its parent.
+/// At which value of its key an update should take effect.
+#[derive(Clone, Copy, Debug, PartialEq, Eq, Drop)]
+pub enum When {
+    /// At any value, and also if the key has no value.
+    Always,
+    /// Only at this value, or with `None` only if the key has no value.
+    Had(Reply),
+}
+
+/// A row whose count reached its limit, with the slot of its parent that holds it.
 #[derive(Clone, Copy, Debug, PartialEq, Eq, Drop)]
 pub struct Due {
     pub parent: u32,
@@ -18,13 +27,15 @@ pub struct Applied {
     pub due: Option<Due>,
 }
 
-/// What came of trying an update at a slot.
+/// The result of trying an update at a slot.
 #[derive(Clone, Copy, Debug, PartialEq, Eq, Drop)]
 pub(crate) enum Tried {
-    /// It took effect, where the key had this value before.
+    /// It took effect, and the key had this value before.
     Took(Reply),
     /// There is nothing to remove.
     Nothing,
-    /// The walk is to begin again.
+    /// The walk must begin again.
     Again,
+    /// The key has a value at which the update shouldn't take effect.
+    Unmet,
 }

@@ -1,5 +1,5 @@
 //! The walk of an update: down to the slot of its key, and back up, counting.
-ghost use Rattle.std.specs.Prelude.{◌≡◌, ◌≢◌, ℕ, None, Some};
+ghost use Rattle.std.specs.Prelude.{◌≡◌, ◌≢◌, ℕ, None, Some, Ok, IfOk};
 ghost use Rattle.ist_core.specs.References.{InnerAt, ref_of};
 ghost use Rattle.ist_rule.specs.Faces.{word_count_of};
 ghost use Rattle.ist_rule.specs.Going.{WentOn};
@@ -9,30 +9,36 @@ ghost use Rattle.ist_find.specs.Searches.{Came};
 ghost use Rattle.ist_rebuild.specs.Going.{IsQuiet};
 ghost use Rattle.ist_updates.specs.Asking.{command_for, IsAsked, Updates};
 ghost use Rattle.ist_updates.specs.Trying.{IsAtSlot};
+ghost use Rattle.ist_updates.specs.Meeting.{IsWalkMet, HasMissed};
 ghost use Rattle.ist_updates.specs.Walking.{HasWalked};
+ghost use Rattle.ist_updates.specs.declared.walking.Walked.TheVariants.{Again, Unmet};
+ghost use Rattle.laws_coming.specs.Further.{CameFurther};
+ghost use Rattle.ist_updates.specs.Further.{IsFresh};
+ghost use Rattle.ist_rule.specs.declared.view.View.{View};
 
 use crate::counting::count_update;
 use crate::trying::try_slot;
-use crate::updates::{Applied, Tried};
+use crate::updates::{Applied, Tried, When};
 use ist_core::Full;
 use ist_find::{Child, step_down};
 use ist_layout::Ref;
 use ist_rows::Caller;
 use ist_rule::TreeTable;
-use std::sync::Wait;
 
-/// What became of a walk.
+/// The result of a walk.
 #[derive(Clone, Copy, Debug, PartialEq, Eq, Drop)]
 pub(crate) enum Walked {
     /// The update took effect, and was counted at each row below the node.
     Took(Applied),
     /// There is nothing to remove.
     Nothing,
-    /// It is to begin again.
+    /// It must begin again.
     Again,
+    /// The key has a value at which the update shouldn't take effect.
+    Unmet,
 }
 
-// The inner row whose word this is, if it is one's.
+// The base of the inner row that the word names, if it names one.
 fn inner_in(word: u64) -> Option<u32>
     ensures inner { (base : ℕ) → result ≡ Some base → ref_of word ≡ Some (InnerAt base) }
     ensures no_inner { result ≡ None → (base : ℕ) → ref_of word ≢ Some (InnerAt base) }
@@ -44,12 +50,12 @@ fn inner_in(word: u64) -> Option<u32>
 }
 
 // Tries the update at the slot in which the walk ends.
-fn try_at<R: Wait>(
+fn try_at(
     table: &TreeTable,
-    rt: &R,
     who: &mut Caller,
     key: u64,
     value: Option<u64>,
+    when: When,
     node: u32,
     child: Child,
 ) -> Result<Walked, Full>
@@ -63,24 +69,29 @@ fn try_at<R: Wait>(
     ensures quiet { IsQuiet who.new }
     ensures went { WentOn Updates who.old.seat.view who.new.seat.view }
     ensures walked { HasWalked who.old key value node (word_count_of table.now) result who.new }
+    ensures further { result ≡ Ok Again → (first : View) → IsFresh first who.old.seat.view node
+        → CameFurther first who.new.seat.view }
+    ensures met { IfOk result (IsWalkMet when) }
+    ensures missed { result ≡ Ok Unmet → HasMissed who.old.seat.view who.new.seat.view key when }
 {
-    match try_slot(table, rt, who, key, value, node, child)? {
+    match try_slot(table, who, key, value, when, node, child)? {
         Tried::Took(reply) => Ok(Walked::Took(Applied { reply, due: None })),
         Tried::Nothing => Ok(Walked::Nothing),
         Tried::Again => Ok(Walked::Again),
+        Tried::Unmet => Ok(Walked::Unmet),
     }
 }
 
-/// Goes down from a node to which the seat's search has come, tries the update at the slot of its key,
-/// and counts it, where it took effect, at each row on the way back.
+/// Goes down from a node that the seat's search has reached, and tries the update at the slot of its
+/// key. If the update took effect, it is counted at each row on the way back.
 ///
-/// Bases rise on the way down, so that it ends, and it takes no memory.
-pub(crate) fn descend<R: Wait>(
+/// The walk ends, since bases rise on the way down. It takes no memory.
+pub(crate) fn descend(
     table: &TreeTable,
-    rt: &R,
     who: &mut Caller,
     key: u64,
     value: Option<u64>,
+    when: When,
     node: u32,
 ) -> Result<Walked, Full>
     requires same_table { who.old.seat.table ≡ table.now.table }
@@ -93,17 +104,22 @@ pub(crate) fn descend<R: Wait>(
     ensures quiet { IsQuiet who.new }
     ensures went { WentOn Updates who.old.seat.view who.new.seat.view }
     ensures walked { HasWalked who.old key value node (word_count_of table.now) result who.new }
+    ensures further { result ≡ Ok Again → (first : View) → IsFresh first who.old.seat.view node
+        → CameFurther first who.new.seat.view }
+    ensures met { IfOk result (IsWalkMet when) }
+    ensures missed { result ≡ Ok Unmet → HasMissed who.old.seat.view who.new.seat.view key when }
 {
     let child = step_down(table, &mut who.seat, node, key);
     let Some(row) = inner_in(child.word) else {
-        return try_at(table, rt, who, key, value, node, child);
+        return try_at(table, who, key, value, when, node, child);
     };
-    match descend(table, rt, who, key, value, row)? {
+    match descend(table, who, key, value, when, row)? {
         Walked::Took(below) => {
             let done = count_update(table, who, node, child.index, row, below);
             Ok(Walked::Took(done))
         }
         Walked::Nothing => Ok(Walked::Nothing),
         Walked::Again => Ok(Walked::Again),
+        Walked::Unmet => Ok(Walked::Unmet),
     }
 }

@@ -28,6 +28,7 @@ pub record AreAlike (a b : List ℕ) : Type 0 where
   pub range : (from to : ℕ) → to ≤ word_at a next_place → slice_range a from to ≡ slice_range b
       from to
 
+-- words that agree also agree the other way round
 pub flip : (a b : List ℕ) → AreAlike a b → AreAlike b a
 flip a b h =
     record {
@@ -160,6 +161,7 @@ module _ (a b : List ℕ) (h : AreAlike a b) where
   read_same (ChangeAt base) = refl
   read_same (RebuildAt base) = refl
 
+  -- words that agree have the same rows at a slot
   pub rows_same : (visit : Visit) (ref : Ref) → rows_read a visit ref ≡ rows_read b visit ref
   rows_same visit ref =
       ap (λ xs. xs ++ row_read a ref) (on_same (ref_of visit.word))
@@ -177,6 +179,7 @@ module _ (a b : List ℕ) (h : AreAlike a b) where
   pairs_same (ChangeAt base) = refl
   pairs_same (RebuildAt base) = refl
 
+  -- words that agree have the same slots below a slot in good shape
   pub below_same : (visit : Visit) (ref : Ref) → IsGoodAs a visit ref → visits_below a visit
       ref ≡ visits_below b visit ref
   below_same visit (InnerAt base) g =
@@ -192,6 +195,7 @@ module _ (a b : List ℕ) (h : AreAlike a b) where
   below_same visit (ChangeAt base) g = refl
   below_same visit (RebuildAt base) g = refl
 
+  -- a walk over some words is a walk over words that agree with them
   pub walk_same : (zs : List Visit) (rows : List Span) (pairs : List Pair) → Walks a zs rows pairs
       → Walks b zs rows pairs
   walk_same _ _ _ ends = ends
@@ -203,7 +207,7 @@ module _ (a b : List ℕ) (h : AreAlike a b) where
       (subst (λ ps. Walks b (visit ∷ visits) (rows_read b visit at.ref ++ rows) (ps ++ pairs))
       (sym (pairs_same at.ref)) (goes_on (shape_same visit at) on))
 
--- where words break, words that agree break too
+-- words that agree break at the same place
 pub break_same : (a b : List ℕ) → AreAlike a b → (seen : List Span) (zs : List Visit) (place : ℕ)
     → BreaksFirstAt a seen zs place → BreaksFirstAt b seen zs place
 break_same a b h seen _ _ (breaks {visit = visit} not) =
@@ -218,7 +222,7 @@ break_same a b h seen _ place (later {visit = visit} {visits = visits} at so on)
     (break_same a b h (read_on seen (rows_read a visit at.ref))
     (visits_below a visit at.ref ++ visits) place on)))
 
--- ---- zeros behind words
+-- ---- zeros after words
 
 module _ (used : List ℕ) (zeros : ℕ) where
   word_same : (place : ℕ) → word_at used place ≡ word_at (used ++ replicate zeros 0) place
@@ -237,6 +241,7 @@ module _ (used : List ℕ) (zeros : ℕ) where
           ∙ zero_at zeros (place - length used))
       at (inr l) = sym (get_or_append_left used (replicate zeros 0) 0 place l.1)
 
+  -- used words agree with themselves followed by zeros
   pub with_zeros : word_at used next_place ≡ length used → AreAlike used (used ++ replicate zeros 0)
   with_zeros full =
       record {
@@ -258,6 +263,7 @@ module _ (used : List ℕ) (zeros : ℕ) where
           ap (λ k. take k (drop from used)) none
           ∙ ap (λ k. take k (drop from (used ++ replicate zeros 0))) (sym none)
 
+  -- lawful words stay lawful with zeros after them
   pub lawful_zeros : first_row ≤ length used → word_at used next_place ≡ length used
       → length used + zeros ≤ place_limit
       → (pairs : List Pair) → AreLawful used pairs → AreLawful (used ++ replicate zeros 0) pairs
@@ -288,6 +294,7 @@ module _ (used : List ℕ) (zeros : ℕ) where
         apart = h.apart;
       }
 
+  -- words with zeros after them break first where they did before
   pub break_zeros : word_at used next_place ≡ length used → (place : ℕ) → BreaksFirstAt used []
       (first_visit used ∷ []) place
       → BreaksFirstAt (used ++ replicate zeros 0) [] (first_visit (used ++ replicate zeros 0) ∷

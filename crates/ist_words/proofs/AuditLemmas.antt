@@ -38,7 +38,7 @@ turned_back : (ys zs xs : List AuditTask) → xs ≡ ys ++ reverse zs → revers
 turned_back ys zs xs e = ap reverse e ∙ reverse-append ys (reverse zs)
     ∙ ap (λ ws. ws ++ reverse ys) (reverse-reverse zs)
 
--- the first task is that of the first slot
+-- the first task is for the first slot
 record IsNext (visits : List Visit) (task : AuditTask) (tasks : List AuditTask) : Type 0 where
   visit : Visit
   rest : List Visit
@@ -67,6 +67,7 @@ no_visit _ _ no_task e = refl
 no_visit _ _ (one_task one more) e = absurd (cc)
 
 module _ (words : List ℕ) (bounds : HasGoodBounds words) where
+  -- before the first task, an audit has found nothing and marked nothing
   pub audit_start : (marks : List Bool) (left none : List AuditTask) (found : List Pair)
       (used first node : ℕ)
       → used ≡ word_at words next_place → first ≡ word_at words 3 → node ≡ 2
@@ -124,6 +125,7 @@ module _ (words : List ℕ) (bounds : HasGoodBounds words) where
       length_same : (n : ℕ) → length (replicate n false) ≡ n
       length_same n = length-replicate n false
 
+  -- a task whose slot passes brings the audit one slot further
   pub audit_step : (marks new : List Bool) (left ys more : List AuditTask)
       (found pairs : List Pair) (task : AuditTask) → HasAudited words marks left found
       → left ≡ ys ++ task ∷ [] → PassesSlot words task marks new ys more found pairs
@@ -168,6 +170,7 @@ module _ (words : List ℕ) (bounds : HasGoodBounds words) where
             (sym it.visits_are) (later good claimed.0 b));
       }
 
+  -- a task whose slot fails is the first place where the words break
   pub audit_fail : (marks : List Bool) (left ys : List AuditTask) (found : List Pair)
       (task : AuditTask) → HasAudited words marks left found
       → left ≡ ys ++ task ∷ [] → FailsSlot words task marks → BreaksFirstAt words []
@@ -181,6 +184,7 @@ module _ (words : List ℕ) (bounds : HasGoodBounds words) where
       (h.broken it.visit.place (subst (λ vs. BreaksFirstAt words h.seen vs it.visit.place)
       (sym it.visits_are) b))
 
+  -- when no task is left, the words are lawful with the pairs that were found
   pub audit_end : (marks : List Bool) (left : List AuditTask) (found : List Pair)
       → HasAudited words marks left found → left ≡ [] → AreLawful words found
   audit_end marks left found h e =
@@ -238,6 +242,7 @@ below_less words visit task (LeafAt base) used is good e = slot_work words (slot
 below_less words visit task (ChangeAt base) used is good e = slot_work words (slot_of_task task)
 below_less words visit task (RebuildAt base) used is good e = slot_work words (slot_of_task task)
 
+-- a task whose slot passes leaves less work
 pub audit_less : (words : List ℕ) → HasGoodBounds words → (marks new : List Bool)
     (left ys more : List AuditTask) (found pairs : List Pair) (task : AuditTask)
     → HasAudited words marks left found → left ≡ ys ++ task ∷ [] → PassesSlot words task marks new

@@ -35,7 +35,7 @@ out_low first last k h = grind (arith, nat_tests)
 out_high : (first last k : ℕ) → last < k → (nat_le first k && nat_le k last) ≡ false
 out_high first last k h = grind (arith, nat_tests)
 
--- the pairs of a slot that lies before those of the interval
+-- a slot before the interval's slots has no pair of the interval
 pub none_low : (keys : List ℕ) (first last i : ℕ) (pairs : List Pair) → i < child_count keys first
     → Each (λ pair. LeadsBy pair.key record { keys = keys; index = i }) pairs
     → pairs_between first last pairs ≡ []
@@ -45,7 +45,7 @@ none_low keys first last i pairs h lie =
     (λ p. (nat_le first p.key && nat_le p.key last) ≡ false) pairs
     (λ p e. out_low first last p.key (child_count_tells keys p.key first (omega arith))) lie)
 
--- of one that lies behind them
+-- a slot after the interval's slots has no pair of the interval
 pub none_high : (keys : List ℕ) (first last i : ℕ) (pairs : List Pair) → child_count keys last < i
     → Each (λ pair. LeadsBy pair.key record { keys = keys; index = i }) pairs
     → pairs_between first last pairs ≡ []

@@ -17,11 +17,12 @@ use Rattle.ist_words.proofs.WalkLemmas.{apart_both, apart_first, apart_second}
 
 -- ---- the rows of a slot
 
+-- rows read one list after another are the joined list read at once
 pub read_on_both : (seen xs ys : List Span) → read_on seen (xs ++ ys) ≡ read_on (read_on seen xs) ys
 read_on_both seen [] ys = refl
 read_on_both seen (x ∷ xs) ys = read_on_both (x ∷ seen) xs ys
 
--- rows are claimed one behind another
+-- rows are claimed one after another
 pub claimed_both : (old mid new : List Bool) (xs ys : List Span) → AreClaimed old mid xs
     → AreClaimed mid new ys → AreClaimed old new (xs ++ ys)
 claimed_both old mid new xs ys one two =
@@ -35,7 +36,7 @@ claimed_both old mid new xs ys one two =
           );
     }
 
--- the first of them are refused, or those behind them
+-- a slot fails if the rows that it leads through are refused
 pub fails_first : (words : List ℕ) (task : AuditTask) (old : List Bool)
     → ((visit : Visit) → visit.word ≡ task.word → IsGood words visit
     → AreRefused old (rows_on words (ref_of task.word)))
@@ -48,6 +49,7 @@ fails_first words task old h =
           (apart_first seen (rows_on words (ref_of visit.word)) (row_read words at.ref) apart));
     }
 
+-- a slot fails if the row that it reads as is refused
 pub fails_second : (words : List ℕ) (task : AuditTask) (old mid : List Bool) (ref : Ref)
     → Reads words task.word ref
     → AreClaimed old mid (rows_on words (ref_of task.word))
@@ -74,7 +76,7 @@ fails_second words task old mid ref reads claimed h =
           (h visit is good).none (read_on seen (rows_on words (ref_of task.word))) a.1 on;
     }
 
--- what follows of an answer from three facts on it
+-- what follows for a result from three facts on it
 pub if_ok_three : {A E : Type 0} (P Q R S : A → Type 0) (r : Result A E)
     → ((x : A) → P x → Q x → R x → S x) → IfOk r P → IfOk r Q → IfOk r R → IfOk r S
 if_ok_three P Q R S (Ok x) f a b c = f x a b c

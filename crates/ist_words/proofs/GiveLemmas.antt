@@ -45,7 +45,7 @@ module _ (words : List ℕ) (first last : ℕ) where
       ∙ ap (λ (xs : List ℕ). map (λ word. record { word = word; node = base }) xs)
       (take_nil (to - i - (from - i)))
 
-  -- a slot before those, or behind them
+  -- a slot before the part is skipped
   part_skip : (base i from to word : ℕ) (ws : List ℕ) → i < from
       → part base i from to (word ∷ ws) ≡ part base (i + 1) from to ws
   part_skip base i from to word ws h =
@@ -248,6 +248,7 @@ module _ (words : List ℕ) (first last : ℕ) where
         (slots_between words first last (reads_in words slot.word) ++ slots) rest
     pub pairs_are : pairs ≡ pairs_at words first last (reads_in words slot.word) ++ rest
 
+  -- the pairs that some slots give are those of the first slot, and then those of the others
   pub visited : (zs : List SlotLeft) (pairs : List Pair) → GiveBetween words first last zs pairs
       → (slot : SlotLeft) (slots : List SlotLeft) → zs ≡ slot ∷ slots
       → IsVisited slot slots pairs

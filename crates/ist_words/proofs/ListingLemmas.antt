@@ -126,7 +126,7 @@ module _ (words : List ℕ) (first last : ℕ) where
   none_left _ _ no_slot e = refl
   none_left _ _ (one_slot visit w more) e = absurd (cc)
 
-  -- where no slot is left, all was found
+  -- if no slot is left, all was found
   pub come_end : (left : List SlotLeft) (found : List Pair) → HasListed words first last left
       found → left ≡ [] → AreListed words first last found
   come_end left found h e =
@@ -140,6 +140,7 @@ module _ (words : List ℕ) (first last : ℕ) where
 
 -- ---- slots of a node, from number k on
 
+-- pushing the slot before the pushed ones leaves the slots of a longer range
 pub pushed : (slots : List ℕ) (base at to word node : ℕ) (left start new : List SlotLeft)
     → 0 < at → at ≤ to → to ≤ length slots → word ≡ get_or slots (at - 1) 0 → node ≡ base
     → left ≡ start ++ reverse (slots_of base (slice_range slots at to))

@@ -45,6 +45,8 @@ module _ (base size : ℕ) (some : 0 < size) where
       ⊎_elim (λ x. omega arith) (λ x. omega arith) h.0
   taken (other ∷ others) k a b (inr c) h = taken others k a b c h.1
 
+  -- if a row is marked of which no word was marked, it is apart from the rows read before, and the
+  -- marks are right with it
   pub claimed : (old new : List Bool) → base + size ≤ length old → length new ≡ length old
       → ((k : ℕ) → base ≤ k → k < base + size → get_or old k false ≡ false)
       → ((k : ℕ) → base ≤ k → k < base + size → get_or new k false ≡ true)

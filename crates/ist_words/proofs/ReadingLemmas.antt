@@ -46,6 +46,7 @@ good_plain words visit (InnerAt base) h = tt
 good_plain words visit (ChangeAt base) h = absurd h
 good_plain words visit (RebuildAt base) h = absurd h
 
+-- what a slot in good shape reads as has its base in the table
 pub good_in_use : (words : List ℕ) (visit : Visit) (ref : Ref) → word_at words next_place ≤ length
     words → length words ≤ place_limit
     → IsGoodAs words visit ref → IsInUse words ref
@@ -105,7 +106,7 @@ pub same_side : (words : List ℕ) (found a b : Ref) → LeavesSide words found 
     → LeavesSide words found b → a ≡ b
 same_side words found a b x y = let e : Some a ≡ Some b = sym x.is ∙ y.is in cc
 
--- where the second step reads nothing, no slot with the word is in good shape
+-- if the second step reads nothing, no slot with the word is in good shape
 pub none_by : (words : List ℕ) (word : ℕ) (found side : Ref) (visit : Visit)
     → word_at words next_place ≤ length words
     → length words ≤ place_limit → ref_of word ≡ Some found → LeavesSide words found side

@@ -30,7 +30,7 @@ ltb_tells a b = at (nat_lt a b) refl
 
 -- ---- keys
 
--- a child is told by the keys on both its sides
+-- a child is determined by the keys on both its sides
 module _ (keys : List ℕ) (rises : IsStrictlyIncreasing keys) (x i : ℕ) (within : i ≤ length keys)
   where
     pub count_told : child_count keys x ≡ i → (0 < i → get_or keys (i - 1) 0 ≤ x)
@@ -155,6 +155,7 @@ tasks_from_are visit task base keys h rises i place (word ∷ words) e =
     one_task (child_is_task visit task base keys i place word h rises (omega arith))
     (tasks_from_are visit task base keys h rises (i + 1) (place + 1) words (omega arith))
 
+-- tasks of joined slots are the joined tasks
 pub tasks_append : (vs : List Visit) (ts : List AuditTask) → AreTasksOf vs ts
     → (ws : List Visit) (us : List AuditTask) → AreTasksOf ws us → AreTasksOf (vs ++ ws) (ts ++ us)
 tasks_append _ _ no_task ws us h = h

@@ -26,6 +26,7 @@ pub record IsSplit (words : List ℕ) (xs ys : List Visit) (rows : List Span) (p
   pub rows_are : rows ≡ rows_here ++ rows_there
   pub pairs_are : pairs ≡ here ++ there
 
+-- a walk over joined slots is a walk over the first and then one over the others
 pub split : (words : List ℕ) (zs : List Visit) (rows : List Span) (pairs : List Pair)
     → Walks words zs rows pairs
     → (xs ys : List Visit) → zs ≡ xs ++ ys → IsSplit words xs ys rows pairs
@@ -122,6 +123,7 @@ among_below words visit way (LeafAt base) a = tt
 among_below words visit way (ChangeAt base) a = tt
 among_below words visit way (RebuildAt base) a = tt
 
+-- if all slots are reached this way, so are the keys of all pairs found in them
 pub all_lie : (words : List ℕ) (way : Way) (zs : List Visit) (rows : List Span)
     (pairs : List Pair) → Walks words zs rows pairs
     → Each (λ v. Among way v.ways) zs → Each (λ pair. LeadsBy pair.key way) pairs
@@ -136,15 +138,18 @@ all_lie words way _ _ _ (goes_on {visit = visit} {visits = visits} {rows = rows}
 
 -- ---- rows that share no word
 
+-- rows of two lists are apart if the first are, and the second are apart from both
 pub apart_both : (seen xs ys : List Span) → AreApart seen xs → AreApart (read_on seen xs) ys
     → AreApart seen (xs ++ ys)
 apart_both seen [] ys h k = k
 apart_both seen (x ∷ xs) ys h k = (h.0, apart_both (x ∷ seen) xs ys h.1 k)
 
+-- if joined rows are apart, the first of them are
 pub apart_first : (seen xs ys : List Span) → AreApart seen (xs ++ ys) → AreApart seen xs
 apart_first seen [] ys h = tt
 apart_first seen (x ∷ xs) ys h = (h.0, apart_first (x ∷ seen) xs ys h.1)
 
+-- if joined rows are apart, the second of them are, once the first were read
 pub apart_second : (seen xs ys : List Span) → AreApart seen (xs ++ ys)
     → AreApart (read_on seen xs) ys
 apart_second seen [] ys h = h

@@ -49,12 +49,13 @@ module _ (words : List ℕ) (fit : (i : ℕ) → get_or words i 0 < 2 ^ 64) wher
       ∙ ap (λ ps. pairs_read words at.ref ++ ps)
       (whole (visits_below words visit at.ref ++ visits) rows pairs w)
 
+  -- the pairs listed from 0 to the largest key are all pairs that the words hold
   pub held_whole : (found : List Pair) → AreListed words 0 18446744073709551615 found
       → HoldPairs words found
   held_whole found h =
       subst (HoldPairs words) (sym (h.2 ∙ whole (first_visit words ∷ []) h.1.rows h.0 h.1.walk)) h.1
 
--- what follows for each answer
+-- what follows for each successful result
 pub if_ok_so : {A E : Type 0} (P Q : A → Type 0) (r : Result A E) → ((x : A) → P x → Q x)
     → IfOk r P → IfOk r Q
 if_ok_so P Q (Ok x) f h = f x h

@@ -119,7 +119,7 @@ work_falls words slot first last used g =
     (slot_of g.visit)) (sym g.good.reads.is)
     (falls words g.visit first last g.good.ref used g.good.reads.is g.good.good))
 
--- so are all the slots of its row
+-- all slots of the row that a slot reads as are less work than the slot
 pub row_falls : (words : List ℕ) (word node base : ℕ) → base < length words → node < base
     → reads_in words word ≡ Some (InnerAt base)
     → work_left words (map (λ w. record { word = w; node = base }) (row_slots words base)) <
@@ -137,5 +137,6 @@ row_falls words word node base here up e =
     (row_slots words base) in
     omega arith
 
+-- each slot is some work
 pub slot_work : (words : List ℕ) (slot : SlotLeft) → 0 < work_of words slot
 slot_work words slot = some_work words (length words - slot.node) slot.word

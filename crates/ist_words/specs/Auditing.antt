@@ -15,16 +15,16 @@ use Rattle.ist_words.specs.RestingWords.{AreLawful, read_on, BreaksFirstAt}
 
 -- ---- marks
 
--- the place is one of a row
+-- the place lies in a row
 abbrev pub IsIn : Span → ℕ → Type 0
 IsIn span place = (span.base ≤ place) × (place < span.base + span.size)
 
--- the place is one of some row
+-- the place lies in one of some rows
 abbrev pub Covered : List Span → ℕ → Type 0
 Covered [] place = ⊥
 Covered (span ∷ spans) place = IsIn span place ⊎ Covered spans place
 
--- the places of these rows are marked, and no others
+-- the places of these rows are marked, and no others; each row has a word
 pub record AreMarked (marks : List Bool) (seen : List Span) : Type 0 where
   pub each : (place : ℕ) → place < length marks → (get_or marks place false ≡ true) ↔ Covered seen
       place
@@ -37,18 +37,18 @@ abbrev pub IsUnderBound : Option ℕ → ℕ → Type 0
 IsUnderBound None key = Unit {0}
 IsUnderBound (Some high) key = key < high
 
--- the key is one of the task's
+-- the key is in the task's interval
 abbrev pub IsInInterval : AuditTask → ℕ → Type 0
 IsInInterval task key = (task.low ≤ key) × IsUnderBound task.high key
 
--- the task is to visit this slot: just the keys of its interval lead there
+-- the task is for this slot: exactly the keys of its interval lead there
 pub record IsTaskOf (visit : Visit) (task : AuditTask) : Type 0 where
   pub place : task.place ≡ visit.place
   pub word : task.word ≡ visit.word
   pub node : task.node ≡ visit.node
   pub leads : (key : ℕ) → IsInInterval task key ↔ Each (LeadsBy key) visit.ways
 
--- so are the tasks
+-- the tasks are for these slots, one each, in order
 pub data AreTasksOf : List Visit → List AuditTask → Type 0 where
   no_task : AreTasksOf [] []
   one_task : {visit : Visit} {visits : List Visit} {task : AuditTask} {tasks : List AuditTask}
@@ -64,7 +64,7 @@ abbrev pub lower_of : Option ℕ → ℕ → ℕ
 lower_of None key = key
 lower_of (Some high) key = min high key
 
--- the key behind those of child i, if there is one
+-- the bound above the keys of child i, if there is one
 abbrev pub high_of : Option ℕ → List ℕ → ℕ → Option ℕ
 high_of high keys i = if nat_lt i (length keys) then Some (lower_of high (get_or keys i 0)) else
     high
@@ -99,23 +99,23 @@ tasks_in_row words base task =
 abbrev pub AllFit : List Bool → List Span → Type 0
 AllFit marks spans = Each (λ span. (0 < span.size) × (span.base + span.size ≤ length marks)) spans
 
--- the rows share no word with those that were read, nor with each other, and their words are marked
--- now
+-- the rows share no word with those that were read, nor with each other, and their words are now
+-- marked
 pub record AreClaimed (old new : List Bool) (spans : List Span) : Type 0 where
   pub all : (seen : List Span) → AreMarked old seen → AreApart seen spans
       × AreMarked new (read_on seen spans)
 
--- one of them does
+-- one of the rows shares a word with a row that was read, or with another of them
 pub record AreRefused (old : List Bool) (spans : List Span) : Type 0 where
   pub none : (seen : List Span) → AreMarked old seen → AreApart seen spans → ⊥
 
--- the slots below go to what is left, the last first
+-- the tasks for the slots below what a slot reads as
 abbrev pub tasks_below : List ℕ → AuditTask → Ref → List AuditTask
 tasks_below words task (InnerAt base) = tasks_in_row words base task
 tasks_below words task _ = []
 
--- the slot of a task is in good shape, its rows are marked now, and what is found there goes where
--- it should
+-- the slot of a task is in good shape, its rows are now marked, and what it holds was added to the
+-- tasks or the pairs
 pub record PassesSlot (words : List ℕ) (task : AuditTask) (old new : List Bool)
     (left more : List AuditTask) (found pairs : List Pair) : Type 0 where
   pub ref : Ref
@@ -125,12 +125,12 @@ pub record PassesSlot (words : List ℕ) (task : AuditTask) (old new : List Bool
   pub tasks : more ≡ left ++ reverse (tasks_below words task ref)
   pub pairs_are : pairs ≡ found ++ pairs_read words ref
 
--- it isn't, or shares a word with what was read
+-- the slot of a task isn't in good shape, or shares a word with a row that was read
 pub record FailsSlot (words : List ℕ) (task : AuditTask) (old : List Bool) : Type 0 where
   pub none : (visit : Visit) → IsTaskOf visit task → (seen : List Span) → AreMarked old seen
       → (at : IsGood words visit) → AreApart seen (rows_read words visit at.ref) → ⊥
 
--- how far an audit has come: what it found, and what is still to be visited, make the walk
+-- how far an audit has come: what it found, and what is still to visit, make the walk
 pub record HasAudited (words : List ℕ) (marks : List Bool) (left : List AuditTask)
     (found : List Pair) : Type 0 where
   pub seen : List Span

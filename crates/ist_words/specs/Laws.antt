@@ -6,7 +6,7 @@ use Rattle.ist_core.specs.RowLayout.{next_place, first_row, place_limit}
 use Rattle.ist_words.specs.WordRows.{word_at}
 use Rattle.ist_words.specs.Walks.{first_visit}
 
--- words hold one list of pairs at most
+-- words hold at most one list of pairs
 abbrev pub PairsAreOne : Type 0
 PairsAreOne = (words : List ℕ) (xs ys : List Pair) → HoldPairs words xs → HoldPairs words ys
     → xs ≡ ys
@@ -17,14 +17,13 @@ LawfulWordsBreakNowhere =
     (words : List ℕ) (pairs : List Pair) → AreLawful words pairs → (place : ℕ)
     → ¬ (BreaksFirstAt words [] (first_visit words ∷ []) place)
 
--- they break at one slot first
+-- words break first at one slot at most
 abbrev pub BreaksAreOne : Type 0
 BreaksAreOne =
     (words : List ℕ) (place other : ℕ) → BreaksFirstAt words [] (first_visit words ∷ []) place
     → BreaksFirstAt words [] (first_visit words ∷ []) other → place ≡ other
 
--- zeros behind the words that are used change nothing: neither what the words hold, nor where they
--- break
+-- zeros after the used words change nothing: neither what the words hold, nor where they break
 abbrev pub ZerosChangeNothing : Type 0
 ZerosChangeNothing =
     (used : List ℕ) (zeros : ℕ) → first_row ≤ length used → word_at used next_place ≡ length used

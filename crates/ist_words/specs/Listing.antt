@@ -6,7 +6,8 @@ use Rattle.ist_words.specs.declared.slots.SlotLeft.{SlotLeft}
 use Rattle.ist_words.specs.RestingWords.{HoldPairs}
 use Rattle.ist_words.specs.Steps.{GiveBetween}
 
--- what was found, and what the slots that are left give, is what the words hold of the interval
+-- what was found, followed by what the slots still to visit give, is what the words hold of the
+-- interval
 pub record HasListed (words : List ℕ) (first last : ℕ) (left : List SlotLeft) (found : List Pair)
     : Type 0 where
   pub pairs : List Pair

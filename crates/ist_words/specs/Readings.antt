@@ -19,14 +19,14 @@ abbrev pub IsInUse : List ℕ → Ref → Type 0
 IsInUse words (InnerAt base) = base < place_limit
 IsInUse words _ = Unit {0}
 
--- a reference reads as this once changes are read away, through a change whose words are in use and
--- whose decision is known
+-- a reference reads as this after changes; the words of the change on the way are in use, and its
+-- decision is known
 pub record LeavesSide (words : List ℕ) (found side : Ref) : Type 0 where
   pub within : Each (IsWithinUsed words) (change_on (Some found))
   pub decision : HasDecision words (Some found)
   pub is : past_change_in words (Some found) ≡ Some side
 
--- a reference that is no change reads as this, through a rebuild whose words are in use
+-- a reference that is no change reads as this; the words of the rebuild on the way are in use
 pub record LeadsPast (words : List ℕ) (found ref : Ref) : Type 0 where
   pub through : Each (IsWithinUsed words) (rebuild_on (Some found))
   pub is : past_rebuild_in words (Some found) ≡ Some ref

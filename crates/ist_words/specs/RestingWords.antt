@@ -28,23 +28,24 @@ pub record HoldPairs (words : List ℕ) (pairs : List Pair) : Type 0 where
 abbrev pub Hold : List ℕ → Type 0
 Hold words = (pairs : List Pair) × HoldPairs words pairs
 
--- the pairs are those of the interval that the words hold
+-- these are the pairs of the interval that the words hold
 abbrev pub AreListed : List ℕ → ℕ → ℕ → List Pair → Type 0
 AreListed words first last found =
     (pairs : List Pair) × HoldPairs words pairs × (found ≡ pairs_between first last pairs)
 
--- and no two rows that the walk reads share a word: these are the lawful words at rest
+-- the words hold these pairs, and no two rows that the walk reads share a word: the words are
+-- lawful at rest
 pub record AreLawful (words : List ℕ) (pairs : List Pair) : Type 0 where
   pub holds : HoldPairs words pairs
   pub apart : AreApart [] holds.rows
 
--- the rows that were read, once these are read too, one by one
+-- the rows that were read, after these are read too, one by one
 abbrev pub read_on : List Span → List Span → List Span
 read_on seen [] = seen
 read_on seen (span ∷ spans) = read_on (span ∷ seen) spans
 
--- the place is that of the first slot of the walk that breaks this, where these rows were read
--- before
+-- the first slot of the walk that isn't in good shape or shares a word is at this place, if these
+-- rows were read before
 pub data BreaksFirstAt (words : List ℕ) : List Span → List Visit → ℕ → Type 0 where
   breaks : {seen : List Span} {visit : Visit} {visits : List Visit}
       → ((at : IsGood words visit) → AreApart seen (rows_read words visit at.ref) → ⊥)

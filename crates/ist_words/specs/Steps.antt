@@ -12,24 +12,25 @@ use Rattle.ist_core.specs.RowLayout.{inner_words}
 use Rattle.ist_words.specs.WordRows.{row_degree, row_keys, row_slots, reads_in, Span, IsWithinUsed}
 use Rattle.ist_words.specs.Walks.{Visit, IsGood, pairs_read, Walks}
 
--- ---- the work that is left: a number that falls with each slot
+-- ---- the work that is left: a number that decreases with each slot
 
 -- the slots of the row that a word reads as
 abbrev pub slots_at : List ℕ → Option Ref → List ℕ
 slots_at words (Some (InnerAt base)) = row_slots words base
 slots_at words _ = []
 
--- how many slots are visited from a word on, down to so many levels
+-- how many slots are visited from a word on, down to this many levels
 unfoldable pub work : List ℕ → ℕ → ℕ → ℕ
 work words zero word = 1
 work words (suc levels) word =
     suc (sum_by (work words levels) (slots_at words (reads_in words word)))
 
--- bases rise on the way down, so below a node there are no more levels than words behind it
+-- the work of a slot; bases increase on the way down, so there are at most as many levels below a
+-- node as words after its base
 abbrev pub work_of : List ℕ → SlotLeft → ℕ
 work_of words slot = work words (length words - slot.node) slot.word
 
--- and below some slots
+-- the work below some slots
 abbrev pub work_left : List ℕ → List SlotLeft → ℕ
 work_left words slots = sum_by (work_of words) slots
 
@@ -39,7 +40,7 @@ work_left words slots = sum_by (work_of words) slots
 abbrev pub slot_of : Visit → SlotLeft
 slot_of visit = record { word = visit.word; node = visit.node }
 
--- from these slots come these pairs of the interval
+-- these slots hold these pairs of the interval
 pub data GiveBetween (words : List ℕ) (first last : ℕ) : List SlotLeft → List Pair → Type 0 where
   no_slot : GiveBetween words first last [] []
   one_slot : {slots : List SlotLeft} {rows : List Span} {pairs rest : List Pair} (visit : Visit)
@@ -59,18 +60,18 @@ slots_between words first last (Some (InnerAt base)) =
     slots_of base (slice_range (row_slots words base) from to)
 slots_between words first last _ = []
 
--- the pair of the interval that a slot reads as
+-- the pairs of the interval that a slot reads as
 abbrev pub pairs_at : List ℕ → ℕ → ℕ → Option Ref → List Pair
 pairs_at words first last (Some ref) = pairs_between first last (pairs_read words ref)
 pairs_at words first last None = []
 
--- the slot is that of a visit in good shape
+-- the slot belongs to a visit in good shape
 pub record IsGoodSlot (words : List ℕ) (slot : SlotLeft) : Type 0 where
   pub visit : Visit
   pub slot_is : slot_of visit ≡ slot
   pub good : IsGood words visit
 
--- the slot reads as an inner row in good shape
+-- an inner row in good shape is at this base
 pub record IsRowHere (words : List ℕ) (base : ℕ) : Type 0 where
   pub within : IsWithinUsed words record { base = base; size = inner_words (row_degree words base) }
   pub degree : 2 ≤ row_degree words base

@@ -1,6 +1,6 @@
--- The walk over the words of a table at rest: from the anchor's slot on, slot by slot, down before
--- on. It is a relation
--- between the slots that are still to be visited and what is found in them.
+-- The walk over the words of a table at rest: from the anchor's slot on, slot by slot, each subtree
+-- before the next slot. It is a relation between the slots still to visit and what is found in
+-- them.
 use Rattle.std.specs.Prelude.{◌≡◌, ℕ, ◌+◌, ◌<◌, ◌≤◌, List, [], ◌∷◌, ◌++◌, Option, Some, is_some}
 use Rattle.std.specs.Prelude.{true}
 use Rattle.std.specs.List.Sorted.{IsStrictlyIncreasing}
@@ -20,8 +20,8 @@ pub record Way : Type 0 where
   pub keys : List ℕ
   pub index : ℕ
 
--- a slot that is to be visited: its place, its word, the node that it is of, and the ways that led
--- to it, the last first
+-- a slot still to visit: its place, its word, the node that it belongs to, and the ways that led to
+-- it, the last first
 pub record Visit : Type 0 where
   pub place : ℕ
   pub word : ℕ
@@ -32,20 +32,20 @@ pub record Visit : Type 0 where
 abbrev pub LeadsBy : ℕ → Way → Type 0
 LeadsBy key way = child_count way.keys key ≡ way.index
 
--- ---- what may stand in a slot
+-- ---- what a slot may hold
 
 -- the decision of a change is known
 abbrev pub HasDecision : List ℕ → Option Ref → Type 0
 HasDecision words (Some (ChangeAt base)) = word_at words base ≤ 2
 HasDecision words ref = Unit {0}
 
--- the leaf lies where its key leads
+-- the leaf is where its key leads
 pub record IsGoodLeaf (words : List ℕ) (visit : Visit) (base : ℕ) : Type 0 where
   pub within : IsWithinUsed words record { base = base; size = leaf_words }
   pub lies : Each (LeadsBy (leaf_key words base)) visit.ways
 
--- the inner row has a status, a degree, a size and rising keys, and lies above the node whose slot
--- led to it
+-- the inner row has a status, a degree, a size and strictly increasing keys, and its base is above
+-- the node whose slot led to it
 pub record IsGoodRow (words : List ℕ) (node base : ℕ) : Type 0 where
   pub within : IsWithinUsed words record { base = base; size = inner_words (row_degree words base) }
   pub status : is_some (status_of (word_at words base)) ≡ true
@@ -63,7 +63,7 @@ IsGoodAs words visit (InnerAt base) = IsGoodRow words visit.node base
 IsGoodAs words visit (ChangeAt base) = ⊥
 IsGoodAs words visit (RebuildAt base) = ⊥
 
--- the word reads as this, through rows in good shape
+-- the word reads as this, through rows whose words are in use
 pub record Reads (words : List ℕ) (word : ℕ) (ref : Ref) : Type 0 where
   pub decision : HasDecision words (ref_of word)
   pub through : Each (IsWithinUsed words) (rows_on words (ref_of word))
@@ -88,7 +88,7 @@ row_read words _ = []
 abbrev pub rows_read : List ℕ → Visit → Ref → List Span
 rows_read words visit ref = rows_on words (ref_of visit.word) ++ row_read words ref
 
--- the pair that is found
+-- the pairs that are found
 abbrev pub pairs_read : List ℕ → Ref → List Pair
 pairs_read words (LeafAt base) = record {
   key = leaf_key words base;
@@ -97,7 +97,7 @@ pairs_read words (LeafAt base) = record {
 } ∷ []
 pairs_read words _ = []
 
--- the slots of a row from number i on, which stand from the place on
+-- the slots of a row from number i on; the first of them is at the place
 abbrev pub visits_from : ℕ → List Way → List ℕ → ℕ → ℕ → List ℕ → List Visit
 visits_from node ways keys i place [] = []
 visits_from node ways keys i place (word ∷ words) =
@@ -137,11 +137,11 @@ first_visit words = record {
   ways = [];
 }
 
--- no row shares a word with one before it
+-- the row shares no word with any of the others
 abbrev pub IsApartFrom : List Span → Span → Type 0
 IsApartFrom others span = Each (λ other. Apart other.base other.size span.base span.size) others
 
--- each row shares no word with those in the first list, nor with one before it
+-- each row shares no word with the rows of the first list, nor with one before it
 abbrev pub AreApart : List Span → List Span → Type 0
 AreApart seen [] = Unit {0}
 AreApart seen (span ∷ spans) = IsApartFrom seen span × AreApart (span ∷ seen) spans

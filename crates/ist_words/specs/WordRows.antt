@@ -1,4 +1,4 @@
--- The rows of a table as they are read from its words alone, and what a slot word reads as.
+-- The rows of a table as they are read from its words only, and what a slot word reads as.
 use Rattle.std.specs.Prelude.{ℕ, ◌+◌, ◌≤◌, ◌==◌, if◌then◌else◌, List, [], ◌∷◌, ◌++◌, get_or}
 use Rattle.std.specs.Prelude.{slice_range, Option, Some}
 use Rattle.ist_core.specs.RowLayout.{next_place, first_row, change_words, rebuild_words}
@@ -31,11 +31,11 @@ row_degree words base = word_at words (base + inner_degree_offset)
 abbrev pub row_size : List ℕ → ℕ → ℕ
 row_size words base = word_at words (base + inner_size_offset)
 
--- the keys of an inner row, behind its four fields
+-- the keys of an inner row, after its four fields
 abbrev pub row_keys : List ℕ → ℕ → List ℕ
 row_keys words base = slice_range words (base + 4) (base + 3 + row_degree words base)
 
--- the words of its slots, behind the keys
+-- the words of its slots, after the keys
 abbrev pub row_slots : List ℕ → ℕ → List ℕ
 row_slots words base =
     slice_range words (base + 3 + row_degree words base) (base + 3 + row_degree words base +
@@ -49,28 +49,29 @@ side_in words base =
     if word_at words base == decided_yes then word_at words (base + change_to_offset)
     else word_at words (base + change_from_offset)
 
--- what a reference reads as once changes are read away
+-- what a reference reads as after changes
 abbrev pub past_change_in : List ℕ → Option Ref → Option Ref
 past_change_in words (Some (ChangeAt base)) = ref_of (side_in words base)
 past_change_in words ref = ref
 
--- what a reference reads as once rebuilds are read away
+-- what a reference reads as after rebuilds
 abbrev pub past_rebuild_in : List ℕ → Option Ref → Option Ref
 past_rebuild_in words (Some (RebuildAt base)) = Some (InnerAt (word_at words base))
 past_rebuild_in words ref = ref
 
--- a change as the side that its decision leaves, and a rebuild, also one so read, as its target
+-- what a word reads as: a change as the side that its decision leaves, and a rebuild, also after a
+-- change, as its target
 abbrev pub reads_in : List ℕ → ℕ → Option Ref
 reads_in words word = past_rebuild_in words (past_change_in words (ref_of word))
 
 -- ---- which rows are read
 
--- some words, one behind another, from the base on
+-- consecutive words from the base on
 pub record Span : Type 0 where
   pub base : ℕ
   pub size : ℕ
 
--- the words lie behind the fixed words and below the first free one
+-- the words lie after the fixed words and below the first free one
 pub record IsWithinUsed (words : List ℕ) (span : Span) : Type 0 where
   pub behind_fixed : first_row ≤ span.base
   pub below_next : span.base + span.size ≤ word_at words next_place

@@ -1,4 +1,4 @@
-//! Are the words lawful at rest? Words that anyone may have written are walked slot by slot.
+//! Whether words are lawful at rest: words from any source are walked slot by slot.
 ghost use Rattle.std.specs.Prelude.{◌≡◌, ℕ, ◌+◌, ◌*◌, ◌<◌, ◌≤◌, ◌^◌, ◌++◌, ◌∷◌, ◌↔◌, [], List};
 ghost use Rattle.std.specs.Prelude.{length, reverse, IfOk, IfErr, OnOk, IfSome, IsTrue, Some, None};
 ghost use Rattle.std.specs.List.Sorted.{IsStrictlyIncreasing};
@@ -31,7 +31,8 @@ use ist_layout::{
 };
 use std::alloc::{AllocError, Global};
 
-/// Marks the words of the change, if the reference is one.
+/// Marks the words of the change, if the reference is one. Returns false if one of them was marked
+/// before.
 fn claim_change(marks: &mut Vec<bool>, found: Ref) -> bool
     requires within { AllFit marks.old.items (change_on (Some (ref_meant found))) }
     ensures length { length marks.new.items ≡ length marks.old.items }
@@ -47,7 +48,8 @@ fn claim_change(marks: &mut Vec<bool>, found: Ref) -> bool
     }
 }
 
-/// Marks the words of the rebuild, if the reference is one.
+/// Marks the words of the rebuild, if the reference is one. Returns false if one of them was marked
+/// before.
 fn claim_rebuild(marks: &mut Vec<bool>, side: Ref) -> bool
     requires within { AllFit marks.old.items (rebuild_on (Some (ref_meant side))) }
     ensures length { length marks.new.items ≡ length marks.old.items }
@@ -62,7 +64,7 @@ fn claim_rebuild(marks: &mut Vec<bool>, side: Ref) -> bool
     }
 }
 
-/// Do the keys of the row rise?
+/// Returns whether the keys of the row are strictly increasing.
 fn do_rise<W: WordList>(words: &W, base: u32, degree: u64) -> bool
     requires used { word_at (W.list words.now) next_place ≤ length (W.list words.now) }
     requires most { length (W.list words.now) ≤ place_limit }
@@ -81,7 +83,7 @@ fn do_rise<W: WordList>(words: &W, base: u32, degree: u64) -> bool
     true
 }
 
-/// Is the inner row in good shape, for a slot of this node?
+/// Returns whether the inner row is in good shape, for a slot of this node.
 fn is_good_row<W: WordList>(words: &W, base: u32, node: u64) -> bool
     requires some { first_row ≤ length (W.list words.now) }
     requires used { word_at (W.list words.now) next_place ≤ length (W.list words.now) }
@@ -106,7 +108,7 @@ fn is_good_row<W: WordList>(words: &W, base: u32, node: u64) -> bool
     words.word(at + INNER_SIZE_OFFSET) >= 2 && node < at && do_rise(words, base, degree)
 }
 
-/// Is the key one of the task's interval?
+/// Returns whether the key is in the task's interval.
 fn is_for(task: &AuditTask, key: u64) -> bool
     ensures exact { IsTrue result ↔ IsInInterval task.now key }
 {
@@ -117,7 +119,7 @@ fn is_for(task: &AuditTask, key: u64) -> bool
         }
 }
 
-/// The lowest key of child `i` of a row whose least key is `low`.
+/// Returns the lowest key of child `i` of a row whose lowest key is `low`.
 fn child_low<W: WordList>(words: &W, base: u32, degree: u64, low: u64, i: u64) -> u64
     requires used { word_at (W.list words.now) next_place ≤ length (W.list words.now) }
     requires most { length (W.list words.now) ≤ place_limit }
@@ -133,7 +135,8 @@ fn child_low<W: WordList>(words: &W, base: u32, degree: u64, low: u64, i: u64) -
     low.max(key_at(words, base, degree, i - 1))
 }
 
-/// The key behind those of child `i` of a row whose keys end before `high`.
+/// Returns the bound above the keys of child `i` of a row whose keys are below `high`, if there is
+/// one.
 fn child_high<W: WordList>(
     words: &W,
     base: u32,
@@ -159,7 +162,7 @@ fn child_high<W: WordList>(
     })
 }
 
-/// The tasks for the slots of a row go to what is left, the last first.
+/// Pushes the tasks for the slots of a row onto `left`, the last first.
 fn push_children<W: WordList>(
     words: &W,
     base: u32,
@@ -190,8 +193,8 @@ fn push_children<W: WordList>(
     Ok(())
 }
 
-/// What a slot with this word reads as. The words of the change and the rebuild that it leads
-/// through are marked.
+/// Returns what a slot with this word reads as, and marks the words of the change and the rebuild
+/// on the way. Returns `None` if it isn't in good shape or one of these words was marked before.
 fn claim_way<W: WordList>(words: &W, marks: &mut Vec<bool>, word: u64) -> Option<Ref>
     requires some { first_row ≤ length (W.list words.now) }
     requires used { word_at (W.list words.now) next_place ≤ length (W.list words.now) }
@@ -222,7 +225,8 @@ fn claim_way<W: WordList>(words: &W, marks: &mut Vec<bool>, word: u64) -> Option
     }
 }
 
-/// Is the leaf in good shape? Then its words are marked, and its pair goes to what was found.
+/// If the leaf is in good shape and none of its words was marked, marks them, appends its pair to
+/// `found`, and returns true.
 fn examine_leaf<W: WordList>(
     words: &W,
     base: u32,
@@ -260,7 +264,8 @@ fn examine_leaf<W: WordList>(
     Ok(true)
 }
 
-/// Is the inner row in good shape? Then its words are marked, and its slots go to what is left.
+/// If the inner row is in good shape and none of its words was marked, marks them, pushes its slots
+/// onto `left`, and returns true.
 fn examine_row<W: WordList>(
     words: &W,
     base: u32,
@@ -297,8 +302,8 @@ fn examine_row<W: WordList>(
     Ok(true)
 }
 
-/// Examines a slot: whether it is in good shape, and shares no word with what was read before. Then
-/// what it reads as is marked, and goes to what was found or to what is left.
+/// Checks that a slot is in good shape and shares no word with what was read before. If so, marks
+/// the rows that it leads to, adds what it reads as to `found` or `left`, and returns true.
 fn examine<W: WordList>(
     words: &W,
     task: &AuditTask,
@@ -327,8 +332,8 @@ fn examine<W: WordList>(
     }
 }
 
-/// Are the words lawful at rest? Answers the pairs that they hold, or the place of the first slot
-/// of the walk that breaks the rules.
+/// Audits the words. Returns the pairs that they hold, if they are lawful at rest, or else the
+/// place of the first slot of the walk that breaks the rules.
 pub fn audit_words<W: WordList>(
     alloc: Global,
     words: &W,

@@ -6,8 +6,8 @@ ghost use Rattle.ist_words.specs.WordRows.{word_at};
 use crate::words::WordList;
 use ist_layout::{ANCHOR_STATUS_PLACE, FIRST_ROW, NEXT_PLACE, PLACE_LIMIT};
 
-/// Are so many words as many as a table may have, is the anchor open, and are the words 0 that
-/// aren't reserved?
+/// Returns whether a table may have this many words, the first free word is in range, the anchor is
+/// open, and all words that aren't reserved are 0.
 pub fn are_in_bounds<W: WordList>(words: &W, count: u64) -> bool
     requires count { count ≡ length (W.list words.now) }
     ensures exact { IsTrue result ↔ HasGoodBounds (W.list words.now) }

@@ -1,4 +1,4 @@
-//! In which child of an inner row a key lies.
+//! Finds the child of an inner row in whose range a key lies.
 ghost use Rattle.std.specs.Prelude.{◌≡◌, ℕ, ◌+◌, ◌-◌, ◌*◌, ◌<◌, ◌≤◌, ◌^◌, length, get_or};
 ghost use Rattle.ist_core.specs.Arithmetic.{child_count};
 ghost use Rattle.ist_core.specs.RowLayout.{inner_words, next_place, place_limit};
@@ -9,11 +9,11 @@ use crate::rows::{degree_at, key_at};
 use crate::words::WordList;
 use ist_math::guess;
 
-/// The child of an inner row in whose range `key` lies, counted from 0: the number of keys that are
-/// at most `key`.
+/// Returns the child of an inner row in whose range `key` lies, counted from 0: the number of keys
+/// that are at most `key`.
 ///
-/// It looks first where linear interpolation between the end keys points, and goes on from there
-/// one key at a time. No clause bounds how many keys it looks at.
+/// It starts where linear interpolation between the end keys points, and continues from there one
+/// key at a time. No clause bounds how many keys it reads.
 ///
 /// Source: Perl, Itai and Avni, "Interpolation search", CACM 1978.
 pub fn child_for<W: WordList>(words: &W, base: u32, key: u64) -> u64

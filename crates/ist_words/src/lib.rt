@@ -1,5 +1,5 @@
 //! The words of a table at rest, read as a tree: which pairs they hold, and whether they are in
-//! good shape. Nothing here knows how the words came about.
+//! good shape. Nothing here depends on where the words come from.
 //!
 //! Read `specs/WordRows.antt`, `specs/Walks.antt` and `specs/RestingWords.antt`, then `listing.rt`.
 //! Stands on `ist_core`, `ist_math` and `ist_layout`.

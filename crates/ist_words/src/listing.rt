@@ -1,7 +1,7 @@
 //! The pairs of an interval, slot by slot.
 //!
-//! A tree may be as deep as it has inner rows, so the slots that are left are a list, and nothing
-//! here calls itself.
+//! A tree may be as deep as it has inner rows, so the slots still to visit are a list, and nothing
+//! here is recursive.
 ghost use Rattle.std.specs.Prelude.{◌≡◌, ℕ, ◌+◌, ◌<◌, ◌≤◌, ◌^◌, ◌++◌, ◌∷◌, [], length, reverse};
 ghost use Rattle.std.specs.Prelude.{IfOk, OnOk, Some, slice_range};
 ghost use Rattle.ist_core.specs.Arithmetic.{child_count};
@@ -22,8 +22,8 @@ use ist_core::Pair;
 use ist_layout::{ANCHOR, ANCHOR_SLOT_PLACE, Ref};
 use std::alloc::{AllocError, Global};
 
-/// The pairs from `first` to `last` that the words hold, rising by key. It visits the slots in
-/// which keys of the interval may lie, and no others.
+/// Returns the pairs from `first` to `last` that the words hold, in increasing order of keys. It
+/// visits the slots in which keys of the interval may lie, and no others.
 pub fn list_words<W: WordList>(
     alloc: Global,
     words: &W,
@@ -48,7 +48,7 @@ pub fn list_words<W: WordList>(
     Ok(found)
 }
 
-/// All pairs that the words hold, rising by key.
+/// Returns all pairs that the words hold, in increasing order of keys.
 pub fn all_words<W: WordList>(alloc: Global, words: &W) -> Result<Vec<Pair>, AllocError>
     requires hold { Hold (W.list words.now) }
     ensures held { IfOk result (λ found. HoldPairs (W.list words.now) found.items) }
@@ -57,8 +57,8 @@ pub fn all_words<W: WordList>(alloc: Global, words: &W) -> Result<Vec<Pair>, All
     list_words(alloc, words, 0, u64::MAX)
 }
 
-/// Visits a slot: its pair, if it is one of the interval, goes to what was found, and the slots
-/// below it in which keys of the interval may lie go to what is left, the last first.
+/// Visits a slot. Appends its pair to `found`, if the key is in the interval, and pushes the slots
+/// below it in which keys of the interval may lie onto `left`, the last first.
 fn visit<W: WordList>(
     words: &W,
     slot: SlotLeft,
@@ -90,7 +90,7 @@ fn visit<W: WordList>(
     }
 }
 
-/// The pair of the leaf goes to what was found, if its key is one of the interval.
+/// Appends the pair of the leaf to `found`, if its key is in the interval.
 fn push_pair<W: WordList>(
     words: &W,
     base: u32,
@@ -111,7 +111,7 @@ fn push_pair<W: WordList>(
     Ok(())
 }
 
-/// The slots of the row in which keys of the interval may lie go to what is left, the last first.
+/// Pushes the slots of the row in which keys of the interval may lie onto `left`, the last first.
 fn push_slots<W: WordList>(
     words: &W,
     base: u32,
@@ -133,7 +133,7 @@ fn push_slots<W: WordList>(
     push_between(words, base, degree, from, to, left)
 }
 
-/// The slots of a row from one number up to another go to what is left, the last first.
+/// Pushes the slots of a row from one number up to another onto `left`, the last first.
 fn push_between<W: WordList>(
     words: &W,
     base: u32,

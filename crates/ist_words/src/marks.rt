@@ -4,8 +4,8 @@ ghost use Rattle.ist_words.specs.WordRows.{Span};
 ghost use Rattle.ist_words.specs.Walks.{IsApartFrom};
 ghost use Rattle.ist_words.specs.Auditing.{AreMarked};
 
-/// Marks the words of a row, unless one of them is marked. It takes as many steps as the row has
-/// words.
+/// Marks the words of a row, unless one of them is marked, and returns whether it did. It takes
+/// about as many steps as the row has words.
 pub fn claim(marks: &mut Vec<bool>, base: u64, size: u64) -> bool
     requires within { base + size ≤ length marks.old.items }
     requires some { 0 < size }

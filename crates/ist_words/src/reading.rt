@@ -13,7 +13,7 @@ use ist_layout::{
     DECIDED_YES, FIRST_ROW, NEXT_PLACE, PLACE_LIMIT, REBUILD_TARGET_OFFSET, REBUILD_WORDS, Ref,
 };
 
-/// Are the words behind the fixed words and below the first free one?
+/// Returns whether the words lie after the fixed words and below the first free one.
 pub fn is_within<W: WordList>(words: &W, base: u64, size: u64) -> bool
     requires some { first_row ≤ length (W.list words.now) }
     requires used { word_at (W.list words.now) next_place ≤ length (W.list words.now) }
@@ -24,8 +24,9 @@ pub fn is_within<W: WordList>(words: &W, base: u64, size: u64) -> bool
     base >= u64::from(FIRST_ROW) && size <= next && base <= next - size
 }
 
-/// What a slot with this word reads as: a change as the side that its decision leaves, and a
-/// rebuild, also one so read, as its target. `None` where no slot with it is in good shape.
+/// Returns what a slot with this word reads as: a change as the side that its decision leaves, and
+/// a rebuild, also after a change, as its target. Returns `None` if no slot with this word is in
+/// good shape.
 pub fn reads<W: WordList>(words: &W, word: u64) -> Option<Ref>
     requires some { first_row ≤ length (W.list words.now) }
     requires used { word_at (W.list words.now) next_place ≤ length (W.list words.now) }
@@ -44,8 +45,8 @@ pub fn reads<W: WordList>(words: &W, word: u64) -> Option<Ref>
     past_rebuild(words, side)
 }
 
-/// What a reference reads as once changes are read away: a change as the side that its decision
-/// leaves. `None` where the change lies out of bounds, its decision isn't known, or the side is no
+/// Returns what a reference reads as after changes: a change as the side that its decision leaves.
+/// Returns `None` if the change is out of bounds, its decision isn't known, or the side is no
 /// reference.
 pub fn past_change<W: WordList>(words: &W, found: Ref) -> Option<Ref>
     requires some { first_row ≤ length (W.list words.now) }
@@ -76,8 +77,8 @@ pub fn past_change<W: WordList>(words: &W, found: Ref) -> Option<Ref>
     }
 }
 
-/// What a reference that is no change reads as. `None` where it is a change, or a part that isn't
-/// built, or a rebuild out of bounds or without a target.
+/// Returns what a reference that is no change reads as. Returns `None` if it is a change, or a part
+/// that isn't built, or a rebuild out of bounds or without a target.
 pub fn past_rebuild<W: WordList>(words: &W, found: Ref) -> Option<Ref>
     requires some { first_row ≤ length (W.list words.now) }
     requires used { word_at (W.list words.now) next_place ≤ length (W.list words.now) }

@@ -10,7 +10,7 @@ use crate::words::WordList;
 use ist_core::Pair;
 use ist_layout::{INNER_DEGREE_OFFSET, LEAF_KEY_OFFSET, LEAF_VALUE_OFFSET, key_place, slot_place};
 
-/// The pair of a leaf.
+/// Returns the pair of a leaf.
 pub fn leaf_pair<W: WordList>(words: &W, base: u32) -> Pair
     requires used { word_at (W.list words.now) next_place ≤ length (W.list words.now) }
     requires within { IsWithinUsed (W.list words.now) record { base = base; size = leaf_words } }
@@ -23,7 +23,7 @@ pub fn leaf_pair<W: WordList>(words: &W, base: u32) -> Pair
     }
 }
 
-/// How many slots an inner row has.
+/// Returns how many slots an inner row has.
 pub fn degree_at<W: WordList>(words: &W, base: u32) -> u64
     requires used { word_at (W.list words.now) next_place ≤ length (W.list words.now) }
     requires row { IsRowHere (W.list words.now) base }
@@ -32,7 +32,7 @@ pub fn degree_at<W: WordList>(words: &W, base: u32) -> u64
     words.word(u64::from(base) + INNER_DEGREE_OFFSET)
 }
 
-/// Key `j` of an inner row of this degree, counted from 0.
+/// Returns key `j` of an inner row of this degree, counted from 0.
 pub fn key_at<W: WordList>(words: &W, base: u32, degree: u64, j: u64) -> u64
     requires used { word_at (W.list words.now) next_place ≤ length (W.list words.now) }
     requires most { length (W.list words.now) ≤ place_limit }
@@ -45,7 +45,7 @@ pub fn key_at<W: WordList>(words: &W, base: u32, degree: u64, j: u64) -> u64
     words.word(key_place(base, j + 1))
 }
 
-/// The word of slot `i` of an inner row of this degree.
+/// Returns the word of slot `i` of an inner row of this degree.
 pub fn slot_at<W: WordList>(words: &W, base: u32, degree: u64, i: u64) -> u64
     requires used { word_at (W.list words.now) next_place ≤ length (W.list words.now) }
     requires most { length (W.list words.now) ≤ place_limit }

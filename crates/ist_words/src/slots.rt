@@ -1,6 +1,6 @@
 //! The slots that a listing has still to visit.
 
-/// A slot that is to be visited: its word, and the base of its node.
+/// A slot still to visit: its word, and the base of its node.
 #[derive(Clone, Copy, Debug, PartialEq, Eq, Drop)]
 pub struct SlotLeft {
     pub word: u64,

@@ -1,7 +1,7 @@
 //! The slots that an audit has still to visit.
 
-/// A slot that is to be visited: its place and its word, the base of its node, and the keys that
-/// lead there, from `low` on and below `high`.
+/// A slot still to visit: its place and its word, the base of its node, and the keys that lead
+/// there, from `low` on and below `high`.
 #[derive(Clone, Copy, Debug, PartialEq, Eq, Drop)]
 pub struct AuditTask {
     pub place: u64,

@@ -30,11 +30,11 @@ abbrev pub no_pair : Pair
 no_pair = record { key = 0; value = 0 }
 
 module _ (pairs : List Pair) where
-  -- a key is that of its pair
+  -- the key at a place is the key of the pair there
   key_at : (i : ℕ) → i < length pairs → slice_index (keys_of pairs) i ≡ (get_or pairs i no_pair).key
   key_at i low = get_or-map (λ pair. pair.key) pairs i no_pair 0 low
 
-  -- where one key isn't below the next, they don't rise
+  -- if one key isn't below the next, they aren't strictly increasing
   pub not_rising : (i : ℕ) → 1 ≤ i → i < length pairs → (get_or pairs i no_pair).key ≤
       (get_or pairs (i - 1) no_pair).key
       → ¬ (IsStrictlyIncreasing (keys_of pairs))
@@ -48,7 +48,7 @@ module _ (pairs : List Pair) where
       let b = key_at i low in
       omega arith
 
-  -- keys that rise up to one rise up to the next, if that is higher
+  -- keys that increase up to one increase up to the next, if that is higher
   pub rising_more : (i : ℕ) → 1 ≤ i → i < length pairs → (get_or pairs (i - 1) no_pair).key <
       (get_or pairs i no_pair).key
       → ((k : ℕ) → k + 1 < i → slice_index (keys_of pairs) k < slice_index (keys_of pairs) (k + 1))

@@ -8,7 +8,7 @@ use Rattle.log_check.specs.declared.logs.Reading.TheVariants.{Whole, OutOfForm}
 abbrev pub LogOpens : Log → Type 0
 LogOpens log = CanOpen log.pairs.items log.words
 
--- so may that of the log, if the text is one
+-- the table of a log that was read may be opened; a text of a wrong form has no table
 abbrev pub Opens : Reading → Type 0
 Opens (Whole log) = LogOpens log
 Opens (OutOfForm line fault) = Unit {0}

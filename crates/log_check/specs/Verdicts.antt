@@ -7,13 +7,13 @@ use Rattle.log_check.specs.declared.logs.Log.{Log}
 use Rattle.log_check.specs.declared.verdicts.Verdict.{Verdict}
 use Rattle.log_check.specs.declared.verdicts.Verdict.TheVariants.{AllLawful, Unlawful}
 
--- the state has this first free word, so many callers, and this word in the anchor's slot
+-- the state has this first free word, this many callers, and this word in the anchor's slot
 pub record HasNumbers (t : Snapshot) (next callers anchor : ℕ) : Type 0 where
   pub next_is : next ≡ t.next
   pub callers_are : callers ≡ t.callers
   pub anchor_is : anchor ≡ t.anchor
 
--- the events of the log are lawful, and the state behind them has these numbers
+-- the events of the log are lawful, and the state after them has these numbers
 pub record EndsWith (log : Log) (next callers anchor : ℕ) : Type 0 where
   pub lawful : Lawful log.pairs.items log.words (reverse log.events.items)
   pub numbers : HasNumbers (state_of log.pairs.items log.words (reverse log.events.items)) next callers anchor

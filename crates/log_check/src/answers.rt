@@ -2,19 +2,19 @@
 use crate::kinds::kind_of;
 use crate::logs::{Log, Reading, read_log};
 use crate::verdicts::{Verdict, verdict_on};
-use ist_check_reasons::Condition;
+use check_reasons::Condition;
 use std::alloc::{AllocError, Global};
 
-/// The status where the log is lawful.
+/// The status if the log is lawful.
 pub const LAWFUL: u8 = 0;
 
-/// The status where an event may not come.
+/// The status if an event may not come.
 pub const UNLAWFUL: u8 = 1;
 
-/// The status where the text is out of form.
+/// The status if the text has a wrong form.
 pub const OUT_OF_FORM: u8 = 3;
 
-/// What is said of the text, and the status.
+/// Returns what is said of the text, and the status.
 pub fn answer_to(alloc: Global, text: &[u8]) -> Result<(String, u8), AllocError> {
     match read_log(alloc, text)? {
         Reading::OutOfForm { line, fault } => {
@@ -29,8 +29,8 @@ pub fn answer_to(alloc: Global, text: &[u8]) -> Result<(String, u8), AllocError>
     }
 }
 
-/// What is said of event number `at`, which may not come: its number, its kind, its line, and the first
-/// of its conditions that is false.
+/// Returns what is said of event number `at`, which may not come: its number, its kind, its line,
+/// and the first of its conditions that is false.
 fn unlawful(alloc: Global, log: &Log, at: u64, condition: Condition) -> Result<String, AllocError> {
     let verdict = Verdict::Unlawful { at, condition };
     let event = log.events.get(at as usize);

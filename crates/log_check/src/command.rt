@@ -1,35 +1,35 @@
-//! The command line: a file or standard input, and whether to say how far it is.
+//! The command line: a file or standard input, and whether to report progress.
 
 use clap::{Arg, ArgAction, Command};
 use std::alloc::{AllocError, Global};
 use std::io;
 
-/// What stands behind the options in the text that `--help` prints.
+/// What follows the options in the text that `--help` prints.
 const STATUSES: &str =
     "Statuses: 0 lawful, 1 unlawful, 2 usage, 3 bad form, 4 a failed read or write";
 
-/// What the words of the command line ask for.
+/// What the command-line arguments ask for.
 #[derive(Clone, Copy, Debug, PartialEq, Eq, Drop)]
 pub enum Job<'a> {
-    /// All that was to be said is said: help, the version, or that the words are no use of the program.
+    /// Everything was already printed: help, the version, or that the arguments are wrong.
     Done {
         status: u8,
     },
-    /// A log is to be checked: that of the file, or of standard input where none is named.
+    /// Check a log: the file's, or standard input's if no file is named.
     Check {
         path: Option<&'a str>,
         progress: bool,
     },
 }
 
-/// The argument that names the log.
+/// Returns the argument that names the log.
 fn log_argument<'a>(alloc: Global) -> Arg<'a> {
     Arg::new(alloc, "LOG")
         .help("The file with the log; standard input where none is named")
         .action(ArgAction::Set)
 }
 
-/// The option that asks how far it is.
+/// Returns the option that asks for progress reports.
 fn progress_option<'a>(alloc: Global) -> Arg<'a> {
     Arg::new(alloc, "progress")
         .long("progress")
@@ -37,7 +37,7 @@ fn progress_option<'a>(alloc: Global) -> Arg<'a> {
         .action(ArgAction::SetTrue)
 }
 
-/// The command with its argument and its option.
+/// Returns the command with its argument and its option.
 fn command<'a>(alloc: Global) -> Result<Command<'a>, AllocError> {
     Command::new(alloc, "log_check")
         .version("1.0")
@@ -47,7 +47,7 @@ fn command<'a>(alloc: Global) -> Result<Command<'a>, AllocError> {
         .arg(progress_option(alloc))
 }
 
-/// What the words ask for, of which the first is the program's name.
+/// Returns what the arguments ask for; the first is the program's name.
 pub fn read_words<'a>(rt: &HostRuntime, words: &'a [String]) -> io::Result<Job<'a>> {
     match command(rt.alloc())?.try_get_matches_from(words) {
         Ok(matches) => Ok(Job::Check {

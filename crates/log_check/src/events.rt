@@ -1,13 +1,13 @@
-//! The events of a log, one a line.
+//! The events of a log, one per line.
 
 use crate::fields::{Fields, numeral_value, parts_of};
 use ist_core::{Bases, Event, Row, Rows, Words};
 use std::alloc::{AllocError, Global};
 
-/// What stands for a list without elements.
+/// The text for a list without elements.
 const NOTHING: &[u8] = b"-";
 
-/// The event of a line, if it has the form of one.
+/// Reads the event of a line, if the line has the form of one.
 pub fn read_event(alloc: Global, line: &[u8]) -> Result<Option<Event>, AllocError> {
     let mut rest = parts_of(line, b' ');
     let event = match rest.take() {
@@ -17,7 +17,7 @@ pub fn read_event(alloc: Global, line: &[u8]) -> Result<Option<Event>, AllocErro
     Ok(if rest.is_done() { event } else { None })
 }
 
-/// The event of this name with the fields that follow.
+/// Reads the event of this name, with the fields that follow.
 fn read_named(
     alloc: Global,
     name: &[u8],
@@ -32,7 +32,7 @@ fn read_named(
     }
 }
 
-/// The event of this name, which publishes no row and gives up none.
+/// Reads the event of this name, if it is a kind that publishes no row and gives up none.
 fn read_small(name: &[u8], rest: &mut Fields<'_>) -> Option<Event> {
     let caller = rest.number()?;
     if name == b"Enter".as_slice() {
@@ -62,7 +62,7 @@ fn read_small(name: &[u8], rest: &mut Fields<'_>) -> Option<Event> {
     }
 }
 
-/// The event of this name, which is one at a node or a rebuild.
+/// Reads the event of this name, if it is a kind at a node or a rebuild.
 fn read_at_node(name: &[u8], caller: u64, row: u64, rest: &mut Fields<'_>) -> Option<Event> {
     match name {
         b"Count" => Some(Event::Count { caller, node: row }),
@@ -87,7 +87,7 @@ fn read_at_node(name: &[u8], caller: u64, row: u64, rest: &mut Fields<'_>) -> Op
     }
 }
 
-/// How a change is decided.
+/// Reads how a change is decided.
 fn yes_or_no(word: &[u8]) -> Option<bool> {
     match word {
         b"yes" => Some(true),
@@ -163,7 +163,7 @@ fn lose(alloc: Global, rest: &mut Fields<'_>) -> Result<Option<Event>, AllocErro
     }
 }
 
-/// Numbers between commas, or a dash for none.
+/// Reads numbers between commas, or a dash for none.
 fn read_numbers(alloc: Global, text: &[u8]) -> Result<Option<Vec<u64>>, AllocError> {
     let mut numbers = Vec::new(alloc);
     if text == NOTHING {
@@ -178,7 +178,7 @@ fn read_numbers(alloc: Global, text: &[u8]) -> Result<Option<Vec<u64>>, AllocErr
     Ok(Some(numbers))
 }
 
-/// Rows between semicolons, or a dash for none.
+/// Reads rows between semicolons, or a dash for none.
 fn read_rows(alloc: Global, text: &[u8]) -> Result<Option<Rows>, AllocError> {
     let mut rows = Vec::new(alloc);
     if text == NOTHING {
@@ -193,7 +193,7 @@ fn read_rows(alloc: Global, text: &[u8]) -> Result<Option<Rows>, AllocError> {
     Ok(Some(Rows::from_vec(rows)))
 }
 
-/// A row: its base, an equals sign, and its words between commas.
+/// Reads a row: its base, an equals sign, and its words between commas.
 fn read_row(alloc: Global, text: &[u8]) -> Result<Option<Row>, AllocError> {
     let mut sides = parts_of(text, b'=');
     match (sides.number(), sides.take()) {

@@ -1,19 +1,19 @@
-//! What is wrong with a line that is out of form.
+//! What is wrong with a line of a wrong form.
 
 use crate::fields::parts_of;
 use crate::kinds::fields_of;
 use std::fmt;
 
-/// What is wrong with a line that is out of form.
+/// What is wrong with a line of a wrong form.
 #[derive(Clone, Copy, Debug, PartialEq, Eq, Drop)]
 pub enum Fault {
     /// The first line that says something doesn't begin with `start`.
     NoStart,
-    /// The number of words is none, or above 2^28.
+    /// The number of words is missing, no number, or above 2^28.
     Words,
     /// A pair isn't a key, a colon and a value.
     Pair,
-    /// The keys of the pairs don't rise, or the table hasn't so many words.
+    /// The keys of the pairs aren't strictly increasing, or the table hasn't enough words.
     Table,
     /// These aren't the numbers of the definitions.
     Numbers,
@@ -23,7 +23,7 @@ pub enum Fault {
     Missing,
     /// There is a field too many.
     Extra,
-    /// A field isn't what it has to be.
+    /// A field isn't what it must be.
     Field,
 }
 
@@ -43,7 +43,7 @@ impl fmt::Display for Fault {
     }
 }
 
-/// What is wrong with a line that has not the form of an event.
+/// Returns what is wrong with a line that doesn't have the form of an event.
 pub fn fault_of(line: &[u8]) -> Fault {
     let mut rest = parts_of(line, b' ');
     let name = rest.take().unwrap_or(b"");

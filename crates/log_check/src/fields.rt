@@ -1,13 +1,13 @@
 //! The fields of a line: parts of it between single separators.
 
-/// What is left of a line, of which the fields stand between single separators.
+/// The rest of a line, whose fields are separated by single separators.
 #[derive(Drop)]
 pub struct Fields<'a> {
     rest: Option<&'a [u8]>,
     separator: u8,
 }
 
-/// The fields of the text, which has one more of them than separators.
+/// Splits the text into its fields, one more than it has separators.
 pub fn parts_of(text: &[u8], separator: u8) -> Fields<'_> {
     Fields {
         rest: Some(text),
@@ -16,7 +16,7 @@ pub fn parts_of(text: &[u8], separator: u8) -> Fields<'_> {
 }
 
 impl<'a> Fields<'a> {
-    /// The next field, if one is left.
+    /// Returns the next field, if one is left.
     pub fn take(&mut self) -> Option<&'a [u8]> {
         let rest = self.rest?;
         let separator = self.separator;
@@ -32,18 +32,18 @@ impl<'a> Fields<'a> {
         }
     }
 
-    /// The number in the next field, if that is one: ASCII digits that say less than 2^64.
+    /// Returns the number in the next field, if that is one: ASCII digits with a value below 2^64.
     pub fn number(&mut self) -> Option<u64> {
         numeral_value(self.take()?)
     }
 
-    /// Is no field left?
+    /// Returns whether no field is left.
     pub fn is_done(&self) -> bool {
         self.rest.is_none()
     }
 }
 
-/// The number that some bytes are: one or more ASCII digits that say less than 2^64.
+/// Reads bytes as a number: one or more ASCII digits with a value below 2^64.
 pub fn numeral_value(bytes: &[u8]) -> Option<u64> {
     if bytes.is_empty() {
         return None;

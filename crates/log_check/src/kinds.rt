@@ -2,7 +2,7 @@
 
 use ist_core::Event;
 
-/// The name of the event's kind, as a line of a log begins with it.
+/// Returns the name of the event's kind, as a line of a log begins with it.
 pub fn kind_of(event: &Event) -> &'static str {
     match event {
         Event::Enter { .. } => "Enter",
@@ -40,7 +40,7 @@ const KINDS: [(&[u8], u64); 14] = [
     (b"Place", 5),
 ];
 
-/// How many fields follow this name on a line, if it is that of a kind.
+/// Returns how many fields follow this name on a line, if it is the name of a kind.
 pub fn fields_of(name: &[u8]) -> Option<u64> {
     for &(kind, fields) in &KINDS {
         if name == kind {

@@ -1,4 +1,4 @@
-//! A log in its text form: the table at its start, and then one event a line.
+//! A log in its text form: the table at its start, and then one event per line.
 ghost use Rattle.std.specs.Prelude.{◌↔◌, ◌≤◌, IsTrue, IfOk, map};
 ghost use Rattle.std.specs.List.Sorted.{IsStrictlyIncreasing};
 ghost use Rattle.ist_core.specs.RowLayout.{place_limit};
@@ -13,13 +13,13 @@ use ist_layout::{FIRST_ROW, PLACE_LIMIT};
 use ist_math::ideal_words;
 use std::alloc::{AllocError, Global};
 
-/// A line that may stand before the events: the numbers of the definitions.
+/// A line that may precede the events: the numbers of the definitions.
 const NUMBERS: &[u8] = b"const SHARE_FROM=256 LIMIT_MIN=8 LIMIT_DIV=4";
 
 /// More pairs than a table has room for.
 const MANY_PAIRS: u64 = 1 << 28;
 
-/// A table at its start, which may be opened, and the events that came to it, the oldest first.
+/// A table at its start, which may be opened, and its events, the oldest first.
 #[derive(Drop)]
 pub struct Log {
     pub pairs: Vec<Pair>,
@@ -33,12 +33,12 @@ pub struct Log {
 #[derive(Drop)]
 pub enum Reading {
     Whole(Log),
-    /// The first line that is out of form, counted from 1, and what is wrong with it.
+    /// The first line with a wrong form, counted from 1, and what is wrong with it.
     OutOfForm { line: u64, fault: Fault },
 }
 
-/// What a line says: without the carriage return at its end, and nothing where it is blank or a
-/// comment.
+/// Returns the content of a line, without the carriage return at its end, or `None` if it is blank
+/// or a comment.
 fn said(line: &[u8]) -> Option<&[u8]> {
     let line = line.strip_suffix(b"\r").unwrap_or(line);
     if line.starts_with(b"#") || line.iter().all(|byte| *byte == b' ' || *byte == b'\t') {
@@ -47,7 +47,7 @@ fn said(line: &[u8]) -> Option<&[u8]> {
     Some(line)
 }
 
-/// The first line of the text that says something, with its number, counted from 0.
+/// Returns the first line of the text that has content, with its number, counted from 0.
 fn first_said(text: &[u8]) -> Option<(usize, &[u8])> {
     for (at, bytes) in text.split(|byte| *byte == b'\n').enumerate() {
         if let Some(line) = said(bytes) {
@@ -57,7 +57,7 @@ fn first_said(text: &[u8]) -> Option<(usize, &[u8])> {
     None
 }
 
-/// The log of the text. Its first line that says something is the table at its start.
+/// Reads the log of the text. Its first line with content is the table at its start.
 pub fn read_log(alloc: Global, text: &[u8]) -> Result<Reading, AllocError>
     ensures opens { IfOk result Opens }
 {
@@ -70,7 +70,7 @@ pub fn read_log(alloc: Global, text: &[u8]) -> Result<Reading, AllocError>
     }
 }
 
-/// The log of the text with the events that come behind its start, which is the line with this number.
+/// Reads the events after the start, which is the line with this number, and completes the log.
 fn read_behind(alloc: Global, text: &[u8], start: usize, log: Log) -> Result<Reading, AllocError>
     requires opens { LogOpens log }
     ensures opens { IfOk result Opens }
@@ -82,8 +82,8 @@ fn read_behind(alloc: Global, text: &[u8], start: usize, log: Log) -> Result<Rea
     }
 }
 
-/// Adds the events of the lines behind the start. `Some` is the first line, counted from 0, that is out
-/// of form, and what is wrong with it.
+/// Adds the events of the lines after the start. Returns the first line with a wrong form, counted
+/// from 0, and what is wrong with it, if there is one.
 fn add_events(
     alloc: Global,
     log: &mut Log,
@@ -105,8 +105,8 @@ fn add_events(
     Ok(None)
 }
 
-/// Adds the event of this line that says something, unless it has the numbers of the definitions before
-/// all events. `Some` where it is out of form.
+/// Adds the event of this line with content, unless it has the numbers of the definitions and
+/// precedes all events. Returns what is wrong with it, if its form is wrong.
 fn add_line(
     alloc: Global,
     log: &mut Log,
@@ -129,7 +129,7 @@ fn add_line(
     }
 }
 
-/// The line, counted from 0, is out of form.
+/// Reports the line, counted from 0, as one with a wrong form.
 fn bad_line(at: usize, fault: Fault) -> Reading
     ensures opens { Opens result }
 {
@@ -139,7 +139,7 @@ fn bad_line(at: usize, fault: Fault) -> Reading
     }
 }
 
-/// The table of the first line, if it may be opened: its words, and then its pairs.
+/// Reads the table of the first line, if it may be opened: its words, and then its pairs.
 fn read_start(alloc: Global, line: &[u8]) -> Result<Result<Log, Fault>, AllocError>
     ensures opens { IfOk result (λ log. IfOk log LogOpens) }
 {
@@ -166,7 +166,7 @@ fn read_start(alloc: Global, line: &[u8]) -> Result<Result<Log, Fault>, AllocErr
     }))
 }
 
-/// The pairs in the fields that are left, each a key, a colon and a value.
+/// Reads the pairs in the fields that are left, each a key, a colon and a value.
 fn read_pairs(alloc: Global, rest: &mut Fields<'_>) -> Result<Option<Vec<Pair>>, AllocError> {
     let mut pairs = Vec::new(alloc);
     for _ in 0..MANY_PAIRS {
@@ -181,7 +181,7 @@ fn read_pairs(alloc: Global, rest: &mut Fields<'_>) -> Result<Option<Vec<Pair>>,
     Ok(None)
 }
 
-/// A pair: a key, a colon and a value.
+/// Reads a pair: a key, a colon and a value.
 fn read_pair(text: &[u8]) -> Option<Pair> {
     let mut sides = parts_of(text, b':');
     let key = sides.number()?;
@@ -193,7 +193,7 @@ fn read_pair(text: &[u8]) -> Option<Pair> {
     }
 }
 
-/// May a table of so many words begin with these pairs?
+/// Returns whether a table of `words` words may begin with these pairs.
 fn may_open(pairs: &[Pair], words: u32) -> bool
     requires within { words ≤ place_limit }
     ensures exact { IsTrue result ↔ CanOpen pairs.now words }
@@ -206,7 +206,7 @@ fn may_open(pairs: &[Pair], words: u32) -> bool
     do_rise(pairs)
 }
 
-/// Do the keys rise strictly?
+/// Returns whether the keys are strictly increasing.
 fn do_rise(pairs: &[Pair]) -> bool
     ensures exact { IsTrue result ↔ IsStrictlyIncreasing (map (λ pair. pair.key) pairs.now) }
 {

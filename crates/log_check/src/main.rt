@@ -1,7 +1,7 @@
 //! The program `log_check`: it reads a log of events, and says whether it is lawful.
 //!
 //! Read `logs.rt`, which says the form of the text, and `verdicts.rt`. Stands on `ist_core`,
-//! `ist_math`, `ist_layout`, `ist_check_reasons`, `ist_check` and `clap`.
+//! `ist_math`, `ist_layout`, `check_reasons`, `ist_check` and `clap`.
 #![tactic(auto)]
 
 mod answers;
@@ -19,7 +19,7 @@ use std::io::{IsTerminal, Read};
 use std::process::ExitCode;
 use std::{env, fs, io};
 
-/// The status where reading, writing or memory failed.
+/// The status if reading, writing or memory failed.
 const FAILED: u8 = 4;
 
 /// How many bytes make a log long.
@@ -32,7 +32,7 @@ fn main(rt: HostRuntime) -> ExitCode {
     }
 }
 
-/// Does what the words of the command line ask for, and gives the status.
+/// Does what the command-line arguments ask for, and returns the status.
 fn run(rt: &HostRuntime) -> io::Result<u8> {
     let mut words = Vec::new(rt.alloc());
     for word in env::args(rt)? {
@@ -53,7 +53,7 @@ fn run(rt: &HostRuntime) -> io::Result<u8> {
     }
 }
 
-/// The bytes of the file, or those of standard input where none is named. A failed read is said.
+/// Reads the bytes of the file, or of standard input if no file is named. Reports a failed read.
 fn read_text(rt: &HostRuntime, path: Option<&str>) -> io::Result<Vec<u8>> {
     let read = match path {
         Some(path) => fs::read(rt, path),
@@ -66,7 +66,7 @@ fn read_text(rt: &HostRuntime, path: Option<&str>) -> io::Result<Vec<u8>> {
     read
 }
 
-/// The bytes of standard input.
+/// Reads the bytes of standard input.
 fn read_input(rt: &HostRuntime) -> io::Result<Vec<u8>> {
     let mut text = Vec::new(rt.alloc());
     rt.stdin().read_to_end(&mut text)?;

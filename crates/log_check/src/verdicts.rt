@@ -4,16 +4,16 @@ ghost use Rattle.log_check.specs.Opening.{LogOpens};
 ghost use Rattle.log_check.specs.Verdicts.{IsTrueOf};
 
 use crate::logs::Log;
+use check_reasons::Condition;
 use ist_check::{Judgement, judge};
-use ist_check_reasons::Condition;
 use std::alloc::{AllocError, Global};
 use std::fmt;
 
 /// What is said of a log.
 #[derive(Clone, Copy, Debug, PartialEq, Eq, Drop)]
 pub enum Verdict {
-    /// Each event may come behind those before it. The state behind the last has this first free
-    /// word, so many callers, and this word in the anchor's slot.
+    /// Each event may come after those before it. The state after the last has this first free
+    /// word, this many callers, and this word in the anchor's slot.
     AllLawful {
         next: u64,
         callers: u64,
@@ -40,7 +40,7 @@ impl fmt::Display for Verdict {
     }
 }
 
-/// Whether the log is lawful, and how it ends, or the first event that may not come, and why.
+/// Returns whether the log is lawful: how it ends, or the first event that may not come, and why.
 pub fn verdict_on(alloc: Global, log: &Log) -> Result<Verdict, AllocError>
     requires opens { LogOpens log.now }
     ensures exact { IfOk result (IsTrueOf log.now) }

@@ -1,4 +1,5 @@
--- The pairs of a map are those of the list that it was made of, where that list rises.
+-- The pairs of a map are the list that it was made of, if the keys of that list are strictly
+-- increasing.
 use Rattle.std.proofs.Common.{◌≡◌, ℕ, suc, ◌<◌, Bool, true, false, ◌&&◌, T, List, [], ◌∷◌, map, length, refl, sym, ap, subst, ◌∙◌, arith}
 use Rattle.std.specs.FinMap as fin
 use Rattle.std.specs.FinMap.{is_sorted}
@@ -35,7 +36,7 @@ below_entries key (p ∷ pairs) below =
     (nat_cmp_is key p.key Less (below 0 (omega arith)))
     (below_entries key pairs (λ j within. below (suc j) (omega arith)))
 
--- entries of pairs whose keys rise are in order
+-- entries of pairs with increasing keys are in order
 sorted_entries : (pairs : List Pair)
     → ((i j : ℕ) → i < j → j < length pairs → key_at pairs i < key_at pairs j)
     → T (is_sorted nat_cmp (map entry pairs))
@@ -44,12 +45,12 @@ sorted_entries (p ∷ pairs) rises =
     both _ _ (below_entries p.key pairs (λ j within. rises 0 (suc j) (omega arith) (omega arith)))
     (sorted_entries pairs (λ i j before within. rises (suc i) (suc j) (omega arith) (omega arith)))
 
--- a list of pairs is that of its entries
+-- a list of pairs is the list of its entries' pairs
 pairs-entries : (pairs : List Pair) → map pair (map entry pairs) ≡ pairs
 pairs-entries [] = refl
 pairs-entries (p ∷ pairs) = ap (λ (ps : List Pair). p ∷ ps) (pairs-entries pairs)
 
--- the map of pairs that rise has them as its pairs
+-- the map of pairs with increasing keys has them as its pairs
 pub pairs_of-map_of : (pairs : List Pair) → IsRising pairs → pairs_of (map_of pairs) ≡ pairs
 pairs_of-map_of pairs rising =
     let es = map entry pairs in

@@ -1,4 +1,4 @@
--- Slices of a list of pairs that rise.
+-- Slices of a list of pairs with increasing keys.
 use Rattle.std.proofs.Common.{◌≡◌, ℕ, zero, suc, ◌+◌, ◌<◌, ◌≤◌, Bool, true, false, not, nat_lt, nat_le, ◌&&◌, List, [], ◌∷◌, length, take, drop, refl, ap, ◌∙◌, arith}
 use Rattle.std.specs.List.{filter}
 use Rattle.std.specs.List.Sorted.{IsPartitionPoint, IsPartitionedBy}
@@ -22,7 +22,7 @@ module _ {X : Type 0} (p : X → Bool) where
     λ k d from to. point.1 (suc k) d (omega arith) (omega arith),
   )
 
-  -- where every element fails, none passes
+  -- if every element fails, none passes
   none_pass : (x : X) (xs : List X)
       → IsPartitionPoint (λ y. p y ≡ true) (λ y. p y ≡ false) (x ∷ xs) 0
       → IsPartitionPoint (λ y. p y ≡ true) (λ y. p y ≡ false) xs 0
@@ -68,19 +68,19 @@ module _ (pairs : List Pair) (rising : IsRising pairs) where
   keys_rise i j le within =
       grind (arith, key_at-rises pairs rising i j, λ (same : i ≡ j). ap (key_at pairs) same)
 
-  -- the keys below a bound stand in front
+  -- the keys below a bound come first
   pub below_first : (first : ℕ) → IsPartitionedBy (λ p. nat_lt p.key first) pairs
   below_first first i j d le within passes =
       let rise = keys_rise i j le within in
       grind (arith, nat_tests, get_or_default pairs i d no_pair, get_or_default pairs j d no_pair)
 
-  -- and so do the keys up to a bound
+  -- the keys up to a bound come first too
   pub up_to_first : (last : ℕ) → IsPartitionedBy (λ p. nat_le p.key last) pairs
   up_to_first last i j d le within passes =
       let rise = keys_rise i j le within in
       grind (arith, nat_tests, get_or_default pairs i d no_pair, get_or_default pairs j d no_pair)
 
-  -- pairs behind a place rise too
+  -- the pairs after a place have strictly increasing keys too
   pub rising_drop : (n : ℕ) → IsRising (drop n pairs)
   rising_drop n = rises_by_steps _ (λ i within.
       let fits : n + i + 1 < length pairs = omega (arith, length-drop n pairs) in

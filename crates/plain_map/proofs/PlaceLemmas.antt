@@ -1,4 +1,5 @@
--- What a search finds in a list of pairs that rise, and what an edit at that place does to the list and its map.
+-- What a search finds in a list of pairs with increasing keys, and what an edit at that place does
+-- to the list and its map.
 use Rattle.std.proofs.Common.{◌≡◌, ℕ, ◌+◌, ◌-◌, ◌<◌, ◌≤◌, ◌≢◌, ◌==◌, List, length, get_or, set, if◌then◌else◌, Some, None, Result, Ok, Err, IfOk, IfErr, refl, sym, ap, subst, ◌∙◌, arith}
 use Rattle.std.specs.FinMap as fin
 use Rattle.std.specs.List.{insert, remove}
@@ -17,7 +18,7 @@ use Rattle.plain_map.specs.Place.{key_at, IsAt, IsGapFor}
 use Rattle.plain_map.proofs.RisingLemmas.{key_at-rises, rises_by_steps}
 use Rattle.plain_map.proofs.ValueLemmas.{NoKeyBefore, no_pair, value_in, get-map_of, value_in-absent, value_in-at, value_in-set, value_in-insert, value_in-remove}
 
--- lists that answer alike but at one key stand for maps that differ by a put
+-- lists with the same values at all keys but one represent maps that differ by a put
 set_from_values : (old new : List Pair) (key value : ℕ)
     → ((q : ℕ) → value_in new q ≡ (if q == key then Some value else value_in old q))
     → map_of new ≡ fin.insert (map_of old) key value
@@ -38,7 +39,7 @@ gone_from_values old new key values =
     ∙ rw (unsigned_tied, get-map_of) refl))
 
 module _ (pairs : List Pair) (rising : IsRising pairs) (key : ℕ) where
-  -- the comparisons with the key rise along the list, as a search by halving asks
+  -- the comparisons with the key increase along the list, as a search by halving requires
   comparisons_rise : IsNonDecreasingBy (λ p. ordering_index (nat_cmp p.key key)) pairs
   comparisons_rise =
       IsNonDecreasingBy-from_default (λ p. ordering_index (nat_cmp p.key key)) pairs no_pair
@@ -70,16 +71,16 @@ module _ (pairs : List Pair) (rising : IsRising pairs) (key at : ℕ) (here : Is
   none_before j before same =
       omega (arith, key_at-rises pairs rising j at before here.within, here.has_key)
 
-  -- and those behind it are above
+  -- and the keys after it are above
   none_behind : (j : ℕ) → at < j → j < length pairs → key_at pairs j ≢ key
   none_behind j behind within same =
       omega (arith, key_at-rises pairs rising at j behind within, here.has_key)
 
-  -- the key has the value that stands there
+  -- the key has the value at its place
   pub get_at : fin.get (map_of pairs) key ≡ Some (get_or pairs at no_pair).value
   get_at = get-map_of pairs key ∙ value_in-at key pairs at here none_before
 
-  -- writing over its pair sets that key alone
+  -- writing over its pair sets only that key
   pub map_of-set : (value : ℕ)
       → map_of (set pairs at (record { key = key; value = value })) ≡ fin.insert
       (map_of pairs) key value
@@ -131,7 +132,7 @@ module _ (pairs : List Pair) (key at : ℕ) (gap : IsGapFor pairs key at) where
       gone_from_values pairs pairs key
       (λ q. grind (arith, nat_tests, λ (same : q ≡ key). ap (value_in pairs) same))
 
-  -- a new pair in the gap sets that key alone
+  -- a new pair in the gap sets only that key
   pub map_of-insert : (value : ℕ)
       → map_of (insert pairs at (record { key = key; value = value })) ≡ fin.insert
       (map_of pairs) key value

@@ -1,4 +1,4 @@
--- Lists of pairs that rise by key, place by place.
+-- Lists of pairs with increasing keys, place by place.
 use Rattle.std.proofs.Common.{◌≡◌, ℕ, zero, suc, ◌+◌, ◌<◌, List, [], ◌∷◌, length, slice_index, refl}
 use Rattle.std.proofs.lemmas.List.{length-map}
 use Rattle.std.proofs.lemmas.List.Kept.{AllPairs-from_increasing}
@@ -19,7 +19,7 @@ key_at-rises pairs rising i j before within =
     let fits : j < length (keys_of pairs) = rw length-map within in
     simp slice_index-keys_of at (AllPairs-from_increasing (keys_of pairs) rising i j 0 before fits)
 
--- keys that rise from each place to the next
+-- keys that increase from each place to the next are strictly increasing
 pub rises_by_steps : (pairs : List Pair)
     → ((i : ℕ) → i + 1 < length pairs → key_at pairs i < key_at pairs (i + 1)) → IsRising pairs
 rises_by_steps pairs steps i within =

@@ -16,7 +16,7 @@ abbrev pub value_in : List Pair → ℕ → Option ℕ
 value_in [] key = None
 value_in (p ∷ pairs) key = if key == p.key then Some p.value else value_in pairs key
 
--- the pair that stands past the end of a list
+-- the pair read past the end of a list
 abbrev pub no_pair : Pair
 no_pair = record { key = 0; value = 0 }
 
@@ -30,7 +30,7 @@ find-value_in : (pairs : List Pair) (key : ℕ)
 find-value_in [] key = refl
 find-value_in (p ∷ pairs) key = rw (unsigned_tied, find-value_in pairs key) refl
 
--- the map of some pairs answers with the first pair that has the key
+-- the map of some pairs returns the value of the first pair that has the key
 pub get-map_of : (pairs : List Pair) (key : ℕ) → fin.get (map_of pairs) key ≡ value_in pairs key
 get-map_of pairs key =
     fin.get-from_entries nat_cmp_total (map (λ p. (p.key, p.value)) pairs) key
@@ -91,7 +91,7 @@ module _ (key : ℕ) where
             (no_key_in_tail p pairs key i absent) q,
       )
 
-  -- so does a new pair before any pair that has the key
+  -- inserting a pair before any that has the key sets only that key
   pub value_in-insert : (pairs : List Pair) (i value : ℕ) → NoKeyBefore pairs key i → (q : ℕ)
       → value_in (insert pairs i (record { key = key; value = value })) q ≡
       (if q == key then Some value else value_in pairs q)

@@ -1,4 +1,4 @@
--- Where a key stands in a list of pairs, or would stand.
+-- The place of a key in a list of pairs, or the place where it would be inserted.
 use Rattle.std.specs.Prelude.{◌≡◌, ℕ, ◌<◌, ◌≤◌, List, length, slice_index_or}
 use Rattle.ist_core.specs.declared.pairs.Pair.{Pair}
 
@@ -11,7 +11,7 @@ pub record IsAt (pairs : List Pair) (key i : ℕ) : Type 0 where
   pub within : i < length pairs
   pub has_key : key_at pairs i ≡ key
 
--- no pair has the key: it is above those before place i, and below those from i on
+-- no pair has the key: it is above the keys before place i, and below those from i on
 pub record IsGapFor (pairs : List Pair) (key i : ℕ) : Type 0 where
   pub within : i ≤ length pairs
   pub below : (j : ℕ) → j < i → key_at pairs j < key

@@ -1,4 +1,4 @@
-//! The ordered map of one thread, against which every other map of this repository is measured.
+//! The ordered map of one thread, with which every other map of this repository is compared.
 //!
 //! Read `specs/Rising.antt`, then `maps.rt`. Stands on `ist_core`.
 #![tactic(auto)]

@@ -11,8 +11,8 @@ use std::marker::Model;
 
 /// A map from `u64` keys to `u64` values.
 ///
-/// Clauses see the list of its pairs, which rise by key. The map that such a list stands for is
-/// `map_of` of `ist_core`.
+/// Clauses see the list of its pairs, with strictly increasing keys. The map that such a list
+/// represents is `map_of` of `ist_core`.
 #[derive(Debug, Drop)]
 pub struct Plain {
     pairs: Vec<Pair>,
@@ -31,7 +31,7 @@ impl Model for Plain {
 }
 
 impl Plain {
-    /// The map with no key. It takes its memory from `alloc`.
+    /// Makes an empty map that allocates from `alloc`.
     pub fn new(alloc: Global) -> Plain
         ensures { result ≡ [] }
     {
@@ -40,8 +40,8 @@ impl Plain {
         }
     }
 
-    /// The map of these pairs, which keeps their memory and grows in it. Takes none, and is never
-    /// refused.
+    /// Makes the map of these pairs, which keeps their memory and grows in it. Allocates nothing,
+    /// and never fails.
     pub fn of(pairs: Vec<Pair>) -> Plain
         requires rising { IsRising pairs.items }
         ensures value { result ≡ pairs.items }
@@ -49,9 +49,9 @@ impl Plain {
         Plain { pairs }
     }
 
-    /// Does one command, and replies with the value that its key had before.
+    /// Carries out one command, and returns the value that its key had before.
     ///
-    /// Only a put can want memory. The map then stays as it was.
+    /// Only a put can run out of memory. The map then stays as it was.
     pub fn apply(&mut self, command: Command) -> Result<Reply, AllocError>
         ensures step { IfOk result
             (λ reply. (map_of self.new, reply) ≡ step (map_of self.old) command) }
@@ -65,8 +65,8 @@ impl Plain {
         }
     }
 
-    /// The pairs with a key from `first` to `last`, both included, rising by key. There are none
-    /// where `first` is above `last`.
+    /// Returns the pairs with a key from `first` to `last`, both included, in increasing order of
+    /// keys. There are none if `first` is above `last`.
     pub fn list(&self, first: u64, last: u64) -> &[Pair]
         ensures between { result.now ≡ pairs_between first last self.now }
         ensures listed { result.now ≡ listed first last (map_of self.now) }
@@ -77,7 +77,7 @@ impl Plain {
         &rest[..count]
     }
 
-    /// All pairs, rising by key.
+    /// Returns all pairs, in increasing order of keys.
     pub fn pairs(&self) -> &[Pair]
         ensures all { result.now ≡ self.now }
         ensures of_map { self.now ≡ pairs_of (map_of self.now) }
@@ -86,8 +86,8 @@ impl Plain {
         self.pairs.as_slice()
     }
 
-    /// All pairs, rising by key, in the memory that the map kept them in. Takes none, and is never
-    /// refused.
+    /// Returns all pairs, in increasing order of keys, in the memory in which the map kept them.
+    /// Allocates nothing, and never fails.
     pub fn into_pairs(self) -> Vec<Pair>
         ensures all { result.items ≡ self }
         ensures of_map { result.items ≡ pairs_of (map_of self) }
@@ -96,7 +96,7 @@ impl Plain {
         self.pairs
     }
 
-    // What the key has.
+    // Returns the value of the key.
     fn get(&self, key: u64) -> Reply
         ensures { result ≡ fin.get (map_of self.now) key }
     {
@@ -106,7 +106,7 @@ impl Plain {
         }
     }
 
-    // Sets the key, and says what it had.
+    // Sets the value of the key, and returns its previous value.
     fn put(&mut self, key: u64, value: u64) -> Result<Reply, AllocError>
         ensures reply { IfOk result (λ reply. reply ≡ fin.get (map_of self.old) key) }
         ensures after { OnOk result (map_of self.new ≡ fin.insert (map_of self.old) key value) }
@@ -125,7 +125,7 @@ impl Plain {
         }
     }
 
-    // Takes the key away, and says what it had.
+    // Removes the key, and returns its previous value.
     fn remove(&mut self, key: u64) -> Reply
         ensures reply { result ≡ fin.get (map_of self.old) key }
         ensures after { map_of self.new ≡ fin.remove (map_of self.old) key }
@@ -136,7 +136,7 @@ impl Plain {
         }
     }
 
-    // Where the key is, or where it would go. A search by halving.
+    // Returns the place of the key, or the place where it would be inserted. A search by halving.
     fn find(&self, key: u64) -> Result<usize, usize>
         ensures found { IfOk result (IsAt self.now key) }
         ensures absent { IfErr result (IsGapFor self.now key) }

@@ -10,10 +10,10 @@ use tele_io::{BufferedSink, ReadSource, WriteSink};
 use tele_lanes::NoGate;
 use tele_run::run;
 
-/// The status where the arguments can't be had. `run` never answers it.
+/// The status if the arguments can't be had. `run` never returns it.
 const NO_ARGUMENTS: u8 = 1;
 
-/// The words of the command line, the program's name first.
+/// Returns the arguments of the command line, the program's name first.
 fn words(rt: &HostRuntime) -> io::Result<Vec<String>> {
     let mut words = Vec::new(rt.alloc());
     for word in env::args(rt)? {

@@ -1,4 +1,4 @@
--- What the first bytes of a dump tell, and dumps of lawful words. Serves `audits` and the laws.
+-- What the first bytes of a dump say, and dumps of lawful words. Serves `audits` and the laws.
 use Rattle.std.proofs.Common.{◌≡◌, ℕ, zero, suc, ◌-◌, ◌<◌, ◌≤◌, ◌^◌, ◌==◌, nat_eq, nat_lt}
 use Rattle.std.proofs.Common.{Bool, true, false, if◌then◌else◌, List, [], ◌∷◌, ◌++◌, length, take}
 use Rattle.std.proofs.Common.{drop, get_or, replicate, Some, None, refl, sym, ap, ◌∙◌, subst}
@@ -64,6 +64,7 @@ pub record IsGoodHead (bytes : List ℕ) : Type 0 where
   pub count : (first_row ≤ count_told bytes) × (count_told bytes ≤ place_limit)
   pub used : (first_row ≤ used_told bytes) × (used_told bytes ≤ count_told bytes)
 
+-- bytes whose first numbers have no flaw have a good head
 pub good_head : (bytes : List ℕ) → head_flaw bytes ≡ None → IsGoodHead bytes
 good_head bytes e =
     let p = picked (starts_with nat_eq bytes magic) (nat_lt (length bytes) 16)
@@ -83,6 +84,7 @@ begin_magic bytes e = sym (same_text magic (take 8 bytes) (sym e))
 
 -- more bytes change nothing of the head
 module _ (xs ys : List ℕ) (long : 24 ≤ length xs) where
+  -- the number of words is determined by the first bytes
   pub count_front : count_told (xs ++ ys) ≡ count_told xs
   count_front = number_of_inside 8 xs ys (omega arith)
 
@@ -98,7 +100,7 @@ sized true b e = absurd (cc)
 sized false true e = absurd (cc)
 sized false false e = (refl, refl)
 
--- the length is that of a dump
+-- the length is a dump's
 pub good_length : (bytes : List ℕ) → length_flaw bytes ≡ None
     → length bytes ≡ dump_length (used_told bytes)
 good_length bytes e =
@@ -108,9 +110,9 @@ good_length bytes e =
     let b : nat_lt n (length bytes) ≡ false = p.1 in
     grind (arith, nat_tests)
 
--- ---- words that are told
+-- ---- the words of a dump
 
--- words below 2^64 with zeros behind them
+-- words below 2^64 with zeros after them
 fit_zeros : (xs : List ℕ) (n : ℕ) → ((i : ℕ) → get_or xs i 0 < 2 ^ 64)
     → (i : ℕ) → get_or (xs ++ replicate n 0) i 0 < 2 ^ 64
 fit_zeros [] zero h i = h i
@@ -142,7 +144,7 @@ module _ (bytes : List ℕ) (head : IsGoodHead bytes)
       let some = head.used.0 in
       get_or_numbers_in (used_told bytes) (drop 16 bytes) 0 (omega arith)
 
-  -- they are in bounds, where the anchor is open
+  -- they are in bounds if the anchor is open
   pub bounds_told : word_at (words_told bytes) anchor_status_place ≡ 0
       → HasGoodBounds (words_told bytes)
   bounds_told open_anchor =
@@ -207,7 +209,7 @@ module _ (bytes : List ℕ) (head : IsGoodHead bytes)
       ∙ ap (λ xs. number_bytes (length (table_told bytes)) ++ xs) words)
 
   module _ (zeros : ZerosChangeNothing) where
-    -- zeros behind the used words
+    -- zeros after the used words
     behind : ((pairs : List Pair) → AreLawful (words_told bytes) pairs
         → AreLawful (table_told bytes) pairs)
         × ((place : ℕ)
@@ -220,7 +222,7 @@ module _ (bytes : List ℕ) (head : IsGoodHead bytes)
         zeros (words_told bytes) (count_told bytes - used_told bytes) (omega arith)
         (first_told ∙ sym length_told) (omega arith)
 
-    -- what is told of bytes whose words are lawful
+    -- the report of bytes whose words are lawful
     pub told_lawfully : AreBytes bytes
         → ((place : ℕ) → word_at (words_told bytes) place < 2 ^ 64)
         → (pairs : List Pair) → AreLawful (words_told bytes) pairs
@@ -250,7 +252,7 @@ module _ (bytes : List ℕ) (head : IsGoodHead bytes)
           breaks = behind.1 place first;
         }
 
--- what is read of the bytes is what they tell
+-- the words that are read from the bytes are those that they encode
 pub told_is : (bytes now : List ℕ) (used : ℕ) (words : List ℕ) → now ≡ bytes
     → used ≡ number_of (drop 16 now) → words ≡ numbers_in used (drop 16 bytes)
     → words ≡ words_told bytes
@@ -265,6 +267,7 @@ module _ (bytes words : List ℕ) (head : head_flaw bytes ≡ None)
   exact : length bytes ≡ dump_length (used_told bytes)
   exact = good_length bytes whole
 
+  -- there are more than two words
   pub read_long : 2 < length words
   read_long =
       let l = length_told bytes good exact in
@@ -272,11 +275,13 @@ module _ (bytes words : List ℕ) (head : head_flaw bytes ≡ None)
       let u = good.used.0 in
       omega arith
 
+  -- if the anchor is open, the words are in bounds
   pub read_bounds : word_at words anchor_status_place ≡ 0 → HasGoodBounds words
   read_bounds open_anchor =
       subst HasGoodBounds (sym is)
       (bounds_told bytes good exact (subst (λ xs. word_at xs anchor_status_place ≡ 0) is open_anchor))
 
+  -- if the words are lawful, the bytes are the dump of a lawful table with this report
   pub read_lawfully : ZerosChangeNothing → AreBytes bytes
       → ((place : ℕ) → word_at words place < 2 ^ 64)
       → (count used : ℕ) (pairs : List Pair) → count ≡ count_told bytes → used ≡ used_told bytes
@@ -290,6 +295,7 @@ module _ (bytes words : List ℕ) (head : head_flaw bytes ≡ None)
       (subst (λ xs. (place : ℕ) → word_at xs place < 2 ^ 64) is fit) pairs
       (subst (λ xs. AreLawful xs pairs) is lawful)))
 
+  -- if the walk first breaks at a place, the dump is flawed at that row
   pub read_broken : ZerosChangeNothing → word_at words anchor_status_place ≡ 0 → (place : ℕ)
       → BreaksFirstAt words [] (first_visit words ∷ []) place → BreaksAtRow bytes place
   read_broken zeros open_anchor place first =

@@ -89,7 +89,7 @@ first_of_length bytes flaw h e =
 same_side : (n m bound : ℕ) → bound ≤ n → n ≤ m → nat_lt m bound ≡ nat_lt n bound
 same_side n m bound a b = grind (arith, nat_tests)
 
--- the head is told by its first 24 bytes
+-- the head is determined by its first 24 bytes
 pub head_front : (xs ys : List ℕ) → 24 ≤ length xs → head_flaw (xs ++ ys) ≡ head_flaw xs
 head_front xs ys long =
     let l = length-append xs ys in
@@ -134,14 +134,14 @@ long_front xs ys long more =
 
 -- ---- from what was taken to all bytes
 
--- where nothing is left, all was taken
+-- if nothing is left, all was taken
 all_taken : (rest taken bytes : List ℕ) (now : Option (List ℕ)) → now ≡ Some rest
     → taken ++ rest ≡ bytes → now ≡ Some [] → taken ≡ bytes
 all_taken rest taken bytes now is same end =
     let none : rest ≡ [] = cc in
     sym (append-nil taken) ∙ ap (λ xs. taken ++ xs) (sym none) ∙ same
 
--- what is said of the bytes that were taken first and of those that were left then
+-- a fact on the bytes taken first, followed by those left then, is a fact on all bytes
 pub from_taken : (P : List ℕ → Type 0) (start mid : Option (List ℕ)) (taken : List ℕ)
     → Takes start mid [] taken → IfSome mid (λ left. P (taken ++ left)) → IfSome start P
 from_taken P None mid taken h k = tt
@@ -196,7 +196,7 @@ all_of_length (Some left) now taken more k enough e =
     (λ end. (all_taken k.0 more (taken ++ left) now k.1 k.2 end, end))
     enough
 
--- what holds of a good answer
+-- what holds of a successful result
 pub ok_so : {A E : Type 0} (P Q : A → Type 0) (r : Result A E) → ((a : A) → P a → Q a)
     → IfOk r P → IfOk r Q
 ok_so P Q (Ok a) f h = f a h
@@ -208,24 +208,26 @@ pub some_so : {A : Type 0} (P Q : A → Type 0) (o : Option A) → ((a : A) → 
 some_so P Q None f h = tt
 some_so P Q (Some a) f h = f a h
 
--- what holds at a good answer
+-- what holds on success
 pub on_ok : {A E P : Type 0} (r : Result A E) → P → OnOk r P
 on_ok (Ok a) p = p
 on_ok (Err e) p = tt
 
--- more bytes behind a good head
+-- more bytes after a good head
 module _ (taken more : List ℕ) (extends : Extends taken more) (head : head_flaw taken ≡ None) where
+  -- the head of the longer bytes is good too
   pub extended_head : head_flaw more ≡ None
   extended_head =
       ap head_flaw extends.1 ∙ head_front taken extends.0 (good_head taken head).long ∙ head
 
+  -- the longer bytes give the same number of used words
   pub extended_used : used_told more ≡ used_told taken
   extended_used = ap used_told extends.1 ∙ used_front taken extends.0 (good_head taken head).long
 
 -- ---- the second step of an audit
 
--- what is known of bytes that were taken behind a good head: the used words are read of the first
--- bytes, and the flaw of the length is named by all that were taken
+-- what is known of bytes that were taken after a good head: the used words are read from the first
+-- bytes, and the flaw of the length is found from all that were taken
 pub record Reaches (mid now : Option (List ℕ)) (taken more first second : List ℕ) (used : ℕ)
     (found : Option Flaw) : Type 0 where
   pub head : head_flaw taken ≡ None
@@ -251,12 +253,14 @@ module _ (mid now : Option (List ℕ)) (taken more first second : List ℕ) (use
   enough_more =
       subst (λ n. IfSome mid (λ _. AreEnough now (16 + 8 * n + 1) more)) used_more h.enough
 
+  -- a flaw that was found is the first flaw of all bytes
   pub reached_flaw : (flaw : Flaw) → found ≡ Some flaw
       → IfSome mid (λ left. IsFirstFlaw (taken ++ left) flaw)
   reached_flaw flaw is =
       length_flaw_of_all mid now taken more flaw h.takes enough_more head_more
       (ap length_flaw (sym h.second_is) ∙ sym h.found_is ∙ is)
 
+  -- if no flaw was found, all bytes were taken
   pub reached_all : found ≡ None
       → IfSome mid (λ left. (more ≡ taken ++ left) × (now ≡ Some []))
   reached_all is =

@@ -1,4 +1,4 @@
--- What the dump of lawful words tells. Serves `laws`.
+-- What the dump of lawful words says. Serves `laws`.
 use Rattle.std.proofs.Common.{◌≡◌, ℕ, suc, ◌+◌, ◌-◌, ◌<◌, ◌≤◌, ◌^◌, nat_eq, nat_lt, Bool}
 use Rattle.std.proofs.Common.{true, false, ◌||◌, if◌then◌else◌, List, [], ◌∷◌, ◌++◌, length, take}
 use Rattle.std.proofs.Common.{drop, get_or, replicate, Some, None, refl, sym, ap, ◌∙◌, subst}
@@ -42,7 +42,7 @@ not_out low high n a b =
 not_less : (n m : ℕ) → m ≤ n → nat_lt n m ≡ false
 not_less n m h = grind (arith, nat_tests)
 
--- ---- what a dump tells
+-- ---- what a dump says
 
 module _ (table : List ℕ) (bounds : HasGoodBounds table)
     (fit : (place : ℕ) → word_at table place < 2 ^ 64) where
@@ -70,6 +70,7 @@ module _ (table : List ℕ) (bounds : HasGoodBounds table)
       ∙ drop_at (number_bytes (length table)) (flat_map number_bytes (used_words table)) 8
       (length-number_bytes (length table))
 
+  -- the dump of a table gives the table's number of words
   pub count_back : count_told (dump_of table) ≡ length table
   count_back =
       let most = bounds.most in
@@ -96,6 +97,7 @@ module _ (table : List ℕ) (bounds : HasGoodBounds table)
       ∙ ap (λ xs. get_or xs 0 0) numbers_back
       ∙ get_or-take (word_at table next_place) table 0 0 (omega arith)
 
+  -- the dump of a table gives the table's used words
   pub words_back : words_told (dump_of table) ≡ used_words table
   words_back =
       ap (λ n. numbers_in n (drop 16 (dump_of table))) (used_back ∙ sym length_ws)
@@ -111,6 +113,7 @@ module _ (table : List ℕ) (bounds : HasGoodBounds table)
       (λ i less. get_or-drop n table i 0 ∙ bounds.free (n + i) (omega arith) (omega arith))
       ∙ ap (λ m. replicate m 0) l
 
+  -- the dump of a table gives the whole table
   pub table_back : table_told (dump_of table) ≡ table
   table_back =
       ap (λ xs. xs ++ replicate (count_told (dump_of table) - used_told (dump_of table)) 0) words_back
@@ -156,6 +159,7 @@ module _ (table : List ℕ) (bounds : HasGoodBounds table)
       unnamed false false true u p q r w = absurd (cc)
       unnamed false false false true p q r w = absurd (cc)
 
+  -- nothing is wrong in the dump of a table before its rows
   pub none_back : flaw_before_rows (dump_of table) ≡ None
   none_back =
       let l = length_back in
@@ -180,7 +184,7 @@ module _ (table : List ℕ) (bounds : HasGoodBounds table)
 
 -- ---- the laws
 
--- where nothing is wrong before the rows, a flaw is a broken row
+-- if nothing is wrong before the rows, a flaw is a broken row
 named_row : (bytes : List ℕ) (flaw : Flaw) → flaw_before_rows bytes ≡ None → IsFirstFlaw bytes flaw
     → (place : ℕ) × (flaw ≡ Row place) × BreaksAtRow bytes place
 named_row bytes (Row place) none h = (place, refl, h)
@@ -191,7 +195,7 @@ named_row bytes Used none h = absurd (cc)
 named_row bytes Long none h = absurd (cc)
 named_row bytes Anchor none h = absurd (cc)
 
--- where something is wrong before them, the flaw is that
+-- if something is wrong before the rows, the flaw is that
 named_before : (bytes : List ℕ) (flaw other : Flaw) → flaw_before_rows bytes ≡ Some flaw
     → IsFirstFlaw bytes other → flaw ≡ other
 named_before bytes flaw (Row place) some h = absurd (let none = h.before in cc)
@@ -216,7 +220,7 @@ one_flaw one bytes Long other h k = named_before bytes Long other h k
 one_flaw one bytes Anchor other h k = named_before bytes Anchor other h k
 
 module _ (bytes : List ℕ) (told : Told) (h : IsLawfulDump bytes told) where
-  -- a dump tells its table
+  -- a dump gives back its table
   pub table_is : table_told bytes ≡ h.table
   table_is = ap table_told h.dumped ∙ table_back h.table h.lawful.holds.bounds h.fit
 
@@ -229,14 +233,14 @@ module _ (bytes : List ℕ) (told : Told) (h : IsLawfulDump bytes told) where
       nowhere h.table told.pairs h.lawful row.0
       (subst (λ xs. BreaksFirstAt xs [] (first_visit xs ∷ []) row.0) table_is row.2.breaks)
 
--- what is told is told by its parts
+-- a report is determined by its parts
 same_told : (a b : Told) → a.words ≡ b.words → a.used ≡ b.used → a.pairs ≡ b.pairs → a ≡ b
 same_told a b e f g =
     ap (λ n. record { words = n; used = a.used; pairs = a.pairs }) e
     ∙ ap (λ n. record { words = b.words; used = n; pairs = a.pairs }) f
     ∙ ap (λ ps. record { words = b.words; used = b.used; pairs = ps }) g
 
--- of a dump one thing is told
+-- a dump has only one report
 pub one_told : PairsAreOne → (bytes : List ℕ) (told other : Told) → IsLawfulDump bytes told
     → IsLawfulDump bytes other → told ≡ other
 one_told one bytes told other h k =
@@ -247,7 +251,7 @@ one_told one bytes told other h k =
     (one k.table told.pairs other.pairs
     (subst (λ xs. AreLawful xs told.pairs) same h.lawful).holds k.lawful.holds)
 
--- of an interval the dump of some words tells what they hold of it
+-- the pairs of an interval by the dump of some words are those that the words hold
 pub listed_is : PairsAreOne → (words : List ℕ) (told : Told) (first last : ℕ) (found : List Pair)
     → ((place : ℕ) → word_at words place < 2 ^ 64)
     → IsLawfulDump (dump_of words) told → AreListed words first last found

@@ -1,4 +1,4 @@
--- Numbers as eight bytes, and words as numbers one behind another. Serves `numbers`, `tables` and
+-- Numbers as eight bytes, and words as numbers one after another. Serves `numbers`, `tables` and
 -- the laws.
 use Rattle.std.proofs.Common.{◌≡◌, ℕ, zero, suc, ◌+◌, ◌*◌, ◌<◌, ◌≤◌, ◌^◌, List, [], ◌∷◌}
 use Rattle.std.proofs.Common.{◌++◌, length, take, drop, get_or, refl, sym, ap, ◌∙◌, arith}
@@ -23,16 +23,18 @@ below-take bound (suc n) (x ∷ xs) some h zero = h 0
 below-take bound (suc n) (x ∷ xs) some h (suc i) =
     below-take bound n xs some (λ j. h (suc j)) i
 
+-- bytes after the first n are still bytes
 pub bytes-drop : (n : ℕ) (bytes : List ℕ) → AreBytes bytes → AreBytes (drop n bytes)
 bytes-drop n bytes h i = rw get_or-drop (h (n + i))
 
 -- ---- one number
 
--- a number is told by its own bytes
+-- a number is determined by its own eight bytes
 pub number_of_front : (xs ys : List ℕ) → 8 ≤ length xs → number_of (xs ++ ys) ≡ number_of xs
 unfolding number_of
 number_of_front xs ys long = ap (from_le_bytes w64) (take-append-le 8 xs ys long)
 
+-- a number that lies within the first bytes is determined by them
 pub number_of_inside : (n : ℕ) (xs ys : List ℕ) → n + 8 ≤ length xs
     → number_of (drop n (xs ++ ys)) ≡ number_of (drop n xs)
 number_of_inside n xs ys long =
@@ -40,7 +42,7 @@ number_of_inside n xs ys long =
     ap number_of (drop-append-le n xs ys (omega arith))
     ∙ number_of_front (drop n xs) ys (omega arith)
 
--- eight bytes are those of the number that they are
+-- eight bytes are the encoding of the number that they encode
 pub number_bytes-number_of : (bytes : List ℕ) → AreBytes bytes → 8 ≤ length bytes
     → number_bytes (number_of bytes) ≡ take 8 bytes
 unfolding number_bytes number_of
@@ -48,6 +50,7 @@ number_bytes-number_of bytes h long =
     le_bytes_8 (take 8 bytes) (from_le_bytes w64 (take 8 bytes)) (length-take-le 8 bytes long)
     (below-take 256 8 bytes (omega arith) h) refl
 
+-- a number is encoded in eight bytes
 pub length-number_bytes : (n : ℕ) → length (number_bytes n) ≡ 8
 unfolding number_bytes
 length-number_bytes n = refl
@@ -62,11 +65,13 @@ number_of-number_bytes n rest fits =
 
 -- ---- many numbers
 
+-- the list has this many numbers
 pub length_numbers_in : (count : ℕ) (bytes : List ℕ) → length (numbers_in count bytes) ≡ count
 unfolding numbers_in
 length_numbers_in zero bytes = refl
 length_numbers_in (suc count) bytes = ap suc (length_numbers_in count (drop 8 bytes))
 
+-- number i is encoded by the eight bytes from place 8 * i on
 pub get_or_numbers_in : (count : ℕ) (bytes : List ℕ) (i : ℕ) → i < count
     → get_or (numbers_in count bytes) i 0 ≡ number_of (drop (8 * i) bytes)
 unfolding numbers_in
@@ -108,6 +113,7 @@ numbers_of_bytes (n ∷ numbers) rest fit =
     ∙ ap (λ xs. n ∷ numbers_in (length numbers) xs) others
     ∙ ap (λ (xs : List ℕ). n ∷ xs) (numbers_of_bytes numbers rest (λ i. fit (suc i)))
 
+-- the encoding of some numbers has eight bytes for each
 pub length-flat_bytes : (numbers : List ℕ)
     → length (flat_map number_bytes numbers) ≡ 8 * length numbers
 length-flat_bytes [] = refl
@@ -121,14 +127,14 @@ length-flat_bytes (n ∷ numbers) =
 
 module _ (used : ℕ) (bytes words : List ℕ) (place : ℕ) (is : numbers_in used (drop 16 bytes) ≡ words)
     (within : place < length words) where
-  -- a word that is told is one of the used ones
+  -- a place within the words is the place of a used word
   pub place_told : place < used
   place_told =
       let n = length_numbers_in used (drop 16 bytes) in
       let e = ap (λ (xs : List ℕ). length xs) is in
       omega arith
 
-  -- it stands behind the first 16 bytes
+  -- it follows the first 16 bytes
   pub word_told : get_or words place 0 ≡ number_of (drop (16 + 8 * place) bytes)
   word_told =
       ap (λ xs. get_or xs place 0) (sym is)

@@ -17,7 +17,7 @@ use Rattle.ist_core.specs.Resting.{StandsFor}
 use Rattle.ist_core.specs.RowLayout.{next_place, first_row}
 use Rattle.ist_core.specs.Shapes.{ideal_words}
 use Rattle.ist_core.specs.StartLayout.{start}
-use Rattle.ist_links.proofs.QuietLemmas.{start_quiet}
+use Rattle.laws_links.proofs.QuietLemmas.{start_quiet}
 use Rattle.ist_rest.specs.Laws.{StandingWordsAreLawful}
 use Rattle.ist_words.specs.Laws.{PairsAreOne, LawfulWordsBreakNowhere}
 use Rattle.ist_words.specs.RestingWords.{AreLawful}
@@ -64,6 +64,7 @@ one_more m (Get key) = omega arith
 -- a point line was carried out
 module _ (m then_m : Map) (command : Command) (reply : Option ℕ)
     (done : (then_m, reply) ≡ step m command) where
+  -- a point line is carried out on the map, and the lines after it see the new map
   pub point_taken : (item : Item) → item ≡ Point command
       → (number : ℕ) (version : Version) (lines : List Read)
       → behind_lines m (Good number version item ∷ lines) ≡ behind_lines then_m lines
@@ -71,6 +72,7 @@ module _ (m then_m : Map) (command : Command) (reply : Option ℕ)
       ap (λ i. behind_lines m (Good number version i ∷ lines)) is
       ∙ ap (λ (p : Map × Option ℕ). behind_lines p.0 lines) (sym done)
 
+  -- a command adds at most one pair
   pub point_few : fin.len then_m ≤ fin.len m + 1
   point_few =
       subst (λ n. fin.len n ≤ fin.len m + 1) (ap (λ (p : Map × Option ℕ). p.0) (sym done))
@@ -98,6 +100,7 @@ all_unread : (left : Option (List ℕ))
 all_unread None = tt
 all_unread (Some bytes) = record { rest = bytes; leaves = refl; same = refl }
 
+-- a reading that has not begun is under way with the empty map
 pub way_first : (left : Option (List ℕ)) (kept : List ℕ) (ended : Bool) (place : Place) (m : Map)
     → kept ≡ [] → ended ≡ false → place ≡ first_place → m ≡ no_pairs
     → IfSome left (λ bytes. IsUnderWay bytes m place (unread_of kept ended left))
@@ -132,7 +135,7 @@ module _ (m : Map) (old : Place) (unread : Option (List ℕ)) where
             ∙ ap (behind_lines m) (sym next.reads) ∙ way.same;
       }
 
-  -- no line asks for more
+  -- if no line is left that asks for something, the map is the one that the input leaves
   pub way_done : (left : Option (List ℕ)) → IfSome left (λ bytes. IsUnderWay bytes m old unread)
       → IfSome unread (λ bytes. read_at old (lines_of bytes) ≡ [])
       → IfSome left (λ bytes. left_by bytes ≡ Holds m)
@@ -154,7 +157,7 @@ module _ (m : Map) (old : Place) (unread : Option (List ℕ)) where
       bad in
       sym way.same ∙ ap (behind_lines m) here
 
--- the source has nothing left once its end was told
+-- once its end was seen, the source has nothing left
 pub whole_if : (left now : Option (List ℕ)) (ended : Bool) → (IsSome left → TellsEndOf ended now)
     → ended ≡ true → IfSome left (λ _. now ≡ Some [])
 whole_if None now ended tells is = tt
@@ -162,7 +165,7 @@ whole_if (Some bytes) now ended tells is = (tells refl).none is
 
 -- ---- new tables
 
--- the words of a new table stand for its pairs, and no call
+-- the words of a new table represent its pairs, and no call
 abbrev stands_new : (m : Map) (words : List ℕ) → IsNewTable m words
     → StandsFor words (pairs_of m) []
 stands_new m words table = record {
@@ -182,7 +185,7 @@ pub length-pairs_of : (m : Map) → length (pairs_of m) ≡ fin.len m
 length-pairs_of m = length-map {A = ℕ × ℕ} (fin.entries m) (λ e. record { key = e.0; value = e.1 })
     ∙ sym (fin.len-entries m)
 
--- a table may begin with so many
+-- a table may begin with this many pairs
 pub can_open : (pairs plain : List Pair) (m : Map) (first ideal : ℕ) → pairs ≡ plain
     → plain ≡ pairs_of m → IsRising plain → fin.len m ≤ 2 ^ 24 → first ≡ first_row
     → ideal ≡ ideal_words (length pairs) → ideal ≤ 9 * length pairs → CanOpen pairs (first + ideal)
@@ -229,7 +232,7 @@ due_packed bytes dump due = elim due [
 same_left : (m n : Map) (left : Left) → left ≡ Holds m → left ≡ Holds n → m ≡ n
 same_left m n left e f = cc (e, f)
 
--- the dump tells the pairs of the map
+-- the dump holds the pairs of the map
 pub packed_told : StandingWordsAreLawful → (bytes dump : List ℕ) (m : Map) → left_by bytes ≡ Holds m
     → IsDue Pack bytes dump DONE
     → (told : Told) × IsLawfulDump dump told × (told.pairs ≡ pairs_of m)

@@ -1,4 +1,4 @@
--- The pairs that words hold rise by key. Serves `audits.audit_bytes`.
+-- The pairs that words hold have strictly increasing keys. Serves `audits.audit_bytes`.
 use Rattle.std.proofs.Common.{ℕ, ◌+◌, ◌<◌, List, [], ◌∷◌, ◌++◌, refl, inl, inr}
 use Rattle.std.proofs.Common.{arith}
 use Rattle.ist_core.specs.declared.pairs.Pair.{Pair}
@@ -14,7 +14,7 @@ use Rattle.ist_words.specs.Walks.{visits_from, visits_below, Walks, ends, goes_o
 use Rattle.ist_words.specs.RestingWords.{HoldPairs}
 use Rattle.plain_map.specs.Rising.{IsRising}
 
--- ---- slots behind others
+-- ---- slots after others
 
 -- a key leads before the slot: by a way to it, into an earlier child
 record IsAbove (key : ℕ) (visit : Visit) : Type 0 where
@@ -22,7 +22,7 @@ record IsAbove (key : ℕ) (visit : Visit) : Type 0 where
   pub among : Among way visit.ways
   pub less : child_count way.keys key < way.index
 
--- a slot stands before another: under one row, in an earlier child
+-- a slot precedes another: under one row, in an earlier child
 record IsBefore (first second : Visit) : Type 0 where
   pub keys : List ℕ
   pub low : ℕ
@@ -31,14 +31,14 @@ record IsBefore (first second : Visit) : Type 0 where
   pub other : Among record { keys = keys; index = high } second.ways
   pub less : low < high
 
--- each slot stands before all later ones
+-- each slot precedes all later ones
 abbrev AreOrdered : List Visit → Type 0
 AreOrdered [] = Unit {0}
 AreOrdered (visit ∷ visits) = Each (IsBefore visit) visits × AreOrdered visits
 
 -- ---- the ways to the slots below
 
--- each slot below has the ways of the slot above, behind one of its own
+-- each slot below has the ways of the slot above, after one of its own
 below_each : (P : Visit → Type 0) (visit : Visit) (node : ℕ) (keys : List ℕ) (i place : ℕ)
     (slots : List ℕ)
     → ((place word index : ℕ)
@@ -53,7 +53,7 @@ below_each P visit node keys i place [] h = tt
 below_each P visit node keys i place (s ∷ slots) h =
     (h place s i, below_each P visit node keys (i + 1) (place + 1) slots h)
 
--- what goes on to the slots below by their ways
+-- what follows from having the ways of a slot holds of the slots below it
 each_below : (words : List ℕ) (visit : Visit) (ref : Ref) (P : Visit → Type 0)
     → ((v : Visit) → ((way : Way) → Among way visit.ways → Among way v.ways) → P v)
     → Each P (visits_below words visit ref)
@@ -72,7 +72,7 @@ each_below words visit (LeafAt base) P h = tt
 each_below words visit (ChangeAt base) P h = tt
 each_below words visit (RebuildAt base) P h = tt
 
--- a child stands before those behind it
+-- a child precedes those after it
 before_later : (node : ℕ) (ways : List Way) (keys : List ℕ) (first : Visit) (low : ℕ)
     → Among record { keys = keys; index = low } first.ways
     → (i place : ℕ) (slots : List ℕ) → low < i
@@ -83,7 +83,7 @@ before_later node ways keys first low a i place (s ∷ slots) less = (
   before_later node ways keys first low a (i + 1) (place + 1) slots (omega arith),
 )
 
--- the slots of a row stand in order
+-- the slots of a row are in order
 ordered_from : (node : ℕ) (ways : List Way) (keys : List ℕ) (i place : ℕ) (slots : List ℕ)
     → AreOrdered (visits_from node ways keys i place slots)
 ordered_from node ways keys i place [] = tt
@@ -149,7 +149,7 @@ all_above words key _ _ _ (goes_on {visit = visit} {visits = visits} {rows = row
     (each_below words visit at.ref (IsAbove key)
     (λ v on. record { way = h.0.way; among = on h.0.way h.0.among; less = h.0.less })) h.1))
 
--- the pair of a slot is below those that are found behind it
+-- the pair of a slot is below those that are found after it
 here_rises : (words : List ℕ) (visit : Visit) (visits : List Visit) (rows : List Span)
     (pairs : List Pair) (ref : Ref) → IsGoodAs words visit ref
     → Walks words (visits_below words visit ref ++ visits) rows pairs
@@ -175,7 +175,7 @@ here_rises words visit visits rows pairs (InnerAt base) good w before rises = ri
 here_rises words visit visits rows pairs (ChangeAt base) good w before rises = rises
 here_rises words visit visits rows pairs (RebuildAt base) good w before rises = rises
 
--- the pairs of a walk over slots in order rise by key
+-- the pairs of a walk over slots in order have strictly increasing keys
 walk_rises : (words : List ℕ) (visits : List Visit) (rows : List Span) (pairs : List Pair)
     → Walks words visits rows pairs → AreOrdered visits → Rises (λ (p : Pair). p.key) pairs
 walk_rises words _ _ _ ends ordered = tt
@@ -196,7 +196,7 @@ walk_rises words _ _ _ (goes_on {visit = visit} {visits = visits} {rows = rows} 
     (walk_rises words (below ++ visits) rows pairs w
     (ordered_append below visits (ordered_below words visit at.ref) ordered.1 on))
 
--- the pairs that words hold rise by key
+-- the pairs that words hold have strictly increasing keys
 pub held_pairs_rise : (words : List ℕ) (pairs : List Pair) → HoldPairs words pairs → IsRising pairs
 held_pairs_rise words pairs h =
     next_from_rises (λ (p : Pair). p.key) pairs

@@ -27,7 +27,7 @@ moves_all before now piece written new a e f =
     record { moved = written; writes = a; whole = ap (λ xs. written ++ xs) f ∙ append-nil written ∙ e }
 
 module _ (before : Option (List ℕ)) (words : List ℕ) where
-  -- the head alone
+  -- only the head
   pub dumped_head : (empty first piece : List ℕ) (count : ℕ) → empty ≡ []
       → first ≡ empty ++ magic → piece ≡ first ++ number_bytes count → count ≡ length words
       → HasDumped before before words piece 0
@@ -77,7 +77,7 @@ module _ (before : Option (List ℕ)) (words : List ℕ) where
             (number_bytes word) ∙ ap (λ xs. number_bytes (length words) ++ xs) (sym one));
       }
 
-  -- the dump as far as a place, and what is still to come
+  -- the dump up to a place, followed by the rest
   pub rest_of : (place : ℕ) → place ≤ word_at words next_place
       → (rest : List ℕ) × (dump_of words
       ≡ (magic ++ number_bytes (length words) ++ flat_map number_bytes (take place words)) ++ rest)
@@ -118,12 +118,12 @@ module _ (before : Option (List ℕ)) (words : List ℕ) where
       (take n words)) e)
       (Appends-append before now later h.written piece h.writes a)
 
--- what holds holds at a refusal
+-- what holds anyway holds on an error
 pub on_err : {A E P : Type 0} (r : Result A E) → P → OnErr r P
 on_err (Ok a) p = tt
 on_err (Err e) p = p
 
--- what follows at a refusal
+-- what follows on an error
 pub err_so : {A E P Q : Type 0} (r : Result A E) → (P → Q) → OnErr r P → OnErr r Q
 err_so (Ok a) f p = tt
 err_so (Err e) f p = f p

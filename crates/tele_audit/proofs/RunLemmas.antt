@@ -19,18 +19,20 @@ use Rattle.tele_audit.specs.Runs.{IsDue, Writes, WritesPart, said, flaw_text}
 
 -- a text that is due was written, or a part of it
 module _ (job : Job) (before now : Option (List ℕ)) (text : List ℕ) (status : ℕ) where
+  -- a due text that was appended was written whole
   pub writes_if : (left : Option (List ℕ)) → IfSome left (λ bytes. IsDue job bytes text status)
       → Appends before now text → IfSome left (λ bytes. Writes job bytes before now status)
   writes_if None due writes = tt
   writes_if (Some bytes) due writes = record { text = text; due = due; writes = writes }
 
+  -- a prefix of a due text was written in part
   pub part_if : (left : Option (List ℕ)) → IfSome left (λ bytes. IsDue job bytes text status)
       → AppendsPart before now text → IfSome left (λ bytes. WritesPart job bytes before now)
   part_if None due part = tt
   part_if (Some bytes) due part =
       inr (record { text = text; status = status; due = due; writes = part })
 
-  -- the status behind it is known
+  -- on success the status is the due one
   pub done_text : (left : Option (List ℕ)) → IfSome left (λ bytes. IsDue job bytes text status)
       → (r : Result ℕ Halt) → IfOk r (λ s. s ≡ status) → OnOk r (Appends before now text)
       → IfOk r (λ s. IfSome left (λ bytes. Writes job bytes before now s))
@@ -39,7 +41,7 @@ module _ (job : Job) (before now : Option (List ℕ)) (text : List ℕ) (status 
       subst (λ n. IfSome left (λ bytes. Writes job bytes before now n)) (sym same)
       (writes_if left due writes)
 
--- a fact at a refusal from another
+-- a fact on an error follows from another
 pub on_err : {A E P Q : Type 0} (r : Result A E) → (P → Q) → OnErr r P → OnErr r Q
 on_err (Ok a) f p = tt
 on_err (Err e) f p = f p
@@ -52,6 +54,7 @@ nothing_if job before now (Some bytes) same = inl same
 
 -- ---- what is due
 
+-- the dump of a new table of the map that the lines leave is due
 pub packed_due : (left : Option (List ℕ)) (m : Map) (words : List ℕ)
     → IfSome left (λ bytes. left_by bytes ≡ Holds m) → IsNewTable m words
     → IfSome left (λ bytes. IsDue Pack bytes (dump_of words) DONE)
@@ -66,6 +69,7 @@ packed_due (Some bytes) m words is table =
       status_is = refl;
     })
 
+-- for a bad line, the line that names it is due
 pub bad_due : (left : Option (List ℕ)) (number : ℕ) (cause : Cause)
     → IfSome left (λ bytes. left_by bytes ≡ Refuses number cause)
     → IfSome left (λ bytes. IsDue Pack bytes (bad_text number cause) BAD_LINE)
@@ -81,16 +85,19 @@ bad_due (Some bytes) number cause is =
 
 -- the same line
 module _ (before now : Option (List ℕ)) (n m : ℕ) (c d : Cause) (line : n ≡ m) (cause : c ≡ d) where
+  -- the line that names a bad line is the same for equal numbers and causes
   pub same_bad : Appends before now (bad_text n c) → Appends before now (bad_text m d)
   same_bad writes =
       subst (λ x. Appends before now (bad_text m x)) cause
       (subst (λ x. Appends before now (bad_text x c)) line writes)
 
+  -- a part of that line is the same for equal numbers and causes
   pub same_bad_part : AppendsPart before now (bad_text n c) → AppendsPart before now (bad_text m d)
   same_bad_part part =
       subst (λ x. AppendsPart before now (bad_text m x)) cause
       (subst (λ x. AppendsPart before now (bad_text x c)) line part)
 
+-- for a lawful dump, the text for the question is due
 pub answer_due : (left : Option (List ℕ)) (question : Question) (told : Told)
     → IfSome left (λ bytes. IsLawfulDump bytes told)
     → IfSome left (λ bytes. IsDue (Tell question) bytes (said question told) DONE)
@@ -100,12 +107,15 @@ answer_due (Some bytes) question told lawful =
 
 -- the same flaw
 module _ (before now : Option (List ℕ)) (f h : Flaw) (same : f ≡ h) where
+  -- the line that names a flaw is the same for equal flaws
   pub same_flaw : Appends before now (flaw_text f) → Appends before now (flaw_text h)
   same_flaw writes = subst (λ x. Appends before now (flaw_text x)) same writes
 
+  -- a part of that line is the same for equal flaws
   pub same_flaw_part : AppendsPart before now (flaw_text f) → AppendsPart before now (flaw_text h)
   same_flaw_part part = subst (λ x. AppendsPart before now (flaw_text x)) same part
 
+-- for a flawed dump, the line that names its first flaw is due
 pub flaw_due : (left : Option (List ℕ)) (question : Question) (flaw : Flaw)
     → IfSome left (λ bytes. IsFirstFlaw bytes flaw)
     → IfSome left (λ bytes. IsDue (Tell question) bytes (flaw_text flaw) FLAWED)
@@ -113,12 +123,13 @@ flaw_due None question flaw first = tt
 flaw_due (Some bytes) question flaw first =
     inr (record { flaw = flaw; first = first; text_is = refl; status_is = refl })
 
+-- for wrong arguments, the usage line is due
 pub usage_due : (left : Option (List ℕ))
     → IfSome left (λ bytes. IsDue Refuse bytes usage_text USAGE)
 usage_due None = tt
 usage_due (Some bytes) = (refl, refl)
 
--- ---- refused words
+-- ---- wrong arguments
 
 -- a part of the line that says so was written
 pub refused_part : (before now left : Option (List ℕ)) (job : Job) → job ≡ Refuse

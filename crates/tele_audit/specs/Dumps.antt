@@ -11,26 +11,26 @@ use Rattle.ist_words.specs.RestingWords.{AreLawful}
 abbrev pub magic : List ℕ
 magic = codes "CISTDUMP"
 
--- a number as eight bytes, the lowest first
+-- a number as eight bytes, lowest byte first
 unfoldable pub number_bytes : ℕ → List ℕ
 number_bytes number = to_le_bytes w64 number
 
--- the words of a table that are used, up to the first free one
+-- the used words of a table, up to the first free one
 abbrev pub used_words : List ℕ → List ℕ
 used_words words = take (word_at words next_place) words
 
--- the dump of a table with these words: how many there are, and those that are used
+-- the dump of a table with these words: the number of words, and the used ones
 abbrev pub dump_of : List ℕ → List ℕ
 dump_of words = magic ++ number_bytes (length words) ++ flat_map number_bytes (used_words words)
 
--- what is told of a dump: how many words the table has, how many of them are used, and the pairs
--- that they hold
+-- what an audit reports of a dump: the number of words of the table, the number of used words, and
+-- the pairs that they hold
 pub record Told : Type 0 where
   pub words : ℕ
   pub used : ℕ
   pub pairs : List Pair
 
--- the bytes are the dump of a table whose words are lawful at rest, and this is told of it
+-- the bytes are the dump of a table whose words are lawful at rest, and this is the audit's report
 pub record IsLawfulDump (bytes : List ℕ) (told : Told) : Type 0 where
   pub table : List ℕ
   pub fit : (place : ℕ) → word_at table place < 2 ^ 64

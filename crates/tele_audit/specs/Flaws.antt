@@ -13,34 +13,34 @@ use Rattle.tele_audit.specs.declared.flaws.Flaw.{Flaw}
 use Rattle.tele_audit.specs.declared.flaws.Flaw.TheVariants.{Magic, Short, Size, Used, Long, Anchor, Row}
 use Rattle.tele_audit.specs.Dumps.{magic}
 
--- ---- what bytes tell
+-- ---- what bytes say
 
--- the number that the first eight bytes are
+-- the number that the first eight bytes encode
 unfoldable pub number_of : List ℕ → ℕ
 number_of bytes = from_le_bytes w64 (take 8 bytes)
 
--- so many numbers, one behind another
+-- this many numbers, one after another
 unfoldable pub numbers_in : ℕ → List ℕ → List ℕ
 numbers_in zero bytes = []
 numbers_in (suc count) bytes = number_of bytes ∷ numbers_in count (drop 8 bytes)
 
--- how many words the table is said to have
+-- the number of words that the bytes give for the table
 abbrev pub count_told : List ℕ → ℕ
 count_told bytes = number_of (drop 8 bytes)
 
--- the first word, which says how many words are used
+-- the first word: the number of used words
 abbrev pub used_told : List ℕ → ℕ
 used_told bytes = number_of (drop 16 bytes)
 
--- how many bytes a dump with so many used words has
+-- the length in bytes of a dump with this many used words
 abbrev pub dump_length : ℕ → ℕ
 dump_length used = 16 + 8 * used
 
--- the words that are told
+-- the used words that the bytes give
 abbrev pub words_told : List ℕ → List ℕ
 words_told bytes = numbers_in (used_told bytes) (drop 16 bytes)
 
--- and those of the whole table: the others are 0
+-- the words of the whole table: the used ones, then zeros
 abbrev pub table_told : List ℕ → List ℕ
 table_told bytes = words_told bytes ++ replicate (count_told bytes - used_told bytes) 0
 
@@ -83,8 +83,8 @@ abbrev pub flaw_before_rows : List ℕ → Option Flaw
 flaw_before_rows bytes =
     flaw_or (head_flaw bytes) (flaw_or (length_flaw bytes) (anchor_flaw bytes))
 
--- nothing is wrong before the rows, and this is the place of the first slot of the walk that breaks
--- the rules
+-- nothing is wrong before the rows, and the first slot of the walk that breaks the rules is at this
+-- place
 pub record BreaksAtRow (bytes : List ℕ) (place : ℕ) : Type 0 where
   pub before : flaw_before_rows bytes ≡ None
   pub breaks : BreaksFirstAt (table_told bytes) [] (first_visit (table_told bytes) ∷ []) place

@@ -5,26 +5,26 @@ use Rattle.tele_audit.specs.declared.jobs.Job.{Job}
 use Rattle.tele_audit.specs.declared.jobs.Job.TheVariants.{Refuse, Pack, Tell}
 use Rattle.tele_audit.specs.declared.jobs.Question.TheVariants.{Counts, Between}
 
--- the interval between two numbers, where both are given
+-- the interval between two numbers, if both are given
 abbrev pub between : Option ℕ → Option ℕ → Job
 between (Some first) (Some last) = Tell (Between first last)
 between (Some first) None = Refuse
 between None last = Refuse
 
--- what one word asks for
+-- what a single argument asks for
 abbrev pub job_named : List ℕ → Job
 job_named word =
     if bytes_eq word (codes "pack") then Pack
     else (if bytes_eq word (codes "check") then Tell Counts else Refuse)
 
--- what a word and two more ask for
+-- what an argument and two more ask for
 abbrev pub job_between : List ℕ → List ℕ → List ℕ → Job
 job_between word first last =
     if bytes_eq word (codes "list") then between (numeral_value first) (numeral_value last)
     else Refuse
 
--- what the words behind the program's name ask for: `pack`, `check`, or `list` and two numerals
--- below 2 ^ 64; other words are refused
+-- what the arguments after the program's name ask for: `pack`, `check`, or `list` and two numerals
+-- below 2 ^ 64; any others are wrong
 abbrev pub job_behind : List (List ℕ) → Job
 job_behind [] = Refuse
 job_behind (word ∷ []) = job_named word
@@ -32,7 +32,7 @@ job_behind (word ∷ first ∷ []) = Refuse
 job_behind (word ∷ first ∷ last ∷ []) = job_between word first last
 job_behind (word ∷ first ∷ last ∷ more ∷ words) = Refuse
 
--- what a command line asks for; its first word is the program's name
+-- what a command line asks for; its first argument is the program's name
 abbrev pub job_of : List (List ℕ) → Job
 job_of [] = Refuse
 job_of (name ∷ words) = job_behind words

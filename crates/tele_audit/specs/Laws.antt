@@ -22,19 +22,19 @@ LawfulDumpsHaveNoFlaw =
     (bytes : List ℕ) (told : Told) (flaw : Flaw) → IsLawfulDump bytes told
     → ¬ (IsFirstFlaw bytes flaw)
 
--- bytes have one first flaw
+-- bytes have at most one first flaw
 abbrev pub FirstFlawsAreOne : Type 0
 FirstFlawsAreOne =
     (bytes : List ℕ) (flaw other : Flaw) → IsFirstFlaw bytes flaw → IsFirstFlaw bytes other
     → flaw ≡ other
 
--- of a dump one thing is told
+-- a dump has only one possible report
 abbrev pub DumpsTellOneThing : Type 0
 DumpsTellOneThing =
     (bytes : List ℕ) (told other : Told) → IsLawfulDump bytes told → IsLawfulDump bytes other
     → told ≡ other
 
--- what the dump of some words tells of an interval is what the words hold of it
+-- the pairs of an interval by the dump of some words are those that the words hold
 abbrev pub DumpsTellTheList : Type 0
 DumpsTellTheList =
     (words : List ℕ) (told : Told) (first last : ℕ) (found : List Pair)
@@ -42,14 +42,14 @@ DumpsTellTheList =
     → IsLawfulDump (dump_of words) told → AreListed words first last found
     → found ≡ pairs_between first last told.pairs
 
--- what `pack` writes is the dump of lawful words, of which the pairs of the map that the lines leave
--- are told
+-- the dump that `pack` writes is one of lawful words, and its pairs are those of the map that the
+-- lines leave
 abbrev pub PackedDumpsTellTheMap : Type 0
 PackedDumpsTellTheMap =
     (bytes dump : List ℕ) (m : Map) → left_by bytes ≡ Holds m → IsDue Pack bytes dump DONE
     → (told : Told) × IsLawfulDump dump told × (told.pairs ≡ pairs_of m)
 
--- what `list` writes over what `pack` wrote is the interval of the map that the lines leave
+-- what `list` writes for the output of `pack` is the interval of the map that the lines leave
 abbrev pub PackedLinesAreListed : Type 0
 PackedLinesAreListed =
     (bytes dump text : List ℕ) (m : Map) (first last status : ℕ) → left_by bytes ≡ Holds m

@@ -12,12 +12,12 @@ use Rattle.tele_lines.specs.declared.items.Item.TheVariants.{Point, Interval}
 use Rattle.tele_lines.specs.Answer.{Read, Good, Bad, input_lines}
 use Rattle.tele_lines.specs.Lines.{lines_of}
 
--- what lines leave: a map, or, where one of them is bad, its number and its cause
+-- what lines leave: a map, or, if one of them is bad, its number and its cause
 pub data Left : Type 0 where
   Holds : Map → Left
   Refuses : ℕ → Cause → Left
 
--- what some lines leave of a map: point lines are carried out, interval lines are passed over
+-- what some lines leave of a map: point lines are carried out, interval lines are skipped
 abbrev pub behind_lines : Map → List Read → Left
 behind_lines m [] = Holds m
 behind_lines m (Good number version (Point command) ∷ lines) =
@@ -25,11 +25,11 @@ behind_lines m (Good number version (Point command) ∷ lines) =
 behind_lines m (Good number version (Interval first last) ∷ lines) = behind_lines m lines
 behind_lines m (Bad number cause ∷ lines) = Refuses number cause
 
--- what an input leaves of the map with no key
+-- what an input leaves of the empty map
 abbrev pub left_by : List ℕ → Left
 left_by bytes = behind_lines no_pairs (input_lines (lines_of bytes))
 
--- the words are those of a new table of these pairs, with no word more than their ideal tree needs
+-- the words are those of a new table of these pairs, exactly as many as their ideal tree needs
 pub record IsNewTable (m : Map) (words : List ℕ) : Type 0 where
   pub opens : CanOpen (pairs_of m) (length words)
   pub fit : (place : ℕ) → word_at words place < 2 ^ 64

@@ -1,4 +1,4 @@
--- The program: what a command owes the bytes of its source, and with which status it ends.
+-- The program: what a command owes for the bytes of its source, and its exit status.
 use Rattle.std.specs.Prelude.{◌≡◌, ℕ, ◌⊎◌, List, ◌++◌, length, codes, decimal, Option}
 use Rattle.std.specs.List.{flat_map}
 use Rattle.ist_core.specs.Map.{Map, pairs_between}
@@ -20,13 +20,13 @@ use Rattle.tele_audit.specs.Packing.{Holds, Refuses, left_by, IsNewTable}
 
 -- ---- texts
 
--- how many keys, used words and words there are
+-- the line with the numbers of keys, used words and words
 abbrev pub counts_text : Told → List ℕ
 counts_text told =
     codes "keys " ++ decimal (length told.pairs) ++ codes " used " ++ decimal told.used
     ++ codes " words " ++ decimal told.words ++ codes "\n"
 
--- what is said of a dump
+-- the text for a question about a dump
 abbrev pub said : Question → Told → List ℕ
 said Counts told = counts_text told
 said (Between first last) told = flat_map (pair_text One) (pairs_between first last told.pairs)
@@ -47,7 +47,7 @@ flaw_text flaw = codes "! dump " ++ flaw_word flaw ++ codes "\n"
 
 -- ---- what is due
 
--- lines without a bad one are packed: the text is the dump of a new table of the map behind them
+-- if no line is bad, the text is the dump of a new table of the map that the lines leave
 pub record IsPacked (bytes text : List ℕ) (status : ℕ) : Type 0 where
   pub m : Map
   pub left : left_by bytes ≡ Holds m
@@ -64,7 +64,7 @@ pub record IsBadLine (bytes text : List ℕ) (status : ℕ) : Type 0 where
   pub text_is : text ≡ bad_text number cause
   pub status_is : status ≡ BAD_LINE
 
--- the bytes are the dump of lawful words, and the question is answered by what it tells
+-- the bytes are the dump of lawful words, and the text answers the question from its report
 pub record IsAnswered (question : Question) (bytes text : List ℕ) (status : ℕ) : Type 0 where
   pub told : Told
   pub lawful : IsLawfulDump bytes told
@@ -78,28 +78,28 @@ pub record IsFlawed (bytes text : List ℕ) (status : ℕ) : Type 0 where
   pub text_is : text ≡ flaw_text flaw
   pub status_is : status ≡ FLAWED
 
--- what a command owes these bytes: the text, and the status behind it
+-- what a command owes for these bytes: the text and the status
 abbrev pub IsDue : Job → List ℕ → List ℕ → ℕ → Type 0
 IsDue Refuse bytes text status = (text ≡ usage_text) × (status ≡ USAGE)
 IsDue Pack bytes text status = IsPacked bytes text status ⊎ IsBadLine bytes text status
 IsDue (Tell question) bytes text status =
     IsAnswered question bytes text status ⊎ IsFlawed bytes text status
 
--- a text that is due was written whole, and the status is the one behind it
+-- a due text was written whole, and the status is the one due with it
 pub record Writes (job : Job) (bytes : List ℕ) (before now : Option (List ℕ)) (status : ℕ)
     : Type 0 where
   pub text : List ℕ
   pub due : IsDue job bytes text status
   pub writes : Appends before now text
 
--- a prefix of a text that is due was written
+-- a prefix of a due text was written
 pub record WritesSome (job : Job) (bytes : List ℕ) (before now : Option (List ℕ)) : Type 0 where
   pub text : List ℕ
   pub status : ℕ
   pub due : IsDue job bytes text status
   pub writes : AppendsPart before now text
 
--- nothing was written, or a prefix of a text that is due
+-- nothing was written, or a prefix of a due text
 abbrev pub WritesPart : Job → List ℕ → Option (List ℕ) → Option (List ℕ) → Type 0
 WritesPart job bytes before now = (now ≡ before) ⊎ WritesSome job bytes before now
 
@@ -111,11 +111,11 @@ IsWhole Refuse status = status ≡ USAGE
 IsWhole Pack status = (status ≡ DONE) ⊎ (status ≡ BAD_LINE)
 IsWhole (Tell question) status = (status ≡ DONE) ⊎ (status ≡ FLAWED)
 
--- the sink failed, or memory was wanting
+-- the sink failed, or memory ran out
 abbrev pub IsCutShort : ℕ → Type 0
 IsCutShort status = (status ≡ WRITE_FAILED) ⊎ (status ≡ NO_MEMORY)
 
--- the statuses of a run, by its job
+-- the statuses that a run may return, by its job
 abbrev pub IsStatus : Job → ℕ → Type 0
 IsStatus Refuse status = IsWhole Refuse status ⊎ IsCutShort status
 IsStatus job status = IsWhole job status ⊎ ((status ≡ READ_FAILED) ⊎ IsCutShort status)

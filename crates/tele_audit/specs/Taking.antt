@@ -2,21 +2,21 @@
 use Rattle.std.specs.Prelude.{◌≡◌, ℕ, ◌<◌, ◌≤◌, ◌⊎◌, List, [], ◌++◌, length, get_or, Option, Some}
 use Rattle.std.specs.Prelude.{None}
 
--- each is a byte
+-- each element is a byte
 abbrev pub AreBytes : List ℕ → Type 0
 AreBytes bytes = (i : ℕ) → get_or bytes i 0 < 256
 
--- there are more bytes behind the old ones
+-- the new bytes are the old ones and perhaps more after them
 abbrev pub Extends : List ℕ → List ℕ → Type 0
 Extends old new = (more : List ℕ) × (new ≡ old ++ more)
 
--- the bytes that were taken, and then those that are left, are as before, where the source tells
--- them
+-- the bytes that were taken, followed by those that are left, are the same as before, if the
+-- source's bytes are known
 abbrev pub Takes : Option (List ℕ) → Option (List ℕ) → List ℕ → List ℕ → Type 0
 Takes (Some left) now old new =
     (rest : List ℕ) × (now ≡ Some rest) × (new ++ rest ≡ old ++ left)
 Takes None now old new = Unit {0}
 
--- so many bytes were taken, or all that the source had
+-- this many bytes were taken, or all that the source had
 abbrev pub AreEnough : Option (List ℕ) → ℕ → List ℕ → Type 0
 AreEnough now count taken = (count ≤ length taken) ⊎ (now ≡ Some [])

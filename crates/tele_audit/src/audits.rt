@@ -19,10 +19,10 @@ use std::alloc::{AllocError, Global};
 use std::marker::Model;
 use tele_io::Source;
 
-/// What an audit tells of a dump of lawful words.
+/// What an audit reports of a dump of lawful words.
 ///
-/// Clauses see how many words the table has, how many of them are used, and the pairs, which rise by
-/// key.
+/// Clauses see the number of words of the table, the number of used words, and the pairs, with
+/// strictly increasing keys.
 #[derive(Drop)]
 pub struct Audited {
     words: u64,
@@ -39,29 +39,29 @@ impl Model for Audited {
 }
 
 impl Audited {
-    /// The pairs with a key from `first` to `last`, both included, rising by key. There are none
-    /// where `first` is above `last`.
+    /// Returns the pairs with a key from `first` to `last`, both included, in increasing order of
+    /// keys. There are none if `first` is above `last`.
     pub fn list(&self, first: u64, last: u64) -> &[Pair]
         ensures between { result.now ≡ pairs_between first last self.now.pairs }
     {
         self.pairs.list(first, last)
     }
 
-    /// How many keys there are.
+    /// Returns the number of keys.
     pub fn keys(&self) -> u64
         ensures value { result ≡ length self.now.pairs }
     {
         self.pairs.pairs().len() as u64
     }
 
-    /// How many words of the table are used.
+    /// Returns the number of used words.
     pub fn used(&self) -> u64
         ensures value { result ≡ self.now.used }
     {
         self.used
     }
 
-    /// How many words the table has.
+    /// Returns the number of words of the table.
     pub fn words(&self) -> u64
         ensures value { result ≡ self.now.words }
     {
@@ -69,13 +69,13 @@ impl Audited {
     }
 }
 
-/// Audits the dump that the source gives: `Ok` exactly where the bytes to its end are a dump of words
-/// that are lawful at rest.
+/// Audits the dump that the source gives. `Ok` means that its bytes, up to its end, are a dump of
+/// words that are lawful at rest.
 ///
-/// Anyone may have written the bytes. Memory grows only with those that were taken, and the walk over
-/// the rows keeps its own list, so a deep tree needs no deep stack. `Bad` names the first flaw in the
-/// order in which a dump is read. `Read` comes only where the source failed in this call. `Memory` is
-/// for want of memory alone.
+/// The bytes may come from anywhere. Memory grows only with the bytes that were taken, and the walk
+/// over the rows keeps its own list, so a deep tree needs no deep stack. `Bad` names the first flaw
+/// in the order in which a dump is read. `Read` is returned only if the source failed in this call,
+/// `Memory` only if memory ran out.
 pub fn audit<S: Source>(alloc: Global, source: &mut S) -> Result<Audited, AuditFault>
     ensures lawful { IfOk result (λ audited.
         IfSome (S.left source.old) (λ bytes. IsLawfulDump bytes audited)) }
@@ -94,7 +94,7 @@ pub fn audit<S: Source>(alloc: Global, source: &mut S) -> Result<Audited, AuditF
     }
 }
 
-/// Goes on with an audit where these bytes were taken, whose first numbers are in good shape.
+/// Continues an audit after these bytes were taken. Their first numbers are valid.
 fn audit_rest<S: Source>(
     alloc: Global,
     source: &mut S,
@@ -119,7 +119,7 @@ fn audit_rest<S: Source>(
     }
 }
 
-/// Audits the bytes of a dump, whose first numbers and whose length are in good shape.
+/// Audits the bytes of a dump whose first numbers and whose length are valid.
 fn audit_bytes(alloc: Global, bytes: Vec<u8>) -> Result<Audited, AuditFault>
     requires head { head_flaw bytes.items ≡ None }
     requires whole { length_flaw bytes.items ≡ None }

@@ -12,11 +12,11 @@ use ist_rest::laws::standing_words_hold_the_map;
 use ist_words::WordList;
 use tele_io::{Sink, SinkFault, write_whole};
 
-/// Writes the dump of a closed table: eight bytes that say what it is, how many words the table has,
-/// and the words that are used, each as eight bytes.
+/// Writes the dump of a closed table: eight bytes that identify a dump, the number of words of the
+/// table, and the used words, each number as eight bytes.
 ///
-/// It takes no memory of its own. After a refusal, which is the sink's, a prefix of the dump was
-/// written. The words of a closed table are lawful at rest, so an audit takes each dump that is whole.
+/// It allocates nothing of its own. On an error, which is the sink's, a prefix of the dump was
+/// written. The words of a closed table are lawful at rest, so an audit accepts each complete dump.
 pub fn dump<O: Sink>(closed: &Closed, out: &mut O) -> Result<(), SinkFault>
     ensures lawful { AreLawfulWords closed.now }
     ensures whole { OnOk result
@@ -31,7 +31,7 @@ pub fn dump<O: Sink>(closed: &Closed, out: &mut O) -> Result<(), SinkFault>
     write_dump(closed, closed.word_count(), out)
 }
 
-/// The words of a closed table are lawful at rest. It costs nothing.
+/// The words of a closed table are lawful at rest. Costs nothing.
 fn know_lawful(closed: &Closed)
     ensures lawful { AreLawfulWords closed.now }
 {
@@ -39,7 +39,7 @@ fn know_lawful(closed: &Closed)
     closed.know();
 }
 
-/// Writes the dump of lawful words, of which there are so many.
+/// Writes the dump of `count` lawful words.
 pub(crate) fn write_dump<W: WordList, O: Sink>(
     words: &W,
     count: u64,

@@ -1,4 +1,4 @@
-//! What is wrong with bytes that are no dump of lawful words, and why an audit says nothing.
+//! What is wrong with bytes that are no dump of lawful words, and why an audit has no result.
 
 /// What is wrong with bytes that are no dump of lawful words. An audit names the first of these in
 /// the order in which a dump is read.
@@ -12,22 +12,22 @@ pub enum Flaw {
     Size,
     /// The first free word is below 4 or above the number of words.
     Used,
-    /// They go on behind the last used word.
+    /// They continue after the last used word.
     Long,
     /// The anchor isn't open.
     Anchor,
-    /// The slot at this place is the first of the walk that breaks the rules, or that leads to a row
+    /// The slot at this place is the first one of the walk that breaks the rules or leads to a row
     /// that does.
     Row { place: u64 },
 }
 
-/// Why an audit doesn't tell of a dump.
+/// Why an audit has no result.
 #[derive(Clone, Copy, Debug, PartialEq, Eq, Drop)]
 pub enum AuditFault {
     /// The bytes are no dump of lawful words.
     Bad(Flaw),
     /// The source failed.
     Read,
-    /// No memory was left.
+    /// Memory ran out.
     Memory,
 }

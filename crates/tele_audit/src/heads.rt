@@ -9,10 +9,11 @@ use ist_layout::{FIRST_ROW, PLACE_LIMIT};
 /// The bytes that a dump begins with.
 pub(crate) const MAGIC: &[u8] = b"CISTDUMP";
 
-/// How many bytes tell how many words there are and how many are used, with those before them.
+/// The length in bytes of the head: the magic bytes, the number of words and the number of used
+/// words.
 pub(crate) const HEAD: u64 = 24;
 
-/// What is wrong with the first numbers, if anything is.
+/// Returns what is wrong with the first numbers, if anything is.
 pub(crate) fn head_flaw(bytes: &[u8]) -> Option<Flaw>
     ensures value { result ≡ head_flaw bytes.now }
 {
@@ -36,7 +37,7 @@ pub(crate) fn head_flaw(bytes: &[u8]) -> Option<Flaw>
     None
 }
 
-/// What is wrong with how many bytes there are, if anything is.
+/// Returns what is wrong with the number of bytes, if anything is.
 pub(crate) fn length_flaw(bytes: &[u8], used: u64) -> Option<Flaw>
     requires used { used ≡ used_told bytes.now }
     requires few { used ≤ 2 ^ 28 }

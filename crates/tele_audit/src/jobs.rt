@@ -1,4 +1,4 @@
-//! What a command line asks for. Its words are read by hand.
+//! What a command line asks for. Its arguments are read by hand.
 ghost use Rattle.std.specs.Prelude.{◌≡◌, map, string_bytes};
 ghost use Rattle.tele_audit.specs.Jobs.{job_of, job_named, job_between};
 
@@ -7,24 +7,24 @@ use tele_lines::number;
 /// What is asked of a dump.
 #[derive(Clone, Copy, Debug, PartialEq, Eq, Drop)]
 pub(crate) enum Question {
-    /// How many keys, used words and words there are.
+    /// The numbers of keys, used words and words.
     Counts,
     /// The pairs from one key to another, both included.
     Between { first: u64, last: u64 },
 }
 
-/// What a run is to do.
+/// What a run must do.
 #[derive(Clone, Copy, Debug, PartialEq, Eq, Drop)]
 pub(crate) enum Job {
-    /// To say that the words are refused.
+    /// Say that the arguments are wrong.
     Refuse,
-    /// To read lines, and to write the dump of a table of their pairs.
+    /// Read lines, and write the dump of a table of their pairs.
     Pack,
-    /// To read a dump, and to answer a question about it.
+    /// Read a dump, and answer a question about it.
     Tell(Question),
 }
 
-/// What the words of a command line ask for, the program's name first.
+/// Returns what the command-line arguments ask for, the program's name first.
 pub(crate) fn read_job(words: &[String]) -> Job
     ensures value { result ≡ job_of (map string_bytes words.now) }
 {
@@ -35,7 +35,7 @@ pub(crate) fn read_job(words: &[String]) -> Job
     }
 }
 
-/// What one word asks for.
+/// Returns what a single argument asks for.
 fn named(word: &str) -> Job
     ensures value { result ≡ job_named word.now }
 {
@@ -48,7 +48,7 @@ fn named(word: &str) -> Job
     }
 }
 
-/// What a word and two more ask for.
+/// Returns what an argument and two more ask for.
 fn interval(word: &str, first: &str, last: &str) -> Job
     ensures value { result ≡ job_between word.now first.now last.now }
 {

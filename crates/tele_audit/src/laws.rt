@@ -1,4 +1,4 @@
-//! Laws on dumps. The functions take no steps and answer nothing: contracts are laws.
+//! Laws on dumps. The functions do nothing and return nothing: contracts are laws.
 ghost use Rattle.tele_audit.specs.Laws.{LawfulDumpsHaveNoFlaw, FirstFlawsAreOne};
 ghost use Rattle.tele_audit.specs.Laws.{DumpsTellOneThing, DumpsTellTheList};
 ghost use Rattle.tele_audit.specs.Laws.{PackedDumpsTellTheMap, PackedLinesAreListed};
@@ -6,7 +6,7 @@ ghost use Rattle.tele_audit.specs.Laws.{PackedDumpsTellTheMap, PackedLinesAreLis
 use ist_rest::laws::standing_words_hold_the_map;
 use ist_words::laws::{lawful_words_break_nowhere, pairs_are_one};
 
-/// A dump of lawful words has no flaw, and other bytes have one first flaw.
+/// A dump of lawful words has no flaw, and any bytes have at most one first flaw.
 pub fn lawful_dumps_have_no_flaw()
     ensures none { LawfulDumpsHaveNoFlaw }
     ensures one { FirstFlawsAreOne }
@@ -14,7 +14,7 @@ pub fn lawful_dumps_have_no_flaw()
     lawful_words_break_nowhere();
 }
 
-/// Of a dump one thing is told, and of an interval what the words hold.
+/// A dump has only one possible audit, and its pairs in an interval are those that the words hold.
 pub fn dumps_tell_the_words()
     ensures one { DumpsTellOneThing }
     ensures listed { DumpsTellTheList }
@@ -22,7 +22,8 @@ pub fn dumps_tell_the_words()
     pairs_are_one();
 }
 
-/// What `pack` writes tells of the map that the lines leave, and `list` writes an interval of it.
+/// The dump that `pack` writes holds the map that the lines leave, and `list` writes an interval of
+/// it.
 pub fn packed_lines_are_listed()
     ensures told { PackedDumpsTellTheMap }
     ensures listed { PackedLinesAreListed }

@@ -1,9 +1,9 @@
-//! Numbers as eight bytes, the lowest first.
+//! Numbers as eight bytes, lowest byte first.
 ghost use Rattle.std.specs.Prelude.{◌≡◌, ◌+◌, ◌≤◌, length, drop};
 ghost use Rattle.tele_audit.specs.Flaws.{number_of};
 ghost use Rattle.tele_audit.specs.Taking.{AreBytes};
 
-/// The number that eight bytes are, from a place on.
+/// Reads the number that the eight bytes from `from` on encode.
 #[tactic(auto, unfolding(crate::specs::Flaws::number_of))]
 pub(crate) fn number_at(bytes: &[u8], from: usize) -> u64
     requires within { from + 8 ≤ length bytes.now }
@@ -14,7 +14,7 @@ pub(crate) fn number_at(bytes: &[u8], from: usize) -> u64
     u64::from_le_bytes(eight)
 }
 
-/// Each is a byte. It costs nothing.
+/// Each element is a byte. Costs nothing.
 pub(crate) fn know_bytes(bytes: &[u8])
     ensures bytes { AreBytes bytes.now }
 {}

@@ -3,10 +3,10 @@ ghost use Rattle.std.specs.Prelude.{◌≡◌};
 
 use tele_io::SinkFault;
 
-/// What is due was written whole: a dump, or an answer about one.
+/// The text was written whole: a dump, or an answer about one.
 pub const DONE: u8 = 0;
 
-/// The words of the command line were refused, and the line that says so was written.
+/// The command-line arguments are wrong, and the line that says so was written.
 pub const USAGE: u8 = 2;
 
 /// A bad line was reached, and named.
@@ -18,7 +18,7 @@ pub const READ_FAILED: u8 = 4;
 /// The sink failed.
 pub const WRITE_FAILED: u8 = 5;
 
-/// No memory was left.
+/// Memory ran out.
 pub const NO_MEMORY: u8 = 7;
 
 /// The bytes are no dump of lawful words, and their first flaw was named.
@@ -31,11 +31,11 @@ pub(crate) enum Halt {
     Read,
     /// The sink failed.
     Write,
-    /// No memory was left.
+    /// Memory ran out.
     Memory,
 }
 
-/// Why a command stopped, where a sink refused.
+/// Why a command stopped, if its sink returned this error.
 pub(crate) fn halted(fault: SinkFault) -> Halt
     ensures failed { result ≡ Halt.Write → fault ≡ SinkFault.Failed }
     ensures wrote { result ≡ Halt.Read → ⊥ }

@@ -1,4 +1,4 @@
-//! The dump of a table that is made from lines.
+//! Builds the dump of a table from lines.
 ghost use Rattle.std.specs.Prelude.{◌≡◌, ℕ, ◌+◌, ◌≤◌, ◌^◌, List, ◌∷◌, [], Some, Ok, Err, IfOk, IfSome, OnOk, OnErr};
 ghost use Rattle.std.specs.FinMap as fin;
 ghost use Rattle.ist_core.specs.Map.{map_of};
@@ -22,7 +22,7 @@ use std::alloc::{AllocError, Global};
 use tele_io::{Sink, Source};
 use tele_lines::{Cause, Item, LineFault, Lines, print_bad};
 
-/// The most lines of an input.
+/// The most lines that an input may have.
 const LINE_LIMIT: u64 = 16_777_216;
 
 /// Why there is no map of the lines.
@@ -32,11 +32,11 @@ enum Unpacked {
     Bad { line: u64, cause: Cause },
     /// The source failed.
     Read,
-    /// No memory was left.
+    /// Memory ran out.
     Memory,
 }
 
-/// Takes a line into the map: a point line is carried out, an interval line asks for nothing here.
+/// Applies a line to the map: a point line is carried out, an interval line changes nothing.
 fn take(plain: &mut Plain, item: Item) -> Result<(), AllocError>
     ensures taken { OnOk result ((number : ℕ) (version : Version) (lines : List Read) →
         behind_lines (map_of plain.old) (Good number version item ∷ lines)
@@ -52,7 +52,7 @@ fn take(plain: &mut Plain, item: Item) -> Result<(), AllocError>
     }
 }
 
-/// Reads lines to the end of the source, and takes each into a map that begins with no key.
+/// Reads lines to the end of the source, and applies each to a map that starts empty.
 fn gather<S: Source>(alloc: Global, source: &mut S) -> Result<Plain, Unpacked>
     ensures left { IfOk result (λ plain. IfSome (S.left source.old) (λ bytes.
         left_by bytes ≡ Holds (map_of plain))) }
@@ -80,7 +80,7 @@ fn gather<S: Source>(alloc: Global, source: &mut S) -> Result<Plain, Unpacked>
     }
 }
 
-/// The words of a new table of the pairs of a map, with no word more than their ideal tree needs.
+/// Makes the words of a new table of the pairs of a map, exactly as many as their ideal tree needs.
 fn lay(alloc: Global, plain: &Plain) -> Result<Vec<u64>, AllocError>
     requires few { fin.len (map_of plain.now) ≤ 2 ^ 24 }
     ensures table { IfOk result (λ words. IsNewTable (map_of plain.now) words.items) }
@@ -112,8 +112,8 @@ fn write_table<O: Sink>(words: &Vec<u64>, out: &mut O) -> Result<u8, Halt>
     }
 }
 
-/// Reads lines, and writes the dump of a new table of the pairs that their point lines leave, or
-/// names the first bad line. `Ok` is the status behind the text.
+/// Reads lines, and writes the dump of a new table of the pairs that their point lines leave. If a
+/// line is bad, names the first bad line instead. `Ok` returns the status.
 pub(crate) fn pack<S: Source, O: Sink>(
     alloc: Global,
     source: &mut S,

@@ -1,4 +1,4 @@
-//! Bytes that are put together on the stack and go out in one piece.
+//! Bytes that are put together on the stack and written in one piece.
 ghost use Rattle.std.specs.Prelude.{◌≡◌, ◌+◌, ◌≤◌, [], ◌++◌, decimal, length, OnOk, OnErr, IsErrOf};
 ghost use Rattle.tele_io.specs.Bytes.{HaveRisen, Appends, AppendsPart};
 ghost use Rattle.tele_audit.specs.Dumps.{number_bytes};
@@ -9,10 +9,10 @@ use itoa::Buffer;
 use std::marker::Model;
 use tele_io::{Sink, SinkFault, write_whole};
 
-/// How many bytes go out at once.
+/// How many bytes are written at once.
 pub(crate) const ROOM: usize = 4096;
 
-/// Bytes that are to go out together.
+/// Bytes that will be written together.
 #[derive(Drop)]
 pub(crate) struct Piece {
     bytes: ArrayVec<u8, ROOM>,
@@ -27,7 +27,7 @@ impl Model for Piece {
 }
 
 impl Piece {
-    /// No byte yet.
+    /// Makes a piece with no byte.
     pub(crate) fn new() -> Self
         ensures empty { result ≡ [] }
     {
@@ -36,7 +36,7 @@ impl Piece {
         }
     }
 
-    /// Adds some bytes behind the others.
+    /// Adds some bytes at the end.
     pub(crate) fn push(&mut self, bytes: &[u8])
         requires room { length self.old + length bytes.now ≤ ROOM }
         ensures added { self.new ≡ self.old ++ bytes.now }
@@ -63,7 +63,7 @@ impl Piece {
         self.push(buffer.format(number).as_bytes());
     }
 
-    /// The bytes.
+    /// Returns the bytes.
     pub(crate) fn as_slice(&self) -> &[u8]
         ensures value { result.now ≡ self.now }
     {
@@ -71,7 +71,7 @@ impl Piece {
     }
 }
 
-/// Sees to it that a number has room: where there is none, the bytes go out.
+/// Makes room for a number: if there is none, the bytes are written out.
 pub(crate) fn make_room<O: Sink>(piece: &mut Piece, out: &mut O) -> Result<(), SinkFault>
     ensures room { OnOk result (length piece.new + 8 ≤ ROOM) }
     ensures moved { OnOk result

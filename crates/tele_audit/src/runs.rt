@@ -14,21 +14,21 @@ use crate::texts::{write_answer, write_flaw};
 use std::alloc::Global;
 use tele_io::{Sink, Source, write_whole};
 
-/// Packs the pairs of telemetry lines into the dump of a table, checks a dump, or lists what it has
-/// between two timestamps. It always returns, and answers the exit status.
+/// Packs the pairs of telemetry lines into the dump of a table, checks a dump, or lists its pairs
+/// between two timestamps. Always returns, with the exit status.
 ///
-/// `words` are those of the command line, the program's name first. `pack` reads lines from the
-/// source, carries out the point lines on a map, passes over interval lines, and writes the dump of a
-/// new table of the pairs, with no word more than they need. `check` audits the dump that the source
-/// gives, and writes how many keys, used words and words there are. `list A B` audits it too, and
-/// writes the pairs from A to B, both included, one a line, in unsigned decimal; A and B are numerals
-/// below 2^64.
+/// `words` are the command-line arguments, the program's name first. `pack` reads lines from the
+/// source, carries out the point lines on a map, skips interval lines, and writes the dump of a new
+/// table of the pairs, with exactly the words that they need. `check` audits the dump that the
+/// source gives, and writes the numbers of keys, used words and words. `list A B` also audits it,
+/// and writes the pairs from A to B, both included, one per line, in unsigned decimal; A and B are
+/// numerals below 2^64.
 ///
 /// - 0: the whole text of the command was written;
-/// - 2: the words are others, and a line that says so was written; nothing was read;
+/// - 2: the arguments are wrong, and a line that says so was written; nothing was read;
 /// - 3: `pack` reached a bad line, and named it;
 /// - 4: the source failed in this call, and nothing was written;
-/// - 5: the sink failed in this call, or 7, no memory was left: a prefix of the text was written;
+/// - 5: the sink failed in this call, or 7, memory ran out: a prefix of the text was written;
 /// - 8: the bytes are no dump of lawful words, and their first flaw was named.
 pub fn audit_run<S: Source, O: Sink>(
     alloc: Global,
@@ -36,19 +36,20 @@ pub fn audit_run<S: Source, O: Sink>(
     source: &mut S,
     out: &mut O,
 ) -> u8
-    // What was written is what the command owes all bytes that the source had, with this status.
+    // What was written is what the command owes for all bytes that the source had, with this
+    // status.
     ensures text { IsWhole (job_of (map string_bytes words.now)) result →
         IfSome (S.left source.old) (λ bytes. Writes (job_of (map string_bytes words.now)) bytes
         (O.written out.old) (O.written out.new) result) }
     ensures whole { result ≡ DONE →
         IfSome (S.left source.old) (λ _. S.left source.new ≡ Some []) }
 
-    // Refused words are named, and nothing is read.
+    // For wrong arguments the usage line is written, and nothing is read.
     ensures usage { result ≡ USAGE →
         Appends (O.written out.old) (O.written out.new) usage_text }
     ensures unread { job_of (map string_bytes words.now) ≡ Job.Refuse → source.new ≡ source.old }
 
-    // Cut short, a prefix of what is due stands written.
+    // If the run was cut short, a prefix of what is due was written.
     ensures part { IsCutShort result → IfSome (S.left source.old) (λ bytes.
         WritesPart (job_of (map string_bytes words.now)) bytes
         (O.written out.old) (O.written out.new)) }
@@ -63,7 +64,7 @@ pub fn audit_run<S: Source, O: Sink>(
     ensures write_failed { result ≡ WRITE_FAILED →
         HaveRisen (O.faults out.old) (O.faults out.new) }
 
-    // Without a fault the text is written whole, while memory lasts.
+    // Without a fault the whole text is written, unless memory runs out.
     ensures complete { ¬ HaveRisen (S.faults source.old) (S.faults source.new) →
         ¬ HaveRisen (O.faults out.old) (O.faults out.new) →
         IsWhole (job_of (map string_bytes words.now)) result ⊎ (result ≡ NO_MEMORY) }
@@ -79,7 +80,7 @@ pub fn audit_run<S: Source, O: Sink>(
     }
 }
 
-/// Does what the words ask for. `Ok` is the status behind the text.
+/// Does what the arguments ask for. `Ok` returns the status.
 fn work<S: Source, O: Sink>(
     alloc: Global,
     job: Job,
@@ -114,7 +115,7 @@ fn work<S: Source, O: Sink>(
     }
 }
 
-/// Writes that the words are refused.
+/// Writes that the arguments are wrong.
 fn refuse<O: Sink>(out: &mut O) -> Result<u8, Halt>
     ensures status { IfOk result (λ status. status ≡ USAGE) }
     ensures usage { OnOk result (Appends (O.written out.old) (O.written out.new) usage_text) }
@@ -130,7 +131,7 @@ fn refuse<O: Sink>(out: &mut O) -> Result<u8, Halt>
     }
 }
 
-/// Audits a dump, and answers the question, or names the first flaw.
+/// Audits a dump, and writes the answer to the question, or the first flaw.
 fn tell<S: Source, O: Sink>(
     alloc: Global,
     question: Question,

@@ -6,7 +6,7 @@ use crate::numbers::number_at;
 use ist_words::WordList;
 use std::marker::Model;
 
-/// The words of a table that are used, in the bytes of its dump: none is copied.
+/// The used words of a table, read in place from the bytes of its dump.
 ///
 /// Clauses see the list of these words.
 #[derive(Drop)]
@@ -27,7 +27,7 @@ impl Model for DumpWords {
 }
 
 impl DumpWords {
-    /// The words in these bytes of a dump, of which so many are used.
+    /// Makes the word list over these bytes of a dump with `used` used words.
     pub(crate) fn of(bytes: Vec<u8>, used: u64) -> DumpWords
         requires whole { length bytes.items ≡ dump_length used }
         requires few { used ≤ 2 ^ 28 }

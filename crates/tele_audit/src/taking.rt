@@ -10,8 +10,8 @@ use tele_io::{Failed, Source};
 /// How many bytes are read at once.
 const PIECE: usize = 4096;
 
-/// Takes bytes from the source, behind those that were taken, until there are so many or it has no
-/// more. Memory grows with what the source gave, and with nothing else.
+/// Takes bytes from the source, and appends them to those that were taken, until there are `count`
+/// or the source has no more. Memory grows only with what the source gave.
 pub(crate) fn take_bytes<S: Source>(
     source: &mut S,
     taken: &mut Vec<u8>,

@@ -10,7 +10,7 @@ use crate::pieces::Piece;
 use tele_io::{Sink, SinkFault, write_whole};
 use tele_lines::{Version, print_pairs};
 
-/// The line that tells how many keys, used words and words there are.
+/// Returns the line with the numbers of keys, used words and words.
 fn counts_line(told: &Audited) -> Piece
     ensures value { result ≡ counts_text told.now }
 {
@@ -25,7 +25,7 @@ fn counts_line(told: &Audited) -> Piece
     line
 }
 
-/// The word for a flaw. For a row its place comes behind it.
+/// Returns the word for a flaw; for a row its place follows.
 fn flaw_words(flaw: Flaw) -> Piece
     ensures value { result ≡ flaw_word flaw }
     ensures short { length result ≤ 24 }
@@ -46,7 +46,7 @@ fn flaw_words(flaw: Flaw) -> Piece
     words
 }
 
-/// The line that names a flaw.
+/// Returns the line that names a flaw.
 fn flaw_line(flaw: Flaw) -> Piece
     ensures value { result ≡ flaw_text flaw }
 {

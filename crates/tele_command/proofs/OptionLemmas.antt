@@ -20,7 +20,7 @@ use Rattle.clap.specs.declared.parser.matches.MatchedArg.{MatchedArg}
 use Rattle.clap.proofs.CallerLemmas.{entry_by_id, same_rules_by_id}
 use Rattle.tele_command.specs.CommandLine.{with_name}
 
--- where there are words, no name is put before them
+-- if there are arguments, no name is put before them
 pub with_name-some : {X : Type 0} (text : X → List ℕ) (words : List X) → (length words ≡ 0 → ⊥)
     → with_name (map text words) ≡ map text words
 with_name-some text [] some = absurd (some refl)

@@ -1,4 +1,5 @@
--- The command line of the program, in the words of `clap`: which words it refuses, and what the others say.
+-- The command line of the program, in `clap`'s terms: which arguments it rejects, and what the
+-- others mean.
 use Rattle.std.specs.Prelude.{ℕ, ◌-◌, ◌^◌, ◌==◌, Bool, not, List, [], ◌∷◌, length, codes, Option, Some, option_map, unwrap_or}
 use Rattle.std.specs.Str.Parse.{digits_value, without_leading_plus}
 use Rattle.clap.specs.Words.{App, Rule, Row, Text, new_app, new_rule, with_rule, matches_of, first_of, fault_of}
@@ -26,16 +27,16 @@ tele =
     (number_option (codes "seed") 0 (2 ^ 64 - 1)))
     (number_option (codes "steal") 0 1)
 
--- the words with the program's name first; without any word the name alone
+-- the arguments with the program's name first; an empty list becomes only the name
 abbrev pub with_name : List Text → List Text
 with_name [] = codes "tele" ∷ []
 with_name (word ∷ words) = word ∷ words
 
--- whether `clap` refuses the words, for another cause than want of memory
+-- whether `clap` rejects the arguments for a cause other than lack of memory
 abbrev pub are_refused : List Text → Bool
 are_refused words = not (length (fault_of tele (with_name words)) == 0)
 
--- the number that a text says in digits; a plus may stand before them
+-- the number that a text gives in digits; a plus may precede them
 abbrev pub number_said : Text → ℕ
 number_said text = digits_value 10 (without_leading_plus text)
 
@@ -43,7 +44,7 @@ number_said text = digits_value 10 (without_leading_plus text)
 abbrev pub option_value : Text → List Row → Option ℕ
 option_value name rows = option_map number_said (first_of name rows)
 
--- the options by what `clap` found in the words; workers steal where the number is 1
+-- the options by what `clap` found in the arguments; workers steal if the number is 1
 abbrev pub options_at : List Row → Options
 options_at rows = record {
   workers = unwrap_or (option_value (codes "workers") rows) 4;
@@ -53,6 +54,6 @@ options_at rows = record {
   steal = unwrap_or (option_value (codes "steal") rows) 0 == 1;
 }
 
--- what the words ask for
+-- what the arguments ask for
 abbrev pub options_in : List Text → Options
 options_in words = options_at (matches_of tele (with_name words))

@@ -1,11 +1,11 @@
--- What holds of the texts that the command takes for its options.
+-- What holds of the texts that the command accepts for its options.
 use Rattle.std.specs.Prelude.{◌-◌, ◌^◌, ◌<◌, codes, IfSome}
 use Rattle.std.specs.Str.Parse.{IsNumeral, digits_value, without_leading_plus}
 use Rattle.clap.specs.Values.{IsUnsignedIn}
 use Rattle.clap.specs.Words.{Text, first_value}
 use Rattle.clap.specs.declared.parser.matches.Found.{Found}
 
--- digits that say a number below 2 ^ 64; a plus may stand before them
+-- digits of a number below 2 ^ 64; a plus may precede them
 abbrev pub IsNumber : Text → Type 0
 IsNumber text =
     IsNumeral 10 (without_leading_plus text) × (digits_value 10 (without_leading_plus text) < 2 ^ 64)

@@ -1,4 +1,4 @@
-//! The command, and what it makes of words.
+//! The command, and what it makes of arguments.
 ghost use Rattle.std.specs.Prelude.{◌≡◌, ◌≤◌, true, false, map, codes, [], Err, IfOk, IsOk, IfSome, option_map};
 ghost use Rattle.clap.specs.Words.{app_of, first_value, found_of, rule_of, rows_of, fault_of, matches_of};
 ghost use Rattle.tele_command.specs.CommandLine.{sized, tele, number_option, number_said, options_at};
@@ -11,7 +11,7 @@ use clap::{Arg, ArgAction, ArgMatches, Command, Error};
 use std::alloc::{AllocError, Global};
 use std::convert::AsStr;
 
-/// An option with one value, a number from one to another.
+/// Returns an option with one value, a number from `low` to `high`, both included.
 fn number_option<'a>(alloc: Global, name: &'a str, low: u64, high: u64) -> Arg<'a>
     ensures rule { rule_of result ≡ number_option name.entry.now low high }
     ensures global { result.global ≡ false }
@@ -22,7 +22,7 @@ fn number_option<'a>(alloc: Global, name: &'a str, low: u64, high: u64) -> Arg<'
         .value_parser(ValueParser::unsigned(low, high))
 }
 
-/// The command with its options on workers and words.
+/// Returns the command with its options on workers and words.
 fn sized<'a>(alloc: Global) -> Result<Command<'a>, AllocError>
     ensures value { IfOk result (λ c. app_of c ≡ sized) }
 {
@@ -31,7 +31,7 @@ fn sized<'a>(alloc: Global) -> Result<Command<'a>, AllocError>
         .arg(number_option(alloc, "words", 64, 268_435_456))
 }
 
-/// The command with its five options.
+/// Returns the command with its five options.
 fn command<'a>(alloc: Global) -> Result<Command<'a>, AllocError>
     ensures value { IfOk result (λ c. app_of c ≡ tele) }
 {
@@ -41,7 +41,7 @@ fn command<'a>(alloc: Global) -> Result<Command<'a>, AllocError>
         .arg(number_option(alloc, "steal", 0, 1))
 }
 
-/// What the command makes of some words.
+/// Returns what the command makes of the arguments.
 fn matches_of<'a, S: AsStr>(alloc: Global, words: &'a [S]) -> Result<ArgMatches<'a>, Refusal>
     ensures rows { IfOk result (λ m.
         rows_of (found_of m) ≡ matches_of tele (map S.text words.entry.now)) }
@@ -63,7 +63,7 @@ fn matches_of<'a, S: AsStr>(alloc: Global, words: &'a [S]) -> Result<ArgMatches<
     }
 }
 
-/// The number that was found for an option.
+/// Returns the number that was found for an option.
 fn number(matches: &ArgMatches, name: &str) -> Option<u64>
     requires fits { IfSome (first_value (found_of matches.now) name.now) IsNumber }
     ensures value { result ≡ option_map number_said (first_value (found_of matches.now) name.now) }
@@ -74,7 +74,7 @@ fn number(matches: &ArgMatches, name: &str) -> Option<u64>
     }
 }
 
-/// The options by what was found.
+/// Returns the options by what was found.
 fn options_at(matches: &ArgMatches) -> Options
     requires numbers { AreNumbers (found_of matches.now) }
     ensures value { result ≡ options_at (rows_of (found_of matches.now)) }
@@ -92,7 +92,7 @@ fn options_at(matches: &ArgMatches) -> Options
     }
 }
 
-/// Reads the words, of which the first is the program's name.
+/// Reads the arguments, of which the first is the program's name.
 pub(crate) fn read<S: AsStr>(alloc: Global, words: &[S]) -> Result<Options, Refusal>
     ensures values { IfOk result (λ options.
         options ≡ options_at (matches_of tele (map S.text words.now))) }

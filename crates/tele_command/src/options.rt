@@ -1,4 +1,4 @@
-//! What the words of a command line ask for.
+//! What the arguments of a command line ask for.
 ghost use Rattle.std.specs.Prelude.{◌≡◌, ◌≤◌, true, false, map, string_bytes, Err, IfOk, IfSome, IsOk};
 ghost use Rattle.tele_command.specs.CommandLine.{are_refused, options_in};
 
@@ -8,31 +8,32 @@ use std::alloc::Global;
 /// What a command line asks for.
 #[derive(Clone, Copy, Debug, PartialEq, Eq, Drop)]
 pub struct Options {
-    /// How many threads work side by side, from 1 to 64.
+    /// How many threads work in parallel, from 1 to 64.
     pub workers: u64,
     /// How many words a tree has at most, from 64 to 268,435,456.
     pub words: u64,
     /// How many lines are made instead of read, at most 1,048,576.
     pub generate: Option<u64>,
-    /// What lines are made from.
+    /// The seed from which lines are made.
     pub seed: u64,
     /// Whether workers steal lanes from one another.
     pub steal: bool,
 }
 
-/// Why words give no options.
+/// Why arguments give no options.
 #[derive(Clone, Copy, Debug, PartialEq, Eq, Drop)]
 pub enum Refusal {
-    /// They are no words of the command.
+    /// They aren't valid arguments of the command.
     Usage,
-    /// No memory was left.
+    /// Memory ran out.
     Memory,
 }
 
-/// Reads the words of a command line, the program's name first. No word is read like the name alone.
+/// Reads the arguments of a command line, the program's name first. An empty list is read like the
+/// name without arguments.
 ///
-/// `Usage` comes exactly where `clap` refuses the words for another cause than want of memory; a
-/// request for help or for the version is such a refusal.
+/// `Usage` is returned only if `clap` rejects the arguments for a cause other than lack of memory;
+/// a request for help or for the version is such a rejection.
 pub fn read_options(alloc: Global, words: &[String]) -> Result<Options, Refusal>
     ensures values { IfOk result (λ options.
         options ≡ options_in (map string_bytes words.now)) }

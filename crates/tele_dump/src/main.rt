@@ -9,10 +9,10 @@ use std::{env, io};
 use tele_audit::audit_run;
 use tele_io::{ReadSource, WriteSink};
 
-/// The status where the arguments can't be had. `audit_run` never answers it.
+/// The status if the arguments can't be read. `audit_run` never returns it.
 const NO_ARGUMENTS: u8 = 1;
 
-/// The words of the command line, the program's name first.
+/// Returns the command-line arguments, the program's name first.
 fn words(rt: &HostRuntime) -> io::Result<Vec<String>> {
     let mut words = Vec::new(rt.alloc());
     for word in env::args(rt)? {

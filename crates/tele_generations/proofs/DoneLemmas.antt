@@ -33,7 +33,7 @@ length-all_done (run ∷ runs) h =
     let right = length-append run.answers (flat_map (λ answers. answers) (answers_of_runs runs)) in
     omega arith
 
--- what is left from a place on, where something stands there
+-- something is left from a place on, if the list has an element there
 drop_some : (xs : List Task) (n : ℕ) (x : Task) → slice_get xs n ≡ Some x → 0 < length (drop n xs)
 drop_some [] n x e = cc
 drop_some (y ∷ xs) zero x e = omega arith

@@ -1,4 +1,4 @@
--- The tables that stand in places none of which is empty. Serves the shelf that keeps its tables.
+-- The tables in places, if no place is empty. Serves the shelf that keeps its tables.
 use Rattle.std.proofs.Common.{◌≡◌, ℕ, suc, zero, ◌<◌, ◌≤◌, List, [], ◌∷◌, length, refl, ap, arith}
 use Rattle.std.specs.Prelude.{Option, Some, None, IsSome, slice_get}
 use Rattle.std.specs.Option.{option_to_list}
@@ -30,7 +30,7 @@ module _ {C : Type 0} where
       slice_get-tables places (All-tail IsSome (Some table) places all) number other
       (omega (arith, lt))
 
-  -- behind the places there is none
+  -- past the places there is no table
   pub slice_get-tables_past : (places : List (Option C)) → All IsSome places
       → (number : ℕ) → length places ≤ number → slice_get (tables places) number ≡ None
   slice_get-tables_past places all number past =

@@ -21,14 +21,14 @@ follow_last [] table next h = h
 follow_last (x ∷ []) table next h = h
 follow_last (x ∷ y ∷ tables) table next h = follow_last (y ∷ tables) table next h
 
--- and a larger one than the last may
+-- a table that is larger than the last may follow
 larger_follows : (tables : List (List ℕ)) (table next : List ℕ) → IsLarger table next
     → MayFollow (tables ++ table ∷ []) next
 larger_follows [] table next h = h
 larger_follows (x ∷ []) table next h = h
 larger_follows (x ∷ y ∷ tables) table next h = larger_follows (y ∷ tables) table next h
 
--- one more table, which ran full
+-- the tables so far and one more, which ran full, lead on
 lead_more : (workers : ℕ) (pairs now after : List Pair) (tasks left rest : List Task)
     (tables : List (List ℕ)) (table : List ℕ) (fulls : List Full) (full : Full)
     (runs : List LaneRun)
@@ -45,7 +45,7 @@ lead_more workers pairs now after tasks left rest tables table fulls full runs l
     (lead table (next ∷ more) (full ∷ later) may
     (ran_full runs g f hands (follow_last tables table next larger) ends)))
 
--- tables on a shelf, and one more
+-- tables on a shelf, and one more after them
 shelved_more : {C : Type 0} (before : Option (List C)) (given : List C) (middle : Option (List C))
     (closed : C) (after : Option (List C))
     → IsShelved before given middle → IsShelved middle (closed ∷ []) after
@@ -56,14 +56,14 @@ shelved_more None given (Some middle) closed (Some after) one two = absurd one
 shelved_more (Some before) given (Some middle) closed (Some after) one two =
     two ∙ ap (λ l. l ++ closed ∷ []) one ∙ append_assoc before given (closed ∷ [])
 
--- the first of the tables, with one more behind them
+-- the first of the tables, with one more after them
 begins_more : (first words next : ℕ) (tables : List (List ℕ)) (table : List ℕ)
     → BeginsWith first tables words → length table ≡ words
     → BeginsWith first (tables ++ table ∷ []) next
 begins_more first words next [] table begins sized = sized ∙ begins
 begins_more first words next (x ∷ tables) table begins sized = begins
 
--- the same where no more comes
+-- the first of the tables, with the last one after them
 begins_last : (first words : ℕ) (tables : List (List ℕ)) (table : List ℕ)
     → BeginsWith first tables words → length table ≡ words
     → FirstHas first (tables ++ table ∷ [])
@@ -93,7 +93,7 @@ module _ {C : Type 0} (words_of : C → List ℕ) (workers first : ℕ) (pairs :
       at None (Some y) e = cc
       at (Some x) (Some y) e = (let same : x ≡ y = cc in sym same ∙ sym (append-nil x))
 
-  -- one more table, which ran full
+  -- the tables so far, with one more that ran full
   pub tables_more : (middle after : Option (List C)) (fulls : List Full) (full : Full)
       (now later : List Pair) (left rest : List Task) (words next : ℕ) (closed : C)
       (runs : List LaneRun)

@@ -1,4 +1,4 @@
--- One generation of a round behind another, and the last one. Serves `run_round`.
+-- One generation of a round after another, and the last one. Serves `run_round`.
 use Rattle.std.proofs.Common.{◌≡◌, ℕ, ◌+◌, ◌<◌, ◌≤◌, List, [], ◌∷◌, ◌++◌, length}
 use Rattle.std.proofs.Common.{Option, Some, None}
 use Rattle.std.proofs.Common.{sym, subst, arith}
@@ -46,22 +46,22 @@ module _ {workers words : ℕ} {pairs now : List Pair} {tasks left : List Task}
   ran_full : (full : Full) → ended ≡ Some full → RanFull now table r.runs full
   ran_full full is = subst (λ e. EndedWith now table r.runs e) is r.ended
 
-  -- so something is left
+  -- if the table ran full, something is left
   pub some_left : (full : Full) → ended ≡ Some full → 0 < length rest
   some_left full is =
       rest_some workers words now left table more rest ended r some o.rising full (ran_full full is)
 
   module _ (behind : List Pair) (h : HasPairs table behind) where
-    -- the pairs behind the table rise
+    -- the pairs after the table are strictly increasing
     pub behind_rise : IsRising behind
     behind_rise = behind_rises workers words now left table more rest ended r some o.rising behind h
 
-    -- and with what is left there are no more of them than at first
+    -- there are no more pairs after the table, with what is left, than pairs and tasks at first
     pub behind_few : length behind + length rest ≤ length pairs + length tasks
     behind_few = few_behind workers words now left table more rest ended r some o.rising behind h
         (length pairs + length tasks) o.opens.rising o.few
 
-    -- the round goes on behind the turn
+    -- the round goes on after the turn
     pub goes_on : (full : Full) (given : List Answer) (after : List Task) (later : List Pair)
         (next : ℕ)
         → ended ≡ Some full → Rests more rest behind given after later
@@ -77,7 +77,7 @@ module _ {workers words : ℕ} {pairs now : List Pair} {tasks left : List Task}
         ends.way ends.rising ends.pairs_rise ends.suffixes ends.some_given
         (asks_more _ _ full.asked (omega arith) f.may_ask) holds fits
 
-    -- and less is left
+    -- after the turn less is left
     pub less_left : (given : List Answer) (after : List Task) (later : List Pair)
         → Rests more rest behind given after later → length after < length left
     less_left given after later rests =
@@ -87,7 +87,7 @@ module _ {workers words : ℕ} {pairs now : List Pair} {tasks left : List Task}
         let given_some = ends.some_given in
         omega arith
 
-  -- where the table answered all, the round is under way with nothing left
+  -- if the table answered all, the round is under way with nothing left
   ends_way : ended ≡ None
       → IsUnderWay (map_of pairs) tasks (answers ++ more) []
       (table_map workers words now left table more rest ended r some o.rising)
@@ -100,7 +100,7 @@ module _ {workers words : ℕ} {pairs now : List Pair} {tasks left : List Task}
       (subst (λ ts. IsUnderWay (map_of now) left more ts m) none
       (turn workers words now left table more rest ended r some o.rising))
 
-  -- the answers are those of one thread
+  -- the answers are what one thread would answer
   pub ends_plain : ended ≡ None → IsStrictlyIncreasing (task_lines tasks) → (all : List Answer)
       → IsPermutation (answers ++ more) all → IsNonDecreasingBy (λ a. a.line) all
       → ArePlainAnswers (map_of pairs) tasks all
@@ -109,7 +109,7 @@ module _ {workers words : ℕ} {pairs now : List Pair} {tasks left : List Task}
       (table_map workers words now left table more rest ended r some o.rising) tasks
       (answers ++ more) all up (ends_way is) same rise).plain
 
-  -- and the table ends the round
+  -- if the table answered all, it ends the round
   pub ends_round : ended ≡ None → EndsTheRound workers pairs tasks table fulls
   ends_round is = record {
     opening = now;
@@ -127,7 +127,7 @@ module _ {C : Type 0} {words_of : C → List ℕ} {workers first words : ℕ} {p
     (closed : C) {more : List Answer} {rest : List Task} {ended : Option Full}
     (t : HasTables words_of workers first pairs tasks before middle fulls now left words)
     (r : RanOnTable workers words now left (words_of closed) more rest ended) where
-  -- the table is one more of those on the shelf
+  -- if the table ran full, it is one more table on the shelf
   pub one_more_table : (full : Full) (after : Option (List C)) (some : 1 ≤ workers)
       → IsStrictlyIncreasing (task_lines left)
       → ended ≡ Some full → (behind : List Pair) → HasPairs (words_of closed) behind
@@ -143,7 +143,7 @@ module _ {C : Type 0} {words_of : C → List ℕ} {workers first words : ℕ} {p
       rest_left words next closed r.runs t r.sized r.is
       (subst (λ e. EndedWith now (words_of closed) r.runs e) is r.ended) ends.hands kept sized
 
-  -- or the last one
+  -- if the table answered all, it is the last one
   pub last_table : ended ≡ None
       → RanInGenerations words_of workers first pairs tasks before middle closed fulls
   last_table is =
@@ -214,7 +214,7 @@ ends_with {words_of = words_of} {workers = workers} {first = first} {pairs = pai
     (subst (λ x. RanInGenerations words_of workers first pairs tasks before after x fulls)
     (sym same_table) g)
 
--- and what the table stands for
+-- the end of the round, in terms of the table and the refusals that are returned
 pub ends_for : {C : Type 0} (words_of : C → List ℕ) {workers : ℕ} {pairs : List Pair}
     {tasks : List Task} (closed last : C) {fulls all : List Full}
     → EndsTheRound workers pairs tasks (words_of closed) fulls → last ≡ closed → all ≡ fulls

@@ -1,4 +1,4 @@
--- What one generation came to, by the log of its table. Serves `run_round`.
+-- The result of one generation, by the log of its table. Serves `run_round`.
 use Rattle.std.proofs.Common.{◌≡◌, inl, inr, ℕ, ◌+◌, ◌<◌, ◌≤◌, List, [], ◌∷◌, length}
 use Rattle.std.proofs.Common.{Option, refl, sym, ap, subst, ◌∙◌, arith}
 use Rattle.std.specs.List.{flat_map}
@@ -10,9 +10,9 @@ use Rattle.ist_core.specs.declared.pairs.Pair.{Pair}
 use Rattle.ist_core.specs.declared.ports.Full.{Full}
 use Rattle.ist_core.specs.Map.{Map, map_of, pairs_of, replay}
 use Rattle.ist_core.specs.Logs.{Log}
-use Rattle.ist_finished.specs.Finishing.{is_put}
-use Rattle.ist_histories.specs.Telling.{map_now}
-use Rattle.ist_histories.proofs.ContentLemmas.{pairs_rise_at}
+use Rattle.laws_rows.specs.Finishing.{is_put}
+use Rattle.laws_histories.specs.Telling.{map_now}
+use Rattle.laws_histories.proofs.ContentLemmas.{pairs_rise_at}
 use Rattle.tele_lanes.specs.declared.task_lists.Task.{Task}
 use Rattle.tele_lanes.specs.declared.answer_lists.Answer.{Answer}
 use Rattle.tele_lanes.specs.Lines.{commands_of, task_lines}
@@ -31,7 +31,7 @@ use Rattle.tele_generations.specs.Generations.{RanFull, MayAsk, all_done, puts_d
 use Rattle.tele_generations.specs.Tables.{RanOnTable, HasPairs}
 use Rattle.tele_generations.proofs.DoneLemmas.{length-all_done, left_some}
 
--- what may be asked where there are so many keys, may be asked where there are more
+-- what may be asked for with this many keys may be asked for with more
 pub asks_more : (keys more asked : ℕ) → keys ≤ more → MayAsk keys asked → MayAsk more asked
 asks_more keys more asked le (inl a) = inl a
 asks_more keys more asked le (inr (inl a)) = inr (inl a)
@@ -52,7 +52,7 @@ module _ (workers words : ℕ) (now : List Pair) (left : List Task) (table : Lis
   abbrev pub table_log : Log
   table_log = r.is.stands.log
 
-  -- the map behind its changes
+  -- the map after its changes
   abbrev pub table_map : Map
   table_map = map_now now (length table) table_log
 
@@ -72,12 +72,12 @@ module _ (workers words : ℕ) (now : List Pair) (left : List Task) (table : Lis
         };
       }
 
-  -- so they took a turn
+  -- the lanes took a turn
   pub turn : IsUnderWay (map_of now) left more rest table_map
   turn = lanes_turn now (length table) table_log workers left r.runs ran more r.answered rest
       r.left_are
 
-  -- and left suffixes
+  -- the lanes left suffixes
   pub leaves : LeavesSuffixes workers left rest
   leaves = lanes_leave now (length table) table_log workers left r.runs ran rest r.left_are
 
@@ -85,7 +85,7 @@ module _ (workers words : ℕ) (now : List Pair) (left : List Task) (table : Lis
   pub leads : replay (map_of now) (commands_of (all_done r.runs)) ≡ table_map
   leads = done_leads now (length table) table_log workers left r.runs ran
 
-  -- there is an answer for each of them
+  -- there is an answer for each answered task
   pub answered_long : length (all_done r.runs) ≡ length more
   answered_long = length-all_done r.runs r.is.lanes.ran
       ∙ sym (length_permutation (flat_map (λ answers. answers) (answers_of_runs r.runs)) more
@@ -105,22 +105,22 @@ module _ (workers words : ℕ) (now : List Pair) (left : List Task) (table : Lis
       omega arith
 
   module _ (behind : List Pair) (h : HasPairs table behind) where
-    -- the pairs behind the table are those of the map
+    -- the pairs after the table are the pairs of the map
     pub behind_is : behind ≡ pairs_of table_map
     behind_is = h now (told_of_runs r.runs) r.is.stands
 
-    -- they make it
+    -- the pairs after the table make the map
     pub behind_map : map_of behind ≡ table_map
     behind_map = ap map_of behind_is ∙ pairs_are_map table_map
 
-    -- and rise
+    -- the pairs after the table are strictly increasing
     pub behind_rises : IsRising behind
     behind_rises =
         subst (λ ps. IsRising ps) (sym behind_is)
         (pairs_rise_at now (length table) r.is.stands.lawful.opens table_log
         r.is.stands.lawful.enabled)
 
-  -- where the table ran full something is left
+  -- if the table ran full, something is left
   pub rest_some : (numbers : Full) → RanFull now table r.runs numbers → 0 < length rest
   rest_some numbers f =
       let one = left_some r.runs f.run f.task f.is_run f.is_next in
@@ -128,7 +128,7 @@ module _ (workers words : ℕ) (now : List Pair) (left : List Task) (table : Lis
       r.left_are.same in
       omega arith
 
-  -- where each lane answered all nothing is
+  -- if each lane answered all, nothing is left
   pub rest_none : AreWhole r.runs → rest ≡ []
   rest_none whole =
       let flat : List Task = flat_map (λ tasks. tasks) (left_of_runs r.runs) in
@@ -137,7 +137,7 @@ module _ (workers words : ℕ) (now : List Pair) (left : List Task) (table : Lis
       let long = length_permutation flat rest r.left_are.same in
       no_length rest (omega arith)
 
--- with what is left there are no more pairs behind the table than there were pairs and tasks
+-- with what is left there are no more pairs after the table than there were pairs and tasks
 pub few_behind : (workers words : ℕ) (now : List Pair) (left : List Task) (table : List ℕ)
     (more : List Answer) (rest : List Task) (full : Option Full)
     (r : RanOnTable workers words now left table more rest full) (some : 1 ≤ workers)

@@ -1,4 +1,4 @@
--- How a round goes on behind a table that ran full. Serves `run_round`.
+-- How a round goes on after a table that ran full. Serves `run_round`.
 use Rattle.std.proofs.Common.{◌≡◌, ℕ, suc, ◌+◌, ◌<◌, ◌≤◌, List, [], ◌∷◌, ◌++◌, length, Option}
 use Rattle.std.proofs.Common.{refl, sym, ap, subst, ◌∙◌, arith, slice_index}
 use Rattle.std.specs.List.Sorted.{IsStrictlyIncreasing}
@@ -44,7 +44,7 @@ way_begins workers pairs tasks words rise up holds fits = record {
   asked = λ k d h. absurd (omega arith);
 }
 
--- a rising list without its head
+-- a strictly increasing list without its head
 tail_rises : (task : Task) (rest : List Task) → IsStrictlyIncreasing (task_lines (task ∷ rest))
     → IsStrictlyIncreasing (task_lines rest)
 tail_rises task rest up k h =
@@ -52,7 +52,7 @@ tail_rises task rest up k h =
     subst (λ i. slice_index (task_lines rest) k < slice_index (task_lines (task ∷ rest)) i) next
     (up (suc k) (omega arith))
 
--- a list with one more behind it isn't empty
+-- a list with one more element at its end isn't empty
 not_none : {X : Type 0} (xs : List X) (x : X) → xs ++ x ∷ [] ≡ [] → ⊥
 not_none xs x e =
     let long = length-append xs (x ∷ []) in
@@ -64,7 +64,7 @@ module _ (workers words : ℕ) (now : List Pair) (left : List Task) (table : Lis
     (r : RanOnTable workers words now left table more rest full) (some : 1 ≤ workers)
     (up : IsStrictlyIncreasing (task_lines left)) (behind : List Pair)
     (h : HasPairs table behind) where
-  -- what a turn of lanes and one at rest came to together
+  -- the result of a turn of lanes followed by one at rest
   pub record TurnEnds (given : List Answer) (after : List Task) (later : List Pair) : Type 0 where
     pub way : IsUnderWay (map_of now) left given after (map_of later)
     pub rising : IsStrictlyIncreasing (task_lines after)
@@ -73,7 +73,7 @@ module _ (workers words : ℕ) (now : List Pair) (left : List Task) (table : Lis
     pub hands : HandsOn now r.runs later after
     pub some_given : 0 < length given
 
-  -- where the lanes answered something
+  -- the result if the lanes answered something
   turn_stays : 0 < length more → TurnEnds more rest behind
   turn_stays given = record {
     way = subst (IsUnderWay (map_of now) left more rest)
@@ -93,7 +93,7 @@ module _ (workers words : ℕ) (now : List Pair) (left : List Task) (table : Lis
     some_given = given;
   }
 
-  -- where they answered nothing, and one thread the first line
+  -- the result if they answered nothing, and one thread answered the first line
   turn_rests : (task : Task) (after : List Task) (later : List Pair) → length more ≡ 0
       → rest ≡ task ∷ after → IsRising later
       → map_of later ≡ map_after (map_of behind) task.command
@@ -133,7 +133,7 @@ module _ (workers words : ℕ) (now : List Pair) (left : List Task) (table : Lis
         some_given = omega arith;
       }
 
-  -- either of the two
+  -- the result in both cases
   pub turn_ends : (given : List Answer) (after : List Task) (later : List Pair)
       → Rests more rest behind given after later → TurnEnds given after later
   turn_ends given after later (stays some_more) = turn_stays some_more

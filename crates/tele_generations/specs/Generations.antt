@@ -11,14 +11,14 @@ use Rattle.ist_core.specs.Arithmetic.{degree}
 use Rattle.ist_core.specs.RowLayout.{place_limit, next_place}
 use Rattle.ist_core.specs.Map.{map_of, pairs_of, map_after, replay}
 use Rattle.ist_core.specs.Resting.{StandsFor}
-use Rattle.ist_finished.specs.Finishing.{is_put}
+use Rattle.laws_rows.specs.Finishing.{is_put}
 use Rattle.tele_lanes.specs.declared.task_lists.Task.{Task}
 use Rattle.tele_lanes.specs.Lines.{commands_of}
 use Rattle.tele_lanes.specs.Lanes.{TasksInLineOrder}
 use Rattle.tele_rounds.specs.Runs.{LaneRun, LanesRan, AreWhole, told_of_runs, done_of_runs}
 use Rattle.tele_rounds.specs.Runs.{left_of_runs}
 
--- may the command want words?
+-- may the command need words?
 abbrev pub may_want_words : Command → Bool
 may_want_words (Put key value) = true
 may_want_words (Remove key) = true
@@ -32,14 +32,15 @@ all_done runs = flat_map (λ tasks. tasks) (done_of_runs runs)
 abbrev pub puts_done : List LaneRun → ℕ
 puts_done runs = count_by is_put (commands_of (all_done runs))
 
--- so many words may be wanted in one go where there are at most so many keys: those of a leaf and
--- the like, or those of a node
+-- how many words may be asked for at once with at most `keys` keys: those of a leaf, a pair row or
+-- a change, or those of a node
 abbrev pub MayAsk : ℕ → ℕ → Type 0
 MayAsk keys asked =
     (asked ≡ 2) ⊎ ((asked ≡ 7) ⊎ ((asked ≡ 9)
     ⊎ ((k : ℕ) × (2 ≤ k) × (k ≤ keys) × (asked ≡ 2 * degree k + 3))))
 
--- the words of the table stand for the pairs and for what the lanes of the tasks were told
+-- one generation: the words of the table stand for the pairs and for what the lanes of the tasks
+-- were told
 pub record IsGeneration (workers : ℕ) (pairs : List Pair) (tasks : List Task) (table : List ℕ)
     (runs : List LaneRun) : Type 0 where
   pub lanes : LanesRan workers tasks runs
@@ -58,8 +59,8 @@ pub record RanFull (pairs : List Pair) (table : List ℕ) (runs : List LaneRun)
   pub is_next : slice_get run.tasks (length run.answers) ≡ Some task
   pub wants : may_want_words task.command ≡ true
 
--- what a table that ran full hands on: the pairs behind the tasks that its lanes answered, and the
--- tasks that they left; where they answered none, one thread answers the first of these
+-- what a table that ran full hands on: the pairs after the tasks that its lanes answered, and the
+-- tasks that they left; if they answered none, one thread answers the first of these
 pub data HandsOn (pairs : List Pair) (runs : List LaneRun) (after : List Pair)
     (left : List Task) : Type 0 where
   some_done : ¬ (all_done runs ≡ [])
@@ -73,8 +74,8 @@ pub data HandsOn (pairs : List Pair) (runs : List LaneRun) (after : List Pair)
 abbrev pub IsLarger : List ℕ → List ℕ → Type 0
 IsLarger table next = min place_limit (2 * length table) ≤ length next
 
--- the tables are those of the generations of a round that begins with these pairs, and each but the
--- last ran full with its numbers
+-- the tables of the generations of a round that begins with these pairs; each but the last ran full
+-- with its numbers
 pub data IsGenerations (workers : ℕ) : List Pair → List Task → List (List ℕ) → List Full
     → Type 0 where
   whole : {pairs : List Pair} {tasks : List Task} {table : List ℕ} (runs : List LaneRun)

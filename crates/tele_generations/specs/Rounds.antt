@@ -1,9 +1,9 @@
--- What a round in generations came to.
+-- The result of a round in generations.
 use Rattle.std.specs.Prelude.{◌≡◌, ℕ, List, [], ◌∷◌, ◌++◌, map, length, Option}
 use Rattle.ist_core.specs.declared.pairs.Pair.{Pair}
 use Rattle.ist_core.specs.declared.ports.Full.{Full}
 use Rattle.ist_core.specs.Map.{map_of, replay}
-use Rattle.ist_histories.specs.Telling.{map_now}
+use Rattle.laws_histories.specs.Telling.{map_now}
 use Rattle.tele_lanes.specs.declared.task_lists.Task.{Task}
 use Rattle.tele_lanes.specs.Lines.{commands_of}
 use Rattle.tele_rounds.specs.Runs.{LaneRun, AreWhole}
@@ -11,13 +11,13 @@ use Rattle.tele_rounds.specs.Suffixes.{LeavesSuffixes}
 use Rattle.tele_generations.specs.Generations.{IsGeneration, IsGenerations}
 use Rattle.tele_generations.specs.Shelves.{IsShelved}
 
--- the first of some tables has so many words
+-- the first of some tables has this many words
 abbrev pub FirstHas : ℕ → List (List ℕ) → Type 0
 FirstHas words [] = ⊥
 FirstHas words (table ∷ tables) = length table ≡ words
 
--- the tables that the shelf was given, and the last one behind them, are those of the round's
--- generations, each but the last with its numbers
+-- the tables put on the shelf, followed by the last one, are the tables of the round's generations,
+-- each but the last with its numbers
 pub record RanInGenerations {C : Type 0} (words_of : C → List ℕ) (workers first : ℕ)
     (pairs : List Pair) (tasks : List Task) (before after : Option (List C)) (last : C)
     (fulls : List Full) : Type 0 where
@@ -27,7 +27,7 @@ pub record RanInGenerations {C : Type 0} (words_of : C → List ℕ) (workers fi
   pub first_is : FirstHas first (map words_of (given ++ last ∷ []))
 
 -- the words of the last table stand for the pairs at its opening and for what the lanes were told
--- of their last tasks, all of them where no table ran full; its map is the one behind all tasks
+-- of their last tasks, which are all tasks if no table ran full; its map is the map after all tasks
 pub record EndsTheRound (workers : ℕ) (pairs : List Pair) (tasks : List Task) (table : List ℕ)
     (fulls : List Full) : Type 0 where
   pub opening : List Pair

@@ -1,11 +1,11 @@
--- What a shelf tells of the tables that it was given.
+-- What a shelf reports of the tables that it was given.
 use Rattle.std.specs.Prelude.{◌≡◌, List, ◌++◌, Bool, true, false, Option, Some, None}
 use Rattle.std.specs.Option.{option_to_list}
 use Rattle.std.specs.List.{flat_map}
 use Rattle.tele_generations.specs.declared.kept.Kept.{Kept}
 
--- the tables were put on a shelf: where it tells its tables then, it told them before, and these
--- stand behind them
+-- the tables were put on a shelf: if it reports its tables then, it reported them before, and the
+-- new ones come after the old
 abbrev pub IsShelved : {C : Type 0} → Option (List C) → List C → Option (List C) → Type 0
 IsShelved before given None = Unit {0}
 IsShelved None given (Some after) = ⊥
@@ -15,11 +15,11 @@ IsShelved (Some before) given (Some after) = after ≡ before ++ given
 abbrev pub tables_in : {C : Type 0} → Kept C → List C
 tables_in shelf = flat_map option_to_list shelf.places.items
 
--- these tables, if they are all
+-- these tables, if the shelf kept all
 abbrev pub if_all : {C : Type 0} → Bool → List C → Option (List C)
 if_all true tables = Some tables
 if_all false tables = None
 
--- what a shelf tells: the tables that it was given, where it keeps them all
+-- what a shelf reports: the tables that it was given, if it keeps them all
 abbrev pub told_by : {C : Type 0} → Kept C → Option (List C)
 told_by shelf = if_all shelf.has_all (tables_in shelf)

@@ -18,7 +18,7 @@ use Rattle.tele_generations.specs.Sizes.{least_words, next_words}
 use Rattle.tele_generations.specs.Generations.{MayAsk, IsLarger, IsGenerations}
 use Rattle.tele_generations.specs.Shelves.{IsShelved}
 
--- a turn at rest: where there is an answer everything stays, and else one thread answers the first
+-- a turn at rest: if there is an answer, everything stays; otherwise one thread answers the first
 -- task
 pub data Rests (answers : List Answer) (left : List Task) (pairs : List Pair) : List Answer
     → List Task → List Pair → Type 0 where
@@ -34,7 +34,8 @@ MayFollow [] next = Unit {0}
 MayFollow (table ∷ []) next = IsLarger table next
 MayFollow (table ∷ other ∷ tables) next = MayFollow (other ∷ tables) next
 
--- the tables so far, with those of generations for what they leave, are those of all
+-- the tables so far, followed by tables of generations for what they leave, are tables of
+-- generations for all
 abbrev pub LeadOn : ℕ → List Pair → List Task → List (List ℕ) → List Full → List Pair
     → List Task → Type 0
 LeadOn workers pairs tasks tables fulls now left =
@@ -42,12 +43,14 @@ LeadOn workers pairs tasks tables fulls now left =
     → IsGenerations workers now left (next ∷ more) later
     → IsGenerations workers pairs tasks (tables ++ next ∷ more) (fulls ++ later)
 
--- the first of the tables so far has as many words as a first one has, or the next one will have
+-- the first of the tables so far has `first` words; before the first table, the next one will have
+-- them
 abbrev pub BeginsWith : ℕ → List (List ℕ) → ℕ → Type 0
 BeginsWith first [] words = words ≡ first
 BeginsWith first (table ∷ tables) words = length table ≡ first
 
--- the tables so far: they are on the shelf, lead on to what is left, and the next one may follow
+-- the tables so far: they are on the shelf, they lead on to what is left, and the next one may
+-- follow
 pub record HasTables {C : Type 0} (words_of : C → List ℕ) (workers first : ℕ) (pairs : List Pair)
     (tasks : List Task) (before after : Option (List C)) (fulls : List Full) (now : List Pair)
     (left : List Task) (words : ℕ) : Type 0 where
@@ -70,7 +73,7 @@ pub record IsOnItsWay (workers : ℕ) (pairs : List Pair) (tasks : List Task) (f
   pub count : length fulls + length left ≤ length tasks
   pub asked : All (λ full. MayAsk (length pairs + length tasks) full.asked) fulls
 
--- the way goes on behind a table that ran full: with a turn at rest, and a next table
+-- the way goes on after a table that ran full: with a turn at rest and a next table
 pub record GoesOnBehind (way : Way) (turn : Turn) (full : Full) (next : Way) : Type 0 where
   pub more : List Answer
   pub rested : Rests turn.answers.items turn.left.items turn.pairs.items more next.left.items

@@ -6,9 +6,9 @@ use arrayvec::ArrayVec;
 /// How many tables `Kept` keeps.
 pub(crate) const ROOM: usize = 8;
 
-/// A shelf that keeps the first eight tables that it is given, and lets each further one go.
+/// A shelf that keeps the first eight tables that it is given, and drops each further one.
 ///
-/// It tells its tables until it is given a ninth. It takes no memory.
+/// It reports its tables until it is given a ninth. It allocates nothing.
 #[derive(Drop)]
 pub struct Kept<C> {
     pub(crate) places: ArrayVec<Option<C>, ROOM>,

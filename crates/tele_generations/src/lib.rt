@@ -1,8 +1,9 @@
 //! A round of tasks in generations: a table that runs full is followed by a larger one, until all
-//! tasks are answered. What it is, and the parts of its loop; it knows no tree.
+//! tasks are answered. The definitions, and the parts of the loop; nothing here knows trees.
 //!
-//! Read `specs/Generations.antt` and `specs/Rounds.antt`, then `ways.rt` and `rounds.rt`. Stands on
-//! `ist_core`, `ist_math`, `plain_map`, `tele_lanes`, `tele_rounds` and the laws of `ist_histories` and `ist_finished`.
+//! Read `specs/Generations.antt` and `specs/Rounds.antt`, then `ways.rt` and `rounds.rt`. Builds on
+//! `ist_core`, `ist_math`, `plain_map`, `tele_lanes`, `tele_rounds` and the laws of `laws_histories`
+//! and `laws_rows`.
 #![tactic(auto)]
 
 mod kept;

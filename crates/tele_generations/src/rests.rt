@@ -10,25 +10,25 @@ use plain_map::Plain;
 use std::alloc::AllocError;
 use tele_lanes::{Answer, Task};
 
-/// What a turn came to.
+/// What a turn answered and left.
 #[derive(Drop)]
 pub struct Turn {
     /// What was answered in it.
     pub answers: Vec<Answer>,
-    /// What is left, rising by line.
+    /// What is left, by increasing line.
     pub left: Vec<Task>,
-    /// The pairs behind it, rising by key.
+    /// The pairs after it, by increasing key.
     pub pairs: Vec<Pair>,
 }
 
-// An answer, and the pairs behind it.
+// An answer, and the pairs after it.
 #[derive(Drop)]
 pub(crate) struct AtRest {
     pub answer: Answer,
     pub pairs: Vec<Pair>,
 }
 
-// Where nothing was answered, the first task that is left is answered from the pairs.
+// Answers the first task that is left, from the pairs, if the turn answered nothing.
 pub(crate) fn rest(turn: Turn) -> Result<Turn, AllocError>
     requires some_left { 0 < length turn.left.items }
     requires rising { IsRising turn.pairs.items }
@@ -53,7 +53,7 @@ pub(crate) fn rest(turn: Turn) -> Result<Turn, AllocError>
     })
 }
 
-// The task, answered by one thread.
+// Answers the task by one thread.
 fn answer_at_rest(pairs: Vec<Pair>, task: Task) -> Result<AtRest, AllocError>
     requires rising { IsRising pairs.items }
     ensures answer { IfOk result (λ r. r.answer ≡ plain_answer (map_of pairs.items) task) }

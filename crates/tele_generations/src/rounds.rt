@@ -1,4 +1,4 @@
-//! What a round of tasks came to.
+//! The result of a round of tasks.
 ghost use Rattle.std.specs.Prelude.{◌≡◌, ◌++◌, IfOk};
 ghost use Rattle.std.specs.List.Sorted.{IsPermutation, IsNonDecreasingBy};
 
@@ -8,7 +8,7 @@ use std::alloc::AllocError;
 use std::marker::Model;
 use tele_lanes::{Answer, Answers};
 
-/// The refusals of the tables that ran full, in order. Contracts see the list of them.
+/// The refusals of the tables that ran full, in order. Contracts see them as a list.
 #[derive(Debug, Drop)]
 pub struct Fulls {
     items: Vec<Full>,
@@ -24,14 +24,14 @@ impl Model for Fulls {
 }
 
 impl Fulls {
-    /// The list of these refusals. Takes no memory.
+    /// Makes the list of these refusals. Allocates nothing.
     pub fn from_vec(items: Vec<Full>) -> Fulls
         ensures value { result ≡ items.items }
     {
         Fulls { items }
     }
 
-    /// The refusals, in order. Takes no memory.
+    /// Returns the refusals, in order. Allocates nothing.
     pub fn as_slice(&self) -> &[Full]
         ensures value { result.now ≡ self.now }
     {
@@ -39,10 +39,10 @@ impl Fulls {
     }
 }
 
-/// What a round came to.
+/// The result of a round.
 #[derive(Drop)]
 pub struct Round<C> {
-    /// The answers to all tasks, rising by line.
+    /// The answers to all tasks, by increasing line.
     pub answers: Answers,
     /// The table of the last generation.
     pub closed: C,
@@ -50,7 +50,7 @@ pub struct Round<C> {
     pub fulls: Fulls,
 }
 
-/// The round, ended by a table that answered all that was left. Fails for want of memory alone.
+/// Ends the round with a table that answered all that was left. Fails only if memory runs out.
 pub fn finish<C: Drop>(way: Way, answers: &[Answer], closed: C) -> Result<Round<C>, AllocError>
     ensures answers_same { IfOk result (λ r.
         IsPermutation (way.answers.items ++ answers.now) r.answers.list) }
@@ -71,7 +71,7 @@ pub fn finish<C: Drop>(way: Way, answers: &[Answer], closed: C) -> Result<Round<
     })
 }
 
-// The answers, sorted by line.
+// Sorts the answers by line.
 fn sorted(answers: Vec<Answer>) -> Result<Vec<Answer>, AllocError>
     ensures same { IfOk result (λ v. IsPermutation answers.items v.items) }
     ensures rising { IfOk result (λ v. IsNonDecreasingBy (λ a. a.line) v.items) }

@@ -1,21 +1,21 @@
-//! Where the tables go that a round has done with.
+//! Where the tables go that a round no longer needs.
 ghost use Rattle.std.specs.Prelude.{◌≡◌, [], ◌∷◌, ◌++◌, ◌<◌, ◌≤◌, List, Option, Some, None, length, slice_get, option_copied};
 ghost use Rattle.tele_generations.specs.Shelves.{IsShelved, tables_in, told_by};
 
 use crate::kept::{Kept, ROOM};
 use arrayvec::ArrayVec;
 
-/// Takes the closed tables that a round has done with.
+/// Takes the closed tables that a round no longer needs.
 pub trait Shelf<C> {
-    // the tables that were put on the shelf, in order, where it tells them
+    // the tables that were put on the shelf, in order, if it reports them
     ghost kept: { Self → Option (List C) };
 
-    /// Puts a table behind the others.
+    /// Puts a table after the others.
     fn keep(&mut self, closed: C)
         ensures kept { IsShelved (kept self.old) (closed ∷ []) (kept self.new) };
 }
 
-/// A shelf that lets each table go, and tells nothing.
+/// A shelf that drops each table and reports nothing.
 #[derive(Clone, Copy, Debug, Drop)]
 pub struct NoShelf;
 
@@ -26,7 +26,7 @@ impl<C: Drop> Shelf<C> for NoShelf {
 }
 
 impl<C: Drop> Kept<C> {
-    /// An empty shelf.
+    /// Makes an empty shelf.
     pub fn new() -> Kept<C>
         ensures told { told_by result ≡ Some [] }
         ensures empty { tables_in result ≡ [] }
@@ -37,7 +37,8 @@ impl<C: Drop> Kept<C> {
         }
     }
 
-    /// The table of this number, counted from 0 in the order in which they came, if it is kept.
+    /// Returns the table of this number, if it is kept; tables are counted from 0 in the order in
+    /// which they came.
     pub fn get(&self, number: usize) -> Option<&C>
         ensures value { option_copied result ≡ slice_get (tables_in self.now) number }
     {

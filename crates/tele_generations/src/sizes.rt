@@ -7,8 +7,8 @@ use ist_math::ideal_words;
 /// The most words that a table has.
 const MOST_WORDS: u64 = 1 << 28;
 
-/// The words of the first table of a round, by its pairs and its lines: at most `most`, unless the
-/// pairs need more.
+/// Returns the words of the first table of a round, by its pairs and its lines: at most `most`,
+/// unless the pairs need more.
 pub fn first_words(most: u32, workers: u32, pairs: u64, lines: u64) -> u32
     requires few { pairs + lines ≤ 2 ^ 24 }
     requires at_most { workers ≤ 64 }
@@ -22,7 +22,7 @@ pub fn first_words(most: u32, workers: u32, pairs: u64, lines: u64) -> u32
     least.max(wanted.min(u64::from(most))) as u32
 }
 
-/// The words of the table that follows one of so many words which ran full.
+/// Returns the words of the table that follows a table of `words` words that ran full.
 pub fn next_words(words: u32, pairs: u64) -> u32
     requires few { pairs ≤ 2 ^ 24 }
     requires within { words ≤ 2 ^ 28 }

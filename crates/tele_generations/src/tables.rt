@@ -1,13 +1,13 @@
-//! What one table of a round came to.
+//! The result of one table of a round.
 use ist_core::Full;
 use tele_lanes::{Answer, Task};
 
-/// What a generation came to.
+/// The result of a generation.
 #[derive(Drop)]
 pub struct Generation<C> {
-    /// What the lanes answered, rising by line.
+    /// What the lanes answered, by increasing line.
     pub answers: Vec<Answer>,
-    /// The tasks that they left, rising by line.
+    /// The tasks that they left, by increasing line.
     pub left: Vec<Task>,
     /// The table, after its last call.
     pub closed: C,

@@ -1,4 +1,4 @@
-//! How far a round has come between two tables.
+//! The state of a round between two tables.
 ghost use Rattle.std.specs.Prelude.{◌≡◌, [], ◌∷◌, ◌++◌, ◌+◌, ◌<◌, ◌≤◌, ◌^◌, IfOk, length};
 ghost use Rattle.plain_map.specs.Rising.{IsRising};
 ghost use Rattle.tele_generations.specs.Sizes.{least_words, first_words, next_words};
@@ -10,14 +10,14 @@ use ist_core::{Full, Pair};
 use std::alloc::{AllocError, Global};
 use tele_lanes::{Answer, Task};
 
-/// How far a round has come.
+/// The state of a round between two tables.
 #[derive(Drop)]
 pub struct Way {
     /// What was answered so far, table by table.
     pub answers: Vec<Answer>,
-    /// What is left, rising by line.
+    /// What is left, by increasing line.
     pub left: Vec<Task>,
-    /// The pairs from which the next table begins, rising by key.
+    /// The pairs from which the next table begins, by increasing key.
     pub pairs: Vec<Pair>,
     /// The refusals of the tables that ran full, in order.
     pub fulls: Vec<Full>,
@@ -25,7 +25,7 @@ pub struct Way {
     pub words: u32,
 }
 
-/// Before the first table. Fails for want of memory alone.
+/// Begins a round, before its first table. Fails only if memory runs out.
 pub fn begin(
     alloc: Global,
     pairs: &[Pair],
@@ -54,9 +54,8 @@ pub fn begin(
     })
 }
 
-/// Behind a table that ran full with these numbers: with what it answered and left, or where it
-/// answered nothing with the first task that it left, answered by one thread. Fails for want of memory
-/// alone.
+/// Goes on after a table that ran full with these numbers, with what it answered and left. If it
+/// answered nothing, one thread answers the first task that it left. Fails only if memory runs out.
 pub fn go_on(way: Way, turn: Turn, full: Full) -> Result<Way, AllocError>
     requires some_left { 0 < length turn.left.items }
     requires rising { IsRising turn.pairs.items }

@@ -1,11 +1,11 @@
--- What is appended in parts. Serves `write_whole`, and whoever appends one text behind another.
+-- What is appended in parts. Serves `write_whole`, and whoever appends one text after another.
 use Rattle.std.proofs.Common.{◌≡◌, ℕ, ◌+◌, ◌-◌, ◌≤◌, List, [], ◌++◌, length, take, drop, Option, Some, None, Result, Ok, Err, OnOk, sym, ◌∙◌, ap, subst, append_assoc, take_all, arith}
 use Rattle.std.specs.Prelude.{OnErr}
 use Rattle.std.proofs.lemmas.List.{take_rest, length-drop, append-nil, length-append, take-append-le}
 use Rattle.std.proofs.Math.Seq.{take-add, take-append-add}
 use Rattle.tele_io.specs.Bytes.{Appends, AppendsPart}
 
--- the first t bytes, and then n of those behind them, are the first t + n
+-- the first t bytes, and then n of those after them, are the first t + n
 pub Appends-take-add : (before middle now : Option (List ℕ)) (bytes : List ℕ) (t n : ℕ)
     → Appends before middle (take t bytes)
     → Appends middle now (take n (take (length bytes - t) (drop t bytes)))
@@ -16,7 +16,7 @@ Appends-take-add (Some xs) (Some ys) now bytes t n first next =
     let here = rw take_rest at next in
     rw (take-add t n bytes, ← append_assoc) (cc (first, here))
 
--- how many bytes lie behind the first t
+-- how many bytes follow the first t
 pub length-take_rest : (bytes : List ℕ) (t : ℕ)
     → length (take (length bytes - t) (drop t bytes)) ≡ length bytes - t
 length-take_rest bytes t = simp (take_rest, length-drop)

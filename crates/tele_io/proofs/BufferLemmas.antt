@@ -1,4 +1,4 @@
--- What a sink tells, with bytes that are held before it. Serves `BufferedSink`.
+-- The known bytes of a sink, with bytes that are held back from it. Serves `BufferedSink`.
 use Rattle.std.proofs.Common.{◌≡◌, ℕ, List, [], ◌++◌, length, take, drop, Option, Some, None, sym, ◌∙◌, ap, append_assoc, append-nil, take-append-drop, arith}
 use Rattle.std.proofs.lemmas.List.{length-append, take_all, take-append-le}
 use Rattle.tele_io.specs.Bytes.{Appends, AppendsPart, Keeps}
@@ -16,14 +16,14 @@ keeps_passed (Some xs) (Some ys) held left n passed is =
     let here : ys ≡ xs ++ take n held = cc passed in
     ap Some (ap (λ l. l ++ left) here ∙ ap (λ l. (xs ++ take n held) ++ l) is ∙ same)
 
--- bytes are held behind those that were
+-- bytes are held after those that were
 pub appends_held : (before : Option (List ℕ)) (held left bytes : List ℕ) → left ≡ held ++ bytes
     → Appends (with_held before held) (with_held before left) bytes
 appends_held None held left bytes is = tt
 appends_held (Some xs) held left bytes is =
     ap Some (ap (λ l. xs ++ l) is ∙ sym (append_assoc {A = ℕ} xs held bytes))
 
--- bytes went to the sink behind, where none were held before it
+-- bytes went to the inner sink, if none were held back from it
 pub appends_passed : (before now : Option (List ℕ)) (held left bytes : List ℕ) → held ≡ [] → left ≡ []
     → Appends before now bytes
     → Appends (with_held before held) (with_held now left) bytes
@@ -34,7 +34,7 @@ appends_passed (Some xs) (Some ys) held left bytes none still passed =
     ap Some (ap (λ l. ys ++ l) still ∙ append-nil ys ∙ here
     ∙ ap (λ l. l ++ bytes) (sym (append-nil xs) ∙ ap (λ l. xs ++ l) (sym none)))
 
--- of a sink that had told no byte, what it tells is a prefix of what was taken
+-- if a sink's bytes are known and were none, they are now a prefix of what was taken
 pub passed_part : (now : Option (List ℕ)) (held text : List ℕ)
     → AppendsPart (Some []) (with_held now held) text → AppendsPart (Some []) now text
 passed_part None held text part = absurd (cc part.2)

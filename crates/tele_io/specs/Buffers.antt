@@ -1,4 +1,4 @@
--- A sink that holds bytes back: the sink behind it, and the bytes that are not passed on yet.
+-- A sink that holds bytes back: its inner sink, and the bytes that are not passed on yet.
 use Rattle.std.specs.Prelude.{ℕ, List, ◌++◌, drop, Option, Some, None}
 use Rattle.tele_io.specs.declared.buffered.BufferedSink.{BufferedSink}
 
@@ -10,7 +10,7 @@ sink_of s = s.inner
 abbrev pub bytes_in : {O : Type 0} → BufferedSink O → List ℕ
 bytes_in s = drop s.from s.bytes.items
 
--- what a sink tells, and behind it bytes that are held back before it
+-- the known bytes of a sink, followed by bytes that are still held back from it
 abbrev pub with_held : Option (List ℕ) → List ℕ → Option (List ℕ)
 with_held (Some passed) held = Some (passed ++ held)
 with_held None held = None

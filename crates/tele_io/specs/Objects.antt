@@ -13,11 +13,11 @@ pub record Schedule : Type 0 where
 abbrev pub schedule_of : List ℕ → Schedule
 schedule_of fails = record { call = 0; fails = fails; faults = 0 }
 
--- whether the next call is to fail
+-- whether the next call must fail
 abbrev pub fails_next : Schedule → Bool
 fails_next s = list_any (λ n. n == s.call) s.fails
 
--- a schedule behind its next call: both counts stand still at their end
+-- a schedule after its next call; both counts stop at their end
 abbrev pub after_call : Schedule → Schedule
 after_call s = record {
   call = raised s.call;

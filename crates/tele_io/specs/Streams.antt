@@ -1,9 +1,9 @@
--- What stands behind a source over a reader and a sink over a writer, and how often it failed.
+-- What a source over a reader and a sink over a writer use, and how often it failed.
 use Rattle.std.specs.Prelude.{ℕ}
 use Rattle.tele_io.specs.declared.streams.ReadSource.{ReadSource}
 use Rattle.tele_io.specs.declared.streams.WriteSink.{WriteSink}
 
--- the reader behind a source
+-- the reader of a source
 abbrev pub reader_of : {R : Type 0} → ReadSource R → R
 reader_of s = s.reader
 
@@ -11,7 +11,7 @@ reader_of s = s.reader
 abbrev pub read_faults : {R : Type 0} → ReadSource R → ℕ
 read_faults s = s.faults
 
--- the writer behind a sink
+-- the writer of a sink
 abbrev pub writer_of : {W : Type 0} → WriteSink W → W
 writer_of s = s.writer
 

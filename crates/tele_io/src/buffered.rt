@@ -1,4 +1,4 @@
-//! A sink that holds bytes back, so that they go to the sink behind it in few writes.
+//! A sink that holds bytes back, so that they reach its inner sink in few writes.
 ghost use Rattle.std.specs.Prelude.{◌≡◌, ℕ, ◌≤◌, List, [], ◌++◌, length, Some, vec_len, if◌then◌else◌, OnOk, IsErrOf};
 ghost use Rattle.tele_io.specs.Bytes.{HaveRisen, AppendsPart, Keeps};
 
@@ -9,11 +9,12 @@ use std::alloc::Global;
 /// The most bytes that are held back.
 pub const HELD_LIMIT: usize = 65_536;
 
-/// Holds at most 65,536 bytes back, and passes them on to another sink when it is told, or where
-/// more come than it may hold.
+/// Holds back at most 65,536 bytes. It passes them on to another sink when `pass_on` is called, or
+/// when more bytes arrive than it may hold.
 ///
-/// What it took is what the sink behind it took, and what it holds. Where no memory is left to hold
-/// bytes in, they are passed on at once, so that want of memory here is no refusal.
+/// The bytes that it took are those that its inner sink took, followed by those that it holds. If
+/// there is no memory to hold bytes in, they are passed on at once; running out of memory here is
+/// no error.
 #[derive(Drop)]
 pub struct BufferedSink<O> {
     inner: O,
@@ -26,7 +27,7 @@ pub struct BufferedSink<O> {
 impl<O: Sink> BufferedSink<O> {
     ghost use Rattle.tele_io.specs.Buffers.{sink_of, bytes_in, with_held};
 
-    /// A sink over this one, which holds nothing and takes its memory from `alloc`.
+    /// Makes a sink over `inner` that holds nothing and allocates from `alloc`.
     pub fn new(inner: O, alloc: Global) -> BufferedSink<O>
         ensures inner { sink_of result ≡ inner }
         ensures none { bytes_in result ≡ [] }
@@ -38,8 +39,8 @@ impl<O: Sink> BufferedSink<O> {
         }
     }
 
-    /// The sink behind. Of one that had told no byte at the start, what it tells is a prefix of each
-    /// text of which a prefix was taken.
+    /// Returns the inner sink. If its bytes are known and were none at the start, they are a prefix
+    /// of each text of which a prefix was taken.
     pub fn inner(&self) -> &O
         ensures value { result.now ≡ sink_of self.now }
         ensures passed { (text : List ℕ) →
@@ -49,7 +50,7 @@ impl<O: Sink> BufferedSink<O> {
         &self.inner
     }
 
-    /// The bytes that are held back, in their order.
+    /// Returns the bytes that are held back, in order.
     pub fn held(&self) -> &[u8]
         ensures value { result.now ≡ bytes_in self.now }
         ensures few { length result.now ≤ HELD_LIMIT }
@@ -57,7 +58,7 @@ impl<O: Sink> BufferedSink<O> {
         &self.bytes[self.from..]
     }
 
-    /// Writes the bytes that are held back to the sink behind, and holds on to those that it refuses.
+    /// Writes the bytes that are held back to the inner sink, and keeps those that it doesn't take.
     fn pass_held(&mut self) -> Result<(), SinkFault>
         ensures none { OnOk result (bytes_in self.new ≡ []) }
         ensures kept { Keeps (with_held (O.written (sink_of self.old)) (bytes_in self.old))
@@ -102,7 +103,8 @@ impl<O: Sink> Sink for BufferedSink<O> {
     }
 }
 
-/// Puts bytes behind those that are held back, where they fit and there is memory, and says whether.
+/// Appends bytes to those that are held back, if they fit and there is memory. Returns whether it
+/// did.
 fn hold(held: &mut Vec<u8>, bytes: &[u8]) -> bool
     requires few { vec_len held.old ≤ HELD_LIMIT }
     ensures few { vec_len held.new ≤ HELD_LIMIT }

@@ -1,11 +1,11 @@
-//! Which calls of an object are to fail.
+//! Which calls of an object will fail.
 ghost use Rattle.std.specs.Prelude.{◌≡◌, ◌≤◌, IsTrue};
 ghost use Rattle.tele_io.specs.Bytes.{HaveRisen};
 ghost use Rattle.tele_io.specs.Objects.{Schedule, schedule_of, fails_next, after_call};
 
 use std::marker::Model;
 
-/// Numbers the calls of an object, and knows which of them are to fail.
+/// Numbers the calls of an object, and knows which of them will fail.
 #[derive(Drop)]
 pub struct Calls {
     fails: Vec<u64>,
@@ -20,7 +20,7 @@ impl Model for Calls {
 }
 
 impl Calls {
-    /// Before the first call.
+    /// Makes a schedule whose first call is still to come.
     pub fn new(fails: Vec<u64>) -> Calls
         ensures { result ≡ schedule_of fails.items }
     {
@@ -31,7 +31,7 @@ impl Calls {
         }
     }
 
-    /// Counts the next call, and says whether it is to fail.
+    /// Counts the next call, and returns whether it must fail.
     pub fn next_fails(&mut self) -> bool
         ensures value { result ≡ fails_next self.old }
         ensures after { self.new ≡ after_call self.old }

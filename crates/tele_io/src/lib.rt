@@ -1,4 +1,4 @@
-//! Where bytes come from and where they go, with counts of what went wrong on the way.
+//! Where bytes come from and where they go, with counts of the faults on the way.
 //!
 //! Read `specs/Bytes.antt`, `sources.rt` and `sinks.rt`, and then `whole.rt`. The objects in memory
 //! are in `quiet.rt` and `memory.rt`, the adapters over a reader and a writer in `streams.rt`, and the

@@ -1,4 +1,4 @@
-//! A source and a sink in memory that fail at the calls that they are told.
+//! A source and a sink in memory that fail at given calls.
 ghost use Rattle.std.specs.Prelude.{◌≡◌, ◌<◌, ◌≤◌, ◌↔◌, min, [], ◌++◌, length, take, drop, Some, IsTrue, IsErr, IsOk, IfOk, OnOk, OnErr, IsErrOf};
 ghost use Rattle.tele_io.specs.Bytes.{HaveRisen};
 ghost use Rattle.tele_io.specs.Objects.{Supply, Store, schedule_of, fails_next, after_call};
@@ -10,7 +10,7 @@ use super::sources::{Failed, Source};
 use std::alloc::Global;
 use std::marker::Model;
 
-/// Gives the bytes of a vector piece by piece, and fails at the reads that it is told.
+/// Gives the bytes of a vector piece by piece, and fails at given reads.
 ///
 /// Clauses see a `Supply`: the bytes that are left, the length of a piece, and the schedule of
 /// its reads.
@@ -30,8 +30,8 @@ impl Model for MemorySource {
 }
 
 impl MemorySource {
-    /// A source of these bytes that gives at most `piece` of them per read. The reads with the
-    /// numbers in `fails`, counted from 0, fail.
+    /// Makes a source of these bytes that gives at most `piece` of them per read. The reads whose
+    /// numbers, counted from 0, are in `fails` fail.
     pub fn new(bytes: Vec<u8>, piece: usize, fails: Vec<u64>) -> MemorySource
         requires { 0 < piece }
         ensures bytes { result.left ≡ bytes.items }
@@ -74,7 +74,7 @@ impl Source for MemorySource {
     }
 }
 
-/// Keeps the bytes that it takes, and fails at the writes that it is told.
+/// Keeps the bytes that it takes, and fails at given writes.
 ///
 /// Clauses see a `Store`: the bytes that were taken, and the schedule of its writes.
 #[derive(Drop)]
@@ -90,8 +90,8 @@ impl Model for MemorySink {
 }
 
 impl MemorySink {
-    /// A sink that took no byte, and takes its memory from `alloc`. The writes with the numbers in
-    /// `fails`, counted from 0, fail. Each other write takes its whole piece, or wants memory.
+    /// Makes a sink that took no byte and allocates from `alloc`. The writes whose numbers, counted
+    /// from 0, are in `fails` fail. Each other write takes its whole piece, or runs out of memory.
     pub fn new(alloc: Global, fails: Vec<u64>) -> MemorySink
         ensures bytes { result.taken ≡ [] }
         ensures schedule { result.schedule ≡ schedule_of fails.items }
@@ -102,7 +102,7 @@ impl MemorySink {
         }
     }
 
-    /// The bytes that were taken, in order.
+    /// Returns the bytes that were taken, in order.
     pub fn bytes(&self) -> &[u8]
         ensures { result.now ≡ self.now.taken }
     {

@@ -24,14 +24,14 @@ impl Model for QuietSource {
 }
 
 impl QuietSource {
-    /// A source of these bytes.
+    /// Makes a source of these bytes.
     pub fn new(bytes: Vec<u8>) -> QuietSource
         ensures { result ≡ bytes.items }
     {
         QuietSource { bytes, given: 0 }
     }
 
-    /// Gives as many bytes as are left, as fit into `buf` and as `most` allows, and says how many.
+    /// Gives as many bytes as are left, fit into `buf` and `most` allows, and returns how many.
     pub(super) fn give(&mut self, buf: &mut [u8], most: usize) -> usize
         ensures count { result ≡ min (length self.old) (min (length buf.old) most) }
         ensures bytes { buf.new ≡ take result self.old ++ drop result buf.old }
@@ -59,7 +59,7 @@ impl Source for QuietSource {
     }
 }
 
-/// Keeps the bytes that it takes, and refuses a piece only for want of memory.
+/// Keeps the bytes that it takes, and fails to take a piece only if it is out of memory.
 ///
 /// Clauses see the list of the bytes that were taken.
 #[derive(Drop)]
@@ -74,7 +74,7 @@ impl Model for QuietSink {
 }
 
 impl QuietSink {
-    /// A sink that took no byte, and takes its memory from `alloc`.
+    /// Makes a sink that took no byte and allocates from `alloc`.
     pub fn new(alloc: Global) -> QuietSink
         ensures { result ≡ [] }
     {
@@ -83,7 +83,7 @@ impl QuietSink {
         }
     }
 
-    /// The bytes that were taken, in order.
+    /// Returns the bytes that were taken, in order.
     pub fn bytes(&self) -> &[u8]
         ensures { result.now ≡ self.now }
     {

@@ -5,26 +5,26 @@ ghost use Rattle.tele_io.specs.Bytes.{HaveRisen, Appends, Keeps};
 /// Why a sink took nothing of a piece.
 #[derive(Clone, Copy, Debug, PartialEq, Eq, Drop)]
 pub enum SinkFault {
-    /// What lies behind the sink failed.
+    /// What the sink writes to failed.
     Failed,
-    /// No memory was left to keep the bytes in.
+    /// There was no memory to keep the bytes in.
     Memory,
 }
 
 /// Takes bytes, piece by piece, and keeps them in order. It may hold back the last of them for a
-/// while, and passes them on where it is told.
+/// while, and passes them on when `pass_on` is called.
 pub trait Sink {
-    // the bytes that were taken so far, where they are known
+    // the bytes that were taken so far, if they are known
     ghost written: { Self → Option (List ℕ) };
-    // the last of these bytes, which are not passed on yet; known also where the others are not
+    // the last of these bytes, which are not passed on yet; known even if the others are not
     ghost held: { Self → List ℕ };
     // how often a write has failed
     ghost faults: { Self → ℕ };
 
-    /// Takes at least one byte from the front of a piece that isn't empty, and says how many.
+    /// Takes at least one byte from the front of a nonempty piece, and returns how many.
     ///
-    /// `Failed` comes only where a fault was counted in this call, be it at bytes that were taken
-    /// before. After a refusal nothing of the piece was taken.
+    /// `Failed` is returned only if a fault was counted in this call, possibly for bytes that were
+    /// taken before. On an error nothing of the piece was taken.
     fn write(&mut self, bytes: &[u8]) -> Result<usize, SinkFault>
         requires { 0 < length bytes.now }
 
@@ -40,8 +40,8 @@ pub trait Sink {
 
     /// Passes on all bytes that were taken and are held back.
     ///
-    /// `Failed` comes only where a fault was counted in this call. After a refusal some of the bytes
-    /// may have been passed on, and the others are held back still.
+    /// `Failed` is returned only if a fault was counted in this call. On an error some of the bytes
+    /// may have been passed on, and the others are still held back.
     fn pass_on(&mut self) -> Result<(), SinkFault>
         ensures none { OnOk result (held self.new ≡ []) }
         ensures same { Keeps (written self.old) (written self.new) }

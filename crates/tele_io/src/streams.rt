@@ -7,10 +7,11 @@ use super::sinks::{Sink, SinkFault};
 use super::sources::{Failed, Source};
 use std::io::{ErrorKind, Read, Write};
 
-/// Gives what a reader gives. A read that a signal interrupts is made again, as std's own loops do;
-/// each other `Err` of the reader is a fault, and none of these is tried again.
+/// Gives what a reader gives. A read that a signal interrupts is repeated, as std's own loops do.
+/// Each other `Err` of the reader is a fault, and is not retried.
 ///
-/// It tells the bytes that the reader tells: those over memory, and none over a file or a pipe.
+/// Its bytes are known if the reader's are: those of a reader over memory are, those of a file or a
+/// pipe aren't.
 #[derive(Drop)]
 pub struct ReadSource<R> {
     reader: R,
@@ -18,7 +19,7 @@ pub struct ReadSource<R> {
 }
 
 impl<R: Read> ReadSource<R> {
-    /// A source over this reader, with no fault so far.
+    /// Makes a source over this reader, with no fault so far.
     pub fn new(reader: R) -> ReadSource<R>
         ensures reader { reader_of result ≡ reader }
         ensures faults { read_faults result ≡ 0 }
@@ -55,7 +56,7 @@ impl<R: Read> Source for ReadSource<R> {
     }
 }
 
-// One read, made again where a signal interrupts it.
+// One read, repeated if a signal interrupts it.
 #[tactic(auto, using(crate::proofs::KeepsLemmas::keeps_keeps, crate::proofs::KeepsLemmas::keeps_gives))]
 fn read_on<R: Read>(reader: &mut R, buf: &mut [u8]) -> Result<usize, Failed>
     requires { 0 < length buf.old }
@@ -79,13 +80,13 @@ fn read_on<R: Read>(reader: &mut R, buf: &mut [u8]) -> Result<usize, Failed>
     Err(Failed)
 }
 
-/// Hands bytes on to a writer. A write that a signal interrupts is made again, as std's own loops
-/// do; each other `Err` of the writer is a fault, and so is a write that takes no byte. None of
-/// these is tried again.
+/// Passes bytes on to a writer. A write that a signal interrupts is repeated, as std's own loops
+/// do. Each other `Err` of the writer is a fault, and so is a write that takes no byte; neither is
+/// retried.
 ///
-/// It tells the bytes that the writer tells: those over memory, and none over a file or a pipe.
-/// It keeps no byte back and flushes nothing: std's standard output has no buffer, and who hands
-/// in a writer that has one flushes it.
+/// Its bytes are known if the writer's are: those of a writer over memory are, those of a file or a
+/// pipe aren't. It keeps no byte back and flushes nothing: std's standard output has no buffer, and
+/// whoever passes in a writer that has one must flush it.
 #[derive(Drop)]
 pub struct WriteSink<W> {
     writer: W,
@@ -93,7 +94,7 @@ pub struct WriteSink<W> {
 }
 
 impl<W: Write> WriteSink<W> {
-    /// A sink over this writer, with no fault so far.
+    /// Makes a sink over this writer, with no fault so far.
     pub fn new(writer: W) -> WriteSink<W>
         ensures writer { writer_of result ≡ writer }
         ensures faults { write_faults result ≡ 0 }
@@ -140,7 +141,7 @@ impl<W: Write> Sink for WriteSink<W> {
     }
 }
 
-// One write, made again where a signal interrupts it.
+// One write, repeated if a signal interrupts it.
 #[tactic(auto, using(crate::proofs::KeepsLemmas::keeps_keeps, crate::proofs::KeepsLemmas::keeps_appends))]
 fn write_on<W: Write>(writer: &mut W, bytes: &[u8]) -> Result<usize, SinkFault>
     requires { 0 < length bytes.now }

@@ -1,13 +1,13 @@
-//! Writing a piece whole.
+//! Writing a whole piece.
 ghost use Rattle.std.specs.Prelude.{◌≡◌, ◌≤◌, [], length, take, OnOk, OnErr, IsOk, IsErrOf};
 ghost use Rattle.tele_io.specs.Bytes.{HaveRisen, Appends, AppendsPart};
 
 use super::sinks::{Sink, SinkFault};
 
-/// Writes all bytes of a piece, by as many writes as the sink needs. Nothing to write needs none.
+/// Writes all bytes of a piece, by as many writes as the sink needs. An empty piece needs none.
 ///
-/// At the first refusal it stops and hands the refusal on. The bytes that were taken before are a
-/// prefix of the piece, and stay taken.
+/// At the first error it stops and returns the error. The bytes that were taken before are a prefix
+/// of the piece, and stay taken.
 pub fn write_whole<O: Sink>(out: &mut O, bytes: &[u8]) -> Result<(), SinkFault>
     ensures whole { OnOk result (Appends (O.written out.old) (O.written out.new) bytes.now) }
 
@@ -22,7 +22,7 @@ pub fn write_whole<O: Sink>(out: &mut O, bytes: &[u8]) -> Result<(), SinkFault>
     written
 }
 
-/// Writes bytes until all are taken or the sink refuses, and says how many were taken.
+/// Writes bytes until all are taken or the sink returns an error. Returns how many were taken.
 #[tactic(auto, using(crate::proofs::AppendsLemmas::appends))]
 pub(crate) fn write_out<O: Sink>(out: &mut O, bytes: &[u8]) -> (usize, Result<(), SinkFault>)
     ensures within { result.0 ≤ length bytes.now }

@@ -1,4 +1,4 @@
--- What one thread answers, and what the lanes answer alone. Serves the law of lanes.
+-- What one thread answers, and what the lanes answer as if alone. Serves the law of lanes.
 use Rattle.std.proofs.Common.{◌≡◌, ◌≢◌, inl, inr, ◌+◌, ◌<◌, ◌≤◌, ◌%◌, ◌==◌, ℕ, zero, suc, Bool}
 use Rattle.std.proofs.Common.{true, false, cond, List, [], ◌∷◌, ◌++◌, Some, None, sym, ap, subst}
 use Rattle.std.proofs.Common.{◌∙◌, refl, arith, nat_lt}
@@ -20,7 +20,7 @@ use Rattle.tele_lanes.specs.declared.answer_lists.Answer.{Answer}
 use Rattle.tele_lanes.specs.Lines.{answer_lines, replies_in}
 use Rattle.tele_lanes.specs.Lanes.{lane_of, lane_tasks, ArePlainAnswers}
 
--- less and greater aren't equal
+-- if a number is less or greater, it isn't equal
 less_or_greater : (b : Bool) → is_eq (cond b Less Greater) ≡ false
 less_or_greater true = refl
 less_or_greater false = refl
@@ -60,7 +60,7 @@ answered m [] = []
 answered m (t ∷ ts) = record { line = t.line; reply = reply_to m t.command }
     ∷ answered (map_after m t.command) ts
 
--- it is what one thread answers, by the definition of the law
+-- the answers of one thread, as the law defines them
 pub ArePlainAnswers-answered : (m : Map) (tasks : List Task)
     → ArePlainAnswers m tasks (answered m tasks)
 ArePlainAnswers-answered m [] = record { lines = refl; replies = refl }
@@ -92,7 +92,7 @@ answered-from_ArePlainAnswers m tasks all alone =
     same_answers all (answered m tasks) (alone.lines ∙ sym own.lines)
     (alone.replies ∙ sym own.replies)
 
--- the answers for one lane among those of one thread to all tasks
+-- one thread's answers to all tasks, picked for one lane
 abbrev pub picked : ℕ → ℕ → Map → List Task → List Answer
 picked workers lane m [] = []
 picked workers lane m (t ∷ ts) =
@@ -104,7 +104,7 @@ picked workers lane m (t ∷ ts) =
 abbrev pub Agree : ℕ → ℕ → Map → Map → Type 0
 Agree workers lane m n = (q : ℕ) → q % workers ≡ lane → fin.get m q ≡ fin.get n q
 
--- they are what the lane alone answers
+-- the picked answers are what the lane answers as if alone
 pub picked_is : (workers lane : ℕ) (m n : Map) (tasks : List Task) → Agree workers lane m n
     → picked workers lane m tasks ≡ answered n (lane_tasks workers lane tasks)
 picked_is workers lane m n [] agree = refl

@@ -1,4 +1,4 @@
--- Lists whose lines rise from each element to all later ones. Serves the laws of lanes.
+-- Lists whose lines increase from each element to all later ones. Serves the laws of lanes.
 use Rattle.std.proofs.Common.{◌≡◌, ◌≢◌, ◌⊎◌, inl, inr, ◌+◌, ◌<◌, ℕ, zero, suc, true, List, [], ◌∷◌}
 use Rattle.std.proofs.Common.{length, map, get_or, sym, ap, subst, ◌∙◌, refl, arith, AllPairs}
 use Rattle.std.proofs.Common.{Contains, eqb}
@@ -29,7 +29,7 @@ module _ {X : Type 0} (n : X → ℕ) where
   abbrev pub Climb : List X → Type 0
   Climb xs = AllPairs (λ a b. n a < n b) xs
 
-  -- numbers that rise from one to the next rise to all later ones
+  -- numbers that increase from one to the next increase to all later ones
   pub Climb-from_increasing : (xs : List X) → IsStrictlyIncreasing (map n xs) → Climb xs
   Climb-from_increasing xs up i j d lt h =
       let less : get_or (map n xs) i 0 < get_or (map n xs) j 0
@@ -38,7 +38,7 @@ module _ {X : Type 0} (n : X → ℕ) where
       let high : get_or (map n xs) j 0 ≡ n (get_or xs j d) = get_or-map n xs j d 0 h in
       omega arith
 
-  -- and the other way
+  -- numbers that increase to all later ones increase from one to the next
   pub IsStrictlyIncreasing-from_Climb : (d : X) (xs : List X) → Climb xs
       → IsStrictlyIncreasing (map n xs)
   IsStrictlyIncreasing-from_Climb d xs up k h =
@@ -77,7 +77,7 @@ module _ {X : Type 0} (n : X → ℕ) where
         ]
       ]
 
-  -- what the rest of two lists have, where their heads are the same
+  -- what the rests of two lists have, if their heads are the same
   pub rest_members : (x y : X) (xs ys : List X) → x ≡ y → Climb (x ∷ xs)
       → ((a : X) → Contains (x ∷ xs) a → Contains (y ∷ ys) a) → (a : X) → Contains xs a
       → Contains ys a
@@ -129,7 +129,7 @@ pub record Chosen (workers lane : ℕ) (tasks : List Task) (line : ℕ) : Type 0
   pub member : Contains tasks task
   pub lane_is : lane_of workers task.command ≡ lane
 
--- a line of a lane is that of a task of the lane
+-- a line of a lane is the line of a task of the lane
 pub Chosen-from_lane : (workers lane : ℕ) (tasks : List Task) (line : ℕ)
     → Contains (task_lines (lane_tasks workers lane tasks)) line
     → Chosen workers lane tasks line
@@ -157,7 +157,7 @@ lane_tasks-apart workers i j tasks up differ line here there =
     = same_element line_of tasks one.task two.task (Climb-from_increasing line_of tasks up) one.member two.member (one.line_is ∙ sym two.line_is) in
     differ (sym one.lane_is ∙ ap (λ t. lane_of workers t.command) same ∙ two.lane_is)
 
--- the lines of a lane rise
+-- the lines of a lane are strictly increasing
 pub lane_tasks-rising : (workers lane : ℕ) (tasks : List Task)
     → IsStrictlyIncreasing (task_lines tasks)
     → IsStrictlyIncreasing (task_lines (lane_tasks workers lane tasks))
@@ -166,7 +166,7 @@ lane_tasks-rising workers lane tasks up =
     (lane_tasks workers lane tasks)
     (AllPairs-filter (λ a b. line_of a < line_of b) (is_in workers lane) tasks (Climb-from_increasing line_of tasks up))
 
--- and no two tasks of all lanes have the same line
+-- no two tasks of all lanes have the same line
 pub HaveOwnLines-all_lane_tasks : (workers : ℕ) (tasks : List Task)
     → IsStrictlyIncreasing (task_lines tasks) → HaveOwnLines (all_lane_tasks workers tasks)
 HaveOwnLines-all_lane_tasks workers tasks up =

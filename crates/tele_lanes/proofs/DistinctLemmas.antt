@@ -1,5 +1,5 @@
--- Numbers of which none comes twice: in lists put one behind another, in parts of them, and sorted.
--- Serves `gather`, `open_tasks` and the law of lanes that can be gathered.
+-- Distinct numbers: in lists put one after another, in parts of them, and sorted. Serves `gather`,
+-- `open_tasks` and the law of lanes that can be gathered.
 use Rattle.std.proofs.Common.{◌≡◌, inl, inr, ◌+◌, ◌<◌, ℕ, suc, Bool, true, false, List, [], ◌∷◌}
 use Rattle.std.proofs.Common.{◌++◌, length, map, get_or, eqb, sym, subst, ◌∙◌, refl, arith, All}
 use Rattle.std.proofs.Common.{AllPairs, Contains}
@@ -19,7 +19,7 @@ use Rattle.std.proofs.lemmas.Map.Keys.{IsDistinct-head, IsDistinct-tail, IsDisti
 use Rattle.std.proofs.lemmas.Map.Keys.{IsDistinct-from_apart, IsDistinct-IsPermutation}
 use Rattle.std.proofs.lemmas.Map.Keys.{IsStrictlyIncreasing-from_distinct, apart_from_distinct}
 
--- no number stands in both lists
+-- no number is in both lists
 abbrev pub Apart : List ℕ → List ℕ → Type 0
 Apart xs ys = (x : ℕ) → Contains xs x → ¬ (Contains ys x)
 
@@ -36,16 +36,16 @@ eqb-flip x y = go (eqb x y) refl
     go true e = e ∙ sym (eq-eqb y x (sym (eqb-true x y e)))
     go false e = e ∙ sym (ne_eqb y x (λ same. eqb-false x y e (sym same)))
 
--- numbers that rise are distinct
+-- strictly increasing numbers are distinct
 pub IsDistinct-from_increasing : (xs : List ℕ) → IsStrictlyIncreasing xs → IsDistinct eqb xs
 IsDistinct-from_increasing xs up = IsDistinct-from_apart eqb xs (λ i j d lt h.
     ne_eqb (get_or xs i d) (get_or xs j d)
     (λ e. let less : get_or xs i d < get_or xs j d = AllPairs-from_increasing xs up i j d lt h in
     omega arith))
 
--- ---- one list behind another
+-- ---- one list after another
 
--- each without repetition, and apart
+-- two lists that are each distinct, and apart, are distinct together
 pub IsDistinct-append : (xs ys : List ℕ) → IsDistinct eqb xs → IsDistinct eqb ys → Apart xs ys
     → IsDistinct eqb (xs ++ ys)
 IsDistinct-append [] ys one two apart = two
@@ -60,7 +60,7 @@ IsDistinct-append (x ∷ xs) ys one two apart =
     (IsDistinct-append xs ys (IsDistinct-tail eqb x xs one) two
     (λ y c. apart y (Contains-later x xs y c)))
 
--- the first of the two has no repetition then
+-- if two lists are distinct together, the first is distinct
 pub IsDistinct-front : (xs ys : List ℕ) → IsDistinct eqb (xs ++ ys) → IsDistinct eqb xs
 IsDistinct-front [] ys all = IsDistinct-from_increasing [] (λ k h. absurd (omega arith))
 IsDistinct-front (x ∷ xs) ys all =
@@ -72,12 +72,12 @@ IsDistinct-front (x ∷ xs) ys all =
     (each k d (omega (arith, length-append xs ys)))))
     (IsDistinct-front xs ys (IsDistinct-tail eqb x (xs ++ ys) all))
 
--- nor has the second
+-- if two lists are distinct together, the second is distinct
 pub IsDistinct-back : (xs ys : List ℕ) → IsDistinct eqb (xs ++ ys) → IsDistinct eqb ys
 IsDistinct-back [] ys all = all
 IsDistinct-back (x ∷ xs) ys all = IsDistinct-back xs ys (IsDistinct-tail eqb x (xs ++ ys) all)
 
--- and they are apart
+-- if two lists are distinct together, they are apart
 pub Apart-from_distinct : (xs ys : List ℕ) → IsDistinct eqb (xs ++ ys) → Apart xs ys
 Apart-from_distinct xs ys all n (i, h, e) (j, k, f) =
     let here : get_or (xs ++ ys) i n ≡ n = get_or_append_left xs ys n i h ∙ e in
@@ -88,7 +88,7 @@ Apart-from_distinct xs ys all n (i, h, e) (j, k, f) =
     eqb-false n n (subst (λ y. eqb n y ≡ false) there
     (subst (λ x. eqb x (get_or (xs ++ ys) (length xs + j) n) ≡ false) here differ)) refl
 
--- lists that rise, and are apart, are distinct together
+-- strictly increasing lists that are apart are distinct together
 pub IsDistinct-flat_map : {X : Type 0} (f : X → List ℕ) (xs : List X)
     → All (λ x. IsStrictlyIncreasing (f x)) xs → AllPairs (λ x y. Apart (f x) (f y)) xs
     → IsDistinct eqb (flat_map f xs)
@@ -118,7 +118,7 @@ pub record IsPiece (piece xs : List ℕ) : Type 0 where
   pub back : List ℕ
   pub is : xs ≡ (front ++ piece) ++ back
 
--- what stands in the piece
+-- what is in the piece is in the list
 pub Contains-piece : (piece xs : List ℕ) → IsPiece piece xs → (n : ℕ) → Contains piece n
     → Contains xs n
 Contains-piece piece xs p n c =
@@ -126,7 +126,7 @@ Contains-piece piece xs p n c =
     (Contains-append_left (p.front ++ piece) p.back n (Contains-append_right p.front piece n c))
 
 module _ {X : Type 0} (f g : X → List ℕ) where
-  -- what stands in pieces of lists stands in the lists
+  -- what is in pieces of lists is in the lists
   pub Contains-pieces : (xs : List X) → All (λ x. IsPiece (g x) (f x)) xs → (n : ℕ)
       → Contains (flat_map g xs) n → Contains (flat_map f xs) n
   Contains-pieces [] pieces n c = c
@@ -164,7 +164,7 @@ module _ {A : Type 0} (n : A → ℕ) where
       rw (get_or-map n (x ∷ xs) i x d (omega arith), get_or-map n (x ∷ xs) j x d within)
       (up i j x le within)
 
-  -- elements of distinct numbers, sorted by these, rise
+  -- elements of distinct numbers, sorted by these, are strictly increasing
   pub sorted_rises : (xs ys : List A) → IsDistinct eqb (map n xs) → IsPermutation xs ys
       → IsNonDecreasingBy n ys → IsStrictlyIncreasing (map n ys)
   sorted_rises xs ys apart same up =

@@ -1,4 +1,4 @@
--- The lanes' answers put back in line order are those of one thread. Serves the law of lanes.
+-- The lanes' answers, merged in line order, are one thread's. Serves the law of lanes.
 use Rattle.std.proofs.Common.{◌≡◌, ◌<◌, ◌%◌, ◌==◌, ℕ, Bool, true, false, cond, List, [], ◌∷◌, map}
 use Rattle.std.proofs.Common.{get_or, sym, ap, subst, ◌∙◌, refl, arith}
 use Rattle.std.specs.FinMap as fin
@@ -22,7 +22,7 @@ use Rattle.tele_lanes.proofs.AloneLemmas.{IsPermutation-picked, get-map_after_sa
 use Rattle.tele_lanes.proofs.AloneLemmas.{get-map_after_other}
 use Rattle.tele_lanes.proofs.ClimbLemmas.{Climb-from_increasing, same_climbing}
 
--- lanes that answer alone answer what is picked for each of the answers of one thread
+-- lanes that answer alone have the answers that are picked for each from one thread's answers
 pub picked-from_AnswerAlone : (m : Map) (workers : ℕ) (tasks : List Task) (lanes : List (List Answer)) → AnswerAlone m workers tasks lanes
     → lanes ≡ map (λ lane. picked workers lane m tasks) (range_with_len 0 workers)
 picked-from_AnswerAlone m workers tasks lanes alone =
@@ -36,7 +36,7 @@ picked-from_AnswerAlone m workers tasks lanes alone =
     ∙ sym (picked_is workers k m m tasks (λ q e. refl))
     ∙ sym (get_or-map-range_with_len f 0 workers k k d h' (omega arith)))
 
--- the answers of all lanes are those of one thread, in some order
+-- the answers of all lanes are one thread's, in some order
 pub IsPermutation-alone : (m : Map) (workers : ℕ) (tasks : List Task) (lanes : List (List Answer))
     → 0 < workers
     → AnswerAlone m workers tasks lanes
@@ -69,7 +69,7 @@ InLineOrder-one lanes xs ys one two =
     (λ a c. Contains-permutation flat ys a two.same (Contains-permutation xs flat a (IsPermutation-sym flat xs one.same) c))
     (λ a c. Contains-permutation flat xs a one.same (Contains-permutation ys flat a (IsPermutation-sym flat ys two.same) c))
 
--- what a key has at the end, its lane alone gives it
+-- the value of a key at the end comes from its lane's commands only
 pub get-replay_lane : (workers key : ℕ) (m n : Map) (commands : List Command)
     → fin.get m key ≡ fin.get n key
     → fin.get (replay m commands) key

@@ -28,11 +28,11 @@ line_of a = a.line
 abbrev pub line_of_task : Task → ℕ
 line_of_task t = t.line
 
--- the lines rise, equal ones allowed
+-- the lines never decrease
 abbrev pub Rise : List Answer → Type 0
 Rise xs = IsNonDecreasingBy line_of xs
 
--- the first numbers of a list that rises
+-- the first numbers of a strictly increasing list
 pub IsStrictlyIncreasing-take : (n : ℕ) (xs : List ℕ) → IsStrictlyIncreasing xs
     → IsStrictlyIncreasing (take n xs)
 IsStrictlyIncreasing-take n xs up k h =
@@ -40,7 +40,7 @@ IsStrictlyIncreasing-take n xs up k h =
     rw (get_or-take n xs k 0 (omega arith), get_or-take n xs (k + 1) 0 (omega arith))
     (up k (omega arith))
 
--- answers whose lines rise
+-- answers with strictly increasing lines
 pub Rise-from_increasing : (answers : List Answer) → IsStrictlyIncreasing (answer_lines answers)
     → Rise answers
 Rise-from_increasing answers up =
@@ -53,7 +53,7 @@ Rise-from_increasing answers up =
     = up k (omega (arith, length-map answers line_of)) in
     omega arith)
 
--- a map over lists put one behind another
+-- a map over lists put one after another
 pub map-flat_map : {X A B : Type 0} (g : A → B) (f : X → List A) (xs : List X)
     → map g (flat_map f xs) ≡ flat_map (λ x. map g (f x)) xs
 map-flat_map g f [] = refl
@@ -74,7 +74,7 @@ module _ {L : Type 0} (tasks_of : L → List Task) (answers_of : L → List Answ
   abbrev lines : L → List ℕ
   lines l = task_lines (tasks_of l)
 
-  -- none of them comes twice
+  -- no line comes twice
   IsDistinct-lines : IsDistinct eqb (flat_map lines lanes)
   IsDistinct-lines =
       subst (IsDistinct eqb)
@@ -82,7 +82,7 @@ module _ {L : Type 0} (tasks_of : L → List Task) (answers_of : L → List Answ
       ∙ map-flat_map line_of_task tasks_of lanes)
       own
 
-  -- nor a line of an answer
+  -- no line of an answer comes twice
   pub IsDistinct-answered : All (λ l. AnswerInOrder (tasks_of l) (answers_of l)) lanes
       → IsDistinct eqb (map line_of (flat_map answers_of lanes))
   IsDistinct-answered first =
@@ -101,7 +101,7 @@ module _ {L : Type 0} (tasks_of : L → List Task) (answers_of : L → List Answ
             is = sym (ap (λ xs. xs ++ drop n (lines l)) in_order ∙ take-append-drop n (lines l));
           }
 
-  -- nor a line of a task that was left
+  -- no line of a task that was left comes twice
   pub IsDistinct-unanswered :
       IsDistinct eqb
       (map line_of_task (flat_map (λ l. unanswered (tasks_of l) (answers_of l)) lanes))
@@ -123,7 +123,7 @@ module _ {L : Type 0} (tasks_of : L → List Task) (answers_of : L → List Answ
                 ∙ take-append-drop n (lines l));
           }
 
-  -- so the answers sorted by line are in line order
+  -- the answers sorted by line are in line order
   pub gathered_answers : (all : List Answer)
       → All (λ l. AnswerInOrder (tasks_of l) (answers_of l)) lanes
       → IsPermutation (flat_map answers_of lanes) all → Rise all
@@ -134,7 +134,7 @@ module _ {L : Type 0} (tasks_of : L → List Task) (answers_of : L → List Answ
         same up;
   }
 
-  -- and so are the tasks that were left
+  -- the tasks that were left, sorted by line, are in line order
   pub gathered_tasks : (all : List Task)
       → IsPermutation (flat_map (λ l. unanswered (tasks_of l) (answers_of l)) lanes) all
       → IsNonDecreasingBy line_of_task all

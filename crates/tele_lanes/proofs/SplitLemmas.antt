@@ -45,7 +45,7 @@ pub length-all_lane_tasks : (workers : ℕ) (tasks : List Task)
 length-all_lane_tasks workers tasks = length-map-range_with_len
     (λ w. lane_tasks workers w tasks) 0 workers
 
--- one more task is one more in its lane
+-- a task is added at the end of its lane
 pub all_lane_tasks-push : (workers lane : ℕ) (tasks : List Task) (t : Task)
     → lane_of workers t.command ≡ lane → lane < workers
     → set (all_lane_tasks workers tasks) lane (lane_tasks workers lane tasks ++ t ∷ [])

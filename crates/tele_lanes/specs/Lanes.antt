@@ -31,7 +31,7 @@ all_lane_tasks workers tasks =
 abbrev pub HaveOwnLines : List (List Task) → Type 0
 HaveOwnLines lists = IsDistinct (λ x y. x == y) (task_lines (flat_map (λ tasks. tasks) lists))
 
--- the tasks that are left behind those that were answered
+-- the tasks left after dropping as many as there are answers
 abbrev pub unanswered : List Task → List Answer → List Task
 unanswered tasks answers = drop (length answers) tasks
 
@@ -41,24 +41,25 @@ first_refusal [] = None
 first_refusal (None ∷ more) = first_refusal more
 first_refusal (Some full ∷ more) = Some full
 
--- one thread answers the tasks so, from this map: each line in order, with its reply
+-- one thread answers the tasks from this map with these answers: each line in order, with its reply
 pub record ArePlainAnswers (m : Map) (tasks : List Task) (answers : List Answer) : Type 0 where
   pub lines : answer_lines answers ≡ task_lines tasks
   pub replies : replies_in answers ≡ replies m (commands_of tasks)
 
--- each lane answers its own tasks as one thread does, from this map and with no others beside it
+-- each lane answers its own tasks as one thread does, from this map and without the others
 pub record AnswerAlone (m : Map) (workers : ℕ) (tasks : List Task)
     (lanes : List (List Answer)) : Type 0 where
   pub len : length lanes ≡ workers
   pub each : (lane : ℕ) (d : List Answer) → lane < workers
       → ArePlainAnswers m (lane_tasks workers lane tasks) (slice_index_or lanes lane d)
 
--- the answers of all lanes put back in line order: none is added or left out, and the lines rise
+-- the answers of all lanes, merged: none is added or left out, and the lines are strictly
+-- increasing
 pub record InLineOrder (lanes : List (List Answer)) (all : List Answer) : Type 0 where
   pub same : IsPermutation (flat_map (λ answers. answers) lanes) all
   pub rising : IsStrictlyIncreasing (answer_lines all)
 
--- the tasks of some lists put back in line order: none is added or left out, and the lines rise
+-- the tasks of some lists, merged: none is added or left out, and the lines are strictly increasing
 pub record TasksInLineOrder (lists : List (List Task)) (all : List Task) : Type 0 where
   pub same : IsPermutation (flat_map (λ tasks. tasks) lists) all
   pub rising : IsStrictlyIncreasing (task_lines all)

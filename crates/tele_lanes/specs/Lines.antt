@@ -1,4 +1,4 @@
--- The lines of tasks and answers, and what it means that some tasks were answered in order.
+-- The lines of tasks and answers, and what it means to answer tasks in order.
 use Rattle.std.specs.Prelude.{◌≡◌, ℕ, List, Option, map, take, length}
 use Rattle.std.specs.List.{Contains}
 use Rattle.ist_core.specs.declared.commands.Command.{Command}
@@ -22,7 +22,7 @@ answer_lines answers = map (λ a. a.line) answers
 abbrev pub replies_in : List Answer → List (Option ℕ)
 replies_in answers = map (λ a. a.reply) answers
 
--- answer j is for the line of task j, and there are no more answers than tasks
+-- answer j is for the line of task j, and there are at most as many answers as tasks
 abbrev pub AnswerInOrder : List Task → List Answer → Type 0
 AnswerInOrder tasks answers = answer_lines answers ≡ take (length answers) (task_lines tasks)
 
@@ -30,10 +30,10 @@ AnswerInOrder tasks answers = answer_lines answers ≡ take (length answers) (ta
 abbrev pub CallInOrder : List Task → List Answered → Type 0
 CallInOrder tasks calls = map (λ c. c.command) calls ≡ take (length calls) (commands_of tasks)
 
--- each call was answered, answer j with the reply of call j
+-- each call has its answer: answer j has the reply of call j
 abbrev pub TellReplies : List Answered → List Answer → Type 0
 TellReplies calls answers = replies_in answers ≡ map (λ c. c.reply) calls
 
--- no line stands in both lists of tasks
+-- no line is in both lists of tasks
 abbrev pub ShareNoLine : List Task → List Task → Type 0
 ShareNoLine xs ys = (line : ℕ) → Contains (task_lines xs) line → ¬ (Contains (task_lines ys) line)

@@ -1,4 +1,5 @@
-//! What a lane answered: replies with the lines that they answer, in room that was taken before.
+//! What a lane answered: replies with the lines that they answer, in room that was allocated
+//! before.
 ghost use Rattle.std.specs.Prelude.{◌≡◌, ◌<◌, [], ◌∷◌, ◌++◌, length, IfOk, vec_capacity};
 
 use ist_core::Reply;
@@ -12,8 +13,8 @@ pub struct Answer {
     pub reply: Reply,
 }
 
-/// Answers in the order in which they came. Contracts see the list of them and its room, the number
-/// of answers that fit in without taking memory.
+/// Answers in the order in which they came. Contracts see them as a list and a room, the number of
+/// answers that fit without allocating.
 #[derive(Drop)]
 pub struct Answers {
     items: Vec<Answer>,
@@ -29,7 +30,7 @@ impl Model for Answers {
 }
 
 impl Answers {
-    /// No answers, with room for `n`.
+    /// Makes an empty list of answers with room for `n`.
     pub fn with_room(alloc: Global, n: usize) -> Result<Answers, AllocError>
         ensures empty { IfOk result (λ a. a.list ≡ []) }
         ensures room { IfOk result (λ a. a.room ≡ n) }
@@ -39,7 +40,7 @@ impl Answers {
         })
     }
 
-    /// The list of these answers. Takes no memory.
+    /// Makes the list of these answers. Allocates nothing.
     pub fn from_vec(items: Vec<Answer>) -> Answers
         ensures value { result.list ≡ items.items }
         ensures room { result.room ≡ vec_capacity items }
@@ -47,14 +48,14 @@ impl Answers {
         Answers { items }
     }
 
-    /// The answers, in order.
+    /// Returns the answers, in order.
     pub fn as_slice(&self) -> &[Answer]
         ensures value { result.now ≡ self.now.list }
     {
         &self.items
     }
 
-    /// The vector that this was made from. Takes no memory.
+    /// Returns the vector that this was made from. Allocates nothing.
     pub fn into_vec(self) -> Vec<Answer>
         ensures value { result.items ≡ self.list }
         ensures room { vec_capacity result ≡ self.room }
@@ -62,7 +63,7 @@ impl Answers {
         self.items
     }
 
-    /// Puts an answer behind the others, in room that is there. Takes no memory.
+    /// Appends an answer, in room that is there. Allocates nothing.
     pub fn keep(&mut self, answer: Answer)
         requires room { length self.old.list < self.old.room }
         ensures kept { self.new.list ≡ self.old.list ++ answer ∷ [] }

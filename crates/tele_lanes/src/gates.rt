@@ -1,11 +1,13 @@
-//! What the lanes tell as they go.
+//! What the lanes report as they go.
 
-/// Is told of each call of each lane. The workers share it.
+/// Is notified of each call of each lane. The workers share it.
 pub trait Gate {
-    /// The lane of this number is about to make its call number `index`, counted from 0.
+    /// Is called when the lane of this number is about to make its call number `index`, counted
+    /// from 0.
     fn before(&self, lane: u32, index: u64);
 
-    /// The lane of this number has made its call number `index`, answered or refused.
+    /// Is called when the lane of this number has made its call number `index`, answered or
+    /// refused.
     fn after(&self, lane: u32, index: u64);
 }
 

@@ -1,4 +1,4 @@
-//! What the lanes of a round came to: their answers and the tasks that they left, put back in line
+//! The results of the lanes of a round: their answers and the tasks that they left, merged in line
 //! order, and the refusal that ended one.
 ghost use Rattle.std.specs.Prelude.{◌≡◌, All, IfOk, map};
 ghost use Rattle.std.specs.List.{flat_map};
@@ -13,12 +13,12 @@ use crate::task_lists::{Task, Tasks};
 use ist_core::{Full, Port};
 use std::alloc::{AllocError, Global};
 
-/// All answers of the lanes, rising by line.
+/// Returns all answers of the lanes, by increasing line.
 ///
-/// Where no two tasks of the lanes have the same line, and each lane's answers are for the first of
-/// its tasks, as `run_lanes` leaves them, no line comes twice. `laws::lanes_can_be_gathered` says so
-/// of lanes that were split. The sort goes by the runs that it finds, so that lanes whose tasks rise
-/// are merged.
+/// If no two tasks of the lanes have the same line, and each lane's answers are for the first of
+/// its tasks, as `run_lanes` leaves them, no line comes twice. `laws::lanes_can_be_gathered` says
+/// so of lanes that were split. The sort goes by the runs that it finds, so lanes with increasing
+/// lines are merged.
 pub fn gather<P: Port>(alloc: Global, lanes: &[Lane<P>]) -> Result<Vec<Answer>, AllocError>
     ensures same { IfOk result (λ v.
         IsPermutation (flat_map (λ l. l.answers.list) lanes.now) v.items) }
@@ -35,10 +35,10 @@ pub fn gather<P: Port>(alloc: Global, lanes: &[Lane<P>]) -> Result<Vec<Answer>, 
     sort_answers(all)
 }
 
-/// The tasks of the lanes that have no answer, rising by line: of each lane those behind as many as
-/// it has answers.
+/// Returns the tasks of the lanes that have no answer, by increasing line. Of each lane, as many
+/// first tasks as it has answers are left out.
 ///
-/// Where no two tasks of the lanes have the same line, no line comes twice.
+/// If no two tasks of the lanes have the same line, no line comes twice.
 pub fn open_tasks<P: Port>(alloc: Global, lanes: &[Lane<P>]) -> Result<Tasks, AllocError>
     ensures same { IfOk result (λ ts.
         IsPermutation (flat_map (λ l. unanswered l.tasks l.answers.list) lanes.now) ts) }
@@ -54,7 +54,7 @@ pub fn open_tasks<P: Port>(alloc: Global, lanes: &[Lane<P>]) -> Result<Tasks, Al
     sort_tasks(all)
 }
 
-/// The refusal of the lowest lane that stopped, if one did.
+/// Returns the refusal of the lowest lane that stopped, if one did.
 pub fn first_refusal<P: Port>(lanes: &[Lane<P>]) -> Option<Full>
     ensures { result ≡ first_refusal (map (λ l. l.stopped) lanes.now) }
 {
@@ -66,7 +66,7 @@ pub fn first_refusal<P: Port>(lanes: &[Lane<P>]) -> Option<Full>
     None
 }
 
-// The answers, sorted by line.
+// Sorts the answers by line.
 fn sort_answers(answers: Vec<Answer>) -> Result<Vec<Answer>, AllocError>
     ensures same { IfOk result (λ v. IsPermutation answers.items v.items) }
     ensures rising { IfOk result (λ v. IsNonDecreasingBy (λ a. a.line) v.items) }
@@ -76,7 +76,7 @@ fn sort_answers(answers: Vec<Answer>) -> Result<Vec<Answer>, AllocError>
     Ok(answers)
 }
 
-// The tasks, sorted by line.
+// Sorts the tasks by line.
 fn sort_tasks(tasks: Vec<Task>) -> Result<Tasks, AllocError>
     ensures same { IfOk result (λ ts. IsPermutation tasks.items ts) }
     ensures rising { IfOk result (λ ts. IsNonDecreasingBy (λ t. t.line) ts) }

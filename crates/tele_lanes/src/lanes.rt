@@ -1,4 +1,4 @@
-//! Lanes: the tasks of one worker with the port that they go through, and what they came to.
+//! Lanes: the tasks of one worker, the port that they go through, and the results.
 ghost use Rattle.std.specs.Prelude.{◌≡◌, ◌+◌, ◌<◌, ◌≤◌, ℕ, [], List, length, map, All, Some, None, IfSome, IfNone, slice_get, option_map};
 ghost use Rattle.tele_lanes.specs.Lines.{commands_of, AnswerInOrder, CallInOrder, TellReplies};
 ghost use Rattle.tele_lanes.specs.Lanes.{unanswered};
@@ -11,10 +11,10 @@ use std::sync::Wait;
 use std::thread;
 use std::thread::Threads;
 
-/// One worker's share of a round: its tasks, the port that they go through, and what they came to.
+/// One worker's share of a round: its tasks, the port that they go through, and the results.
 #[derive(Drop)]
 pub struct Lane<P: Port> {
-    /// The number of the lane, which its gate is told.
+    /// The number of the lane, which is passed to its gate.
     pub number: u32,
     pub tasks: Tasks,
     pub answers: Answers,
@@ -24,7 +24,7 @@ pub struct Lane<P: Port> {
 }
 
 impl<P: Port> Lane<P> {
-    /// A lane that wasn't run. Takes no memory.
+    /// Makes a lane that wasn't run. Allocates nothing.
     pub fn new(number: u32, tasks: Tasks, answers: Answers, port: P) -> Lane<P>
         requires empty { answers.list ≡ [] }
         requires room { length tasks ≤ answers.room }
@@ -43,7 +43,7 @@ impl<P: Port> Lane<P> {
         }
     }
 
-    // The tasks behind as many as there are answers.
+    // Returns the tasks left after dropping as many as there are answers.
     pub(crate) fn unanswered(&self) -> &[Task]
         ensures { result.now ≡ unanswered self.now.tasks self.now.answers.list }
     {
@@ -88,7 +88,7 @@ impl<P: Port> Lane<P> {
     }
 }
 
-// Makes the calls of the tasks in order, until one is refused, and keeps the answers. Gives the
+// Makes the calls of the tasks in order, until one is refused, and keeps the answers. Returns the
 // refusal.
 fn call_each<R: Wait, G: Gate, P: Port>(
     rt: &R,
@@ -128,11 +128,11 @@ fn call_each<R: Wait, G: Gate, P: Port>(
     None
 }
 
-/// Runs the lanes side by side, each in a thread of its own where one can be started, and returns
-/// once all have ended. Where none can be started, the caller runs that lane itself.
+/// Runs the lanes side by side and returns once all have ended. Each runs in its own thread; if no
+/// thread can be started, the caller runs that lane itself.
 ///
-/// A lane makes the calls of its tasks in order, until one is refused. It waits for what its port
-/// and its gate wait for. Takes no memory, and is never refused.
+/// A lane makes the calls of its tasks in order, until one is refused. It waits for whatever its
+/// port and its gate wait for. Allocates nothing, and never fails.
 pub fn run_lanes<R: Threads + Wait + Sync, P: Port + Send, G: Gate + Sync>(
     rt: &R,
     gate: &G,
@@ -147,19 +147,19 @@ pub fn run_lanes<R: Threads + Wait + Sync, P: Port + Send, G: Gate + Sync>(
     ensures tasks { map (λ l. l.tasks) lanes.new ≡ map (λ l. l.tasks) lanes.old }
     ensures ties { map (λ l. P.tie l.port) lanes.new ≡ map (λ l. P.tie l.port) lanes.old }
 
-    // What was done is a first part of the tasks, in order, and each call has its answer.
+    // The calls were made for a first part of the tasks, in order, and each call has its answer.
     ensures calls { All (λ l. CallInOrder l.tasks (P.calls l.port)) lanes.new }
     ensures answers { All (λ l. AnswerInOrder l.tasks l.answers.list) lanes.new }
     ensures replies { All (λ l. TellReplies (P.calls l.port) l.answers.list) lanes.new }
 
-    // A lane stops where its port refuses the first task without an answer, and nowhere else.
+    // A lane stops only if its port refuses the first task without an answer.
     ensures stopped { All (λ l. l.stopped ≡ option_map (λ r. r.full) (P.refused l.port)) lanes.new }
     ensures refused { All (λ l. IfSome (P.refused l.port) (λ r.
         slice_get (commands_of l.tasks) (length (P.calls l.port)) ≡ Some r.command)) lanes.new }
     ensures whole { All (λ l. IfNone l.stopped
         (length (P.calls l.port) ≡ length l.tasks)) lanes.new }
 {
-    // `for_each_mut` asks for at least one thread, and starts none where there are no lanes.
+    // `for_each_mut` requires at least one thread. It starts none if there are no lanes.
     let count = lanes.len().max(1);
     thread::for_each_mut(rt, lanes, count, &|_, lane| lane.run(rt, gate));
 }

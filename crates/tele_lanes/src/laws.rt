@@ -1,4 +1,5 @@
-//! Laws over the definitions. The functions take no steps and answer nothing: contracts are laws.
+//! Laws over the definitions. The functions take no steps and return nothing: their contracts are
+//! the laws.
 ghost use Rattle.std.specs.Prelude.{◌≡◌, ◌<◌, ◌%◌, ◌↔◌, ℕ, List, All, AllPairs};
 ghost use Rattle.std.specs.List.Sorted.{IsStrictlyIncreasing};
 ghost use Rattle.std.specs.FinMap as fin;
@@ -11,8 +12,8 @@ ghost use Rattle.tele_lanes.specs.Lanes.{lane_commands, all_lane_tasks, HaveOwnL
 ghost use Rattle.tele_lanes.specs.Lanes.{ArePlainAnswers, AnswerAlone, InLineOrder};
 
 /// Lanes that answer alone, each from the same map, answer together as one thread does: their
-/// answers put back in line order are those of all tasks in order, and no others. Each key has at
-/// the end the value that its lane leaves.
+/// answers, merged in line order, are exactly the answers to all tasks in order. At the end each
+/// key has the value that its lane leaves.
 pub fn lanes_answer_as_one()
     ensures answers { (m : Map) (workers : ℕ) (tasks : List Task) → 0 < workers
         → IsStrictlyIncreasing (task_lines tasks)
@@ -23,8 +24,9 @@ pub fn lanes_answer_as_one()
         ≡ fin.get (replay m (lane_commands workers (key % workers) commands)) key }
 {}
 
-/// Lanes that were split from tasks whose lines rise can be gathered: no two of their tasks have
-/// the same line. Nor have two lanes, and the lines of each rise.
+/// Lanes that were split from tasks with strictly increasing lines can be gathered: no two of their
+/// tasks have the same line, no two lanes share a line, and the lines of each are strictly
+/// increasing.
 pub fn lanes_can_be_gathered()
     ensures own_lines { (workers : ℕ) (tasks : List Task) → IsStrictlyIncreasing (task_lines tasks)
         → HaveOwnLines (all_lane_tasks workers tasks) }

@@ -1,7 +1,7 @@
 //! A round's tasks, split by timestamp into lanes, run side by side, and gathered in line order.
 //!
 //! Read `specs/Lines.antt` and `specs/Lanes.antt`, then `splitting.rt`, `lanes.rt` and
-//! `gathering.rt`. Stands on `ist_core`.
+//! `gathering.rt`. Builds on `ist_core`.
 #![tactic(auto)]
 
 mod answer_lists;

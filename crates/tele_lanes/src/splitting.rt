@@ -7,8 +7,8 @@ use crate::task_lists::{Task, Tasks};
 use ist_core::Command;
 use std::alloc::{AllocError, Global};
 
-/// The lane that the lines of this timestamp go to, of as many as there are workers: the timestamp
-/// modulo their number. So all lines of one timestamp go to one lane.
+/// Returns the lane for the lines of this timestamp: the timestamp modulo the number of workers. So
+/// all lines of one timestamp go to one lane.
 pub fn lane_of(timestamp: u64, workers: u32) -> u32
     requires { 1 ≤ workers }
     ensures { result ≡ timestamp % workers }
@@ -16,7 +16,7 @@ pub fn lane_of(timestamp: u64, workers: u32) -> u32
     (timestamp % u64::from(workers)) as u32
 }
 
-/// The tasks of each lane, lane by lane, in the order in which they stand in `tasks`.
+/// Returns the tasks of each lane, lane by lane, in the order of `tasks`.
 ///
 /// Takes time in proportion to the tasks and the workers.
 pub fn split(alloc: Global, tasks: &[Task], workers: u32) -> Result<Vec<Tasks>, AllocError>
@@ -32,7 +32,7 @@ pub fn split(alloc: Global, tasks: &[Task], workers: u32) -> Result<Vec<Tasks>, 
     Ok(lanes)
 }
 
-// Lanes without tasks.
+// Makes lanes without tasks.
 fn idle(alloc: Global, workers: u32) -> Result<Vec<Tasks>, AllocError>
     ensures { IfOk result (λ v. v.items ≡ all_lane_tasks workers []) }
 {
@@ -43,7 +43,7 @@ fn idle(alloc: Global, workers: u32) -> Result<Vec<Tasks>, AllocError>
     Ok(lanes)
 }
 
-// The key that the command names.
+// Returns the key that the command names.
 fn timestamp_of(command: Command) -> u64
     ensures { result ≡ key_of command }
 {

@@ -1,4 +1,4 @@
-//! What the lanes are to do: commands with the lines that they came from.
+//! What the lanes have to do: commands with the lines that they came from.
 ghost use Rattle.std.specs.Prelude.{◌≡◌, [], ◌∷◌, ◌++◌, OnOk, OnErr};
 
 use ist_core::Command;
@@ -12,7 +12,7 @@ pub struct Task {
     pub command: Command,
 }
 
-/// Tasks in the order in which they are to be done. Contracts see the list of them.
+/// Tasks in the order in which they will be done. Contracts see them as a list.
 #[derive(Drop)]
 pub struct Tasks {
     items: Vec<Task>,
@@ -28,7 +28,7 @@ impl Model for Tasks {
 }
 
 impl Tasks {
-    /// No tasks. Takes no memory.
+    /// Makes an empty list. Allocates nothing.
     pub fn new(alloc: Global) -> Tasks
         ensures value { result ≡ [] }
     {
@@ -37,28 +37,28 @@ impl Tasks {
         }
     }
 
-    /// The list of these tasks.
+    /// Makes the list of these tasks.
     pub fn from_vec(items: Vec<Task>) -> Tasks
         ensures value { result ≡ items.items }
     {
         Tasks { items }
     }
 
-    /// The tasks, in order.
+    /// Returns the tasks, in order.
     pub fn as_slice(&self) -> &[Task]
         ensures value { result.now ≡ self.now }
     {
         &self.items
     }
 
-    /// The vector that this was made from. Takes no memory.
+    /// Returns the vector that this was made from. Allocates nothing.
     pub fn into_vec(self) -> Vec<Task>
         ensures value { result.items ≡ self }
     {
         self.items
     }
 
-    /// Puts a task behind the others. Without memory for it the list stays.
+    /// Appends a task. If memory runs out, the list is unchanged.
     pub fn push(&mut self, task: Task) -> Result<(), AllocError>
         ensures pushed { OnOk result (self.new ≡ self.old ++ task ∷ []) }
         ensures unchanged { OnErr result (self.new ≡ self.old) }

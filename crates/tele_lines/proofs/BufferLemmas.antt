@@ -15,7 +15,7 @@ slice_range-later bytes start count end h =
     ∙ sym (ap (λ n. drop count (take n (drop start bytes))) (sym e)
     ∙ drop-take count (end - (start + count)) (drop start bytes))
 
--- bytes that were read behind the first k are the next
+-- bytes that were read after the first k are the next ones
 pub fills_behind : (bytes : List ℕ) (k n : ℕ) (left now : Option (List ℕ)) → k + n ≤ length bytes
     → Gives left now n (drop k bytes)
     → Fills left now (take k bytes) (take (k + n) bytes) n

@@ -92,7 +92,7 @@ cut_last (byte ∷ bytes) is some =
       | false ↦ λ e. last_or_none byte bytes (omega arith)
     ] is
 
--- a first line that begins with these bytes, and the lines behind it
+-- a first line that begins with these bytes, and the lines after it
 abbrev Begins : List ℕ → List (List ℕ) → Type 0
 Begins start lines = (more : List ℕ) × (others : List (List ℕ)) × (lines ≡ (start ++ more) ∷ others)
 
@@ -101,7 +101,7 @@ begins_one : (byte : ℕ) (lines : List (List ℕ)) → Begins (byte ∷ []) (on
 begins_one byte [] = ([], [], refl)
 begins_one byte (line ∷ lines) = (line, lines, refl)
 
--- so do a byte and bytes without a newline
+-- a byte followed by bytes without a newline also begins the first line
 begins_all : (byte : ℕ) (bytes others : List ℕ) → IsUnbroken bytes
     → Begins (byte ∷ bytes) (onto_first byte (lines_of (bytes ++ others)))
 begins_all byte [] others is = begins_one byte (lines_of others)

@@ -1,4 +1,4 @@
--- Where the first byte of a kind stands. Serves the words of a line and the cutting of lines.
+-- Where the first byte of a kind is. Serves the words of a line and the cutting of lines.
 use Rattle.std.proofs.Common.{◌≡◌, ℕ, ◌≤◌, Bool, true, false, List, length, refl, arith}
 use Rattle.std.specs.Prelude.{Option, Some, None, unwrap_or}
 use Rattle.std.specs.List.{position_or_len}
@@ -10,7 +10,7 @@ pub is_false : (b : Bool) → ¬ (b ≡ true) → b ≡ false
 is_false true h = absurd (h refl)
 is_false false h = refl
 
--- the first place that passes, or the length where none does
+-- the first place that passes, or the length if none does
 pub first_place : (test : ℕ → Bool) (bytes : List ℕ) (r : Option ℕ) → IsFirstByte test bytes r
     → position_or_len test bytes ≡ unwrap_or r (length bytes)
 first_place test bytes (Some k) h =

@@ -1,4 +1,4 @@
--- Which version is in force behind a line. Serves the reading of lines.
+-- Which version is in force after a line. Serves the reading of lines.
 use Rattle.std.proofs.Common.{◌≡◌, ℕ, ◌&&◌, Bool, true, false, List, [], ◌∷◌, refl, sym, subst, ◌∙◌}
 use Rattle.std.specs.Prelude.{Option, Some, None, IsSome, Result, Ok, Err, if◌then◌else◌, ◌==◌, nat_le, length}
 use Rattle.tele_lines.specs.declared.items.Cause.{Cause}

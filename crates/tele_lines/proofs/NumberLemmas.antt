@@ -8,11 +8,11 @@ use Rattle.std.proofs.lemmas.Bool.{cases_lt, lt-ltb}
 use Rattle.std.proofs.lemmas.Grind.{common_steps}
 use Rattle.tele_lines.specs.Numerals.{numeral_value}
 
--- the value behind one more digit
+-- the value with one more digit appended
 abbrev pub with_digit : ℕ → ℕ → ℕ
 with_digit value digit = value * 10 + (digit - 48)
 
--- the number that digits say behind a value, if it stays below 2 ^ 64
+-- the number that digits denote when appended to a value, if it stays below 2 ^ 64
 abbrev pub number_from : ℕ → List ℕ → Option ℕ
 number_from value [] = Some value
 number_from value (digit ∷ digits) =
@@ -24,7 +24,7 @@ pub fold_no_less : (digits : List ℕ) (value : ℕ) → value ≤ fold with_dig
 fold_no_less [] value = omega arith
 fold_no_less (digit ∷ digits) value = omega (arith, fold_no_less digits (with_digit value digit))
 
--- the number at once, behind a value
+-- the number computed at once, from a value on
 abbrev number_at_once : ℕ → List ℕ → Option ℕ
 number_at_once value digits =
     if list_all is_ascii_digit digits && nat_lt (fold with_digit value digits) (2 ^ 64) then Some
@@ -38,7 +38,7 @@ no_number digits value h =
 not_below : (m n : ℕ) → n ≤ m → nat_lt m n ≡ false
 not_below m n h = grind (arith, common_steps)
 
--- a value that is small enough goes on, and another one is no number
+-- a value that is small enough is read on from; any other is no number
 behind_digit : (value : ℕ) (digits : List ℕ)
     → (value < 2 ^ 64 → number_from value digits ≡ number_at_once value digits)
     → (if nat_lt value

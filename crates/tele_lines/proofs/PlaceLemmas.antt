@@ -11,7 +11,7 @@ use Rattle.tele_lines.specs.Readings.{version_in, next_mode, reading}
 use Rattle.tele_lines.specs.Answer.{Read, Good, Bad, then_read, read_from}
 use Rattle.tele_lines.specs.Progress.{Place, Continues, behind, reads_given, read_at, GoesTo, TakesLine, MeetsLine}
 
--- a line, and those behind it
+-- a line followed by those after it
 then_given : (place : Place) (said : Said) (others : List Read) → Continues said
     → then_read (place.count + 1) place.mode said others ≡ reads_given place said ++ others
 then_given place Skips others goes_on = refl
@@ -29,7 +29,7 @@ reads_first place said line lines others cut says goes_on =
     ∙ ap (λ s. then_read (place.count + 1) place.mode s (read_from place.limit (place.count + 1 + 1) (next_mode place.mode s) others)) says
     ∙ then_given place said (read_at (behind place said) others) goes_on
 
--- behind a line the reading is at the next place
+-- after a line the reading is at the next place
 goes_behind : (place : Place) (said : Said) (bytes : List ℕ) (ended : Bool) (now : Option (List ℕ))
     → Continues said
     → TakesLine place said bytes ended now
@@ -97,7 +97,7 @@ goes_on_to one two three mid ended first second bytes here now lasts a b =
           ∙ sym (append_assoc {A = Read} first second (read_at three (whole_lines more)));
     }
 
--- before the first line nothing was passed over
+-- before the first line nothing was skipped
 pub nothing_yet : (place : Place) (ended : Bool) (unread : Option (List ℕ))
     → IfSome unread (λ bytes. GoesTo place place ended [] bytes unread)
 nothing_yet place ended None = tt
@@ -110,7 +110,7 @@ nothing_yet place ended (Some bytes) = record {
   whole = λ _ more. refl;
 }
 
--- one stretch, and then another, where the bytes may not be told
+-- one stretch followed by another, also if the bytes aren't known
 pub goes_on_if : (one two three : Place) (mid ended : Bool) (second : List Read)
     (before here now : Option (List ℕ))
     → (mid ≡ true → ended ≡ true)

@@ -17,7 +17,7 @@ use Rattle.tele_lines.specs.Progress.{Place, Continues, TakesLine, MeetsLine}
 use Rattle.tele_lines.proofs.FirstLemmas.{first_place}
 use Rattle.tele_lines.proofs.CutLemmas.{cut_first, cut_last, cut_long, whole_first}
 
--- a search for a newline tells where the first line ends, once that shows
+-- a search for a newline gives where the first line ends, once that is known
 pub ends_at : (buffer : List ℕ) (ended : Bool) (found : Option ℕ)
     → IsFirstByte is_newline buffer found
     → (is_some found ≡ true) ⊎ ((ended ≡ true) ⊎ (longest + 1 < length buffer))
@@ -29,7 +29,7 @@ ends_at buffer ended None h why = record {
   why = elim why [ inl never ↦ absurd (cc) | inr w ↦ w ];
 }
 
--- where it finds none, there is none
+-- if a search finds no newline, the buffer has none
 pub unbroken : (buffer : List ℕ) (found : Option ℕ) → IsFirstByte is_newline buffer found
     → is_some found ≡ false → IsUnbroken buffer
 unbroken buffer (Some place) h none = absurd (cc)
@@ -175,7 +175,7 @@ fails_either : (b : Bool) (said : Said) → (if b then Fails Long else Fails Lin
 fails_either true said is goes_on = subst Continues (sym is) goes_on
 fails_either false said is goes_on = subst Continues (sym is) goes_on
 
--- behind a line that is too long the reading doesn't go on
+-- after a line that is too long the reading doesn't continue
 pub long_fails : (place : Place) (buffer : List ℕ) (said : Said) → longest + 1 < length buffer
     → reading place.limit (place.count + 1) place.mode (take (length buffer) buffer) ≡ said
     → Continues said → ⊥

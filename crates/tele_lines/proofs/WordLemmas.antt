@@ -32,7 +32,7 @@ longer byte next [] word others is =
 longer byte next (piece ∷ pieces) word others is =
     let here = sym (some-cons next piece pieces) ∙ is in some-cons byte (next ∷ piece) pieces ∙ cc
 
--- the first word of bytes behind one that isn't blank: up to the first blank
+-- the first word of bytes that follow one that isn't blank: up to the first blank
 first_word : (byte : ℕ) (bytes : List ℕ)
     → some_words (onto_first byte (slice_split is_blank bytes))
     ≡ (byte ∷ take (position_or_len is_blank bytes) bytes) ∷ words_in_line (drop (position_or_len is_blank bytes) bytes)

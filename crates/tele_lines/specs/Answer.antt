@@ -1,4 +1,5 @@
--- The answer to an input: what one thread with a plain map writes for its lines, and the status that it ends with.
+-- The answer to an input: what a single thread with a plain map writes for its lines, and the exit
+-- status.
 use Rattle.std.specs.Prelude.{ℕ, ◌+◌, List, [], ◌∷◌, ◌++◌, length, codes, decimal, Option, Some, None}
 use Rattle.std.specs.List.{flat_map}
 use Rattle.ist_core.specs.declared.pairs.Pair.{Pair}
@@ -14,19 +15,21 @@ use Rattle.tele_lines.specs.declared.items.Said.{Said}
 use Rattle.tele_lines.specs.declared.items.Said.TheVariants.{Skips, Chooses, Asks, Fails}
 use Rattle.tele_lines.specs.Readings.{Mode, version_in, next_mode, reading}
 
--- a line that was read and says something, with its number: what it asks for, and of which version it is, or why it is bad
+-- a line that was read and says something, with its number: what it asks for and in which version,
+-- or why it is bad
 pub data Read : Type 0 where
   Good : ℕ → Version → Item → Read
   Bad : ℕ → Cause → Read
 
--- a line, and then those behind it; behind a bad line nothing is read
+-- a line followed by the lines after it; after a bad line nothing is read
 abbrev pub then_read : ℕ → Mode → Said → List Read → List Read
 then_read number mode Skips others = others
 then_read number mode (Chooses version) others = others
 then_read number mode (Asks item) others = Good number (version_in mode) item ∷ others
 then_read number mode (Fails cause) others = Bad number cause ∷ []
 
--- the lines up to the first bad one, as they are read, where the first has this number and is read in this mode
+-- the lines up to the first bad one, as they are read, if the first has this number and is read in
+-- this mode
 abbrev pub read_from : ℕ → ℕ → Mode → List (List ℕ) → List Read
 read_from limit number mode [] = []
 read_from limit number mode (line ∷ lines) =
@@ -66,7 +69,7 @@ cause_text Lines = codes "lines"
 abbrev pub bad_text : ℕ → Cause → List ℕ
 bad_text number cause = codes "! " ++ decimal number ++ codes " " ++ cause_text cause ++ codes "\n"
 
--- the texts of some lines, each by the map behind all commands of the lines before it
+-- the texts of some lines, each from the map after all commands of the lines before it
 abbrev pub text_of : Map → List Read → List ℕ
 text_of m [] = []
 text_of m (Good number version (Point command) ∷ lines) =
@@ -75,7 +78,7 @@ text_of m (Good number version (Interval first last) ∷ lines) =
     interval_text version number (listed first last m) ++ text_of m lines
 text_of m (Bad number cause ∷ lines) = bad_text number cause
 
--- the exit status after some lines: 3 behind a bad line, and otherwise 0
+-- the exit status after some lines: 3 if there is a bad line, and otherwise 0
 abbrev pub status_of : List Read → ℕ
 status_of [] = 0
 status_of (Good number version item ∷ lines) = status_of lines
@@ -98,6 +101,6 @@ input_lines lines = read_from line_limit 1 None lines
 abbrev pub answer : List ℕ → Answer
 answer bytes = answer_to (input_lines (lines_of bytes))
 
--- the line that is printed where the words of the command line are refused
+-- the line that is printed if the command line is wrong
 abbrev pub usage_text : List ℕ
 usage_text = codes "! usage\n"

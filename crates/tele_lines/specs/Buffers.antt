@@ -3,14 +3,15 @@ use Rattle.std.specs.Prelude.{◌≡◌, ℕ, ◌+◌, ◌<◌, ◌==◌, ◌⊎
 use Rattle.std.specs.List.{position_or_len}
 use Rattle.tele_lines.specs.Lines.{newline, longest}
 
--- n more bytes were taken: of those that the source had left, the first stand behind the old ones; none is the end
+-- n more bytes were taken: the first of those that the source had left, appended to the old ones;
+-- taking none is the end of the input
 pub record FillsFrom (bytes : List ℕ) (now : Option (List ℕ)) (old new : List ℕ) (n : ℕ) : Type 0 where
   pub rest : List ℕ
   pub others : now ≡ Some rest
   pub same : new ++ rest ≡ old ++ bytes
   pub at_end : n ≡ 0 → bytes ≡ []
 
--- n more bytes were taken, which are known where the source tells its bytes
+-- n more bytes were taken; which ones is known if the source's bytes are known
 pub record Fills (left now : Option (List ℕ)) (old new : List ℕ) (n : ℕ) : Type 0 where
   pub longer : length new ≡ length old + n
   pub bytes : IfSome left (λ bytes. FillsFrom bytes now old new n)
@@ -23,7 +24,7 @@ is_newline byte = byte == newline
 abbrev pub IsUnbroken : List ℕ → Type 0
 IsUnbroken bytes = position_or_len is_newline bytes ≡ length bytes
 
--- the first newline stands at this place
+-- the first newline is at this place
 pub record BreaksAt (bytes : List ℕ) (place : ℕ) : Type 0 where
   pub first : position_or_len is_newline bytes ≡ place
   pub within : place < length bytes
@@ -38,11 +39,12 @@ abbrev pub EndsAt : List ℕ → Bool → Option ℕ → Type 0
 EndsAt bytes ended (Some place) = BreaksAt bytes place
 EndsAt bytes ended None = IsOpenEnded bytes ended
 
--- what is still to be read: the bytes in the buffer, and then those that the source has left, where it tells them; behind the end it has none
+-- what is still unread: the bytes in the buffer, then those that the source has left, if these are
+-- known; after the end of the input the source has none
 abbrev pub unread_of : List ℕ → Bool → Option (List ℕ) → Option (List ℕ)
 unread_of buffer ended left = option_map (λ bytes. buffer ++ bytes) (if ended then Some [] else left)
 
--- the source tells its bytes, and has none left once its end was seen
+-- the source's bytes are known, and none is left once its end was seen
 pub record TellsEndOf (ended : Bool) (left : Option (List ℕ)) : Type 0 where
   pub told : IsSome left
   pub none : ended ≡ true → left ≡ Some []

@@ -1,4 +1,4 @@
--- How bytes are cut into lines, and a line into words. A function of all bytes at once.
+-- How bytes are cut into lines, and a line into words. Functions of the whole input at once.
 use Rattle.std.specs.Prelude.{ℕ, ◌-◌, ◌^◌, ◌==◌, nat_eq, nat_lt, ◌||◌, Bool, if◌then◌else◌, List, [], ◌∷◌, length, take, codes}
 use Rattle.std.specs.List.{filter, onto_first, slice_split, ends_with}
 
@@ -6,29 +6,30 @@ use Rattle.std.specs.List.{filter, onto_first, slice_split, ends_with}
 abbrev pub newline : ℕ
 newline = 10
 
--- the bytes that part the words of a line: a space and a tab
+-- the bytes that separate the words of a line: a space and a tab
 abbrev pub is_blank : ℕ → Bool
 is_blank byte = byte == 32 || byte == 9
 
--- the most bytes that a line has
+-- the most bytes that a good line has
 abbrev pub longest : ℕ
 longest = 80
 
--- the most lines that an input has
+-- the most lines that an input may have
 abbrev pub line_limit : ℕ
 line_limit = 2 ^ 24
 
--- the lines: bytes are cut at each newline, and those behind the last newline, if there are any, are one more line
+-- the lines: bytes are cut at each newline, and any bytes after the last newline are one more line
 abbrev pub lines_of : List ℕ → List (List ℕ)
 lines_of [] = []
 lines_of (byte ∷ bytes) = if byte == newline then [] ∷ lines_of bytes else onto_first byte (lines_of bytes)
 
--- a byte onto the first of some lines that a newline ends; without one there is no such line
+-- a byte put onto the first of some lines that newlines end; if there is no line, the byte is
+-- dropped
 abbrev pub onto_whole : ℕ → List (List ℕ) → List (List ℕ)
 onto_whole byte [] = []
 onto_whole byte (line ∷ lines) = (byte ∷ line) ∷ lines
 
--- the lines that a newline ends
+-- only the lines that a newline ends
 abbrev pub whole_lines : List ℕ → List (List ℕ)
 whole_lines [] = []
 whole_lines (byte ∷ bytes) = if byte == newline then [] ∷ whole_lines bytes else onto_whole byte (whole_lines bytes)

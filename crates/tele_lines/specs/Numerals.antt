@@ -1,4 +1,5 @@
--- The numbers of a line. A number of version 2 is signed, and kept as a number that is greater by 2 ^ 63, so that order stays.
+-- The numbers of a line. A signed number of version 2 is kept as a natural number greater by 2 ^
+-- 63, which preserves the order.
 use Rattle.std.specs.Prelude.{ℕ, ℤ, pos, ◌-ℤ◌, ◌+◌, ◌-◌, ◌*◌, ◌^◌, nat_eq, nat_lt, nat_le, ◌&&◌, Bool, if◌then◌else◌, List, length, drop, fold, codes, Option, Some, None}
 use Rattle.std.specs.List.{list_all, starts_with}
 use Rattle.std.specs.Char.{is_ascii_digit}
@@ -7,7 +8,7 @@ use Rattle.std.specs.Prelude.{decimal}
 use Rattle.tele_lines.specs.declared.items.Version.{Version}
 use Rattle.tele_lines.specs.declared.items.Version.TheVariants.{One, Two}
 
--- what digits say in base ten
+-- the number that digits denote in base ten
 abbrev pub value_of : List ℕ → ℕ
 value_of digits = fold (λ value digit. value * 10 + (digit - 48)) 0 digits
 
@@ -19,15 +20,15 @@ is_numeral digits = nat_lt 0 (length digits) && list_all is_ascii_digit digits
 abbrev pub numeral_value : List ℕ → Option ℕ
 numeral_value bytes = if is_numeral bytes && nat_lt (value_of bytes) (2 ^ 64) then Some (value_of bytes) else None
 
--- by how much a signed number is kept greater than it is
+-- by how much a kept number exceeds the signed number that it encodes
 abbrev pub shift : ℕ
 shift = 2 ^ 63
 
--- the signed number that a kept one stands for
+-- the signed number that a kept one encodes
 abbrev pub signed_of : ℕ → ℤ
 signed_of kept = pos kept -ℤ pos shift
 
--- what the number behind a minus is kept as, if it is at most 2 ^ 63
+-- what a minus and this number are kept as, if the number is at most 2 ^ 63
 abbrev pub kept_below : Option ℕ → Option ℕ
 kept_below (Some value) = if nat_le value shift then Some (shift - value) else None
 kept_below None = None
@@ -37,7 +38,7 @@ abbrev pub kept_above : Option ℕ → Option ℕ
 kept_above (Some value) = if nat_lt value shift then Some (shift + value) else None
 kept_above None = None
 
--- what a signed numeral is kept as: a minus and digits, or digits alone
+-- what a signed numeral is kept as: a minus and digits, or only digits
 abbrev pub kept_value : List ℕ → Option ℕ
 kept_value bytes = if starts_with nat_eq bytes (codes "-") then kept_below (numeral_value (drop 1 bytes)) else kept_above (numeral_value bytes)
 

@@ -1,4 +1,4 @@
--- How far a reader of lines has come, and what its next call answers.
+-- How far a reader of lines has come, and what its next call returns.
 use Rattle.std.specs.Prelude.{◌≡◌, ℕ, ◌+◌, List, [], ◌∷◌, ◌++◌, Bool, true, false, Option, Some, None}
 use Rattle.tele_lines.specs.declared.items.Cause.{Cause}
 use Rattle.tele_lines.specs.declared.items.Version.{Version}
@@ -10,7 +10,8 @@ use Rattle.tele_lines.specs.Lines.{lines_of, whole_lines}
 use Rattle.tele_lines.specs.Readings.{Mode, version_in, next_mode, reading}
 use Rattle.tele_lines.specs.Answer.{Read, Good, read_from}
 
--- how far the reading has come: how many lines are allowed, how many were read, and by which version the next is read
+-- how far the reading has come: how many lines are allowed, how many were read, and the mode in
+-- which the next is read
 pub record Place : Type 0 where
   pub limit : ℕ
   pub count : ℕ
@@ -24,16 +25,16 @@ place_of lines = record { limit = lines.limit; count = lines.count; mode = lines
 abbrev pub read_at : Place → List (List ℕ) → List Read
 read_at place lines = read_from place.limit (place.count + 1) place.mode lines
 
--- a line behind which the reading goes on
+-- the reading goes on after a line that says this
 abbrev pub Continues : Said → Type 0
 Continues (Fails cause) = ⊥
 Continues _ = Unit {0}
 
--- the place behind a line that says this
+-- the place after a line that says this
 abbrev pub behind : Place → Said → Place
 behind place said = record { limit = place.limit; count = place.count + 1; mode = next_mode place.mode said }
 
--- what a line gives to whoever reads on: an item with its number and its version, or nothing
+-- what a line yields: an item with its number and its version, or nothing
 abbrev pub reads_given : Place → Said → List Read
 reads_given place (Asks item) = Good (place.count + 1) (version_in place.mode) item ∷ []
 reads_given place _ = []
@@ -46,19 +47,19 @@ limit_of lines = lines.limit
 abbrev pub count_of : Lines → ℕ
 count_of lines = lines.count
 
--- of which version the lines are
+-- the version of the lines
 abbrev pub version_of : Lines → Version
 version_of lines = version_in lines.mode
 
--- by which version the next line is read, once a line has said something
+-- the mode in which the next line is read
 abbrev pub mode_of : Lines → Mode
 mode_of lines = lines.mode
 
--- why the line behind them is bad, once it was found to be
+-- why the next line is bad, once it was found to be
 abbrev pub stop_of : Lines → Option Cause
 stop_of lines = lines.stop
 
--- whether the source has told its end
+-- whether the end of the source was reached
 abbrev pub has_ended : Lines → Bool
 has_ended lines = lines.ended
 
@@ -66,11 +67,13 @@ has_ended lines = lines.ended
 abbrev pub kept_of : Lines → List ℕ
 kept_of lines = lines.buffer
 
--- what is still to be read: the bytes that the reader keeps, and then those that its source has left, where it tells them; behind the end it has none
+-- what is still unread: the bytes that the reader keeps, then those that its source has left, if
+-- these are known; after the end of the input the source has none
 abbrev pub unread : Lines → Option (List ℕ) → Option (List ℕ)
 unread lines left = unread_of lines.buffer lines.ended left
 
--- from one place to a later one: these lines were given for the bytes that were taken, and the others are left to be read; unless the input has ended, a newline ends the last of them
+-- the reading went from one place to a later one: these lines were given for the bytes that were
+-- taken, and the other bytes stay unread; unless the input has ended, a newline ends the last line
 pub record GoesTo (old new : Place) (ended : Bool) (given : List Read) (bytes : List ℕ) (now : Option (List ℕ)) : Type 0 where
   pub taken : List ℕ
   pub rest : List ℕ
@@ -79,7 +82,8 @@ pub record GoesTo (old new : Place) (ended : Bool) (given : List Read) (bytes : 
   pub reads : read_at old (lines_of bytes) ≡ given ++ read_at new (lines_of rest)
   pub whole : ended ≡ false → (more : List ℕ) → read_at old (whole_lines (taken ++ more)) ≡ given ++ read_at new (whole_lines more)
 
--- the first line of these bytes says this, and the lines behind it are those of what is left then; unless the input has ended, a newline ends the line
+-- the first line of these bytes says this, and what is then left is cut into the lines after it;
+-- unless the input has ended, a newline ends the line
 pub record TakesLine (place : Place) (said : Said) (bytes : List ℕ) (ended : Bool) (now : Option (List ℕ)) : Type 0 where
   pub line : List ℕ
   pub taken : List ℕ
@@ -97,17 +101,17 @@ pub record MeetsLine (place : Place) (said : Said) (bytes : List ℕ) : Type 0 w
   pub cut : lines_of bytes ≡ line ∷ others
   pub says : reading place.limit (place.count + 1) place.mode line ≡ said
 
--- the source tells its bytes, and has none left once the reader has seen its end
+-- the source's bytes are known, and none is left once the reader has seen its end
 abbrev pub TellsEnd : Lines → Option (List ℕ) → Type 0
 TellsEnd lines left = TellsEndOf lines.ended left
 
--- the end of the next line has not come yet
+-- the end of the next line has not been read yet
 pub record Waits (lines : Lines) : Type 0 where
   pub going : lines.stop ≡ None
   pub open_end : lines.ended ≡ false
   pub no_line : whole_lines lines.buffer ≡ []
 
--- the source has told its end, and every line was read
+-- the end of the source was reached, and every line was read
 pub record IsDone (lines : Lines) : Type 0 where
   pub ended : lines.ended ≡ true
   pub empty : lines.buffer ≡ []

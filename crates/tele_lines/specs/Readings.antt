@@ -20,14 +20,14 @@ Mode = Option Version
 abbrev pub version_in : Mode → Version
 version_in mode = unwrap_or mode One
 
--- the mode behind a line
+-- the mode after a line
 abbrev pub next_mode : Mode → Said → Mode
 next_mode mode Skips = mode
 next_mode mode (Chooses version) = Some version
 next_mode mode (Asks item) = Some (version_in mode)
 next_mode mode (Fails cause) = mode
 
--- a number that was read, or that a word is none
+-- a number that was read, or the cause for a word that is no number
 abbrev pub number_or : Option ℕ → Result ℕ Cause
 number_or (Some x) = Ok x
 number_or None = Err Number
@@ -38,7 +38,7 @@ one_number version (x ∷ []) = number_or (number_in version x)
 one_number version [] = Err Fields
 one_number version (x ∷ y ∷ more) = Err Fields
 
--- two numbers that were read, or that a word is none
+-- two numbers that were read, or the cause for a word that is no number
 abbrev pub numbers_or : Option ℕ → Option ℕ → Result (ℕ × ℕ) Cause
 numbers_or (Some x) (Some y) = Ok (x, y)
 numbers_or (Some x) None = Err Number
@@ -72,7 +72,7 @@ letter_of (byte ∷ []) = Some byte
 letter_of [] = None
 letter_of (byte ∷ next ∷ more) = None
 
--- a line with this letter: `P`, `R`, `G`, `I`, and, where no line before it said anything, `V`
+-- a line with this letter: `P`, `R`, `G`, `I`, and, if no line before it said anything, `V`
 abbrev pub by_letter : Mode → Option ℕ → List (List ℕ) → Said
 by_letter mode None more = Fails Letter
 by_letter mode (Some letter) more =
@@ -84,17 +84,18 @@ by_letter mode (Some letter) more =
     else (if letter == 86 && is_none mode then chosen (one_number One more)
     else Fails Letter))))
 
--- a word begins with a number sign
+-- whether a word begins with a number sign
 abbrev pub is_note : List ℕ → Bool
 is_note [] = false
 is_note (byte ∷ bytes) = byte == 35
 
--- a line of these words: one without words says nothing, nor does one whose first word begins with a number sign
+-- a line of these words; it says nothing if it has no word or if its first word begins with a
+-- number sign
 abbrev pub by_words : Mode → List (List ℕ) → Said
 by_words mode [] = Skips
 by_words mode (word ∷ more) = if is_note word then Skips else by_letter mode (letter_of word) more
 
--- what the line with this number says, where so many lines are allowed
+-- what the line with this number says, if this many lines are allowed
 abbrev pub reading : ℕ → ℕ → Mode → List ℕ → Said
 reading limit number mode line =
     if nat_le number limit

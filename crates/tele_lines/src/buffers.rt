@@ -6,10 +6,10 @@ ghost use Rattle.tele_lines.specs.Buffers.{Fills};
 use std::marker::Model;
 use tele_io::{Failed, Source};
 
-/// How many bytes are kept at the most.
+/// How many bytes a buffer keeps at most.
 pub(crate) const SIZE: usize = 4096;
 
-/// Bytes that were taken from a source, in order: they come in behind and go out in front.
+/// Bytes that were taken from a source, in order: first in, first out.
 #[derive(Drop)]
 pub(crate) struct Buffer {
     bytes: [u8; SIZE],
@@ -37,7 +37,7 @@ fn to_front(bytes: &mut [u8], start: usize, end: usize)
     bytes.copy_within(start..end, 0);
 }
 
-/// Reads some bytes behind the first `end`.
+/// Reads some bytes into the space after the first `end`.
 fn read_behind<S: Source>(bytes: &mut [u8], end: usize, source: &mut S) -> Result<usize, Failed>
     requires room { end < length bytes.old }
 
@@ -55,7 +55,7 @@ fn read_behind<S: Source>(bytes: &mut [u8], end: usize, source: &mut S) -> Resul
 }
 
 impl Buffer {
-    /// No byte yet.
+    /// Makes a buffer with no byte.
     pub(crate) fn new() -> Self
         ensures empty { result ≡ [] }
     {
@@ -66,7 +66,7 @@ impl Buffer {
         }
     }
 
-    /// The bytes that are kept.
+    /// Returns the bytes that are kept.
     pub(crate) fn bytes(&self) -> &[u8]
         ensures value { result.now ≡ self.now }
         ensures short { length self.now ≤ SIZE }
@@ -74,7 +74,7 @@ impl Buffer {
         &self.bytes[self.start..self.end]
     }
 
-    /// Lets the first `count` bytes go.
+    /// Removes the first `count` bytes.
     pub(crate) fn skip(&mut self, count: usize)
         requires within { count ≤ length self.old }
         ensures rest { self.new ≡ drop count self.old }
@@ -82,8 +82,7 @@ impl Buffer {
         self.start += count;
     }
 
-    /// Takes some more bytes from the source, and says how many. It takes none only at the end of
-    /// the input.
+    /// Takes more bytes from the source, and returns how many. Zero means the end of the input.
     pub(crate) fn fill<S: Source>(&mut self, source: &mut S) -> Result<usize, Failed>
         requires room { length self.old < SIZE }
 

@@ -9,7 +9,7 @@ pub struct Line {
     pub item: Item,
 }
 
-/// What a good line asks for. Its numbers are kept ones: of version 2 greater by 2^63 than written.
+/// What a good line asks for. Numbers of version 2 are kept: greater by 2^63 than written.
 #[derive(Clone, Copy, Debug, PartialEq, Eq, Drop)]
 pub enum Item {
     /// One command on the map, at one timestamp.
@@ -18,7 +18,7 @@ pub enum Item {
     Interval { first: u64, last: u64 },
 }
 
-/// Of which version of the line language an input is.
+/// The version of the line language that an input uses.
 #[derive(Clone, Copy, Debug, PartialEq, Eq, Drop)]
 pub enum Version {
     /// Numbers from 0 to 2^64 - 1. An input is of this version if it doesn't say otherwise.
@@ -33,13 +33,13 @@ pub enum Version {
 pub enum Cause {
     /// It has more than 80 bytes without its line end.
     Long,
-    /// Its first word is no letter of the line language, or a `V` that comes too late.
+    /// Its first word is no letter of the line language, or is a `V` that comes too late.
     Letter,
     /// It has too many words, or too few.
     Fields,
     /// A word is no number of the version, or names no version.
     Number,
-    /// It stands behind the last line that is allowed.
+    /// It follows the last line that is allowed.
     Lines,
 }
 
@@ -57,7 +57,7 @@ pub enum LineFault {
 pub(crate) enum Said {
     /// Nothing: it has no word, or is a comment.
     Skips,
-    /// Of which version the lines behind it are.
+    /// The version of the lines after it.
     Chooses(Version),
     /// What it asks for.
     Asks(Item),

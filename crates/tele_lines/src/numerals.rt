@@ -4,10 +4,10 @@ ghost use Rattle.tele_lines.specs.Numerals.{numeral_value, kept_value, number_in
 
 use crate::items::Version;
 
-/// By how much a signed number is kept greater than it is.
+/// By how much a kept number exceeds the signed number that it encodes.
 const SHIFT: u64 = 1 << 63;
 
-/// What a signed number is kept as: greater by 2^63, so that the order stays.
+/// Returns the kept number for a signed one: greater by 2^63, which preserves the order.
 pub fn shifted(z: i64) -> u64
     ensures value { signed_of result ≡ z }
 {
@@ -18,7 +18,7 @@ pub fn shifted(z: i64) -> u64
     }
 }
 
-/// The signed number that a kept one stands for.
+/// Returns the signed number that a kept one encodes.
 pub fn signed(kept: u64) -> i64
     ensures value { result ≡ signed_of kept }
 {
@@ -29,8 +29,8 @@ pub fn signed(kept: u64) -> i64
     }
 }
 
-/// The number that some bytes are, or none: one or more ASCII digits, and nothing else, that say less than
-/// 2^64.
+/// Reads bytes as a number: one or more ASCII digits, and nothing else, with a value below 2^64.
+/// Returns `None` for any other bytes.
 pub fn number(bytes: &[u8]) -> Option<u64>
     ensures value { result ≡ numeral_value bytes.now }
 {
@@ -48,7 +48,7 @@ pub fn number(bytes: &[u8]) -> Option<u64>
     Some(value)
 }
 
-/// What a signed numeral is kept as: a minus and digits, or digits alone.
+/// Reads a signed numeral, a minus and digits or only digits, as a kept number.
 fn kept(bytes: &[u8]) -> Option<u64>
     ensures value { result ≡ kept_value bytes.now }
 {
@@ -64,7 +64,7 @@ fn kept(bytes: &[u8]) -> Option<u64>
     }
 }
 
-/// The number that a word is in a version, as it is kept.
+/// Reads a word as a number of a version, in the form in which it is kept.
 pub(crate) fn read_number(version: Version, word: &[u8]) -> Option<u64>
     ensures value { result ≡ number_in version word.now }
 {

@@ -11,7 +11,7 @@ use crate::texts::Text;
 use ist_core::{Pair, Reply};
 use tele_io::{Sink, SinkFault, write_whole};
 
-/// Adds a number, as it is printed in a version.
+/// Adds a kept number in the form in which a version prints it.
 fn push_kept(text: &mut Text, version: Version, kept: u64)
     requires room { length text.old + 20 ≤ 64 }
     ensures added { text.new ≡ text.old ++ number_text version kept }
@@ -23,7 +23,7 @@ fn push_kept(text: &mut Text, version: Version, kept: u64)
     }
 }
 
-/// The printed line of a reply: `17 1200`, or `17 -` where there was no value.
+/// Returns the line printed for a reply: `17 1200`, or `17 -` if there was no value.
 fn answer_line(version: Version, line: u64, reply: Reply) -> Text
     ensures value { result ≡ answer_text version line reply }
 {
@@ -38,7 +38,7 @@ fn answer_line(version: Version, line: u64, reply: Reply) -> Text
     text
 }
 
-/// The printed line of a pair.
+/// Returns the line printed for a pair.
 fn pair_line(version: Version, pair: Pair) -> Text
     ensures value { result ≡ pair_text version pair }
 {
@@ -50,7 +50,7 @@ fn pair_line(version: Version, pair: Pair) -> Text
     text
 }
 
-/// The first printed line of an interval: `17 3`.
+/// Returns the first line printed for an interval: `17 3`.
 fn count_line(line: u64, count: usize) -> Text
     ensures value { result ≡ count_text line count }
 {
@@ -62,7 +62,7 @@ fn count_line(line: u64, count: usize) -> Text
     text
 }
 
-/// The word for a cause.
+/// Returns the word printed for a cause.
 fn cause_word(cause: Cause) -> &'static [u8]
     ensures value { result.now ≡ cause_text cause }
 {
@@ -75,7 +75,7 @@ fn cause_word(cause: Cause) -> &'static [u8]
     }
 }
 
-/// The printed line of a bad line: `! 17 letter`.
+/// Returns the line printed for a bad line: `! 17 letter`.
 fn bad_line(line: u64, cause: Cause) -> Text
     ensures value { result ≡ bad_text line cause }
 {
@@ -91,7 +91,7 @@ fn bad_line(line: u64, cause: Cause) -> Text
 /// Prints the reply to a point line: the line's number, a space, the value in decimal or `-`, and a
 /// newline. In version 2 the value is the kept number less 2^63.
 ///
-/// It goes out by one `write_whole`, and takes no memory of its own. After a refusal, which is the
+/// It goes out by one `write_whole`, and nothing of its own is allocated. On an error, which is the
 /// sink's, a prefix of the text may have been written.
 pub fn print_answer<O: Sink>(
     out: &mut O,
@@ -113,11 +113,11 @@ pub fn print_answer<O: Sink>(
     write_whole(out, text.as_slice())
 }
 
-/// Prints the reply to an interval line: the line's number, a space, how many pairs there are, and a
-/// newline; then each pair on a line of its own, its timestamp, a space and its reading. In version 2
-/// timestamps and readings are the kept numbers less 2^63.
+/// Prints the reply to an interval line: the line's number, a space, the number of pairs, and a
+/// newline; then one line per pair: its timestamp, a space and its reading. In version 2 timestamps
+/// and readings are the kept numbers less 2^63.
 ///
-/// Each line goes out by one `write_whole`, and it takes no memory of its own. After a refusal, which
+/// Each line goes out by one `write_whole`, and nothing of its own is allocated. On an error, which
 /// is the sink's, a prefix of the text may have been written.
 pub fn print_interval<O: Sink>(
     out: &mut O,
@@ -140,10 +140,10 @@ pub fn print_interval<O: Sink>(
     print_pairs(out, version, pairs)
 }
 
-/// Prints each pair on a line of its own: its timestamp, a space and its reading, in version 2 the kept numbers
-/// less 2^63.
+/// Prints one line per pair: its timestamp, a space and its reading. In version 2 these are the
+/// kept numbers less 2^63.
 ///
-/// Each line goes out by one `write_whole`, and it takes no memory of its own. After a refusal, which
+/// Each line goes out by one `write_whole`, and nothing of its own is allocated. On an error, which
 /// is the sink's, a prefix of the text may have been written.
 pub fn print_pairs<O: Sink>(out: &mut O, version: Version, pairs: &[Pair]) -> Result<(), SinkFault>
     ensures printed { OnOk result (Appends (O.written out.old) (O.written out.new)
@@ -166,7 +166,7 @@ pub fn print_pairs<O: Sink>(out: &mut O, version: Version, pairs: &[Pair]) -> Re
 /// Prints that a line is bad: `! `, the line's number, a space, the word for the cause, and a
 /// newline.
 ///
-/// It goes out by one `write_whole`, and takes no memory of its own. After a refusal, which is the
+/// It goes out by one `write_whole`, and nothing of its own is allocated. On an error, which is the
 /// sink's, a prefix of the text may have been written.
 pub fn print_bad<O: Sink>(out: &mut O, line: u64, cause: Cause) -> Result<(), SinkFault>
     ensures printed { OnOk result (Appends (O.written out.old) (O.written out.new)

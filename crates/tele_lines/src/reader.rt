@@ -1,4 +1,4 @@
-//! Lines, one after another, from a source that gives its bytes in any pieces.
+//! Reads lines, one after another, from a source that gives its bytes in any pieces.
 ghost use Rattle.std.specs.Prelude.{◌≡◌, ◌≤◌, ◌^◌, IfOk, IsOk, OnErr, true, false};
 ghost use Rattle.tele_io.specs.Bytes.{HaveRisen, Keeps};
 ghost use Rattle.tele_lines.specs.Buffers.{EndsAt, IsUnbroken, TellsEndOf, unread_of};
@@ -9,10 +9,11 @@ use crate::readings::{LONGEST, mode_behind, read_line};
 use memchr::memchr;
 use tele_io::{Failed, Source};
 
-/// The most bytes, without a newline, that may still be a good line: one may be a carriage return.
+/// The most bytes without a newline that may still be a good line: the last may be a carriage
+/// return.
 const UNDECIDED: usize = LONGEST + 1;
 
-/// Reads lines from a source. It takes no memory: a line is decided within 82 bytes.
+/// Reads lines from a source. Allocates nothing: a line is decided within 82 bytes.
 #[derive(Drop)]
 pub struct Lines {
     limit: u64,
@@ -34,7 +35,7 @@ impl Lines {
     ghost use Rattle.tele_lines.specs.Progress.{Continues, GoesTo, reads_given, read_at, version_of, mode_of, behind, place_of, limit_of, count_of, stop_of, has_ended, kept_of, unread, TellsEnd, Waits, IsDone, TakesLine, MeetsLine};
     ghost use Rattle.tele_lines.specs.Buffers.{EndsAt};
 
-    /// A reader that has read nothing, and allows so many lines.
+    /// Makes a reader that has read nothing and allows `limit` lines.
     pub fn new(limit: u64) -> Self
         requires some { 1 ≤ limit }
         requires few { limit ≤ 2 ^ 24 }
@@ -54,21 +55,23 @@ impl Lines {
         }
     }
 
-    /// Of which version the lines are: `One`, until a first line `V 2` was read.
+    /// Returns the version of the lines: `One`, unless the first line that said something was `V
+    /// 2`.
     pub fn version(&self) -> Version
         ensures value { result ≡ version_of self.now }
     {
         self.mode.unwrap_or(Version::One)
     }
 
-    /// The next line that asks for something, once its end has come.
+    /// Returns the next line that asks for something, once its end has been read.
     ///
-    /// `Ok(None)` says that the input is at its end and that every line was read; later calls say it
-    /// again without reading. A bad line ends the reading: this call and each later one tell its
-    /// number and its cause. `Read` comes only where the source failed in this call; no byte is lost
-    /// then, and a later call goes on.
+    /// `Ok(None)` means that the input has ended and every line was read; later calls return it
+    /// again without reading. A bad line ends the reading: this call and each later one return its
+    /// number and its cause. `Read` is returned only if the source failed in this call; then no
+    /// byte is lost, and a later call continues.
     pub fn next<S: Source>(&mut self, source: &mut S) -> Result<Option<Line>, LineFault>
-        // The line is the first of the unread ones that asks for something, and the others are left.
+        // The line is the first of the unread ones that asks for something; the lines after it stay
+        // unread.
         ensures line { IfOk result (λ next. IfSome next (λ line.
             IfSome (unread self.old (S.left source.old)) (λ bytes.
             GoesTo (place_of self.old) (place_of self.new) (has_ended self.new)
@@ -85,7 +88,7 @@ impl Lines {
         ensures done { IfOk result (λ next. IfNone next (IsDone self.new)) }
         ensures again { IsDone self.old → (result ≡ Ok None) × (source.new ≡ source.old) }
 
-        // The first of the unread lines that says something is bad, and stays so.
+        // The first of the unread lines that says something is bad. The reader stays at it.
         ensures bad { (number : _) (cause : _) → result ≡ Err (LineFault.Bad number cause) →
             stop_of self.old ≡ None → IfSome (unread self.old (S.left source.old)) (λ bytes.
             read_at (place_of self.old) (lines_of bytes) ≡ Bad number cause ∷ []) }
@@ -95,7 +98,7 @@ impl Lines {
             (result ≡ Err (LineFault.Bad (count_of self.old + 1) cause)) ×
             (source.new ≡ source.old) }
 
-        // The source failed. The lines that were passed over until then ask for nothing.
+        // The source failed. The lines skipped until then ask for nothing.
         ensures failed { result ≡ Err LineFault.Read →
             HaveRisen (S.faults source.old) (S.faults source.new) }
         ensures passed { result ≡ Err LineFault.Read →
@@ -142,7 +145,7 @@ impl Lines {
         }
     }
 
-    /// Reads one line, whatever it says. `None` is the end of the input.
+    /// Reads one line, whatever it says. Returns `None` at the end of the input.
     fn advance<S: Source>(&mut self, source: &mut S) -> Result<Option<Said>, Failed>
         requires going { self.old.stop ≡ None }
 
@@ -185,8 +188,8 @@ impl Lines {
         }
     }
 
-    /// Reads the first line of the buffer, which ends at this place, or with the bytes. `None` is the
-    /// end of the input.
+    /// Reads the first line of the buffer, which ends at `end`, or with the bytes. Returns `None`
+    /// at the end of the input.
     fn cut(&mut self, end: Option<usize>) -> Option<Said>
         requires there { EndsAt self.old.buffer self.old.ended end }
         requires going { self.old.stop ≡ None }
@@ -225,7 +228,8 @@ impl Lines {
         }
     }
 
-    /// Reads a line of so many bytes, and lets it go with what ends it, if it isn't bad.
+    /// Reads a line of `len` bytes. Unless it is bad, removes the first `taken` bytes: the line and
+    /// what ends it.
     fn read(&mut self, len: usize, taken: usize) -> Said
         requires ordered { len ≤ taken }
         requires within { taken ≤ length self.old.buffer }
@@ -261,7 +265,7 @@ impl Lines {
     }
 }
 
-/// Fills the buffer until the end of its first line shows, and says where it ends.
+/// Fills the buffer until the end of its first line is known, and returns where that is.
 fn gather<S: Source>(
     buffer: &mut Buffer,
     ended: &mut bool,

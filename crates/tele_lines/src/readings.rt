@@ -9,10 +9,10 @@ use crate::numerals::read_number;
 use crate::words::{skip_blanks, split_word, trim_return};
 use ist_core::Command;
 
-/// The most bytes that a line has without its line end.
+/// The most bytes that a line may have, without its line end.
 pub(crate) const LONGEST: usize = 80;
 
-/// The one number that some words are.
+/// Reads words as exactly one number.
 fn one(version: Version, words: &[u8]) -> Result<u64, Cause>
     requires word { BeginsWord words.now }
     ensures value { result ≡ one_number version (words_in_line words.now) }
@@ -30,7 +30,7 @@ fn one(version: Version, words: &[u8]) -> Result<u64, Cause>
     }
 }
 
-/// The two numbers that some words are.
+/// Reads words as exactly two numbers.
 fn two(version: Version, words: &[u8]) -> Result<(u64, u64), Cause>
     requires word { BeginsWord words.now }
     ensures value { result ≡ two_numbers version (words_in_line words.now) }
@@ -52,7 +52,7 @@ fn two(version: Version, words: &[u8]) -> Result<(u64, u64), Cause>
     }
 }
 
-/// The mode behind a line.
+/// Returns the mode after a line that says this.
 pub(crate) fn mode_behind(mode: Option<Version>, said: &Said) -> Option<Version>
     ensures value { result ≡ next_mode mode said.now }
 {
@@ -64,7 +64,7 @@ pub(crate) fn mode_behind(mode: Option<Version>, said: &Said) -> Option<Version>
     }
 }
 
-/// The version that a number names.
+/// Returns the version that a number names.
 fn choose(number: Result<u64, Cause>) -> Said
     ensures value { result ≡ chosen number }
 {
@@ -76,7 +76,7 @@ fn choose(number: Result<u64, Cause>) -> Said
     }
 }
 
-/// The one byte of a word of one byte.
+/// Returns the one byte of a word of one byte.
 fn letter(word: &[u8]) -> Option<u8>
     ensures value { result ≡ letter_of word.now }
 {
@@ -86,7 +86,7 @@ fn letter(word: &[u8]) -> Option<u8>
     }
 }
 
-/// Whether a word begins with a number sign.
+/// Returns whether a word begins with a number sign.
 fn is_comment(word: &[u8]) -> bool
     ensures value { result ≡ is_note word.now }
 {
@@ -96,7 +96,7 @@ fn is_comment(word: &[u8]) -> bool
     }
 }
 
-/// What a line with this letter says, behind which these words stand.
+/// Returns what a line with this letter says, if these words follow the letter.
 fn say(mode: Option<Version>, letter: Option<u8>, more: &[u8]) -> Said
     requires word { BeginsWord more.now }
     ensures value { result ≡ by_letter mode letter (words_in_line more.now) }
@@ -124,7 +124,7 @@ fn say(mode: Option<Version>, letter: Option<u8>, more: &[u8]) -> Said
     }
 }
 
-/// What the line with this number says, where so many lines are allowed.
+/// Returns what the line with this number says, if `limit` lines are allowed.
 pub(crate) fn read_line(limit: u64, number: u64, mode: Option<Version>, line: &[u8]) -> Said
     ensures value { result ≡ reading limit number mode line.now }
 {

@@ -1,4 +1,4 @@
-//! One printed line, which is put together on the stack and goes out in one piece.
+//! One printed line. It is put together on the stack and written in one piece.
 ghost use Rattle.std.specs.Prelude.{◌≡◌, ◌+◌, ◌<◌, ◌≤◌, [], ◌++◌, length, codes, decimal};
 ghost use Rattle.std.specs.Fmt.{signed_decimal};
 
@@ -6,10 +6,10 @@ use arrayvec::ArrayVec;
 use itoa::Buffer;
 use std::marker::Model;
 
-/// How many bytes a printed line has at the most.
+/// How many bytes a printed line has at most.
 pub(crate) const ROOM: usize = 64;
 
-/// Bytes that are to be printed together.
+/// Bytes that will be printed together.
 #[derive(Drop)]
 pub(crate) struct Text {
     bytes: ArrayVec<u8, ROOM>,
@@ -24,7 +24,7 @@ impl Model for Text {
 }
 
 impl Text {
-    /// No byte yet.
+    /// Makes an empty text.
     pub(crate) fn new() -> Self
         ensures empty { result ≡ [] }
     {
@@ -33,7 +33,7 @@ impl Text {
         }
     }
 
-    /// Adds some bytes behind the others.
+    /// Adds some bytes at the end.
     pub(crate) fn push(&mut self, bytes: &[u8])
         requires room { length self.old + length bytes.now ≤ ROOM }
         ensures added { self.new ≡ self.old ++ bytes.now }
@@ -69,7 +69,7 @@ impl Text {
         self.push(b"\n");
     }
 
-    /// The bytes.
+    /// Returns the bytes.
     pub(crate) fn as_slice(&self) -> &[u8]
         ensures value { result.now ≡ self.now }
     {

@@ -5,7 +5,7 @@ ghost use Rattle.tele_lines.specs.Words.{BeginsWord};
 
 use memchr::memchr2;
 
-/// A line without the carriage return at its end, if it has one there.
+/// Returns a line without the carriage return at its end, if it has one there.
 pub(crate) fn trim_return(line: &[u8]) -> &[u8]
     ensures value { result.now ≡ without_return line.now }
 {
@@ -15,7 +15,7 @@ pub(crate) fn trim_return(line: &[u8]) -> &[u8]
     }
 }
 
-/// The bytes from the first word on.
+/// Skips blanks: returns the bytes from the first word on.
 pub(crate) fn skip_blanks(bytes: &[u8]) -> &[u8]
     ensures words { words_in_line result.now ≡ words_in_line bytes.now }
     ensures word { BeginsWord result.now }
@@ -28,7 +28,7 @@ pub(crate) fn skip_blanks(bytes: &[u8]) -> &[u8]
     &[]
 }
 
-/// How long the word is that these bytes begin with.
+/// Returns the length of the word at the front of these bytes.
 fn word_len(bytes: &[u8]) -> usize
     requires word { BeginsWord bytes.now }
     requires some { 0 < length bytes.now }
@@ -39,7 +39,7 @@ fn word_len(bytes: &[u8]) -> usize
     memchr2(b' ', b'\t', bytes).unwrap_or(bytes.len())
 }
 
-/// The first word, and the bytes from the next one on.
+/// Splits off the first word: returns it, and the bytes from the next word on.
 pub(crate) fn split_word(bytes: &[u8]) -> (&[u8], &[u8])
     requires word { BeginsWord bytes.now }
     requires some { 0 < length bytes.now }

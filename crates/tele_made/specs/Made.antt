@@ -3,7 +3,8 @@ use Rattle.std.specs.Prelude.{ℕ, zero, suc, ◌+◌, ◌*◌, ◌/◌, ◌%◌
 use Rattle.ist_core.specs.declared.commands.Command.{Command}
 use Rattle.ist_core.specs.declared.commands.Command.TheVariants.{Put, Remove, Get}
 
--- the number behind another; the first is the seed, and each line is made from the number behind it
+-- the number after another; the first is the seed, and each line is made from the number after the
+-- last one
 abbrev pub next_number : ℕ → ℕ
 next_number x = (6364136223846793005 * x + 1442695040888963407) % 2 ^ 64
 
@@ -15,13 +16,14 @@ made_key x = x / 2 ^ 40 % 65536
 abbrev pub made_value : ℕ → ℕ
 made_value x = x / 2 ^ 8 % 65536
 
--- what such a line asks for: its highest three bits say a put, five times in eight, a remove, or a get
+-- what such a line asks for: its highest three bits choose a put, five times in eight, a remove, or
+-- a get
 abbrev pub made_command : ℕ → Command
 made_command x =
     if nat_lt (x / 2 ^ 61) 5 then Put (made_key x) (made_value x)
     else (if x / 2 ^ 61 == 5 then Remove (made_key x) else Get (made_key x))
 
--- so many lines that are made from a seed
+-- this many lines made from a seed
 abbrev pub made_commands : ℕ → ℕ → List Command
 made_commands zero x = []
 made_commands (suc count) x = made_command (next_number x) ∷ made_commands count (next_number x)

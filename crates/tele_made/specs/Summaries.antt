@@ -10,8 +10,8 @@ use Rattle.tele_made.specs.Made.{made_commands}
 abbrev pub value_sum : List Pair → ℕ
 value_sum pairs = sum_by (λ p. p.value) pairs % 2 ^ 64
 
--- the summary of so many lines that are made from a seed: how many there are, how many keys the map
--- has behind them, how many of them are replied to with a value, and the sum of the values of the map
+-- the summary of this many lines made from a seed: their number, the number of keys of the map
+-- after them, how many of them get a value as their reply, and the sum of the map's values
 abbrev pub summary_of : ℕ → ℕ → Summary
 summary_of count seed =
     let commands = made_commands count seed in

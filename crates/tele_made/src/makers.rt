@@ -5,14 +5,14 @@ ghost use Rattle.tele_made.specs.Made.{next_number, made_command};
 use ist_core::Command;
 use std::marker::Model;
 
-/// By what each number is multiplied for the next.
+/// The factor by which each number is multiplied to get the next.
 const FACTOR: u64 = 6_364_136_223_846_793_005;
 
-/// What is added then.
+/// What is then added.
 const STEP: u64 = 1_442_695_040_888_963_407;
 
-/// Makes commands from a number. Contracts see the number from which the last one was made, at first
-/// the seed.
+/// Makes commands from a number. Contracts see the number from which the last command was made; at
+/// first this is the seed.
 #[derive(Debug, Drop)]
 pub struct Maker {
     number: u64,
@@ -27,14 +27,14 @@ impl Model for Maker {
 }
 
 impl Maker {
-    /// A maker that has made nothing.
+    /// Makes a maker that has made nothing.
     pub fn new(seed: u64) -> Maker
         ensures value { result ≡ seed }
     {
         Maker { number: seed }
     }
 
-    /// The next command.
+    /// Returns the next command.
     pub fn make(&mut self) -> Command
         ensures value { result ≡ made_command (next_number self.old) }
         ensures next { self.new ≡ next_number self.old }

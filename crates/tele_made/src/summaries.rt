@@ -12,15 +12,15 @@ use tele_io::{Sink, SinkFault, write_whole};
 pub struct Summary {
     /// How many lines there were.
     pub made: u64,
-    /// How many keys the map has behind them.
+    /// How many keys the map has after them.
     pub keys: u64,
-    /// How many of them were replied to with a value.
+    /// How many of them get a value as their reply.
     pub found: u64,
-    /// The sum of the values of the map behind them, modulo 2^64.
+    /// The sum of the values of the map after them, modulo 2^64.
     pub sum: u64,
 }
 
-/// The sum of the values of some pairs, modulo 2^64.
+/// Returns the sum of the values of some pairs, modulo 2^64.
 pub fn sum_of(pairs: &[Pair]) -> u64
     ensures value { result ≡ value_sum pairs.now }
 {
@@ -31,7 +31,7 @@ pub fn sum_of(pairs: &[Pair]) -> u64
     sum
 }
 
-/// The line for a summary.
+/// Returns the line for a summary.
 fn line_of(alloc: Global, summary: Summary) -> Result<String, AllocError>
     ensures { IfOk result (λ line. string_bytes line ≡ summary_text summary) }
 {
@@ -49,7 +49,7 @@ fn line_of(alloc: Global, summary: Summary) -> Result<String, AllocError>
 
 /// Prints a summary: `made 2 keys 2 found 0 sum 74222` and a newline.
 ///
-/// It goes out by one `write_whole`. After a refusal, which is the sink's or for want of memory, a
+/// It goes out by one `write_whole`. On an error, which is the sink's or for lack of memory, a
 /// prefix of the line may have been written.
 pub fn print_summary<O: Sink>(out: &mut O, alloc: Global, summary: Summary) -> Result<(), SinkFault>
     ensures printed { OnOk result (Appends (O.written out.old) (O.written out.new)

@@ -1,5 +1,5 @@
--- A list of calls whose commands have the keys of its own lane is alone among the entries. Serves
--- `laws.lists_answer_alone`.
+-- A list of calls whose commands have only keys of its own lane is answered as if it were alone.
+-- Serves `laws.lists_answer_alone`.
 use Rattle.std.proofs.Common.{◌≡◌, ℕ, ◌+◌, ◌-◌, ◌≤◌, ◌%◌}
 use Rattle.std.proofs.Common.{Bool, true, false, List, [], ◌∷◌, map, filter, length}
 use Rattle.std.proofs.Common.{refl, sym, ap, ◌∙◌, subst, inl, inr, arith}
@@ -12,17 +12,17 @@ use Rattle.ist_core.specs.Changes.{Entry, map_behind}
 use Rattle.ist_core.specs.Standing.{is_change, entry_by, entries_by}
 use Rattle.ist_core.specs.Histories.{IsLegal}
 use Rattle.ist_core.specs.Resting.{told_by_call}
-use Rattle.ist_histories.specs.Telling.{AreLegal}
-use Rattle.ist_histories.proofs.MapLemmas.{same_head, same_tail, same_cons, map_told}
-use Rattle.ist_histories.proofs.MapLemmas.{no_entry_leaves}
+use Rattle.laws_histories.specs.Telling.{AreLegal}
+use Rattle.laws_histories.proofs.MapLemmas.{same_head, same_tail, same_cons, map_told}
+use Rattle.laws_histories.proofs.MapLemmas.{no_entry_leaves}
 use Rattle.tele_lanes.specs.Lanes.{lane_of}
 use Rattle.tele_lanes.proofs.AloneLemmas.{Agree, get-map_after_same, get-map_after_other}
 use Rattle.tele_rounds.proofs.StandLemmas.{StandFrom, stand_rest, stand_behind, all_behind}
 use Rattle.tele_rounds.proofs.StandLemmas.{rest_behind, first_made, own_entry, other_entry, Told}
 use Rattle.tele_rounds.proofs.StandLemmas.{few_none, changing_few}
 
--- the calls of the lane stand among the entries, in which each owner keeps to its lane; and `n`
--- has what the lane sees of `m`
+-- the calls of the lane belong to the entries, in which each owner keeps to its lane; and `n` has
+-- what the lane sees of `m`
 pub record OnItsLane (workers number : ℕ) (m n : Map) (es : List Entry) (from : ℕ)
     (calls : List Call) : Type 0 where
   pub stand : StandFrom m es number from calls
@@ -35,14 +35,13 @@ pub record OnItsLane (workers number : ℕ) (m n : Map) (es : List Entry) (from 
 abbrev pub OfLane : ℕ → ℕ → List Call → Type 0
 OfLane workers number calls = Each (λ c. lane_of workers c.command ≡ number) calls
 
--- the lane is answered from `n` alone, and sees of the map behind all entries what its commands
--- leave
+-- the replies of the lane come from `n`, and after all entries it sees what its commands leave
 pub record IsAlone (workers number : ℕ) (m n : Map) (es : List Entry)
     (calls : List Call) : Type 0 where
   pub legal : IsLegal n (map told_by_call calls)
   pub agree : Agree workers number (map_behind m es) (map_told n (map told_by_call calls))
 
--- a reading before calls that are alone
+-- a reading before calls that are answered as if alone
 reading_alone : (workers number : ℕ) (m n : Map) (es : List Entry) (call : Call)
     (calls : List Call)
     → call.reply ≡ reply_to n call.command → is_change call ≡ false
@@ -58,7 +57,7 @@ reading_alone workers number m n es call calls reply plain a =
           (sym leaves) a.agree;
     }
 
--- the calls behind a reading
+-- the calls after a reading
 rest_on : (workers number : ℕ) (m n : Map) (es : List Entry) (from : ℕ) (call : Call)
     (calls : List Call)
     → is_change call ≡ false → OnItsLane workers number m n es from (call ∷ calls)
@@ -73,7 +72,7 @@ rest_on workers number m n es from call calls plain x =
       agree = x.agree;
     }
 
--- the first call, where it is a reading, has the reply of what the lane sees
+-- the first call, if it is a reading, has the reply of what the lane sees
 reading_first : (workers number : ℕ) (m n : Map) (es : List Entry) (from : ℕ) (call : Call)
     (calls : List Call)
     → OnItsLane workers number m n es from (call ∷ calls) → lane_of workers call.command ≡ number
@@ -82,7 +81,7 @@ reading_first workers number m n es from call calls x here plain same =
     let read = x.stand.read call 0 (inl refl) plain (omega arith) in
     read.1 ∙ x.agree (key_of call.command) here
 
--- behind the last entry only readings are left
+-- after the last entry only readings are left
 alone_none : (workers number : ℕ) (m n : Map) (from : ℕ) (calls : List Call)
     → OnItsLane workers number m n [] from calls → OfLane workers number calls
     → IsAlone workers number m n [] calls
@@ -107,13 +106,13 @@ alone_none workers number m n from (call ∷ calls) x kept =
         (rest (rest_on workers number m n [] from call calls e x))
 
 module _ (workers number : ℕ) (m : Map) (from : ℕ) where
-  -- what is known of the calls behind an entry
+  -- what is known of the calls after an entry
   Later : Entry → List Entry → Type 0
   Later e es = (n : Map) (calls : List Call)
       → OnItsLane workers number (map_after m e.command) n es (from + 1) calls
       → OfLane workers number calls → IsAlone workers number (map_after m e.command) n es calls
 
-  -- an entry before which no call stands is another lane's
+  -- an entry that precedes all calls is another lane's
   alone_skip : (e : Entry) (es : List Entry) → Later e es → (n : Map) (calls : List Call)
       → OnItsLane workers number m n (e ∷ es) from calls → OfLane workers number calls
       → ((call : Call) → Among call calls → from + 1 ≤ call.position)
@@ -174,7 +173,7 @@ module _ (workers number : ℕ) (m : Map) (from : ℕ) where
       entries_tail : {d : Entry} {xs ys : List Entry} → d ∷ xs ≡ d ∷ ys → xs ≡ ys
       entries_tail e = cc
 
-  -- at an entry the calls there come first, and then those behind it
+  -- at an entry the calls there come first, and then the calls after it
   alone_step : (e : Entry) (es : List Entry) → Later e es → (n : Map) (calls : List Call)
       → OnItsLane workers number m n (e ∷ es) from calls → OfLane workers number calls
       → IsAlone workers number m n (e ∷ es) calls
@@ -200,7 +199,7 @@ module _ (workers number : ℕ) (m : Map) (from : ℕ) where
           → IsAlone workers number m n (d ∷ es) (call ∷ calls)) (sym first)
           (λ l y. alone_change call es l n calls y kept c) later x
 
--- a list of calls is alone, where the entries that it doesn't make are of other lanes
+-- a list of calls is answered as if alone, if the entries that it doesn't make are other lanes'
 pub alone : (workers number : ℕ) (es : List Entry) (m n : Map) (from : ℕ) (calls : List Call)
     → OnItsLane workers number m n es from calls → OfLane workers number calls
     → IsAlone workers number m n es calls

@@ -1,4 +1,4 @@
--- The pairs of a map, and how many there are behind commands. Serves `laws.turns_answer_all`.
+-- The pairs of a map, and how many there are after commands. Serves `laws.turns_answer_all`.
 use Rattle.std.proofs.Common.{◌≡◌, ℕ, ◌+◌, ◌-◌, ◌≤◌, Bool, true, false, cond, List, [], ◌∷◌}
 use Rattle.std.proofs.Common.{length, map, refl, ap, sym, ◌∙◌, arith}
 use Rattle.std.proofs.lemmas.List.{length-map}

@@ -20,19 +20,19 @@ use Rattle.tele_rounds.specs.Runs.{LaneRun, HasRun}
 -- ---- lists
 
 module _ {A : Type 0} where
-  -- what is so at each place is so of each element
+  -- what holds at each place holds of each element
   pub each_all : (P : A → Type 0) (xs : List A) → All P xs → Each P xs
   each_all P [] h = tt
   each_all P (x ∷ xs) h =
       (h 0 x (omega arith), each_all P xs (λ k d lt. h (suc k) d (omega arith)))
 
-  -- and the other way round
+  -- what holds of each element holds at each place
   pub all_each : (P : A → Type 0) (xs : List A) → Each P xs → All P xs
   all_each P [] h k d lt = absurd (omega arith)
   all_each P (x ∷ xs) h zero d lt = h.0
   all_each P (x ∷ xs) h (suc k) d lt = all_each P xs h.1 k d (omega arith)
 
--- the last numbers of a list that rises
+-- the last numbers of a strictly increasing list
 pub IsStrictlyIncreasing-drop : (n : ℕ) (xs : List ℕ) → IsStrictlyIncreasing xs
     → IsStrictlyIncreasing (drop n xs)
 IsStrictlyIncreasing-drop n xs up k h =
@@ -40,7 +40,7 @@ IsStrictlyIncreasing-drop n xs up k h =
     let next : n + (k + 1) ≡ (n + k) + 1 = omega arith in
     rw (get_or-drop n xs k 0, get_or-drop n xs (k + 1) 0, next) (up (n + k) (omega arith))
 
--- lists of what was told keep to their lanes, where each does
+-- lists of what was told keep to their lanes, if each does
 pub keeps_from : (workers number : ℕ) (lists : List (List Answered))
     → ((k : ℕ) (d : List Answered) → k < length lists
     → Each (λ t. lane_of workers t.command ≡ number + k) (get_or lists k d))
@@ -70,7 +70,7 @@ run_asked run h =
     h.calls ∙ ap (λ n. take n (commands_of run.tasks)) long
     ∙ take-map (λ t. t.command) (length run.answers) run.tasks
 
--- a lane whose calls are legal alone answers as one thread does
+-- a lane whose calls are legal by themselves answers as one thread does
 pub run_plain : (m : Map) (run : LaneRun) → HasRun run → IsLegal m run.told
     → ArePlainAnswers m (take (length run.answers) run.tasks) run.answers
 run_plain m run h legal =

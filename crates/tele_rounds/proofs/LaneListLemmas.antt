@@ -1,4 +1,4 @@
--- Lanes of any kind as runs: what `run_lanes` says of its lanes, in the words of the laws. For
+-- Lanes of any type as runs: what `run_lanes` says of its lanes, in the terms of the laws. For
 -- callers of the laws.
 use Rattle.std.proofs.Common.{◌≡◌, ℕ, List, map, drop, length, ◌∙◌, All}
 use Rattle.std.proofs.lemmas.Simd.{map-map}
@@ -13,7 +13,7 @@ use Rattle.tele_rounds.specs.Runs.{left_of_runs}
 
 module _ {L : Type 0} (tasks_of : L → List Task) (told_of : L → List Answered)
     (answers_of : L → List Answer) where
-  -- what a lane came to
+  -- the run of a lane
   abbrev pub run_of : L → LaneRun
   run_of l = record { tasks = tasks_of l; told = told_of l; answers = answers_of l }
 
@@ -32,16 +32,16 @@ module _ {L : Type 0} (tasks_of : L → List Task) (told_of : L → List Answere
             record { calls = calls k d h; answers = answers k d h; replies = replies k d h });
       }
 
-  -- what they were told
+  -- what the lanes were told
   pub told_of_runs-run_of : (lanes : List L) → told_of_runs (map run_of lanes) ≡ map told_of lanes
   told_of_runs-run_of lanes = map-map (λ run. run.told) run_of lanes
 
-  -- what they answered
+  -- what the lanes answered
   pub answers_of_runs-run_of : (lanes : List L)
       → answers_of_runs (map run_of lanes) ≡ map answers_of lanes
   answers_of_runs-run_of lanes = map-map (λ run. run.answers) run_of lanes
 
-  -- what they left
+  -- what the lanes left
   pub left_of_runs-run_of : (lanes : List L)
       → left_of_runs (map run_of lanes) ≡ map (λ l. drop (length (answers_of l)) (tasks_of l)) lanes
   left_of_runs-run_of lanes = map-map (λ run. drop (length run.answers) run.tasks) run_of lanes

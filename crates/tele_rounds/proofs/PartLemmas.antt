@@ -37,7 +37,7 @@ Contains-filter p (y ∷ ys) x c t = at (p y) refl (Contains-cons_cases y ys x c
     at false e (inl same) later = absurd (let passes = ap p same ∙ t in cc)
     at false e (inr d) later = later d
 
--- an element of lists is one of a list
+-- an element of joined lists is in one of the lists
 pub Contains-lists : {X : Type 0} (lists : List (List X)) (x : X)
     → Contains (flat_map (λ xs. xs) lists) x
     → (k : ℕ) × (k < length lists) × ((d : List X) → Contains (get_or lists k d) x)
@@ -47,7 +47,7 @@ Contains-lists (xs ∷ more) x c = elim (Contains-append_cases xs (flat_map (λ 
   | inr j ↦ let it = Contains-lists more x j in let lt = it.1 in (suc it.0, omega arith, it.2)
 ]
 
--- an element of a list is one of all
+-- an element of one list is in the joined lists
 pub Contains-in_lists : {X : Type 0} (lists : List (List X)) (k : ℕ) (d : List X) (x : X)
     → k < length lists
     → Contains (get_or lists k d) x → Contains (flat_map (λ xs. xs) lists) x
@@ -58,7 +58,7 @@ Contains-in_lists (xs ∷ more) (suc k) d x lt c =
     Contains-append_right xs (flat_map (λ ys. ys) more) x
     (Contains-in_lists more k d x (omega arith) c)
 
--- each part has tasks of its lane alone, whose lines rise
+-- each part has only tasks of its lane, with strictly increasing lines
 pub record AreParts (workers : ℕ) (parts : List (List Task)) : Type 0 where
   pub len : length parts ≡ workers
   pub of_lane : (k : ℕ) (d : List Task) → k < workers
@@ -106,7 +106,7 @@ lane_of_parts workers parts all p o k d lt =
         (Contains-in_lists parts k d a (let long = p.len in omega arith) c))
         (eq-eqb (lane_of workers a.command) k here)
 
--- ---- parts one behind another
+-- ---- parts one after another
 
 -- a lane has all of its own tasks
 own_lane : (workers lane : ℕ) (tasks : List Task) → All
@@ -119,7 +119,7 @@ own_lane workers lane (t ∷ ts) h =
     rw here (ap (λ l. t ∷ l)
     (own_lane workers lane ts (All-tail (λ x. lane_of workers x.command ≡ lane) t ts h)))
 
--- and none of another lane's
+-- the tasks of one lane have no task of another
 other_lane : (workers lane other : ℕ) (tasks : List Task) → other ≢ lane
     → All (λ t. lane_of workers t.command ≡ other) tasks → lane_tasks workers lane tasks ≡ []
 other_lane workers lane other [] differ h = refl
@@ -143,7 +143,7 @@ lane_before workers from k (part ∷ more) low h =
     (λ j d lt. subst (λ n. All (λ t. lane_of workers t.command ≡ n) (get_or more j d))
     (omega arith) (h (suc j) d (omega arith)))
 
--- and each lane of them is its part
+-- each lane of the joined parts is its part
 lane_from : (workers from k j : ℕ) (d : List Task) (parts : List (List Task)) → k ≡ from + j
     → j < length parts
     → ((i : ℕ) (e : List Task) → i < length parts → All
@@ -169,7 +169,7 @@ lane_from workers from k (suc j) d (part ∷ more) at lt h =
     (λ i e low. subst (λ n. All (λ t. lane_of workers t.command ≡ n) (get_or more i e))
     (omega arith) (h (suc i) e (omega arith)))
 
--- each lane of the parts one behind another is its part
+-- each lane of the parts, one after another, is its part
 pub lane_of_flat : (workers : ℕ) (parts : List (List Task)) → AreParts workers parts
     → (k : ℕ) (d : List Task) → k < workers
     → lane_tasks workers k (flat_map (λ tasks. tasks) parts) ≡ get_or parts k d

@@ -16,19 +16,19 @@ use Rattle.ist_core.specs.Standing.{is_change, entry_by, StandsIn}
 use Rattle.ist_core.specs.Histories.{IsLegal}
 use Rattle.ist_core.specs.Resting.{AllStandIn, told_by_call}
 use Rattle.ist_core.proofs.ElementLemmas.{each-among, among-filter, among_filter}
-use Rattle.ist_histories.specs.Telling.{map_now}
-use Rattle.ist_histories.proofs.ContentLemmas.{told_at}
-use Rattle.ist_histories.proofs.EntryLemmas.{entry_update}
+use Rattle.laws_histories.specs.Telling.{map_now}
+use Rattle.laws_histories.proofs.ContentLemmas.{told_at}
+use Rattle.laws_histories.proofs.EntryLemmas.{entry_update}
 use Rattle.tele_lanes.specs.Lanes.{lane_of}
 use Rattle.tele_rounds.specs.Alone.{RestsWith, KeepToLanes, commands_told}
 use Rattle.tele_rounds.proofs.StandLemmas.{stand_from}
 use Rattle.tele_rounds.proofs.AloneLemmas.{OfLane, IsAlone, alone}
-use Rattle.ist_links.proofs.OwnerLemmas.{owner_known}
+use Rattle.laws_links.proofs.OwnerLemmas.{owner_known}
 
 -- ---- lists
 
 module _ {A : Type 0} where
-  -- what is so at each place is so of each element
+  -- what holds at each place holds of each element
   pub each_get : (P : A → Type 0) (xs : List A)
       → ((i : ℕ) (x : A) → slice_get xs i ≡ Some x → P x) → Each P xs
   each_get P [] h = tt
@@ -40,20 +40,20 @@ module _ {A : Type 0} where
   get_among (y ∷ xs) zero x e = inl (let same : y ≡ x = cc in sym same)
   get_among (y ∷ xs) (suc i) x e = inr (get_among xs i x e)
 
-  -- an image is that of an element
+  -- an element of an image is the image of an element
   pub from_map : {B : Type 0} (f : A → B) (y : B) (xs : List A) → Among y (map f xs)
       → (x : A) × Among x xs × (y ≡ f x)
   from_map f y [] h = absurd h
   from_map f y (x ∷ xs) (inl e) = (x, inl refl, e)
   from_map f y (x ∷ xs) (inr h) = (let it = from_map f y xs h in (it.0, inr it.1, it.2))
 
-  -- what is so of each image is so through the map
+  -- what holds of each image holds through the map
   pub each_from_map : {B : Type 0} (P : B → Type 0) (f : A → B) (xs : List A) → Each P (map f xs)
       → Each (λ x. P (f x)) xs
   each_from_map P f [] h = tt
   each_from_map P f (x ∷ xs) h = (h.0, each_from_map P f xs h.1)
 
--- the list at a place stands in the log with its number
+-- the list at a place is in the log with its number
 stand_at : (pairs : List Pair) (words : ℕ) (log : Log) (number : ℕ) (lists : List (List Call))
     → AllStandIn pairs words log number lists → (k : ℕ) (d : List Call) → k < length lists
     → StandsIn pairs words log (number + k) (get_or lists k d)
@@ -76,7 +76,7 @@ kept_at workers number (calls ∷ more) h (suc k) d lt =
     subst (λ n. OfLane workers n (get_or more k d)) (omega arith)
     (kept_at workers (number + 1) more h.1 k d (omega arith))
 
--- what is so of each list of calls is so of each list of what was told
+-- what holds of each list of calls holds of each list of what was told
 each_told : (P : List Answered → Type 0) (lists : List (List Call))
     → ((k : ℕ) (d : List Call) → k < length lists → P (map told_by_call (get_or lists k d)))
     → Each P (map (map told_by_call) lists)
@@ -96,13 +96,13 @@ module _ (pairs : List Pair) (words : ℕ) (log : Log) (told : List (List Answer
   pub told_long : length told ≡ length r.calls
   told_long = sym (ap length r.told_are) ∙ length-map r.calls (map told_by_call)
 
-  -- the list at a place stands in the log
+  -- the list at a place is in the log
   stands : (k : ℕ) (d : List Call) → k < length r.calls
       → StandsIn pairs words log k (get_or r.calls k d)
   stands k d lt = subst (λ n. StandsIn pairs words log n (get_or r.calls k d)) (omega arith)
       (stand_at pairs words log 0 r.calls r.stand k d lt)
 
-  -- and has the keys of its lane
+  -- the list at a place has only keys of its lane
   kept : (k : ℕ) (d : List Call) → k < length r.calls
       → OfLane (length told) k (get_or r.calls k d)
   kept k d lt = subst (λ n. OfLane (length told) n (get_or r.calls k d)) (omega arith)
@@ -139,7 +139,7 @@ module _ (pairs : List Pair) (words : ℕ) (log : Log) (told : List (List Answer
           ∙ each-among (λ c. lane_of (length told) c.command ≡ e.owner) it.0
           (get_or r.calls e.owner []) kept_here call.0
 
-  -- each list is alone
+  -- each list is answered as if it were alone
   pub list_alone : (k : ℕ) (d : List Call) → k < length r.calls
       → IsAlone (length told) k (map_of pairs) (map_of pairs) (changes_of pairs words log)
       (get_or r.calls k d)
@@ -157,7 +157,7 @@ module _ (pairs : List Pair) (words : ℕ) (log : Log) (told : List (List Answer
       }
       (kept k d lt)
 
-  -- each list has the replies of its commands alone
+  -- each list has the replies of its own commands
   pub lists_alone : Each (IsLegal (map_of pairs)) told
   lists_alone = subst (Each (IsLegal (map_of pairs))) r.told_are
       (each_told (IsLegal (map_of pairs)) r.calls (λ k d lt. (list_alone k d lt).legal))

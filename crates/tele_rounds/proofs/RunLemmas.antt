@@ -14,7 +14,7 @@ use Rattle.ist_core.specs.Map.{Map, map_of, replay, pairs_of}
 use Rattle.ist_core.specs.Elements.{Each}
 use Rattle.ist_core.specs.Logs.{Log}
 use Rattle.ist_core.specs.Histories.{IsLegal}
-use Rattle.ist_histories.specs.Telling.{map_now}
+use Rattle.laws_histories.specs.Telling.{map_now}
 use Rattle.tele_lanes.specs.declared.task_lists.Task.{Task}
 use Rattle.tele_lanes.specs.declared.answer_lists.Answer.{Answer}
 use Rattle.tele_lanes.specs.Lines.{commands_of, task_lines}
@@ -42,7 +42,7 @@ module _ (pairs : List Pair) (words : ℕ) (log : Log) (workers : ℕ) (tasks : 
   runs_long = sym (length-map runs (λ run. run.tasks)) ∙ ap length r.lanes.lanes
       ∙ length-all_lane_tasks workers tasks
 
-  -- the tasks of a run are those of its lane
+  -- the tasks of a run are its lane's
   pub run_tasks : (k : ℕ) (d : LaneRun) → k < workers
       → (get_or runs k d).tasks ≡ lane_tasks workers k tasks
   run_tasks k d lt =
@@ -101,7 +101,7 @@ module _ (pairs : List Pair) (words : ℕ) (log : Log) (workers : ℕ) (tasks : 
       (lists_alone pairs words log (told_of_runs runs) r.rests keeps) k d.told
       (omega (arith, told_long))))
 
-  -- the lane sees of the map behind the changes what these tasks leave
+  -- after the changes, the lane sees what these tasks leave
   pub lane_sees : (k : ℕ) (d : LaneRun) → k < workers
       → Agree workers k (map_now pairs words log)
       (replay (map_of pairs)
@@ -147,7 +147,7 @@ module _ (pairs : List Pair) (words : ℕ) (log : Log) (workers : ℕ) (tasks : 
           (omega (arith, runs_long))
           ∙ ap (take (count k d)) (run_tasks k (none d) lt)
 
-  -- and so are those that are left
+  -- the tasks that are left are parts too
   pub left_parts : AreParts workers (left_of_runs runs)
   left_parts =
       record {
@@ -195,7 +195,7 @@ module _ (pairs : List Pair) (words : ℕ) (log : Log) (workers : ℕ) (tasks : 
       ∙ get_or-map (λ run. drop (length run.answers) run.tasks) runs k d d.tasks
       (omega (arith, runs_long))
 
-  -- tasks of which each lane is what the lane answered lead to the map behind the changes
+  -- tasks of which each lane is what the lane answered lead to the map after the changes
   lanes_lead : (done : List Task)
       → ((k : ℕ) (d : LaneRun) → k < workers → lane_tasks workers k done ≡ take
       (length (get_or runs k d).answers) (get_or runs k d).tasks)
@@ -251,7 +251,7 @@ module _ (pairs : List Pair) (words : ℕ) (log : Log) (workers : ℕ) (tasks : 
                 (sym (done_lane done order k none lt)) (lane_plain k none lt));
           }
 
-  -- the answered tasks, lane by lane, lead to the map behind the changes
+  -- the answered tasks, lane by lane, lead to the map after the changes
   pub done_leads :
       replay (map_of pairs) (commands_of (flat_map (λ tasks. tasks) (done_of_runs runs)))
       ≡ map_now pairs words log

@@ -1,4 +1,4 @@
--- A list of calls that stands among the entries of a log, from one of them on. Serves
+-- A list of calls that belongs to the entries of a log, from one entry on. Serves
 -- `laws.lists_answer_alone`.
 use Rattle.std.proofs.Common.{◌≡◌, ◌≢◌, ℕ, suc, ◌+◌, ◌-◌, ◌≤◌, ◌⊎◌, ◌==◌, if◌then◌else◌}
 use Rattle.std.proofs.Common.{Bool, true, false, List, [], ◌∷◌, filter, length, slice_get}
@@ -12,9 +12,9 @@ use Rattle.ist_core.specs.Standing.{is_change, entry_by, entries_by, position_be
 use Rattle.ist_core.specs.Standing.{AllFollow, StandAmong}
 use Rattle.ist_core.proofs.ElementLemmas.{each-among}
 
--- ---- calls that stand from a position on
+-- ---- calls from a position on
 
--- the calls stand among the entries, the first of which has this position
+-- the calls belong to the entries, the first of which has this position
 pub record StandFrom (m : Map) (es : List Entry) (number from : ℕ)
     (calls : List Call) : Type 0 where
   pub low : (call : Call) → Among call calls → from ≤ call.position
@@ -26,7 +26,7 @@ pub record StandFrom (m : Map) (es : List Entry) (number from : ℕ)
       → (j ≤ length es) × (call.reply ≡ reply_to (map_at m es j) call.command)
   pub order : AllFollow calls
 
--- calls that stand among all entries stand from the first one on
+-- calls that belong to all entries do so from the first one on
 pub stand_from : (m : Map) (es : List Entry) (number : ℕ) (calls : List Call)
     → StandAmong m es number calls → StandFrom m es number 0 calls
 stand_from m es number calls s =
@@ -43,7 +43,7 @@ stand_from m es number calls s =
       order = s.in_order;
     }
 
--- the calls behind the first one
+-- the calls after the first one
 pub stand_rest : (m : Map) (es : List Entry) (number from : ℕ) (call : Call) (calls : List Call)
     → StandFrom m es number from (call ∷ calls) → StandFrom m es number from calls
 stand_rest m es number from call calls s =
@@ -54,7 +54,7 @@ stand_rest m es number from call calls s =
       order = s.order.1;
     }
 
--- calls behind the first entry stand from the next one on
+-- calls after the first entry belong to the entries from the next one on
 pub stand_behind : (m : Map) (e : Entry) (es : List Entry) (number from : ℕ) (calls : List Call)
     → StandFrom m (e ∷ es) number from calls
     → ((call : Call) → Among call calls → from + 1 ≤ call.position)
@@ -68,7 +68,7 @@ stand_behind m e es number from calls s high =
       order = s.order;
     }
 
--- where the first call stands behind the first entry, all do
+-- if the first call comes after the first entry, all do
 pub all_behind : (m : Map) (es : List Entry) (number from : ℕ) (call : Call) (calls : List Call)
     → StandFrom m es number from (call ∷ calls) → call.position ≢ from
     → (c : Call) → Among c (call ∷ calls) → from + 1 ≤ c.position
@@ -87,7 +87,7 @@ all_behind m es number from call calls s differ c (inr i) =
         at true = omega arith
         at false = omega arith
 
--- behind a call that makes the first entry, all stand behind that entry
+-- after a call that makes the first entry, all come after that entry
 pub rest_behind : (m : Map) (es : List Entry) (number from : ℕ) (call : Call) (calls : List Call)
     → StandFrom m es number from (call ∷ calls) → is_change call ≡ true
     → (c : Call) → Among c calls → from + 1 ≤ c.position
@@ -108,7 +108,7 @@ first_made m e es number from call calls s changes same =
 
 -- ---- as many changing calls as entries
 
--- the entries of an owner, with one of its own before them
+-- the entries of an owner, with one of its own added in front
 pub own_entry : (number : ℕ) (e : Entry) (es : List Entry) → e.owner ≡ number
     → entries_by number (e ∷ es) ≡ e ∷ entries_by number es
 own_entry number e es own = at (e.owner == number) refl (eqb_tells e.owner number)
@@ -120,7 +120,7 @@ own_entry number e es own = at (e.owner == number) refl (eqb_tells e.owner numbe
     at v is (inl t) = rw t.0 refl
     at v is (inr f) = absurd (f.1 own)
 
--- and with one of another owner
+-- the entries of an owner, with one of another owner added in front
 pub other_entry : (number : ℕ) (e : Entry) (es : List Entry) → e.owner ≢ number
     → entries_by number (e ∷ es) ≡ entries_by number es
 other_entry number e es other = at (eqb_tells e.owner number)
@@ -131,7 +131,7 @@ other_entry number e es other = at (eqb_tells e.owner number)
     at (inl t) = absurd (other t.1)
     at (inr f) = rw f.0 refl
 
--- one more entry gives no fewer
+-- one more entry doesn't reduce an owner's entries
 pub entries_more : (number : ℕ) (e : Entry) (es : List Entry)
     → length (entries_by number es) ≤ length (entries_by number (e ∷ es))
 entries_more number e es = at (e.owner == number)
@@ -141,11 +141,11 @@ entries_more number e es = at (e.owner == number)
     at true = omega arith
     at false = omega arith
 
--- what a test of two numbers tells
+-- the two results of a test of two numbers
 abbrev pub Told : ℕ → ℕ → Type 0
 Told x y = (((x == y) ≡ true) × (x ≡ y)) ⊎ (((x == y) ≡ false) × (x ≢ y))
 
--- behind the last entry no call changes the map
+-- after the last entry no call changes the map
 pub few_none : (number : ℕ) (m : Map) (from : ℕ) (calls : List Call)
     → StandFrom m [] number from calls
     → length (filter is_change calls) ≤ 0
@@ -164,7 +164,7 @@ few_none number m from (call ∷ calls) s =
     at true e rest = absurd
         (nowhere call.position (λ j is. s.made call j (inl refl) e is) (s.low call (inl refl)))
 
--- at an entry the calls there come first, and then those behind it
+-- at an entry the calls there come first, and then the calls after it
 few_step : (number : ℕ) (e : Entry) (es : List Entry) (m : Map) (from : ℕ)
     → ((calls : List Call) → StandFrom (map_after m e.command) es number (from + 1) calls
     → length (filter is_change calls) ≤ length (entries_by number es))
@@ -198,7 +198,7 @@ few_step number e es m from later (call ∷ calls) s =
         let long = ap length same in
         omega arith
 
--- there are no more changing calls than entries of their owner
+-- there are at most as many changing calls as entries of their owner
 pub changing_few : (number : ℕ) (es : List Entry) (m : Map) (from : ℕ) (calls : List Call)
     → StandFrom m es number from calls
     → length (filter is_change calls) ≤ length (entries_by number es)

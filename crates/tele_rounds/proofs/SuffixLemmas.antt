@@ -37,7 +37,7 @@ lanes_leave pairs words log workers tasks runs r left order = λ lane lt.
           (run_tasks pairs words log workers tasks runs r lane none lt),
     )
 
--- the first line alone leaves suffixes
+-- one thread's answer to the first line leaves suffixes
 pub line_leaves : (workers : ℕ) (task : Task) (tasks : List Task) → LeavesSuffixes workers
     (task ∷ tasks) tasks
 line_leaves workers task tasks = λ lane lt. at lane (lane_of workers task.command == lane)

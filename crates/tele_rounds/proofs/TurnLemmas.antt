@@ -16,8 +16,8 @@ use Rattle.std.proofs.lemmas.List.Sorted.{IsPermutation-append_right, IsPermutat
 use Rattle.ist_core.specs.declared.pairs.Pair.{Pair}
 use Rattle.ist_core.specs.Map.{Map, map_of, pairs_of, map_after, replay}
 use Rattle.ist_core.specs.Logs.{Log}
-use Rattle.ist_histories.specs.Telling.{map_now}
-use Rattle.ist_histories.proofs.MapLemmas.{replay-append}
+use Rattle.laws_histories.specs.Telling.{map_now}
+use Rattle.laws_histories.proofs.MapLemmas.{replay-append}
 use Rattle.tele_lanes.specs.declared.task_lists.Task.{Task}
 use Rattle.tele_lanes.specs.declared.answer_lists.Answer.{Answer}
 use Rattle.tele_lanes.specs.Lines.{commands_of, task_lines, answer_lines}
@@ -80,7 +80,7 @@ round_goes_on m now later tasks left after answers more one two =
       few = (let first = one.few in let second = two.few in omega arith);
     }
 
--- a turn of one thread that answers the first line alone
+-- a turn of one thread that answers only the first line
 pub one_line : (m : Map) (task : Task) (tasks : List Task)
     → IsUnderWay m (task ∷ tasks) (plain_answer m task ∷ []) tasks (map_after m task.command)
 one_line m task tasks =
@@ -106,6 +106,7 @@ counted m tasks answers left now same =
     let two = length-answered m tasks in
     omega arith
 
+-- each task is answered or left
 pub tasks_counted : (m now : Map) (tasks left : List Task) (answers : List Answer)
     → IsUnderWay m tasks answers left now → length answers + length left ≡ length tasks
 tasks_counted m now tasks left answers way =
@@ -115,7 +116,7 @@ tasks_counted m now tasks left answers way =
 
 -- ---- the end
 
--- answers that are those of one thread in some order, and rise by line, are those of one thread
+-- answers that are one thread's in some order, sorted by line, are one thread's answers
 pub sorted_plain : (m : Map) (tasks : List Task) (all : List Answer)
     → IsStrictlyIncreasing (task_lines tasks)
     → IsPermutation (answered m tasks) all → IsNonDecreasingBy (λ a. a.line) all
@@ -142,7 +143,7 @@ sorted_plain m tasks all up same rise =
     record { same = same_all; rising = strictly })
     own
 
--- where nothing is left, the answers sorted by line are those of one thread
+-- if nothing is left, the answers sorted by line are one thread's
 pub round_ends : (m now : Map) (tasks : List Task) (answers all : List Answer)
     → IsStrictlyIncreasing (task_lines tasks) → IsUnderWay m tasks answers [] now
     → IsPermutation answers all → IsNonDecreasingBy (λ a. a.line) all
@@ -189,8 +190,8 @@ module _ (pairs : List Pair) (words : ℕ) (log : Log) (workers : ℕ) (tasks : 
       ∙ sym (take-append-drop (length (mine k)) (get_or runs k none).tasks)
 
   module _ (left : List Task) (order : TasksInLineOrder (left_of_runs runs) left) where
-    -- of the answers of one thread to all tasks, the lane has made its own, and those to what it
-    -- left are to come
+    -- of one thread's answers to all tasks, the lane has made its own, and the answers to what it
+    -- left are still to come
     lane_splits : (k : ℕ) → k < workers → picked workers k m tasks ≡ mine k
         ++ picked workers k now left
     unfolding mine done rest none m now
@@ -208,7 +209,7 @@ module _ (pairs : List Pair) (words : ℕ) (log : Log) (workers : ℕ) (tasks : 
         ∙ ap (λ xs. xs ++ answered p (rest k)) (sym own)
         ∙ ap (λ xs. mine k ++ xs) (sym to_come)
 
-    -- the answers of all lanes, with those to what is left, are those of one thread
+    -- the answers of all lanes, with the answers to what is left, are one thread's
     answers_complete : IsPermutation
         (flat_map (λ answers. answers) (answers_of_runs runs) ++ answered now left)
         (answered m tasks)
@@ -240,7 +241,7 @@ module _ (pairs : List Pair) (words : ℕ) (log : Log) (workers : ℕ) (tasks : 
         (subst (λ xs. IsPermutation xs (answered m tasks)) split
         (IsPermutation-picked workers m tasks r.some))))
 
-    -- the tasks that are left lead to the map behind all
+    -- the tasks that are left lead to the map after all
     left_leaves : replay now (commands_of left) ≡ replay m (commands_of tasks)
     unfolding mine done rest none m now
     left_leaves = same_map nat_cmp_total nat_cmp-IsAntisymmetric _ _ same

@@ -9,7 +9,7 @@ use Rattle.std.proofs.lemmas.List.Sorted.{IsPermutation-refl}
 use Rattle.ist_core.specs.declared.pairs.Pair.{Pair}
 use Rattle.ist_core.specs.Map.{map_of}
 use Rattle.ist_core.specs.Logs.{Log}
-use Rattle.ist_histories.specs.Telling.{map_now}
+use Rattle.laws_histories.specs.Telling.{map_now}
 use Rattle.tele_lanes.specs.declared.task_lists.Task.{Task}
 use Rattle.tele_lanes.specs.declared.answer_lists.Answer.{Answer}
 use Rattle.tele_lanes.specs.Lines.{task_lines}
@@ -29,7 +29,7 @@ none_left run h whole =
     let same = ap length h.replies in
     drop_all (length run.answers) run.tasks (omega arith)
 
--- and so do all lanes
+-- all such lanes leave none
 all_none_left : (runs : List LaneRun) → All HasRun runs → AreWhole runs
     → flat_map (λ tasks. tasks) (left_of_runs runs) ≡ []
 all_none_left [] h whole = refl
@@ -39,7 +39,7 @@ all_none_left (run ∷ runs) h whole =
     (none_left run (All-head HasRun run runs h) (All-head P run runs whole))
     ∙ all_none_left runs (All-tail HasRun run runs h) (All-tail P run runs whole)
 
--- where each lane answered all, nothing is left
+-- if each lane answered all, nothing is left
 pub nothing_left : (workers : ℕ) (tasks : List Task) (runs : List LaneRun)
     → LanesRan workers tasks runs → AreWhole runs → TasksInLineOrder (left_of_runs runs) []
 nothing_left workers tasks runs r whole =
@@ -52,7 +52,7 @@ nothing_left workers tasks runs r whole =
     none : IsStrictlyIncreasing (task_lines [])
     none k h = absurd (omega arith)
 
--- and the answers are those of one thread
+-- if each lane answered all, the answers are one thread's
 pub whole_plain : (pairs : List Pair) (words : ℕ) (log : Log) (workers : ℕ) (tasks : List Task)
     (runs : List LaneRun) → RanOn pairs words log workers tasks runs → AreWhole runs
     → (answers : List Answer) → InLineOrder (answers_of_runs runs) answers

@@ -1,5 +1,5 @@
--- Lanes that each came to an end behind a first part of their tasks, on one table: together they
--- answer these parts as one thread does.
+-- Lanes that each ended after a first part of their tasks, on one table: together they answer these
+-- parts as one thread does.
 use Rattle.std.specs.Prelude.{◌≡◌, ℕ, ◌<◌, List, [], map, take, length, All}
 use Rattle.std.specs.List.{flat_map}
 use Rattle.std.specs.List.Sorted.{IsStrictlyIncreasing}
@@ -8,7 +8,7 @@ use Rattle.ist_core.specs.Map.{Map, map_of, replay}
 use Rattle.ist_core.specs.Replies.{Answered}
 use Rattle.ist_core.specs.Logs.{Log}
 use Rattle.ist_core.specs.Resting.{StandsFor}
-use Rattle.ist_histories.specs.Telling.{map_now}
+use Rattle.laws_histories.specs.Telling.{map_now}
 use Rattle.tele_lanes.specs.declared.task_lists.Task.{Task}
 use Rattle.tele_lanes.specs.declared.answer_lists.Answer.{Answer}
 use Rattle.tele_lanes.specs.Lines.{commands_of, task_lines, AnswerInOrder, CallInOrder}
@@ -19,7 +19,7 @@ use Rattle.tele_rounds.specs.Alone.{RestsWith}
 
 -- ---- lanes that ran
 
--- what a lane came to: its tasks, what its port was told, and its answers
+-- a lane after its run: its tasks, what its port was told, and its answers
 pub record LaneRun : Type 0 where
   pub tasks : List Task
   pub told : List Answered
@@ -52,8 +52,8 @@ done_of_runs runs = map (λ run. take (length run.answers) run.tasks) runs
 abbrev pub left_of_runs : List LaneRun → List (List Task)
 left_of_runs runs = map (λ run. unanswered run.tasks run.answers) runs
 
--- the lanes ran on a table that began with these pairs: the log is lawful and at rest, and pass
--- w was told what lane w was
+-- the lanes ran on a table that began with these pairs: the log is lawful and at rest, and pass w
+-- was told what lane w was told
 pub record RanOn (pairs : List Pair) (words : ℕ) (log : Log) (workers : ℕ) (tasks : List Task)
     (runs : List LaneRun) : Type 0 where
   pub some : 0 < workers
@@ -63,14 +63,14 @@ pub record RanOn (pairs : List Pair) (words : ℕ) (log : Log) (workers : ℕ) (
 
 -- ---- what they answer
 
--- one thread answers the tasks so, from the one map, and leaves the other
+-- one thread gives these answers to the tasks, from the map `m`, and leaves the map `now`
 pub record ArePlainly (m : Map) (tasks : List Task) (answers : List Answer)
     (now : Map) : Type 0 where
   pub plain : ArePlainAnswers m tasks answers
   pub leaves : replay m (commands_of tasks) ≡ now
 
--- the answers put back in line order are those of one thread to the answered tasks in line
--- order, and the map behind the changes of the log is the one that it leaves
+-- the answers, merged in line order, are one thread's answers to the answered tasks in line order,
+-- and the map after the changes of the log is the one that it leaves
 abbrev pub DoneIsPlain : Type 0
 DoneIsPlain =
     (pairs : List Pair) (words : ℕ) (log : Log) (workers : ℕ) (tasks : List Task)
@@ -80,7 +80,7 @@ DoneIsPlain =
     → (answers : List Answer) → InLineOrder (answers_of_runs runs) answers
     → ArePlainly (map_of pairs) done answers (map_now pairs words log)
 
--- that map is also the one behind the answered tasks lane by lane, since lanes share no key
+-- that map is also the map after the answered tasks lane by lane, since lanes share no key
 abbrev pub DoneLeavesTheMap : Type 0
 DoneLeavesTheMap =
     (pairs : List Pair) (words : ℕ) (log : Log) (workers : ℕ) (tasks : List Task)
@@ -93,8 +93,7 @@ DoneLeavesTheMap =
 abbrev pub AreWhole : List LaneRun → Type 0
 AreWhole runs = All (λ run. length run.told ≡ length run.tasks) runs
 
--- where each lane answered all, the answers put back in line order are those of one thread to
--- all tasks
+-- if each lane answered all, the answers merged in line order are one thread's answers to all tasks
 abbrev pub WholeIsPlain : Type 0
 WholeIsPlain =
     (pairs : List Pair) (words : ℕ) (log : Log) (workers : ℕ) (tasks : List Task)
@@ -103,7 +102,7 @@ WholeIsPlain =
     → (answers : List Answer) → InLineOrder (answers_of_runs runs) answers
     → ArePlainly (map_of pairs) tasks answers (map_now pairs words log)
 
--- and nothing is left
+-- if each lane answered all, nothing is left
 abbrev pub WholeLeavesNothing : Type 0
 WholeLeavesNothing =
     (workers : ℕ) (tasks : List Task) (runs : List LaneRun)

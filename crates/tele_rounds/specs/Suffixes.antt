@@ -13,11 +13,11 @@ LeavesSuffixes workers tasks left =
     (lane : ℕ) → lane < workers
     → (count : ℕ) × (lane_tasks workers lane left ≡ drop count (lane_tasks workers lane tasks))
 
--- so it is of all tasks
+-- all tasks are suffixes of themselves
 abbrev pub AllAreSuffixes : Type 0
 AllAreSuffixes = (workers : ℕ) (tasks : List Task) → LeavesSuffixes workers tasks tasks
 
--- and of what is left of what was left
+-- a suffix of a suffix is one
 abbrev pub SuffixesGoOn : Type 0
 SuffixesGoOn =
     (workers : ℕ) (tasks left after : List Task)
@@ -33,7 +33,7 @@ LanesLeaveSuffixes =
     → (left : List Task) → TasksInLineOrder (left_of_runs runs) left
     → LeavesSuffixes workers tasks left
 
--- and so does the first line, where it goes alone
+-- the first line, answered by one thread, leaves suffixes
 abbrev pub OneLineLeavesSuffixes : Type 0
 OneLineLeavesSuffixes =
     (workers : ℕ) (task : Task) (tasks : List Task) → LeavesSuffixes workers (task ∷ tasks) tasks

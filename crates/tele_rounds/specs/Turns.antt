@@ -5,7 +5,7 @@ use Rattle.std.specs.List.Sorted.{IsStrictlyIncreasing, IsPermutation, IsNonDecr
 use Rattle.ist_core.specs.declared.pairs.Pair.{Pair}
 use Rattle.ist_core.specs.Map.{Map, map_of, pairs_of, map_after, reply_to, replay}
 use Rattle.ist_core.specs.Logs.{Log}
-use Rattle.ist_histories.specs.Telling.{map_now}
+use Rattle.laws_histories.specs.Telling.{map_now}
 use Rattle.tele_lanes.specs.declared.task_lists.Task.{Task}
 use Rattle.tele_lanes.specs.declared.answer_lists.Answer.{Answer}
 use Rattle.tele_lanes.specs.Lines.{commands_of, task_lines}
@@ -14,10 +14,10 @@ use Rattle.tele_lanes.specs.Lanes.{TasksInLineOrder}
 use Rattle.tele_rounds.specs.Runs.{LaneRun, RanOn, answers_of_runs, left_of_runs}
 use Rattle.tele_rounds.specs.Runs.{ArePlainly}
 
--- the round is under way: its tasks began on the map `m`, and the answers so far leave some
--- tasks and the map `now`. With the answers of one thread to the tasks that are left, from
--- `now`, they are those of one thread to all tasks, from `m`; it leaves the same map; and no
--- more keys came than tasks went
+-- the round is under way: its tasks began on the map `m`, and the answers so far leave some tasks
+-- and the map `now`. Together with one thread's answers to the tasks left, from `now`, they are one
+-- thread's answers to all tasks, from `m`. It leaves the same map. At most as many keys came as
+-- tasks went.
 pub record IsUnderWay (m : Map) (tasks : List Task) (answers : List Answer) (left : List Task)
     (now : Map) : Type 0 where
   pub completes : (rest all : List Answer)
@@ -30,15 +30,15 @@ pub record IsUnderWay (m : Map) (tasks : List Task) (answers : List Answer) (lef
 abbrev pub RoundBegins : Type 0
 RoundBegins = (m : Map) (tasks : List Task) → IsUnderWay m tasks [] tasks m
 
--- a turn goes on from those before it: it is a round of its own, of the tasks that they left
+-- a turn goes on from the turns before it: it is a round of its own, of the tasks that they left
 abbrev pub RoundGoesOn : Type 0
 RoundGoesOn =
     (m now later : Map) (tasks left after : List Task) (answers more : List Answer)
     → IsUnderWay m tasks answers left now → IsUnderWay now left more after later
     → IsUnderWay m tasks (answers ++ more) after later
 
--- a turn of lanes on a table: what they leave, put back in line order, is left, and the map is
--- the one behind the changes
+-- a turn of lanes on a table: what they leave, merged in line order, is left, and the map is the
+-- map after the changes
 abbrev pub LanesTakeATurn : Type 0
 LanesTakeATurn =
     (pairs : List Pair) (words : ℕ) (log : Log) (workers : ℕ) (tasks : List Task)
@@ -52,7 +52,7 @@ LanesTakeATurn =
 abbrev pub plain_answer : Map → Task → Answer
 plain_answer m task = record { line = task.line; reply = reply_to m task.command }
 
--- a turn of one thread that answers the first line alone
+-- a turn of one thread that answers only the first line
 abbrev pub OneLineTakesATurn : Type 0
 OneLineTakesATurn =
     (m : Map) (task : Task) (tasks : List Task)
@@ -64,8 +64,8 @@ TasksAreCounted =
     (m now : Map) (tasks left : List Task) (answers : List Answer)
     → IsUnderWay m tasks answers left now → length answers + length left ≡ length tasks
 
--- where nothing is left, the answers sorted by line are those of one thread to all tasks, and
--- the map is the one it leaves
+-- if nothing is left, the answers sorted by line are one thread's answers to all tasks, and the map
+-- is the one that it leaves
 abbrev pub RoundEnds : Type 0
 RoundEnds =
     (m now : Map) (tasks : List Task) (answers all : List Answer)

@@ -10,7 +10,7 @@ use Rattle.tele_lines.specs.declared.items.Item.TheVariants.{Point, Interval}
 use Rattle.tele_lines.specs.Answer.{Read, Good, Bad, text_of, status_of, answer_text, interval_text}
 use Rattle.tele_run.specs.Open.{asked, answers_text}
 
--- the text of some tasks is that of their answers
+-- the text of some tasks is the text of their answers
 pub text-answered : (version : Version) (m : Map) (tasks : List Task) (answers : List Answer) →
     ArePlainAnswers m tasks answers
     → answers_text version answers ≡ text_of m (asked version tasks)
@@ -29,7 +29,7 @@ text-answered version m (task ∷ tasks) (answer ∷ answers) h =
     ∙ ap (λ xs. answer_text version task.line (reply_to m task.command) ++ xs)
     (text-answered version (map_after m task.command) tasks answers rest)
 
--- the text of some tasks, and of the lines behind them
+-- the text of some tasks and of the lines after them
 pub text-asked : (version : Version) (m : Map) (tasks : List Task) (more : List Read)
     → text_of m (asked version tasks ++ more)
     ≡ text_of m (asked version tasks) ++ text_of (replay m (commands_of tasks)) more
@@ -46,7 +46,7 @@ pub record Follows (m : Map) (lines more : List Read) : Type 0 where
   pub others : List ℕ
   pub same : text_of m (lines ++ more) ≡ text_of m lines ++ others
 
--- the text of good lines stands before that of the lines behind them
+-- the text of good lines precedes the text of the lines after them
 pub text-good : (m : Map) (lines more : List Read) → status_of lines ≡ 0 → Follows m lines more
 text-good m [] more good = record { others = text_of m more; same = refl }
 text-good m (Good number version (Point command) ∷ lines) more good =
@@ -73,7 +73,7 @@ pub status-asked : (version : Version) (tasks : List Task) (more : List Read)
 status-asked version [] more = refl
 status-asked version (task ∷ tasks) more = status-asked version tasks more
 
--- a version counts only where there is a line
+-- a version counts only if there is a line
 pub asked-version : (old new : Version) (tasks : List Task) → (0 < length tasks → new ≡ old) → asked
     old tasks ≡ asked new tasks
 asked-version old new [] same = refl

@@ -1,10 +1,10 @@
--- The pairs behind a round, as the last table has them. Serves the closing of rounds.
+-- The pairs after a round, as the last table has them. Serves the closing of rounds.
 use Rattle.std.proofs.Common.{◌≡◌, ℕ, ◌+◌, ◌≤◌, List, sym, ◌∙◌, ap, subst, length, arith}
 use Rattle.std.proofs.lemmas.List.{length-map}
 use Rattle.ist_core.specs.declared.pairs.Pair.{Pair}
 use Rattle.ist_core.specs.declared.ports.Full.{Full}
 use Rattle.ist_core.specs.Map.{map_of, replay, pairs_of}
-use Rattle.ist_histories.proofs.ContentLemmas.{pairs_rise_at}
+use Rattle.laws_histories.proofs.ContentLemmas.{pairs_rise_at}
 use Rattle.plain_map.specs.Rising.{IsRising}
 use Rattle.tele_lanes.specs.declared.task_lists.Task.{Task}
 use Rattle.tele_lanes.specs.Lines.{commands_of}
@@ -16,15 +16,15 @@ use Rattle.tele_generations.specs.Rounds.{EndsTheRound}
 module _ {workers : ℕ} {pairs : List Pair} {tasks : List Task} {table : List ℕ} {fulls : List Full}
     (ends : EndsTheRound workers pairs tasks table fulls) (behind : List Pair)
     (has : HasPairs table behind) where
-  -- they are those of the map behind the tasks
+  -- they are the pairs of the map after the tasks
   pub behind_is : behind ≡ pairs_of (replay (map_of pairs) (commands_of tasks))
   behind_is = has ends.opening (told_of_runs ends.runs) ends.is.stands ∙ ap pairs_of ends.leaves
 
-  -- they make it
+  -- the pairs make the map after the tasks
   pub behind_map : map_of behind ≡ replay (map_of pairs) (commands_of tasks)
   behind_map = ap map_of behind_is ∙ pairs_are_map (replay (map_of pairs) (commands_of tasks))
 
-  -- they rise
+  -- the pairs are strictly increasing
   pub behind_rises : IsRising behind
   behind_rises =
       let stands = ends.is.stands in
@@ -32,7 +32,7 @@ module _ {workers : ℕ} {pairs : List Pair} {tasks : List Task} {table : List �
       (pairs_rise_at ends.opening (length table) stands.lawful.opens stands.log
       stands.lawful.enabled)
 
-  -- and no more came than there are tasks
+  -- at most one pair came per task
   pub behind_few : (first : List Pair) → pairs ≡ first → first ≡ pairs_of (map_of first)
       → length behind ≤ length first + length tasks
   behind_few first same of_map =

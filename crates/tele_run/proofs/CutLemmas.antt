@@ -12,26 +12,26 @@ use Rattle.tele_run.specs.Rounds.{tasks_in, has_some, task_rounds}
 use Rattle.tele_run.specs.Open.{asked, round_for}
 use Rattle.tele_run.proofs.RoundLemmas.{cut_full, cut_interval, cut_open, cut_bad}
 
--- the tasks of point lines, and of the lines behind them
+-- the tasks of point lines and of the lines after them
 tasks_in-asked : (version : Version) (tasks : List Task) (more : List Read)
     → tasks_in (asked version tasks ++ more) ≡ tasks ++ tasks_in more
 tasks_in-asked version [] more = refl
 tasks_in-asked version (task ∷ tasks) more =
     ap (λ ts. task ∷ ts) (tasks_in-asked version tasks more)
 
--- where nothing else asks for a task
+-- the tasks of point lines, if no line after them asks for a task
 tasks_in-alone : (version : Version) (tasks : List Task) (more : List Read) → tasks_in more ≡ []
     → tasks_in (asked version tasks ++ more) ≡ tasks
 tasks_in-alone version tasks more none =
     tasks_in-asked version tasks more ∙ ap (λ ts. tasks ++ ts) none ∙ append-nil tasks
 
--- a first round is left out where it has no task
+-- a first round is left out if it has no task
 first_round : (tasks : List Task) (others : List (List Task))
     → filter has_some (tasks ∷ others) ≡ round_for tasks ++ filter has_some others
 first_round [] others = refl
 first_round (task ∷ tasks) others = refl
 
--- the tasks of a first round, and of the rounds behind it
+-- the tasks of a first round and of the rounds after it
 task_rounds-first : (tasks : List Task) (lines round more : List Read)
     → rounds lines ≡ round ∷ rounds more → tasks_in round ≡ tasks
     → task_rounds lines ≡ round_for tasks ++ task_rounds more
@@ -51,7 +51,7 @@ task_rounds-full version (task ∷ tasks) more full =
     (ap tasks_in (sym (append-nil (asked version (task ∷ tasks))))
     ∙ tasks_in-alone version (task ∷ tasks) [] refl)
 
--- fewer point lines, and an interval line behind them, are one round
+-- fewer point lines, and an interval line after them, are one round
 pub task_rounds-interval : (version : Version) (number first last : ℕ) (tasks : List Task)
     (more : List Read) → length tasks < round_limit
     → task_rounds ((asked version tasks ++ Good number version (Interval first last) ∷ []) ++ more)
@@ -64,7 +64,7 @@ task_rounds-interval version number first last tasks more few =
     (cut_interval version 0 number first last tasks more (omega (arith, few)))
     (tasks_in-alone version tasks (line ∷ []) refl)
 
--- so are fewer point lines at the end
+-- fewer point lines at the end are one round
 pub task_rounds-open : (version : Version) (tasks : List Task) → length tasks < round_limit
     → task_rounds (asked version tasks ++ []) ≡ round_for tasks
 task_rounds-open version [] few = refl
@@ -76,7 +76,7 @@ task_rounds-open version (task ∷ tasks) few =
     ∙ tasks_in-alone version (task ∷ tasks) [] refl)
     ∙ append-nil (round_for (task ∷ tasks))
 
--- or before a bad line
+-- fewer point lines before a bad line are one round
 pub task_rounds-bad : (version : Version) (line : ℕ) (cause : Cause) (tasks : List Task)
     → length tasks < round_limit
     → task_rounds (asked version tasks ++ Bad line cause ∷ []) ≡ round_for tasks

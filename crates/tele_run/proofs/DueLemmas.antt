@@ -1,4 +1,4 @@
--- What a line adds to what is written, and what is due behind it. Serves the steps of a run.
+-- What a line adds to what is written, and what is due after it. Serves the steps of a run.
 use Rattle.std.proofs.Common.{◌≡◌, ℕ, List, ◌++◌, Bool, true, false, refl, sym, ◌∙◌, ap, subst, append_assoc}
 use Rattle.std.specs.Prelude.{Option, IfSome}
 use Rattle.tele_io.specs.Bytes.{Appends, AppendsPart}
@@ -43,7 +43,7 @@ went_on was now lines given bytes ended before written unread is goes takes =
           (read_at now.place (whole_lines more));
     }
 
--- a part of what good lines are answered is a part of what is due
+-- a part of the text of good lines is a part of what is due
 pub part_of_due : (was : Moment) (lines given : List Read) (bytes : List ℕ) (others : List Read)
     (before written : Option (List ℕ))
     → was.lines ≡ lines → read_at was.place (lines_of bytes) ≡ given ++ others → status_of
@@ -78,7 +78,7 @@ ended_so was lines last bytes ending before written is reads status writes =
       status = status ∙ sym (ap status_of all);
     }
 
--- or a part of what they are answered
+-- a part of the text of the last lines is a part of what is due
 pub ended_part : (was : Moment) (lines last : List Read) (bytes : List ℕ)
     (before written : Option (List ℕ))
     → was.lines ≡ lines → read_at was.place (lines_of bytes) ≡ last
@@ -126,7 +126,7 @@ on_and_on first mid last bytes before written later ended now_ended unread now l
           ∙ next.whole_status going more;
     }
 
--- and the end
+-- one step, and then the end of the run
 pub on_and_end : (first mid : Moment) (ending : ℕ) (bytes : List ℕ)
     (before written later : Option (List ℕ))
     (ended : Bool) (unread : Option (List ℕ))
@@ -143,7 +143,7 @@ on_and_end first mid ending bytes before written later ended unread one two =
       status = last.status ∙ one.status;
     }
 
--- or a part
+-- one step, and then a part of what is due
 pub on_and_part : (first mid : Moment) (bytes : List ℕ) (before written later : Option (List ℕ))
     (ended : Bool) (unread : Option (List ℕ))
     → RunsTo first bytes before written ended unread mid

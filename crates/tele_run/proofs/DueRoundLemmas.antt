@@ -35,6 +35,7 @@ module _ {C : Type 0} (words_of : C → List ℕ) where
           due = ap task_rounds all ∙ takes.cut rest;
         }
 
+    -- the rounds between two moments, if the source reports its bytes
     pub rounds_went_if : (was now : Moment) (lines given : List Read)
         (unread left : Option (List ℕ)) (ended : Bool) → was.lines ≡ lines
         → IfSome unread (λ bytes. GoesTo was.place now.place ended given bytes left)
@@ -55,8 +56,7 @@ module _ {C : Type 0} (words_of : C → List ℕ) where
         subst (λ rs. RunsOn words_of old kept new later rs)
         (sym (ap task_rounds (due-last was lines last bytes is reads) ∙ cut)) ran
 
-  -- the rounds that were run, with those that are due for the bytes that are unread, are those of
-  -- all bytes
+  -- the rounds that were run, with the rounds due for the unread bytes, are the rounds of all bytes
   pub record HasRounds (team : Team) (most : ℕ) (before kept : Option (List C)) (o : Open C)
       (bytes : List ℕ) (unread : Option (List ℕ)) (now : Moment) : Type 0 where
     pub ran : List (List Task)
@@ -117,6 +117,7 @@ module _ {C : Type 0} (words_of : C → List ℕ) where
                 (append_assoc {A = List Task} h.ran next.more (rounds_due now next.rest));
           }
 
+      -- the rounds so far, after one more step, if the source reports its bytes
       pub rounds_on_if : (all : Option (List ℕ)) (new : Open C) (later : Option (List C))
           (was now : Moment) (unread left : Option (List ℕ))
           → IfSome all (λ bytes. HasRounds team most before kept mid bytes unread was)
@@ -126,7 +127,7 @@ module _ {C : Type 0} (words_of : C → List ℕ) where
       rounds_on_if (Some bytes) new later was now unread left h step =
           rounds_on bytes new later was now unread left h step
 
-      -- and the end
+      -- the rounds at the end of a run
       rounds_end : (bytes : List ℕ) (new : Open C) (later : Option (List C)) (was : Moment)
           (unread : Option (List ℕ)) (last : Option C) (fulls : ℕ) → last ≡ new.last
           → fulls ≡ new.fulls → HasRounds team most before kept mid bytes unread was
@@ -145,6 +146,7 @@ module _ {C : Type 0} (words_of : C → List ℕ) where
           (subst (λ l. RanRounds words_of team most all before later l new.fulls) (sym last_is)
           has.ran)
 
+      -- the rounds at the end of a run, if the source reports its bytes
       pub rounds_end_if : (all : Option (List ℕ)) (new : Open C) (later : Option (List C))
           (was : Moment) (unread : Option (List ℕ)) (last : Option C) (fulls : ℕ)
           → last ≡ new.last → fulls ≡ new.fulls

@@ -1,4 +1,4 @@
--- Which job the words ask for. Serves the reading of the words.
+-- Which job the command line asks for. Serves the reading of the command line.
 use Rattle.std.proofs.Common.{◌≡◌, ℕ, List, Bool, true, false, sym, ◌∙◌, ap, subst}
 use Rattle.std.specs.Prelude.{Some, None, if◌then◌else◌}
 use Rattle.tele_command.specs.CommandLine.{are_refused, options_in}
@@ -7,11 +7,11 @@ use Rattle.tele_run.specs.declared.jobs.Job.{Job}
 use Rattle.tele_run.specs.declared.jobs.Job.TheVariants.{Refuse, Make, Read}
 use Rattle.tele_run.specs.Jobs.{job_for, job_of}
 
--- the job by whether words are refused, and by their options
+-- the job, by whether the command line is refused and by its options
 abbrev job_by : Bool → Options → Job
 job_by refused options = if refused then Refuse else job_for options.generate options.seed
 
--- the job of words that are taken
+-- the job of a command line that is accepted
 taken : (words : List (List ℕ)) (options : Options) → are_refused words ≡ false → options ≡
     options_in words
     → job_for options.generate options.seed ≡ job_of words
@@ -33,7 +33,7 @@ pub reads : (words : List (List ℕ)) (options : Options) → are_refused words 
 reads words options is same none = sym (ap (λ g. job_for g options.seed) none) ∙ taken words options
     is same
 
--- to name words that are refused
+-- to report a command line that is refused
 pub refuses : (words : List (List ℕ)) → are_refused words ≡ true → Refuse ≡ job_of words
 unfolding job_of
 refuses words is = ap (λ b. job_by b (options_in words)) (sym is)

@@ -18,7 +18,7 @@ use Rattle.tele_made.specs.Made.{next_number, made_command, made_commands}
 abbrev pub values_in : Map → List Command → ℕ
 values_in m commands = count_by is_some (replies m commands)
 
--- the map behind two lists of commands
+-- the map after two lists of commands
 replay-append : (m : Map) (xs ys : List Command) → replay m (xs ++ ys) ≡ replay (replay m xs) ys
 replay-append m [] ys = refl
 replay-append m (x ∷ xs) ys = replay-append (map_after m x) xs ys
@@ -35,8 +35,8 @@ values-append m xs ys =
     ap (count_by is_some) (replies-append m xs ys)
     ∙ sum_by-append (λ r. if is_some r then 1 else 0) (replies m xs) (replies (replay m xs) ys)
 
--- with the lines that are open, and those that are left to be made, the values found and the map
--- are those of all lines
+-- with the open lines and the lines left to be made, the values found and the map are the values
+-- and the map of all lines
 pub record HasMade (all : List Command) (m : Map) (tasks : List Task) (rest : List Command)
     (found : ℕ) : Type 0 where
   pub values : found + values_in m (commands_of tasks ++ rest) ≡ values_in no_pairs all
@@ -95,6 +95,7 @@ all_found all m tasks rest found none last h =
     ap (λ ts. values_in m (commands_of ts ++ rest)) none ∙ ap (values_in m) last in
     omega (arith, nothing, h.values)
 
+-- once all lines were made and answered, the map is the map after all lines
 pub all_behind : (all : List Command) (m : Map) (tasks : List Task) (rest : List Command)
     (found : ℕ) → tasks ≡ [] → rest ≡ []
     → HasMade all m tasks rest found → m ≡ replay no_pairs all
@@ -177,7 +178,7 @@ sums_last count seed line number found now le none h =
           (made_commands (count - line) number) found none nothing h.made,
     )
 
--- the summary by the map behind all lines, and by how many values were found
+-- the summary, by the map after all lines and by how many values were found
 pub summary_is : (count seed keys found sum : ℕ) (m : Map) → m ≡ replay no_pairs
     (made_commands count seed)
     → keys ≡ length (pairs_of m) → found ≡ values_in no_pairs (made_commands count seed) → sum ≡

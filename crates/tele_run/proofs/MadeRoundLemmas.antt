@@ -20,8 +20,8 @@ use Rattle.tele_run.proofs.TakeLemmas.{asked-more}
 abbrev pub rest_lines : ℕ → ℕ → ℕ → List Read
 rest_lines count line number = numbered (line + 1) (made_commands (count - line) number)
 
--- at a moment between two made lines: the rounds that were run, with those of the open lines and of
--- the lines that are left, are those of all lines
+-- at a moment between two made lines: the rounds that were run, with the rounds of the open lines
+-- and of the lines left, are the rounds of all lines
 pub record RunsMade {C : Type 0} (words_of : C → List ℕ) (team : Team)
     (most count seed line number : ℕ) (before kept : Option (List C)) (now : Open C) : Type 0 where
   pub ran : List (List Task)
@@ -59,6 +59,7 @@ still_few old mid task full more few fills isnt = ⊎_elim (λ less. less)
 
 module _ {C : Type 0} (words_of : C → List ℕ) (team : Team) (most count seed : ℕ)
     (before : Option (List C)) where
+  -- the rounds of a run over made lines, at a line
   abbrev pub Runs : ℕ → ℕ → Option (List C) → Open C → Type 0
   Runs line number kept now =
       RunsMade words_of team most count seed line number before kept now
@@ -90,11 +91,11 @@ module _ {C : Type 0} (words_of : C → List ℕ) (team : Team) (most count seed
       (last : mid.last ≡ old.last) (fulls : mid.fulls ≡ old.fulls)
       (team_same : mid.team ≡ old.team) (words_same : mid.words ≡ old.words)
       (h : Runs line number kept old) where
-    -- the open lines rise
+    -- the round may take one more line
     pub lines_more : IsOpenBefore (line + 1 + 1) mid
     lines_more = open_more (line + 1) old mid task at more pairs h.lines
 
-    -- nothing is run for it
+    -- no round is run for it
     stays : RunsOn words_of old kept mid kept []
     stays = runs_none words_of old mid kept pairs last fulls team_same words_same
 
@@ -115,7 +116,7 @@ module _ {C : Type 0} (words_of : C → List ℕ) (team : Team) (most count seed
       lines = lines_more;
     }
 
-    -- or fills the round, which is run
+    -- if it fills the round, the round is run
     pub made_closed : (new : Open C) (later : Option (List C)) → length mid.tasks ≡ round_limit
         → RunsOn words_of mid kept new later (round_for mid.tasks) → new.tasks ≡ []
         → length new.pairs ≤ length mid.pairs + length mid.tasks → Runs (line + 1) next later new

@@ -1,4 +1,5 @@
--- The lines of the open round rise, and are enough for its pairs. Serves the steps of a run.
+-- The lines of the open round are strictly increasing, and there are enough of them for its pairs.
+-- Serves the steps of a run.
 use Rattle.std.proofs.Common.{◌≡◌, ℕ, ◌+◌, ◌<◌, ◌≤◌, List, [], ◌∷◌, ◌++◌, sym, ap, subst, length, arith}
 use Rattle.std.proofs.lemmas.List.{length-append}
 use Rattle.std.specs.List.Sorted.{IsStrictlyIncreasing}
@@ -18,13 +19,13 @@ each_below low high [] le h = tt
 each_below low high (task ∷ tasks) le h =
     let first = h.0 in (omega arith, each_below low high tasks le h.1)
 
--- tasks below a task, each below those behind it
+-- tasks below a task, each below the tasks after it
 all_below : (task : Task) (tasks : List Task) → Each (λ t. t.line < task.line) tasks
     → Each (λ t. Each (λ y. t.line < y.line) (task ∷ [])) tasks
 all_below task [] h = tt
 all_below task (first ∷ tasks) h = ((h.0, tt), all_below task tasks h.1)
 
--- one more task, of this number
+-- a round with one more task, of this number
 pub open_more : {C : Type 0} (number : ℕ) (old new : Open C) (task : Task) → task.line ≡ number
     → new.tasks ≡ old.tasks ++ task ∷ [] → new.pairs ≡ old.pairs → IsOpenBefore number old
     → IsOpenBefore (number + 1) new
@@ -42,7 +43,7 @@ open_more number old new task is more same h =
       few = omega (arith, h.few, ap length more, length-append old.tasks (task ∷ []), ap length same);
     }
 
--- none is left
+-- a round that was closed
 pub open_closed : {C : Type 0} (number : ℕ) (old new : Open C) → new.tasks ≡ []
     → length new.pairs ≤ length old.pairs + length old.tasks → IsOpenBefore number old
     → IsOpenBefore number new
@@ -53,7 +54,7 @@ open_closed number old new none few h = record {
   few = omega (arith, h.few, few, ap length none);
 }
 
--- before a later line too
+-- an open round before a line is open before a later line too
 pub open_later : {C : Type 0} (number later : ℕ) (o : Open C) → number ≤ later
     → IsOpenBefore number o → IsOpenBefore later o
 open_later number later o le h = record {
@@ -62,7 +63,7 @@ open_later number later o le h = record {
   few = omega (arith, h.few, le);
 }
 
--- before the first line
+-- the fresh round is open before the first line
 pub open_first : {C : Type 0} (team : Team) (words : ℕ) (o : Open C) → o ≡ fresh_round team words
     → IsOpenBefore 1 o
 open_first team words o is = subst (IsOpenBefore 1) (sym is) (record {

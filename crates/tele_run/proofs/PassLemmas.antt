@@ -1,15 +1,15 @@
--- What was printed stays taken where it is passed on, and where it isn't. Serves the ends of rounds.
+-- What was printed stays taken, whether it is passed on or not. Serves the ends of rounds.
 use Rattle.std.proofs.Common.{ℕ, List, Option}
 use Rattle.tele_io.specs.Bytes.{Appends, AppendsPart, Keeps}
 use Rattle.tele_io.proofs.AppendsLemmas.{AppendsPart-whole}
 use Rattle.tele_io.proofs.KeepsLemmas.{appends_keeps, part_keeps}
 
--- all of it
+-- what was printed whole stays taken
 pub whole_passed : (before middle now : Option (List ℕ)) (bytes : List ℕ)
     → Appends before middle bytes → Keeps middle now → Appends before now bytes
 whole_passed = appends_keeps
 
--- a part of it
+-- a part that was printed stays taken
 pub part_passed : (before middle now : Option (List ℕ)) (bytes : List ℕ)
     → Appends before middle bytes → Keeps middle now → AppendsPart before now bytes
 part_passed before middle now bytes printed kept =

@@ -19,11 +19,11 @@ use Rattle.tele_generations.specs.Rounds.{RanInGenerations, EndsTheRound}
 use Rattle.tele_run.specs.Rounds.{Team, lanes_of, map_after_rounds, AreTablesOf, AreTablesOfAll, if_any, RanRounds}
 use Rattle.tele_run.specs.Open.{Open, Closes, map_in, round_for, HasRun, RunsOn}
 
--- a closed tree is seen as its words
+-- a closed tree is modelled as its words
 abbrev pub words_here : List ℕ → List ℕ
 words_here words = words
 
--- the map behind one more round
+-- the map after one more round
 pub map_after_rounds-more : (m : Map) (rounds : List (List Task)) (tasks : List Task)
     → map_after_rounds m (rounds ++ tasks ∷ [])
     ≡ replay (map_after_rounds m rounds) (commands_of tasks)
@@ -55,7 +55,7 @@ tables_long lanes pairs tasks tables fulls (ran_full {after = after} {left = lef
     {more = more} {fulls = later} runs is full hands larger rest) =
     (let one = tables_long lanes after left (next ∷ more) later rest in omega arith)
 
--- tables on a shelf, and others behind them
+-- tables on a shelf, and others after them
 pub shelved_then : {C : Type 0} (before : Option (List C)) (given : List C)
     (middle : Option (List C)) (others : List C) (after : Option (List C))
     → IsShelved before given middle → IsShelved middle others after
@@ -71,7 +71,7 @@ pub none_shelved : {C : Type 0} (kept : Option (List C)) → IsShelved kept [] k
 none_shelved None = tt
 none_shelved (Some tables) = sym (append-nil tables)
 
--- where there are tasks they are a round
+-- if there are tasks, they are a round
 pub round_for-some : (tasks : List Task) → 0 < length tasks → round_for tasks ≡ tasks ∷ []
 round_for-some [] some = absurd (omega arith)
 round_for-some (task ∷ tasks) some = refl
@@ -95,7 +95,7 @@ closes_round old new pairs tasks found same_pairs same_tasks plain is behind non
   none = none;
 }
 
--- and no more keys came than there were tasks
+-- at most as many keys came as there were tasks, whichever name the round goes by
 pub few_from : {C : Type 0} (old same : Open C) (tasks : List Task) (now behind : List Pair)
     → old ≡ same → tasks ≡ old.tasks → now ≡ behind
     → length behind ≤ length old.pairs + length tasks
@@ -105,7 +105,7 @@ few_from old same tasks now behind is same_tasks is_behind few =
     (omega (arith, ap length same_tasks, ap length is_behind, few))
 
 module _ {C : Type 0} (words_of : C → List ℕ) where
-  -- and its tables
+  -- the rounds that were run, whichever name the round goes by
   pub runs_from : (old same new : Open C) (kept later : Option (List C)) → old ≡ same
       → RunsOn words_of old kept new later (round_for old.tasks)
       → RunsOn words_of same kept new later (round_for same.tasks)
@@ -167,7 +167,7 @@ module _ {C : Type 0} (words_of : C → List ℕ) where
         };
       }
 
-  -- nothing was run, and nothing told of the open round has changed
+  -- nothing was run, and no field of the open round that counts has changed
   pub runs_none : (old new : Open C) (kept : Option (List C)) → new.pairs ≡ old.pairs
       → new.last ≡ old.last → new.fulls ≡ old.fulls → new.team ≡ old.team
       → new.words ≡ old.words → RunsOn words_of old kept new kept []
@@ -192,12 +192,12 @@ module _ {C : Type 0} (words_of : C → List ℕ) where
       closed fulls)
       (ends : EndsTheRound (lanes_of old.team) pairs tasks (words_of closed) fulls)
       (behind : map_in new ≡ replay (map_of pairs) (commands_of tasks)) where
-    -- the map behind them
+    -- the map after them
     pub map_behind_round : map_in new ≡ replay (map_in old) (commands_of old.tasks)
     map_behind_round = behind ∙ ap (λ ps. replay (map_of ps) (commands_of tasks)) same_pairs
         ∙ ap (λ ts. replay (map_in old) (commands_of ts)) same_tasks
 
-    -- and the tables
+    -- the tables of the rounds, with the tables of this one
     pub runs_round : 0 < length old.tasks → new.last ≡ Some closed → new.fulls ≡ length fulls
         → new.team ≡ old.team → new.words ≡ old.words
         → RunsOn words_of old kept new later (round_for old.tasks)
@@ -232,7 +232,7 @@ module _ {C : Type 0} (words_of : C → List ℕ) where
           most_is = words_same ∙ h.most_is;
         })
 
-  -- some rounds, and others behind them
+  -- some rounds, and others after them
   pub runs_then : (first mid last : Open C) (kept middle later : Option (List C))
       (more others : List (List Task)) → RunsOn words_of first kept mid middle more
       → RunsOn words_of mid middle last later others

@@ -18,7 +18,7 @@ use Rattle.tele_run.specs.Open.{asked}
 abbrev line_of : Version → Task → Read
 line_of version task = Good task.line version (Point task.command)
 
--- what stands behind a line, by whether a cut is made there
+-- what follows a line, by whether a cut is made there
 abbrev behind_line : Read → ℕ → List Read → Bool → List (List Read)
 behind_line line n others cut = if cut then (line ∷ []) ∷ rounds_from 0 others else onto_first line
     (rounds_from (n + 1) others)
@@ -37,7 +37,7 @@ cut_full version n task (next ∷ tasks) more full =
     ∙ ap (onto_first (line_of version task))
     (cut_full version (n + 1) next tasks more (omega (arith, full)))
 
--- fewer point lines, and an interval line behind them, are one round
+-- fewer point lines, and an interval line after them, are one round
 pub cut_interval : (version : Version) (n number first last : ℕ) (tasks : List Task) (more : List Read)
     → n + length tasks < round_limit
     → rounds_from n (asked version tasks ++ Good number version (Interval first last) ∷ more)
@@ -63,7 +63,7 @@ cut_open version n task (next ∷ tasks) few =
     ∙ ap (onto_first (line_of version task))
     (cut_open version (n + 1) next tasks (omega (arith, few)))
 
--- fewer point lines, and a bad line behind them, are one round
+-- fewer point lines, and a bad line after them, are one round
 pub cut_bad : (version : Version) (n line : ℕ) (cause : Cause) (tasks : List Task)
     → n + length tasks < round_limit
     → rounds_from n (asked version tasks ++ Bad line cause ∷ [])
@@ -83,13 +83,13 @@ all_points version (task ∷ tasks) =
     sum_by-cons (λ line. if is_point line then 1 else 0) (line_of version task)
     (asked version tasks) ∙ omega (arith, all_points version tasks)
 
--- and no interval lines
+-- tasks are not interval lines
 no_interval : (version : Version) (tasks : List Task) → list_any is_interval (asked version tasks) ≡
     false
 no_interval version [] = refl
 no_interval version (task ∷ tasks) = no_interval version tasks
 
--- whether a round of point lines is whole is told by how many they are
+-- a round of point lines is whole if it has as many as a round may have
 whole_by_count : (version : Version) (tasks : List Task) → is_whole (asked version tasks) ≡ eqb
     (length tasks) round_limit
 whole_by_count version tasks =
@@ -107,7 +107,7 @@ whole_by_interval version number first last tasks =
     (Good number version (Interval first last) ∷ [])
     ∙ or-true (list_any is_interval (asked version tasks)))
 
--- the lines of a first whole round, and of the rounds behind it
+-- the lines of a first whole round and of the rounds after it
 whole_first : (lines round more : List Read) → rounds lines ≡ round ∷ rounds more → is_whole round ≡
     true
     → in_whole_rounds lines ≡ round ++ in_whole_rounds more
@@ -116,7 +116,7 @@ whole_first lines round more cut whole =
     ∙ ap (λ b. flat_map (λ r. r) (if b then round ∷ filter is_whole (rounds more) else filter
     is_whole (rounds more))) whole
 
--- a full round stands before the rounds of the lines behind it
+-- a full round precedes the rounds of the lines after it
 pub in_whole-full : (version : Version) (tasks : List Task) (more : List Read) → length tasks ≡
     round_limit
     → in_whole_rounds (asked version tasks ++ more) ≡ asked version tasks ++ in_whole_rounds more
@@ -126,7 +126,7 @@ in_whole-full version (task ∷ tasks) more full =
     (cut_full version 0 task tasks more (omega (arith, full)))
     (whole_by_count version (task ∷ tasks) ∙ eq-eqb _ round_limit full)
 
--- so does a round that an interval line ends
+-- a round that an interval line ends precedes the rounds of the lines after it
 pub in_whole-interval : (version : Version) (number first last : ℕ) (tasks : List Task)
     (more : List Read)
     → length tasks < round_limit
@@ -139,7 +139,7 @@ in_whole-interval version number first last tasks more few =
     (cut_interval version 0 number first last tasks more (omega (arith, few)))
     (whole_by_interval version number first last tasks)
 
--- no line of an open round stands in a whole one
+-- no line of an open round is in a whole one
 pub in_whole-open : (version : Version) (tasks : List Task) → length tasks < round_limit
     → in_whole_rounds (asked version tasks) ≡ []
 in_whole-open version [] few = refl

@@ -21,33 +21,33 @@ use Rattle.tele_run.specs.Due.{Takes}
 use Rattle.tele_run.proofs.AnswerLemmas.{text-asked, status-asked, asked-version}
 use Rattle.tele_run.proofs.TakeLemmas.{stay_open, answered_full, answered_interval, asked-more}
 
--- what follows where a call succeeds
+-- what follows if a call succeeds
 pub on_ok : {A E P Q : Type 0} (r : Result A E) → OnOk r P → (P → Q) → OnOk r Q
 on_ok (Ok a) p f = f p
 on_ok (Err e) p f = tt
 
--- what follows where it is refused
+-- what follows if a call fails
 pub on_err : {A E P Q : Type 0} (r : Result A E) → OnErr r P → (P → Q) → OnErr r Q
 on_err (Ok a) p f = tt
 on_err (Err e) p f = f p
 
--- what follows from two facts where a call succeeds
+-- what follows from two facts if a call succeeds
 pub on_ok2 : {A E P Q R : Type 0} (r : Result A E) → OnOk r P → OnOk r Q → (P → Q → R) → OnOk r R
 on_ok2 (Ok a) p q f = f p q
 on_ok2 (Err e) p q f = tt
 
--- what holds holds where a call succeeds
+-- a fact holds if a call succeeds
 pub at_ok : {A E P : Type 0} (r : Result A E) → P → OnOk r P
 at_ok (Ok a) p = p
 at_ok (Err e) p = tt
 
--- what follows from three facts where a call succeeds
+-- what follows from three facts if a call succeeds
 pub on_ok3 : {A E P Q R S : Type 0} (r : Result A E) → OnOk r P → OnOk r Q → OnOk r R →
     (P → Q → R → S) → OnOk r S
 on_ok3 (Ok a) p q r f = f p q r
 on_ok3 (Err e) p q r f = tt
 
--- what holds holds at a refusal
+-- a fact holds if a call fails
 pub at_refusal : {A E P : Type 0} (r : Result A E) → P → OnErr r P
 at_refusal (Ok a) p = tt
 at_refusal (Err e) p = p
@@ -72,7 +72,7 @@ module _ (version : Version) (m : Map) (tasks : List Task) where
       (Appends-append before mid written (text_of m (asked version tasks))
       (text_of (replay m (commands_of tasks)) more) first second)
 
-  -- or a part of it
+  -- the text of a round, and then a part of what follows
   pub part_then : (more : List Read) (before mid written : Option (List ℕ)) → Appends before mid
       (text_of m (asked version tasks))
       → AppendsPart mid written (text_of (replay m (commands_of tasks)) more)
@@ -91,7 +91,7 @@ module _ (version : Version) (m : Map) (tasks : List Task) where
         asked-more version tasks now (record { line = number; command = command }) more
         ∙ ap (λ i. asked version tasks ++ Good number version i ∷ []) (sym is)
 
-    -- and stays open
+    -- the line stays open, and nothing is written
     pub taken_open : (n : Map) (before : Option (List ℕ)) → n ≡ m
         → Takes m (asked version tasks ++ Good number version item ∷ []) before before n
         (asked version now)
@@ -101,7 +101,7 @@ module _ (version : Version) (m : Map) (tasks : List Task) where
         (subst (λ ls. Takes m ls before before m (asked version now)) taken_lines
         (stay_open m (asked version now) before))
 
-    -- or fills the round, which is answered
+    -- if the line fills the round, the round is answered
     pub taken_full : (n later : Map) (left : List Task) (before written : Option (List ℕ)) → n ≡ m →
         length now ≡ round_limit
         → Appends before written (text_of n (asked version now)) → later ≡ replay n
@@ -118,7 +118,7 @@ module _ (version : Version) (m : Map) (tasks : List Task) where
         (subst (λ ls. Takes n ls before written (replay n (commands_of now)) []) taken_lines
         (answered_full version n now before written full writes))))
 
-    -- or a part of its answers is written
+    -- if printing fails, a part of the round's text was written
     pub taken_part : (n : Map) (before written : Option (List ℕ)) → n ≡ m → AppendsPart before
         written (text_of n (asked version now))
         → AppendsPart before written (text_of m
@@ -131,7 +131,7 @@ module _ (version : Version) (m : Map) (tasks : List Task) where
   module _ (number first last : ℕ) (item : Item) (is : item ≡ Interval first last)
       (listing : List Pair) (n : Map)
       (behind : n ≡ replay m (commands_of tasks)) (lists : listing ≡ listed first last n) where
-    -- what is listed
+    -- the pairs that are listed
     listing_is : listing ≡ listed first last (replay m (commands_of tasks))
     listing_is = lists ∙ ap (listed first last) behind
 
@@ -153,7 +153,7 @@ module _ (version : Version) (m : Map) (tasks : List Task) where
         (subst (λ ps. Appends mid written (interval_text version number ps)) listing_is
         more_writes))))
 
-    -- or a part of what it asks for is written
+    -- if printing fails, a part of the listing was written
     pub interval_part : (before mid written : Option (List ℕ)) → Appends before mid
         (text_of m (asked version tasks))
         → AppendsPart mid written (interval_text version number listing)
@@ -167,7 +167,7 @@ module _ (version : Version) (m : Map) (tasks : List Task) where
         (interval_text version number (listed first last (replay m (commands_of tasks)))) []
         (subst (λ ps. AppendsPart mid written (interval_text version number ps)) listing_is part)))
 
--- the lines of the open round are the same by the version behind the lines that were read
+-- the lines of the open round are the same by the version after the lines that were read
 pub same_lines : (old new : Lines) (version : Version) (tasks : List Task) → version ≡ version_of
     new
     → (0 < length tasks → IsSome (mode_of old)) → (IsSome (mode_of old) → mode_of new ≡ mode_of old)

@@ -28,7 +28,7 @@ stay_open m lines before = record {
   whole = λ more. refl;
 }
 
--- lines that stay open, where what was written stays taken
+-- lines that stay open, when what was written stays taken
 pub stay_kept : (m : Map) (lines : List Read) (before now : Option (List ℕ)) → Keeps before now
     → Takes m lines before now m lines
 stay_kept m lines before now kept = record {

@@ -1,4 +1,4 @@
--- Which rounds are run where a line is taken into the open round. Serves the steps of a run.
+-- Which rounds are run when a line is taken into the open round. Serves the steps of a run.
 use Rattle.std.proofs.Common.{◌≡◌, ℕ, ◌<◌, List, [], ◌∷◌, ◌++◌, sym, ◌∙◌, ap, length}
 use Rattle.std.specs.Prelude.{Option}
 use Rattle.ist_core.specs.declared.commands.Command.{Command}
@@ -37,7 +37,7 @@ module _ {C : Type 0} (words_of : C → List ℕ) (version : Version) (number : 
     same_lines : asked version mid.tasks ≡ lines
     same_lines = taken_lines version no_pairs old.tasks number item command mid.tasks is more
 
-    -- nothing is run
+    -- no round is run
     stays : RunsOn words_of old kept mid kept []
     stays = runs_none words_of old mid kept pairs last fulls team words
 
@@ -46,7 +46,7 @@ module _ {C : Type 0} (words_of : C → List ℕ) (version : Version) (number : 
     rounds_open =
         rounds_stay words_of old mid kept lines (asked version mid.tasks) stays same_lines
 
-    -- or fills the round, which is run
+    -- if the line fills the round, the round is run
     pub rounds_full : (new : Open C) (later : Option (List C)) → length mid.tasks ≡ round_limit
         → RunsOn words_of mid kept new later (round_for mid.tasks) → new.tasks ≡ []
         → TakesRounds words_of old kept new later lines (asked version new.tasks)

@@ -1,5 +1,5 @@
--- The steps of a run where the source may tell nothing of its bytes. Serves the steps and the loop
--- over them.
+-- The steps of a run if the source may not report its bytes. Serves the steps and the loop over
+-- them.
 use Rattle.std.proofs.Common.{◌≡◌, ℕ, ◌<◌, List, [], ◌++◌, Bool, true, false, refl, sym, ◌∙◌, ap, subst, append_assoc, append-nil, length}
 use Rattle.std.specs.Prelude.{Option, Some, None, IfSome, option_map, if◌then◌else◌}
 use Rattle.ist_core.specs.Map.{no_pairs}
@@ -28,7 +28,7 @@ first_at place = record { m = no_pairs; lines = []; place = place }
 abbrev pub first_moment : Moment
 first_moment = first_at (record { limit = line_limit; count = 0; mode = None })
 
--- a fresh reader and such a round are there
+-- a fresh reader and a fresh round are at the first moment
 pub at_first : {C : Type 0} (team : Team) (words : ℕ) (lines : Lines) (round : Open C)
     → place_of lines ≡ first_moment.place → round ≡ fresh_round team words
     → moment_of lines round ≡ first_moment
@@ -46,7 +46,7 @@ went_on_if was now lines given None ended before written left is goes takes = tt
 went_on_if was now lines given (Some bytes) ended before written left is goes takes =
     went_on was now lines given bytes ended before written left is goes takes
 
--- a part of what good lines are answered
+-- a part of the text of good lines is a part of what is due
 pub part_if : (was : Moment) (next : Place) (lines given : List Read) (unread : Option (List ℕ))
     (ended : Bool)
     (before written left : Option (List ℕ)) → was.lines ≡ lines → status_of (lines ++ given) ≡ 0
@@ -75,7 +75,7 @@ ended_if was lines last None ending before written is status reads writes = tt
 ended_if was lines last (Some bytes) ending before written is status reads writes =
     ended_so was lines last bytes ending before written is reads status writes
 
--- or a part of what they are answered
+-- a part of the text of the last lines is a part of what is due
 pub ended_part_if : (was : Moment) (lines last : List Read)
     (unread before written : Option (List ℕ))
     → was.lines ≡ lines → IfSome unread (λ bytes. read_at was.place (lines_of bytes) ≡ last)
@@ -127,7 +127,7 @@ on_and_on_if (Some bytes) mid last before written later ended now_ended unread n
     on_and_on first_moment mid last bytes before written later ended now_ended unread now lasts one
     two
 
--- and the end
+-- one step, and then the end of the run
 pub on_and_end_if : (left : Option (List ℕ)) (mid : Moment) (ending : ℕ)
     (before written later : Option (List ℕ))
     (ended : Bool) (unread : Option (List ℕ))
@@ -138,7 +138,7 @@ on_and_end_if None mid ending before written later ended unread one two = tt
 on_and_end_if (Some bytes) mid ending before written later ended unread one two =
     on_and_end first_moment mid ending bytes before written later ended unread one two
 
--- or a part
+-- one step, and then a part of what is due
 pub on_and_part_if : (left : Option (List ℕ)) (mid : Moment)
     (before written later : Option (List ℕ))
     (ended : Bool) (unread : Option (List ℕ))
@@ -162,7 +162,7 @@ splits kept bytes true left going is = absurd (cc going)
 splits kept bytes false (Some rest) going is = record { rest = rest; leaves = refl; same = cc is }
 splits kept bytes false None going is = absurd (cc is)
 
--- a failed read, where the reader has kept bytes without a whole line, and the round is open
+-- a failed read, when the reader has kept bytes without a whole line and the round is open
 stops_at : {C : Type 0} (bytes : List ℕ) (before written : Option (List ℕ)) (round : Open C)
     (lines : Lines)
     (left : Option (List ℕ))
@@ -193,6 +193,7 @@ stops_at bytes before written round lines left one waits few =
       good = one.whole_status waits.open_end lines.buffer ∙ ap status_of no_more ∙ good;
     }
 
+-- what a failed read leaves, if the source reports its bytes
 pub stops_if : {C : Type 0} (all before written : Option (List ℕ)) (round : Open C)
     (lines : Lines)
     (left : Option (List ℕ))

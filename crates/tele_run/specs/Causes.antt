@@ -8,11 +8,11 @@ use Rattle.tele_run.specs.declared.jobs.Job.{Job}
 use Rattle.tele_run.specs.declared.jobs.Job.TheVariants.{Refuse, Make, Read}
 use Rattle.tele_run.specs.declared.outcomes.TheConstants.{ANSWERED, USAGE, BAD_LINE, READ_FAILED, WRITE_FAILED, NO_MEMORY}
 
--- the input was answered as far as it has meaning
+-- the input was answered up to its end or its first bad line
 abbrev pub IsAnswer : ℕ → Type 0
 IsAnswer status = (status ≡ ANSWERED) ⊎ (status ≡ BAD_LINE)
 
--- the text was not written whole, since the sink refused a piece or memory was wanting
+-- the text was not written whole, because the sink failed or memory ran out
 abbrev pub IsCutShort : ℕ → Type 0
 IsCutShort status = (status ≡ WRITE_FAILED) ⊎ (status ≡ NO_MEMORY)
 
@@ -28,8 +28,8 @@ IsWhole Refuse status = status ≡ USAGE
 IsWhole (Make count seed) status = status ≡ ANSWERED
 IsWhole Read status = IsAnswer status
 
--- some of the bytes were taken, none of the lines that a newline ends in them is bad, and the text of
--- their whole rounds was written
+-- what a failed read leaves: some of the bytes were taken, no line that a newline ends within them
+-- is bad, and the text of their whole rounds was written
 pub record Stops (bytes : List ℕ) (left before written : Option (List ℕ)) : Type 0 where
   pub taken : List ℕ
   pub rest : List ℕ

@@ -11,14 +11,14 @@ use Rattle.tele_lanes.specs.declared.task_lists.Task.{Task}
 use Rattle.tele_run.specs.Rounds.{task_rounds}
 use Rattle.tele_run.specs.Open.{Open, RunsOn, asked, map_in}
 
--- a moment of a run: the map behind the rounds that were answered, the lines of the open round, and
+-- a moment of a run: the map after the rounds that were answered, the lines of the open round, and
 -- how far the reading has come
 pub record Moment : Type 0 where
   pub m : Map
   pub lines : List Read
   pub place : Place
 
--- the moment at which a reader and an open round are
+-- the moment of a reader and an open round
 abbrev pub moment_of : {C : Type 0} → Lines → Open C → Moment
 moment_of lines open_round = record {
   m = map_in open_round;
@@ -26,24 +26,24 @@ moment_of lines open_round = record {
   place = place_of lines;
 }
 
--- the text of those of some lines that stand in whole rounds, by the map before them
+-- the text of the lines that are in whole rounds, from the map before them
 abbrev pub whole_text : Map → List Read → List ℕ
 whole_text m lines = text_of m (in_whole_rounds lines)
 
--- the answer to the lines of the open round, and to the bytes behind them
+-- the answer to the lines of the open round and to the bytes after them
 abbrev pub due : Moment → List ℕ → Answer
 due at bytes =
     let lines = at.lines ++ read_at at.place (lines_of bytes) in
     record { text = text_of at.m lines; status = status_of lines }
 
--- the same for those lines alone that a newline ends, and of these the text of the whole rounds
+-- the same for only those lines that a newline ends; the text is of the whole rounds only
 abbrev pub whole_due : Moment → List ℕ → Answer
 whole_due at bytes =
     let lines = at.lines ++ read_at at.place (whole_lines bytes) in
     record { text = whole_text at.m lines; status = status_of lines }
 
--- some lines were taken into the round, and others are open then: what was printed and what is due
--- then is what was due before, and what was printed is the text of whole rounds
+-- the step of taking lines into the round, which leaves others open: what was printed, with what is
+-- due then, is what was due before, and what was printed is the text of whole rounds
 pub record Takes (m : Map) (lines : List Read) (before written : Option (List ℕ))
     (then_m : Map) (then_lines : List Read) : Type 0 where
   pub printed : List ℕ
@@ -54,9 +54,9 @@ pub record Takes (m : Map) (lines : List Read) (before written : Option (List �
   pub whole : (more : List Read)
       → whole_text m (lines ++ more) ≡ printed ++ whole_text then_m (then_lines ++ more)
 
--- from one moment to a later one: what was printed since, and what is due for the bytes that are
--- unread now, is what was due for the bytes that were unread then; and unless the input has ended,
--- what was printed is for whole rounds of lines that a newline ends
+-- the step from one moment to a later one: what was printed since, with what is due for the bytes
+-- unread now, is what was due for the bytes unread then; until the input has ended, only whole
+-- rounds of lines that a newline ends are printed
 pub record RunsTo (was : Moment) (then_bytes : List ℕ) (before written : Option (List ℕ))
     (ended : Bool) (unread : Option (List ℕ)) (now : Moment) : Type 0 where
   pub bytes : List ℕ
@@ -72,17 +72,17 @@ pub record RunsTo (was : Moment) (then_bytes : List ℕ) (before written : Optio
   pub whole_status : ended ≡ false → (more : List ℕ)
       → (whole_due was (taken ++ more)).status ≡ (whole_due now more).status
 
--- what was due before was printed whole
+-- all that was due was printed
 pub record Ends (whole : Answer) (before written : Option (List ℕ)) (ending : ℕ) : Type 0 where
   pub writes : Appends before written whole.text
   pub status : ending ≡ whole.status
 
--- the rounds of the open lines, and of the bytes behind them
+-- the rounds of the open lines and of the bytes after them
 abbrev pub rounds_due : Moment → List ℕ → List (List Task)
 rounds_due at bytes = task_rounds (at.lines ++ read_at at.place (lines_of bytes))
 
--- some lines were taken into the round, and others are open then: with the rounds that were run
--- these are all
+-- the step of taking lines into the round, which leaves others open: the rounds that were run come
+-- first, and then the rounds still due
 pub record TakesRounds {C : Type 0} (words_of : C → List ℕ) (old : Open C)
     (kept : Option (List C)) (new : Open C) (later : Option (List C))
     (lines then_lines : List Read) : Type 0 where
@@ -91,8 +91,8 @@ pub record TakesRounds {C : Type 0} (words_of : C → List ℕ) (old : Open C)
   pub cut : (others : List Read)
       → task_rounds (lines ++ others) ≡ more ++ task_rounds (then_lines ++ others)
 
--- from one moment to a later one: with the rounds that were run since, those that are due then are
--- all that were due before
+-- the step from one moment to a later one: the rounds that were due are the rounds run since, and
+-- then those still due
 pub record RunsRounds {C : Type 0} (words_of : C → List ℕ) (old : Open C)
     (kept : Option (List C)) (new : Open C) (later : Option (List C)) (was : Moment)
     (bytes : List ℕ) (unread : Option (List ℕ)) (now : Moment) : Type 0 where

@@ -1,4 +1,4 @@
--- The round that is open: the map behind the rounds before it, its point lines, and the last table.
+-- The round that is open: the map after the rounds before it, its point lines, and the last table.
 use Rattle.std.specs.Prelude.{◌≡◌, ℕ, ◌+◌, ◌<◌, List, [], ◌∷◌, ◌++◌, map, length, Option, None}
 use Rattle.ist_core.specs.Elements.{Each}
 use Rattle.std.specs.List.{flat_map}
@@ -14,9 +14,9 @@ use Rattle.tele_lines.specs.declared.items.Version.{Version}
 use Rattle.tele_lines.specs.Answer.{Read, Good, answer_text}
 use Rattle.tele_run.specs.Rounds.{Team, map_after_rounds, RanRounds}
 
--- the pairs of a map, the lines that it is to answer next, and the answers to those before them; the
--- last table of the rounds before, and how many tables of the last of them ran full; who runs a round,
--- and how many words its first table has at most
+-- the pairs of a map, the lines to answer next, and the answers to the lines before them; the last
+-- table of the rounds before, and how many tables of the last round ran full; who runs a round, and
+-- how many words its first table has at most
 pub record Open (C : Type 0) : Type 0 where
   pub pairs : List Pair
   pub tasks : List Task
@@ -42,33 +42,33 @@ fresh_round team words = record {
 abbrev pub map_in : {C : Type 0} → Open C → Map
 map_in open_round = map_of open_round.pairs
 
--- the tasks as lines of an input of some version
+-- the tasks as lines of an input of this version
 abbrev pub asked : Version → List Task → List Read
 asked version tasks = map (λ task. Good task.line version (Point task.command)) tasks
 
--- the lines that are printed for some answers
+-- the lines printed for these answers
 abbrev pub answers_text : Version → List Answer → List ℕ
 answers_text version answers = flat_map (λ answer. answer_text version answer.line answer.reply) answers
 
--- the tasks of a round were answered in their order, and none is left
+-- the tasks of a round were answered in order, and no task is left
 pub record Closes {C : Type 0} (before now : Open C) : Type 0 where
   pub answered : ArePlainAnswers (map_in before) before.tasks now.answers
   pub behind : map_in now ≡ replay (map_in before) (commands_of before.tasks)
   pub none : now.tasks ≡ []
 
--- the tasks rise by line, all lie before the line of this number, and so do enough lines for all
--- pairs and tasks
+-- the line numbers of the tasks are strictly increasing and below this number, and all pairs and
+-- tasks together are fewer than this number
 pub record IsOpenBefore {C : Type 0} (number : ℕ) (open_round : Open C) : Type 0 where
   pub rises : IsStrictlyIncreasing (task_lines open_round.tasks)
   pub below : Each (λ task. task.line < number) open_round.tasks
   pub few : length open_round.pairs + length open_round.tasks < number
 
--- the round that some tasks are, if there are any
+-- the round of these tasks, if there are any
 abbrev pub round_for : List Task → List (List Task)
 round_for [] = []
 round_for (task ∷ tasks) = (task ∷ tasks) ∷ []
 
--- these rounds were run, and the open one begins with the map behind them
+-- these rounds were run, and the open round begins with the map after them
 pub record HasRun {C : Type 0} (words_of : C → List ℕ) (team : Team) (most : ℕ)
     (rounds : List (List Task)) (before after : Option (List C))
     (open_round : Open C) : Type 0 where
@@ -77,7 +77,7 @@ pub record HasRun {C : Type 0} (words_of : C → List ℕ) (team : Team) (most :
   pub team_is : open_round.team ≡ team
   pub most_is : open_round.words ≡ most
 
--- whatever rounds were run before, these were run behind them
+-- whatever rounds were run before, these were run after them
 abbrev pub RunsOn : {C : Type 0} → (C → List ℕ) → Open C → Option (List C) → Open C
     → Option (List C) → List (List Task) → Type 0
 RunsOn words_of old kept new later more =

@@ -19,7 +19,7 @@ use Rattle.tele_generations.specs.Shelves.{IsShelved}
 use Rattle.tele_generations.specs.Rounds.{FirstHas, EndsTheRound}
 use Rattle.tele_trees.specs.Counts.{lane_count}
 
--- the point lines among some lines, as tasks
+-- the point lines among these lines, as tasks
 abbrev pub tasks_in : List Read → List Task
 tasks_in [] = []
 tasks_in (Good number version (Point command) ∷ lines) =
@@ -36,7 +36,7 @@ has_some (task ∷ tasks) = true
 abbrev pub task_rounds : List Read → List (List Task)
 task_rounds lines = filter has_some (map tasks_in (rounds lines))
 
--- commands as point lines, numbered from a number on
+-- commands as point lines, numbered from this number on
 abbrev pub numbered : ℕ → List Command → List Read
 numbered number [] = []
 numbered number (command ∷ commands) =
@@ -46,11 +46,11 @@ numbered number (command ∷ commands) =
 abbrev pub input_rounds : List ℕ → List (List Task)
 input_rounds bytes = task_rounds (input_lines (lines_of bytes))
 
--- the rounds of so many lines that are made from a seed
+-- the rounds of `count` lines made from a seed
 abbrev pub made_rounds : ℕ → ℕ → List (List Task)
 made_rounds count seed = task_rounds (numbered 1 (made_commands count seed))
 
--- the map behind some rounds that begin with a map
+-- the map after some rounds that begin with the map `m`
 abbrev pub map_after_rounds : Map → List (List Task) → Map
 map_after_rounds m [] = m
 map_after_rounds m (tasks ∷ rounds) = map_after_rounds (replay m (commands_of tasks)) rounds
@@ -60,16 +60,16 @@ pub record Team : Type 0 where
   pub workers : ℕ
   pub steal : Bool
 
--- the team of these
+-- the team with these workers and this choice
 abbrev pub team_of : ℕ → Bool → Team
 team_of workers steal = record { workers = workers; steal = steal }
 
--- how many lanes each of its rounds has
+-- how many lanes each round of a team has
 abbrev pub lanes_of : Team → ℕ
 lanes_of team = lane_count team.workers team.steal
 
--- these are the tables of a round that begins with a map; the first has as many words as the pairs,
--- the tasks and the options of the run give it
+-- these are the tables of a round that begins with a map; the pairs, the tasks and the options of
+-- the run determine how many words the first has
 pub record AreTablesOf {C : Type 0} (words_of : C → List ℕ) (team : Team) (most : ℕ) (m : Map)
     (tasks : List Task) (tables : List C) : Type 0 where
   pub fulls : List Full
@@ -77,8 +77,8 @@ pub record AreTablesOf {C : Type 0} (words_of : C → List ℕ) (team : Team) (m
   pub first_is : FirstHas (first_words most team.workers (length (pairs_of m)) (length tasks))
       (map words_of tables)
 
--- these are the tables of some rounds, one list for each in order; each round begins with the map
--- behind the rounds before it
+-- these are the tables of some rounds, one list per round in order; each round begins with the map
+-- after the rounds before it
 abbrev pub AreTablesOfAll : {C : Type 0} → (C → List ℕ) → Team → ℕ → Map → List (List Task)
     → List (List C) → Type 0
 AreTablesOfAll words_of team most m [] [] = Unit {0}
@@ -88,8 +88,8 @@ AreTablesOfAll words_of team most m (tasks ∷ rounds) (tables ∷ lists) =
     AreTablesOf words_of team most m tasks tables
     × AreTablesOfAll words_of team most (replay m (commands_of tasks)) rounds lists
 
--- this is the last of some rounds: so many of its tables ran full, and the words of its last one
--- stand for the pairs at the opening of that table and for what its lanes were told
+-- what the last of some rounds left: how many of its tables ran full, and that the words of its
+-- last table stand for the pairs at that table's opening and for what its lanes were told
 pub record IsLastRound {C : Type 0} (words_of : C → List ℕ) (team : Team)
     (rounds : List (List Task)) (lists : List (List C)) (last : C) (fulls : ℕ) : Type 0 where
   pub earlier : List (List Task)
@@ -104,7 +104,8 @@ pub record IsLastRound {C : Type 0} (words_of : C → List ℕ) (team : Team)
   pub ends : EndsTheRound (lanes_of team) (pairs_of (map_after_rounds no_pairs earlier)) tasks
       (words_of last) refusals
 
--- there is a last table exactly where there is a round, and it is that of the last one
+-- if there is a round, there is a last table and it is the last round's; without a round there is
+-- no last table
 abbrev pub EndsWith : {C : Type 0} → (C → List ℕ) → Team → List (List Task) → List (List C)
     → Option C → ℕ → Type 0
 EndsWith words_of team rounds lists None fulls = (rounds ≡ []) × (fulls ≡ 0)
@@ -116,8 +117,8 @@ abbrev pub if_any : {C : Type 0} → Option C → List C
 if_any None = []
 if_any (Some last) = last ∷ []
 
--- the rounds were run one behind another, from the map with no key: the tables of each, list behind
--- list, are those that the shelf was given, and the last one
+-- the rounds were run one after another, from the map with no key; the tables of all rounds, list
+-- after list, are those put on the shelf, and then the last one
 pub record RanRounds {C : Type 0} (words_of : C → List ℕ) (team : Team) (most : ℕ)
     (rounds : List (List Task)) (before after : Option (List C)) (last : Option C)
     (fulls : ℕ) : Type 0 where

@@ -1,4 +1,4 @@
-//! What a run is to do.
+//! What a run has to do.
 ghost use Rattle.std.specs.Prelude.{◌≡◌, ℕ, ◌≤◌, ◌^◌, map, string_bytes, IfOk};
 ghost use Rattle.tele_command.specs.CommandLine.{options_in};
 ghost use Rattle.tele_run.specs.Jobs.{job_of};
@@ -9,18 +9,18 @@ use tele_command::{Options, Refusal, read_options};
 /// The most lines of a run.
 pub(crate) const LINE_LIMIT: u64 = 16_777_216;
 
-/// What a run is to do, by the words of its command line.
+/// What a run has to do, by its command line.
 #[derive(Clone, Copy, Debug, PartialEq, Eq, Drop)]
 pub(crate) enum Job {
-    /// To say that the words are refused.
+    /// To report that the command line is refused.
     Refuse,
-    /// To make so many lines from a seed.
+    /// To make `count` lines from `seed`.
     Make { count: u64, seed: u64 },
-    /// To read lines.
+    /// To read lines from the source.
     Read,
 }
 
-/// What a run is to do, by how many workers, with how many words at most in the first table of a
+/// What a run has to do, with how many workers, with how many words at most in the first table of a
 /// round, and whether the workers steal lanes from one another.
 #[derive(Clone, Copy, Debug, PartialEq, Eq, Drop)]
 pub(crate) struct Plan {
@@ -30,7 +30,7 @@ pub(crate) struct Plan {
     pub steal: bool,
 }
 
-/// Reads the words of the command line. No more lines are to be made than a run may have.
+/// Reads the command line. If it asks for made lines, their number is within the limit of a run.
 pub(crate) fn read_plan(alloc: Global, words: &[String]) -> Result<Plan, AllocError>
     ensures value { IfOk result (λ plan. plan.job ≡ job_of (map string_bytes words.now)) }
     ensures workers { IfOk result (λ plan. ¬ (plan.job ≡ Job.Refuse) →
@@ -68,7 +68,7 @@ pub(crate) fn read_plan(alloc: Global, words: &[String]) -> Result<Plan, AllocEr
     }
 }
 
-/// The plan for a job by the options.
+/// Makes the plan for a job, by the options.
 fn plan_for(job: Job, options: Options) -> Plan
     requires at_most { options.workers ≤ 64 }
     requires most { options.words ≤ 2 ^ 28 }

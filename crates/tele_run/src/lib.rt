@@ -1,7 +1,8 @@
 //! The program as one call, from bytes to bytes.
 //!
-//! Read `specs/Rounds.antt`, then the contract of `run` in `runs.rt`. Stands on `ist_core`,
-//! `tele_io`, `tele_lines`, `plain_map`, `tele_lanes`, `tele_generations` and `tele_trees`.
+//! Read `specs/Rounds.antt`, then the contract of `run` in `runs.rt`. Builds on `tele_io`,
+//! `tele_lines`, `tele_made`, `tele_command`, `tele_lanes`, `tele_generations` and `tele_trees`,
+//! and on the crates below them.
 #![tactic(auto)]
 
 mod jobs;

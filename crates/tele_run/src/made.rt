@@ -1,4 +1,4 @@
-//! A run over made lines: the same rounds, no reply printed, and a summary at the end.
+//! A run over made lines: the same rounds, without replies, and a summary at the end.
 ghost use Rattle.std.specs.Prelude.{◌≡◌, ◌+◌, ◌≤◌, ◌^◌, ◌⊎◌, [], Err, is_some, length, IfOk, OnOk, OnErr};
 ghost use Rattle.std.specs.List.{count_by};
 ghost use Rattle.std.specs.List.Sorted.{IsStrictlyIncreasing};
@@ -66,7 +66,7 @@ pub(crate) fn make_all<R: Threads + Wait + Sync, G: Gate + Sync, H: Shelf<Closed
     ended(status, round)
 }
 
-/// Prints a summary, and passes it on.
+/// Prints a summary and passes it on.
 #[tactic(auto, using(crate::proofs::PassLemmas::passes))]
 fn end_with_summary<O: Sink>(out: &mut O, alloc: Global, summary: Summary) -> Result<(), SinkFault>
     ensures printed { OnOk result (Appends (O.written out.old) (O.written out.new)
@@ -120,7 +120,7 @@ fn summarize<R: Threads + Wait + Sync, G: Gate + Sync, H: Shelf<Closed>>(
     })
 }
 
-/// Answers the lines of the round, and says how many of the replies are values.
+/// Answers the lines of the round and returns how many of the replies are values.
 fn answer_made<R: Threads + Wait + Sync, G: Gate + Sync, H: Shelf<Closed>>(
     rt: &R,
     gate: &G,
@@ -145,7 +145,7 @@ fn answer_made<R: Threads + Wait + Sync, G: Gate + Sync, H: Shelf<Closed>>(
     Ok(count_values(round.answers()))
 }
 
-/// How many of some replies are values.
+/// Counts the replies that are values.
 fn count_values(answers: &[Answer]) -> u64
     ensures value { result ≡ count_by (λ answer. is_some answer.reply) answers.now }
 {

@@ -9,7 +9,7 @@ use ist_rest::Closed;
 /// The input was read to its end, and every line was answered.
 pub const ANSWERED: u8 = 0;
 
-/// The words of the command line were refused, and the line that says so was written.
+/// The command line was refused, and the line that says so was written.
 pub const USAGE: u8 = 2;
 
 /// A bad line was reached. The lines before it were answered, and the bad line was named.
@@ -21,7 +21,7 @@ pub const READ_FAILED: u8 = 4;
 /// The sink failed.
 pub const WRITE_FAILED: u8 = 5;
 
-/// No memory was left.
+/// Memory ran out.
 pub const NO_MEMORY: u8 = 7;
 
 /// How a run ended.
@@ -29,13 +29,13 @@ pub const NO_MEMORY: u8 = 7;
 pub struct Outcome {
     /// The exit status: one of the constants of this module.
     pub status: u8,
-    /// The last table, where the input was answered and a line asked for one.
+    /// The last table, if the input was answered and had a line that needs a table.
     pub last: Option<Closed>,
     /// How many tables of the last round ran full.
     pub fulls: u64,
 }
 
-/// A run that ended without an answer to its input.
+/// Returns the outcome of a run that ended without an answer to its input.
 pub(crate) fn without_table(status: u8) -> Outcome
     ensures value { result ≡ record { status = status; last = None; fulls = 0 } }
 {
@@ -46,7 +46,7 @@ pub(crate) fn without_table(status: u8) -> Outcome
     }
 }
 
-/// A run that ended with this round.
+/// Returns the outcome of a run that ended with this round.
 pub(crate) fn ended(status: u8, round: Round) -> Outcome
     ensures status { result.status ≡ status }
     ensures last { IsAnswer status → result.last ≡ round.last }

@@ -1,4 +1,4 @@
-//! The replies of a round, printed; and the last line of a round, behind which all are passed on.
+//! Printing the replies of a round, and the last line of a round, after which all are passed on.
 ghost use Rattle.std.specs.Prelude.{◌≡◌, ◌≤◌, [], Err, OnOk, OnErr};
 ghost use Rattle.tele_io.specs.Bytes.{HaveRisen, Appends, AppendsPart};
 ghost use Rattle.tele_lines.specs.Answer.{interval_text, bad_text};
@@ -9,7 +9,7 @@ use tele_io::{Sink, SinkFault};
 use tele_lanes::Answer;
 use tele_lines::{Cause, Version, print_answer, print_bad, print_interval};
 
-/// Prints each answer on a line of its own, in order.
+/// Prints each answer on its own line, in order.
 pub(crate) fn print_answers<O: Sink>(
     out: &mut O,
     version: Version,
@@ -31,7 +31,7 @@ pub(crate) fn print_answers<O: Sink>(
     Ok(())
 }
 
-/// Prints the reply to the interval line that ends a round, and passes on all that was taken.
+/// Prints the reply to the interval line that ends a round, and passes on all that the sink took.
 #[tactic(auto, using(crate::proofs::PassLemmas::passes))]
 pub(crate) fn end_with_pairs<O: Sink>(
     out: &mut O,
@@ -54,7 +54,7 @@ pub(crate) fn end_with_pairs<O: Sink>(
     out.pass_on()
 }
 
-/// Prints that a line is bad, which ends the run, and passes on all that was taken.
+/// Prints that a line is bad, which ends the run, and passes on all that the sink took.
 #[tactic(auto, using(crate::proofs::PassLemmas::passes))]
 pub(crate) fn end_with_bad<O: Sink>(out: &mut O, line: u64, cause: Cause) -> Result<(), SinkFault>
     ensures printed { OnOk result (Appends (O.written out.old) (O.written out.new)

@@ -1,4 +1,4 @@
-//! The open round: the point lines that are to be answered next, and what the rounds before it left.
+//! The open round: the point lines to answer next, and what the rounds before it left.
 ghost use Rattle.std.specs.Prelude.{◌≡◌, ◌+◌, ◌<◌, ◌≤◌, ◌^◌, ◌↔◌, [], ◌∷◌, ◌++◌, length, OnOk, IsTrue};
 ghost use Rattle.std.specs.List.Sorted.{IsStrictlyIncreasing};
 ghost use Rattle.ist_core.specs.Map.{pairs_of, listed};
@@ -21,8 +21,8 @@ use tele_trees::{TreeTables, run_round};
 /// The most point lines of a round.
 pub(crate) const ROUND_LIMIT: usize = 16_384;
 
-/// The point lines that are to be answered next, the answers to those before them, and the last
-/// table, with its pairs.
+/// The point lines to answer next, the answers to the lines before them, and the last table with
+/// its pairs.
 #[derive(Drop)]
 pub(crate) struct Round {
     alloc: Global,
@@ -58,7 +58,7 @@ impl Model for Round {
 }
 
 impl Round {
-    /// A round without lines, over the map with no key.
+    /// Makes a round without lines, over the map with no key.
     pub(crate) fn new(alloc: Global, workers: u32, steal: bool, words: u32) -> Round
         requires some { 1 ≤ workers }
         requires at_most { workers ≤ 64 }
@@ -92,42 +92,42 @@ impl Round {
         Ok(())
     }
 
-    /// Whether the round has as many lines as it may have.
+    /// Returns whether the round has as many lines as it may have.
     pub(crate) fn is_full(&self) -> bool
         ensures value { IsTrue result ↔ (length self.now.tasks ≡ ROUND_LIMIT) }
     {
         self.tasks.len() == ROUND_LIMIT
     }
 
-    /// The answers to the lines that were closed last.
+    /// Returns the answers to the lines of the round that was closed last.
     pub(crate) fn answers(&self) -> &[Answer]
         ensures value { result.now ≡ self.now.answers }
     {
         &self.answers
     }
 
-    /// All pairs behind the lines that were closed.
+    /// Returns all pairs of the map after the lines that were closed.
     pub(crate) fn pairs(&self) -> &[Pair]
         ensures value { result.now ≡ pairs_of (map_in self.now) }
     {
         self.plain.pairs()
     }
 
-    /// The pairs from one key to another, both included, behind the lines that were closed.
+    /// Returns the pairs from one key to another, both included, after the lines that were closed.
     pub(crate) fn list(&self, first: u64, last: u64) -> &[Pair]
         ensures value { result.now ≡ listed first last (map_in self.now) }
     {
         self.plain.list(first, last)
     }
 
-    /// How many tables of the last round ran full.
+    /// Returns how many tables of the last round ran full.
     pub(crate) fn fulls(&self) -> u64
         ensures value { result ≡ self.now.fulls }
     {
         self.fulls
     }
 
-    /// The last table.
+    /// Returns the last table.
     pub(crate) fn into_last(self) -> Option<Closed>
         ensures value { result ≡ self.last }
     {
@@ -135,9 +135,9 @@ impl Round {
     }
 }
 
-/// Answers the lines of the round in order, on as many trees as it takes, and leaves a round
-/// without lines. The last table of the rounds before goes to the shelf. Without lines no table is
-/// opened.
+/// Answers the lines of the round in order, on as many trees as needed, and leaves a round without
+/// lines. The last table of the rounds before goes to the shelf. If the round has no lines, no
+/// table is opened.
 pub(crate) fn close<R: Threads + Wait + Sync, G: Gate + Sync, H: Shelf<Closed>>(
     rt: &R,
     gate: &G,
@@ -161,7 +161,7 @@ pub(crate) fn close<R: Threads + Wait + Sync, G: Gate + Sync, H: Shelf<Closed>>(
     close_some(rt, gate, tables, shelf, round)
 }
 
-/// Answers the lines of a round that has some.
+/// Answers the lines of a round that has at least one.
 fn close_some<R: Threads + Wait + Sync, G: Gate + Sync, H: Shelf<Closed>>(
     rt: &R,
     gate: &G,

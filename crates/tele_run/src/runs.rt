@@ -1,4 +1,4 @@
-//! The top call.
+//! The program as one call.
 ghost use Rattle.std.specs.Prelude.{◌≡◌, ℕ, ◌≤◌, ◌^◌, ◌⊎◌, [], Some, map, string_bytes, IfSome, OnOk, OnErr, IsErrOf};
 ghost use Rattle.tele_io.specs.Bytes.{HaveRisen, Appends, AppendsPart};
 ghost use Rattle.tele_lines.specs.Answer.{answer, usage_text};
@@ -27,31 +27,31 @@ use tele_lanes::Gate;
 use tele_lines::Lines;
 use tele_trees::TreeTables;
 
-/// Reads lines from the source, carries them out on one map, and writes the replies to the sink; or
-/// makes the lines, where the words of the command line say so.
+/// Reads lines from the source, carries them out on one map, and writes the replies to the sink. If
+/// the command line says so, makes the lines instead and writes a summary.
 ///
-/// `words` are those of the command line, the program's name first; no word is read like the name
-/// alone. What they ask for is `job_of`, by `clap`. Words that `clap` refuses, for another cause than
-/// want of memory, end with status 2: a line that says so is written. A request for help is refused
-/// too. With made lines no reply is written, and a summary at the end. The source is read in neither.
-///
-/// Lines are answered in rounds, in the order in which they came. A round ends behind an interval
-/// line, when it has 16,384 point lines, before a bad line, and at the end of the input. Behind each
-/// round, and before it returns with status 0, 2, 3 or 4, it tells the sink to pass on what it took.
-/// The statuses of a run over lines that are read are these:
+/// `words` are the arguments of the command line, the program's name first; an empty list is read
+/// like the name only. `job_of` says what they ask for, by `clap`. If `clap` refuses them for any
+/// other cause than memory, the run ends with status 2 and writes a line that says so. A request
+/// for help is refused too. With made lines no reply is written, only a summary at the end. The
+/// source is read only if neither is the case.
+/// Lines are answered in rounds, in the order in which they came. A round ends after an interval
+/// line, when it has 16,384 point lines, before a bad line, and at the end of the input. After each
+/// round, and before it returns with status 0, 2, 3 or 4, `run` tells the sink to pass on what it
+/// took. The statuses of a run over lines that are read are these:
 ///
 /// - 0, the input was read to its end, or 3, a bad line was reached: the answer to the bytes of the
 ///   source was written;
-/// - 4, the source failed in this call: of the lines that a newline ends within the bytes taken
-///   none is bad, and the replies to those that stand in whole rounds were written;
-/// - 5, the sink failed in this call, or 7, no memory was left: a prefix of the text was written.
+/// - 4, the source failed in this call: no line that a newline ends within the bytes taken is bad,
+///   and the replies to those of them in whole rounds were written;
+/// - 5, the sink failed in this call, or 7, memory ran out: a prefix of the text was written.
 ///
-/// The point lines of a round run side by side on a tree, split into a lane for each worker, or
-/// with `--steal 1` into 64 lanes that the workers steal from one another, and on another tree behind
-/// it where it ran full (`tele_trees::run_round`). The last tree of a round goes to the shelf when
-/// the next round begins; with status 0 or 3 that of the last round is handed back. `gate` is told of
-/// each call on a tree. A run waits for its workers, and no clause says that this waiting
-/// ends.
+/// The point lines of a round run side by side on a tree. They are split into one lane per worker,
+/// or with `--steal 1` into 64 lanes that the workers steal from one another. If a tree runs full,
+/// another one follows it (`tele_trees::run_round`). The last tree of a round goes to the shelf
+/// when the next round begins; with status 0 or 3 the last tree of the last round is returned.
+/// `gate` is notified of each call on a tree. A run waits for its workers, and no clause says that
+/// this waiting ends.
 pub fn run<R: Threads + Wait + Sync, S: Source, O: Sink, G: Gate + Sync, H: Shelf<Closed>>(
     rt: &R,
     alloc: Global,
@@ -61,8 +61,7 @@ pub fn run<R: Threads + Wait + Sync, S: Source, O: Sink, G: Gate + Sync, H: Shel
     gate: &G,
     shelf: &mut H,
 ) -> Outcome
-    // What was written is the answer to all bytes that the source had, and the status is the
-    // answer's.
+    // The answer to all bytes of the source was written, and the status is the answer's.
     ensures text { job_of (map string_bytes words.now) ≡ Job.Read → IsAnswer result.status →
         IfSome (S.left source.old) (λ bytes.
         Appends (O.written out.old) (O.written out.new) (answer bytes).text) }
@@ -71,7 +70,7 @@ pub fn run<R: Threads + Wait + Sync, S: Source, O: Sink, G: Gate + Sync, H: Shel
     ensures whole { job_of (map string_bytes words.now) ≡ Job.Read → result.status ≡ ANSWERED →
         IfSome (S.left source.old) (λ _. S.left source.new ≡ Some []) }
 
-    // Refused words are named, made lines are summed up, and nothing is read.
+    // A refused command line is reported, made lines are summed up, and nothing is read.
     ensures usage { result.status ≡ USAGE →
         Appends (O.written out.old) (O.written out.new) usage_text }
     ensures made { (count seed : ℕ) →
@@ -80,14 +79,14 @@ pub fn run<R: Threads + Wait + Sync, S: Source, O: Sink, G: Gate + Sync, H: Shel
     ensures unread { ¬ (job_of (map string_bytes words.now) ≡ Job.Read) →
         source.new ≡ source.old }
 
-    // After a failed read the replies to the whole rounds of the lines that had come stand written.
+    // After a failed read, the replies to the whole rounds of the lines that had come are written.
     ensures stops { result.status ≡ READ_FAILED → IfSome (S.left source.old) (λ bytes.
         Stops bytes (S.left source.new) (O.written out.old) (O.written out.new)) }
 
     // Unless the text was cut short, the sink holds nothing back.
     ensures passed_on { ¬ (IsCutShort result.status) → O.held out.new ≡ [] }
 
-    // Cut short, a prefix of the text stands written.
+    // If the text was cut short, a prefix of it was written.
     ensures part { job_of (map string_bytes words.now) ≡ Job.Read → IsCutShort result.status →
         IfSome (S.left source.old) (λ bytes.
         AppendsPart (O.written out.old) (O.written out.new) (answer bytes).text) }
@@ -99,7 +98,7 @@ pub fn run<R: Threads + Wait + Sync, S: Source, O: Sink, G: Gate + Sync, H: Shel
         AppendsPart (O.written out.old) (O.written out.new)
         (summary_text (summary_of count seed)) }
 
-    // The tables that the shelf was given and the last one are those of the rounds with point lines.
+    // The tables put on the shelf, and the last one, are those of the rounds with point lines.
     ensures last { job_of (map string_bytes words.now) ≡ Job.Read → IsAnswer result.status →
         IfSome (S.left source.old) (λ bytes.
         EndsOn (options_in (map string_bytes words.now)) (input_rounds bytes)
@@ -117,7 +116,7 @@ pub fn run<R: Threads + Wait + Sync, S: Source, O: Sink, G: Gate + Sync, H: Shel
     ensures write_failed { result.status ≡ WRITE_FAILED →
         HaveRisen (O.faults out.old) (O.faults out.new) }
 
-    // Without a fault the text is written whole, while memory lasts.
+    // Without a fault the text is written whole, unless memory runs out.
     ensures complete { ¬ HaveRisen (S.faults source.old) (S.faults source.new) →
         ¬ HaveRisen (O.faults out.old) (O.faults out.new) →
         IsWhole (job_of (map string_bytes words.now)) result.status ⊎
@@ -135,7 +134,7 @@ pub fn run<R: Threads + Wait + Sync, S: Source, O: Sink, G: Gate + Sync, H: Shel
     }
 }
 
-/// Does what the words ask for.
+/// Does what the plan says.
 fn work<R: Threads + Wait + Sync, S: Source, O: Sink, G: Gate + Sync, H: Shelf<Closed>>(
     rt: &R,
     alloc: Global,
@@ -208,7 +207,7 @@ fn work<R: Threads + Wait + Sync, S: Source, O: Sink, G: Gate + Sync, H: Shelf<C
     }
 }
 
-/// Writes that the words are refused, and gives the status.
+/// Reports that the command line is refused, and returns the status.
 fn refuse<O: Sink>(out: &mut O) -> u8
     ensures usage { result ≡ USAGE → Appends (O.written out.old) (O.written out.new) usage_text }
     ensures passed_on { ¬ (IsCutShort result) → O.held out.new ≡ [] }
@@ -226,7 +225,7 @@ fn refuse<O: Sink>(out: &mut O) -> u8
     }
 }
 
-/// Prints that the words are refused, and passes it on.
+/// Prints that the command line is refused, and passes it on.
 #[tactic(auto, using(crate::proofs::PassLemmas::passes))]
 fn end_with_usage<O: Sink>(out: &mut O) -> Result<(), SinkFault>
     ensures printed { OnOk result (Appends (O.written out.old) (O.written out.new) usage_text) }

@@ -1,4 +1,4 @@
-//! One line: read, taken into the open round, and the round answered where it ends.
+//! One line: it is read and taken into the open round, and the round is answered if it ends there.
 ghost use Rattle.std.specs.Prelude.{◌≡◌, ◌+◌, ◌<◌, ◌≤◌, ◌^◌, [], ◌∷◌, ◌++◌, Some, None, Err, true, false, length, IsSome, IfSome, IfNone, OnOk, OnErr};
 ghost use Rattle.std.specs.List.Sorted.{IsStrictlyIncreasing};
 ghost use Rattle.ist_core.specs.Map.{replay};
@@ -27,7 +27,7 @@ use tele_lanes::{Gate, Task};
 use tele_lines::{Cause, Item, Line, LineFault, Lines, Version};
 use tele_trees::TreeTables;
 
-/// The status at a refusal of the sink, or at want of memory.
+/// Returns the status to end with if the sink failed or memory ran out.
 pub(crate) fn refused(fault: SinkFault) -> u8
     ensures failed { result ≡ WRITE_FAILED → fault ≡ SinkFault.Failed }
     ensures other { IsCutShort result }
@@ -39,7 +39,7 @@ pub(crate) fn refused(fault: SinkFault) -> u8
 }
 
 /// Reads the next line that asks for something, takes it into the open round, and answers the round
-/// if it ends there; then nothing is held back. `Some` is the status with which the run ends.
+/// if it ends there; then nothing is held back. If the run ends, returns its status.
 pub(crate) fn step<R: Threads + Wait + Sync, G: Gate + Sync, H: Shelf<Closed>, S: Source, O: Sink>(
     rt: &R,
     gate: &G,
@@ -70,12 +70,12 @@ pub(crate) fn step<R: Threads + Wait + Sync, G: Gate + Sync, H: Shelf<Closed>, S
         AppendsPart (O.written out.old) (O.written out.new)
         (due (moment_of lines.old round.old) bytes).text)) }
 
-    // Behind a round that ended, and behind the run, nothing is held back.
+    // After a round that ended, and after the run, nothing is held back.
     ensures passed_on { IfNone result (round.new.tasks ≡ [] → O.held out.new ≡ []) }
     ensures all_passed_on { IfSome result (λ status.
         ¬ (IsCutShort status) → O.held out.new ≡ []) }
 
-    // The tables of the rounds that were run are all, and in order.
+    // The rounds that were run and the rounds still due are all rounds, in order.
     ensures ran { IfNone result (IfSome (unread lines.old (S.left source.old)) (λ bytes.
         RunsRounds (λ table. table) round.old (H.kept shelf.old) round.new (H.kept shelf.new)
         (moment_of lines.old round.old) bytes (unread lines.new (S.left source.new))
@@ -149,7 +149,7 @@ pub(crate) fn step<R: Threads + Wait + Sync, G: Gate + Sync, H: Shelf<Closed>, S
     Some(refused(fault))
 }
 
-/// Takes a line into the round. Where the round ends there, its lines are answered, and the replies
+/// Takes a line into the round. If the round ends there, its lines are answered and the replies are
 /// passed on.
 fn take<R: Threads + Wait + Sync, G: Gate + Sync, H: Shelf<Closed>, O: Sink>(
     rt: &R,
@@ -207,7 +207,7 @@ fn take<R: Threads + Wait + Sync, G: Gate + Sync, H: Shelf<Closed>, O: Sink>(
     }
 }
 
-/// Answers the lines of the round, names the bad line behind them, and passes all of it on.
+/// Answers the lines of the round, names the bad line after them, and passes all of it on.
 fn name<R: Threads + Wait + Sync, G: Gate + Sync, H: Shelf<Closed>, O: Sink>(
     rt: &R,
     gate: &G,
@@ -275,7 +275,7 @@ fn end_round<R: Threads + Wait + Sync, G: Gate + Sync, H: Shelf<Closed>, O: Sink
     out.pass_on()
 }
 
-/// Answers the lines of the round, and prints the replies in their order.
+/// Answers the lines of the round, and prints the replies in order.
 fn answer<R: Threads + Wait + Sync, G: Gate + Sync, H: Shelf<Closed>, O: Sink>(
     rt: &R,
     gate: &G,

@@ -64,7 +64,8 @@ module _ {P T : Type 0} (tie : P → T) where
   abbrev number_on : Ticket T → ℕ
   number_on k = k.number
 
-  -- lanes with the same tickets in any order, both rising by number: the tickets are the same
+  -- lanes with the same tickets in any order, both in increasing order of numbers, have the same
+  -- list of tickets
   pub in_place : (old new : List (Lane P T)) → IsStrictlyIncreasing (map (λ l. l.number) old)
       → IsPermutation (map (ticket tie) old) (map (ticket tie) new)
       → IsNonDecreasingBy (λ l. l.number) new → map (ticket tie) new ≡ map (ticket tie) old
@@ -86,7 +87,7 @@ module _ {P T : Type 0} (tie : P → T) where
       (λ a. Contains-permutation ys xs a (IsPermutation-sym xs ys same))
       (λ a. Contains-permutation xs ys a same)
 
-  -- so are those of lanes that came back and were put in order
+  -- the tickets of lanes that came back and were put in order are the same
   pub at_home : (old back new : List (Lane P T)) → IsStrictlyIncreasing (map (λ l. l.number) old)
       → IsPermutation (map (ticket tie) old) (map (ticket tie) back) → IsPermutation back new
       → IsNonDecreasingBy (λ l. l.number) new → map (ticket tie) new ≡ map (ticket tie) old
@@ -95,13 +96,13 @@ module _ {P T : Type 0} (tie : P → T) where
       (IsPermutation-trans (map (ticket tie) old) (map (ticket tie) back) (map (ticket tie) new)
       came (IsPermutation-map (ticket tie) back new sorted)) rising
 
-  -- so is all that is read off them
+  -- all that is read off them is the same
   pub same_on : {Y : Type 0} (g : Ticket T → Y) (old new : List (Lane P T))
       → map (ticket tie) new ≡ map (ticket tie) old
       → map (λ l. g (ticket tie l)) new ≡ map (λ l. g (ticket tie l)) old
   same_on g old new is = sym (through g new) ∙ ap (map g) is ∙ through g old
 
--- the numbers from 0 on rise
+-- the numbers from 0 on are strictly increasing
 pub IsStrictlyIncreasing-from_0 : (n : ℕ) → IsStrictlyIncreasing (map (λ k. k) (range_with_len 0 n))
 IsStrictlyIncreasing-from_0 n k h =
     let size = length-map-range_with_len (λ j. j) 0 n in
@@ -110,7 +111,7 @@ IsStrictlyIncreasing-from_0 n k h =
     (omega (arith, size, h)) (omega arith) in
     rw (low, high) (omega arith)
 
--- and one more behind elements with these numbers
+-- numbers from 0 on, with the next one
 pub counted_more : {X : Type 0} (n : X → ℕ) (xs : List X) (x : X)
     → map n xs ≡ map (λ k. k) (range_with_len 0 (length xs)) → n x ≡ length xs
     → map n (xs ++ x ∷ []) ≡ map (λ k. k) (range_with_len 0 (length (xs ++ x ∷ [])))

@@ -1,14 +1,14 @@
--- The owner's tally behind what it takes back. Serves the calls of the owner.
+-- The owner's tally after what it takes back. Serves the calls of the owner.
 use Rattle.std.proofs.Common.{◌≡◌, ℕ, ◌+◌, ◌-◌, List, ◌++◌, sym, refl, ap, ◌∙◌, subst, arith}
 use Rattle.tele_steal.specs.declared.tallies.Tally.{Tally}
 use Rattle.tele_steal.specs.Tallies.{of_owner, IsOwners}
 
--- a tally that is written as an owner's is one
+-- a tally written as an owner's is the owner's
 pub is_owners : {X : Type 0} (v : Tally X) (out : ℕ) (put back : List X) → v ≡ of_owner out put back
     → IsOwners v
 is_owners v out put back e = subst IsOwners (sym e) refl
 
--- the owner takes back what a worker took, and there is one worker less
+-- the owner takes back what a worker took, and there is one worker fewer
 pub owner_step : {X : Type 0} (v w : Tally X) (n k : ℕ) (put more : List X)
     → v ≡ of_owner n put v.back → w ≡ of_owner (v.out - 1) v.put (v.back ++ more) → n ≡ k + 1
     → w ≡ of_owner k put w.back

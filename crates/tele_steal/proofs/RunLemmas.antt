@@ -28,8 +28,8 @@ module _ {P T : Type 0} (tie : P → T) where
       λ i. record { number = number i; tasks = tasks i; tie = tied i } in
       (λ i. first i ∷ rest i)
 
--- a list of which the part before a place stayed, and the part behind it came to fit, in the place
--- of the old one
+-- a list whose part before a place stayed, and whose part from that place on fits after it replaced
+-- the old one
 pub put_back : {X : Type 0} (Fits : X → Type 0) (before : List X) (x : X) (old new : List X)
     (at n : ℕ)
     → at ≡ length before → old ≡ before ++ x ∷ [] → length new ≡ length old → n ≡ length old
@@ -47,7 +47,7 @@ put_back Fits before x old new at n from is long size kept fit rest =
     ∙ take_all n new (omega (arith, long, size)) in
     subst (All Fits) (sym whole) all
 
--- what is true of all is true of all but the last
+-- what is true of all is true of a first part
 pub All-rest : {X : Type 0} (Fits : X → Type 0) (xs ys zs : List X) → xs ≡ ys ++ zs → All Fits xs
     → All Fits ys
 All-rest Fits xs ys zs is all =
@@ -61,12 +61,12 @@ All-last Fits xs ys x is all =
     All-head Fits x [] (subst (All Fits) (drop-append_seam ys (x ∷ []))
     (All-drop Fits (length ys) (ys ++ x ∷ []) (subst (All Fits) is all)))
 
--- what is true of all and of one more is true of all with it
+-- what is true of all and of one more is true of all together
 pub All-more : {X : Type 0} (Fits : X → Type 0) (xs ys : List X) (x : X) → ys ≡ xs ++ x ∷ []
     → All Fits xs → Fits x → All Fits ys
 All-more Fits xs ys x is all one = subst (All Fits) (sym is) (All-push Fits xs x all one)
 
--- one more element
+-- the length of a list with one more element
 pub length_more : {X : Type 0} (xs ys : List X) (x : X) → ys ≡ xs ++ x ∷ []
     → length ys ≡ length xs + 1
 length_more xs ys x is = ap length is ∙ length-append xs (x ∷ [])
@@ -78,7 +78,7 @@ same_length f xs ys more is =
     sym (length-map ys f) ∙ ap length is ∙ length-append (map f xs) more
     ∙ ap (λ n. n + length more) (length-map xs f)
 
--- what f makes of a list and of some more, behind what it made of the list before
+-- the images in a list that grew, after a front, are the images of all that was added
 pub behind : {X Y Z : Type 0} (f : X → Y) (g : Z → Y) (xs ys : List X) (front : List Y)
     (old more new : List Z)
     → map f ys ≡ map f xs ++ map g more → map f xs ≡ front ++ map g old → new ≡ old ++ more
@@ -87,7 +87,7 @@ behind f g xs ys front old more new now before is =
     now ∙ ap (λ z. z ++ map g more) before ∙ append_assoc front (map g old) (map g more)
     ∙ ap (λ z. front ++ z) (sym (ap (map g) is ∙ map-append g old more))
 
--- one more of the kept lanes is among the others
+-- one more of the kept lanes was run
 pub run_step : {X Y : Type 0} (f : X → Y) (all : List Y) (lanes more kept rest : List X) (x : X)
     → IsPermutation all (map f lanes ++ map f kept) → kept ≡ rest ++ x ∷ []
     → map f more ≡ map f lanes ++ f x ∷ [] → IsPermutation all (map f more ++ map f rest)

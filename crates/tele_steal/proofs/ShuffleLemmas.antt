@@ -11,7 +11,7 @@ module _ {X : Type 0} where
       (subst (λ z. IsPermutation ((a ++ b) ++ c) z) (append_assoc b a c)
       (IsPermutation-append_left c (a ++ b) (b ++ a) (IsPermutation-append_comm a b)))
 
-  -- one more behind both: it may join the first of two parts
+  -- one more after both: it may join the first of two parts
   pub joins_first : (put a b x : List X) → IsPermutation put (a ++ b)
       → IsPermutation (put ++ x) ((a ++ x) ++ b)
   joins_first put a b x same =
@@ -21,7 +21,7 @@ module _ {X : Type 0} where
       (subst (λ z. IsPermutation (a ++ (b ++ x)) z) (sym (append_assoc a x b))
       (IsPermutation-append_right a (b ++ x) (x ++ b) (IsPermutation-append_comm b x))))
 
-  -- what leads the first of three parts goes behind the second
+  -- the head of the first of three parts goes after the second
   pub joins_second : (put x a b c : List X) → IsPermutation put ((x ++ a) ++ (b ++ c))
       → IsPermutation put (a ++ ((b ++ x) ++ c))
   joins_second put x a b c same =
@@ -42,7 +42,7 @@ module _ {X : Type 0} where
       (IsPermutation-append_right a (b ++ (x ++ c)) (b ++ d)
       (IsPermutation-append_right b (x ++ c) d third)))
 
-  -- what leads the third of three parts goes behind the second
+  -- the head of the third of three parts goes after the second
   pub third_to_second : (put a b c d w : List X) → IsPermutation c (w ++ d)
       → IsPermutation put (a ++ (b ++ c)) → IsPermutation put (a ++ ((b ++ w) ++ d))
   third_to_second put a b c d w third same =

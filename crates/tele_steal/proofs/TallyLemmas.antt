@@ -16,7 +16,7 @@ use Rattle.tele_steal.proofs.ShuffleLemmas.{joins_first, joins_second, joins_thi
 use Rattle.tele_steal.proofs.ViewLemmas.{seat_within, sum_by-seat, flat_map-seat, others, seat_last, flat_map-none, no_elements}
 
 module _ {X : Type 0} (Fits : X → Type 0) where
-  -- the rule, and the owner where its pass is known
+  -- the rule, and the owner, if its pass is known
   pub owned : (port : ℕ) (v : Tally X) (items : List X) (views : List (Tally X)) → IsOwners v
       → Balances Fits items views → get_elem? views port ≡ some v
       → BalancesAt Fits port v items views
@@ -62,7 +62,7 @@ module _ {X : Type 0} (Fits : X → Type 0) where
         fit = fit;
       }
 
-  -- a deque with its owner alone
+  -- a deque with only its owner
   pub begins : Balances Fits [] (of_owner 0 [] [] ∷ [])
   begins = record {
     port = 0;
@@ -99,7 +99,7 @@ module _ {X : Type 0} (Fits : X → Type 0) where
         refl,
       )
 
-  -- all of two lists fit, so do those of each
+  -- if all of two lists fit, all of each fit
   fit_left : (xs ys : List X) → All Fits (xs ++ ys) → All Fits xs
   fit_left xs ys h = subst (All Fits) (take-append_seam xs ys)
       (All-take Fits (length xs) (xs ++ ys) h)
@@ -128,7 +128,7 @@ module _ {X : Type 0} (Fits : X → Type 0) where
         record { tally = refl; few = omega arith; fit = fit_left xs items o.fit },
       )
 
-  -- where the deque is empty and no worker has a pass, all came back
+  -- if the deque is empty and no worker has a pass, all came back
   pub all_back : (port : ℕ) (v : Tally X) → IsOwners v
       → Finds (Balances Fits) port v (v.out ≡ 0 → IsPermutation v.put v.back)
   all_back port v is views b at none =
@@ -138,7 +138,7 @@ module _ {X : Type 0} (Fits : X → Type 0) where
       subst (λ z. IsPermutation v.put z) (append-nil v.back)
       (subst (λ z. IsPermutation v.put (v.back ++ z)) flat o.same)
 
-  -- what came back is no more than what was put in
+  -- at most as much came back as was put in
   pub counts : (port : ℕ) (v : Tally X) → IsOwners v
       → Learns (Balances Fits) port v (λ items. length v.back ≤ length v.put)
   counts port v is items views b at =
@@ -195,7 +195,7 @@ module _ {X : Type 0} (Fits : X → Type 0) where
         record { tally = refl; few = omega arith; fit = fit_left xs items o.fit },
       )
 
-  -- all that was put in came back: nothing is left in the deque, nor with a worker
+  -- all that was put in came back: nothing is left in the deque or with a worker
   pub settled : (port : ℕ) (v : Tally X) (items : List X) (views : List (Tally X))
       → BalancesAt Fits port v items views → IsPermutation v.put v.back
       → (items ≡ []) × (flat_map taken_by views ≡ [])

@@ -9,7 +9,7 @@ use Rattle.std.proofs.lemmas.List.Sorted.{IsPermutation-refl, IsPermutation-tran
 use Rattle.tele_steal.proofs.ShuffleLemmas.{second_first}
 
 module _ {X : Type 0} where
-  -- an element that is there has a place within
+  -- an element of a list has a place within it
   pub seat_within : (l : List X) (i : ℕ) (u : X) → get_elem? l i ≡ some u → i < length l
   seat_within [] i u e = absurd (some-ne-none u (sym e))
   seat_within (x ∷ xs) zero u e = omega arith
@@ -42,7 +42,7 @@ module _ {X : Type 0} where
       ap (λ z. z ++ flat_map f xs) (same ∙ ap f (sym (some-injective x u e)))
   flat_map-seat f (x ∷ xs) (suc i) u w e same = ap (λ z. f x ++ z) (flat_map-seat f xs i u w e same)
 
-  -- what f makes of one element, and of all others, whatever stands in its place
+  -- what f makes of one element and of all others, whatever replaces the one
   pub record Others {Y : Type 0} (f : X → List Y) (l : List X) (i : ℕ) (u : X) : Type 0 where
     pub rest : List Y
     pub before : IsPermutation (flat_map f l) (f u ++ rest)
@@ -71,17 +71,17 @@ module _ {X : Type 0} where
         (second_first (f x) (f w) o.rest);
   }
 
-  -- a list with as many elements as none is empty
+  -- a list of length 0 is empty
   pub no_elements : (l : List X) → length l ≡ 0 → l ≡ []
   no_elements [] h = refl
   no_elements (x ∷ xs) h = absurd (omega (arith, h))
 
-  -- behind the last element of a list there is one that was added
+  -- a list of one element has nothing after its first place
   pub seat_last : (x u : X) (j : ℕ) → get_elem? (x ∷ []) j ≡ some u → j ≡ 0
   seat_last x u zero e = refl
   seat_last x u (suc j) e = absurd (some-ne-none u (sym e))
 
-  -- where no element counts, and those that don't count make nothing, nothing is made
+  -- if no element counts, and those that don't count make nothing, nothing is made
   pub flat_map-none : {Y : Type 0} (f : X → List Y) (n : X → ℕ) (l : List X) → sum_by n l ≡ 0
       → All (λ u. n u ≡ 0 → f u ≡ []) l → flat_map f l ≡ []
   flat_map-none f n [] none idle = refl

@@ -1,4 +1,4 @@
--- What a lane is before it is run, and what it is behind that.
+-- A lane before it is run, and after.
 use Rattle.std.specs.Prelude.{◌≡◌, ℕ, ◌≤◌, [], List, length, Option, None, Some, IfSome, IfNone, slice_get, option_map}
 use Rattle.ist_core.specs.Replies.{Answered, Refused}
 use Rattle.tele_lanes.specs.Lines.{commands_of, AnswerInOrder, CallInOrder, TellReplies}
@@ -15,7 +15,7 @@ pub record Ticket (T : Type 0) : Type 0 where
 abbrev pub ticket : {P T : Type 0} → (P → T) → Lane P T → Ticket T
 ticket tie l = record { number = l.number; tasks = l.tasks; tie = tie l.port }
 
--- the lane wasn't run: no answers, room for one to each task, and a port without calls
+-- the lane wasn't run: no answers, room for one per task, and a port without calls
 pub record IsFresh {P T : Type 0} (calls_of : P → List Answered) (refusal_of : P → Option Refused)
     (l : Lane P T) : Type 0 where
   pub empty : l.answers.list ≡ []
@@ -24,7 +24,7 @@ pub record IsFresh {P T : Type 0} (calls_of : P → List Answered) (refusal_of :
   pub unrefused : refusal_of l.port ≡ None
 
 -- the lane was run: its port made the calls of its first tasks and has an answer to each, and it
--- stopped where its port refused the next
+-- stopped if its port refused the next
 pub record HasRun {P T : Type 0} (calls_of : P → List Answered) (refusal_of : P → Option Refused)
     (l : Lane P T) : Type 0 where
   pub calls : CallInOrder l.tasks (calls_of l.port)

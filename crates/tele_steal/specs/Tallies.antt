@@ -34,7 +34,7 @@ module _ {X : Type 0} where
   abbrev pub busy_of : Tally X → ℕ
   busy_of v = v.busy
 
-  -- a pass that is no worker's has taken nothing
+  -- a pass that isn't a worker's has taken nothing
   abbrev pub IdleTookNothing : Tally X → Type 0
   IdleTookNothing v = v.busy ≡ 0 → v.taken ≡ []
 

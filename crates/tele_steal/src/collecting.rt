@@ -14,8 +14,7 @@ use std::sync::Wait;
 use std::thread::Threads;
 use tele_lanes::{Gate, Lane};
 
-/// Makes a pass for each bag. What was put in before has all come back, so that the count begins
-/// anew.
+/// Makes a pass for each bag. All that was put in before has come back, so the count starts again.
 pub(crate) fn hire_all<P: Port>(
     owner: &mut Owner<P>,
     bags: &mut Vec<Vec<Lane<P>>>,
@@ -46,7 +45,7 @@ pub(crate) fn hire_all<P: Port>(
     }
 }
 
-/// Puts a lane into the deque, or keeps it where the deque has no memory for it.
+/// Puts a lane into the deque, or keeps it if the deque has no memory for it.
 fn put_or_keep<P: Port>(owner: &mut Owner<P>, lane: Lane<P>, kept: &mut Vec<Lane<P>>)
     requires owner { IsOwners (worker_view owner.old) }
     requires fresh { IsFresh P.calls P.refused lane }
@@ -69,7 +68,7 @@ fn put_or_keep<P: Port>(owner: &mut Owner<P>, lane: Lane<P>, kept: &mut Vec<Lane
     }
 }
 
-/// Puts the lanes into the deque, the last one first. Those that it has no memory for are kept.
+/// Puts the lanes into the deque, the last one first. Keeps those that the deque has no memory for.
 pub(crate) fn put_in<P: Port>(
     owner: &mut Owner<P>,
     lanes: &mut Vec<Lane<P>>,
@@ -117,7 +116,7 @@ pub(crate) fn run_kept<R: Threads + Wait + Sync, P: Port + Send, G: Gate + Sync>
     }
 }
 
-/// Takes back the pass of a worker, and the lanes that it ran. Gives its empty bag.
+/// Takes back the pass of a worker, and the lanes that it ran. Returns its empty bag.
 fn take_hand<P: Port>(owner: &mut Owner<P>, hand: Hand<P>, lanes: &mut Vec<Lane<P>>) -> Vec<Lane<P>>
     requires owner { IsOwners (worker_view owner.old) }
     requires table { IsPassOf (worker_deque owner.old) hand.pass }
@@ -139,7 +138,7 @@ fn take_hand<P: Port>(owner: &mut Owner<P>, hand: Hand<P>, lanes: &mut Vec<Lane<
     ensures wide { vec_capacity result ≡ vec_capacity hand.bag }
 {
     let Hand { pass, mut bag } = hand;
-    // What came back is no more than what was put in, so there is room for it.
+    // At most as much came back as was put in, so there is room for it.
     dismiss(owner, pass);
     match lanes.append(&mut bag) {
         Ok(()) => bag,
@@ -188,10 +187,9 @@ pub(crate) fn take_back<P: Port>(
     }
 }
 
-/// Runs the lanes that are in the deque still, on this thread, until it is empty: all came back
-/// then.
+/// Runs the lanes still in the deque, on this thread, until it is empty; then all came back.
 ///
-/// A worker ends where the deque was empty at one moment, but none of its answers can say so
+/// A worker ends only if the deque was empty at one moment, but nothing that it returns can say so
 /// later. So the owner looks itself.
 pub(crate) fn draw_all<R: Threads + Wait + Sync, P: Port + Send, G: Gate + Sync>(
     rt: &R,

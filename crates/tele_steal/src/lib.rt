@@ -1,7 +1,7 @@
-//! Lanes that idle workers steal: more lanes than workers, each taken from a deque by whoever has
-//! nothing to do.
+//! Lanes that idle workers steal: more lanes than workers, each taken from a deque by a worker that
+//! has nothing to do.
 //!
-//! Read `specs/Runs.antt`, then `stealing.rt`, `yards.rt` and `specs/Tallies.antt`. Stands on
+//! Read `specs/Runs.antt`, then `stealing.rt`, `yards.rt` and `specs/Tallies.antt`. Builds on
 //! `tele_lanes`, `ist_core` and `crossbeam_deque`.
 #![tactic(auto)]
 

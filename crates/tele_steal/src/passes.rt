@@ -1,4 +1,4 @@
-//! The owner's calls of the deque, one at a time, each with what it makes of the owner's tally.
+//! The owner's calls of the deque, one at a time, each with its effect on the owner's tally.
 ghost use Rattle.std.specs.Prelude.{◌≡◌, ◌+◌, ◌-◌, ◌<◌, ◌≤◌, [], ◌∷◌, ◌++◌, length, IfSome, IfNone};
 ghost use Rattle.std.specs.List.Sorted.{IsPermutation};
 ghost use Rattle.crossbeam_deque.specs.Handles.{view, IsPassOf, SameWorker, worker_deque, worker_flavor, worker_view};
@@ -10,7 +10,7 @@ use crossbeam_deque::Pass;
 use ist_core::Port;
 use tele_lanes::Lane;
 
-/// The pass of a worker. What was put in before has all come back, so that the count begins anew.
+/// Makes the pass of a worker. All that was put in before has come back, so the count starts again.
 pub(crate) fn hire<P: Port>(owner: &mut Owner<P>) -> Pass<Lane<P>, Tally<Lane<P>>>
     requires owner { IsOwners (worker_view owner.old) }
     requires settled { IsPermutation (worker_view owner.old).put (worker_view owner.old).back }
@@ -22,7 +22,7 @@ pub(crate) fn hire<P: Port>(owner: &mut Owner<P>) -> Pass<Lane<P>, Tally<Lane<P>
     owner.another::<Hire>()
 }
 
-/// Puts a lane in. Gives it back where the deque has no memory for it.
+/// Puts a lane in, or gives it back if the deque has no memory for it.
 pub(crate) fn put<P: Port>(owner: &mut Owner<P>, lane: Lane<P>) -> Option<Lane<P>>
     requires owner { IsOwners (worker_view owner.old) }
     requires fresh { IsFresh P.calls P.refused lane }
@@ -39,7 +39,7 @@ pub(crate) fn put<P: Port>(owner: &mut Owner<P>, lane: Lane<P>) -> Option<Lane<P
     }
 }
 
-/// Takes back the pass of a worker. What came back is no more than what was put in.
+/// Takes back the pass of a worker. At most as much came back as was put in.
 pub(crate) fn dismiss<P: Port>(owner: &mut Owner<P>, pass: Pass<Lane<P>, Tally<Lane<P>>>)
     requires owner { IsOwners (worker_view owner.old) }
     requires table { IsPassOf (worker_deque owner.old) pass }
@@ -53,7 +53,7 @@ pub(crate) fn dismiss<P: Port>(owner: &mut Owner<P>, pass: Pass<Lane<P>, Tally<L
     owner.len_as::<Count>();
 }
 
-/// Takes a lane back from the deque. Where there is none and no worker has a pass, all came back.
+/// Takes a lane back from the deque. If there is none and no worker has a pass, all came back.
 pub(crate) fn draw<P: Port>(owner: &mut Owner<P>) -> Option<Lane<P>>
     requires owner { IsOwners (worker_view owner.old) }
     requires first_in { worker_flavor owner.old ≡ 0 }

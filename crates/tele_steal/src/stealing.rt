@@ -16,10 +16,10 @@ use tele_lanes::{Gate, Lane};
 
 /// Runs the lanes by the workers of the yard, and hands them back in the order of their numbers.
 ///
-/// Each worker has a thread of its own where one can be started. It takes the first lane that no
-/// other took, runs it as `tele_lanes::run_lanes` does, and so on until there is none. A lane that
-/// the deque has no memory for is run by the caller first. Takes no other memory, and is never
-/// refused.
+/// Each worker has its own thread if one can be started. It takes the first lane that no other
+/// took, runs it as `tele_lanes::run_lanes` does, and takes the next until there is none. If the
+/// deque has no memory for a lane, the caller runs that lane first. Allocates nothing else, and
+/// never fails.
 pub fn run_stolen<R: Threads + Wait + Sync, P: Port + Send, G: Gate + Sync>(
     rt: &R,
     gate: &G,
@@ -38,12 +38,12 @@ pub fn run_stolen<R: Threads + Wait + Sync, P: Port + Send, G: Gate + Sync>(
     ensures tasks { map (λ l. l.tasks) result.items ≡ map (λ l. l.tasks) lanes.items }
     ensures ties { map (λ l. P.tie l.port) result.items ≡ map (λ l. P.tie l.port) lanes.items }
 
-    // What was done is a first part of the tasks, in order, and each call has its answer.
+    // The calls were made for a first part of the tasks, in order, and each call has its answer.
     ensures calls { All (λ l. CallInOrder l.tasks (P.calls l.port)) result.items }
     ensures answers { All (λ l. AnswerInOrder l.tasks l.answers.list) result.items }
     ensures replies { All (λ l. TellReplies (P.calls l.port) l.answers.list) result.items }
 
-    // A lane stops where its port refuses the first task without an answer, and nowhere else.
+    // A lane stops only if its port refuses the first task without an answer.
     ensures stopped { All (λ l.
         l.stopped ≡ option_map (λ r. r.full) (P.refused l.port)) result.items }
     ensures refused { All (λ l. IfSome (P.refused l.port) (λ r.
@@ -65,7 +65,7 @@ pub fn run_stolen<R: Threads + Wait + Sync, P: Port + Send, G: Gate + Sync>(
     )
 }
 
-/// The same over the parts of a yard.
+/// Does the same over the parts of a yard.
 fn run_ordered<R: Threads + Wait + Sync, P: Port + Send, G: Gate + Sync>(
     rt: &R,
     gate: &G,
@@ -90,12 +90,12 @@ fn run_ordered<R: Threads + Wait + Sync, P: Port + Send, G: Gate + Sync>(
     ensures tasks { map (λ l. l.tasks) result.items ≡ map (λ l. l.tasks) lanes.items }
     ensures ties { map (λ l. P.tie l.port) result.items ≡ map (λ l. P.tie l.port) lanes.items }
 
-    // What was done is a first part of the tasks, in order, and each call has its answer.
+    // The calls were made for a first part of the tasks, in order, and each call has its answer.
     ensures calls { All (λ l. CallInOrder l.tasks (P.calls l.port)) result.items }
     ensures answers { All (λ l. AnswerInOrder l.tasks l.answers.list) result.items }
     ensures replies { All (λ l. TellReplies (P.calls l.port) l.answers.list) result.items }
 
-    // A lane stops where its port refuses the first task without an answer, and nowhere else.
+    // A lane stops only if its port refuses the first task without an answer.
     ensures stopped { All (λ l.
         l.stopped ≡ option_map (λ r. r.full) (P.refused l.port)) result.items }
     ensures refused { All (λ l. IfSome (P.refused l.port) (λ r.
@@ -107,7 +107,7 @@ fn run_ordered<R: Threads + Wait + Sync, P: Port + Send, G: Gate + Sync>(
     in_order(shared)
 }
 
-/// The lanes by their numbers.
+/// Sorts the lanes by their numbers.
 fn in_order<P: Port>(lanes: Vec<Lane<P>>) -> Vec<Lane<P>>
     ensures same { IsPermutation lanes.items result.items }
     ensures rising { IsNonDecreasingBy (λ l. l.number) result.items }

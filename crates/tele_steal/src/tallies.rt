@@ -1,5 +1,5 @@
 //! What each pass of the deque has put in and taken out, the rule over all of them, and what each
-//! call tells.
+//! call learns.
 
 use crossbeam_deque::protocol::{Join, Lesson, Outcome, Protocol, Split};
 use crossbeam_deque::{Pass, Stealer, Worker};
@@ -40,7 +40,7 @@ impl<P: Port> Protocol<Lane<P>, Tally<Lane<P>>> for Balance {
     ghost guest = { of_none };
 }
 
-/// The owner makes the pass of a worker. It had got back all that it put in, and begins anew.
+/// The owner makes the pass of a worker. It had got back all that it put in, and starts again.
 pub(crate) struct Hire;
 
 impl<X> Split<Tally<X>> for Hire {
@@ -74,7 +74,7 @@ impl<P: Port> Outcome<Lane<P>, Tally<Lane<P>>> for Put {
     ghost then = { λ v xs w. w ≡ of_owner v.out (v.put ++ xs) v.back };
 }
 
-/// A worker takes a lane. Where there is none, it learns what `L` says of an empty deque.
+/// A worker takes a lane. If there is none, it learns what `L` says of an empty deque.
 pub(crate) struct Take<L> {
     lesson: PhantomData<L>,
 }
@@ -89,7 +89,7 @@ impl<P: Port, L: Lesson<Lane<P>, Tally<Lane<P>>>> Outcome<Lane<P>, Tally<Lane<P>
     ghost empty = { λ v. L.fact v [] };
 }
 
-/// The owner takes a lane back. Where there is none and no worker has a pass, all came back.
+/// The owner takes a lane back. If there is none and no worker has a pass, all came back.
 pub(crate) struct Draw;
 
 impl<P: Port> Outcome<Lane<P>, Tally<Lane<P>>> for Draw {
@@ -103,7 +103,7 @@ impl<P: Port> Outcome<Lane<P>, Tally<Lane<P>>> for Draw {
     ghost empty = { λ v. v.out ≡ 0 → IsPermutation v.put v.back };
 }
 
-/// What came back is no more than what was put in.
+/// At most as much came back as was put in.
 pub(crate) struct Count;
 
 impl<P: Port> Lesson<Lane<P>, Tally<Lane<P>>> for Count {

@@ -1,4 +1,4 @@
-//! A worker: it takes a lane from the deque, runs it, and so on until the deque is empty.
+//! A worker: it takes a lane from the deque, runs it, and takes the next until the deque is empty.
 ghost use Rattle.std.specs.Prelude.{◌≡◌, ◌<◌, ◌≤◌, ℕ, List, [], ◌++◌, ◌∷◌, map, take, drop, All, length, IfSome, IfNone, MatchOption, vec_capacity};
 ghost use mathlib.Core.Option.{some};
 ghost use lib.ListN.{get_elem?};
@@ -17,7 +17,7 @@ use std::thread;
 use std::thread::Threads;
 use tele_lanes::{Gate, Lane, run_lanes};
 
-/// Runs those of the lanes that stand at `at` or behind it, on this thread if there is one.
+/// Runs the lanes from `at` on; if there is one, it runs on this thread.
 pub(crate) fn run_behind<R: Threads + Wait + Sync, P: Port + Send, G: Gate + Sync>(
     rt: &R,
     gate: &G,
@@ -34,7 +34,7 @@ pub(crate) fn run_behind<R: Threads + Wait + Sync, P: Port + Send, G: Gate + Syn
     run_lanes(rt, gate, behind);
 }
 
-/// The first lane of the deque. `None` only where at one moment there was none.
+/// Takes the first lane of the deque. `None` only if there was none at one moment.
 pub(crate) fn steal_lane<R: Wait, P: Port, L: Lesson<Lane<P>, Tally<Lane<P>>>>(
     rt: &R,
     thief: &Thief<P>,
@@ -63,7 +63,7 @@ pub(crate) fn steal_lane<R: Wait, P: Port, L: Lesson<Lane<P>, Tally<Lane<P>>>>(
     unreachable!()
 }
 
-/// Runs one lane on this thread, and puts it behind the others.
+/// Runs one lane on this thread, and appends it to the others.
 pub(crate) fn run_into<R: Threads + Wait + Sync, P: Port + Send, G: Gate + Sync>(
     rt: &R,
     gate: &G,
@@ -83,10 +83,10 @@ pub(crate) fn run_into<R: Threads + Wait + Sync, P: Port + Send, G: Gate + Sync>
     run_behind(rt, gate, bag.as_mut_slice(), at);
 }
 
-/// One worker: it takes lanes from the deque and runs them, until the deque is empty.
+/// Runs one worker: it takes lanes from the deque and runs them, until the deque is empty.
 ///
-/// It ends only where at one moment there was no lane in the deque: there, whatever lesson is
-/// asked for is learnt.
+/// It ends only if at one moment there was no lane in the deque. At that moment it learns whatever
+/// lesson is asked for.
 pub(crate) fn work<
     R: Threads + Wait + Sync,
     P: Port + Send,
@@ -118,7 +118,7 @@ pub(crate) fn work<
     unreachable!()
 }
 
-/// One worker, of which nothing is asked but its work.
+/// Runs one worker that need not learn anything.
 fn work_off<R: Threads + Wait + Sync, P: Port + Send, G: Gate + Sync>(
     rt: &R,
     gate: &G,
@@ -140,7 +140,7 @@ fn work_off<R: Threads + Wait + Sync, P: Port + Send, G: Gate + Sync>(
     work::<R, P, G, Nothing>(rt, gate, thief, hand);
 }
 
-/// The workers, each in a thread of its own where one can be started.
+/// Runs the workers, each in its own thread if one can be started.
 pub(crate) fn work_all<R: Threads + Wait + Sync, P: Port + Send, G: Gate + Sync>(
     rt: &R,
     gate: &G,
@@ -179,7 +179,7 @@ pub(crate) fn work_all<R: Threads + Wait + Sync, P: Port + Send, G: Gate + Sync>
     }
 }
 
-/// The same for hands in a vector.
+/// Does the same for hands in a vector.
 pub(crate) fn work_hands<R: Threads + Wait + Sync, P: Port + Send, G: Gate + Sync>(
     rt: &R,
     gate: &G,

@@ -7,12 +7,12 @@ use std::alloc::{AllocError, Global};
 use std::marker::Model;
 use tele_lanes::Lane;
 
-/// Lanes in a bag, in room that was taken before.
+/// How many lanes fit in a bag, in room that was allocated before.
 pub(crate) const LANES: usize = 64;
 
 /// What some workers need to steal lanes from one another: a deque, and room for what each ran.
 ///
-/// Contracts see for how many workers and lanes it is. It can be used again and again.
+/// Contracts see for how many workers and lanes it is. It can be used any number of times.
 #[derive(Drop)]
 pub struct Yard<P: Port> {
     pub(crate) owner: Owner<P>,
@@ -36,8 +36,8 @@ impl<P: Port> Model for Yard<P> {
 }
 
 impl<P: Port + Drop> Yard<P> {
-    /// A yard for so many workers and, at a time, so many lanes. It takes all memory that its runs
-    /// need.
+    /// Makes a yard for `workers` workers and up to `lanes` lanes at a time. It allocates all
+    /// memory that its runs need.
     pub fn with_room(alloc: Global, workers: u32, lanes: u32) -> Result<Yard<P>, AllocError>
         requires some_workers { 1 ≤ workers }
         requires workers_at_most { workers ≤ 64 }
@@ -60,7 +60,7 @@ impl<P: Port + Drop> Yard<P> {
     }
 }
 
-/// So many empty bags, each with room for all lanes.
+/// Makes an empty bag per worker, each with room for all lanes.
 fn make_bags<P: Port + Drop>(alloc: Global, workers: usize) -> Result<Vec<Vec<Lane<P>>>, AllocError>
     ensures count { IfOk result (λ v. length v.items ≡ workers) }
     ensures empty { IfOk result (λ v. All (λ b. b.items ≡ []) v.items) }

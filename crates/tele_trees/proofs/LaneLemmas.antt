@@ -10,21 +10,21 @@ use Rattle.tele_steal.proofs.OrderLemmas.{IsStrictlyIncreasing-from_0}
 use Rattle.tele_trees.specs.Counts.{lane_count}
 
 module _ {L : Type 0} where
-  -- nothing is left behind as many as there are
+  -- nothing is left after dropping as many as there are
   drop_whole : (n : ℕ) (xs : List L) → length xs ≤ n → drop n xs ≡ []
   drop_whole zero [] le = refl
   drop_whole (suc n) [] le = refl
   drop_whole zero (x ∷ xs) le = absurd (omega arith)
   drop_whole (suc n) (x ∷ xs) le = drop_whole n xs (omega arith)
 
-  -- as many as there are, are all
+  -- taking as many as there are takes all
   take_whole : (n : ℕ) (xs : List L) → length xs ≤ n → take n xs ≡ xs
   take_whole zero [] le = refl
   take_whole (suc n) [] le = refl
   take_whole zero (x ∷ xs) le = absurd (omega arith)
   take_whole (suc n) (x ∷ xs) le = ap (λ ys. x ∷ ys) (take_whole n xs (omega arith))
 
-  -- what a vector has behind a write to all of it
+  -- what a vector has after a write to all of it
   pub put_back : (n : ℕ) (new old : List L) → n ≡ length old → length new ≡ length old
       → take n (new ++ drop (length new) old) ≡ new
   put_back n new old long same =
@@ -36,7 +36,7 @@ pub same_length : {A B : Type 0} (f : A → B) (xs ys : List A) → map f xs ≡
     → length xs ≡ length ys
 same_length f xs ys e = sym (length-map xs f) ∙ ap length e ∙ length-map ys f
 
--- what is so of each image of one list is so of the same images of another
+-- what holds of each image of one list holds of the same images of another
 pub all_same : {A B : Type 0} (P : B → Type 0) (f : A → B) (xs ys : List A) → map f xs ≡ map f ys
     → All (λ y. P (f y)) ys → All (λ x. P (f x)) xs
 all_same P f [] ys e h = λ k d lt. absurd (omega arith)
@@ -47,7 +47,7 @@ all_same P f (x ∷ xs) (y ∷ ys) e h =
     All-cons (λ a. P (f a)) x xs (subst P head (All-head (λ a. P (f a)) y ys h))
     (all_same P f xs ys tail (All-tail (λ a. P (f a)) y ys h))
 
--- where one more is to come, there are fewer so far than there will be
+-- if one more is still missing, there are fewer so far than there will be
 pub one_to_come : {A B : Type 0} (f : A → B) (xs : List A) (y : B) (ys zs all : List B)
     → map f xs ++ zs ≡ all → zs ≡ y ∷ ys → length xs < length all
 one_to_come f xs y ys zs all e is =
@@ -57,7 +57,7 @@ one_to_come f xs y ys zs all e is =
     let more = ap length is in
     omega arith
 
--- where none is to come, there are as many
+-- if none is missing, there are as many
 pub none_to_come : {A B : Type 0} (f : A → B) (xs : List A) (zs all : List B)
     → map f xs ++ zs ≡ all → length zs ≡ 0 → length xs ≡ length all
 none_to_come f xs zs all e none =
@@ -74,6 +74,7 @@ range_push from (suc n) =
     ap (λ ks. from ∷ ks) (range_push (from + 1) n
     ∙ ap (λ k. range_with_len (from + 1) n ++ k ∷ []) same)
 
+-- numbers from 0 on, with the next one
 pub numbers_push : {A : Type 0} (f : A → ℕ) (xs : List A) (x : A)
     → map f xs ≡ range_with_len 0 (length xs) → f x ≡ length xs
     → map f (xs ++ x ∷ []) ≡ range_with_len 0 (length (xs ++ x ∷ []))
@@ -85,12 +86,12 @@ numbers_push f xs x e is =
     ∙ ap (λ n. range_with_len 0 (length xs) ++ n ∷ []) place
     ∙ sym (range_push 0 (length xs)) ∙ ap (range_with_len 0) long
 
--- these numbers rise
+-- these numbers are strictly increasing
 pub numbers_rise : (ns : List ℕ) (n : ℕ) → ns ≡ range_with_len 0 n → IsStrictlyIncreasing ns
 numbers_rise ns n e = subst IsStrictlyIncreasing
     (map-id (range_with_len 0 n) ∙ sym e) (IsStrictlyIncreasing-from_0 n)
 
--- there is a lane where there is a worker
+-- there is a lane if there is a worker
 pub some_lanes : (workers : ℕ) (steal : Bool) → 1 ≤ workers → 1 ≤ lane_count workers steal
 some_lanes workers true some = omega arith
 some_lanes workers false some = some

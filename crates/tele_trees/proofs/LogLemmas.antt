@@ -1,11 +1,11 @@
--- How many words were spent behind a log that goes on. Serves `TreeTables::run`.
+-- How many words were spent after a log that goes on. Serves `TreeTables::run`.
 use Rattle.std.proofs.Common.{◌≡◌, ℕ, zero, suc, ◌≤◌, List, [], ◌∷◌, slice_get, slice_index, Some}
 use Rattle.std.proofs.Common.{arith}
 use Rattle.ist_core.specs.declared.pairs.Pair.{Pair}
 use Rattle.ist_core.specs.Logs.{Log, GoesOn, same_log, one_event}
 use Rattle.ist_core.specs.Spending.{spent}
 
--- no fewer words were spent behind a log that goes on
+-- at least as many words were spent after a log that goes on
 pub spent_rise : (pairs : List Pair) (earlier log : Log) → GoesOn earlier log
     → spent pairs earlier ≤ spent pairs log
 spent_rise pairs earlier _ same_log = omega arith

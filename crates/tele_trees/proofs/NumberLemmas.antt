@@ -1,4 +1,4 @@
--- The calls of passes that stand in the order of their numbers. Serves `TreeTables::run`.
+-- The calls of passes in the order of their numbers. Serves `TreeTables::run`.
 use Rattle.std.proofs.Common.{◌≡◌, ℕ, zero, suc, ◌+◌, ◌<◌, ◌==◌, ◌≢◌, ◌⊎◌, true, false, List, []}
 use Rattle.std.proofs.Common.{◌∷◌, length, map, refl, arith, inl, inr}
 use Rattle.std.proofs.lemmas.Bool.Decides.{eqb_tells}

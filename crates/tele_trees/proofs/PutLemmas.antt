@@ -1,4 +1,4 @@
--- How many puts are among the changes of a log: no more than its callers were answered. Serves
+-- How many puts are among the changes of a log: at most as many as its callers had answered. Serves
 -- `TreeTables::run`.
 use Rattle.std.proofs.Common.{◌≡◌, ◌≢◌, ℕ, zero, suc, ◌+◌, ◌<◌, ◌≤◌, ◌⊎◌, ◌==◌, Bool, true, false}
 use Rattle.std.proofs.Common.{List, [], ◌∷◌, ◌++◌, length, map, filter, refl, sym, ap, ◌∙◌, arith}
@@ -16,7 +16,7 @@ use Rattle.ist_core.specs.Logs.{Log}
 use Rattle.ist_core.specs.Changes.{Entry, changes_of}
 use Rattle.ist_core.specs.Standing.{is_change, entry_by, entries_by}
 use Rattle.ist_core.specs.Resting.{AllStandIn, told_by_call}
-use Rattle.ist_finished.specs.Finishing.{is_put, puts_in}
+use Rattle.laws_rows.specs.Finishing.{is_put, puts_in}
 use Rattle.tele_lanes.specs.declared.task_lists.Task.{Task}
 use Rattle.tele_lanes.specs.Lines.{commands_of}
 use Rattle.tele_rounds.proofs.StandLemmas.{own_entry, other_entry}
@@ -35,7 +35,7 @@ abbrev pub put_count : List Command → ℕ
 put_count [] = 0
 put_count (c ∷ cs) = one_put c + put_count cs
 
--- so many
+-- it counts the puts
 put_count-is : (cs : List Command) → put_count cs ≡ count_by is_put cs
 put_count-is = is_count_by put_count is_put refl (λ c cs. at (is_put c) (put_count cs))
   where
@@ -43,7 +43,7 @@ put_count-is = is_count_by put_count is_put refl (λ c cs. at (is_put c) (put_co
     at true n = omega arith
     at false n = omega arith
 
--- of two lists together
+-- the puts of two lists together
 put_count-append : (cs ds : List Command) → put_count (cs ++ ds) ≡ put_count cs + put_count ds
 put_count-append [] ds = omega arith
 put_count-append (c ∷ cs) ds = let rest = put_count-append cs ds in omega arith
@@ -75,13 +75,13 @@ puts_in-is (e ∷ es) = at (is_put e.command) (puts_in-is es)
     at true rest = omega arith
     at false rest = omega arith
 
--- with one more entry
+-- the puts among entries, with one more entry
 puts_cons : (e : Entry) (es : List Entry) → puts_in (e ∷ es) ≡ one_put e.command + puts_in es
 puts_cons e es = let one = puts_in-is (e ∷ es) in let rest = puts_in-is es in omega arith
 
 -- ---- by owners
 
--- the puts of so many owners, from this number on
+-- the puts of this many owners, from this number on
 abbrev spread : ℕ → ℕ → List Entry → ℕ
 spread from zero es = 0
 spread from (suc count) es = puts_in (entries_by from es) + spread (from + 1) count es
@@ -125,7 +125,7 @@ spread_own from (suc count) e es low high =
         let rest = later (omega arith) (omega arith) in
         omega arith
 
--- all of them have one of these owners
+-- all entries have one of these owners
 puts_spread : (count : ℕ) (es : List Entry) → Each (λ e. e.owner < count) es
     → puts_in es ≤ spread 0 count es
 puts_spread count [] h = omega arith
@@ -143,7 +143,7 @@ abbrev pub called_puts : List (List Call) → ℕ
 called_puts [] = 0
 called_puts (calls ∷ more) = put_count (map (λ c. c.command) calls) + called_puts more
 
--- calls that stand in a log are no fewer than its entries
+-- calls that are in a log are at least as many as its entries
 spread_few : (pairs : List Pair) (words : ℕ) (log : Log) (from : ℕ) (lists : List (List Call))
     → AllStandIn pairs words log from lists
     → spread from (length lists) (changes_of pairs words log) ≤ called_puts lists
@@ -168,7 +168,7 @@ puts_few pairs words log lists stand owners =
     let few = spread_few pairs words log 0 lists stand in
     omega arith
 
--- more entries have no fewer puts
+-- more entries have at least as many puts
 pub puts_rise : (old more new : List Entry) → new ≡ old ++ more → puts_in old ≤ puts_in new
 puts_rise old more new e =
     let before = puts_in-is old in
@@ -198,7 +198,7 @@ called_done (e ∷ ends) h =
     let mine = ap put_count asked in
     omega arith
 
--- they are the answered puts
+-- the puts called are the answered puts
 pub called_puts-done : (ends : List LaneEnd) → All HasEnded ends
     → called_puts (map (λ e. e.port.pass.calls) ends) ≡ puts_done (map run_of ends)
 called_puts-done ends h =

@@ -1,4 +1,4 @@
--- What a round on one tree came to. Serves `TreeTables::run`.
+-- How a round on one tree ended. Serves `TreeTables::run`.
 use Rattle.std.proofs.Common.{◌≡◌, ◌≢◌, inl, inr, ℕ, ◌+◌, ◌<◌, ◌≤◌, List, map, length}
 use Rattle.std.proofs.Common.{Contains, Option, Some, None, IfSome, IfNone, true, refl, sym}
 use Rattle.std.proofs.Common.{ap, subst, ◌∙◌, arith, slice_get, slice_index}
@@ -21,8 +21,8 @@ use Rattle.ist_core.specs.RowLayout.{next_place}
 use Rattle.ist_core.proofs.SpendingLemmas.{words_are_spent}
 use Rattle.ist_core.specs.StartLayout.{start}
 use Rattle.ist_core.specs.Spending.{spent}
-use Rattle.ist_finished.specs.Finishing.{puts_in}
-use Rattle.ist_histories.proofs.ChangeLemmas.{changes_on, on_trans}
+use Rattle.laws_rows.specs.Finishing.{puts_in}
+use Rattle.laws_histories.proofs.ChangeLemmas.{changes_on, on_trans}
 use Rattle.ist_tree.specs.Faces.{TreeFace, MakerFace, calls_in}
 use Rattle.ist_tree.specs.Opening.{IsNewTree}
 use Rattle.ist_tree.specs.Closing.{ClosesWith, calls_taken, told_to, calls_from}
@@ -41,7 +41,7 @@ use Rattle.tele_trees.proofs.PutLemmas.{puts_few, puts_rise, called_puts, called
 use Rattle.tele_trees.proofs.LogLemmas.{spent_rise, word_there}
 use Rattle.tele_trees.proofs.RefusalLemmas.{none_stopped, one_stopped, refused_with, task_there}
 
--- a command that is no get may want words
+-- a command that isn't a get may need words
 wants_words : (c : Command) → ((key : ℕ) → c ≢ Get key) → may_want_words c ≡ true
 wants_words (Put key value) other = refl
 wants_words (Remove key) other = refl
@@ -71,11 +71,11 @@ module _ (workers words : ℕ) (pairs : List Pair) (tasks : List Task) (tree : T
     (full : Option Full) (new : IsNewTree words pairs tree first)
     (came : CameTo tree maker workers tasks answers left full) (long : length table ≡ tree.words)
     (closes : ClosesWith maker table) where
-  -- what the lanes came to, as runs
+  -- the ends of the lanes, as runs
   abbrev runs : List LaneRun
   runs = map run_of came.ends
 
-  -- the log behind all calls
+  -- the log after all calls
   abbrev log : Log
   log = closes.stands.log
 
@@ -83,7 +83,7 @@ module _ (workers words : ℕ) (pairs : List Pair) (tasks : List Task) (tree : T
   start_is : maker.tree.start ≡ pairs
   start_is = ap (λ t. t.start) came.same_tree ∙ new.start_is
 
-  -- the calls of each pass by its number are those of each lane
+  -- the calls of each pass, by its number, are the calls of each lane
   calls_are : calls_taken maker ≡ map (λ e. e.port.pass.calls) came.ends
   calls_are =
       let passes : List PassCalls = map (λ e. calls_in e.port.pass) came.ends in
@@ -99,14 +99,14 @@ module _ (workers words : ℕ) (pairs : List Pair) (tasks : List Task) (tree : T
       ∙ calls_in_order 0 passes numbers
       ∙ map-map (λ (p : PassCalls). p.calls) (λ e. calls_in e.port.pass) came.ends
 
-  -- and so is what they were told
+  -- what the passes were told is what the lanes were told
   told_are : told_to maker ≡ told_of_runs runs
   told_are =
       ap (map (map told_by_call)) calls_are
       ∙ map-map (map told_by_call) (λ (e : LaneEnd). e.port.pass.calls) came.ends
       ∙ sym (map-map (λ (r : LaneRun). r.told) run_of came.ends)
 
-  -- the words stand for the pairs and what the lanes were told
+  -- the words stand for the pairs and for what the lanes were told
   stands : StandsFor table pairs (told_of_runs runs)
   stands =
       subst (λ ps. StandsFor table ps (told_of_runs runs)) start_is
@@ -120,7 +120,7 @@ module _ (workers words : ℕ) (pairs : List Pair) (tasks : List Task) (tree : T
         ran = All-map HasRun run_of came.ends (λ k d lt. (came.ran k d lt).run);
       }
 
-  -- where no lane stopped, each answered all
+  -- if no lane stopped, each answered all
   ended_whole : first_refusal (map (λ e. e.stopped) came.ends) ≡ None → AreWhole runs
   ended_whole none =
       All-map (λ (r : LaneRun). length r.told ≡ length r.tasks) run_of came.ends
@@ -144,7 +144,7 @@ module _ (workers words : ℕ) (pairs : List Pair) (tasks : List Task) (tree : T
   -- a lane that its port refused
   module _ (e : LaneEnd) (is_end : Contains came.ends e) (r : Refused)
       (was : e.port.refused ≡ Some r) where
-    -- its tree
+    -- its pass is of the tree
     its_tree : e.port.pass.tree ≡ maker.tree
     its_tree = All-contains (λ (x : LaneEnd). x.port.pass.tree ≡ tree) came.ends e came.trees is_end
         ∙ sym came.same_tree
@@ -155,7 +155,7 @@ module _ (workers words : ℕ) (pairs : List Pair) (tasks : List Task) (tree : T
     its_start : e.port.pass.tree.start ≡ maker.tree.start
     its_start = ap (λ t. t.start) its_tree
 
-    -- why
+    -- why it was refused
     cause : WasRefused e.port.pass r
     cause = subst (λ o. IfSome o (WasRefused e.port.pass)) was
         (All-contains (λ (x : LaneEnd). IfSome x.port.refused (WasRefused x.port.pass)) came.ends e
@@ -167,7 +167,7 @@ module _ (workers words : ℕ) (pairs : List Pair) (tasks : List Task) (tree : T
         (All-contains (λ (x : LaneEnd). GoesOn x.port.pass.seen maker.seen) came.ends e came.seen
         is_end) closes.goes_on
 
-    -- no more words were spent then than in the end
+    -- at most as many words were spent then as in the end
     next_few : r.full.next ≤ slice_index table next_place
     next_few =
         let then_is : r.full.next ≡ spent maker.tree.start cause.at
@@ -177,7 +177,7 @@ module _ (workers words : ℕ) (pairs : List Pair) (tasks : List Task) (tree : T
         let there = word_there table next_place _ closes.stands.image.next in
         omega arith
 
-    -- it asked for what it might ask for
+    -- it asked for a number that it may ask for
     asked_for : MayBeAsked e.port.pass r.full.asked
         → MayAsk (length pairs + puts_done runs) r.full.asked
     asked_for (inl two) = inl two
@@ -197,7 +197,7 @@ module _ (workers words : ℕ) (pairs : List Pair) (tasks : List Task) (tree : T
         = ap length (its_start ∙ start_is) in
         inr (inr (inr (node.keys, node.least, omega arith, node.asked_is)))
 
-    -- so the table ran full before its next task
+    -- the table ran full before its next task
     ran_full : RanFull pairs table runs r.full
     ran_full =
         let ended = All-contains HasEnded came.ends e came.ran is_end in
@@ -223,7 +223,7 @@ module _ (workers words : ℕ) (pairs : List Pair) (tasks : List Task) (tree : T
           wants = ap may_want_words next.2 ∙ wants_words r.command cause.update;
         }
 
-  -- how the lanes ended
+  -- how the lanes ended, on the table
   ended : (o : Option Full) → o ≡ first_refusal (map (λ e. e.stopped) came.ends)
       → EndedWith pairs table runs o
   ended None is = ended_whole (sym is)
@@ -233,7 +233,7 @@ module _ (workers words : ℕ) (pairs : List Pair) (tasks : List Task) (tree : T
       let r = refused_with it.0.port.refused numbers (sym stop.stopped ∙ it.2) in
       subst (RanFull pairs table runs) r.2 (ran_full it.0 it.1 r.0 r.1)
 
-  -- so the tasks ran on a table
+  -- the tasks ran on a table
   pub ran_on_table : RanOnTable workers words pairs tasks table answers left full
   ran_on_table =
       record {

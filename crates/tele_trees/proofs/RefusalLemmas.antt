@@ -10,7 +10,7 @@ use Rattle.tele_lanes.specs.Lines.{commands_of}
 use Rattle.tele_lanes.specs.Lanes.{first_refusal}
 use Rattle.tele_trees.specs.Ends.{LaneEnd}
 
--- where there is none, no lane stopped
+-- if there is no refusal, no lane stopped
 pub none_stopped : (ends : List LaneEnd) → first_refusal (map (λ e. e.stopped) ends) ≡ None
     → All (λ e. e.stopped ≡ None) ends
 none_stopped [] h = λ k d lt. absurd (omega arith)
@@ -23,7 +23,7 @@ none_stopped (e ∷ ends) h = at e.stopped refl h (none_stopped ends)
     at None is rest more = All-cons (λ (x : LaneEnd). x.stopped ≡ None) e ends is (more rest)
     at (Some full) is rest more = absurd (cc)
 
--- where there is one, a lane stopped with it
+-- if there is one, a lane stopped with it
 pub one_stopped : (ends : List LaneEnd) (full : Full)
     → first_refusal (map (λ e. e.stopped) ends) ≡ Some full
     → (e : LaneEnd) × Contains ends e × (e.stopped ≡ Some full)
@@ -41,7 +41,7 @@ one_stopped (e ∷ ends) full h = at e.stopped refl h (one_stopped ends full)
         (it.0, (suc place.0, omega (arith, place.1), place.2), it.2)
     at (Some first) is rest more = (e, (zero, omega arith, refl), is ∙ rest)
 
--- the refusal behind a number of words
+-- the refusal with a number of words
 pub refused_with : (o : Option Refused) (full : Full) → option_map (λ r. r.full) o ≡ Some full
     → (r : Refused) × (o ≡ Some r) × (r.full ≡ full)
 refused_with None full e = absurd (cc)

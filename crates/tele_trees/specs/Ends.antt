@@ -1,4 +1,4 @@
--- What the lanes on one tree came to.
+-- How the lanes on one tree ended.
 use Rattle.std.specs.Prelude.{◌≡◌, ℕ, List, map, length, All, Option, Some, IfSome, IfNone}
 use Rattle.std.specs.Prelude.{option_map, slice_get}
 use Rattle.std.specs.List.{range_with_len}
@@ -14,14 +14,14 @@ use Rattle.tele_lanes.specs.Lanes.{all_lane_tasks, unanswered, first_refusal, In
 use Rattle.tele_lanes.specs.Lanes.{TasksInLineOrder}
 use Rattle.tele_rounds.specs.Runs.{LaneRun, HasRun}
 
--- what a lane came to: its tasks and its answers, its port, and the refusal that ended it
+-- how a lane ended: its tasks and its answers, its port, and the refusal that ended it
 pub record LaneEnd : Type 0 where
   pub tasks : List Task
   pub answers : List Answer
   pub port : PortFace
   pub stopped : Option Full
 
--- a lane of these
+-- the end of a lane with these parts
 abbrev pub ended : List Task → List Answer → PortFace → Option Full → LaneEnd
 ended tasks answers port stopped =
     record { tasks = tasks; answers = answers; port = port; stopped = stopped }
@@ -31,8 +31,8 @@ abbrev pub run_of : LaneEnd → LaneRun
 run_of e =
     record { tasks = e.tasks; told = map told_by_call e.port.pass.calls; answers = e.answers }
 
--- the lane was run: it answered the first of its tasks, and either all of them, or up to the one
--- that its port refused
+-- the lane was run: it answered either all of its tasks, or the tasks before the one that its port
+-- refused
 pub record HasEnded (e : LaneEnd) : Type 0 where
   pub run : HasRun (run_of e)
   pub stopped : e.stopped ≡ option_map (λ r. r.full) e.port.refused
@@ -40,8 +40,8 @@ pub record HasEnded (e : LaneEnd) : Type 0 where
       slice_get (commands_of e.tasks) (length (run_of e).told) ≡ Some r.command)
   pub whole : IfNone e.stopped (length (run_of e).told ≡ length e.tasks)
 
--- the tasks ran in lanes on the tree: each lane with the pass of its number, which was taken back
--- by this maker; these are the answers and the tasks left in line order, and the lowest refusal
+-- how the tasks ran in lanes on the tree: each lane had the pass of its number, which this maker
+-- took back; these are the answers and the tasks left in line order, and the lowest refusal
 pub record CameTo (tree : TreeFace) (maker : MakerFace) (workers : ℕ) (tasks : List Task)
     (answers : List Answer) (left : List Task) (full : Option Full) : Type 0 where
   pub ends : List LaneEnd

@@ -2,10 +2,10 @@
 ghost use Rattle.std.specs.Prelude.{◌≡◌, ◌≤◌};
 ghost use Rattle.tele_trees.specs.Counts.{lane_count};
 
-/// How many lanes a round has whose workers steal them.
+/// How many lanes a round has if the workers steal them.
 pub const STOLEN_LANES: u32 = 64;
 
-/// How many lanes a round has: one for each worker, or `STOLEN_LANES` where workers steal them.
+/// Returns how many lanes a round has: one per worker, or `STOLEN_LANES` if the workers steal them.
 pub(crate) fn lane_count(workers: u32, steal: bool) -> u32
     requires some { 1 ≤ workers }
     requires at_most { workers ≤ 64 }

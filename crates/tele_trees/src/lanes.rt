@@ -1,4 +1,4 @@
-//! The lanes of one tree: made, gathered, and their passes taken back.
+//! The lanes of one tree: making them, gathering their answers, and taking their passes back.
 ghost use Rattle.std.specs.Prelude.{◌≡◌, ◌+◌, ◌++◌, ◌<◌, ◌≤◌, [], ◌∷◌, length, map, All};
 ghost use Rattle.std.specs.Prelude.{IfOk, IfSome, None};
 ghost use Rattle.std.specs.List.{range_with_len};
@@ -14,8 +14,8 @@ use ist_tree::{Maker, Tree, TreePort};
 use std::alloc::{AllocError, Global};
 use tele_lanes::{Answers, Lane, Task, Tasks, first_refusal, gather, open_tasks, split};
 
-// So many lanes, each with its number, the tasks of its keys and a pass of its own, in the order of
-// passes.
+// Makes `count` lanes in the order of passes, each with its number, the tasks of its keys and its
+// own pass.
 pub(crate) fn make_lanes<'a>(
     alloc: Global,
     tree: &'a Tree,
@@ -51,7 +51,7 @@ pub(crate) fn make_lanes<'a>(
     Ok(lanes)
 }
 
-// A lane of these tasks, with the next pass.
+// Makes a lane of these tasks, with the next pass.
 fn make_lane<'a>(
     alloc: Global,
     tree: &'a Tree,
@@ -78,7 +78,7 @@ fn make_lane<'a>(
     Ok(Lane::new(number, tasks, answers, port))
 }
 
-// What the lanes answered and left, and the refusal of the lowest that stopped.
+// Gathers what the lanes answered and left, and the refusal of the lowest lane that stopped.
 pub(crate) fn gather_all(alloc: Global, lanes: &[Lane<TreePort<'_>>]) -> Result<Came, AllocError>
     requires answers { All (λ l. AnswerInOrder l.tasks l.answers.list) lanes.now }
     requires own_lines { HaveOwnLines (map (λ l. l.tasks) lanes.now) }

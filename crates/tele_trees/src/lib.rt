@@ -1,6 +1,6 @@
-//! Tables for a round in generations: each is a tree, whose passes are the ports of the lanes.
+//! Tables for a round in generations: each is a tree whose passes are the ports of the lanes.
 //!
-//! Read `rounds.rt` and `tables.rt`, then `specs/Ends.antt` and `runs.rt`. Stands on `ist_tree`,
+//! Read `rounds.rt` and `tables.rt`, then `specs/Ends.antt` and `runs.rt`. Builds on `ist_tree`,
 //! `ist_rest`, `tele_lanes`, `tele_steal` and `tele_generations`, and on the crates of laws below.
 #![tactic(auto)]
 

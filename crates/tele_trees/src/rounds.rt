@@ -1,4 +1,4 @@
-//! A round of tasks on trees, in as many generations as it takes.
+//! A round of tasks on trees, in as many generations as it needs.
 ghost use Rattle.std.specs.Prelude.{◌≡◌, ◌+◌, ◌≤◌, ◌^◌, All, IfOk, length};
 ghost use Rattle.std.specs.List.Sorted.{IsStrictlyIncreasing};
 ghost use Rattle.ist_core.specs.Map.{map_of};
@@ -19,16 +19,16 @@ use std::thread::Threads;
 use tele_generations::{Generation, Round, Shelf, Turn, begin, finish, go_on};
 use tele_lanes::{Gate, Task};
 
-/// Runs the tasks over these pairs, in one generation behind another, until all are answered: each
-/// generation on a tree.
+/// Runs the tasks over these pairs until all are answered, one generation after another, each on a
+/// tree.
 ///
-/// A tree that ran full is put on the shelf, and is followed by one of at least twice its words.
-/// Where it answered nothing, one thread answers the open task of the lowest line from the pairs at
-/// rest. `words` bounds the first tree, unless the pairs need more. Without memory the shelf may
+/// A tree that ran full is put on the shelf and followed by a tree of at least twice its words. If
+/// it answered nothing, one thread answers the open task of the lowest line from the pairs at rest.
+/// `words` bounds the first tree, unless the pairs need more. If memory runs out, the shelf may
 /// have been given trees of this call.
 ///
-/// The lines of a tree are split into a lane for each worker, or where `steal` says so into
-/// `STOLEN_LANES` lanes by their timestamps, which the workers steal from one another.
+/// The lines of a tree are split into one lane per worker. With `steal` they are split by their
+/// timestamps into `STOLEN_LANES` lanes, which the workers steal from one another.
 pub fn run_round<R: Threads + Wait + Sync, G: Gate + Sync, H: Shelf<Closed>>(
     rt: &R,
     gate: &G,
@@ -49,7 +49,7 @@ pub fn run_round<R: Threads + Wait + Sync, G: Gate + Sync, H: Shelf<Closed>>(
     requires least { 64 ≤ words }
     requires most { words ≤ 2 ^ 28 }
 
-    // One thread with a plain map would answer so.
+    // These are the answers of one thread with a plain map.
     ensures answers { IfOk result (λ r.
         ArePlainAnswers (map_of pairs.now) tasks.now r.answers.list) }
 

@@ -15,7 +15,7 @@ use std::sync::Wait;
 use std::thread::Threads;
 use tele_lanes::{Answer, Gate, Task};
 
-// What the lanes answered and left, and the refusal of the lowest that stopped.
+// What the lanes answered and left, and the refusal of the lowest lane that stopped.
 #[derive(Drop)]
 pub(crate) struct Came {
     pub answers: Vec<Answer>,
@@ -23,7 +23,7 @@ pub(crate) struct Came {
     pub full: Option<Full>,
 }
 
-// Splits the tasks into lanes, runs each with a pass of its own, and takes all passes back.
+// Splits the tasks into lanes, runs each with its own pass, and takes all passes back.
 pub(crate) fn run_tree<R: Threads + Wait + Sync, G: Gate + Sync>(
     rt: &R,
     gate: &G,

@@ -18,27 +18,27 @@ use std::thread::Threads;
 use tele_generations::Generation;
 use tele_lanes::{Gate, Task};
 
-/// Tables that are trees. The memory in which the first words of a tree are laid serves for the
-/// next tree too.
+/// Tables that are trees. The memory for the first words of a tree is kept for the next tree.
 #[derive(Drop)]
 pub struct TreeTables {
     image: Image,
 }
 
 impl TreeTables {
-    /// Tables none of which is open. Takes no memory.
+    /// Makes tables, with none open. Allocates nothing.
     pub fn new(alloc: Global) -> TreeTables {
         TreeTables {
             image: Image::new(alloc),
         }
     }
 
-    /// Opens a tree of so many words with the pairs, splits the tasks into a lane for each worker, or
-    /// where `steal` says so into `STOLEN_LANES` lanes that workers steal from one another, runs the
-    /// lanes, each with a pass of its own, takes all passes back, and closes the tree. Each call is
-    /// told to the gate.
+    /// Runs the tasks on a new tree of `words` words that holds the pairs, and closes it.
     ///
-    /// Fails for want of memory alone, and may wait for what the lanes and the gate wait for.
+    /// The tasks are split into one lane per worker, or with `steal` into `STOLEN_LANES` lanes that
+    /// workers steal from one another. Each lane runs with its own pass, and all passes are taken
+    /// back. The gate is notified of each call.
+    ///
+    /// Fails only if memory runs out. May wait for whatever the lanes and the gate wait for.
     pub fn run<R: Threads + Wait + Sync, G: Gate + Sync>(
         &mut self,
         rt: &R,
@@ -68,7 +68,7 @@ impl TreeTables {
         })
     }
 
-    /// The pairs of a closed table, rising by key. Fails for want of memory alone.
+    /// Returns the pairs of a closed table, by increasing keys. Fails only if memory runs out.
     pub fn pairs(&self, alloc: Global, closed: &Closed) -> Result<Vec<Pair>, AllocError>
         ensures pairs { IfOk result (λ v. HasPairs closed.now v.items) }
     {
@@ -76,7 +76,7 @@ impl TreeTables {
     }
 }
 
-// A tree of the pairs, for which there is room in so many words.
+// Opens a tree of the pairs, which fit in `words` words.
 fn open_tree(
     alloc: Global,
     image: &mut Image,

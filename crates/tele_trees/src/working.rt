@@ -1,4 +1,5 @@
-//! The lanes of one tree, run by workers: each worker has a lane, or they steal lanes from one another.
+//! The lanes of one tree, run by workers: each worker has a lane, or they steal lanes from one
+//! another.
 ghost use Rattle.std.specs.Prelude.{◌≡◌, ◌≤◌, [], length, map, All, None, IfOk};
 ghost use Rattle.std.specs.List.Sorted.{IsStrictlyIncreasing};
 ghost use Rattle.tele_trees.specs.Ends.{HasEnded, ended};
@@ -11,8 +12,8 @@ use std::thread::Threads;
 use tele_lanes::{Gate, Lane, run_lanes};
 use tele_steal::{Yard, run_stolen};
 
-// Runs the lanes, and gives them back: each by a worker of its own, or where `steal` says so by
-// workers that steal them from one another.
+// Runs the lanes and gives them back. Each has its own worker, or with `steal` the workers steal
+// them from one another.
 pub(crate) fn work<'a, R: Threads + Wait + Sync, G: Gate + Sync>(
     rt: &R,
     gate: &G,
@@ -46,7 +47,7 @@ pub(crate) fn work<'a, R: Threads + Wait + Sync, G: Gate + Sync>(
     }
 }
 
-// Has the workers of the yard steal the lanes, and gives them back.
+// Lets the workers of the yard steal the lanes, and gives them back.
 fn steal_all<'a, R: Threads + Wait + Sync, G: Gate + Sync>(
     rt: &R,
     gate: &G,
@@ -70,7 +71,7 @@ fn steal_all<'a, R: Threads + Wait + Sync, G: Gate + Sync>(
     run_stolen(rt, gate, yard, lanes)
 }
 
-// Runs the lanes side by side, each by a worker of its own, and gives them back.
+// Runs the lanes side by side, each by its own worker, and gives them back.
 fn run_all<'a, R: Threads + Wait + Sync, G: Gate + Sync>(
     rt: &R,
     gate: &G,

@@ -8,69 +8,69 @@ use Rattle.ist_build.proofs.TopLeafLemmas.{target_few, many_two}
 use Rattle.ist_build.proofs.filling.fill_slot.Goals as goal
 
 pub degree-degree-requires-clause-several : goal.degree-degree-requires-clause-several
-degree-degree-requires-clause-several g c = many_two _ c.requires.shared.shared
+degree-degree-requires-clause-several c = many_two _ c.requires.shared.shared
 
 pub degree-degree-requires-clause-fits : goal.degree-degree-requires-clause-fits
-degree-degree-requires-clause-fits g c =
+degree-degree-requires-clause-fits c =
     let few = target_few _ c.know.ensures.sound c.args.target c.args.keys c.requires.shared.finished in
     omega arith
 
 pub part-share-requires-clause-fits : goal.part-share-requires-clause-fits
-part-share-requires-clause-fits g c =
+part-share-requires-clause-fits c =
     let few = target_few _ c.know.ensures.sound c.args.target c.args.keys c.requires.shared.finished in
     omega arith
 
 pub returns-then-slot_of-to_word-clause-caller : goal.returns-then-slot_of-to_word-clause-caller
-returns-then-slot_of-to_word-clause-caller g c =
+returns-then-slot_of-to_word-clause-caller c =
     (back_loads c.args.who.now c.slot_of.new.seat c.requires.caller c.requires.refused
     c.slot_of.ensures.seen).caller
 
 pub returns-then-slot_of-to_word-clause-put : goal.returns-then-slot_of-to_word-clause-put
-returns-then-slot_of-to_word-clause-put g c =
+returns-then-slot_of-to_word-clause-put c =
     (back_loads c.args.who.now c.slot_of.new.seat c.requires.caller c.requires.refused
     c.slot_of.ensures.seen).put
 
 pub returns-then-slot_of-to_word-clause-refused : goal.returns-then-slot_of-to_word-clause-refused
-returns-then-slot_of-to_word-clause-refused g c =
+returns-then-slot_of-to_word-clause-refused c =
     (back_loads c.args.who.now c.slot_of.new.seat c.requires.caller c.requires.refused
     c.slot_of.ensures.seen).refused
 
 pub build_share-requires-clause-caller : goal.build_share-requires-clause-caller
-build_share-requires-clause-caller g c =
+build_share-requires-clause-caller c =
     (back_loads c.args.who.now c.slot_of.new.seat c.requires.caller c.requires.refused
     c.slot_of.ensures.seen).caller
 
 pub build_share-requires-clause-refused : goal.build_share-requires-clause-refused
-build_share-requires-clause-refused g c =
+build_share-requires-clause-refused c =
     (back_loads c.args.who.now c.slot_of.new.seat c.requires.caller c.requires.refused
     c.slot_of.ensures.seen).refused
 
 pub build_share-requires-clause-share : goal.build_share-requires-clause-share
-build_share-requires-clause-share g c =
+build_share-requires-clause-share c =
     shared_share _ c.args.rebuild c.args.target c.args.root c.args.keys c.args.i _ _
     (shared_now _ _ c.slot_of.ensures.seen c.args.rebuild c.args.target c.args.root c.args.keys
     c.requires.shared)
     c.requires.within c.part-share.ensures.start c.part-share.ensures.len
 
 pub returns-in_err-word-clause-put : goal.returns-in_err-word-clause-put
-returns-in_err-word-clause-put g c =
+returns-in_err-word-clause-put c =
     put_more _ _ _ (loads_put _ _ c.slot_of.ensures.seen) (built_put _ _ c.build_share.ensures.built)
 
 pub returns-in_err-word-clause-full : goal.returns-in_err-word-clause-full
-returns-in_err-word-clause-full g c =
+returns-in_err-word-clause-full c =
     let fewer = c.part-share.ensures.fewer in
     let short = err_shorter _ _ c.slot_of.ensures.seen _ _ c.args.keys _ _ (omega arith)
     c.in_err-word.ensures.full in
     search rules
 
 pub slot_place-requires-clause-fits : goal.slot_place-requires-clause-fits
-slot_place-requires-clause-fits g c =
+slot_place-requires-clause-fits c =
     let is = c.degree-degree.ensures.value in
     let low = (degree_low _ c.know.ensures.sound c.args.root (degree c.args.keys) c.requires.shared.node).0 in
     omega arith
 
 pub put_part-requires : goal.put_part-requires
-put_part-requires g c =
+put_part-requires c =
     let m = may_put (record c.args.who.now { seat = c.slot_of.new.seat }) c.build_share.new.who
     (back_loads c.args.who.now c.slot_of.new.seat c.requires.caller c.requires.refused
     c.slot_of.ensures.seen).caller
@@ -93,7 +93,7 @@ put_part-requires g c =
     (c.build_share.ensures.same_table, (omega arith, m.allowed))
 
 pub returns-clause-caller : goal.returns-clause-caller
-returns-clause-caller g c =
+returns-clause-caller c =
     let m = may_put (record c.args.who.now { seat = c.slot_of.new.seat }) c.build_share.new.who
     (back_loads c.args.who.now c.slot_of.new.seat c.requires.caller c.requires.refused
     c.slot_of.ensures.seen).caller
@@ -113,7 +113,7 @@ returns-clause-caller g c =
     (m.behind c.put_part.new.seat c.put_part.result c.put_part.ensures.exchanged).back.caller
 
 pub returns-clause-refused : goal.returns-clause-refused
-returns-clause-refused g c =
+returns-clause-refused c =
     let m = may_put (record c.args.who.now { seat = c.slot_of.new.seat }) c.build_share.new.who
     (back_loads c.args.who.now c.slot_of.new.seat c.requires.caller c.requires.refused
     c.slot_of.ensures.seen).caller
@@ -133,7 +133,7 @@ returns-clause-refused g c =
     (m.behind c.put_part.new.seat c.put_part.result c.put_part.ensures.exchanged).back.refused
 
 pub returns-clause-set : goal.returns-clause-set
-returns-clause-set g c =
+returns-clause-set c =
     let m = may_put (record c.args.who.now { seat = c.slot_of.new.seat }) c.build_share.new.who
     (back_loads c.args.who.now c.slot_of.new.seat c.requires.caller c.requires.refused
     c.slot_of.ensures.seen).caller
@@ -153,7 +153,7 @@ returns-clause-set g c =
     (m.behind c.put_part.new.seat c.put_part.result c.put_part.ensures.exchanged).set
 
 pub returns-clause-put : goal.returns-clause-put
-returns-clause-put g c =
+returns-clause-put c =
     let m = may_put (record c.args.who.now { seat = c.slot_of.new.seat }) c.build_share.new.who
     (back_loads c.args.who.now c.slot_of.new.seat c.requires.caller c.requires.refused
     c.slot_of.ensures.seen).caller

@@ -4,6 +4,6 @@ use Rattle.ist_build.proofs.filling.fill_unset.Given as goal
 
 -- the slots so far are set
 abbrev pub invariant-loop-i : goal.invariant-loop-i
-invariant-loop-i g l =
+invariant-loop-i l =
     (l.who.seat.table ≡ l.table.table) × IsFilling l.fn.who l.rebuild l.target l.root l.keys l.i
     l.who

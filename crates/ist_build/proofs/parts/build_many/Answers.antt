@@ -5,7 +5,7 @@ use Rattle.ist_rows.specs.Building.{HasTaken}
 use Rattle.ist_build.proofs.parts.build_many.Goals as goal
 
 pub returns-clause-taken : goal.returns-clause-taken
-returns-clause-taken g c =
+returns-clause-taken c =
     subst (λ n. IfOk c.build_read.result
     (λ word. HasTaken c.args.who.now (shape n) c.build_read.new.who))
     (let few = c.requires.few in length-take-le _ _ (search rules)) c.build_read.ensures.taken

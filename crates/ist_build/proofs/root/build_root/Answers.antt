@@ -4,13 +4,13 @@ use Rattle.ist_build.proofs.RootPutLemmas.{whole_share, ok_whole, ok_top}
 use Rattle.ist_build.proofs.root.build_root.Goals as goal
 
 pub build_share-requires-clause-share : goal.build_share-requires-clause-share
-build_share-requires-clause-share g c =
+build_share-requires-clause-share c =
     let less = c.if-keys-lt-SHARE_FROM.true in
     let number = share_from_is in
     whole_share _ c.args.target c.args.keys c.requires.target (omega arith)
 
 pub returns-then-keys-lt-SHARE_FROM-clause-laid : goal.returns-then-keys-lt-SHARE_FROM-clause-laid
-returns-then-keys-lt-SHARE_FROM-clause-laid g c =
+returns-then-keys-lt-SHARE_FROM-clause-laid c =
     let less = c.if-keys-lt-SHARE_FROM.true in
     let number = share_from_is in
     ok_whole c.args.who.now c.build_share.new.who c.args.target c.args.keys c.know.ensures.sound
@@ -18,13 +18,13 @@ returns-then-keys-lt-SHARE_FROM-clause-laid g c =
     c.requires.several c.build_share.result c.build_share.ensures.laid c.build_share.ensures.at
 
 pub build_top-requires-clause-many : goal.build_top-requires-clause-many
-build_top-requires-clause-many g c =
+build_top-requires-clause-many c =
     let more = c.if-keys-lt-SHARE_FROM.false in
     let number = share_from_is in
     omega arith
 
 pub returns-clause-laid : goal.returns-clause-laid
-returns-clause-laid g c =
+returns-clause-laid c =
     let more = c.if-keys-lt-SHARE_FROM.false in
     let number = share_from_is in
     ok_top c.args.who.now c.build_top.new.who c.args.target c.args.keys c.know.ensures.sound

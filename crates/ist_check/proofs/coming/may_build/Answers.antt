@@ -3,7 +3,7 @@ use Rattle.ist_core.specs.declared.events.Event.TheVariants.{Root, Place}
 use Rattle.ist_core.specs.StartLayout.{start}
 use Rattle.ist_core.specs.Lawful.{state_of}
 use Rattle.ist_core.specs.Enabled.{Enabled}
-use Rattle.ist_check_fairness.proofs.AnswerLemmas.{if_ok}
+use Rattle.check_fairness.proofs.AnswerLemmas.{if_ok}
 use Rattle.ist_check.proofs.StandingLemmas.{held_are_free}
 use Rattle.ist_check.proofs.coming.may_build.Goals as goal
 

@@ -3,9 +3,9 @@ use Rattle.ist_core.specs.declared.events.Event.TheVariants.{Install, Lose}
 use Rattle.ist_core.specs.StartLayout.{start}
 use Rattle.ist_core.specs.Lawful.{state_of}
 use Rattle.ist_core.specs.Enabled.{Enabled}
-use Rattle.ist_check_fairness.proofs.AnswerLemmas.{if_ok}
+use Rattle.check_fairness.proofs.AnswerLemmas.{if_ok}
 use Rattle.ist_check.specs.Knowing.{IsOfBuild}
-use Rattle.ist_check_state.proofs.StayingLemmas.{keys_stay}
+use Rattle.check_state.proofs.StayingLemmas.{keys_stay}
 use Rattle.ist_check.proofs.coming.may_come.Goals as goal
 
 pub returns-in-Enter : goal.returns-in-Enter

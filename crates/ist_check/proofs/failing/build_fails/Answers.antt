@@ -2,9 +2,9 @@ use Rattle.std.proofs.Common.{◌∙◌, sym, ap, subst}
 use Rattle.ist_core.specs.declared.events.Event.TheVariants.{Root, Place}
 use Rattle.ist_core.specs.StartLayout.{start}
 use Rattle.ist_core.specs.Lawful.{state_of}
-use Rattle.ist_check_fairness.proofs.AnswerLemmas.{if_ok}
-use Rattle.ist_check_reasons.specs.Conditions.{says_of}
-use Rattle.ist_check_reasons.specs.Failing.{Tells}
+use Rattle.check_fairness.proofs.AnswerLemmas.{if_ok}
+use Rattle.check_reasons.specs.Conditions.{says_of}
+use Rattle.check_reasons.specs.Failing.{Tells}
 use Rattle.ist_check.proofs.StandingLemmas.{held_are_free}
 use Rattle.ist_check.proofs.failing.build_fails.Goals as goal
 

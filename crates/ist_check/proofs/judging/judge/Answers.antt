@@ -3,16 +3,16 @@ use Rattle.std.proofs.Common.{subst, arith}
 use Rattle.ist_core.specs.Snapshots.{Shows}
 use Rattle.ist_core.specs.StartLayout.{start}
 use Rattle.ist_core.specs.Lawful.{Lawful, state_of}
-use Rattle.ist_check_events.specs.Mirroring.{Mirrors}
-use Rattle.ist_check_events.specs.Remembering.{KnowsSlots, KnowsWays}
-use Rattle.ist_check_reasons.specs.declared.conditions.Condition.{Condition}
+use Rattle.check_events.specs.Mirroring.{Mirrors}
+use Rattle.check_events.specs.Remembering.{KnowsSlots, KnowsWays}
+use Rattle.check_reasons.specs.declared.conditions.Condition.{Condition}
 use Rattle.ist_check.specs.Knowing.{Knows}
 use Rattle.ist_check.proofs.CheckingLemmas.{reverse_more, first_unlawful, fails_at, lawful_more}
 use Rattle.ist_check.proofs.CheckingLemmas.{known_more}
 use Rattle.ist_check.proofs.RoomLemmas.{has_room}
 use Rattle.ist_check.proofs.judging.judge.Goals as goal
 
--- what is no value is none
+-- an option that has no value is `None`
 is_none : (o : Option Condition) → ((x : Condition) → o ≢ Some x) → o ≡ None
 is_none None other = refl
 is_none (Some x) other = absurd (other x refl)

@@ -1,16 +1,16 @@
 use Rattle.std.proofs.Common.{◌≡◌, ◌∙◌, true, false, List, Option, Some, None, IfSome, sym, subst}
 use Rattle.ist_core.specs.StartLayout.{start}
-use Rattle.ist_check_reasons.specs.Conditions.{says_of}
-use Rattle.ist_check_reasons.specs.declared.conditions.Condition.{Condition}
-use Rattle.ist_check_reasons.specs.Failing.{Stated, Tells}
-use Rattle.ist_check_fairness.proofs.AnswerLemmas.{if_ok}
+use Rattle.check_reasons.specs.Conditions.{says_of}
+use Rattle.check_reasons.specs.declared.conditions.Condition.{Condition}
+use Rattle.check_reasons.specs.Failing.{Stated, Tells}
+use Rattle.check_fairness.proofs.AnswerLemmas.{if_ok}
 use Rattle.ist_check.proofs.ReasonLemmas.{all_hold}
 use Rattle.ist_check.proofs.judging.refused_for.Goals as goal
 
 clash : false ≡ true → ⊥
 clash e = cc
 
--- what is told of an event that may not come, where a condition is named
+-- what is known of an event that may not come, if a condition is named
 told : {P : Type 0} (found : Option Condition) (says : List Stated) → ¬ P → Tells says found
     → IfSome found (λ condition. ¬ P × Tells says (Some condition))
 told None says refused tells = tt

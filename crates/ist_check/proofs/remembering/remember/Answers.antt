@@ -1,7 +1,7 @@
 use Rattle.std.proofs.Common.{◌∷◌}
 use Rattle.ist_core.specs.Lawful.{state_of}
 use Rattle.ist_core.proofs.FrozenLemmas as frozen
-use Rattle.ist_check_state.proofs.TableLemmas.{on_success}
+use Rattle.check_state.proofs.TableLemmas.{on_success}
 use Rattle.ist_check.proofs.remembering.remember.Goals as goal
 
 pub returns-clause-exact : goal.returns-clause-exact

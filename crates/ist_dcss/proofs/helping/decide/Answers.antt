@@ -42,7 +42,7 @@ exchange-stood-requires c =
       ),
     )
 
--- the seat made steps for the change alone
+-- the seat only made steps that serve the change
 pub returns-clause-went : goal.returns-clause-went
 returns-clause-went c =
     let v = c.load_okay-status.new.seat.view in
@@ -67,7 +67,7 @@ returns-clause-search c =
     (keeps_more _ _ _ (loaded_as_keeps _ _ _ _ _ c.load_okay-status.ensures.seen)
     (exchanged_keeps _ _ _ _ _ _ c.exchange-stood.ensures.exchanged))
 
--- and the change is decided as the answer says
+-- the change has the decision that is returned
 pub returns-clause-decided : goal.returns-clause-decided
 returns-clause-decided c =
     let v = c.load_okay-status.new.seat.view in

@@ -5,7 +5,7 @@ use Rattle.ist_rule.proofs.KeptSearchLemmas.{keeps_more}
 use Rattle.ist_dcss.proofs.DecidedLemmas.{decided_on, yes_seen, no_seen}
 use Rattle.ist_dcss.proofs.helping.help.Goals as goal
 
--- both halves made steps for the change alone
+-- both halves only made steps that serve the change
 pub returns-clause-went : goal.returns-clause-went
 returns-clause-went c =
     went_more (Serves c.args.change) _ _ _ c.decide-decision.ensures.went c.resolve.ensures.went
@@ -19,7 +19,7 @@ pub returns-clause-decided : goal.returns-clause-decided
 returns-clause-decided c =
     decided_on c.args.change _ _ c.resolve.ensures.went _ c.decide-decision.ensures.decided
 
--- yes comes of an Okay
+-- a yes had an Okay
 pub returns-clause-yes : goal.returns-clause-yes
 returns-clause-yes c is =
     yes_seen _ c.resolve.ensures.went.sound c.args.change
@@ -27,7 +27,7 @@ returns-clause-yes c is =
     (subst (λ d. IsDecided c.decide-decision.new.seat.view c.args.change (is_yes d)) is
     c.decide-decision.ensures.decided))
 
--- and no of a node that isn't open
+-- a no is for a node that wasn't open
 pub returns-clause-no : goal.returns-clause-no
 returns-clause-no c is =
     no_seen _ c.resolve.ensures.went.sound c.args.change

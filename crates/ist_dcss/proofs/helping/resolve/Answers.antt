@@ -47,7 +47,7 @@ exchange-requires c =
       ),
     )
 
--- the seat made steps for the change alone
+-- the seat only made steps that serve the change
 pub returns-clause-went : goal.returns-clause-went
 returns-clause-went c =
     let v = c.field-side.new.seat.view in
@@ -72,7 +72,7 @@ returns-clause-search c =
     (keeps_more _ _ _ c.field-side.ensures.search
     (exchanged_keeps _ _ _ _ _ _ c.exchange.ensures.exchanged))
 
--- and the change is out of its slot
+-- the change is out of its slot
 pub returns-clause-out : goal.returns-clause-out
 returns-clause-out c =
     let v = c.field-side.new.seat.view in

@@ -23,7 +23,7 @@ returns-clause-search c =
     (keeps_more _ _ _ c.field-node.ensures.search c.field-index.ensures.search)
     (goes_on_keeps _ _ c.slot_at.ensures.seen)
 
--- and the slot lies there
+-- the slot lies at that place
 pub returns-clause-slot : goal.returns-clause-slot
 returns-clause-slot c =
     place_of_change _ c.args.change _ _

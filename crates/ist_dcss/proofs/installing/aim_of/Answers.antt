@@ -9,7 +9,7 @@ pub own_word-node-requires : goal.own_word-node-requires
 own_word-node-requires g c =
     (c.requires.0, (filled _ c.args.change g.filling c.requires.1, omega arith))
 
--- and is so still
+-- the row is still filled
 pub own_word-index-requires : goal.own_word-index-requires
 own_word-index-requires g c = (
   c.own_word-node.ensures.same_table ∙ c.requires.0,
@@ -30,7 +30,7 @@ own_word-from-requires g c = (
   ),
 )
 
--- the slot is one
+-- the slot is a slot of the node
 pub slot_at-place-requires-clause-slot : goal.slot_at-place-requires-clause-slot
 slot_at-place-requires-clause-slot g c =
     loaded_slot _ c.args.change g.filling c.requires.1 _ _ _ _
@@ -38,7 +38,7 @@ slot_at-place-requires-clause-slot g c =
     c.own_word-index.ensures.seen c.own_word-index.ensures.value c.own_word-from.ensures.seen
     c.own_word-from.ensures.value)
 
--- and its place was found
+-- the place of the slot was found
 pub returns-clause-aimed : goal.returns-clause-aimed
 returns-clause-aimed g c =
     aimed _ g.filling _ _ _ _

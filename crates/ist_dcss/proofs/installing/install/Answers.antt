@@ -23,13 +23,13 @@ exchange-found-requires g c =
     let same = ap (λ t. t.words) here in
     (here, (omega arith, can))
 
--- where the slot held the word, the change is installed
+-- if the slot held the word, the change is installed
 pub returns-then-found-from-clause-yes : goal.returns-then-found-from-clause-yes
 returns-then-found-from-clause-yes g c _ =
     aimed_yes _ c.args.change g.filling c.requires.1 _ _ _ c.aim_of-place.ensures.aimed _
     c.to_word-word.ensures.value _ (c.exchange-found.ensures.exchanged.0 c.if-found-from.true)
 
--- and where it held another, that is the answer
+-- if it held another word, that word is returned
 pub returns-else-found-from-clause-other : goal.returns-else-found-from-clause-other
 returns-else-found-from-clause-other g c word is =
     aimed_other _ c.args.change g.filling c.requires.1 _ _ _ c.aim_of-place.ensures.aimed _ _

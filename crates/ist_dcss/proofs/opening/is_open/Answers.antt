@@ -19,7 +19,7 @@ load-requires-clause-within c =
 pub returns-clause-seen : goal.returns-clause-seen
 returns-clause-seen c = looked_goes_on _ _ _ _ c.load.ensures.looked
 
--- the word is that of open where the node is open
+-- the word is the open word if the node is open
 pub returns-clause-open : goal.returns-clause-open
 returns-clause-open c =
     let at = c.status_place.ensures.value ∙ ap place_of_status c.from.ensures in (
@@ -29,7 +29,7 @@ returns-clause-open c =
           ∙ sym c.to_word.ensures.value),
     )
 
--- and then no change there was decided no
+-- if the node is open, no change on it was decided no
 pub returns-clause-unrefused : goal.returns-clause-unrefused
 returns-clause-unrefused c number t =
     let at = c.status_place.ensures.value ∙ ap place_of_status c.from.ensures in

@@ -59,7 +59,7 @@ slot_place-requires-clause-fits c =
 pub returns-clause-seen : goal.returns-clause-seen
 returns-clause-seen c = looked_goes_on _ _ _ _ c.load-degree.ensures.looked
 
--- and the slot lies there
+-- the slot lies at that place
 pub returns-clause-place : goal.returns-clause-place
 returns-clause-place c =
     let k = has_place _ c.know.ensures.sound c.args.node c.args.index c.requires.slot

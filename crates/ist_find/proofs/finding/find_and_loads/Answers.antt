@@ -26,7 +26,7 @@ loop-look-init c =
       record { count = omega arith; few = omega arith; low = omega arith },
     )
 
--- it has come to the row that it read
+-- it has reached the row that it read
 pub look_at-look-requires-in-Inner-clause-come : goal.look_at-look-requires-in-Inner-clause-come
 look_at-look-requires-in-Inner-clause-come c =
     let few = c.loop-look.invariant.2 in

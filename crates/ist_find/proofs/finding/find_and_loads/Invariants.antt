@@ -5,7 +5,7 @@ use Rattle.ist_find.specs.Reads.{LooksFew, IsReached}
 use Rattle.ist_find.proofs.CostLemmas.{HasSpent}
 use Rattle.ist_find.proofs.finding.find_and_loads.Given as goal
 
--- each turn made loads alone, few and counted, and looked at a slot of a node to which the search has come
+-- each turn made only loads, few and counted, and looked at a slot of a node that the search reached
 abbrev pub invariant-loop-look : goal.invariant-loop-look
 invariant-loop-look l = (l.seat.table ≡ l.initial.seat.table)
     × GoesOnTo l.initial.seat.view l.seat.view

@@ -4,7 +4,7 @@ use Rattle.ist_find.proofs.CostLemmas.{look_cost}
 use Rattle.ist_find.proofs.LookLemmas.{come_node, holds_named, look_told, look_reaches}
 use Rattle.ist_find.proofs.finding.look_at.Goals as goal
 
--- the search has come to a node
+-- the search has reached a node
 pub slot_for-child-requires-clause-node : goal.slot_for-child-requires-clause-node
 slot_for-child-requires-clause-node c =
     let came = c.requires.come in

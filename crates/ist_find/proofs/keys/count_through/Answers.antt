@@ -6,7 +6,7 @@ use Rattle.ist_find.proofs.keys.count_through.Goals as goal
 pub loop-j-init : goal.loop-j-init
 loop-j-init c = (refl, none_counted _ c.know.ensures.sound c.args.node c.requires.row c.args.key)
 
--- the key that was loaded is counted where it is at most the key
+-- the loaded key is counted if it is at most the key
 pub loop-j-preserved : goal.loop-j-preserved
 loop-j-preserved c =
     let h = c.loop-j.invariant.1 in

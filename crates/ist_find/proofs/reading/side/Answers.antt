@@ -27,7 +27,7 @@ load-requires-clause-within c =
     let same = ap (λ t. t.words) (c.load-decision.ensures.same_table ∙ c.requires.same_table) in
     omega arith
 
--- the loads tell how the slot reads
+-- the loads show how the slot reads
 pub returns-clause-side : goal.returns-clause-side
 returns-clause-side c =
     side_told _ _ _ c.args.word c.args.base _ _ _ _ c.requires.change

@@ -28,7 +28,7 @@ overflow_cast-result c =
     let h : c.load-target.result < 2 ^ 32 = omega arith in
     record { fits = h }
 
--- the load tells how the slot reads
+-- the load shows how the slot reads
 pub returns-clause-target : goal.returns-clause-target
 returns-clause-target c =
     target_told _ _ c.args.word c.args.base _ _ c.requires.rebuild c.requires.row

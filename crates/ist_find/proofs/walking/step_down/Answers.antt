@@ -1,7 +1,7 @@
 use Rattle.ist_find.proofs.LookLemmas.{come_node, come_later, holds_named, look_comes, step_up, word_down, word_is_set}
 use Rattle.ist_find.proofs.walking.step_down.Goals as goal
 
--- the search has come to a node
+-- the search has reached a node
 pub slot_for-child-requires-clause-node : goal.slot_for-child-requires-clause-node
 slot_for-child-requires-clause-node c =
     let came = c.requires.come in

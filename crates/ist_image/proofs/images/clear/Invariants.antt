@@ -1,7 +1,7 @@
 use Rattle.std.proofs.Common.{◌≡◌, ℕ, ◌<◌, ◌≤◌, ◌⊎◌, length, slice_get, Some}
 use Rattle.ist_image.proofs.images.clear.Given as goal
 
--- the words so far are 0, and those behind the used ones
+-- the words so far are 0, and so are those after the used ones
 abbrev pub invariant-loop-i : goal.invariant-loop-i
 invariant-loop-i l =
     (place : ℕ) → (place < l.i) ⊎ (l.used ≤ place) → place < length l.words

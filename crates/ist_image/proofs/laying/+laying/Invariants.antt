@@ -9,7 +9,7 @@ decreases-put_parts l = 2 * length l.pairs.now
 abbrev pub decreases-put_tree : goal.decreases-put_tree
 decreases-put_tree l = 2 * length l.pairs.now + 1
 
--- where the tree of the next part begins, and that the parts from it on are what is left to lay
+-- where the tree of the next part begins, and that the parts from it on are still to be written
 abbrev pub invariant-put_parts-loop-j : goal.invariant-put_parts-loop-j
 invariant-put_parts-loop-j l = record {
   place : l.at ≡ part_base l.base (length l.pairs) l.j;

@@ -3,7 +3,7 @@ use Rattle.std.proofs.lemmas.List.Edits.{sets}
 use Rattle.ist_image.specs.Placing.{keys_behind}
 use Rattle.ist_image.proofs.rows.put_keys.Given as goal
 
--- the first keys from the next part on are what is left to lay
+-- the first keys from the next part on are still to be written
 abbrev pub invariant-loop-j : goal.invariant-loop-j
 invariant-loop-j l =
     sets l.words (l.place + (l.j - 1)) (keys_behind l.pairs l.j)

@@ -15,29 +15,29 @@ use Rattle.ist_mark.proofs.counting.+marking.Goals as goal
 
 -- what hangs below lies above, and has a cause to be marked
 pub count_slot-mark_and_count-requires : goal.count_slot-mark_and_count-requires
-count_slot-mark_and_count-requires g t c κs within =
+count_slot-mark_and_count-requires t c =
     let it = below_called _ _ c.args.node c.args.degree c.args.index c.in-Node.child
     c.requires.may_pass c.pass_slot.ensures.went c.in-Node.ensures.passed in
     let above = it.0 in
     let small = c.ranges.node.fits in
     let top = c.decreases in (
       search (rules, counting),
-      (within, (c.pass_slot.ensures.same_table ∙ c.requires.same_table, it.1)),
+      (c.pass_slot.ensures.same_table ∙ c.requires.same_table, it.1),
     )
 
 -- once it is finished the slot is counted
 pub count_slot-returns-in-Node-clause-went : goal.count_slot-returns-in-Node-clause-went
-count_slot-returns-in-Node-clause-went g t c =
+count_slot-returns-in-Node-clause-went t c =
     marked_lower c.args.node c.in-Node.child _ _ _ c.pass_slot.ensures.went
     (below_under _ c.args.node c.args.index c.in-Node.child c.in-Node.ensures.passed)
     c.mark_and_count.ensures.went
 
 pub count_slot-returns-in-Node-clause-search : goal.count_slot-returns-in-Node-clause-search
-count_slot-returns-in-Node-clause-search g t c =
+count_slot-returns-in-Node-clause-search t c =
     keeps_more _ _ _ c.pass_slot.ensures.search c.mark_and_count.ensures.search
 
 pub count_slot-returns-in-Node-clause-counted : goal.count_slot-returns-in-Node-clause-counted
-count_slot-returns-in-Node-clause-counted g t c =
+count_slot-returns-in-Node-clause-counted t c =
     row_counted _ _ c.mark_and_count.ensures.went c.args.node c.args.index c.in-Node.child _
     c.in-Node.ensures.passed c.mark_and_count.ensures.finished
 
@@ -45,12 +45,12 @@ count_slot-returns-in-Node-clause-counted g t c =
 
 pub mark_and_count-degree_of-degree-requires-clause-may_mark :
     goal.mark_and_count-degree_of-degree-requires-clause-may_mark
-mark_and_count-degree_of-degree-requires-clause-may_mark g t c =
+mark_and_count-degree_of-degree-requires-clause-may_mark t c =
     may_mark_went (Marks _ c.args.node) _ _ c.mark.ensures.went c.args.node c.requires.may_mark
 
 -- before the first slot none is counted
 pub mark_and_count-loop-index-init : goal.mark_and_count-loop-index-init
-mark_and_count-loop-index-init g t c = (
+mark_and_count-loop-index-init t c = (
   refl,
   went_same (Marks _ c.args.node) _ c.know.ensures.sound,
   keeps_same _,
@@ -59,26 +59,23 @@ mark_and_count-loop-index-init g t c = (
 
 -- the next slot may be passed
 pub mark_and_count-count_slot-keys-requires : goal.mark_and_count-count_slot-keys-requires
-mark_and_count-count_slot-keys-requires g t c κs within =
+mark_and_count-count_slot-keys-requires t c =
     let top = c.decreases in (
       search (rules, counting),
       (
-        within,
+        c.loop-index.invariant.0 ∙ c.degree_of-degree.ensures.same_table
+            ∙ c.mark.ensures.same_table ∙ c.requires.same_table,
         (
-          c.loop-index.invariant.0 ∙ c.degree_of-degree.ensures.same_table
-              ∙ c.mark.ensures.same_table ∙ c.requires.same_table,
-          (
-            may_pass_went (Marks _ c.args.node) _ _ c.loop-index.invariant.1 c.args.node _
-                c.degree_of-degree.ensures.degree,
-            c.loop-index-test.true,
-          ),
+          may_pass_went (Marks _ c.args.node) _ _ c.loop-index.invariant.1 c.args.node _
+              c.degree_of-degree.ensures.degree,
+          c.loop-index-test.true,
         ),
       ),
     )
 
 -- it is counted then
 pub mark_and_count-loop-index-preserved : goal.mark_and_count-loop-index-preserved
-mark_and_count-loop-index-preserved g t c = (
+mark_and_count-loop-index-preserved t c = (
   c.count_slot-keys.ensures.same_table ∙ c.loop-index.invariant.0,
   marked_more c.args.node _ _ _ c.loop-index.invariant.1 c.count_slot-keys.ensures.went,
   keeps_more _ _ _ c.loop-index.invariant.2 c.count_slot-keys.ensures.search,
@@ -88,7 +85,7 @@ mark_and_count-loop-index-preserved g t c = (
 
 -- the sum is no great number
 pub mark_and_count-overflow_add-keys : goal.mark_and_count-overflow_add-keys
-mark_and_count-overflow_add-keys g t c =
+mark_and_count-overflow_add-keys t c =
     let m = may_pass_went (Marks _ c.args.node) _ _ c.loop-index.invariant.1 c.args.node _
     c.degree_of-degree.ensures.degree in
     let h : c.loop-index.keys + c.count_slot-keys.result < 2 ^ 64 =
@@ -97,9 +94,9 @@ mark_and_count-overflow_add-keys g t c =
     c.count_slot-keys.ensures.counted in
     record { fits = h }
 
--- behind the last one the node may be finished
+-- after the last slot the node may be finished
 pub mark_and_count-finish-requires : goal.mark_and_count-finish-requires
-mark_and_count-finish-requires g t c =
+mark_and_count-finish-requires t c =
     let low = c.loop-index.auto.index-end in
     let high = c.loop-index-test.false in
     let last : c.loop-index.index ≡ c.degree_of-degree.result = omega arith in
@@ -114,7 +111,7 @@ mark_and_count-finish-requires g t c =
 
 -- all steps were steps of marking
 pub mark_and_count-returns-clause-went : goal.mark_and_count-returns-clause-went
-mark_and_count-returns-clause-went g t c =
+mark_and_count-returns-clause-went t c =
     marked_more c.args.node _ _ _
     (marked_more c.args.node _ _ _
     (marked_more c.args.node _ _ _ c.mark.ensures.went
@@ -124,7 +121,7 @@ mark_and_count-returns-clause-went g t c =
 
 -- nothing was stored, and no search begun
 pub mark_and_count-returns-clause-search : goal.mark_and_count-returns-clause-search
-mark_and_count-returns-clause-search g t c =
+mark_and_count-returns-clause-search t c =
     keeps_more _ _ _
     (keeps_more _ _ _ (keeps_more _ _ _ c.mark.ensures.search
     (goes_on_keeps _ _ c.degree_of-degree.ensures.seen))

@@ -4,7 +4,7 @@ use Rattle.ist_rule.proofs.KeptSearchLemmas.{exchanged_keeps}
 use Rattle.ist_mark.proofs.FinishLemmas.{keys_few, may_finish, finish_told}
 use Rattle.ist_mark.proofs.statuses.finish.Goals as goal
 
--- the number is that of few leaves
+-- the number is a number of few leaves
 pub overflow_cast-keys : goal.overflow_cast-keys
 overflow_cast-keys c =
     let few = keys_few c.args.seat.now.view c.know.ensures.sound c.args.node c.args.keys

@@ -1,43 +1,36 @@
-use Rattle.std.proofs.Common.{◌≡◌, ◌+◌, ap, arith}
-use Rattle.ist_rule.proofs.KnownPlaceLemmas.{known_low}
-use Rattle.ist_rule.proofs.KeptSearchLemmas.{exchanged_keeps}
-use Rattle.ist_mark.proofs.MarkLemmas.{may_mark, mark_told}
+use Rattle.ist_rule.proofs.WentOnLemmas.{goes_on_went}
+use Rattle.ist_rule.proofs.KeptSearchLemmas.{goes_on_keeps, keeps_more}
+use Rattle.ist_mark.specs.Marking.{Marks}
+use Rattle.ist_mark.proofs.KeepingLemmas.{may_mark_went}
+use Rattle.ist_mark.proofs.MarkLemmas.{finished_closed}
+use Rattle.ist_mark.proofs.SubtreeLemmas.{marked_more}
 use Rattle.ist_mark.proofs.statuses.mark.Goals as goal
 
--- the node may be marked
-pub exchange-stood-requires : goal.exchange-stood-requires
-exchange-stood-requires c =
-    let from = c.from.ensures in
-    let at : c.from.result + 0 ≡ c.args.node + 0 = omega arith in
-    let can = may_mark c.args.seat.now.view c.know.ensures.sound c.args.node c.requires.may_mark
-    _ _ _ at c.to_word.ensures.value c.to_word-2.ensures.value in
-    let low = known_low c.args.seat.now.view _ c.know.ensures.sound can.known in
-    let known = c.know.ensures.words in
-    let same = ap (λ t. t.words) c.requires.same_table in
-    (c.requires.same_table, (omega arith, can))
+-- the load leaves the cause as it was
+pub mark_open-requires-clause-may_mark : goal.mark_open-requires-clause-may_mark
+mark_open-requires-clause-may_mark c =
+    let v = c.finished_keys.new.seat.view in
+    may_mark_went (Marks v c.args.node) _ _
+    (goes_on_went (Marks v c.args.node) _ _ c.finished_keys.ensures.seen) c.args.node
+    c.requires.may_mark
 
--- what the exchange tells
-pub returns-clause-went : goal.returns-clause-went
-returns-clause-went c =
-    let from = c.from.ensures in
-    let at : c.from.result + 0 ≡ c.args.node + 0 = omega arith in
-    (mark_told _ c.know.ensures.sound c.args.node c.requires.may_mark _ _ _ _ at
-    c.to_word.ensures.value c.exchange-stood.ensures.exchanged).went
+pub returns-in-Some-clause-went : goal.returns-in-Some-clause-went
+returns-in-Some-clause-went c = goes_on_went (Marks _ c.args.node) _ _ c.finished_keys.ensures.seen
 
-pub returns-clause-search : goal.returns-clause-search
-returns-clause-search c = exchanged_keeps _ _ _ _ _ _ c.exchange-stood.ensures.exchanged
+pub returns-in-Some-clause-search : goal.returns-in-Some-clause-search
+returns-in-Some-clause-search c = goes_on_keeps _ _ c.finished_keys.ensures.seen
 
-pub returns-clause-closed : goal.returns-clause-closed
-returns-clause-closed c =
-    let from = c.from.ensures in
-    let at : c.from.result + 0 ≡ c.args.node + 0 = omega arith in
-    (mark_told _ c.know.ensures.sound c.args.node c.requires.may_mark _ _ _ _ at
-    c.to_word.ensures.value c.exchange-stood.ensures.exchanged).closed
+-- a finished node isn't open
+pub returns-in-Some-clause-closed : goal.returns-in-Some-clause-closed
+returns-in-Some-clause-closed c =
+    finished_closed _ c.args.node c.in-Some.keys
+    (c.finished_keys.ensures.finished c.in-Some.keys c.in-Some.is)
 
-pub returns-clause-finished : goal.returns-clause-finished
-returns-clause-finished c k is =
-    let from = c.from.ensures in
-    let at : c.from.result + 0 ≡ c.args.node + 0 = omega arith in
-    (mark_told _ c.know.ensures.sound c.args.node c.requires.may_mark _ _ _ _ at
-    c.to_word.ensures.value c.exchange-stood.ensures.exchanged).finished k
-    (c.keys_of.ensures.finished k is)
+pub returns-in-None-clause-went : goal.returns-in-None-clause-went
+returns-in-None-clause-went c =
+    marked_more c.args.node _ _ _
+    (goes_on_went (Marks _ c.args.node) _ _ c.finished_keys.ensures.seen) c.mark_open.ensures.went
+
+pub returns-in-None-clause-search : goal.returns-in-None-clause-search
+returns-in-None-clause-search c =
+    keeps_more _ _ _ (goes_on_keeps _ _ c.finished_keys.ensures.seen) c.mark_open.ensures.search

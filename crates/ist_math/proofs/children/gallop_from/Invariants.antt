@@ -2,7 +2,7 @@ use Rattle.std.proofs.Common.{◌-◌}
 use Rattle.ist_math.proofs.ChildLemmas.{HasGalloped}
 use Rattle.ist_math.proofs.children.gallop_from.Given as goal
 
--- the child lies behind the lower key and no further than the upper one
+-- the child is above the lower key and no further than the upper one
 abbrev pub invariant-loop-gallop : goal.invariant-loop-gallop
 invariant-loop-gallop l = HasGalloped l.keys l.x l.from l.gallop l.looks
 

@@ -3,7 +3,7 @@ use Rattle.ist_core.proofs.WordLemmas.{ideal_words_nine}
 use Rattle.ist_math.proofs.SizeLemmas.{words_from_both}
 use Rattle.ist_math.proofs.sizes.words_of_node.Goals as goal
 
--- all products and sums are parts of the answer, which is at most nine words a key
+-- all products and sums are parts of the result, which is at most nine words a key
 pub overflow_mul-result : goal.overflow_mul-result
 overflow_mul-result c =
     let whole =

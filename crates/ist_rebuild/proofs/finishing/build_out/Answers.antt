@@ -7,24 +7,24 @@ use Rattle.ist_rebuild.proofs.finishing.build_out.Goals as goal
 
 -- a root that was refused
 pub returns-in_err-set_root-clause-helped : goal.returns-in_err-set_root-clause-helped
-returns-in_err-set_root-clause-helped g c =
+returns-in_err-set_root-clause-helped c =
     built_helped c.args.who.now c.set_root.new.who c.requires.able c.set_root.ensures.caller
     c.set_root.ensures.refused c.set_root.ensures.number c.set_root.ensures.rows
     c.set_root.ensures.went
 
 pub returns-in_err-set_root-clause-full : goal.returns-in_err-set_root-clause-full
-returns-in_err-set_root-clause-full g c =
+returns-in_err-set_root-clause-full c =
     passed_on c.from_residual.result _ _ c.from_residual.ensures.1
     (short_refused _ _ c.args.rebuild _ _ c.in_err-set_root.ensures.full)
 
--- the rebuild may be built still
+-- the rebuild may still be built
 pub fill_parts-requires-clause-buildable : goal.fill_parts-requires-clause-buildable
-fill_parts-requires-clause-buildable g c =
+fill_parts-requires-clause-buildable c =
     buildable_went Builds _ _ c.set_root.ensures.went c.args.rebuild c.requires.buildable
 
 -- both halves built
 pub returns-clause-helped : goal.returns-clause-helped
-returns-clause-helped g c =
+returns-clause-helped c =
     let first = built_helped c.args.who.now c.set_root.new.who c.requires.able
     c.set_root.ensures.caller c.set_root.ensures.refused c.set_root.ensures.number
     c.set_root.ensures.rows c.set_root.ensures.went in
@@ -34,7 +34,7 @@ returns-clause-helped g c =
     c.fill_parts.ensures.went)
 
 pub returns-clause-full : goal.returns-clause-full
-returns-clause-full g c =
+returns-clause-full c =
     let first = built_helped c.args.who.now c.set_root.new.who c.requires.able
     c.set_root.ensures.caller c.set_root.ensures.refused c.set_root.ensures.number
     c.set_root.ensures.rows c.set_root.ensures.went in

@@ -1,40 +1,47 @@
+use Rattle.std.proofs.Common.{Ok, ap, ◌∙◌}
 use Rattle.ist_rebuild.specs.Going.{Serves}
 use Rattle.ist_rebuild.proofs.AbleLemmas.{helped_same, helped_more}
+use Rattle.laws_coming.proofs.FurtherLemmas.{fewer_left}
 use Rattle.ist_rebuild.proofs.RefusalLemmas.{passed_on, refused_more}
 use Rattle.ist_rebuild.proofs.SiteLemmas.{plan_went}
 use Rattle.ist_rebuild.proofs.finishing.finish.Goals as goal
 
 -- before the first turn nothing was done
-pub loop-init : goal.loop-init
-loop-init g c =
+pub turns-init : goal.turns-init
+turns-init c =
     (c.requires.same_table, helped_same c.args.who.now c.requires.able c.know.ensures.sound)
 
--- the plan stays one
+-- the plan is still a plan
 pub try_finish-requires-clause-plan : goal.try_finish-requires-clause-plan
-try_finish-requires-clause-plan g c =
-    plan_went Serves _ _ c.loop.invariant.1.went c.args.plan c.requires.plan
+try_finish-requires-clause-plan c =
+    plan_went Serves _ _ c.turns.invariant.1.went c.args.plan c.requires.plan
 
--- each turn is one of help
-pub loop-preserved : goal.loop-preserved
-loop-preserved g c = (
+-- each turn only made steps of help
+pub turns-preserved : goal.turns-preserved
+turns-preserved c = (
   c.try_finish.ensures.same_table,
-  helped_more c.args.who.now c.loop.who c.try_finish.new.who c.loop.invariant.1
+  helped_more c.args.who.now c.turns.who c.try_finish.new.who c.turns.invariant.1
       c.try_finish.ensures.helped,
 )
 
-pub returns-in-Some-2-clause-helped : goal.returns-in-Some-2-clause-helped
-returns-in-Some-2-clause-helped g c =
-    helped_more c.args.who.now c.loop.who c.try_finish.new.who c.loop.invariant.1
+pub returns-in-Some-clause-helped : goal.returns-in-Some-clause-helped
+returns-in-Some-clause-helped c =
+    helped_more c.args.who.now c.turns.who c.try_finish.new.who c.turns.invariant.1
     c.try_finish.ensures.helped
 
--- one that was refused
+-- a turn that was refused
 pub returns-in_err-helped-clause-helped : goal.returns-in_err-helped-clause-helped
-returns-in_err-helped-clause-helped g c =
-    helped_more c.args.who.now c.loop.who c.try_finish.new.who c.loop.invariant.1
+returns-in_err-helped-clause-helped c =
+    helped_more c.args.who.now c.turns.who c.try_finish.new.who c.turns.invariant.1
     c.try_finish.ensures.helped
 
 pub returns-in_err-helped-clause-full : goal.returns-in_err-helped-clause-full
-returns-in_err-helped-clause-full g c =
+returns-in_err-helped-clause-full c =
     passed_on c.from_residual.result _ _ c.from_residual.ensures.1
-    (refused_more _ _ _ c.args.plan.rebuild _ _ c.loop.invariant.1.went
+    (refused_more _ _ _ c.args.plan.rebuild _ _ c.turns.invariant.1.went
     c.in_err-helped.ensures.full)
+
+pub turns-smaller : goal.turns-smaller
+turns-smaller c =
+    fewer_left _ _ c.try_finish.ensures.helped.went.sound
+    (c.try_finish.ensures.further (c.in_ok-helped.was ∙ ap Ok c.in_default.is))

@@ -2,24 +2,23 @@ use Rattle.ist_rebuild.proofs.AbleLemmas.{refused_row}
 use Rattle.ist_rebuild.proofs.PreparedLemmas.{HasPrepared, has_prepared}
 use Rattle.ist_rebuild.proofs.RefusalLemmas.{passed_on, row_refused}
 use Rattle.ist_rebuild.proofs.SiteLemmas.{rebuild_good}
-use Rattle.ist_rebuild.proofs.finishing.prepare.Given.{Over}
 use Rattle.ist_rebuild.proofs.finishing.prepare.Goals as goal
 
 -- a change row that was refused
 pub returns-in_err-change-clause-helped : goal.returns-in_err-change-clause-helped
-returns-in_err-change-clause-helped g c =
+returns-in_err-change-clause-helped c =
     refused_row c.args.who.now c.reserve.new.who _ _ c.requires.able c.reserve.ensures.caller
     c.reserve.ensures.number c.in_err-change.ensures.full
 
 pub returns-in_err-change-clause-full : goal.returns-in_err-change-clause-full
-returns-in_err-change-clause-full g c =
+returns-in_err-change-clause-full c =
     passed_on c.from_residual.result _ _ c.from_residual.ensures.1
     (row_refused c.args.who.now c.reserve.new.who c.args.plan.rebuild _ _
     c.in_err-change.ensures.full)
 
 -- a published rebuild has a good base
 pub finish_words-words-requires : goal.finish_words-words-requires
-finish_words-words-requires g c =
+finish_words-words-requires c =
     let p = c.requires.plan in
     record {
       good = rebuild_good _ c.know.ensures.sound c.args.plan.rebuild
@@ -27,9 +26,9 @@ finish_words-words-requires g c =
     }
 
 -- the row was filled
-prepares : (g : Over) (c : goal.After-know-3 g)
+prepares : (c : goal.After-know-3)
     → HasPrepared c.args.who.now c.fill_change.new.who c.args.plan c.in_ok-change.change
-prepares g c =
+prepares c =
     let e = c.in_ok-change.ensures in
     has_prepared c.args.who.now c.reserve.new.who _ c.args.plan c.in_ok-change.change _
     c.requires.able c.know.ensures.sound c.requires.plan c.requires.unrefused
@@ -37,7 +36,7 @@ prepares g c =
     c.finish_words-words.ensures.value c.fill_change.ensures.stored c.know-3.ensures.sound
 
 pub returns-clause-helped : goal.returns-clause-helped
-returns-clause-helped g c = (prepares g c).helped
+returns-clause-helped c = (prepares c).helped
 
 pub returns-clause-prepared : goal.returns-clause-prepared
-returns-clause-prepared g c = (prepares g c).prepared
+returns-clause-prepared c = (prepares c).prepared

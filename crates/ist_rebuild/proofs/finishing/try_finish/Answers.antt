@@ -1,74 +1,90 @@
-use Rattle.std.proofs.Common.{rules}
+use Rattle.std.proofs.Common.{◌≡◌, None, Ok, Option, Result, rules}
+use Rattle.ist_core.specs.declared.ports.Full.{Full}
+use Rattle.ist_rebuild.specs.declared.answers.Helped.{Helped}
 use Rattle.ist_rebuild.specs.Going.{Serves}
 use Rattle.ist_rebuild.proofs.AbleLemmas.{helped_more, loads_helped}
+use Rattle.laws_coming.proofs.FurtherLemmas.{no_less}
 use Rattle.ist_rebuild.proofs.RefusalLemmas.{passed_on, refused_more}
 use Rattle.ist_rebuild.proofs.SiteLemmas.{parent_node, plan_on, plan_went}
 use Rattle.ist_rebuild.proofs.finishing.try_finish.Goals as goal
 
 -- the parent is a node
 pub is_open-requires-clause-node : goal.is_open-requires-clause-node
-is_open-requires-clause-node g c =
+is_open-requires-clause-node c =
     parent_node _ c.know.ensures.sound c.args.plan c.requires.plan
 
--- where it isn't open, the slot tells
+-- if the parent isn't open, the slot decides
 pub settle-requires-clause-able : goal.settle-requires-clause-able
-settle-requires-clause-able g c =
+settle-requires-clause-able c =
     (loads_helped c.args.who.now c.is_open.new.seat c.requires.able c.is_open.ensures.seen).able
 
 pub settle-requires-clause-plan : goal.settle-requires-clause-plan
-settle-requires-clause-plan g c =
+settle-requires-clause-plan c =
     plan_on _ _ c.is_open.ensures.seen c.args.plan c.requires.plan
 
 pub returns-then-not-is_open-clause-helped : goal.returns-then-not-is_open-clause-helped
-returns-then-not-is_open-clause-helped g c =
+returns-then-not-is_open-clause-helped c =
     helped_more c.args.who.now _ c.settle.new.who
     (loads_helped c.args.who.now c.is_open.new.seat c.requires.able c.is_open.ensures.seen)
     c.settle.ensures.helped
 
--- where it is, no change of the caller's on it was refused
+-- if it is open, no change of the caller's on it was refused
 pub prepare-requires-clause-able : goal.prepare-requires-clause-able
-prepare-requires-clause-able g c =
+prepare-requires-clause-able c =
     (loads_helped c.args.who.now c.is_open.new.seat c.requires.able c.is_open.ensures.seen).able
 
 pub prepare-requires-clause-plan : goal.prepare-requires-clause-plan
-prepare-requires-clause-plan g c =
+prepare-requires-clause-plan c =
     plan_on _ _ c.is_open.ensures.seen c.args.plan c.requires.plan
 
 pub prepare-requires-clause-unrefused : goal.prepare-requires-clause-unrefused
-prepare-requires-clause-unrefused g c =
+prepare-requires-clause-unrefused c =
     c.is_open.ensures.unrefused c.args.who.now.number (search rules)
 
 -- a change row that was refused
 pub returns-in_err-change-clause-helped : goal.returns-in_err-change-clause-helped
-returns-in_err-change-clause-helped g c =
+returns-in_err-change-clause-helped c =
     helped_more c.args.who.now _ c.prepare.new.who
     (loads_helped c.args.who.now c.is_open.new.seat c.requires.able c.is_open.ensures.seen)
     c.prepare.ensures.helped
 
 pub returns-in_err-change-clause-full : goal.returns-in_err-change-clause-full
-returns-in_err-change-clause-full g c =
+returns-in_err-change-clause-full c =
     let first = loads_helped c.args.who.now c.is_open.new.seat c.requires.able
     c.is_open.ensures.seen in
     passed_on c.from_residual.result _ _ c.from_residual.ensures.1
     (refused_more _ _ _ c.args.plan.rebuild _ _ first.went c.in_err-change.ensures.full)
 
--- the plan stays one
+-- the plan is still a plan
 pub carry-tried-requires-clause-plan : goal.carry-tried-requires-clause-plan
-carry-tried-requires-clause-plan g c =
+carry-tried-requires-clause-plan c =
     plan_went Serves _ _ c.prepare.ensures.helped.went c.args.plan
     (plan_on _ _ c.is_open.ensures.seen c.args.plan c.requires.plan)
 
 pub conclude-requires-clause-plan : goal.conclude-requires-clause-plan
-conclude-requires-clause-plan g c =
+conclude-requires-clause-plan c =
     plan_went Serves _ _ c.carry-tried.ensures.helped.went c.args.plan
     (plan_went Serves _ _ c.prepare.ensures.helped.went c.args.plan
     (plan_on _ _ c.is_open.ensures.seen c.args.plan c.requires.plan))
 
--- each step was one of help
+-- the steps were steps of help
 pub returns-clause-helped : goal.returns-clause-helped
-returns-clause-helped g c =
+returns-clause-helped c =
     helped_more c.args.who.now c.carry-tried.new.who c.conclude.new.who
     (helped_more c.args.who.now c.prepare.new.who c.carry-tried.new.who
     (helped_more c.args.who.now _ c.prepare.new.who
     (loads_helped c.args.who.now c.is_open.new.seat c.requires.able c.is_open.ensures.seen)
     c.prepare.ensures.helped) c.carry-tried.ensures.helped) c.conclude.ensures.helped
+
+-- a turn that must be repeated has resolved a change
+pub returns-clause-further : goal.returns-clause-further
+returns-clause-further c is =
+    let first = loads_helped c.args.who.now c.is_open.new.seat c.requires.able
+    c.is_open.ensures.seen in
+    no_less Serves _ _ _ first.went
+    (no_less Serves _ _ _ c.prepare.ensures.helped.went
+    (no_less Serves _ _ _ c.carry-tried.ensures.helped.went
+    (c.conclude.ensures.further (none_of _ is))))
+  where
+    none_of : (o : Option Helped) → ◌≡◌ {A = Result (Option Helped) Full} (Ok o) (Ok None) → o ≡ None
+    none_of o e = cc

@@ -4,37 +4,38 @@ use Rattle.ist_build.proofs.ShareLemmas.{err_map}
 use Rattle.ist_rebuild.specs.Going.{Serves}
 use Rattle.ist_rebuild.specs.Helping.{IsHelpRefused}
 use Rattle.ist_rebuild.proofs.AbleLemmas.{helped_loads, helped_more, started_went}
+use Rattle.ist_rebuild.proofs.BuiltOutLemmas.{buildable_went}
 use Rattle.ist_rebuild.proofs.RefusalLemmas.{passed_on, refused_more}
 use Rattle.ist_rebuild.proofs.helping.help_rebuild.Goals as goal
 
 -- a build that was refused
 pub returns-in_err-build_out-clause-went : goal.returns-in_err-build_out-clause-went
-returns-in_err-build_out-clause-went g c =
+returns-in_err-build_out-clause-went c =
     (helped_more c.args.who.now c.mark_target.new.who c.build_out.new.who
     c.mark_target.ensures.helped c.build_out.ensures.helped).went
 
 pub returns-in_err-build_out-clause-full : goal.returns-in_err-build_out-clause-full
-returns-in_err-build_out-clause-full g c =
+returns-in_err-build_out-clause-full c =
     passed_on c.from_residual.result _ _ c.from_residual.ensures.1
     (refused_more _ _ _ c.args.rebuild _ _ c.mark_target.ensures.helped.went
     c.in_err-build_out.ensures.full)
 
--- the rebuild is started still
+-- the rebuild is still started
 pub plan_of-plan-requires-clause-started : goal.plan_of-plan-requires-clause-started
-plan_of-plan-requires-clause-started g c =
+plan_of-plan-requires-clause-started c =
     started_went Serves _ _
     (helped_more c.args.who.now c.mark_target.new.who c.build_out.new.who
     c.mark_target.ensures.helped c.build_out.ensures.helped).went c.args.rebuild
     c.requires.started
 
 pub finish-requires-clause-able : goal.finish-requires-clause-able
-finish-requires-clause-able g c =
+finish-requires-clause-able c =
     (helped_loads c.mark_target.new.who c.build_out.new.who c.plan_of-plan.new.seat
     c.build_out.ensures.helped c.plan_of-plan.ensures.seen).able
 
--- each step was one of help
+-- the steps were steps of help
 pub returns-clause-went : goal.returns-clause-went
-returns-clause-went g c =
+returns-clause-went c =
     let built = helped_loads c.mark_target.new.who c.build_out.new.who c.plan_of-plan.new.seat
     c.build_out.ensures.helped c.plan_of-plan.ensures.seen in
     (helped_more c.args.who.now _ c.finish.new.who
@@ -42,7 +43,7 @@ returns-clause-went g c =
     c.finish.ensures.helped).went
 
 pub returns-clause-full : goal.returns-clause-full
-returns-clause-full g c =
+returns-clause-full c =
     let built = helped_loads c.mark_target.new.who c.build_out.new.who c.plan_of-plan.new.seat
     c.build_out.ensures.helped c.plan_of-plan.ensures.seen in
     let all = helped_more c.args.who.now c.mark_target.new.who _ c.mark_target.ensures.helped
@@ -51,3 +52,17 @@ returns-clause-full g c =
     (λ full h. refused_more _ _ _ c.args.rebuild _ full all.went
     (subst (λ n. IsHelpRefused c.plan_of-plan.new.seat.view n (word_count_of c.args.table.now) full
     c.finish.new.who.seat.view) c.plan_of-plan.ensures.rebuild h)) c.finish.ensures.full
+
+-- the target was finished by the first step, and stays so
+pub returns-in_err-build_out-clause-finished : goal.returns-in_err-build_out-clause-finished
+returns-in_err-build_out-clause-finished c =
+    buildable_went Serves _ _ c.build_out.ensures.helped.went c.args.rebuild
+    c.mark_target.ensures.buildable
+
+pub returns-clause-finished : goal.returns-clause-finished
+returns-clause-finished c =
+    let built = helped_loads c.mark_target.new.who c.build_out.new.who c.plan_of-plan.new.seat
+    c.build_out.ensures.helped c.plan_of-plan.ensures.seen in
+    buildable_went Serves _ _
+    (helped_more c.mark_target.new.who _ c.finish.new.who built c.finish.ensures.helped).went
+    c.args.rebuild c.mark_target.ensures.buildable

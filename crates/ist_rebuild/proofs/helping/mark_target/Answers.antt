@@ -2,22 +2,22 @@ use Rattle.ist_rebuild.proofs.BuiltOutLemmas.{has_marked, may_mark}
 use Rattle.ist_rebuild.proofs.helping.mark_target.Goals as goal
 
 -- the target of a started rebuild may be marked
-pub mark_and_count-requires-clause-may_mark : goal.mark_and_count-requires-clause-may_mark
-mark_and_count-requires-clause-may_mark g c =
+pub mark_and_count_from-requires-clause-may_mark : goal.mark_and_count_from-requires-clause-may_mark
+mark_and_count_from-requires-clause-may_mark c =
     may_mark c.args.who.now c.target_of-target.new.seat c.args.rebuild _ c.requires.able
     c.requires.started c.target_of-target.ensures.seen c.target_of-target.ensures.target
 
--- and is finished then
+-- the target is then finished
 pub returns-clause-helped : goal.returns-clause-helped
-returns-clause-helped g c =
-    (has_marked c.args.who.now c.target_of-target.new.seat c.mark_and_count.new.seat c.args.rebuild
+returns-clause-helped c =
+    (has_marked c.args.who.now c.target_of-target.new.seat c.mark_and_count_from.new.seat c.args.rebuild
     _ _ c.requires.able c.requires.started c.target_of-target.ensures.seen
-    c.target_of-target.ensures.target c.mark_and_count.ensures.went
-    c.mark_and_count.ensures.finished).helped
+    c.target_of-target.ensures.target c.mark_and_count_from.ensures.went
+    c.mark_and_count_from.ensures.finished).helped
 
 pub returns-clause-buildable : goal.returns-clause-buildable
-returns-clause-buildable g c =
-    (has_marked c.args.who.now c.target_of-target.new.seat c.mark_and_count.new.seat c.args.rebuild
+returns-clause-buildable c =
+    (has_marked c.args.who.now c.target_of-target.new.seat c.mark_and_count_from.new.seat c.args.rebuild
     _ _ c.requires.able c.requires.started c.target_of-target.ensures.seen
-    c.target_of-target.ensures.target c.mark_and_count.ensures.went
-    c.mark_and_count.ensures.finished).buildable
+    c.target_of-target.ensures.target c.mark_and_count_from.ensures.went
+    c.mark_and_count_from.ensures.finished).buildable

@@ -19,7 +19,7 @@ load-requires-clause-within c =
 pub returns-clause-seen : goal.returns-clause-seen
 returns-clause-seen c = looked_goes_on _ _ _ _ c.load.ensures.looked
 
--- the word is one of the row
+-- the word is a word of the row
 pub returns-clause-field : goal.returns-clause-field
 returns-clause-field c =
     looked_word _ _ _ _ c.load.ensures.looked c.args.rebuild c.args.offset c.requires.published

@@ -21,7 +21,7 @@ returns-clause-seen c =
     (goes_on_more _ _ _ c.field-parent.ensures.seen c.field-index.ensures.seen)
     c.field-root.ensures.seen
 
--- the words are those of the row
+-- the words are the row's
 pub returns-clause-plan : goal.returns-clause-plan
 returns-clause-plan c =
     planned c.args.seat.now.view c.field-root.new.seat.view c.know.ensures.sound _

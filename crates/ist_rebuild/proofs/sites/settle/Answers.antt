@@ -1,53 +1,65 @@
 use Rattle.std.proofs.Common.{refl, ◌∙◌}
 use Rattle.ist_dcss.proofs.CallingLemmas.{met_change}
+use Rattle.ist_dcss.specs.Helping.{Serves as HelpsWith}
+use Rattle.ist_rule.proofs.WentOnLemmas.{goes_on_went}
 use Rattle.ist_rebuild.specs.Going.{Serves}
 use Rattle.ist_rebuild.proofs.AbleLemmas.{helped_same, helped_more, loads_helped, help_helped}
+use Rattle.laws_coming.proofs.FurtherLemmas.{fewer_left, helped_further, no_less}
 use Rattle.ist_rebuild.proofs.SiteLemmas.{plan_went}
 use Rattle.ist_rebuild.proofs.SlotLemmas.{tells_replaced, tells_left, closed_went}
 use Rattle.ist_rebuild.proofs.sites.settle.Goals as goal
 
 -- before the first turn nothing was done
-pub loop-init : goal.loop-init
-loop-init g c =
+pub turns-init : goal.turns-init
+turns-init c =
     (c.requires.same_table, helped_same c.args.who.now c.requires.able c.know.ensures.sound)
 
--- the plan stays one
+-- the plan is still a plan
 pub slot_word-word-requires-clause-plan : goal.slot_word-word-requires-clause-plan
-slot_word-word-requires-clause-plan g c =
-    plan_went Serves _ _ c.loop.invariant.1.went c.args.plan c.requires.plan
+slot_word-word-requires-clause-plan c =
+    plan_went Serves _ _ c.turns.invariant.1.went c.args.plan c.requires.plan
 
 -- the change that was met may be helped
 pub help-requires-clause-may_help : goal.help-requires-clause-may_help
-help-requires-clause-may_help g c =
-    let l = loads_helped c.loop.who c.slot_word-word.new.seat c.loop.invariant.1.able
+help-requires-clause-may_help c =
+    let l = loads_helped c.turns.who c.slot_word-word.new.seat c.turns.invariant.1.able
     c.slot_word-word.ensures.seen in
-    met_change _ c.slot_word-word.ensures.seen.sound c.loop.who.number l.able.caller.mine
+    met_change _ c.slot_word-word.ensures.seen.sound c.turns.who.number l.able.caller.mine
     c.args.plan.parent c.args.plan.index _ _ c.slot_word-word.ensures.holds
     (c.in-Change.ensures.change _ refl)
 
 -- a turn helps a change
-pub loop-preserved : goal.loop-preserved
-loop-preserved g c =
-    let mid = record c.loop.who { seat = c.slot_word-word.new.seat } in
-    let l = loads_helped c.loop.who c.slot_word-word.new.seat c.loop.invariant.1.able
+pub turns-preserved : goal.turns-preserved
+turns-preserved c =
+    let mid = record c.turns.who { seat = c.slot_word-word.new.seat } in
+    let l = loads_helped c.turns.who c.slot_word-word.new.seat c.turns.invariant.1.able
     c.slot_word-word.ensures.seen in (
-      c.help.ensures.same_table ∙ c.slot_word-word.ensures.same_table ∙ c.loop.invariant.0,
+      c.help.ensures.same_table ∙ c.slot_word-word.ensures.same_table ∙ c.turns.invariant.0,
       helped_more c.args.who.now mid _
-          (helped_more c.args.who.now c.loop.who mid c.loop.invariant.1 l)
+          (helped_more c.args.who.now c.turns.who mid c.turns.invariant.1 l)
           (help_helped mid c.help.new.seat c.in-Change.change l.able c.help.ensures.went),
     )
 
--- the last one loads the rebuild's word
+-- the help resolves the change, which wasn't resolved before
+pub turns-smaller : goal.turns-smaller
+turns-smaller c =
+    fewer_left _ _ c.help.ensures.went.sound
+    (no_less Serves _ _ _ (goes_on_went Serves _ _ c.slot_word-word.ensures.seen)
+    (helped_further (HelpsWith c.in-Change.change) _ _ c.slot_word-word.ensures.seen.sound
+    c.help.ensures.went c.args.plan.parent c.args.plan.index _ c.in-Change.change
+    c.slot_word-word.ensures.holds (c.in-Change.ensures.change _ refl) c.help.ensures.out.resolved))
+
+-- the last turn loads the rebuild's word
 pub returns-in-Itself-clause-helped : goal.returns-in-Itself-clause-helped
-returns-in-Itself-clause-helped g c =
-    helped_more c.args.who.now c.loop.who _ c.loop.invariant.1
-    (loads_helped c.loop.who c.slot_word-word.new.seat c.loop.invariant.1.able
+returns-in-Itself-clause-helped c =
+    helped_more c.args.who.now c.turns.who _ c.turns.invariant.1
+    (loads_helped c.turns.who c.slot_word-word.new.seat c.turns.invariant.1.able
     c.slot_word-word.ensures.seen)
 
 pub returns-in-Itself-clause-left : goal.returns-in-Itself-clause-left
-returns-in-Itself-clause-left g c _ =
-    let l = helped_more c.args.who.now c.loop.who _ c.loop.invariant.1
-    (loads_helped c.loop.who c.slot_word-word.new.seat c.loop.invariant.1.able
+returns-in-Itself-clause-left c _ =
+    let l = helped_more c.args.who.now c.turns.who _ c.turns.invariant.1
+    (loads_helped c.turns.who c.slot_word-word.new.seat c.turns.invariant.1.able
     c.slot_word-word.ensures.seen) in
     tells_left _ l.went.sound c.args.plan
     (plan_went Serves _ _ l.went c.args.plan c.requires.plan) _ c.slot_word-word.ensures.holds
@@ -55,17 +67,17 @@ returns-in-Itself-clause-left g c _ =
     (closed_went Serves _ _ l.went c.know.ensures.sound c.args.plan c.requires.plan
     c.requires.closed)
 
--- or another, which is no change's
+-- the last turn loads another word, which is no change's
 pub returns-in-Another-clause-helped : goal.returns-in-Another-clause-helped
-returns-in-Another-clause-helped g c =
-    helped_more c.args.who.now c.loop.who _ c.loop.invariant.1
-    (loads_helped c.loop.who c.slot_word-word.new.seat c.loop.invariant.1.able
+returns-in-Another-clause-helped c =
+    helped_more c.args.who.now c.turns.who _ c.turns.invariant.1
+    (loads_helped c.turns.who c.slot_word-word.new.seat c.turns.invariant.1.able
     c.slot_word-word.ensures.seen)
 
 pub returns-in-Another-clause-replaced : goal.returns-in-Another-clause-replaced
-returns-in-Another-clause-replaced g c _ =
-    let l = helped_more c.args.who.now c.loop.who _ c.loop.invariant.1
-    (loads_helped c.loop.who c.slot_word-word.new.seat c.loop.invariant.1.able
+returns-in-Another-clause-replaced c _ =
+    let l = helped_more c.args.who.now c.turns.who _ c.turns.invariant.1
+    (loads_helped c.turns.who c.slot_word-word.new.seat c.turns.invariant.1.able
     c.slot_word-word.ensures.seen) in
     tells_replaced _ l.went.sound c.args.plan
     (plan_went Serves _ _ l.went c.args.plan c.requires.plan) _ c.slot_word-word.ensures.holds

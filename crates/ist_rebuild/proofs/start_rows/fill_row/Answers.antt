@@ -44,7 +44,7 @@ pub returns-clause-same_table : goal.returns-clause-same_table
 returns-clause-same_table c =
     ap (λ (x : Caller). x.seat.table) c.loop-word.invariant.1 ∙ c.requires.same_table
 
--- behind the last one all are stored
+-- after the last one all are stored
 pub returns-clause-stored : goal.returns-clause-stored
 returns-clause-stored c =
     let high : length c.args.words.now ≤ c.loop-word.word-index = c.loop-word-test.false in

@@ -6,17 +6,17 @@ use Rattle.ist_rebuild.proofs.StartReadyLemmas.{filled_quiet, reserved_quiet, st
 use Rattle.ist_rebuild.proofs.start_rows.prepare.Goals as goal
 
 pub returns-in_err-rows-clause-quiet : goal.returns-in_err-rows-clause-quiet
-returns-in_err-rows-clause-quiet g c =
+returns-in_err-rows-clause-quiet c =
     reserved_quiet c.args.who.now c.reserve_rows.new.who c.requires.caller
     c.in_err-rows.ensures.number c.in_err-rows.ensures.went c.requires.quiet
 
 -- the target is published, so it lies at a good base
 pub fill_rows-requires-clause-target : goal.fill_rows-requires-clause-target
-fill_rows-requires-clause-target g c =
+fill_rows-requires-clause-target c =
     target_good _ c.know.ensures.sound c.args.parent c.args.index c.args.target c.requires.may_start
 
 pub returns-clause-quiet : goal.returns-clause-quiet
-returns-clause-quiet g c =
+returns-clause-quiet c =
     filled_quiet c.reserve_rows.new.who c.fill_rows.new.who c.in_ok-rows.rows.rebuild
     c.in_ok-rows.rows.change c.args.parent c.args.index c.args.target c.fill_rows.ensures.filled
     (reserved_quiet c.args.who.now c.reserve_rows.new.who c.requires.caller
@@ -24,7 +24,7 @@ returns-clause-quiet g c =
 
 -- the rows are filled, and no change on the parent was decided no
 pub returns-clause-ready : goal.returns-clause-ready
-returns-clause-ready g c =
+returns-clause-ready c =
     start_ready c.args.who.now.seat.view c.args.parent c.args.index c.args.target
     c.requires.may_start c.reserve_rows.new.who c.fill_rows.new.who c.in_ok-rows.rows.rebuild
     c.in_ok-rows.rows.change c.in_ok-rows.ensures.rows c.in_ok-rows.ensures.caller

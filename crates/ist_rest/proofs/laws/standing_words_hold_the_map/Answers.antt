@@ -1,7 +1,7 @@
 use Rattle.std.proofs.Common.{length}
 use Rattle.ist_core.specs.Map.{pairs_of}
-use Rattle.ist_histories.specs.Telling.{map_now}
-use Rattle.ist_histories.proofs.ContentLemmas.{contents_at}
+use Rattle.laws_histories.specs.Telling.{map_now}
+use Rattle.laws_histories.proofs.ContentLemmas.{contents_at}
 use Rattle.ist_rest.proofs.StandingLemmas.{lawful_contents}
 use Rattle.ist_rest.proofs.MapLemmas.{hold_map, stood}
 use Rattle.ist_rest.proofs.laws.standing_words_hold_the_map.Goals as goal

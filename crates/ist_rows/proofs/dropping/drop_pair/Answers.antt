@@ -8,7 +8,7 @@ pub load_past-requires-clause-may_load : goal.load_past-requires-clause-may_load
 load_past-requires-clause-may_load c =
     may_drop c.args.who.now _ _ c.requires.caller c.requires.below c.in-Some.is
 
--- and is
+-- the row is lost
 loses : (c : goal.After-who-1)
     → HasLost c.args.who.now.seat.view c.args.who.now.number c.in-Some.pair c.args.node
     c.load_past.new.seat.view

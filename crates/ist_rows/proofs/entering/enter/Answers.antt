@@ -17,7 +17,7 @@ add-number-requires c =
       ),
     )
 
--- and gives it its seat
+-- the seat that the maker gives is a caller's
 pub returns-clause-caller : goal.returns-clause-caller
 returns-clause-caller c =
     let e = entered _ _ _ c.know.ensures.sound c.requires.maker c.add-number.ensures.added.logged in

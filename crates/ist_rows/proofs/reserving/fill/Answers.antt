@@ -22,7 +22,7 @@ store-requires-clause-within c =
     let same = ap (λ t. t.words) c.requires.same_table in
     omega arith
 
--- and in an own row
+-- the place is in an own row
 pub store-requires-clause-own : goal.store-requires-clause-own
 store-requires-clause-own c =
     subst (λ n. IsOwn c.args.who.now.seat.view (n + c.args.at)) (sym c.from.ensures)

@@ -9,19 +9,19 @@ use Rattle.ist_rows.proofs.reserving.reserve.Goals as goal
 
 -- what the caller holds is fair with the row
 pub take-requires-clause-fair : goal.take-requires-clause-fair
-take-requires-clause-fair g c =
+take-requires-clause-fair c =
     subst (MayTake c.args.who.now.seat.view c.args.who.now.number) (sym c.words.ensures.value)
     (may_take c.args.who.now c.args.kind c.know.ensures.sound c.requires.caller
     (sym c.row.ensures.value ∙ c.in_default.is))
 
--- a refused caller is one still
+-- a refused caller is still a caller
 pub returns-in_err-base-clause-caller : goal.returns-in_err-base-clause-caller
-returns-in_err-base-clause-caller g c =
+returns-in_err-base-clause-caller c =
     caller_refused c.args.who.now c.take.new.seat _ _ _ c.requires.caller c.in_err-base.ensures.full
 
--- a caller with the row is one
+-- a caller with the row is a caller
 pub returns-clause-caller : goal.returns-clause-caller
-returns-clause-caller g c =
+returns-clause-caller c =
     let took = subst (λ size. Reserved c.args.who.now.seat.view c.args.who.now.number
     c.in_ok-base.base size c.take.new.seat.view) c.words.ensures.value
     c.in_ok-base.ensures.reserved in

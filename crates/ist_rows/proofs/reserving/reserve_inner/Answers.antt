@@ -7,29 +7,29 @@ use Rattle.ist_rows.proofs.reserving.reserve_inner.Goals as goal
 
 -- what the caller holds is fair with the row
 pub take-requires-clause-fair : goal.take-requires-clause-fair
-take-requires-clause-fair g c =
+take-requires-clause-fair c =
     may_take_inner c.args.who.now c.inner_words.result c.know.ensures.sound c.requires.caller
     (subst (IsNext c.args.who.now) (sym c.inner_words.ensures.value) c.requires.next)
 
--- the caller is one still
+-- the caller is still a caller
 pub returns-clause-caller : goal.returns-clause-caller
-returns-clause-caller g c =
+returns-clause-caller c =
     caller_behind c.args.who.now c.take.new.seat _ c.inner_words.result c.take.result
     c.requires.caller
     (subst (IsNext c.args.who.now) (sym c.inner_words.ensures.value) c.requires.next)
     c.take.ensures.reserved c.take.ensures.full
 
--- it has taken the row
+-- the caller has taken the row
 pub returns-clause-taken : goal.returns-clause-taken
-returns-clause-taken g c =
+returns-clause-taken c =
     subst (λ size. IfOk c.take.result (λ base. HasTaken c.args.who.now (size ∷ [])
     (record c.args.who.now { seat = c.take.new.seat }))) c.inner_words.ensures.value
     (taken_behind c.args.who.now c.take.new.seat c.inner_words.result c.take.result
     c.requires.caller c.take.ensures.reserved)
 
--- or its build was refused
+-- if it was refused, its build was refused
 pub returns-clause-refused : goal.returns-clause-refused
-returns-clause-refused g c =
+returns-clause-refused c =
     refused_behind c.args.who.now c.take.new.seat _ c.inner_words.result c.take.result
     c.requires.caller (sym (ap (λ t. t.words) c.requires.same_table) ∙ sym c.know.ensures.words)
     (subst (IsNext c.args.who.now) (sym c.inner_words.ensures.value) c.requires.next)

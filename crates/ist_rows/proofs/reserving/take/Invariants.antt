@@ -1,13 +1,21 @@
-use Rattle.std.proofs.Common.{◌≡◌}
-use Rattle.ist_rule.specs.Learning.{GoesOnTo}
+use Rattle.std.proofs.Common.{◌≡◌, ◌-◌}
+use Rattle.ist_core.specs.RowLayout.{place_limit}
+use Rattle.ist_rule.specs.declared.view.View.{View}
 use Rattle.ist_rows.specs.Fairly.{reserving}
+use Rattle.ist_rows.specs.Rows.{HasReadNext}
 use Rattle.ist_rows.proofs.reserving.take.Given as goal
 
 -- the event is the reserving of the words between
 abbrev pub ghost-exchange : goal.ghost-exchange
-ghost-exchange g a = reserving a.seat.now.view a.old a.new
+ghost-exchange a = reserving a.seat.now.view a.old a.new
 
--- each turn made loads alone
-abbrev pub invariant-loop : goal.invariant-loop
-invariant-loop g l = (l.seat.table ≡ l.initial.seat.table)
-    × GoesOnTo l.initial.seat.view l.seat.view
+-- if the first free word had been read before the first turn, it was read after loads only
+abbrev pub invariant-turns : goal.invariant-turns
+invariant-turns l = (l.seat.table ≡ l.initial.seat.table)
+    × ((v : View) × HasReadNext v l.next l.seat.view)
+    × ((v : View) → HasReadNext v l.initial.next l.initial.seat.view
+    → HasReadNext v l.next l.seat.view)
+
+-- each further turn met a Reserve of another: fewer words are free
+abbrev pub decreases-turns : goal.decreases-turns
+decreases-turns l = place_limit - l.next

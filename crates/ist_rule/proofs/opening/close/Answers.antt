@@ -6,7 +6,7 @@ use Rattle.ist_rule.specs.Seating.{IsLast}
 use Rattle.ist_rule.proofs.OpenLemmas.{closes}
 use Rattle.ist_rule.proofs.opening.close.Goals as goal
 
--- the words behind the last step
+-- the words after the last step
 pub returns-clause-words : goal.returns-clause-words
 returns-clause-words c =
     subst (λ (v : View). IsLast v (slots_items c.close_with.result.words))

@@ -36,7 +36,7 @@ join_seat-requires c =
       joins _ _ _ v w c.seat.invariant.1.live c.other.invariant.1.live can,
     )
 
--- and so does the load behind it
+-- the load after it may be made too
 pub load-requires : goal.load-requires
 load-requires c =
     let i = c.table.invariant in
@@ -48,7 +48,7 @@ load-requires c =
           (sym (ap (λ (m : Seated). m.0.who) e.2) ∙ dead)),
     )
 
--- the load behind it told of both seats
+-- the load after it learns of both seats
 looked_behind : (c : goal.After-load)
     → Looked (joined c.seat.inside.seat.me.0 c.other.inside.seat.me.0) 0 c.load.result
     c.load.new.seat.me.0
@@ -56,13 +56,13 @@ looked_behind c =
     subst (λ (m : Seated). Looked m.0 0 c.load.result c.load.new.seat.me.0) c.join_seat.ensures.2
     c.load.ensures.2.0
 
--- others alone made events since the seat's log
+-- only others made events since the seat's log
 pub returns-clause-later : goal.returns-clause-later
 returns-clause-later c =
     subst (λ (s : SeatFace). Later s.view.who s.view.log c.load.new.seat.me.0.log) c.seat.view_is
     (joined_later c.seat.inside.seat.me.0 c.other.inside.seat.me.0 _ _ (looked_behind c))
 
--- and since the other's
+-- only others made events since the other seat's log
 pub returns-clause-other_later : goal.returns-clause-other_later
 returns-clause-other_later c =
     subst (λ (s : SeatFace). Later s.view.who s.view.log c.load.new.seat.me.0.log) c.other.view_is

@@ -28,7 +28,7 @@ invariant_of-seat c =
           (ap (λ t. t.words) e.0),
     )
 
--- and so is the new one
+-- the new seat keeps the invariant too
 pub invariant_of-result : goal.invariant_of-result
 invariant_of-result c =
     let e = c.split_seat.ensures in

@@ -4,7 +4,7 @@ use Rattle.ist_rule.specs.Conditions.{CanLoadAs}
 use Rattle.ist_rule.proofs.LeavingLemmas.{loads_as_moves, loaded_as_sound}
 use Rattle.ist_rule.proofs.watching.load_as.Goals as goal
 
--- a load that is an event where it is named so keeps the rule
+-- a load that is an event if it is named so keeps the rule
 pub load-requires : goal.load-requires
 load-requires g c =
     let w = ap (λ (t : TableFace). t.table.words) c.table.view_is in

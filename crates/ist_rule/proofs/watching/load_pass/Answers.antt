@@ -12,7 +12,7 @@ load_as-requires-clause-within c =
     let same = ap (λ t. t.words) c.requires.same_table in
     omega arith
 
--- and the load may be the event
+-- the load may be the event
 pub load_as-requires-clause-event : goal.load_as-requires-clause-event
 load_as-requires-clause-event c =
     can_load_pass _ _ _ c.args.place c.know.ensures.sound c.requires.may_load

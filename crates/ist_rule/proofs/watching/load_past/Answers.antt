@@ -16,7 +16,7 @@ load_as-requires-clause-within c =
     let base = c.from.ensures in
     omega arith
 
--- and the load may be the event
+-- the load may be the event
 pub load_as-requires-clause-event : goal.load_as-requires-clause-event
 load_as-requires-clause-event c =
     let base = c.from.ensures in

@@ -3,7 +3,7 @@ use Rattle.ist_scan.proofs.ShotLemmas.{GoesOnWell, frozen_on}
 use Rattle.ist_scan.proofs.callers.total_then_remove.Goals as goal
 
 pub total-total-requires-clause-frozen : goal.total-total-requires-clause-frozen
-total-total-requires-clause-frozen g c =
+total-total-requires-clause-frozen c =
     let on : GoesOnWell c.take.new.pass c.remove.new.pass
     = record {
       tree = c.remove.ensures.seen.tree;
@@ -13,7 +13,7 @@ total-total-requires-clause-frozen g c =
     frozen_on c.take.new.pass c.remove.new.pass on c.in_ok-shot.shot c.in_ok-shot.ensures.frozen
 
 pub returns : goal.returns
-returns g c =
+returns c =
     record {
       before = total_before c.args.pass.now c.take.new.pass c.remove.new.pass c.total-total.new.pass
           c.remove.ensures.seen c.know.ensures.lawful c.total-total.ensures.looked

@@ -42,7 +42,7 @@ loop-low-preserved-then-from-bound c =
           (omega arith);
     }
 
--- it isn't
+-- the middle pair isn't below the bound
 pub loop-low-preserved : goal.loop-low-preserved
 loop-low-preserved c =
     let low = c.loop-low.low in

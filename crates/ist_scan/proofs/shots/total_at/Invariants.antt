@@ -5,7 +5,7 @@ use Rattle.ist_scan.specs.Totals.{total_of}
 use Rattle.ist_scan.specs.Shots.{HasLooked, HasPairs}
 use Rattle.ist_scan.proofs.shots.total_at.Given as goal
 
--- the total is that of the pairs that were looked at
+-- the total is over the pairs that were looked at
 abbrev pub invariant-loop-i : goal.invariant-loop-i
 invariant-loop-i l = record {
   looked : HasLooked l.fn.pass l.pass;

@@ -5,7 +5,7 @@ use Rattle.ist_tree.proofs.freezing.freeze_below.Goals as goal
 
 -- the target of the rebuild is what is frozen
 pub returns-in-Rebuilt-clause-froze : goal.returns-in-Rebuilt-clause-froze
-returns-in-Rebuilt-clause-froze g c =
+returns-in-Rebuilt-clause-froze c =
     target_frozen c.args.who.now c.look_below.new.who c.freeze_target.new.who _ c.in-Rebuilt.rebuild
     c.in-Rebuilt.target _
     (subst (HasMet c.args.who.now c.look_below.new.who) c.in-Rebuilt.is c.in_ok-frozen.ensures.met)

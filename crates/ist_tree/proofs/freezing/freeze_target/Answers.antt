@@ -6,35 +6,35 @@ use Rattle.ist_tree.proofs.FreezeMarkLemmas.{marked, target_froze, target_may_ma
 use Rattle.ist_tree.proofs.freezing.freeze_target.Goals as goal
 
 pub mark_and_count-keys-requires-clause-may_mark : goal.mark_and_count-keys-requires-clause-may_mark
-mark_and_count-keys-requires-clause-may_mark g c =
+mark_and_count-keys-requires-clause-may_mark c =
     target_may_mark c.args.who.now c.args.rebuild c.args.target c.requires.ready c.requires.of
 
 -- ---- the caller may help still
 
 pub help_rebuild-requires-clause-caller : goal.help_rebuild-requires-clause-caller
-help_rebuild-requires-clause-caller g c =
+help_rebuild-requires-clause-caller c =
     (marked c.args.who.now c.mark_and_count-keys.new.seat c.args.target c.requires.ready
     c.mark_and_count-keys.ensures.went).ready.caller
 
 pub help_rebuild-requires-clause-refused : goal.help_rebuild-requires-clause-refused
-help_rebuild-requires-clause-refused g c =
+help_rebuild-requires-clause-refused c =
     (marked c.args.who.now c.mark_and_count-keys.new.seat c.args.target c.requires.ready
     c.mark_and_count-keys.ensures.went).ready.refused
 
 pub help_rebuild-requires-clause-quiet : goal.help_rebuild-requires-clause-quiet
-help_rebuild-requires-clause-quiet g c =
+help_rebuild-requires-clause-quiet c =
     (marked c.args.who.now c.mark_and_count-keys.new.seat c.args.target c.requires.ready
     c.mark_and_count-keys.ensures.went).ready.quiet
 
 pub help_rebuild-requires-clause-started : goal.help_rebuild-requires-clause-started
-help_rebuild-requires-clause-started g c =
+help_rebuild-requires-clause-started c =
     (rebuild_on (Marks c.mark_and_count-keys.new.seat.view c.args.target) _ _
     c.mark_and_count-keys.ensures.went c.args.rebuild c.args.target c.requires.of).started
 
--- ---- what it comes to
+-- ---- what it results in
 
 pub returns-clause-froze : goal.returns-clause-froze
-returns-clause-froze g c =
+returns-clause-froze c =
     target_froze c.args.who.now c.mark_and_count-keys.new.seat c.help_rebuild.new.who _
     c.args.rebuild c.args.target c.mark_and_count-keys.result c.requires.ready
     c.mark_and_count-keys.ensures.went c.mark_and_count-keys.ensures.finished

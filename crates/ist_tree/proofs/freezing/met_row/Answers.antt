@@ -1,11 +1,15 @@
 use Rattle.std.proofs.Common.{subst}
 use Rattle.ist_tree.specs.FreezeSteps.{HasBegun}
 use Rattle.ist_tree.proofs.FreezeLookLemmas.{begun_met}
+use Rattle.std.proofs.Common.{Ok, ap}
 use Rattle.ist_tree.proofs.freezing.met_row.Goals as goal
 
 -- the rebuild that was started is met
 pub returns-in-Some-clause-met : goal.returns-in-Some-clause-met
-returns-in-Some-clause-met g c =
+returns-in-Some-clause-met c =
     begun_met c.args.who.now c.begin_rebuild.new.who c.args.target c.in-Some.rebuild c.requires.top
     (subst (HasBegun c.args.who.now c.begin_rebuild.new.who c.args.target) c.in-Some.is
     c.in_ok-rebuild.ensures.begun)
+
+pub returns-in-None-clause-further : goal.returns-in-None-clause-further
+returns-in-None-clause-further c _ = c.in_ok-rebuild.ensures.further (ap Ok c.in-None.is)

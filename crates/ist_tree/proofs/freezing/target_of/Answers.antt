@@ -29,7 +29,7 @@ overflow_cast-result c =
 pub returns-clause-seen : goal.returns-clause-seen
 returns-clause-seen c = looked_goes_on _ _ _ _ c.load-target.ensures.looked
 
--- the word is that of the row
+-- the word is the row's
 pub returns-clause-target : goal.returns-clause-target
 returns-clause-target c =
     let it = started_rebuild _ c.know.ensures.sound c.args.rebuild c.requires.started in

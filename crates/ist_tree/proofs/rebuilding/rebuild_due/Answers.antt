@@ -1,4 +1,6 @@
 -- The row is rebuilt, attempt by attempt.
+use Rattle.std.proofs.Common.{Ok, ap, ◌∙◌}
+use Rattle.laws_coming.proofs.FurtherLemmas.{fewer_left}
 use Rattle.ist_rebuild.specs.Going.{StartsAt}
 use Rattle.ist_rule.proofs.WentOnLemmas.{went_more, went_same}
 use Rattle.ist_tree.specs.Working.{Rebuilds}
@@ -7,8 +9,8 @@ use Rattle.ist_tree.proofs.RebuildLemmas.{may_start_went, rebuilds_more, rebuild
 use Rattle.ist_tree.proofs.rebuilding.rebuild_due.Goals as goal
 
 -- before the first attempt nothing was done
-pub loop-init : goal.loop-init
-loop-init g c = (
+pub turns-init : goal.turns-init
+turns-init c = (
   c.requires.same_table,
   rebuilds_same c.args.who.now c.know.ensures.sound c.requires.ready,
   λ done. done,
@@ -17,39 +19,45 @@ loop-init g c = (
 
 -- the row may be rebuilt still
 pub try_due-requires-clause-may_start : goal.try_due-requires-clause-may_start
-try_due-requires-clause-may_start g c =
-    may_start_went Rebuilds _ _ c.loop.invariant.1.went _ _ _ c.requires.may_start
+try_due-requires-clause-may_start c =
+    may_start_went Rebuilds _ _ c.turns.invariant.1.went _ _ _ c.requires.may_start
 
 pub returns-in_err-try_due-clause-on : goal.returns-in_err-try_due-clause-on
-returns-in_err-try_due-clause-on g c =
-    rebuilds_more _ _ _ c.loop.invariant.1 c.try_due.ensures.on
+returns-in_err-try_due-clause-on c =
+    rebuilds_more _ _ _ c.turns.invariant.1 c.try_due.ensures.on
 
 pub returns-in_err-try_due-clause-aims : goal.returns-in_err-try_due-clause-aims
-returns-in_err-try_due-clause-aims g c =
-    went_more (StartsAt c.args.due.target) _ _ _ c.loop.invariant.3 c.try_due.ensures.aims
+returns-in_err-try_due-clause-aims c =
+    went_more (StartsAt c.args.due.target) _ _ _ c.turns.invariant.3 c.try_due.ensures.aims
 
 -- the last attempt found it shut
 pub returns-then-branch-clause-on : goal.returns-then-branch-clause-on
-returns-then-branch-clause-on g c =
-    rebuilds_more _ _ _ c.loop.invariant.1 c.try_due.ensures.on
+returns-then-branch-clause-on c =
+    rebuilds_more _ _ _ c.turns.invariant.1 c.try_due.ensures.on
 
 pub returns-then-branch-clause-aims : goal.returns-then-branch-clause-aims
-returns-then-branch-clause-aims g c =
-    went_more (StartsAt c.args.due.target) _ _ _ c.loop.invariant.3 c.try_due.ensures.aims
+returns-then-branch-clause-aims c =
+    went_more (StartsAt c.args.due.target) _ _ _ c.turns.invariant.3 c.try_due.ensures.aims
 
 pub returns-then-branch-clause-shut : goal.returns-then-branch-clause-shut
-returns-then-branch-clause-shut g c = c.in_ok-try_due.ensures.last c.if-branch.true
+returns-then-branch-clause-shut c = c.in_ok-try_due.ensures.last c.if-branch.true
 
 pub returns-then-branch-clause-done : goal.returns-then-branch-clause-done
-returns-then-branch-clause-done g c =
-    done_more c.args.who.now c.loop.who c.try_due.new.who c.loop.invariant.1.number
-    c.loop.invariant.2 c.in_ok-try_due.ensures.done
+returns-then-branch-clause-done c =
+    done_more c.args.who.now c.turns.who c.try_due.new.who c.turns.invariant.1.number
+    c.turns.invariant.2 c.in_ok-try_due.ensures.done
 
-pub loop-preserved : goal.loop-preserved
-loop-preserved g c = (
+pub turns-preserved : goal.turns-preserved
+turns-preserved c = (
   c.try_due.ensures.same_table,
-  rebuilds_more _ _ _ c.loop.invariant.1 c.try_due.ensures.on,
-  done_more c.args.who.now c.loop.who c.try_due.new.who c.loop.invariant.1.number
-      c.loop.invariant.2 c.in_ok-try_due.ensures.done,
-  went_more (StartsAt c.args.due.target) _ _ _ c.loop.invariant.3 c.try_due.ensures.aims,
+  rebuilds_more _ _ _ c.turns.invariant.1 c.try_due.ensures.on,
+  done_more c.args.who.now c.turns.who c.try_due.new.who c.turns.invariant.1.number
+      c.turns.invariant.2 c.in_ok-try_due.ensures.done,
+  went_more (StartsAt c.args.due.target) _ _ _ c.turns.invariant.3 c.try_due.ensures.aims,
 )
+
+-- each attempt but the last saw the table make progress
+pub turns-smaller : goal.turns-smaller
+turns-smaller c =
+    fewer_left _ _ c.try_due.ensures.on.went.sound
+    (c.try_due.ensures.further (c.in_ok-try_due.was ∙ ap Ok c.if-branch.false))

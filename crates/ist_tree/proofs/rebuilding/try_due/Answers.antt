@@ -1,36 +1,38 @@
--- A row is rebuilt, or found shut, or what stands in its place is helped.
+-- A row is rebuilt, or found shut, or what its slot holds instead is helped.
 use Rattle.std.proofs.Common.{Ok, ap, inl, inr}
 use Rattle.ist_rule.specs.Watching.{is_inner}
 use Rattle.ist_rebuild.specs.Going.{Serves, StartsAt}
 use Rattle.ist_rule.proofs.WentOnLemmas.{goes_on_went, went_all, went_more}
 use Rattle.ist_tree.proofs.EventLemmas.{serves_aims}
+use Rattle.ist_rebuild.specs.Going.{Begins}
+use Rattle.ist_tree.proofs.DueFurtherLemmas.{due_further}
 use Rattle.ist_tree.proofs.DueLemmas.{begins_on, done_behind, done_more, helped_done, helped_either, helped_shut, marked_leaves, other_leaves, serves_on, yes_leaves}
 use Rattle.ist_tree.proofs.RebuildLemmas.{load_plain, may_start_went, plain_done, plain_on, rebuilds_more}
 use Rattle.ist_tree.proofs.ShortLemmas.{help_refused, passed_on, start_refused}
-use Rattle.ist_tree.proofs.ShutLemmas.{not_open_shut}
+use Rattle.ist_tree.proofs.ShutLemmas.{not_open_shut, not_shut_open, same_ok}
 use Rattle.ist_tree.specs.Working.{Rebuilds}
 use Rattle.ist_tree.proofs.rebuilding.try_due.Goals as goal
 
 -- ---- the start is refused
 
 pub returns-in_err-rebuild-clause-on : goal.returns-in_err-rebuild-clause-on
-returns-in_err-rebuild-clause-on g c =
+returns-in_err-rebuild-clause-on c =
     begins_on _ _ c.requires.ready c.start.ensures.caller c.start.ensures.refused
     c.start.ensures.quiet c.start.ensures.went c.start.ensures.number
 
 pub returns-in_err-rebuild-clause-full : goal.returns-in_err-rebuild-clause-full
-returns-in_err-rebuild-clause-full g c =
+returns-in_err-rebuild-clause-full c =
     passed_on c.from_residual.result _ _ c.from_residual.ensures.1
     (start_refused _ _ _ _ c.in_err-rebuild.ensures.full)
 
 -- ---- a rebuild is started, and helped
 
 pub help_rebuild-requires-clause-started : goal.help_rebuild-requires-clause-started
-help_rebuild-requires-clause-started g c =
+help_rebuild-requires-clause-started c =
     (c.in_ok-rebuild.ensures.yes _ (ap Ok c.in-Yes.is)).started
 
 pub returns-in_err-help_rebuild-in-Yes-clause-on : goal.returns-in_err-help_rebuild-in-Yes-clause-on
-returns-in_err-help_rebuild-in-Yes-clause-on g c =
+returns-in_err-help_rebuild-in-Yes-clause-on c =
     rebuilds_more _ _ _
     (begins_on _ _ c.requires.ready c.start.ensures.caller c.start.ensures.refused
     c.start.ensures.quiet c.start.ensures.went c.start.ensures.number)
@@ -39,20 +41,20 @@ returns-in_err-help_rebuild-in-Yes-clause-on g c =
 
 pub returns-in_err-help_rebuild-in-Yes-clause-aims :
     goal.returns-in_err-help_rebuild-in-Yes-clause-aims
-returns-in_err-help_rebuild-in-Yes-clause-aims g c =
+returns-in_err-help_rebuild-in-Yes-clause-aims c =
     went_more (StartsAt c.args.due.target) _ _ _ c.start.ensures.aims
     (went_all Serves (StartsAt c.args.due.target) (serves_aims c.args.due.target) _ _
     c.help_rebuild.ensures.went)
 
 pub returns-in_err-help_rebuild-in-Yes-clause-full :
     goal.returns-in_err-help_rebuild-in-Yes-clause-full
-returns-in_err-help_rebuild-in-Yes-clause-full g c =
+returns-in_err-help_rebuild-in-Yes-clause-full c =
     passed_on c.from_residual-in_err-help_rebuild-in-Yes.result _ _
     c.from_residual-in_err-help_rebuild-in-Yes.ensures.1
     (help_refused _ _ _ _ _ c.in_err-help_rebuild-in-Yes.ensures.full)
 
 pub returns-in_ok-help_rebuild-in-Yes-clause-on : goal.returns-in_ok-help_rebuild-in-Yes-clause-on
-returns-in_ok-help_rebuild-in-Yes-clause-on g c =
+returns-in_ok-help_rebuild-in-Yes-clause-on c =
     rebuilds_more _ _ _
     (begins_on _ _ c.requires.ready c.start.ensures.caller c.start.ensures.refused
     c.start.ensures.quiet c.start.ensures.went c.start.ensures.number)
@@ -61,14 +63,14 @@ returns-in_ok-help_rebuild-in-Yes-clause-on g c =
 
 pub returns-in_ok-help_rebuild-in-Yes-clause-aims :
     goal.returns-in_ok-help_rebuild-in-Yes-clause-aims
-returns-in_ok-help_rebuild-in-Yes-clause-aims g c =
+returns-in_ok-help_rebuild-in-Yes-clause-aims c =
     went_more (StartsAt c.args.due.target) _ _ _ c.start.ensures.aims
     (went_all Serves (StartsAt c.args.due.target) (serves_aims c.args.due.target) _ _
     c.help_rebuild.ensures.went)
 
 pub returns-in_ok-help_rebuild-in-Yes-clause-last :
     goal.returns-in_ok-help_rebuild-in-Yes-clause-last
-returns-in_ok-help_rebuild-in-Yes-clause-last g c is =
+returns-in_ok-help_rebuild-in-Yes-clause-last c is =
     helped_shut _ _ c.help_rebuild.ensures.went _ _ _ _
     (c.in_ok-rebuild.ensures.yes _ (ap Ok c.in-Yes.is))
     (helped_either c.in_ok-help_rebuild-in-Yes.field-0 _ _
@@ -76,7 +78,7 @@ returns-in_ok-help_rebuild-in-Yes-clause-last g c is =
 
 pub returns-in_ok-help_rebuild-in-Yes-clause-done :
     goal.returns-in_ok-help_rebuild-in-Yes-clause-done
-returns-in_ok-help_rebuild-in-Yes-clause-done g c done =
+returns-in_ok-help_rebuild-in-Yes-clause-done c done =
     helped_done c.args.who.now c.start.new.who c.help_rebuild.new.who
     (begins_on _ _ c.requires.ready c.start.ensures.caller c.start.ensures.refused
     c.start.ensures.quiet c.start.ensures.went c.start.ensures.number)
@@ -88,32 +90,32 @@ returns-in_ok-help_rebuild-in-Yes-clause-done g c done =
 -- ---- the parent is marked
 
 pub returns-in-Marked-clause-on : goal.returns-in-Marked-clause-on
-returns-in-Marked-clause-on g c =
+returns-in-Marked-clause-on c =
     begins_on _ _ c.requires.ready c.start.ensures.caller c.start.ensures.refused
     c.start.ensures.quiet c.start.ensures.went c.start.ensures.number
 
 pub returns-in-Marked-clause-last : goal.returns-in-Marked-clause-last
-returns-in-Marked-clause-last g c is = inr (c.in_ok-rebuild.ensures.marked (ap Ok c.in-Marked.is))
+returns-in-Marked-clause-last c is = inr (c.in_ok-rebuild.ensures.marked (ap Ok c.in-Marked.is))
 
 pub returns-in-Marked-clause-done : goal.returns-in-Marked-clause-done
-returns-in-Marked-clause-done g c done =
+returns-in-Marked-clause-done c done =
     marked_leaves _ _ _ c.in-Marked.is (c.in_ok-rebuild.ensures.done done)
 
--- ---- something else stands there
+-- ---- something else is there
 
 pub returns-in_err-help_other-in-Other-clause-on : goal.returns-in_err-help_other-in-Other-clause-on
-returns-in_err-help_other-in-Other-clause-on g c =
+returns-in_err-help_other-in-Other-clause-on c =
     rebuilds_more _ _ _
     (begins_on _ _ c.requires.ready c.start.ensures.caller c.start.ensures.refused
     c.start.ensures.quiet c.start.ensures.went c.start.ensures.number) c.help_other.ensures.on
 
 pub returns-in_err-help_other-in-Other-clause-aims :
     goal.returns-in_err-help_other-in-Other-clause-aims
-returns-in_err-help_other-in-Other-clause-aims g c =
+returns-in_err-help_other-in-Other-clause-aims c =
     went_more (StartsAt c.args.due.target) _ _ _ c.start.ensures.aims c.help_other.ensures.aims
 
 pub is_open-requires-clause-node : goal.is_open-requires-clause-node
-is_open-requires-clause-node g c =
+is_open-requires-clause-node c =
     let on = rebuilds_more _ _ _
     (begins_on _ _ c.requires.ready c.start.ensures.caller c.start.ensures.refused
     c.start.ensures.quiet c.start.ensures.went c.start.ensures.number) c.help_other.ensures.on in
@@ -121,7 +123,7 @@ is_open-requires-clause-node g c =
     is_inner m.row m.published
 
 pub returns-in_ok-help_other-in-Other-clause-on : goal.returns-in_ok-help_other-in-Other-clause-on
-returns-in_ok-help_other-in-Other-clause-on g c =
+returns-in_ok-help_other-in-Other-clause-on c =
     let on = rebuilds_more _ _ _
     (begins_on _ _ c.requires.ready c.start.ensures.caller c.start.ensures.refused
     c.start.ensures.quiet c.start.ensures.went c.start.ensures.number) c.help_other.ensures.on in
@@ -131,19 +133,19 @@ returns-in_ok-help_other-in-Other-clause-on g c =
 
 pub returns-in_ok-help_other-in-Other-clause-aims :
     goal.returns-in_ok-help_other-in-Other-clause-aims
-returns-in_ok-help_other-in-Other-clause-aims g c =
+returns-in_ok-help_other-in-Other-clause-aims c =
     went_more (StartsAt c.args.due.target) _ _ _
     (went_more (StartsAt c.args.due.target) _ _ _ c.start.ensures.aims c.help_other.ensures.aims)
     (goes_on_went (StartsAt c.args.due.target) _ _ c.is_open.ensures.seen)
 
 pub returns-in_ok-help_other-in-Other-clause-last :
     goal.returns-in_ok-help_other-in-Other-clause-last
-returns-in_ok-help_other-in-Other-clause-last g c is =
+returns-in_ok-help_other-in-Other-clause-last c is =
     inl (not_open_shut c.is_open.result _ c.is_open.ensures.open is)
 
 pub returns-in_ok-help_other-in-Other-clause-done :
     goal.returns-in_ok-help_other-in-Other-clause-done
-returns-in_ok-help_other-in-Other-clause-done g c done =
+returns-in_ok-help_other-in-Other-clause-done c done =
     let last = record c.help_other.new.who { seat = c.is_open.new.seat } in
     done_behind c.args.who.now c.start.new.who last c.start.ensures.number
     (other_leaves _ _ _ _ c.in-Other.is (c.in_ok-rebuild.ensures.done done))
@@ -151,3 +153,12 @@ returns-in_ok-help_other-in-Other-clause-done g c done =
     c.in_ok-help_other-in-Other.ensures.done
     (plain_done _ load_plain c.help_other.new.who c.is_open.new.seat c.help_other.ensures.on.ready
     (goes_on_went _ _ _ c.is_open.ensures.seen)))
+
+-- if the row is still open, a change of another was helped
+pub returns-in_ok-help_other-in-Other-clause-further :
+    goal.returns-in_ok-help_other-in-Other-clause-further
+returns-in_ok-help_other-in-Other-clause-further c is =
+    due_further Begins Rebuilds _ _ _ _ _ _ _ _ c.requires.may_start c.start.ensures.went
+    (c.in_ok-rebuild.ensures.other _ (ap Ok c.in-Other.is)) c.help_other.ensures.on.went
+    c.in_ok-help_other-in-Other.ensures.settled c.is_open.ensures.seen
+    (not_shut_open c.is_open.result _ c.is_open.ensures.open (same_ok _ _ is))

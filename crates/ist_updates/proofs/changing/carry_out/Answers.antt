@@ -2,9 +2,13 @@ use Rattle.std.proofs.Common.{subst}
 use Rattle.ist_dcss.specs.Helping.{is_yes, IsDecided}
 use Rattle.ist_updates.specs.Trying.{Tries}
 use Rattle.ist_updates.proofs.CarriedLemmas.{missed_gone, missed_quiet, missed_asked, carried_help, carried_gone, carried_quiet, carried_yes, carried_no}
+use Rattle.ist_dcss.specs.Helping.{Serves}
+use Rattle.ist_updates.specs.Changing.{filling_of}
+use Rattle.ist_updates.proofs.BehindLemmas.{behind_loads, behind_went}
+use Rattle.ist_updates.proofs.FurtherLemmas.{installed_further, other_further}
 use Rattle.ist_updates.proofs.changing.carry_out.Goals as goal
 
--- where the slot held another word
+-- if the slot held another word
 pub returns-then-not-install_plan-clause-gone : goal.returns-then-not-install_plan-clause-gone
 returns-then-not-install_plan-clause-gone c =
     let p = c.install_plan.ensures in
@@ -30,7 +34,7 @@ help-requires-clause-may_help c =
     carried_help c.args.who.now c.install_plan.new.who c.args.plan p.caller
     (p.yes c.if-not-install_plan.false)
 
--- where it was decided yes
+-- if it was decided yes
 pub returns-in-Yes-clause-gone : goal.returns-in-Yes-clause-gone
 returns-in-Yes-clause-gone c =
     let p = c.install_plan.ensures in
@@ -54,7 +58,7 @@ returns-in-Yes-clause-took c _ command is =
     (subst (λ d. IsDecided c.help.new.seat.view c.args.plan.base (is_yes d)) c.in-Yes.is
     c.help.ensures.decided) command is
 
--- and where it was decided no
+-- and if it was decided no
 pub returns-in-No-clause-gone : goal.returns-in-No-clause-gone
 returns-in-No-clause-gone c =
     let p = c.install_plan.ensures in
@@ -77,3 +81,19 @@ returns-in-No-clause-lost c _ command asked =
     p.number (p.yes c.if-not-install_plan.false) c.help.ensures.went
     (subst (λ d. IsDecided c.help.new.seat.view c.args.plan.base (is_yes d)) c.in-No.is
     c.help.ensures.decided) c.help.ensures.out command asked
+
+-- if the slot held another word, it was changed since the walk looked at it
+pub returns-then-not-install_plan-clause-further : goal.returns-then-not-install_plan-clause-further
+returns-then-not-install_plan-clause-further c _ first aimed =
+    let p = c.install_plan.ensures in
+    let other = p.other c.if-not-install_plan.true in
+    let loads = p.no c.if-not-install_plan.true in
+    other_further first _ _ _ _ _ aimed (behind_loads _ _ loads) loads.sound other.word other.holds
+    other.differs
+
+-- and if the change was decided no, it was installed since
+pub returns-in-No-clause-further : goal.returns-in-No-clause-further
+returns-in-No-clause-further c _ first aimed =
+    installed_further first _ _ _ _ _ _ c.args.plan.base (filling_of c.args.plan) aimed
+    (c.install_plan.ensures.yes c.if-not-install_plan.false)
+    (behind_went (Serves c.args.plan.base) _ _ c.help.ensures.went)

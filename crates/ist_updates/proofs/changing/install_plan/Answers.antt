@@ -3,9 +3,11 @@ use Rattle.ist_rule.specs.Faces.{SeatFace}
 use Rattle.ist_dcss.specs.Installing.{Filling, IsInstalled}
 use Rattle.ist_updates.proofs.GivenLemmas.{given_caller, given_refused}
 use Rattle.ist_updates.proofs.GoneLemmas.{loads_gone}
+use Rattle.ist_rule.specs.Learning.{now}
+use Rattle.ist_updates.specs.Further.{HoldsElse}
 use Rattle.ist_updates.proofs.changing.install_plan.Goals as goal
 
--- where it is installed
+-- if it is installed
 pub returns-in-Yes-clause-yes : goal.returns-in-Yes-clause-yes
 returns-in-Yes-clause-yes g c _ =
     subst (λ (s : SeatFace). IsInstalled c.args.who.now.seat.view c.args.plan.base g.filling s.view)
@@ -31,7 +33,7 @@ returns-in-Yes-clause-refused g c =
     (sym c.give_away.ensures.same.0) (c.install.ensures.yes c.in-Yes.is)))
     c.give_away.ensures.same.1 c.give_away.ensures.rows
 
--- and where the slot held another word
+-- and if the slot held another word
 pub returns-in-Other-clause-no : goal.returns-in-Other-clause-no
 returns-in-Other-clause-no g c _ = (c.install.ensures.other c.in-Other.field-0 c.in-Other.is).seen
 
@@ -44,3 +46,9 @@ pub returns-in-Other-clause-refused : goal.returns-in-Other-clause-refused
 returns-in-Other-clause-refused g c =
     (loads_gone (λ e. ⊥) c.args.who.now c.install.new.seat c.requires.1.0 c.requires.1.1.0
     (c.install.ensures.other c.in-Other.field-0 c.in-Other.is).seen).refused
+
+pub returns-in-Other-clause-other : goal.returns-in-Other-clause-other
+returns-in-Other-clause-other g c _ =
+    let o = c.install.ensures.other c.in-Other.field-0 c.in-Other.is in
+    subst (λ (f : Filling). HoldsElse (now c.install.new.seat.view) f.change) c.requires.1.1.1.1.1
+    record { word = c.in-Other.field-0; holds = o.in_slot; differs = o.differs }

@@ -10,18 +10,18 @@ use Rattle.ist_updates.proofs.changing.plan_leaf.Goals as goal
 
 -- the change's row was refused
 pub returns-in_err-base-clause-gone : goal.returns-in_err-base-clause-gone
-returns-in_err-base-clause-gone g c =
+returns-in_err-base-clause-gone c =
     gone_more Prepares _ _ _ c.in_ok-leaf.ensures.gone c.in_err-base.ensures.gone
 
 pub returns-in_err-base-clause-full : goal.returns-in_err-base-clause-full
-returns-in_err-base-clause-full g c =
+returns-in_err-base-clause-full c =
     let full = way_refused _ _ _ _ _ (way.Leaf c.args.value) c.in_ok-leaf.ensures.gone.went
     c.in_err-base.ensures.full (λ e. inr (inr e)) in
     search rules
 
 -- the leaf lies at a good base
 pub to_word-to-requires : goal.to_word-to-requires
-to_word-to-requires g c =
+to_word-to-requires c =
     let gone = c.in_ok-leaf.ensures.gone in
     record {
       good = row_good _ gone.went.sound gone.caller kind.Leaf c.in_ok-leaf.leaf
@@ -29,12 +29,12 @@ to_word-to-requires g c =
     }
 
 pub returns-clause-gone : goal.returns-clause-gone
-returns-clause-gone g c =
+returns-clause-gone c =
     gone_more Prepares _ _ _ c.in_ok-leaf.ensures.gone c.in_ok-base.ensures.gone
 
 -- the plan is one for the slot
 pub returns-clause-planned : goal.returns-clause-planned
-returns-clause-planned g c =
+returns-clause-planned c =
     let both = gone_more Prepares _ _ _ c.in_ok-leaf.ensures.gone c.in_ok-base.ensures.gone in
     let gone = c.in_ok-leaf.ensures.gone in
     leaf_planned Prepares c.args.who.now c.take-2.new.who both.went c.args.aim c.requires.at_slot

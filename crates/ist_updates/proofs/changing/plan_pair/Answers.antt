@@ -13,30 +13,30 @@ use Rattle.ist_updates.proofs.changing.plan_pair.Goals as goal
 
 -- the node is one
 pub take_pair-requires-clause-node : goal.take_pair-requires-clause-node
-take_pair-requires-clause-node g c =
+take_pair-requires-clause-node c =
     node_on _ _ (went_grow Prepares _ _ c.in_ok-leaf.ensures.gone.went) c.args.aim.node
     (slot_node _ c.args.aim c.requires.at_slot)
 
 -- the pair row was refused
 pub returns-in_err-pair-clause-gone : goal.returns-in_err-pair-clause-gone
-returns-in_err-pair-clause-gone g c =
+returns-in_err-pair-clause-gone c =
     gone_more Prepares _ _ _ c.in_ok-leaf.ensures.gone c.in_err-pair.ensures.gone
 
 pub returns-in_err-pair-clause-full : goal.returns-in_err-pair-clause-full
-returns-in_err-pair-clause-full g c =
+returns-in_err-pair-clause-full c =
     let full = way_refused _ _ _ _ _ (way.Pair c.args.value c.args.other c.args.other_key)
     c.in_ok-leaf.ensures.gone.went c.in_err-pair.ensures.full (λ e. inr (inl e)) in
     search rules
 
 -- or the change's row
 pub returns-in_err-base-clause-gone : goal.returns-in_err-base-clause-gone
-returns-in_err-base-clause-gone g c =
+returns-in_err-base-clause-gone c =
     gone_more Prepares _ _ _
     (gone_more Prepares _ _ _ c.in_ok-leaf.ensures.gone c.in_ok-pair.ensures.gone)
     c.in_err-base.ensures.gone
 
 pub returns-in_err-base-clause-full : goal.returns-in_err-base-clause-full
-returns-in_err-base-clause-full g c =
+returns-in_err-base-clause-full c =
     let both = gone_more Prepares _ _ _ c.in_ok-leaf.ensures.gone c.in_ok-pair.ensures.gone in
     let full = way_refused _ _ _ _ _ (way.Pair c.args.value c.args.other c.args.other_key)
     both.went c.in_err-base.ensures.full (λ e. inr (inr e)) in
@@ -44,7 +44,7 @@ returns-in_err-base-clause-full g c =
 
 -- the pair row lies at a good base
 pub to_word-to-requires : goal.to_word-to-requires
-to_word-to-requires g c =
+to_word-to-requires c =
     let gone = c.in_ok-pair.ensures.gone in
     record {
       good = row_good _ gone.went.sound gone.caller kind.Pair c.in_ok-pair.pair
@@ -52,14 +52,14 @@ to_word-to-requires g c =
     }
 
 pub returns-clause-gone : goal.returns-clause-gone
-returns-clause-gone g c =
+returns-clause-gone c =
     gone_more Prepares _ _ _
     (gone_more Prepares _ _ _ c.in_ok-leaf.ensures.gone c.in_ok-pair.ensures.gone)
     c.in_ok-base.ensures.gone
 
 -- the plan is one for the slot
 pub returns-clause-planned : goal.returns-clause-planned
-returns-clause-planned g c =
+returns-clause-planned c =
     let first = c.in_ok-leaf.ensures in
     let second = c.in_ok-pair.ensures in
     let rows = c.in_ok-base.ensures.rows in

@@ -4,7 +4,7 @@ use Rattle.ist_updates.proofs.changing.take.Goals as goal
 
 -- the caller has gone so, with the row or refused
 pub returns : goal.returns
-returns g c =
+returns c =
     let it = taken _ _ c.args.kind (word_count_of c.args.table.now) c.requires.caller
     c.requires.refused c.know.ensures.sound _ record {
       caller = c.reserve-taken.ensures.caller;

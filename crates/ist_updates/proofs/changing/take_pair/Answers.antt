@@ -8,22 +8,22 @@ use Rattle.ist_updates.proofs.PairLemmas.{row_good, node_on, fresh_above}
 use Rattle.ist_updates.proofs.changing.take_pair.Goals as goal
 
 pub returns-in_err-base-clause-gone : goal.returns-in_err-base-clause-gone
-returns-in_err-base-clause-gone g c =
+returns-in_err-base-clause-gone c =
     gone_more Prepares _ _ _ c.drop_below.ensures.gone c.in_err-base.ensures.gone
 
 pub returns-in_err-base-clause-full : goal.returns-in_err-base-clause-full
-returns-in_err-base-clause-full g c =
+returns-in_err-base-clause-full c =
     let full = asked_behind Prepares _ _ _ _ _ c.drop_below.ensures.gone.went
     c.in_err-base.ensures.full in
     search rules
 
 pub returns-clause-gone : goal.returns-clause-gone
-returns-clause-gone g c =
+returns-clause-gone c =
     gone_more Prepares _ _ _ c.drop_below.ensures.gone c.in_ok-base.ensures.gone
 
 -- the other rows are held still
 pub returns-clause-others : goal.returns-clause-others
-returns-clause-others g c =
+returns-clause-others c =
     let others = c.drop_below.ensures.others in
     let rows = c.in_ok-base.ensures.rows in (
       ap (λ (s : Spares). s.leaf) rows ∙ others.0,
@@ -32,7 +32,7 @@ returns-clause-others g c =
 
 -- the row lies above the node
 pub returns-clause-above : goal.returns-clause-above
-returns-clause-above g c =
+returns-clause-above c =
     let went = c.drop_below.ensures.gone.went in
     let gone = c.in_ok-base.ensures.gone in
     ⊎_elim (λ is. c.drop_below.ensures.above c.in_ok-base.base is)

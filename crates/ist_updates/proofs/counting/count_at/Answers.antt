@@ -42,7 +42,7 @@ returns-clause-went c =
     all_went _ c.know.ensures.sound c.args.row c.requires.may_count _ _ at _
     c.add-found.ensures.added _ _ (ap (λ n. n + 3) c.from.ensures) _ c.load-size.ensures.looked
 
--- whether the count came to the limit is told
+-- the result says whether the count reached the limit
 pub returns-clause-counted : goal.returns-clause-counted
 returns-clause-counted c =
     let from = c.from-place.ensures in

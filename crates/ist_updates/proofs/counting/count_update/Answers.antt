@@ -1,7 +1,7 @@
 use Rattle.ist_updates.proofs.CountingLemmas.{counted_went, counted_caller, counted_refused, counted_quiet, counted_due, counted_as_before}
 use Rattle.ist_updates.proofs.counting.count_update.Goals as goal
 
--- where the row came to its limit
+-- if the row reached its limit
 pub returns-then-count_at-clause-caller : goal.returns-then-count_at-clause-caller
 returns-then-count_at-clause-caller c =
     counted_caller c.args.who.now c.args.row c.requires.caller c.requires.quiet c.count_at.new.seat
@@ -28,7 +28,7 @@ returns-then-count_at-clause-counted c earlier command rows x =
     c.count_at.ensures.went _ c.count_at.ensures.counted earlier command rows c.args.below x
     c.if-count_at.true c.args.parent c.args.index c.requires.stood
 
--- and where it didn't
+-- and if it didn't
 pub returns-clause-caller : goal.returns-clause-caller
 returns-clause-caller c =
     counted_caller c.args.who.now c.args.row c.requires.caller c.requires.quiet c.count_at.new.seat

@@ -4,7 +4,7 @@ use Rattle.ist_rows.specs.declared.kinds.Kind.TheVariants.{Change}
 use Rattle.ist_updates.proofs.StoredLemmas.{row_filled}
 use Rattle.ist_updates.proofs.filling.fill_change.Goals as goal
 
--- the words are stored in the row alone
+-- the words are stored in the row only
 pub returns : goal.returns
 returns c =
     let it = row_filled _ _ Change c.args.base (words_of (ChangePiece c.args.row))

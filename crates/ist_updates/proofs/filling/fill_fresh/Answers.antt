@@ -7,7 +7,7 @@ use Rattle.ist_updates.specs.Changing.{fresh_rows, kinds_of}
 use Rattle.ist_updates.proofs.StoredLemmas.{pair_stored}
 use Rattle.ist_updates.proofs.filling.fill_fresh.Goals as goal
 
--- the words of both rows stand
+-- the words of both rows are stored
 pub returns-in-Pair-clause-stored : goal.returns-in-Pair-clause-stored
 returns-in-Pair-clause-stored c =
     let rows = subst (λ f. AreBasesOf (kinds_of f) (spares_of c.args.who.now)

@@ -3,7 +3,7 @@ use Rattle.ist_rows.specs.declared.kinds.Kind.TheVariants.{Leaf}
 use Rattle.ist_updates.proofs.StoredLemmas.{row_filled}
 use Rattle.ist_updates.proofs.filling.fill_leaf.Goals as goal
 
--- the words are stored in the row alone
+-- the words are stored in the row only
 pub returns : goal.returns
 returns c =
     let it = row_filled _ _ Leaf c.args.base (c.args.row.key ∷ c.args.row.value ∷ [])

@@ -3,7 +3,7 @@ use Rattle.ist_rows.specs.declared.kinds.Kind.TheVariants.{Pair}
 use Rattle.ist_updates.proofs.StoredLemmas.{row_filled}
 use Rattle.ist_updates.proofs.filling.fill_pair.Goals as goal
 
--- the words are stored in the row alone
+-- the words are stored in the row only
 pub returns-then-other_key-key-clause-others : goal.returns-then-other_key-key-clause-others
 returns-then-other_key-key-clause-others c =
     (row_filled _ _ Pair c.args.base

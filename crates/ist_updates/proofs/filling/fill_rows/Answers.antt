@@ -1,7 +1,7 @@
 use Rattle.ist_updates.proofs.StoredLemmas.{fresh_kept}
 use Rattle.ist_updates.proofs.filling.fill_rows.Goals as goal
 
--- the words of all rows stand
+-- the words of all rows are stored
 pub returns-clause-stored : goal.returns-clause-stored
 returns-clause-stored c = (
   c.fill_change.ensures.stands,

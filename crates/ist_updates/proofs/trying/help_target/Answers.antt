@@ -1,20 +1,22 @@
-use Rattle.std.proofs.Common.{rules}
+use Rattle.std.proofs.Common.{rules, Ok, ap, ◌∙◌}
 use Rattle.ist_rule.proofs.WentOnLemmas.{went_all}
 use Rattle.ist_rebuild.specs.Going.{Serves}
 use Rattle.ist_updates.specs.Trying.{Tries}
 use Rattle.ist_updates.proofs.AskedLemmas.{asked_served}
 use Rattle.ist_updates.proofs.StepLemmas.{serves_tries}
 use Rattle.ist_updates.proofs.HelpedLemmas.{slot_started, help_refused, refused_still}
+use Rattle.ist_updates.proofs.BehindLemmas.{behind_went}
+use Rattle.ist_updates.proofs.FurtherLemmas.{by_helped, left_further, replaced_further}
 use Rattle.ist_updates.proofs.trying.help_target.Goals as goal
 
 -- the rebuild was started
 pub help_rebuild-requires-clause-started : goal.help_rebuild-requires-clause-started
-help_rebuild-requires-clause-started g c =
+help_rebuild-requires-clause-started c =
     slot_started _ c.know.ensures.sound c.args.aim.key c.args.aim.node c.args.aim.index
     c.args.aim.word c.args.base c.requires.at_slot c.requires.rebuild
 
 pub returns-in_err-help_rebuild-clause-gone : goal.returns-in_err-help_rebuild-clause-gone
-returns-in_err-help_rebuild-clause-gone g c =
+returns-in_err-help_rebuild-clause-gone c =
     let h = c.in_err-help_rebuild.ensures in
     record {
       caller = h.caller;
@@ -24,7 +26,7 @@ returns-in_err-help_rebuild-clause-gone g c =
     }
 
 pub returns-clause-gone : goal.returns-clause-gone
-returns-clause-gone g c =
+returns-clause-gone c =
     let h = c.help_rebuild.ensures in
     record {
       caller = h.caller;
@@ -35,7 +37,7 @@ returns-clause-gone g c =
 
 -- the caller is asked still
 pub returns-clause-tried : goal.returns-clause-tried
-returns-clause-tried g c =
+returns-clause-tried c =
     let h = c.help_rebuild.ensures in
     asked_served _ _ _ c.requires.asked record {
       caller = h.caller;
@@ -45,7 +47,7 @@ returns-clause-tried g c =
     } h.quiet.resolved
 
 pub returns-in_err-help_rebuild-clause-full : goal.returns-in_err-help_rebuild-clause-full
-returns-in_err-help_rebuild-clause-full g c =
+returns-in_err-help_rebuild-clause-full c =
     let h = c.in_err-help_rebuild.ensures in
     let full = refused_still c.args.who.now c.help_rebuild.new.who c.args.aim.key c.args.value _ _
     (asked_served c.args.who.now c.help_rebuild.new.who _ c.requires.asked record {
@@ -57,3 +59,13 @@ returns-in_err-help_rebuild-clause-full g c =
     (help_refused _ c.know.ensures.sound c.args.aim.key c.args.aim.node c.args.aim.index
     c.args.aim.word c.args.base c.requires.at_slot c.requires.rebuild c.args.value _ _ _ h.full) in
     search rules
+
+pub returns-clause-further : goal.returns-clause-further
+returns-clause-further c _ first aimed =
+    let h = c.help_rebuild.ensures in
+    let b = behind_went Serves _ _ h.went in
+    by_helped c.in_ok-help_rebuild.field-0
+    (λ e. replaced_further first _ _ _ _ _ aimed b h.went.sound c.args.base c.requires.rebuild
+    (h.replaced (c.in_ok-help_rebuild.was ∙ ap Ok e)))
+    (λ e. left_further first _ _ _ _ _ aimed b h.went.sound c.args.base c.requires.rebuild
+    (h.parent_marked (c.in_ok-help_rebuild.was ∙ ap Ok e)))

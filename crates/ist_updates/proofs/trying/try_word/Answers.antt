@@ -3,7 +3,7 @@ use Rattle.ist_updates.proofs.trying.try_word.Goals as goal
 
 -- the seat is at the slot
 pub try_empty-requires-clause-at_slot : goal.try_empty-requires-clause-at_slot
-try_empty-requires-clause-at_slot g c =
+try_empty-requires-clause-at_slot c =
     record {
       before = c.args.who.now.seat.view;
       at = c.requires.at_slot;
@@ -12,10 +12,14 @@ try_empty-requires-clause-at_slot g c =
     }
 
 pub try_leaf-requires-clause-at_slot : goal.try_leaf-requires-clause-at_slot
-try_leaf-requires-clause-at_slot g c =
+try_leaf-requires-clause-at_slot c =
     record {
       before = c.args.who.now.seat.view;
       at = c.requires.at_slot;
       sound = c.know.ensures.sound;
       seen = goes_on_same _ c.know.ensures.sound;
     }
+
+-- after a rebuild the walk must begin again
+pub returns-in-Some-Rebuild-clause-met : goal.returns-in-Some-Rebuild-clause-met
+returns-in-Some-Rebuild-clause-met c = c.help_target.ensures.met c.args.when

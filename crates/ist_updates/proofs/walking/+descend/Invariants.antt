@@ -3,4 +3,4 @@ use Rattle.ist_updates.proofs.walking.+descend.Given as goal
 
 -- bases rise on the way down
 abbrev pub decreases-descend : goal.decreases-descend
-decreases-descend g l = 2 ^ 32 - l.node
+decreases-descend l = 2 ^ 32 - l.node

@@ -27,7 +27,7 @@ audit_words-requires c =
           (sym c.word.ensures.value ∙ c.if-word-ne0.false);
     }
 
--- the pairs of lawful words rise
+-- the pairs of lawful words have strictly increasing keys
 pub of-requires : goal.of-requires
 of-requires c =
     let lawful : AreLawful c.of-words.result c.in-Ok-Ok.pairs.items =

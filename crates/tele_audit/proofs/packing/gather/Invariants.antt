@@ -22,6 +22,6 @@ invariant-loop-line g l =
       counted : g.S.Source.faults l.fn.source ≤ g.S.Source.faults l.source;
     }
 
--- each turn reads a line, and so many are allowed
+-- each iteration reads a line, and their number is limited
 abbrev pub decreases-loop-line : goal.decreases-loop-line
 decreases-loop-line g l = line_limit - count_of l.lines

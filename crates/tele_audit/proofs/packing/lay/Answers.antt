@@ -21,7 +21,7 @@ lay_image-requires c =
           c.requires.few c.from.ensures c.ideal_words.ensures.value c.ideal_words.ensures.most;
     }
 
--- its words are those of a new table
+-- its words are the words of a new table
 pub returns-clause-table : goal.returns-clause-table
 returns-clause-table c =
     let pairs = c.pairs-pairs.ensures in

@@ -10,6 +10,6 @@ invariant-loop-piece g l = record {
   counted : g.S.Source.faults l.fn.source ≤ g.S.Source.faults l.source;
 }
 
--- how many bytes are wanted still
+-- how many bytes are still missing
 abbrev pub decreases-loop-piece : goal.decreases-loop-piece
 decreases-loop-piece g l = l.count - length l.taken.items

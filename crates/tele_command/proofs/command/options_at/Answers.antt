@@ -20,7 +20,7 @@ same_options a b e d s g h k i t one two three four five =
     ∙ ap (λ x. record { workers = g; words = h; generate = i; seed = x; steal = s }) four
     ∙ ap (λ x. record { workers = g; words = h; generate = i; seed = k; steal = x }) five
 
--- what was found is what stands in the rows
+-- what was found is what the rows hold
 in_rows : (f : Found) (name : List ℕ) (o : Option ℕ) → o ≡ option_map number_said (first_value f name)
     → o ≡ option_value name (rows_of f)
 in_rows f name o is = is ∙ ap (option_map number_said) (first_value-rows f name)

@@ -5,7 +5,7 @@ use Rattle.tele_command.specs.CommandLine.{tele, with_name, options_at}
 use Rattle.tele_command.proofs.OptionLemmas.{with_name-some}
 use Rattle.tele_command.proofs.options.read_options.Goals as goal
 
--- where there is a word, the first is the program's name
+-- if there is an argument, the first is the program's name
 pub returns-else-is_empty-clause-values : goal.returns-else-is_empty-clause-values
 returns-else-is_empty-clause-values c =
     let words = map (string_bytes {Z = Global}) c.args.words.now in

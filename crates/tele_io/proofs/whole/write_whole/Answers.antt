@@ -18,6 +18,6 @@ returns-clause-failed g c = c.write_out-written.ensures.failed
 pub returns-clause-counted : goal.returns-clause-counted
 returns-clause-counted g c = c.write_out-written.ensures.counted
 
--- and nothing was written where there was nothing to write
+-- and nothing was written if there was nothing to write
 pub returns-clause-idle : goal.returns-clause-idle
 returns-clause-idle g c = c.write_out-written.ensures.idle

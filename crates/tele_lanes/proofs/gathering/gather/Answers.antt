@@ -5,7 +5,7 @@ use Rattle.std.proofs.lemmas.List.{take_all}
 use Rattle.tele_lanes.proofs.LineLemmas.{IfOk-both, gathered_answers}
 use Rattle.tele_lanes.proofs.gathering.gather.Goals as goal
 
--- behind the loop the answers of all lanes stand one behind another
+-- after the loop the answers of all lanes follow one another
 pub returns : goal.returns
 returns g c =
     let lanes = c.args.lanes.now in

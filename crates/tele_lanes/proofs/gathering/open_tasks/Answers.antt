@@ -6,7 +6,7 @@ use Rattle.tele_lanes.specs.Lanes.{unanswered}
 use Rattle.tele_lanes.proofs.LineLemmas.{IfOk-both, gathered_tasks}
 use Rattle.tele_lanes.proofs.gathering.open_tasks.Goals as goal
 
--- behind the loop the tasks that the lanes left stand one behind another
+-- after the loop the tasks that the lanes left follow one another
 pub returns : goal.returns
 returns g c =
     let lanes = c.args.lanes.now in

@@ -3,7 +3,7 @@ use Rattle.std.proofs.lemmas.List.{length_push}
 use Rattle.tele_lanes.proofs.OrderLemmas.{follows_push, map-push_both}
 use Rattle.tele_lanes.proofs.lanes.call_each.Goals as goal
 
--- one more call, which was answered: its command and its answer's line are those of the next task
+-- one more call, which was answered: its command and its answer's line are the next task's
 pub loop-index-preserved : goal.loop-index-preserved
 loop-index-preserved g c = record {
   called = rw c.in-Ok.ensures.recorded

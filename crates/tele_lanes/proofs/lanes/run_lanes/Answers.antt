@@ -24,7 +24,7 @@ returns-clause-ties g c = map_same (λ l. g.P.Port.tie l.port) _ _ c.for_each_mu
     let kept : g.P.Port.tie ran.after_call.now.port ≡ g.P.Port.tie ran.argument.now.port = search rules in
     ap (λ l. g.P.Port.tie l.port) (sym ran.left) ∙ kept ∙ ap (λ l. g.P.Port.tie l.port) ran.argument_is)
 
--- what they did, each alone
+-- what each lane did, for itself
 pub returns-clause-calls : goal.returns-clause-calls
 returns-clause-calls g c k d h =
     let ran = (c.for_each_mut.ensures k d (subst (λ n. k < n) c.for_each_mut.auto.s h)).1 in
@@ -40,7 +40,7 @@ returns-clause-replies g c k d h =
     let ran = (c.for_each_mut.ensures k d (subst (λ n. k < n) c.for_each_mut.auto.s h)).1 in
     subst (λ l. TellReplies (g.P.Port.calls l.port) l.answers.list) ran.left (search rules)
 
--- and where they stopped
+-- where each stopped
 pub returns-clause-stopped : goal.returns-clause-stopped
 returns-clause-stopped g c k d h =
     let ran = (c.for_each_mut.ensures k d (subst (λ n. k < n) c.for_each_mut.auto.s h)).1 in

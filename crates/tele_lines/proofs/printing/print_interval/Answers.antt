@@ -4,7 +4,7 @@ use Rattle.tele_io.specs.Bytes.{Appends}
 use Rattle.tele_io.proofs.AppendsLemmas.{AppendsPart-append}
 use Rattle.tele_lines.proofs.printing.print_interval.Goals as goal
 
--- a fact at a refusal from another
+-- a fact on an error follows from another
 at_refusal : {A E P Q : Type 0} (r : Result A E) → (P → Q) → OnErr r P → OnErr r Q
 at_refusal (Ok a) f p = tt
 at_refusal (Err e) f p = f p

@@ -4,7 +4,7 @@ use Rattle.tele_io.specs.Bytes.{Appends, AppendsPart}
 use Rattle.tele_lines.proofs.PrintedLemmas.{one_printed, part_printed}
 use Rattle.tele_lines.proofs.printing.print_pairs.Goals as goal
 
--- what holds holds at a refusal
+-- what holds anyway holds on an error
 at_refusal : {A E P : Type 0} (r : Result A E) → P → OnErr r P
 at_refusal (Ok a) p = tt
 at_refusal (Err e) p = p

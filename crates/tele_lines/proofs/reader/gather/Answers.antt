@@ -19,12 +19,12 @@ returns-then-is_some-clause-ends g c =
           (inr w.if-bytes-gt-UNDECIDED.true)
     ]))
 
--- what holds holds at a refusal
+-- what holds anyway holds on an error
 whatever_err : {A E P : Type 0} (r : Result A E) → P → OnErr r P
 whatever_err (Ok a) p = tt
 whatever_err (Err e) p = p
 
--- no newline was found, and the input goes on
+-- no newline was found, and the input has not ended
 pub returns-in_err-fill-clause-waiting : goal.returns-in_err-fill-clause-waiting
 returns-in_err-fill-clause-waiting g c =
     let found = subst (λ bytes. IsUnbroken bytes) c.bytes-bytes.ensures.value

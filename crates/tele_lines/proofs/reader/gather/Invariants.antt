@@ -4,7 +4,7 @@ use Rattle.tele_io.specs.Bytes.{Keeps}
 use Rattle.tele_lines.specs.Buffers.{unread_of, TellsEndOf}
 use Rattle.tele_lines.proofs.reader.gather.Given as goal
 
--- no byte is lost, and behind the end nothing is read
+-- no byte is lost, and after the end nothing is read
 abbrev pub invariant-loop-bytes : goal.invariant-loop-bytes
 invariant-loop-bytes g l =
     let left = g.S.Source.left in
@@ -17,6 +17,6 @@ invariant-loop-bytes g l =
           → (l.source ≡ l.fn.source) × (l.buffer ≡ l.fn.buffer) × (l.ended ≡ true);
     }
 
--- a line is decided within 82 bytes, and the end comes once
+-- a line is decided within 82 bytes, and the end is seen once
 abbrev pub decreases-loop-bytes : goal.decreases-loop-bytes
 decreases-loop-bytes g l = 83 - length l.buffer + (if l.ended then 0 else 1)

@@ -4,7 +4,7 @@ use Rattle.tele_run.specs.declared.jobs.Plan.{Plan}
 use Rattle.tele_run.proofs.JobLemmas.{makes, reads, refuses}
 use Rattle.tele_run.proofs.jobs.read_plan.Goals as goal
 
--- the words are taken
+-- the command line is accepted
 pub returns-in-Some-clause-value : goal.returns-in-Some-clause-value
 returns-in-Some-clause-value c =
     let met = c.in-Ok.ensures in
@@ -17,7 +17,7 @@ returns-in-None-clause-value c =
     ap (λ (p : Plan). p.job) c.plan_for-in-None.ensures.value
     ∙ reads _ c.in-Ok.options (met.taken refl) met.values c.in-None.is
 
--- or refused
+-- the command line is refused
 pub returns-in-Err-Usage-clause-value : goal.returns-in-Err-Usage-clause-value
 returns-in-Err-Usage-clause-value c =
     refuses _ (c.in-Err-Usage.ensures.usage (ap Err c.in-Err-Usage.field-0-is))

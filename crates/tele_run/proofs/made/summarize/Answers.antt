@@ -15,13 +15,13 @@ loop-line-init g c = record {
   runs = made_first words_here _ _ c.args.count c.args.seed _ _ _ c.new-maker.ensures.value c.requires.fresh;
 }
 
--- the tasks rise with the line
+-- the lines of the tasks are strictly increasing
 pub answer_made-requires-clause-rising : goal.answer_made-requires-clause-rising
 answer_made-requires-clause-rising g c κs within =
     (open_more (c.loop-line.line + 1) c.loop-line.round c.ask.new.self _ refl c.in_ok-ask.ensures.asked
     c.in_ok-ask.ensures.same c.loop-line.invariant.runs.lines).rises
 
--- one more line, and the round is answered where it ends there
+-- one more line, and the round is answered if it ends there
 pub loop-line-preserved : goal.loop-line-preserved
 loop-line-preserved g c =
     let asks = c.in_ok-ask.ensures in
@@ -64,7 +64,7 @@ returns-clause-ran g c =
     made_last words_here _ _ c.args.count c.args.seed _ c.loop-line.line _ _ c.loop-line.round _ _ c.loop-line-test.false
     c.loop-line.invariant.runs c.in_ok-found-2.ensures.ran
 
--- and what they come to
+-- the summary
 pub returns-clause-value : goal.returns-clause-value
 returns-clause-value g c =
     let met = c.in_ok-found-2.ensures in

@@ -3,7 +3,8 @@ use Rattle.tele_run.proofs.MadeRoundLemmas.{RunsMade}
 use Rattle.tele_run.proofs.RanLemmas.{words_here}
 use Rattle.tele_run.proofs.made.summarize.Given as goal
 
--- what was found and what is left are what all lines find, and the rounds are those of all lines
+-- what was found and what is left are what all lines find, and the rounds are the rounds of all
+-- lines
 abbrev pub invariant-loop-line : goal.invariant-loop-line
 invariant-loop-line g l = record {
   sums : Sums l.count l.seed l.line l.maker l.found l.round;

@@ -3,7 +3,7 @@ use Rattle.std.specs.Prelude.{Result, Ok, Err, OnErr}
 use Rattle.tele_run.proofs.RepliesLemmas.{one_printed, part_printed}
 use Rattle.tele_run.proofs.replies.print_answers.Goals as goal
 
--- what holds holds at a refusal
+-- a fact holds if a call fails
 at_refusal : {A E P : Type 0} (r : Result A E) → P → OnErr r P
 at_refusal (Ok a) p = tt
 at_refusal (Err e) p = p

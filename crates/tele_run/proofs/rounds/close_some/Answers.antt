@@ -5,12 +5,12 @@ use Rattle.tele_run.proofs.BehindLemmas.{behind_map, behind_rises, behind_few}
 use Rattle.tele_run.proofs.RanLemmas.{words_here, closes_from, closes_round, runs_from, runs_round, few_from}
 use Rattle.tele_run.proofs.rounds.close_some.Goals as goal
 
--- the pairs behind the last table rise
+-- the pairs after the last table are strictly increasing
 pub of-requires : goal.of-requires
 of-requires g c =
     record { rising = behind_rises c.in_ok-ran.ensures.closed _ c.in_ok-pairs.ensures.pairs }
 
--- the answers are those of one thread
+-- the answers are what one thread would answer
 pub returns-clause-closed : goal.returns-clause-closed
 returns-clause-closed g c =
     let map_is = ap map_of c.of.ensures.value
@@ -19,7 +19,7 @@ returns-clause-closed g c =
     (closes_round _ _ _ _ _ c.pairs.ensures.all c.deref.ensures.value
     c.in_ok-ran.ensures.answers c.into_vec.ensures.value map_is c.clear.ensures.items)
 
--- on tables of the round
+-- the tables are those of the round
 pub returns-clause-ran : goal.returns-clause-ran
 returns-clause-ran g c =
     let map_is = ap map_of c.of.ensures.value
@@ -30,7 +30,7 @@ returns-clause-ran g c =
     c.take.ensures.value c.shelve.ensures.kept c.in_ok-ran.ensures.generations c.in_ok-ran.ensures.closed
     map_is some refl (ap length c.as_slice.ensures.value) refl refl)
 
--- and not many keys came
+-- at most one key came per task
 pub returns-clause-few : goal.returns-clause-few
 returns-clause-few g c =
     few_from _ c.args.round.now _ _ _ c.round.view_is c.deref.ensures.value c.of.ensures.value

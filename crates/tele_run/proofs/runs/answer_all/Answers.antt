@@ -90,7 +90,7 @@ returns-in-Some-clause-part g c cut =
     on_and_part_if _ _ _ _ _ _ _ c.loop-status.invariant.due
     (c.in-Some.ensures.part (subst IsCutShort c.ended.ensures.status cut))
 
--- there is no last table where nothing was answered
+-- there is no last table if nothing was answered
 pub returns-in-Some-clause-no_last : goal.returns-in-Some-clause-no_last
 returns-in-Some-clause-no_last g c none =
     c.ended.ensures.none (λ is. none (subst IsAnswer (sym c.ended.ensures.status) is))

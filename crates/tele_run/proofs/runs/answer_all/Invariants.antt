@@ -33,6 +33,6 @@ invariant-loop-status g l =
       sink_counted : g.O.Sink.faults l.fn.out ≤ g.O.Sink.faults l.out;
     }
 
--- each turn reads a line, and so many are allowed
+-- each turn reads a line, and `line_limit` lines are allowed
 abbrev pub decreases-loop-status : goal.decreases-loop-status
 decreases-loop-status g l = line_limit - count_of l.lines

@@ -6,7 +6,7 @@ use Rattle.tele_run.proofs.AnswerLemmas.{text-answered}
 use Rattle.tele_run.proofs.StepLemmas.{at_ok, on_ok, on_err}
 use Rattle.tele_run.proofs.steps.answer.Goals as goal
 
--- the text of the answers is that of the lines
+-- the text of the answers is the text of the lines
 pub returns-in-Ok-clause-printed : goal.returns-in-Ok-clause-printed
 returns-in-Ok-clause-printed g c =
     let version = c.args.version in
@@ -40,11 +40,11 @@ returns-in-Ok-clause-ran g c = at_ok c.print_answers.result c.in-Ok.ensures.ran
 pub returns-in-Ok-clause-few : goal.returns-in-Ok-clause-few
 returns-in-Ok-clause-few g c = at_ok c.print_answers.result c.in-Ok.ensures.few
 
--- where memory was wanting nothing is printed
+-- if memory ran out, nothing is printed
 pub returns-in-Err-clause-part : goal.returns-in-Err-clause-part
 returns-in-Err-clause-part g c = AppendsPart-nothing _ _
 
--- and no fault was met but at printing
+-- only printing can meet a fault
 pub returns-in-Ok-clause-failed : goal.returns-in-Ok-clause-failed
 returns-in-Ok-clause-failed g c = c.print_answers.ensures.failed
 

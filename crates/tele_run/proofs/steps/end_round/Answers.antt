@@ -2,7 +2,7 @@ use Rattle.tele_run.proofs.StepLemmas.{at_ok, at_refusal}
 use Rattle.tele_run.proofs.PassLemmas.{whole_passed, part_passed}
 use Rattle.tele_run.proofs.steps.end_round.Goals as goal
 
--- what was printed stays taken where it is passed on, and where it isn't
+-- what was printed stays taken, whether it is passed on or not
 pub returns-clause-printed : goal.returns-clause-printed
 returns-clause-printed g c =
     at_ok c.pass_on.result (whole_passed _ _ _ _ c.in_ok-answer.ensures.printed c.pass_on.ensures.same)
@@ -12,6 +12,6 @@ returns-clause-part g c =
     at_refusal c.pass_on.result
     (part_passed _ _ _ _ c.in_ok-answer.ensures.printed c.pass_on.ensures.same)
 
--- or wasn't printed whole
+-- if printing fails, a part was printed
 pub returns-in_err-answer-clause-part : goal.returns-in_err-answer-clause-part
 returns-in_err-answer-clause-part g c = at_refusal c.from_residual.result c.in_err-answer.ensures.part

@@ -20,7 +20,7 @@ returns-clause-printed g c =
     (Bad c.args.line c.args.cause ∷ []) _ _ _
     c.in_ok-answer.ensures.printed)
 
--- or a part of what names it was written
+-- a part of the line that names it was written
 pub returns-clause-part : goal.returns-clause-part
 returns-clause-part g c =
     on_err c.end_with_bad.result c.end_with_bad.ensures.part

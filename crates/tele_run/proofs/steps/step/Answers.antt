@@ -78,7 +78,7 @@ returns-in-Ok-end_round-clause-ran_all g c =
     (same_lines c.args.lines.now c.next.new.self v tasks c.version-in-Ok-None.ensures.value c.requires.chosen next.steady)
     reads (task_rounds-open v tasks c.requires.open) c.in-Ok-end_round.ensures.ran
 
--- and before a bad line
+-- the rounds of the open lines were run before a bad line
 pub returns-in-Ok-name-clause-ran_all : goal.returns-in-Ok-name-clause-ran_all
 returns-in-Ok-name-clause-ran_all g c =
     let next = c.in-Err-Bad.ensures in
@@ -92,7 +92,7 @@ returns-in-Ok-name-clause-ran_all g c =
     (next.bad c.in-Err-Bad.line c.in-Err-Bad.cause is c.requires.going)
     (task_rounds-bad v c.in-Err-Bad.line c.in-Err-Bad.cause tasks c.requires.open) c.in-Ok-name.ensures.ran
 
--- and behind a line that was taken
+-- the rounds were run after a line that was taken
 pub returns-in-Ok-clause-ran : goal.returns-in-Ok-clause-ran
 returns-in-Ok-clause-ran g c =
     let next = c.in-Ok-Some.ensures in
@@ -142,7 +142,7 @@ returns-in-Ok-end_round-clause-kept g c is = no_other _ _ (lit< tt) is
 pub returns-in-Ok-end_round-clause-read_failed : goal.returns-in-Ok-end_round-clause-read_failed
 returns-in-Ok-end_round-clause-read_failed g c is = no_other _ _ (lit< tt) is
 
--- nor at a bad line
+-- a bad line doesn't cut the text either
 pub returns-in-Ok-name-clause-part : goal.returns-in-Ok-name-clause-part
 returns-in-Ok-name-clause-part g c is = uncut _ (lit< tt) is
 
@@ -158,7 +158,7 @@ returns-in-Ok-name-clause-kept g c is = no_other _ _ (lit< tt) is
 pub returns-in-Ok-name-clause-read_failed : goal.returns-in-Ok-name-clause-read_failed
 returns-in-Ok-name-clause-read_failed g c is = no_other _ _ (lit< tt) is
 
--- what was refused: a part of what was due was written
+-- if a call failed, a part of what was due was written
 pub returns-clause-part : goal.returns-clause-part
 returns-clause-part g c _ =
     let was = moment_of c.args.lines.now c.args.round.now in
@@ -196,7 +196,7 @@ returns-clause-part g c _ =
           (none_if was _ _ _ w.pass_on.ensures.same)
     ]
 
--- by the sink, if it failed
+-- if the sink failed, its count of faults has risen
 pub returns-clause-write_failed : goal.returns-clause-write_failed
 returns-clause-write_failed g c is =
     let failed = c.refused.ensures.failed (cc is) in
@@ -222,7 +222,7 @@ returns-clause-sink_counted g c =
       | in-Err-Read+in-Err-pass_on w ↦ subst Counts (ap g.O.Sink.faults (sym w.out-is)) w.pass_on.ensures.counted
     ]
 
--- and the run was cut short
+-- then the run was cut short
 pub returns-clause-ends : goal.returns-clause-ends
 returns-clause-ends g c is = cut_unanswered _ c.refused.ensures.other is
 

@@ -55,7 +55,7 @@ returns-in_ok-answer-in-Interval-clause-part g c =
     c.in-Interval.last c.args.line.item c.in-Interval.is c.list.result.now (map_in c.answer.new.round) answered.behind
     c.list.ensures.value _ _ _ answered.printed)
 
--- the tasks rise with the line
+-- the lines of the tasks are strictly increasing
 pub end_round-requires-clause-rising : goal.end_round-requires-clause-rising
 end_round-requires-clause-rising g c κs within =
     let asks = c.in_default.ensures in
@@ -71,7 +71,7 @@ returns-then-is_full-clause-ran g c =
     asks.last_same asks.fulls_same asks.team_same asks.words_same c.end_round.new.round _
     (c.is_full.ensures.value.0 c.if-is_full.true))
 
--- a round that stays open isn't
+-- a round that stays open isn't run
 pub returns-else-is_full-clause-ran : goal.returns-else-is_full-clause-ran
 returns-else-is_full-clause-ran g c =
     let asks = c.in_default.ensures in

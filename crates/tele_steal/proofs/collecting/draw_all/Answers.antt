@@ -22,7 +22,7 @@ run_into-requires-clause-room g c =
     let back = ap (λ v. length v.back) drawn.tally ∙ length-append _ (c.in-Some-draw.lane ∷ []) in
     omega (arith, put, back, drawn.few, c.loop.invariant.room)
 
--- one lane more came back
+-- one more lane came back
 pub loop-preserved : goal.loop-preserved
 loop-preserved g c =
     let old = c.loop.invariant in

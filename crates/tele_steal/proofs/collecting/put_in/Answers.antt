@@ -10,7 +10,7 @@ put_or_keep-requires-clause-fresh g c =
     All-last (IsFresh g.P.Port.calls g.P.Port.refused) _ _ _ c.in-Some.ensures.items
     c.loop-lane.invariant.fresh
 
--- one lane more is in the deque, or kept
+-- one more lane is in the deque, or kept
 pub loop-lane-preserved : goal.loop-lane-preserved
 loop-lane-preserved g c =
     let old = c.loop-lane.invariant in

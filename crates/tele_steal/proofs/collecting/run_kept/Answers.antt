@@ -9,7 +9,7 @@ run_into-requires-clause-fresh g c κs within =
     All-last (IsFresh g.P.Port.calls g.P.Port.refused) _ _ _ c.in-Some.ensures.items
     c.loop-lane.invariant.fresh
 
--- one kept lane more was run
+-- one more kept lane was run
 pub loop-lane-preserved : goal.loop-lane-preserved
 loop-lane-preserved g c =
     let old = c.loop-lane.invariant in

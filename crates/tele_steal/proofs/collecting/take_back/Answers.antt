@@ -28,7 +28,7 @@ take_hand-bag-requires g c =
       room = omega (arith, put, old.room);
     }
 
--- one hand more was taken back
+-- one more hand was taken back
 pub loop-hand-preserved : goal.loop-hand-preserved
 loop-hand-preserved g c =
     let H = Hand g.row.P.Denot g.row.P-Tie.Denot in

@@ -3,7 +3,7 @@ use Rattle.std.proofs.lemmas.List.Elements.{All-append}
 use Rattle.tele_steal.specs.Runs.{HasRun}
 use Rattle.tele_steal.proofs.collecting.take_hand.Goals as goal
 
--- those before were run, and those of the bag
+-- the lanes before were run, and the lanes of the bag
 pub returns-clause-ran : goal.returns-clause-ran
 returns-clause-ran g c before =
     let Ran = HasRun g.P.Port.calls g.P.Port.refused in

@@ -5,7 +5,7 @@ use Rattle.tele_steal.specs.Runs.{ticket, HasRun}
 use Rattle.tele_steal.proofs.RunLemmas.{same_tickets}
 use Rattle.tele_steal.proofs.workers.run_behind.Goals as goal
 
--- the lanes before stay, and those behind keep their tickets
+-- the lanes before stay, and the lanes from there on keep their tickets
 pub returns-clause-tickets : goal.returns-clause-tickets
 returns-clause-tickets g c =
     let ran = c.run_lanes.ensures in
@@ -18,7 +18,7 @@ returns-clause-tickets g c =
     ∙ sym (map-append (ticket g.P.Port.tie) front old)
     ∙ ap (λ z. map (ticket g.P.Port.tie) z) (sym c.split_at_mut-behind.ensures.value)
 
--- each of those behind was run
+-- each lane from there on was run
 pub returns-clause-ran : goal.returns-clause-ran
 returns-clause-ran g c =
     let ran = c.run_lanes.ensures in

@@ -3,7 +3,7 @@ use Rattle.tele_steal.specs.Runs.{HasRun}
 use Rattle.tele_steal.proofs.RunLemmas.{put_back}
 use Rattle.tele_steal.proofs.workers.run_into.Goals as goal
 
--- those before are as they were, and the one behind was run
+-- the lanes before are as they were, and the one after them was run
 pub returns-clause-ran : goal.returns-clause-ran
 returns-clause-ran g c before =
     put_back (HasRun g.P.Port.calls g.P.Port.refused) c.args.bag.now.items _

@@ -1,7 +1,7 @@
 use Rattle.std.proofs.Common.{IfSome, ℕ}
 use Rattle.std.proofs.lemmas.List.Elements.{All-push}
 use Rattle.ist_core.specs.Logs.{GoesOn, same_log}
-use Rattle.ist_histories.proofs.ChangeLemmas.{on_trans}
+use Rattle.laws_histories.proofs.ChangeLemmas.{on_trans}
 use Rattle.ist_tree.specs.Refusals.{WasRefused}
 use Rattle.ist_tree.specs.declared.ports.TreePort.{TreePort}
 use Rattle.ist_tree.specs.declared.trees.Tree.{Tree}

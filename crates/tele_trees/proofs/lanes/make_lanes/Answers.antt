@@ -13,7 +13,7 @@ use Rattle.tele_trees.proofs.lanes.make_lanes.Goals as goal
 abbrev Idle : Type 0
 Idle = Lane TreePort (Tree × ℕ)
 
--- there are fewer lanes than there are to be
+-- there are fewer lanes than there will be
 pub overflow_cast-number : goal.overflow_cast-number
 overflow_cast-number c =
     let less : length c.loop-mine.lanes.items
@@ -76,7 +76,7 @@ loop-mine-preserved c =
       taken = lane.taken ∙ c.loop-mine.invariant.taken;
     }
 
--- there are as many lanes as there are to be
+-- there are as many lanes as there will be
 pub returns-clause-lane_numbers : goal.returns-clause-lane_numbers
 returns-clause-lane_numbers c =
     let long = none_to_come (λ (l : Idle). l.tasks) _ _ _ c.loop-mine.invariant.tasks

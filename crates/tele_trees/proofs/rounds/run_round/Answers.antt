@@ -11,7 +11,7 @@ use Rattle.tele_trees.specs.Counts.{lane_count}
 use Rattle.tele_trees.proofs.LaneLemmas.{some_lanes}
 use Rattle.tele_trees.proofs.rounds.run_round.Goals as goal
 
--- a closed tree is seen as its words
+-- a closed tree is modelled as its words
 abbrev words_here : List ℕ → List ℕ
 words_here words = words
 
@@ -37,7 +37,7 @@ go_on-requires-clause-some_left g c =
     c.deref-in-loop-way.ensures.value in
     some_left c.loop-way.invariant.on r (some_lanes _ c.args.steal c.requires.some) c.in-Some.full c.in-Some.is
 
--- the pairs behind it rise
+-- the pairs after it are strictly increasing
 pub go_on-requires-clause-rising : goal.go_on-requires-clause-rising
 go_on-requires-clause-rising g c =
     let r = ran_here c.in_ok-made.ensures.ran c.deref.ensures.value

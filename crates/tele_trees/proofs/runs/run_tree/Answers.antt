@@ -21,11 +21,11 @@ use Rattle.tele_trees.proofs.runs.run_tree.Goals as goal
 abbrev Ran : Type 0
 Ran = Lane TreePort (Tree × ℕ)
 
--- what a lane came to
+-- the end of a lane
 abbrev end_of : Ran → LaneEnd
 end_of l = ended l.tasks l.answers.list l.port l.stopped
 
--- the numbers of the lanes rise, and there are no more than may be stolen
+-- the numbers of the lanes are strictly increasing, and there are no more than may be stolen
 pub work-requires-clause-lane_numbers : goal.work-requires-clause-lane_numbers
 work-requires-clause-lane_numbers g c κs within = numbers_rise _ _ c.in_ok-fresh.ensures.lane_numbers
 
@@ -51,13 +51,13 @@ take_all_back-requires-clause-trees g c =
     all_same (λ t. t ≡ c.args.tree.now) (λ (l : Ran). l.port.pass.tree) _ _
     c.in_ok-lanes.ensures.trees c.in_ok-fresh.ensures.trees
 
--- what follows from three facts where a call succeeds
+-- what follows from three facts if a call succeeds
 from_three : {A E : Type 0} {P Q R S : A → Type 0} (r : Result A E) → IfOk r P → IfOk r Q
     → IfOk r R → ((x : A) → P x → Q x → R x → S x) → IfOk r S
 from_three (Ok x) p q r f = f x p q r
 from_three (Err e) p q r f = tt
 
--- what the lanes came to
+-- how the lanes ended
 pub returns : goal.returns
 returns g c =
     let lanes : List Ran = c.in_ok-lanes.lanes.items in

@@ -31,7 +31,7 @@ returns-clause-numbers g c =
     sym (map-map (λ (t : TreeFace × ℕ). t.1) tie new)
     ∙ ap (map (λ (t : TreeFace × ℕ). t.1)) ties ∙ map-map (λ (t : TreeFace × ℕ). t.1) tie old
 
--- no lane was called, and none was refused
+-- no lane was called or refused
 pub run_stolen-requires-clause-empty : goal.run_stolen-requires-clause-empty
 run_stolen-requires-clause-empty g c κs within = c.requires.empty
 

@@ -3,7 +3,7 @@ use Rattle.ist_core.specs.declared.pairs.Pair.{Pair}
 use Rattle.ist_core.specs.Map.{listed}
 use Rattle.ist_core.specs.Replies.{Answered}
 use Rattle.ist_core.specs.Resting.{StandsFor}
-use Rattle.ist_histories.specs.Telling.{map_now}
+use Rattle.laws_histories.specs.Telling.{map_now}
 use Rattle.ist_words.specs.RestingWords.{AreListed}
 use Rattle.ist_words.proofs.WholeLemmas.{if_ok_so}
 use Rattle.ist_rest.proofs.MapLemmas.{stand_hold, listed_of_map}
@@ -13,7 +13,7 @@ use Rattle.ist_rest.proofs.closed.Closed.list.Goals as goal
 pub list_words-requires : goal.list_words-requires
 list_words-requires c = record { hold = stand_hold c.args.self.now c.know.ensures.stands }
 
--- and those of the interval are the map's
+-- and the pairs of the interval are the map's
 pub returns-clause-of_map : goal.returns-clause-of_map
 returns-clause-of_map c =
     let first = c.args.first in

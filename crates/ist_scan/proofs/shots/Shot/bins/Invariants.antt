@@ -3,7 +3,7 @@ use Rattle.ist_scan.specs.Shots.{HasLooked, IsOf, map_seen}
 use Rattle.ist_scan.specs.Totals.{total_of, in_bin}
 use Rattle.ist_scan.proofs.shots.Shot.bins.Given as goal
 
--- the bins so far are those of the shot
+-- the bins so far are the shot's
 abbrev pub invariant-loop-j : goal.invariant-loop-j
 invariant-loop-j l = record {
   looked : HasLooked l.fn.pass l.pass;

@@ -1,4 +1,4 @@
--- The last words are those of a table whose maker took all passes back.
+-- The last words are the words of a table whose maker took all passes back.
 use Rattle.std.proofs.Common.{◌≡◌, subst, sym, length}
 use Rattle.ist_tree.specs.Faces.{MakerFace}
 use Rattle.ist_tree.specs.Closing.{ClosesWith}

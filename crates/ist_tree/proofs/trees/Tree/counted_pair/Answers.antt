@@ -1,11 +1,11 @@
--- A pair is read by loads alone.
+-- A pair is read only by loads.
 use Rattle.std.proofs.Common.{ap, arith}
 use Rattle.ist_tree.specs.Faces.{PassFace}
 use Rattle.ist_tree.proofs.FreezeReadLemmas.{ReadEnds, read_ends}
 use Rattle.ist_tree.proofs.trees.Tree.counted_pair.Goals as goal
 use Rattle.ist_tree.proofs.trees.Tree.counted_pair.Goals.{After-pair_and_loads}
 
--- what it comes to
+-- what the reading results in
 ends : (c : After-pair_and_loads) → ReadEnds c.args.pass.now c.pass.inside.caller c.pass.inside.refused
     c.pair_and_loads.new.seat c.args.frozen.now
 ends c =

@@ -20,7 +20,7 @@ end_call-requires c = (
   ),
 )
 
--- what it then comes to
+-- what the find results in
 ends : (c : After-know-4) → FindEnds c.args.pass.now c.pass.inside.caller c.pass.inside.refused
     c.end_call.new.seat c.args.key c.find_from_anchor-found.result.value
 ends c =

@@ -3,26 +3,25 @@ use Rattle.std.proofs.Common.{ap, sym, ◌∙◌}
 use Rattle.ist_tree.specs.Faces.{PassFace, TreeFace}
 use Rattle.ist_tree.proofs.FreezeCallLemmas.{IsWay, may_give_up}
 use Rattle.ist_tree.proofs.FreezeEndLemmas.{FreezeEnds, StopEnds, freeze_ends, stop_ends}
-use Rattle.ist_tree.proofs.trees.Tree.freeze.Given as given
 use Rattle.ist_tree.proofs.trees.Tree.freeze.Goals as goal
 
 -- the call may be given up
 pub give_up-requires-clause-may_give_up : goal.give_up-requires-clause-may_give_up
-give_up-requires-clause-may_give_up g c =
+give_up-requires-clause-may_give_up c =
     may_give_up c.pass.inside.caller c.begin.new.who c.freeze_below.new.who c.begin.ensures.sound
     c.pass.invariant.pass c.begin.ensures.number c.begin.ensures.begun c.begin.ensures.ready
     c.in-Ok.ensures.froze.on
 
 pub give_up-requires-in-Err-clause-may_give_up : goal.give_up-requires-in-Err-clause-may_give_up
-give_up-requires-in-Err-clause-may_give_up g c =
+give_up-requires-in-Err-clause-may_give_up c =
     may_give_up c.pass.inside.caller c.begin.new.who c.freeze_below.new.who c.begin.ensures.sound
     c.pass.invariant.pass c.begin.ensures.number c.begin.ensures.begun c.begin.ensures.ready
     c.in-Err.ensures.full.idle.on
 
--- what an answer comes to
-ends : (g : given.Over) (c : goal.After-result-1 g) → FreezeEnds c.args.pass.now c.freeze_below.new.who
+-- what a freeze that succeeds results in
+ends : (c : goal.After-result-1) → FreezeEnds c.args.pass.now c.freeze_below.new.who
     c.give_up.new.seat c.or-pass-inside.result c.in-Ok.outcome.frozen
-ends g c =
+ends c =
     let tree = c.self.view_is ∙ sym c.requires.same_tree
     ∙ sym (ap (λ (p : PassFace). p.tree) c.pass.view_is) in
     let way : IsWay c.pass.inside.caller c.begin.new.who c.freeze_below.new.who c.give_up.new.seat =
@@ -43,24 +42,24 @@ ends g c =
     c.or-pass-inside.ensures c.args.pass.now c.pass.view_is
 
 pub invariant_of-pass : goal.invariant_of-pass
-invariant_of-pass g c = (ends g c).pass
+invariant_of-pass c = (ends c).pass
 
 pub returns-in-Ok-clause-seen : goal.returns-in-Ok-clause-seen
-returns-in-Ok-clause-seen g c = (ends g c).seen
+returns-in-Ok-clause-seen c = (ends c).seen
 
 pub returns-in-Ok-clause-frozen : goal.returns-in-Ok-clause-frozen
-returns-in-Ok-clause-frozen g c = (ends g c).still
+returns-in-Ok-clause-frozen c = (ends c).still
 
 pub returns-in-Ok-clause-pairs : goal.returns-in-Ok-clause-pairs
-returns-in-Ok-clause-pairs g c = (ends g c).pairs
+returns-in-Ok-clause-pairs c = (ends c).pairs
 
 pub returns-in-Ok-clause-refused : goal.returns-in-Ok-clause-refused
-returns-in-Ok-clause-refused g c = (ends g c).refused
+returns-in-Ok-clause-refused c = (ends c).refused
 
--- what a refusal comes to
-stops : (g : given.Over) (c : goal.After-give_up-in-Err g) → StopEnds c.args.pass.now
+-- what a refused freeze results in
+stops : (c : goal.After-give_up-in-Err) → StopEnds c.args.pass.now
     c.freeze_below.new.who c.give_up-in-Err.new.seat c.pass.inside.refused c.in-Err.full
-stops g c =
+stops c =
     let tree = c.self.view_is ∙ sym c.requires.same_tree
     ∙ sym (ap (λ (p : PassFace). p.tree) c.pass.view_is) in
     let way : IsWay c.pass.inside.caller c.begin.new.who c.freeze_below.new.who
@@ -81,13 +80,13 @@ stops g c =
     c.pass.view_is
 
 pub invariant_of-pass-in-Err : goal.invariant_of-pass-in-Err
-invariant_of-pass-in-Err g c = (stops g c).pass
+invariant_of-pass-in-Err c = (stops c).pass
 
 pub returns-in-Err-clause-seen : goal.returns-in-Err-clause-seen
-returns-in-Err-clause-seen g c = (stops g c).seen
+returns-in-Err-clause-seen c = (stops c).seen
 
 pub returns-in-Err-clause-full : goal.returns-in-Err-clause-full
-returns-in-Err-clause-full g c = (stops g c).full_is
+returns-in-Err-clause-full c = (stops c).full_is
 
 pub returns-in-Err-clause-unstarted : goal.returns-in-Err-clause-unstarted
-returns-in-Err-clause-unstarted g c = (stops g c).none
+returns-in-Err-clause-unstarted c = (stops c).none

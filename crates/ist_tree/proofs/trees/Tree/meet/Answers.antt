@@ -5,7 +5,7 @@ use Rattle.ist_tree.proofs.MeetingLemmas.{MeetEnds, meet_ends}
 use Rattle.ist_tree.proofs.trees.Tree.meet.Goals as goal
 use Rattle.ist_tree.proofs.trees.Tree.meet.Goals.{After-join}
 
--- what it comes to
+-- what the meeting results in
 ends : (c : After-join) → MeetEnds c.args.pass.now c.args.note c.pass.inside.caller c.pass.inside.refused
     c.join.new.seat
 ends c =

@@ -30,7 +30,7 @@ returns-clause-between c =
     (slice_between pairs first last n _ (rw c.deref.ensures.value at from)
     (rw (c.deref-2.ensures.value, take_rest) at count))
 
--- and the pairs are those of the map
+-- and the pairs are the map's
 pub returns-clause-listed : goal.returns-clause-listed
 returns-clause-listed c =
     let pairs_are = pairs_of-map_of _ (subst IsRising c.self.view_is c.self.invariant) in

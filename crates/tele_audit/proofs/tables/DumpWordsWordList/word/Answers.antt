@@ -26,7 +26,7 @@ number_at-requires c =
     let len = c.deref.ensures.len in
     record { within = omega arith }
 
--- each stands where its number says
+-- each word is where its number says
 pub returns : goal.returns
 returns c =
     record {

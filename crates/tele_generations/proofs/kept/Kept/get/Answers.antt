@@ -16,7 +16,7 @@ returns-then-number-places g c =
           ∙ slice_get-tables kept.places.items kept.present c.args.number other within;
     }
 
--- behind the places there is none
+-- past the places there is no table
 pub returns-else-number-places : goal.returns-else-number-places
 returns-else-number-places g c =
     let kept = c.args.self.now in

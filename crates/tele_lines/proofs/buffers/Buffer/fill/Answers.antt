@@ -2,7 +2,7 @@ use Rattle.std.proofs.Common.{◌-◌, ◌∙◌}
 use Rattle.tele_lines.proofs.BufferLemmas.{filled}
 use Rattle.tele_lines.proofs.buffers.Buffer.fill.Goals as goal
 
--- what was read stands behind what was moved to the front
+-- what was read follows what was moved to the front
 pub returns-clause-filled : goal.returns-clause-filled
 returns-clause-filled g c =
     let read = c.in_ok-count.ensures in

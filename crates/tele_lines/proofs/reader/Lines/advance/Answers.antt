@@ -9,13 +9,13 @@ from_both : {A : Type 0} {P Q R : A → Type 0} (o : Option A) → IfSome o P �
 from_both None p q f = tt
 from_both (Some x) p q f = f x p q
 
--- a line was read, and the reading goes on behind it
+-- a line was read, and the reading continues after it
 pub returns-in-Ok-clause-line : goal.returns-in-Ok-clause-line
 returns-in-Ok-clause-line g c =
     from_both c.cut.result c.cut.ensures.line c.cut.ensures.place
     (λ said line place goes_on. one_behind _ _ said _ _ _ _ c.in-Ok.ensures.kept (place goes_on) goes_on (line goes_on _))
 
--- the end of the line has not come
+-- the end of the line has not been read yet
 pub returns-in-Err-clause-waiting : goal.returns-in-Err-clause-waiting
 returns-in-Err-clause-waiting g c = record {
   going = c.requires.going;

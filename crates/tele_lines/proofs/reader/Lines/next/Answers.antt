@@ -5,7 +5,7 @@ use Rattle.tele_lines.proofs.ModeLemmas.{steady_twice}
 use Rattle.tele_lines.proofs.PlaceLemmas.{goes_on_if, reads_if, item_if, bad_if}
 use Rattle.tele_lines.proofs.reader.Lines.next.Goals as goal
 
--- a line was passed over that says nothing
+-- a line that says nothing was skipped
 pub loop-item-preserved-in-Ok-Some-Skips : goal.loop-item-preserved-in-Ok-Some-Skips
 loop-item-preserved-in-Ok-Some-Skips g c =
     let met = c.in-Ok-Some-Skips.ensures in
@@ -26,7 +26,7 @@ loop-item-preserved-in-Ok-Some-Skips g c =
       counted = omega (arith, before.counted, met.counted);
     }
 
--- a line was passed over that chooses a version
+-- a line that chooses a version was skipped
 pub loop-item-preserved : goal.loop-item-preserved
 loop-item-preserved g c =
     let met = c.in-Ok-Some-Chooses.ensures in

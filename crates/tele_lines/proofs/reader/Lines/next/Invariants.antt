@@ -3,7 +3,7 @@ use Rattle.std.specs.Prelude.{IfSome, IsSome, None}
 use Rattle.tele_lines.specs.Progress.{GoesTo, place_of, unread, TellsEnd, IsDone}
 use Rattle.tele_lines.proofs.reader.Lines.next.Given as goal
 
--- the lines that were passed over ask for nothing
+-- the skipped lines ask for nothing
 abbrev pub invariant-loop-item : goal.invariant-loop-item
 invariant-loop-item g l =
     let left = g.S.Source.left in
@@ -20,6 +20,6 @@ invariant-loop-item g l =
       counted : g.S.Source.faults l.fn.source ≤ g.S.Source.faults l.source;
     }
 
--- each turn reads a line, and so many are allowed
+-- each iteration reads a line, and at most `limit` lines are allowed
 abbrev pub decreases-loop-item : goal.decreases-loop-item
 decreases-loop-item g l = l.self.limit - l.self.count

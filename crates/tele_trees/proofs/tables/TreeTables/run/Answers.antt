@@ -5,7 +5,7 @@ use Rattle.tele_trees.proofs.tables.TreeTables.run.Goals as goal
 pub close-closed-requires-clause-all_back : goal.close-closed-requires-clause-all_back
 close-closed-requires-clause-all_back g c = all_back _ _ _ _ _ _ _ c.in_ok-came.ensures.came
 
--- the words of the closed tree are those of the table
+-- the words of the closed tree are the table's
 pub returns : goal.returns
 returns g c = record {
   ran = ran_on_table _ _ _ _ _ _ _ _ _ _ _ c.in_ok-tree.ensures.new c.in_ok-came.ensures.came

@@ -1,0 +1,249 @@
+-- Which rows are the rows of an ideal subtree: a row first, then the rows of each part. Serves
+-- `ideals.rt`.
+use Rattle.std.proofs.Common.{◌≡◌, ◌≢◌, ◌∙◌, ◌≤◌, ◌<◌, ◌+◌, ℕ, zero, suc, List, [], ◌∷◌, ◌++◌}
+use Rattle.std.proofs.Common.{length, take, drop, get_or, Option, Some, None, refl, sym, ap, subst}
+use Rattle.std.proofs.Common.{arith, length-append}
+use Rattle.ist_core.specs.declared.lists.Row.{Row}
+use Rattle.ist_core.specs.declared.states.InnerRow.{InnerRow}
+use Rattle.ist_core.specs.References.{Ref, Empty, LeafAt, InnerAt, ref_of}
+use Rattle.ist_core.specs.Parts.{parts}
+use Rattle.ist_core.specs.Pieces.{Inner, inner_of}
+use Rattle.ist_core.specs.Leaves.{PlacedLeaf}
+use Rattle.check_fairness.proofs.BehindLemmas.{behind, split_first}
+use Rattle.check_builds.specs.Built.{IsTopRow, BuildsRef, builds_none, builds_one, builds_more}
+use Rattle.check_builds.specs.Built.{BuildsAll, BuildsAt, CountsRows, HasTopSlots}
+
+same_ref : (o : Option Ref) (a b : Ref) → o ≡ Some a → o ≡ Some b → a ≡ b
+same_ref o a b e f = cc
+
+-- ---- what a subtree is by the number of its leaves
+
+-- a list of length 0 is empty
+pub empty_list : {A : Type 0} (xs : List A) → length xs ≡ 0 → xs ≡ []
+empty_list [] h = refl
+empty_list (x ∷ xs) h = absurd (omega arith)
+
+-- a list of length 1 is its first element
+pub one_list : {A : Type 0} (xs : List A) (x : A) → length xs ≡ 1 → x ≡ get_or xs 0 x → xs ≡ x ∷ []
+one_list [] x h e = absurd (omega arith)
+one_list (y ∷ []) x h e = ap (λ z. z ∷ []) (sym e)
+one_list (y ∷ z ∷ xs) x h e = absurd (omega arith)
+
+none_inverted : (ref : Ref) (leaves : List PlacedLeaf) (above : ℕ) (rows : List Row)
+    → BuildsRef ref leaves above rows → leaves ≡ [] → (ref ≡ Empty) × (rows ≡ [])
+none_inverted _ _ _ _ builds_none e = (refl, refl)
+none_inverted _ _ _ _ (builds_one same) e = absurd (cc)
+none_inverted _ leaves _ _ (builds_more r top below) e = let two = top.two in let none = ap length e
+    in absurd (omega arith)
+
+one_inverted : (ref : Ref) (leaves : List PlacedLeaf) (above : ℕ) (rows : List Row)
+    (leaf : PlacedLeaf)
+    → BuildsRef ref leaves above rows → leaves ≡ leaf ∷ [] → (ref ≡ LeafAt leaf.base) × (rows ≡ [])
+one_inverted _ _ _ _ leaf builds_none e = absurd (cc)
+one_inverted _ _ _ _ leaf (builds_one {leaf = other} same) e =
+    (ap LeafAt (sym same ∙ ap (λ x. x.base) (first other leaf e)), refl)
+  where
+    first : (a b : PlacedLeaf) → a ∷ [] ≡ b ∷ [] → a ≡ b
+    first a b k = cc
+one_inverted _ leaves _ _ leaf (builds_more r top below) e = let two = top.two in let one = ap
+    length e in absurd (omega arith)
+
+-- a subtree of two leaves or more: its top row, and the rows of its parts
+record IsMany (ref : Ref) (leaves : List PlacedLeaf) (above : ℕ) (rows : List Row) : Type 0 where
+  row : Row
+  rest : List Row
+  top : InnerRow
+  ref_is : ref ≡ InnerAt row.base
+  rows_are : rows ≡ row ∷ rest
+  is_top : IsTopRow row top leaves above
+  below : BuildsAll top.slots (parts leaves) row.base rest
+
+many_inverted : (ref : Ref) (leaves : List PlacedLeaf) (above : ℕ) (rows : List Row)
+    → BuildsRef ref leaves above rows → 2 ≤ length leaves → IsMany ref leaves above rows
+many_inverted _ _ _ _ builds_none two = absurd (omega arith)
+many_inverted _ _ _ _ (builds_one same) two = absurd (omega arith)
+many_inverted _ _ _ _ (builds_more {row = row} {rows = rows} r top below) two =
+    record {
+      row = row;
+      rest = rows;
+      top = r;
+      ref_is = refl;
+      rows_are = refl;
+      is_top = top;
+      below =
+          below;
+    }
+
+-- some elements and then some more
+pub both_taken : {A : Type 0} (xs : List A) (a b : ℕ) → take (a + b) xs ≡ take a xs ++ take b
+    (drop a xs)
+both_taken xs zero b = ap (λ n. take n xs) (let e : zero + b ≡ b = omega arith in e)
+both_taken [] (suc a) b = ap (λ n. take n []) (let e : suc a + b ≡ suc (a + b) = omega arith in e)
+    ∙ none b
+  where
+    none : {A : Type 0} (n : ℕ) → ◌≡◌ {A = List A} [] (take n [])
+    none zero = refl
+    none (suc n) = refl
+both_taken (x ∷ xs) (suc a) b = ap (λ n. take n (x ∷ xs)) (let e : suc a + b ≡ suc (a + b) = omega
+    arith in e) ∙ ap (λ ys. x ∷ ys) (both_taken xs a b)
+
+-- ---- no leaf, or one
+
+module _ (word : ℕ) (leaves : List PlacedLeaf) (above : ℕ) (rows : List Row) where
+  abbrev BuildsHere : List Row → Type 0
+  BuildsHere rs = BuildsAt word leaves above rs
+
+  -- without leaves an empty word uses no row
+  pub counts_none : length leaves ≡ 0 → ref_of word ≡ Some Empty → CountsRows BuildsHere rows
+      (Some 0)
+  counts_none h e = (
+    record {
+      ref = Empty;
+      names = e;
+      builds = subst (λ xs. BuildsRef Empty xs above [])
+          (sym (empty_list leaves h)) builds_none;
+    },
+    λ used rest is b. ap length (none_inverted b.ref leaves above used b.builds
+        (empty_list leaves h)).1,
+  )
+
+  -- without leaves a word that isn't empty is no subtree
+  pub counts_no_none : length leaves ≡ 0 → ¬ (ref_of word ≡ Some Empty) → CountsRows BuildsHere rows
+      None
+  counts_no_none h ne used rest is b =
+      ne (b.names ∙ ap (λ x. Some x) (none_inverted b.ref leaves above used b.builds
+      (empty_list leaves h)).0)
+
+  -- a word of the one leaf uses no row
+  pub counts_one : (leaf : PlacedLeaf) → length leaves ≡ 1 → leaf ≡ get_or leaves 0 leaf
+      → ref_of word ≡ Some (LeafAt leaf.base) → CountsRows BuildsHere rows (Some 0)
+  counts_one leaf h at e = (
+    record {
+      ref = LeafAt leaf.base;
+      names = e;
+      builds = subst (λ xs. BuildsRef (LeafAt leaf.base) xs
+          above []) (sym (one_list leaves leaf h at)) (builds_one refl);
+    },
+    λ used rest is b. ap length (one_inverted b.ref leaves above used leaf b.builds
+        (one_list leaves leaf h at)).1,
+  )
+
+  -- a word of another leaf, or of none, is no subtree over one leaf
+  pub counts_no_one : (leaf : PlacedLeaf) → length leaves ≡ 1 → leaf ≡ get_or leaves 0 leaf
+      → ¬ (ref_of word ≡ Some (LeafAt leaf.base)) → CountsRows BuildsHere rows None
+  counts_no_one leaf h at ne used rest is b =
+      ne (b.names ∙ ap (λ x. Some x) (one_inverted b.ref leaves above used leaf b.builds
+      (one_list leaves leaf h at)).0)
+
+  -- ---- two or more
+
+  -- a word that names no inner row is no subtree over two leaves or more
+  pub counts_no_inner : 2 ≤ length leaves → ((base : ℕ) → ¬ (ref_of word ≡ Some (InnerAt base)))
+      → CountsRows BuildsHere rows None
+  counts_no_inner two none used rest is b =
+      let it = many_inverted b.ref leaves above used b.builds two in none it.row.base
+      (b.names ∙ ap (λ x. Some x) it.ref_is)
+
+  -- without rows there is no subtree over two leaves or more
+  pub counts_no_rows : 2 ≤ length leaves → length rows < 1 → CountsRows BuildsHere rows None
+  counts_no_rows two none used rest is b =
+      let it = many_inverted b.ref leaves above used b.builds two in
+      let long = ap length is in
+      let both = length-append used rest in
+      let first = ap length it.rows_are in
+      omega arith
+
+  module _ (row : Row) (base : ℕ) (two : 2 ≤ length leaves) (long : 1 ≤ length rows)
+      (at : row ≡ get_or rows 0 row) (names : ref_of word ≡ Some (InnerAt base)) where
+    -- the first of the rows is the one that the word names, and the others follow
+    first_is : (used rest : List Row) → rows ≡ used ++ rest → (b : BuildsAt word leaves above used)
+        → (it : IsMany b.ref leaves above used)
+        → (it.row ≡ row) × (base ≡ it.row.base) × (behind rows ≡ it.rest ++ rest)
+    first_is used rest is b it =
+        let whole : row ∷ behind rows ≡ it.row ∷ (it.rest ++ rest) = sym
+        (split_first rows row long at) ∙ is ∙ ap (λ xs. xs ++ rest) it.rows_are in
+        let bases : InnerAt base ≡ InnerAt it.row.base = same_ref (ref_of word) (InnerAt base)
+        (InnerAt it.row.base) names (b.names ∙ ap (λ x. Some x) it.ref_is) in (
+          head it.row row (it.rest ++ rest) (behind rows) (sym whole),
+          inner base it.row.base bases,
+          tail row it.row (behind rows) (it.rest ++ rest) whole,
+        )
+      where
+        head : (x y : Row) (xs ys : List Row) → x ∷ xs ≡ y ∷ ys → x ≡ y
+        head x y xs ys e = cc
+
+        tail : (x y : Row) (xs ys : List Row) → x ∷ xs ≡ y ∷ ys → xs ≡ ys
+        tail x y xs ys e = cc
+
+        inner : (x y : ℕ) → InnerAt x ≡ InnerAt y → x ≡ y
+        inner x y e = cc
+
+    -- if the first row has another base, there is no subtree
+    pub counts_other_base : row.base ≢ base → CountsRows BuildsHere rows None
+    counts_other_base ne used rest is b =
+        let it = many_inverted b.ref leaves above used b.builds two in
+        let first = first_is used rest is b it in
+        ne (ap (λ x. x.base) (sym first.0) ∙ sym first.1)
+
+    -- if the first row isn't the top row, there is no subtree
+    pub counts_no_top : ((slots : List ℕ) → ¬ (HasTopSlots row leaves above slots))
+        → CountsRows BuildsHere rows None
+    counts_no_top none used rest is b =
+        let it = many_inverted b.ref leaves above used b.builds two in
+        let first = first_is used rest is b it in
+        none it.top.slots (subst (λ x. HasTopSlots x leaves above it.top.slots) first.0 record
+        { top = it.top; is_top = it.is_top; slots_are = refl })
+
+    module _ (slots : List ℕ) (top : HasTopSlots row leaves above slots) where
+      -- the slots of the top row are those that were read
+      below_is : (it_row : Row) (r : InnerRow) (rest : List Row) → it_row ≡ row → base ≡ it_row.base
+          → IsTopRow it_row r leaves above → BuildsAll r.slots (parts leaves) it_row.base rest
+          → BuildsAll slots (parts leaves) base rest
+      below_is it_row r rest same here is_top below =
+          let reads : Some (Inner r) ≡ Some (Inner top.top) = sym
+          (subst (λ x. inner_of x.words ≡ Some (Inner r)) same is_top.read) ∙ top.is_top.read in
+          let row_same = same_row r top.top reads in
+          subst (λ ws. BuildsAll ws (parts leaves) base rest) (ap (λ x. x.slots) row_same
+          ∙ top.slots_are) (subst (λ n. BuildsAll r.slots (parts leaves) n rest) (sym here)
+          below)
+        where
+          same_row : (x y : InnerRow) → Some (Inner x) ≡ Some (Inner y) → x ≡ y
+          same_row x y e = cc
+
+      -- if the parts aren't built, there is no subtree
+      pub counts_no_parts : CountsRows (λ rs. BuildsAll slots (parts leaves) base rs) (behind rows)
+          None
+          → CountsRows BuildsHere rows None
+      counts_no_parts none used rest is b =
+          let it = many_inverted b.ref leaves above used b.builds two in
+          let first = first_is used rest is b it in
+          none it.rest rest first.2 (below_is it.row it.top it.rest first.0 first.1 it.is_top
+          it.below)
+
+      -- if the parts use k rows, the subtree uses k + 1
+      pub counts_parts : (k : ℕ) → row.base ≡ base
+          → CountsRows (λ rs. BuildsAll slots (parts leaves) base rs) (behind rows) (Some k)
+          → CountsRows BuildsHere rows (Some (k + 1))
+      counts_parts k here some = (
+        record {
+          ref = InnerAt row.base;
+          names = names ∙ ap (λ n. Some (InnerAt n)) (sym here);
+          builds = subst (λ rs. BuildsRef (InnerAt row.base) leaves above rs) (sym taken)
+              (builds_more top.top top.is_top
+              (subst (λ ws. BuildsAll ws (parts leaves) row.base (take k (behind rows)))
+              (sym top.slots_are) (subst (λ n. BuildsAll slots (parts leaves) n
+              (take k (behind rows))) (sym here) some.0)));
+        },
+        λ used rest is b.
+            let it = many_inverted b.ref leaves above used b.builds two in
+            let first = first_is used rest is b it in
+            let same = some.1 it.rest rest first.2 (below_is it.row it.top it.rest first.0 first.1
+            it.is_top it.below) in
+            let one = ap length it.rows_are in
+            omega arith,
+      )
+        where
+          taken : take (k + 1) rows ≡ row ∷ take k (behind rows)
+          taken =
+              ap (take (k + 1)) (split_first rows row long at)
+              ∙ ap (λ n. take n (row ∷ behind rows)) (let e : k + 1 ≡ suc k = omega arith in e)

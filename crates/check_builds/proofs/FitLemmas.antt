@@ -1,0 +1,180 @@
+-- What is tested of the rows of a Root is what its condition says. Serves `building.rt`.
+use Rattle.std.proofs.Common.{◌≡◌, ◌↔◌, ◌∙◌, ◌<◌, ℕ, List, [], ◌∷◌, Option, Some, true, refl, sym}
+use Rattle.std.proofs.Common.{ap, subst, arith}
+use Rattle.ist_core.specs.declared.lists.Row.{Row}
+use Rattle.ist_core.specs.declared.states.RebuildRow.{RebuildRow}
+use Rattle.ist_core.specs.References.{Ref, InnerAt, unset_word}
+use Rattle.ist_core.specs.Statuses.{finished_word}
+use Rattle.ist_core.specs.Elements.{Each}
+use Rattle.ist_core.specs.Pieces.{Pieces, Inner, Rebuild, with_inners}
+use Rattle.ist_core.specs.Snapshots.{Snapshot, bases_of}
+use Rattle.ist_core.specs.Leaves.{PlacedLeaf, HasLeaves}
+use Rattle.ist_core.specs.Rebuilding.{IsStarted, IsFinishedWith}
+use Rattle.ist_core.specs.Building.{IsRoot, root_whole, root_top, CanRoot}
+use Rattle.ist_core.proofs.LeafLemmas.{same_leaves}
+use Rattle.check_events.proofs.MirrorLemmas.{one_inner, one_rebuild}
+use Rattle.check_builds.specs.Standing.{HeldAreFree}
+use Rattle.check_builds.specs.Reading.{Gathers}
+use Rattle.check_builds.specs.Publishing.{MayPublish, HasRootOf}
+use Rattle.check_builds.specs.Built.{IsRootOf, whole, top_alone}
+use Rattle.check_builds.proofs.PublishLemmas.{Stands, LeafStands, leaf_kept, held_is_free}
+use Rattle.check_builds.proofs.PublishLemmas.{rows_stand, leaves_stand, builds_ideal}
+use Rattle.check_builds.proofs.PublishLemmas.{ideal_builds}
+
+each_mapped : {A : Type 0} (P Q : A → Type 0) (xs : List A) → ((x : A) → P x → Q x) → Each P xs
+    → Each Q xs
+each_mapped P Q [] f h = tt
+each_mapped P Q (x ∷ xs) f h = (f x h.0, each_mapped P Q xs f h.1)
+
+-- ---- roots
+
+module _ (qs : Pieces) (word k : ℕ) (leaves : List PlacedLeaf) (target : ℕ) (rows : List Row)
+    (stand : Each (Stands qs) rows) where
+  root_by_rows : IsRoot qs word k leaves target (bases_of rows) → IsRootOf word k leaves target rows
+  root_by_rows (root_whole ref few e ideal) = whole few record {
+    ref = ref;
+    names = e;
+    builds =
+        ideal_builds qs ref leaves target (bases_of rows) ideal rows refl stand;
+  }
+  root_by_rows (root_top base row many e top unset one) = alone rows one stand
+    where
+      alone : (rs : List Row) → bases_of rs ≡ base ∷ [] → Each (Stands qs) rs → IsRootOf word k
+          leaves target rs
+      alone [] one stands = absurd (cc)
+      alone (x ∷ y ∷ rs) one stands = absurd (cc)
+      alone (x ∷ []) one stands =
+          let here : x.base ≡ base = cc in
+          top_alone many record {
+            row = x;
+            rows_are = refl;
+            names = e ∙ ap (λ b. Some (InnerAt b)) (sym here);
+            top = record {
+              top = row;
+              is_top = record {
+                read = sym stands.0 ∙ subst (λ b. qs b ≡ Some (Inner row)) (sym here) top.published;
+                two = top.two;
+                higher = subst (λ b. target < b) (sym here) top.higher;
+                status = top.status;
+                count = top.count;
+                degree = top.degree;
+                size = top.size;
+                keys = top.keys;
+              };
+              slots_are = unset;
+            };
+          }
+
+  root_by_bases : Each (LeafStands qs) leaves → IsRootOf word k leaves target rows
+      → IsRoot qs word k leaves target (bases_of rows)
+  root_by_bases there (whole few b) = root_whole b.ref few b.names (builds_ideal qs b.ref leaves
+      target rows b.builds stand there)
+  root_by_bases there (top_alone many t) =
+      let stands = subst (λ rs. Each (Stands qs) rs) t.rows_are stand in
+      let top = t.top.is_top in
+      root_top t.row.base t.top.top many t.names
+      record {
+        published = stands.0 ∙ top.read;
+        two = top.two;
+        higher = top.higher;
+        status = top.status;
+        count = top.count;
+        degree = top.degree;
+        size = top.size;
+        keys = top.keys;
+      } t.top.slots_are (ap bases_of t.rows_are)
+
+-- the rows and the leaves, published
+module _ (t : Snapshot) (caller : ℕ) (rows : List Row) (publish : MayPublish t caller rows)
+    (free : HeldAreFree t) where
+  -- each of the rows is published as its words say
+  pub rows_there : Each (Stands (with_inners t.pieces rows)) rows
+  rows_there = rows_stand t.pieces rows publish.once (held_is_free t caller rows publish.held free)
+
+  -- the leaves below a reference are still published
+  pub leaves_there : (ref : Option Ref) (leaves : List PlacedLeaf) → HasLeaves t.pieces ref leaves
+      → Each (LeafStands (with_inners t.pieces rows)) leaves
+  leaves_there ref leaves has =
+      each_mapped (LeafStands t.pieces) (LeafStands (with_inners t.pieces rows)) leaves
+      (λ leaf e. leaf_kept t caller rows publish.held free leaf e)
+      (leaves_stand t.pieces ref leaves has)
+
+  -- a root that the rows are is one that may be published
+  pub root_is : (rebuild word k : ℕ) (row : RebuildRow) → caller < t.callers
+      → t.pieces rebuild ≡ Some (Rebuild row) → IsStarted t rebuild → row.root ≡ unset_word
+      → IsFinishedWith t row.target k
+      → HasRootOf t word k row.target rows ↔ CanRoot t caller rebuild word rows
+  root_is rebuild word k row known published started rootless finished = (
+    (λ h. record {
+      known = known;
+      row = row;
+      published = published;
+      started = started;
+      rootless = rootless;
+      k = k;
+      finished = finished;
+      leaves = h.leaves;
+      reached = h.reached;
+      root = root_by_bases (with_inners t.pieces rows) word k h.leaves row.target rows rows_there
+          (leaves_there (Some (InnerAt row.target)) h.leaves h.reached) h.root;
+      once = publish.once;
+      held = publish.held;
+    }),
+    (λ c.
+        let same = one_rebuild (t.pieces rebuild) c.row row c.published published in
+        let target : c.row.target ≡ row.target = ap (λ r. r.target) same in
+        let inner = one_inner (t.pieces row.target) (subst (λ n. IsFinishedWith t n c.k) target
+        c.finished).row finished.row (subst (λ n. IsFinishedWith t n c.k) target
+        c.finished).published finished.published in
+        let words : finished_word c.k ≡ finished_word k = sym (subst (λ n. IsFinishedWith t n c.k)
+        target c.finished).status ∙ ap (λ r. r.status) inner ∙ finished.status in
+        let keys : c.k ≡ k = omega arith in
+        record {
+          leaves = c.leaves;
+          reached = subst (λ n. HasLeaves t.pieces (Some (InnerAt n)) c.leaves) target c.reached;
+          root = subst (λ m. IsRootOf word m c.leaves row.target rows) keys
+              (subst (λ n. IsRootOf word c.k c.leaves n rows) target
+              (root_by_rows (with_inners t.pieces rows) word c.k c.leaves c.row.target rows
+              rows_there c.root));
+        }),
+  )
+
+-- what may not be published may not be a root
+pub root_publishes : (t : Snapshot) (caller rebuild word : ℕ) (rows : List Row)
+    → CanRoot t caller rebuild word rows → MayPublish t caller rows
+root_publishes t caller rebuild word rows c = record { held = c.held; once = c.once }
+
+-- the target of a root is finished
+pub root_finished : (t : Snapshot) (caller rebuild word : ℕ) (rows : List Row) (row : RebuildRow)
+    → t.pieces rebuild ≡ Some (Rebuild row) → CanRoot t caller rebuild word rows
+    → (k : ℕ) × IsFinishedWith t row.target k
+root_finished t caller rebuild word rows row published c = (
+  c.k,
+  subst (λ r. IsFinishedWith t r.target c.k) (one_rebuild (t.pieces rebuild) c.row row
+      c.published published) c.finished,
+)
+
+-- ---- leaves that were gathered
+
+module _ (t : Snapshot) (word k target : ℕ) (rows : List Row) where
+  -- these leaves lie below the target
+  abbrev pub Below : List PlacedLeaf → Type 0
+  Below ls = HasLeaves t.pieces (Some (InnerAt target)) ls
+
+  -- if the target has no leaves, there is no root over them
+  pub no_root : ((ls : List PlacedLeaf) → ¬ (Below ls)) → ¬ (HasRootOf t word k target rows)
+  no_root none h = none h.leaves h.reached
+
+  -- the root over the leaves that were found is the root over the target's leaves
+  pub root_over : (found : List PlacedLeaf) → Gathers Below [] true found
+      → IsRootOf word k found target rows ↔ HasRootOf t word k target rows
+  root_over found g = (
+    (λ r. record {
+      leaves = g.0;
+      reached = g.2;
+      root = subst (λ ls. IsRootOf word k ls target rows)
+          g.1 r;
+    }),
+    (λ h. subst (λ ls. IsRootOf word k ls target rows) (same_leaves t.pieces (Some (InnerAt target))
+        h.leaves g.0 h.reached g.2 ∙ sym g.1) h.root),
+  )

@@ -1,0 +1,147 @@
+-- A list cut into parts, one part at a time, and the first keys of the parts. Serves `ideals.rt`.
+use Rattle.std.proofs.Common.{
+  ◌≡◌,
+  ◌≢◌,
+  ◌↔◌,
+  ◌∙◌,
+  ◌≤◌,
+  ◌<◌,
+  ◌-◌,
+  ◌+◌,
+  ℕ,
+  zero,
+  suc,
+  min,
+  ⊎_elim,
+  List,
+  [],
+  ◌∷◌,
+  length,
+  take,
+  drop,
+  get_or,
+  slice_get,
+  IsTrue,
+  Bool,
+  refl,
+  sym,
+  ap,
+  arith,
+  length-drop,
+}
+use Rattle.std.proofs.lemmas.List.{take_all, take_min}
+use Rattle.std.proofs.lemmas.Bool.{cases_lt}
+use Rattle.std.proofs.Math.ListN.{drop_of_length-le}
+use Rattle.ist_core.specs.Arithmetic.{part_len}
+use Rattle.ist_core.specs.Parts.{cut, first_keys}
+use Rattle.ist_core.specs.Leaves.{PlacedLeaf}
+use Rattle.check_fairness.proofs.BehindLemmas.{behind}
+use Rattle.check_builds.specs.Built.{part_lens_from, key_of_leaf}
+use Rattle.check_builds.proofs.GatherLemmas.{first_word}
+
+module _ {A : Type 0} where
+  -- what is left of a list from a place on
+  abbrev pub from : List A → ℕ → List A
+  from xs end = take (length xs - end) (drop end xs)
+
+  -- it is the list without those before
+  pub from-drop : (xs : List A) (end : ℕ) → from xs end ≡ drop end xs
+  from-drop xs end = let l = length-drop end xs in take_all (length xs - end) (drop end xs)
+      (omega arith)
+
+  -- a list without more elements than it has
+  pub drop_min : (n : ℕ) (xs : List A) → drop (min n (length xs)) xs ≡ drop n xs
+  drop_min n xs =
+      ⊎_elim
+      (λ (h : n < length xs). ap (λ k. drop k xs) (let e : min n (length xs) ≡ n = omega arith in
+      e))
+      (λ (h : length xs ≤ n). drop_of_length-le xs (omega arith) ∙ sym (drop_of_length-le xs h))
+      (cases_lt n (length xs))
+
+  -- a list cut from part j on is part j, followed by the rest cut from the next part on
+  pub cut_first : (n j left end : ℕ) (xs : List A) → left ≢ 0 → end ≡ min (part_len n j) (length xs)
+      → cut (part_lens_from n j left) xs ≡ take end xs ∷ cut (part_lens_from n (j + 1) (left - 1))
+      (from xs end)
+  cut_first n j zero end xs some is = absurd (some refl)
+  cut_first n j (suc left) end xs some is =
+      let one : left ≡ suc left - 1 = omega arith in
+      let first : take (part_len n j) xs ≡ take end xs = sym (take_min (part_len n j) xs)
+      ∙ ap (λ k. take k xs) (sym is) in
+      let rest : drop (part_len n j) xs ≡ from xs end = sym (drop_min (part_len n j) xs)
+      ∙ ap (λ k. drop k xs) (sym is) ∙ sym (from-drop xs end) in
+      ap (λ ys. ys ∷ cut (part_lens_from n (j + 1) left) (drop (part_len n j) xs)) first
+      ∙ ap (λ ys. take end xs ∷ cut (part_lens_from n (j + 1) left) ys) rest
+      ∙ ap (λ k. take end xs ∷ cut (part_lens_from n (j + 1) k) (from xs end)) one
+
+  -- a later part is one of those after the first
+  pub nth_more : (n j left end i : ℕ) (xs : List A) → left ≢ 0 → end ≡ min (part_len n j)
+      (length xs) → i ≢ 0
+      → slice_get (cut (part_lens_from n (j + 1) (left - 1)) (from xs end)) (i - 1)
+      ≡ slice_get (cut (part_lens_from n j left) xs) i
+  nth_more n j left end zero xs some is ne = absurd (ne refl)
+  nth_more n j left end (suc i) xs some is ne =
+      ap (slice_get (cut (part_lens_from n (j + 1) (left - 1)) (from xs end))) (let e : suc i - 1
+      ≡ i = omega arith in e)
+      ∙ ap (λ ps. slice_get ps (suc i)) (sym (cut_first n j left end xs some is))
+
+  -- a list cut into no part
+  pub cut_last : (n j left : ℕ) (xs : List A) → left ≡ 0 → cut (part_lens_from n j left) xs ≡ []
+  cut_last n j left xs e = ap (λ k. cut (part_lens_from n j k) xs) e
+
+-- ---- first keys
+
+module _ (n j left end : ℕ) (leaves : List PlacedLeaf) (some : left ≢ 0)
+    (is : end ≡ min (part_len n j) (length leaves)) where
+  -- the first keys of the parts after the first
+  abbrev pub rest_keys : List ℕ
+  rest_keys = first_keys key_of_leaf (cut (part_lens_from n (j + 1) (left - 1)) (from leaves end))
+
+  -- an empty part has no first key
+  pub keys_skip : end ≡ 0 → first_keys key_of_leaf (cut (part_lens_from n j left) leaves) ≡ rest_keys
+  keys_skip e =
+      ap (first_keys key_of_leaf) (cut_first n j left end leaves some is)
+      ∙ ap (λ k. first_keys key_of_leaf (take k leaves ∷ cut (part_lens_from n (j + 1) (left - 1))
+      (from leaves end))) e
+
+  -- if there is a leaf, the first key is its key
+  pub keys_first : (first : PlacedLeaf) → end ≢ 0 → first ≡ get_or leaves 0 first
+      → first_keys key_of_leaf (cut (part_lens_from n j left) leaves) ≡ key_of_leaf first ∷ rest_keys
+  keys_first first ne at =
+      ap (first_keys key_of_leaf) (cut_first n j left end leaves some is)
+      ∙ head end leaves ne (omega arith) at (cut (part_lens_from n (j + 1) (left - 1)) (from leaves end))
+    where
+      head : (k : ℕ) (xs : List PlacedLeaf) → k ≢ 0 → k ≤ length xs → first ≡ get_or xs 0 first
+          → (parts : List (List PlacedLeaf))
+          → first_keys key_of_leaf (take k xs ∷ parts) ≡ key_of_leaf first ∷ first_keys key_of_leaf
+          parts
+      head zero xs z h e parts = absurd (z refl)
+      head (suc k) [] z h e parts = absurd (omega arith)
+      head (suc k) (x ∷ xs) z h e parts = ap (λ y. key_of_leaf y ∷ first_keys key_of_leaf parts)
+          (sym e)
+
+  -- so a part that isn't empty has some first key
+  pub keys_some : end ≢ 0
+      → (k : ℕ) × (ks : List ℕ) × (first_keys key_of_leaf (cut (part_lens_from n j left) leaves)
+      ≡ k ∷ ks)
+  keys_some ne = at leaves refl
+    where
+      at : (xs : List PlacedLeaf) → leaves ≡ xs
+          → (k : ℕ) × (ks : List ℕ) × (first_keys key_of_leaf (cut (part_lens_from n j left) leaves)
+          ≡ k ∷ ks)
+      at [] e = absurd (ne (let none = ap length e in omega arith))
+      at (x ∷ xs) e = (key_of_leaf x, rest_keys, keys_first x ne (sym (ap (λ ys. get_or ys 0 x) e)))
+
+-- keys that are none can't begin with one
+pub none_begins : (keys : List ℕ) (k : ℕ) (ks : List ℕ) → length keys < 1 → ¬ (keys ≡ k ∷ ks)
+none_begins [] k ks h e = cc
+none_begins (x ∷ xs) k ks h e = omega arith
+
+-- keys with this first one
+pub begins_so : (keys : List ℕ) (k : ℕ) (ks : List ℕ) (b : Bool) → 1 ≤ length keys → get_or keys 0 0
+    ≡ k
+    → (IsTrue b ↔ (behind keys ≡ ks)) → IsTrue b ↔ (keys ≡ k ∷ ks)
+begins_so keys k ks b n e i = (
+  (λ y. first_word keys n ∙ ap (λ x. x ∷ behind keys) e ∙ ap (λ xs. k ∷ xs) (i.0 y)),
+  (λ same. i.1 (let whole : get_or keys 0 0 ∷ behind keys ≡ k ∷ ks = sym (first_word keys n)
+      ∙ same in cc)),
+)

@@ -1,0 +1,143 @@
+-- What is tested of the rows of a Place is what its condition says. Serves `building.rt`.
+use Rattle.std.proofs.Common.{◌≡◌, ◌↔◌, ◌∙◌, ◌<◌, ℕ, List, [], length, slice_get, Option, Some}
+use Rattle.std.proofs.Common.{None, true, refl, sym, ap, subst}
+use Rattle.ist_core.specs.declared.lists.Row.{Row}
+use Rattle.ist_core.specs.declared.states.RebuildRow.{RebuildRow}
+use Rattle.ist_core.specs.Arithmetic.{part_lens}
+use Rattle.ist_core.specs.References.{Ref, InnerAt, ref_of, unset_word}
+use Rattle.ist_core.specs.Parts.{parts}
+use Rattle.ist_core.specs.Pieces.{Rebuild, with_inners}
+use Rattle.ist_core.specs.Snapshots.{Snapshot, bases_of}
+use Rattle.ist_core.specs.Leaves.{PlacedLeaf, HasLeaves}
+use Rattle.ist_core.specs.Building.{CanPlace}
+use Rattle.ist_core.proofs.LeafLemmas.{same_leaves}
+use Rattle.ist_core.proofs.RisingLemmas.{each_of_cut, part_of_each}
+use Rattle.check_events.specs.Mirroring.{RowHolds}
+use Rattle.check_events.proofs.MirrorLemmas.{one_rebuild}
+use Rattle.check_builds.specs.Standing.{HeldAreFree}
+use Rattle.check_builds.specs.Reading.{Gathers}
+use Rattle.check_builds.specs.Publishing.{MayPublish, HasPart, IsPartOf}
+use Rattle.check_builds.specs.Built.{key_of_leaf, BuildsRef, BuildsAt}
+use Rattle.check_builds.proofs.PublishLemmas.{LeafStands, builds_ideal, ideal_builds}
+use Rattle.check_builds.proofs.FitLemmas.{rows_there, leaves_there}
+
+module _ (t : Snapshot) (word i target above : ℕ) (rows : List Row) where
+  -- if the target has no leaves, there is no part over them
+  pub no_part : ((ls : List PlacedLeaf) → ¬ (HasLeaves t.pieces (Some (InnerAt target)) ls))
+      → ¬ (HasPart t word i target above rows)
+  no_part none h = none h.leaves h.reached
+
+  -- the part over the leaves that were found is the part over the target's leaves
+  pub part_over : (found : List PlacedLeaf)
+      → Gathers (λ ls. HasLeaves t.pieces (Some (InnerAt target)) ls) [] true found
+      → IsPartOf word i found above rows ↔ HasPart t word i target above rows
+  part_over found g = (
+    (λ r. record {
+      leaves = g.0;
+      reached = g.2;
+      part = subst (λ ls. IsPartOf word i ls above rows)
+          g.1 r;
+    }),
+    (λ h. subst (λ ls. IsPartOf word i ls above rows) (same_leaves t.pieces (Some (InnerAt target))
+        h.leaves g.0 h.reached g.2 ∙ sym g.1) h.part),
+  )
+
+module _ (word i above : ℕ) (leaves : List PlacedLeaf) (rows : List Row) where
+  -- if there is no part i, nothing is built over it
+  pub no_such_part : slice_get (parts leaves) i ≡ None → ¬ (IsPartOf word i leaves above rows)
+  no_such_part none h = clash (slice_get (parts leaves) i) none h.part_is
+    where
+      clash : (o : Option (List PlacedLeaf)) → o ≡ None → o ≡ Some h.part → ⊥
+      clash o a b = cc
+
+  -- the subtree over part i is the part
+  pub such_part : (part : List PlacedLeaf) → slice_get (parts leaves) i ≡ Some part
+      → BuildsAt word part above rows ↔ IsPartOf word i leaves above rows
+  such_part part is = (
+    (λ b. record { part = part; part_is = is; builds = b }),
+    (λ h. subst (λ ls. BuildsAt word ls above rows) (same (slice_get (parts leaves) i) h.part part
+        h.part_is is) h.builds),
+  )
+    where
+      same : (o : Option (List PlacedLeaf)) (a b : List PlacedLeaf) → o ≡ Some a → o ≡ Some b → a
+          ≡ b
+      same o a b e f = cc
+
+-- a part that the rows are is one that may be placed
+module _ (t : Snapshot) (caller : ℕ) (rows : List Row) (publish : MayPublish t caller rows)
+    (free : HeldAreFree t) where
+  -- a part may be placed exactly if the rows are the subtree over it
+  pub part_fits : (rebuild i word root : ℕ) (row : RebuildRow) → caller < t.callers
+      → t.pieces rebuild ≡ Some (Rebuild row) → ref_of row.root ≡ Some (InnerAt root)
+      → RowHolds t root i unset_word
+      → HasPart t word i row.target root rows ↔ CanPlace t caller rebuild i word rows
+  part_fits rebuild i word root row known published root_is holds = (
+    (λ h.
+        let all = leaves_there t caller rows publish free (Some (InnerAt row.target)) h.leaves
+        h.reached in
+        record {
+          known = known;
+          row = row;
+          published = published;
+          root = root;
+          root_is = root_is;
+          root_row = holds.row;
+          root_published = holds.published;
+          free = holds.in_slot;
+          leaves = h.leaves;
+          reached = h.reached;
+          part = h.part.part;
+          part_is = h.part.part_is;
+          ref = h.part.builds.ref;
+          ref_is = h.part.builds.names;
+          ideal = builds_ideal (with_inners t.pieces rows) h.part.builds.ref h.part.part root rows
+              h.part.builds.builds (rows_there t caller rows publish free)
+              (part_of_each key_of_leaf (LeafStands (with_inners t.pieces rows)) (parts h.leaves) i
+              h.part.part
+              (each_of_cut key_of_leaf (LeafStands (with_inners t.pieces rows))
+              (part_lens (length h.leaves)) h.leaves all) h.part.part_is);
+          once = publish.once;
+          held = publish.held;
+        }),
+    (λ c.
+        let same = one_rebuild (t.pieces rebuild) c.row row c.published published in
+        let target : c.row.target ≡ row.target = ap (λ r. r.target) same in
+        let base : c.root ≡ root = same_base (ref_of row.root) c.root root
+        (subst (λ r. ref_of r.root ≡ Some (InnerAt c.root)) same c.root_is) root_is in
+        record {
+          leaves = c.leaves;
+          reached = subst (λ n. HasLeaves t.pieces (Some (InnerAt n)) c.leaves) target c.reached;
+          part = record {
+            part = c.part;
+            part_is = c.part_is;
+            builds = record {
+              ref = c.ref;
+              names = c.ref_is;
+              builds = subst (λ b. BuildsRef c.ref c.part b rows) base
+                  (ideal_builds (with_inners t.pieces rows) c.ref c.part c.root (bases_of rows)
+                  c.ideal rows refl (rows_there t caller rows publish free));
+            };
+          };
+        }),
+  )
+    where
+      same_base : (o : Option Ref) (a b : ℕ) → o ≡ Some (InnerAt a) → o ≡ Some (InnerAt b) → a ≡ b
+      same_base o a b e f = cc
+
+-- what a part that may be placed requires of its rows, and of the slot
+module _ (t : Snapshot) (caller rebuild i word : ℕ) (rows : List Row) (c : CanPlace t caller rebuild
+    i word rows) where
+  -- rows that may be placed are held by the caller, each once
+  pub place_publishes : MayPublish t caller rows
+  place_publishes = record { held = c.held; once = c.once }
+
+  module _ (row : RebuildRow) (published : t.pieces rebuild ≡ Some (Rebuild row)) where
+    -- a part that may be placed has an inner row as its root, with the slot Unset
+    pub place_root : (root : ℕ) × (ref_of row.root ≡ Some (InnerAt root)) × RowHolds t root i
+        unset_word
+    place_root = (
+      c.root,
+      subst (λ r. ref_of r.root ≡ Some (InnerAt c.root)) (one_rebuild (t.pieces rebuild) c.row row
+          c.published published) c.root_is,
+      record { row = c.root_row; published = c.root_published; in_slot = c.free },
+    )

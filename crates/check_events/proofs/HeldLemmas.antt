@@ -1,0 +1,183 @@
+-- Held rows by their bases and by their callers. Serves `held.rt`.
+use Rattle.std.proofs.Common.{◌≡◌, ◌≢◌, ◌↔◌, ◌∙◌, ◌<◌, ◌⊎◌, ◌==◌, ◌++◌, ◌∷◌, [], ℕ, List, Bool, true, false, not, if◌then◌else◌, filter, Some, None, refl, sym, ap, subst, inl, inr, arith}
+use Rattle.std.proofs.lemmas.Cmp.{ranked}
+use Rattle.std.specs.BTreeMap.{is_at, insert_entry}
+use Rattle.std.specs.List.{list_any}
+use Rattle.std.specs.Map.{lookup}
+use Rattle.std.specs.declared.cmp.Ordering.{Ordering}
+use Rattle.std.specs.declared.cmp.Ordering.TheVariants.{Less, Equal, Greater}
+use Rattle.std.specs.Ordering.{MatchOrdering, is_eq, nat_cmp, match_ordering}
+use Rattle.ist_core.specs.declared.lists.HeldRow.{HeldRow}
+use Rattle.ist_core.specs.Elements.{Among, Each}
+use Rattle.ist_core.specs.Snapshots.{without}
+use Rattle.ist_core.proofs.ElementLemmas.{each-among, each_append}
+use Rattle.check_events.specs.Holding.{by_base, Rises}
+
+-- a look-up at a number finds it, or passes it by
+pub tells : (b k : ℕ) → ((is_at (nat_cmp b) k ≡ true) × (b ≡ k)) ⊎ ((is_at (nat_cmp b) k ≡ false) × (b ≢ k))
+tells b k = at (nat_cmp b k) refl (ranked b k (nat_cmp b k) refl)
+  where
+    at : (o : Ordering) → o ≡ nat_cmp b k → MatchOrdering o (b < k) (b ≡ k) (k < b)
+        → ((is_at (nat_cmp b) k ≡ true) × (b ≡ k)) ⊎ ((is_at (nat_cmp b) k ≡ false) × (b ≢ k))
+    at Less e l = inr (sym (ap is_eq e), λ s. omega arith)
+    at Equal e s = inl (sym (ap is_eq e), s)
+    at Greater e g = inr (sym (ap is_eq e), λ s. omega arith)
+
+-- a number above another is ordered after it
+greater_is : (b k : ℕ) → k < b → nat_cmp b k ≡ Greater
+greater_is b k g = at (nat_cmp b k) refl (ranked b k (nat_cmp b k) refl)
+  where
+    at : (o : Ordering) → o ≡ nat_cmp b k → MatchOrdering o (b < k) (b ≡ k) (k < b)
+        → nat_cmp b k ≡ Greater
+    at Less e l = absurd (omega arith)
+    at Equal e s = absurd (omega arith)
+    at Greater e h = sym e
+
+-- ---- by base
+
+-- a held row is found at its base
+pub found_at : (held : List HeldRow) (row : HeldRow) → Rises held → Among row held
+    → lookup (is_at (nat_cmp row.base)) (by_base held) ≡ Some row
+found_at [] row r i = absurd i
+found_at (h ∷ hs) row r i = at (found_at hs row r.1) (tells row.base h.base) i
+  where
+    rest : List (ℕ × HeldRow)
+    rest = by_base hs
+
+    at : (Among row hs → lookup (is_at (nat_cmp row.base)) (by_base hs) ≡ Some row)
+        → ((is_at (nat_cmp row.base) h.base ≡ true) × (row.base ≡ h.base))
+        ⊎ ((is_at (nat_cmp row.base) h.base ≡ false) × (row.base ≢ h.base))
+        → Among row (h ∷ hs)
+        → lookup (is_at (nat_cmp row.base)) (by_base (h ∷ hs)) ≡ Some row
+    at again (inl k) (inl e) =
+        ap (λ b. if b then Some h else lookup (is_at (nat_cmp row.base)) rest) k.0
+        ∙ ap (λ x. Some x) (sym e)
+    at again (inl k) (inr i) =
+        let low = each-among (λ g. h.base < g.base) row hs r.0 i in
+        let same = k.1 in
+        absurd (omega arith)
+    at again (inr k) (inl e) = absurd (k.1 (ap (λ x. x.base) e))
+    at again (inr k) (inr i) =
+        ap (λ b. if b then Some h else lookup (is_at (nat_cmp row.base)) rest) k.0
+        ∙ again i
+
+-- what is found at a base is held, and lies there
+pub held_at : (held : List HeldRow) (b : ℕ) (row : HeldRow)
+    → lookup (is_at (nat_cmp b)) (by_base held) ≡ Some row → Among row held × (row.base ≡ b)
+held_at [] b row e = cc
+held_at (h ∷ hs) b row e = at (held_at hs b row) (tells b h.base)
+  where
+    rest : List (ℕ × HeldRow)
+    rest = by_base hs
+
+    at : (lookup (is_at (nat_cmp b)) (by_base hs) ≡ Some row → Among row hs × (row.base ≡ b))
+        → ((is_at (nat_cmp b) h.base ≡ true) × (b ≡ h.base))
+        ⊎ ((is_at (nat_cmp b) h.base ≡ false) × (b ≢ h.base))
+        → Among row (h ∷ hs) × (row.base ≡ b)
+    at again (inl k) =
+        let both = sym (ap (λ z. if z then Some h else lookup (is_at (nat_cmp b)) rest) k.0) ∙ e in
+        let same : h ≡ row = cc in
+        (inl (sym same), ap (λ x. x.base) (sym same) ∙ sym k.1)
+    at again (inr k) =
+        let more = again
+        (sym (ap (λ z. if z then Some h else lookup (is_at (nat_cmp b)) rest) k.0) ∙ e) in
+        (inr more.0, more.1)
+
+-- if nothing is found at its base, a row isn't held
+pub none_found : (held : List HeldRow) (row : HeldRow) → Rises held
+    → lookup (is_at (nat_cmp row.base)) (by_base held) ≡ None → ¬ (Among row held)
+none_found held row r none i = clash (sym none ∙ found_at held row r i)
+  where
+    clash : None ≡ Some row → ⊥
+    clash e = cc
+
+-- if a row is found at its base, it is held exactly if it is that row
+pub one_found : (held : List HeldRow) (row found : HeldRow) → Rises held
+    → lookup (is_at (nat_cmp row.base)) (by_base held) ≡ Some found
+    → (row ≡ found) ↔ Among row held
+one_found held row found r e = (
+  (λ same. subst (λ h. Among h held) (sym same) (held_at held row.base found e).0),
+  (λ i. one (sym (found_at held row r i) ∙ e)),
+)
+  where
+    one : Some row ≡ Some found → row ≡ found
+    one k = cc
+
+-- a row above all others comes last
+pub put_last : (held : List HeldRow) (row : HeldRow) → Each (λ e. e.0 < row.base) (by_base held)
+    → insert_entry nat_cmp (by_base held) row.base row ≡ by_base (held ++ row ∷ [])
+put_last [] row below = refl
+put_last (h ∷ hs) row below =
+    ap (λ o. match_ordering o ((row.base, row) ∷ by_base (h ∷ hs)) ((h.base, row) ∷ by_base hs)
+    ((h.base, h) ∷ insert_entry nat_cmp (by_base hs) row.base row)) (greater_is row.base h.base below.0)
+    ∙ ap (λ xs. (h.base, h) ∷ xs) (put_last hs row below.1)
+
+-- and the rows still increase with it
+pub rises_last : (held : List HeldRow) (row : HeldRow) → Rises held
+    → Each (λ e. e.0 < row.base) (by_base held) → Rises (held ++ row ∷ [])
+rises_last [] row r below = (tt, tt)
+rises_last (h ∷ hs) row r below =
+    (each_append (λ g. h.base < g.base) hs (row ∷ []) r.0 (below.0, tt), rises_last hs row r.1 below.1)
+
+-- ---- what is kept
+
+module _ {A : Type 0} where
+  -- what is so of each element is so of each that is kept
+  each_kept : (P : A → Type 0) (test : A → Bool) (xs : List A) → Each P xs → Each P (filter test xs)
+  each_kept P test [] h = tt
+  each_kept P test (x ∷ xs) h = at (each_kept P test xs h.1) (test x)
+    where
+      at : Each P (filter test xs) → (b : Bool)
+          → Each P (if b then x ∷ filter test xs else filter test xs)
+      at again true = (h.0, again)
+      at again false = again
+
+  -- what is so of whatever is among the elements is so of each
+  pub each_from : (P : A → Type 0) (xs : List A) → ((x : A) → Among x xs → P x) → Each P xs
+  each_from P [] f = tt
+  each_from P (x ∷ xs) f = (f x (inl refl), each_from P xs (λ y i. f y (inr i)))
+
+  -- a filter keeps a first element that passes
+  pub kept_yes : (test : A → Bool) (x : A) (xs : List A) → test x ≡ true
+      → filter test (x ∷ xs) ≡ x ∷ filter test xs
+  kept_yes test x xs e = ap (λ b. if b then x ∷ filter test xs else filter test xs) e
+
+  -- a filter drops a first element that fails
+  pub kept_no : (test : A → Bool) (x : A) (xs : List A) → test x ≡ false
+      → filter test (x ∷ xs) ≡ filter test xs
+  kept_no test x xs e = ap (λ b. if b then x ∷ filter test xs else filter test xs) e
+
+  -- two tests may be made in either order
+  pub kept_swap : (p q : A → Bool) (xs : List A) → filter p (filter q xs) ≡ filter q (filter p xs)
+  kept_swap p q [] = refl
+  kept_swap p q (x ∷ xs) = at (kept_swap p q xs) (p x) (q x) refl refl
+    where
+      at : filter p (filter q xs) ≡ filter q (filter p xs) → (a b : Bool) → p x ≡ a → q x ≡ b
+          → filter p (filter q (x ∷ xs)) ≡ filter q (filter p (x ∷ xs))
+      at again true true e f =
+          ap (filter p) (kept_yes q x xs f) ∙ kept_yes p x (filter q xs) e
+          ∙ ap (λ ys. x ∷ ys) again
+          ∙ sym (ap (filter q) (kept_yes p x xs e) ∙ kept_yes q x (filter p xs) f)
+      at again true false e f =
+          ap (filter p) (kept_no q x xs f) ∙ again
+          ∙ sym (ap (filter q) (kept_yes p x xs e) ∙ kept_no q x (filter p xs) f)
+      at again false true e f =
+          ap (filter p) (kept_yes q x xs f) ∙ kept_no p x (filter q xs) e ∙ again
+          ∙ sym (ap (filter q) (kept_no p x xs e))
+      at again false false e f =
+          ap (filter p) (kept_no q x xs f) ∙ again ∙ sym (ap (filter q) (kept_no p x xs e))
+
+-- rows kept of increasing rows are increasing
+pub rises_kept : (test : HeldRow → Bool) (held : List HeldRow) → Rises held
+    → Rises (filter test held)
+rises_kept test [] r = tt
+rises_kept test (h ∷ hs) r = at (rises_kept test hs r.1) (test h)
+  where
+    at : Rises (filter test hs) → (b : Bool)
+        → Rises (if b then h ∷ filter test hs else filter test hs)
+    at again true = (each_kept (λ g. h.base < g.base) test hs r.0, again)
+    at again false = again
+
+-- increasing rows without the row at a base are increasing
+pub rises_without : (b : ℕ) (held : List HeldRow) → Rises held → Rises (without (b ∷ []) held)
+rises_without b held r = rises_kept (λ h. not (list_any (λ base. base == h.base) (b ∷ []))) held r

@@ -1,0 +1,144 @@
+-- What the code tests of an Install is what the condition says. Serves `installing.rt`.
+use Rattle.std.proofs.Common.{
+  ◌≡◌,
+  ◌↔◌,
+  ◌∙◌,
+  ◌<◌,
+  ◌≤◌,
+  ℕ,
+  List,
+  [],
+  ◌∷◌,
+  length,
+  get_or,
+  Some,
+  sym,
+  ap,
+  subst,
+}
+use Rattle.ist_core.specs.declared.states.ChangeRow.{ChangeRow}
+use Rattle.ist_core.specs.declared.lists.Row.{Row}
+use Rattle.ist_core.specs.Pieces.{Change, words_of, change_of, row_at}
+use Rattle.ist_core.specs.Snapshots.{Snapshot, HoldsRows}
+use Rattle.ist_core.specs.Logs.{Log, state}
+use Rattle.ist_core.specs.Installing.{
+  PutsLeaf,
+  PutsPair,
+  Removes,
+  Starts,
+  Finishes,
+  FitsKind,
+  a_put,
+  a_pair,
+  a_remove,
+  a_start,
+  a_finish,
+  CanInstall,
+}
+use Rattle.check_events.specs.Standing.{MayStand}
+use Rattle.check_fairness.proofs.BehindLemmas.{behind, split_first}
+
+-- words that are read as a change are its words
+change_words_are : (ws : List ℕ) (c : ChangeRow) → change_of ws ≡ Some c → ws ≡ words_of (Change c)
+change_words_are (a ∷ b ∷ d ∷ e ∷ f ∷ g ∷ h ∷ i ∷ j ∷ []) c k =
+    let same : record {
+      decision = a;
+      kind = b;
+      node = d;
+      index = e;
+      from = f;
+      to = g;
+      owner = h;
+      key = i;
+      value = j;
+    } ≡ c = cc in
+    ap (λ x. words_of (Change x)) same
+change_words_are [] c k = cc
+change_words_are (a ∷ []) c k = cc
+change_words_are (a ∷ b ∷ []) c k = cc
+change_words_are (a ∷ b ∷ d ∷ []) c k = cc
+change_words_are (a ∷ b ∷ d ∷ e ∷ []) c k = cc
+change_words_are (a ∷ b ∷ d ∷ e ∷ f ∷ []) c k = cc
+change_words_are (a ∷ b ∷ d ∷ e ∷ f ∷ g ∷ []) c k = cc
+change_words_are (a ∷ b ∷ d ∷ e ∷ f ∷ g ∷ h ∷ []) c k = cc
+change_words_are (a ∷ b ∷ d ∷ e ∷ f ∷ g ∷ h ∷ i ∷ []) c k = cc
+change_words_are (a ∷ b ∷ d ∷ e ∷ f ∷ g ∷ h ∷ i ∷ j ∷ l ∷ ws) c k = cc
+
+some_same : {a b : ChangeRow} → Some a ≡ Some b → a ≡ b
+some_same e = cc
+
+head_same : {a b : Row} {xs ys : List Row} → a ∷ xs ≡ b ∷ ys → a ≡ b
+head_same e = cc
+
+tail_same : {a b : Row} {xs ys : List Row} → a ∷ xs ≡ b ∷ ys → xs ≡ ys
+tail_same e = cc
+
+module _ (first : Snapshot) (log : Log) (caller base : ℕ) (rows : List Row) (row : Row)
+    (change : ChangeRow)
+    (n : 1 ≤ length rows) (e : row ≡ get_or rows 0 row) (at : row.base ≡ base)
+    (reads : change_of row.words ≡ Some change) where
+  whole : rows ≡ row ∷ behind rows
+  whole = split_first rows row n e
+
+  same_change : (h : CanInstall first log caller base rows) → h.change ≡ change
+  same_change h =
+      let one = head_same (sym whole ∙ h.rows_are) in
+      sym (some_same (sym reads ∙ ap (λ r. change_of r.words) one))
+
+  same_fresh : (h : CanInstall first log caller base rows) → h.fresh ≡ behind rows
+  same_fresh h = sym (tail_same (sym whole ∙ h.rows_are))
+
+  rows_named : rows ≡ row_at base (Change change) ∷ behind rows
+  rows_named =
+      let words = change_words_are row.words change reads in
+      whole ∙ ap (λ r. r ∷ behind rows) (λ i. record { base = at i; words = words i })
+
+  -- what remains to be checked is the condition of the kind
+  pub install_is : caller < (state first log).callers → HoldsRows (state first log) caller rows
+      → MayStand first log caller change
+      → FitsKind first log change (behind rows) ↔ CanInstall first log caller base rows
+  install_is known held stand = (
+    (λ fits.
+        record {
+          known = known;
+          change = change;
+          fresh = behind rows;
+          rows_are = rows_named;
+          held = held;
+          owned = stand.owned;
+          unset = stand.unset;
+          in_slot = stand.in_slot;
+          linked = stand.linked;
+          unrefused = stand.unrefused;
+          fits = fits;
+        }),
+    (λ h. subst (λ c. FitsKind first log c (behind rows)) (same_change h)
+        (subst (λ xs. FitsKind first log h.change xs) (same_fresh h) h.fits)),
+  )
+
+  -- a change that may be installed meets what is required of any kind
+  pub install_stands : CanInstall first log caller base rows → MayStand first log caller change
+  install_stands h =
+      subst (MayStand first log caller) (same_change h) record {
+        owned = h.owned;
+        unset = h.unset;
+        in_slot = h.in_slot;
+        linked = h.linked;
+        unrefused = h.unrefused;
+      }
+
+-- ---- kinds
+
+module _ (first : Snapshot) (log : Log) (change : ChangeRow) (fresh : List Row) where
+  -- a change that is of no other kind must be a finish
+  pub fits_finish : ¬ (PutsLeaf first log change fresh) → ¬ (PutsPair first log change fresh)
+      → ¬ (Removes first log change fresh) → ¬ (Starts (state first log) change fresh)
+      → Finishes (state first log) change fresh ↔ FitsKind first log change fresh
+  fits_finish a b c d = ((λ f. a_finish f), back)
+    where
+      back : FitsKind first log change fresh → Finishes (state first log) change fresh
+      back (a_put h) = absurd (a h)
+      back (a_pair h) = absurd (b h)
+      back (a_remove h) = absurd (c h)
+      back (a_start h) = absurd (d h)
+      back (a_finish h) = h

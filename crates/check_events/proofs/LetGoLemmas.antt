@@ -1,0 +1,215 @@
+-- Held rows without some of them, and their lists by callers. Serves `held.rt`.
+use Rattle.std.proofs.Common.{◌≡◌, ◌≢◌, ◌∙◌, ◌<◌, ◌⊎◌, ◌==◌, ◌++◌, ◌∷◌, [], ℕ, List, Bool, true, false, not, eqb, ◌||◌, if◌then◌else◌, Some, None, refl, sym, ap, subst, inl, inr, arith}
+use Rattle.std.proofs.lemmas.Bool.Decides.{eqb_tells}
+use Rattle.std.proofs.lemmas.List.{append-nil}
+use Rattle.std.proofs.lemmas.List.Elements.{filter-append}
+use Rattle.std.specs.BTreeMap.{BTreeMap, is_at}
+use Rattle.std.specs.Global.{Vec}
+use Rattle.std.specs.List.{list_any}
+use Rattle.std.specs.Map.{lookup, remove_entry, values_of}
+use Rattle.std.specs.Ordering.{nat_cmp}
+use Rattle.ist_core.specs.declared.lists.HeldRow.{HeldRow}
+use Rattle.ist_core.specs.Elements.{Among, Each}
+use Rattle.ist_core.specs.Snapshots.{without}
+use Rattle.ist_core.proofs.ElementLemmas.{each-among, among-filter}
+use Rattle.check_events.specs.declared.held.HeldTable.{HeldTable}
+use Rattle.check_events.specs.Holding.{by_base, listed, of_caller, Rises, Keeps}
+use Rattle.check_events.proofs.HeldLemmas.{tells, found_at, each_from, kept_yes, kept_no, kept_swap}
+
+-- ---- without one base
+
+module _ (b : ℕ) where
+  -- is the row none at the base?
+  abbrev pub stays : HeldRow → Bool
+  stays h = not (list_any (λ base. base == h.base) (b ∷ []))
+
+  other_stays : (h : HeldRow) → b ≢ h.base → stays h ≡ true
+  other_stays h ne = at (eqb_tells b h.base)
+    where
+      at : ((eqb b h.base ≡ true) × (b ≡ h.base)) ⊎ ((eqb b h.base ≡ false) × (b ≢ h.base))
+          → stays h ≡ true
+      at (inl k) = absurd (ne k.1)
+      at (inr k) = ap (λ z. not (z || false)) k.0
+
+  same_goes : (h : HeldRow) → b ≡ h.base → stays h ≡ false
+  same_goes h same = at (eqb_tells b h.base)
+    where
+      at : ((eqb b h.base ≡ true) × (b ≡ h.base)) ⊎ ((eqb b h.base ≡ false) × (b ≢ h.base))
+          → stays h ≡ false
+      at (inl k) = ap (λ z. not (z || false)) k.0
+      at (inr k) = absurd (k.1 same)
+
+  -- rows at other bases all stay
+  pub all_stay : (held : List HeldRow) → Each (λ h. b ≢ h.base) held → without (b ∷ []) held ≡ held
+  all_stay [] e = refl
+  all_stay (h ∷ hs) e =
+      kept_yes stays h hs (other_stays h e.0) ∙ ap (λ xs. h ∷ xs) (all_stay hs e.1)
+
+  -- the entry at the base is taken out
+  pub taken_out : (held : List HeldRow) → Rises held
+      → remove_entry (is_at (nat_cmp b)) (by_base held) ≡ by_base (without (b ∷ []) held)
+  taken_out [] r = refl
+  taken_out (h ∷ hs) r = at (taken_out hs r.1) (tells b h.base)
+    where
+      out : ℕ → List (ℕ × HeldRow) → List (ℕ × HeldRow)
+      out k es = remove_entry (is_at (nat_cmp k)) es
+
+      at : remove_entry (is_at (nat_cmp b)) (by_base hs) ≡ by_base (without (b ∷ []) hs)
+          → ((is_at (nat_cmp b) h.base ≡ true) × (b ≡ h.base))
+          ⊎ ((is_at (nat_cmp b) h.base ≡ false) × (b ≢ h.base))
+          → remove_entry (is_at (nat_cmp b)) (by_base (h ∷ hs)) ≡ by_base (without (b ∷ []) (h ∷ hs))
+      at again (inl k) =
+          let apart : Each (λ g. b ≢ g.base) hs = each_from _ hs
+          (λ g i s. let low = each-among (λ x. h.base < x.base) g hs r.0 i in
+          let same = k.1 in absurd (omega arith)) in
+          ap (λ z. if z then by_base hs else (h.base, h) ∷ out b (by_base hs)) k.0
+          ∙ sym (ap by_base (kept_no stays h hs (same_goes h k.1) ∙ all_stay hs apart))
+      at again (inr k) =
+          ap (λ z. if z then by_base hs else (h.base, h) ∷ out b (by_base hs)) k.0
+          ∙ ap (λ es. (h.base, h) ∷ es) again
+          ∙ sym (ap by_base (kept_yes stays h hs (other_stays h k.1)))
+
+  -- if no row is found at the base, all stay
+  pub none_goes : (held : List HeldRow) → Rises held
+      → lookup (is_at (nat_cmp b)) (by_base held) ≡ None → without (b ∷ []) held ≡ held
+  none_goes held r none = all_stay held (each_from _ held
+      (λ h i s. let found = found_at held h r i in
+      let same = ap (λ k. lookup (is_at (nat_cmp k)) (by_base held)) s in
+      absurd (clash (sym none ∙ same ∙ found))))
+    where
+      clash : {h : HeldRow} → None ≡ Some h → ⊥
+      clash e = cc
+
+  -- if the row at the base is another caller's, all rows of the caller stay
+  pub others_stay : (held : List HeldRow) (row : HeldRow) → Rises held
+      → lookup (is_at (nat_cmp b)) (by_base held) ≡ Some row → (caller : ℕ) → caller ≢ row.caller
+      → of_caller caller (without (b ∷ []) held) ≡ of_caller caller held
+  others_stay held row r found caller ne =
+      kept_swap (λ h. h.caller == caller) stays held
+      ∙ all_stay (of_caller caller held) (each_from _ (of_caller caller held)
+      (λ h i s. absurd (other h (among-filter (λ x. x.caller == caller) h held i) s)))
+    where
+      is : (h : HeldRow) → ((eqb h.caller caller ≡ true) × (h.caller ≡ caller))
+          ⊎ ((eqb h.caller caller ≡ false) × (h.caller ≢ caller))
+          → (h.caller == caller) ≡ true → h.caller ≡ caller
+      is h (inl k) e = k.1
+      is h (inr k) e = cc
+
+      one : (h : HeldRow) → Some row ≡ Some h → row ≡ h
+      one h e = cc
+
+      other : (h : HeldRow) → Among h held × ((h.caller == caller) ≡ true) → b ≡ h.base → ⊥
+      other h it s =
+          let same = one h (sym found ∙ ap (λ k. lookup (is_at (nat_cmp k)) (by_base held)) s
+          ∙ found_at held h r it.0) in
+          ne (sym (is h (eqb_tells h.caller caller) it.1) ∙ ap (λ x. x.caller) (sym same))
+
+  -- a caller's rows without the base
+  pub callers_rest : (held : List HeldRow) (caller : ℕ)
+      → of_caller caller (without (b ∷ []) held) ≡ without (b ∷ []) (of_caller caller held)
+  callers_rest held caller = kept_swap (λ h. h.caller == caller) stays held
+
+-- ---- by callers
+
+-- a caller's rows with one more
+pub listed_last : (held : List HeldRow) (row : HeldRow) (old new : BTreeMap ℕ (Vec HeldRow))
+    → ((caller : ℕ) → listed old caller ≡ of_caller caller held)
+    → listed new row.caller ≡ listed old row.caller ++ row ∷ []
+    → ((caller : ℕ) → caller ≢ row.caller → listed new caller ≡ listed old caller)
+    → (caller : ℕ) → listed new caller ≡ of_caller caller (held ++ row ∷ [])
+listed_last held row old new known here others caller = at (eqb_tells row.caller caller)
+  where
+    both : of_caller caller (held ++ row ∷ [])
+        ≡ of_caller caller held ++ of_caller caller (row ∷ [])
+    both = filter-append (λ h. h.caller == caller) held (row ∷ [])
+
+    at : ((eqb row.caller caller ≡ true) × (row.caller ≡ caller))
+        ⊎ ((eqb row.caller caller ≡ false) × (row.caller ≢ caller))
+        → listed new caller ≡ of_caller caller (held ++ row ∷ [])
+    at (inl k) =
+        subst (λ c. listed new c ≡ listed old c ++ row ∷ []) k.1 here
+        ∙ ap (λ xs. xs ++ row ∷ []) (known caller)
+        ∙ sym (both ∙ ap (λ xs. of_caller caller held ++ xs)
+        (kept_yes (λ h. h.caller == caller) row [] k.0))
+    at (inr k) =
+        others caller (λ e. k.1 (sym e)) ∙ known caller
+        ∙ sym (both ∙ ap (λ xs. of_caller caller held ++ xs)
+        (kept_no (λ h. h.caller == caller) row [] k.0) ∙ append-nil (of_caller caller held))
+
+-- the callers' rows without the row at a base
+pub listed_without : (b : ℕ) (held : List HeldRow) (row : HeldRow) → Rises held
+    → lookup (is_at (nat_cmp b)) (by_base held) ≡ Some row
+    → (old new : BTreeMap ℕ (Vec HeldRow))
+    → ((caller : ℕ) → listed old caller ≡ of_caller caller held)
+    → listed new row.caller ≡ without (b ∷ []) (listed old row.caller)
+    → ((caller : ℕ) → caller ≢ row.caller → listed new caller ≡ listed old caller)
+    → (caller : ℕ) → listed new caller ≡ of_caller caller (without (b ∷ []) held)
+listed_without b held row r found old new known here others caller = at (eqb_tells caller row.caller)
+  where
+    at : ((eqb caller row.caller ≡ true) × (caller ≡ row.caller))
+        ⊎ ((eqb caller row.caller ≡ false) × (caller ≢ row.caller))
+        → listed new caller ≡ of_caller caller (without (b ∷ []) held)
+    at (inl k) =
+        subst (λ c. listed new c ≡ without (b ∷ []) (listed old c)) (sym k.1) here
+        ∙ ap (without (b ∷ [])) (known caller) ∙ sym (callers_rest b held caller)
+    at (inr k) =
+        others caller k.1 ∙ known caller ∙ sym (others_stay b held row r found caller k.1)
+
+-- ---- without several
+
+-- without no base all stay
+pub without_none : (held : List HeldRow) → without [] held ≡ held
+without_none [] = refl
+without_none (h ∷ hs) = ap (λ xs. h ∷ xs) (without_none hs)
+
+-- without the first base, and then without the others
+pub without_more : (b : ℕ) (bs : List ℕ) (held : List HeldRow)
+    → without bs (without (b ∷ []) held) ≡ without (b ∷ bs) held
+without_more b bs [] = refl
+without_more b bs (h ∷ hs) = at (without_more b bs hs) (b == h.base) refl
+    (list_any (λ base. base == h.base) bs) refl
+  where
+    at : without bs (without (b ∷ []) hs) ≡ without (b ∷ bs) hs → (x : Bool) → (b == h.base) ≡ x → (y : Bool) → list_any (λ base. base == h.base) bs ≡ y
+        → without bs (without (b ∷ []) (h ∷ hs)) ≡ without (b ∷ bs) (h ∷ hs)
+    at again true e y f =
+        ap (without bs) (kept_no (stays b) h hs (ap (λ z. not (z || false)) e)) ∙ again
+        ∙ sym (kept_no (λ g. not (list_any (λ base. base == g.base) (b ∷ bs))) h hs
+        (ap (λ z. not (z || list_any (λ base. base == h.base) bs)) e))
+    at again false e true f =
+        ap (without bs) (kept_yes (stays b) h hs (ap (λ z. not (z || false)) e))
+        ∙ kept_no (λ g. not (list_any (λ base. base == g.base) bs)) h (without (b ∷ []) hs)
+        (ap not f) ∙ again
+        ∙ sym (kept_no (λ g. not (list_any (λ base. base == g.base) (b ∷ bs))) h hs
+        (ap (λ z. not (z || list_any (λ base. base == h.base) bs)) e ∙ ap not f))
+    at again false e false f =
+        ap (without bs) (kept_yes (stays b) h hs (ap (λ z. not (z || false)) e))
+        ∙ kept_yes (λ g. not (list_any (λ base. base == g.base) bs)) h (without (b ∷ []) hs)
+        (ap not f) ∙ ap (λ xs. h ∷ xs) again
+        ∙ sym (kept_yes (λ g. not (list_any (λ base. base == g.base) (b ∷ bs))) h hs
+        (ap (λ z. not (z || list_any (λ base. base == h.base) bs)) e ∙ ap not f))
+
+-- without some bases, and then without one more
+pub without_last : (bs : List ℕ) (b : ℕ) (held : List HeldRow)
+    → without (b ∷ []) (without bs held) ≡ without (bs ++ b ∷ []) held
+without_last [] b held = ap (without (b ∷ [])) (without_none held)
+without_last (a ∷ bs) b held =
+    ap (without (b ∷ [])) (sym (without_more a bs held)) ∙ without_last bs b (without (a ∷ []) held)
+    ∙ without_more a (bs ++ b ∷ []) held
+
+-- the rows by base, listed in order
+pub values_by_base : (held : List HeldRow) → values_of (by_base held) ≡ held
+values_by_base [] = refl
+values_by_base (h ∷ hs) = ap (λ xs. h ∷ xs) (values_by_base hs)
+
+-- if no base is named, the table keeps what it has
+pub keeps_none : (table : HeldTable) (held : List HeldRow) → Keeps table held
+    → Keeps table (without [] held)
+keeps_none table held k = subst (Keeps table) (sym (without_none held)) k
+
+-- removing the rows at the bases so far, and then the row at the last base, removes the rows at all
+-- of them
+pub keeps_last : (table : HeldTable) (held : List HeldRow) (bs all : List ℕ) (b : ℕ)
+    → all ≡ bs ++ b ∷ [] → Keeps table (without (b ∷ []) (without bs held))
+    → Keeps table (without all held)
+keeps_last table held bs all b is k =
+    subst (Keeps table) (without_last bs b held ∙ ap (λ xs. without xs held) (sym is)) k

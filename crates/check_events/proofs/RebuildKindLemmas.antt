@@ -1,0 +1,164 @@
+-- What the code tests of a change that starts or finishes a rebuild is what the conditions say. Serves `kinds.rt`.
+use Rattle.std.proofs.Common.{◌≡◌, ◌↔◌, ◌≢◌, ℕ, zero, suc, List, [], ◌∷◌, slice_get, Some, refl}
+use Rattle.std.proofs.Common.{sym, ap, subst, arith, inl, inr}
+use Rattle.ist_core.specs.declared.states.InnerRow.{InnerRow}
+use Rattle.ist_core.specs.declared.states.ChangeRow.{ChangeRow}
+use Rattle.ist_core.specs.declared.states.RebuildRow.{RebuildRow}
+use Rattle.ist_core.specs.declared.lists.Row.{Row}
+use Rattle.ist_core.specs.RowLayout.{anchor}
+use Rattle.ist_core.specs.Elements.{Among}
+use Rattle.ist_core.specs.References.{InnerAt, RebuildAt, ref_of, unset_word}
+use Rattle.ist_core.specs.Pieces.{Inner, Rebuild, row_at}
+use Rattle.ist_core.specs.Snapshots.{Snapshot}
+use Rattle.ist_core.specs.Slots.{SlotHolds, in_anchor, in_row}
+use Rattle.ist_core.specs.Rebuilding.{IsStarted, IsBuilt}
+use Rattle.ist_core.specs.Installing.{Starts, Finishes, new_rebuild}
+use Rattle.ist_core.proofs.ReferenceLemmas.{word_of-ref_of}
+use Rattle.check_events.specs.Kinds.{MayBeRebuilt, IsFinishOf}
+use Rattle.check_events.proofs.MirrorLemmas.{one_inner, one_rebuild}
+use Rattle.check_events.proofs.KindLemmas.{one_target, one_renewal}
+
+module _ (t : Snapshot) (change : ChangeRow) (fresh : List Row) where
+  -- a change from a target to a rebuild is a start exactly if its fresh row is the new rebuild
+  pub starts_is : (target rebuild : ℕ) → change.kind ≡ 3 → change.key ≡ 0 → change.value ≡ 0
+      → ref_of change.from ≡ Some (InnerAt target) → MayBeRebuilt t change.node target
+      → ref_of change.to ≡ Some (RebuildAt rebuild)
+      → (fresh ≡ row_at rebuild (new_rebuild change target) ∷ []) ↔ Starts t change fresh
+  starts_is target rebuild kind key value from may to = (
+    (λ are. record {
+      kind = kind;
+      key = key;
+      value = value;
+      target = target;
+      row = may.row;
+      from =
+          from;
+      published = may.published;
+      due = may.due;
+      rebuild = rebuild;
+      to = to;
+      fresh_are = are;
+    }),
+    (λ h.
+        let same = one_target (ref_of change.from) h.target target h.from from in
+        let alike = one_renewal (ref_of change.to) h.rebuild rebuild h.to to in
+        subst (λ o. fresh ≡ row_at o (new_rebuild change target) ∷ []) alike
+        (subst (λ n. fresh ≡ row_at h.rebuild (new_rebuild change n) ∷ []) same h.fresh_are)),
+  )
+
+  -- if the target may not be rebuilt, the change isn't a start
+  pub starts_not : (target : ℕ) → ref_of change.from ≡ Some (InnerAt target)
+      → ¬ (MayBeRebuilt t change.node target) → ¬ (Starts t change fresh)
+  starts_not target from not_due h =
+      not_due (subst (λ n. MayBeRebuilt t change.node n) (one_target (ref_of change.from) h.target
+      target h.from from) record { row = h.row; published = h.published; due = h.due })
+
+  -- a change from a rebuild is a finish exactly if it puts in the rebuild's root
+  pub finishes_is : (rebuild : ℕ) → change.kind ≡ 4 → change.key ≡ 0 → change.value ≡ 0 → fresh ≡ []
+      → ref_of change.from ≡ Some (RebuildAt rebuild)
+      → IsFinishOf t change rebuild ↔ Finishes t change fresh
+  finishes_is rebuild kind key value none from = (
+    (λ f. record {
+      kind = kind;
+      key = key;
+      value = value;
+      rebuild = rebuild;
+      row = f.row;
+      from =
+          from;
+      published = f.published;
+      started = f.started;
+      parent = f.parent;
+      index = f.index;
+      to =
+          f.to;
+      built = f.built;
+      fresh_are = none;
+    }),
+    (λ h.
+        let same = one_renewal (ref_of change.from) h.rebuild rebuild h.from from in
+        subst (λ o. IsFinishOf t change o) same record {
+          row = h.row;
+          published = h.published;
+          started = h.started;
+          parent = h.parent;
+          index = h.index;
+          to = h.to;
+          built = h.built;
+        }),
+  )
+
+  -- the change is the finish of its rebuild exactly if the root is built
+  pub finish_of_is : (rebuild : ℕ) (r : RebuildRow) → t.pieces rebuild ≡ Some (Rebuild r)
+      → IsStarted t rebuild → r.parent ≡ change.node → r.index ≡ change.index → r.root ≡ change.to
+      → IsBuilt t r.root ↔ IsFinishOf t change rebuild
+  finish_of_is rebuild r e started parent index root = (
+    (λ b. record {
+      row = r;
+      published = e;
+      started = started;
+      parent = parent;
+      index = index;
+      to =
+          sym root;
+      built = b;
+    }),
+    (λ h. subst (λ x. IsBuilt t x.root) (one_rebuild (t.pieces rebuild) h.row r h.published e)
+        h.built),
+  )
+
+-- ---- built roots
+
+get_among : (xs : List ℕ) (i x : ℕ) → slice_get xs i ≡ Some x → Among x xs
+get_among [] i x e = cc
+get_among (y ∷ ys) zero x e = inl (let k : y ≡ x = cc in sym k)
+get_among (y ∷ ys) (suc i) x e = inr (get_among ys i x e)
+
+among_get : (xs : List ℕ) (x : ℕ) → Among x xs → (i : ℕ) × (slice_get xs i ≡ Some x)
+among_get [] x a = absurd a
+among_get (y ∷ ys) x (inl e) = (0, ap Some (sym e))
+among_get (y ∷ ys) x (inr a) = let r = among_get ys x a in (suc r.0, r.1)
+
+module _ (t : Snapshot) (root base : ℕ) (e : ref_of root ≡ Some (InnerAt base)) where
+  -- a row that a word names is not the anchor
+  no_anchor : base ≢ anchor
+  no_anchor i = let good = (word_of-ref_of root (InnerAt base) e).good in let low =
+      good.behind_fixed in absurd (omega arith)
+
+  row_slots : (r : InnerRow) → t.pieces base ≡ Some (Inner r) → (i word : ℕ) → SlotHolds t base i
+      word
+      → Among word r.slots
+  row_slots r p i word (in_anchor a b c) = absurd (no_anchor a)
+  row_slots r p i word (in_row s q g) = get_among r.slots i word
+      (subst (λ x. slice_get x.slots i ≡ Some word) (one_inner (t.pieces base) s r q p) g)
+
+  -- a root is built exactly if no slot of its row is Unset
+  pub built_is : (r : InnerRow) → t.pieces base ≡ Some (Inner r) → root ≢ unset_word
+      → (¬ (Among unset_word r.slots)) ↔ IsBuilt t root
+  built_is r p set = (
+    (λ none.
+        record {
+          set = set;
+          whole = λ b i word n h is.
+              let same = one_target (ref_of root) b base n e in
+              none (subst (λ w. Among w r.slots) is
+              (row_slots r p i word (subst (λ x. SlotHolds t x i word) same h)));
+        }),
+    (λ h a. let g = among_get r.slots unset_word a in h.whole base g.0 unset_word e (in_row r p g.1)
+        refl),
+  )
+
+  no_slots : ((r : InnerRow) → ¬ (t.pieces base ≡ Some (Inner r))) → (i word : ℕ)
+      → ¬ (SlotHolds t base i word)
+  no_slots none i word (in_anchor a b c) = no_anchor a
+  no_slots none i word (in_row s q g) = none s q
+
+  -- a set root that isn't an inner row is built
+  pub built_alone : ((r : InnerRow) → ¬ (t.pieces base ≡ Some (Inner r))) → root ≢ unset_word
+      → IsBuilt t root
+  built_alone none set =
+      record {
+        set = set;
+        whole = λ b i word n h is. no_slots none i word
+            (subst (λ x. SlotHolds t x i word) (one_target (ref_of root) b base n e) h);
+      }

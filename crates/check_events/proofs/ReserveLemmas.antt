@@ -1,0 +1,16 @@
+-- A row may be reserved if it is fair to hold it too. Serves `entering.rt`.
+use Rattle.std.proofs.Common.{◌≡◌, ◌↔◌, ◌+◌, ◌<◌, ◌≤◌, Bool, ℕ, IsTrue, List, [], ◌∷◌, ◌++◌}
+use Rattle.std.proofs.Common.{sym, subst}
+use Rattle.ist_core.specs.Snapshots.{Snapshot, sizes_held}
+use Rattle.ist_core.specs.Fairness.{IsFair}
+use Rattle.ist_core.specs.Enabled.{CanReserve}
+
+-- a row may be reserved exactly if the sizes with it are fair
+pub reserves : (t : Snapshot) (caller base size : ℕ) (xs : List ℕ) (fair : Bool)
+    → caller < t.callers → base ≡ t.next
+    → t.next + size ≤ t.words → xs ≡ sizes_held t caller ++ size ∷ []
+    → (IsTrue fair ↔ IsFair t xs) → IsTrue fair ↔ CanReserve t caller base size
+reserves t caller base size xs fair known at fits e i = (
+  (λ y. record { known = known; base_is = at; room = fits; fair = subst (IsFair t) e (i.0 y) }),
+  (λ r. i.1 (subst (IsFair t) (sym e) r.fair)),
+)

@@ -1,0 +1,211 @@
+-- What is kept of readings, and one size further. Serves `keeping.rt`.
+use Rattle.std.proofs.Common.{◌≡◌, ◌↔◌, ◌∙◌, ◌⊎◌, ◌+◌, ◌<◌, ◌≤◌, true, ℕ}
+use Rattle.std.proofs.Common.{zero, suc, List, [], ◌∷◌, ◌++◌, length, map, take, Vec, Global, Some, None}
+use Rattle.std.proofs.Common.{refl, sym, ap, subst, inl, inr, ⊎_elim, append_assoc, append-nil, arith}
+use Rattle.std.proofs.Common.{length-append}
+use Rattle.std.specs.Prelude.{slice_index_or}
+use Rattle.std.proofs.lemmas.List.{length-take-le, take-append-le, take_all, take-map, length-map}
+use Rattle.std.specs.BTreeMap.{BTreeMap}
+use Rattle.ist_core.specs.Elements.{Among}
+use Rattle.check_fairness.specs.declared.keeping.KeptReadings.{KeptReadings}
+use Rattle.check_fairness.specs.declared.readings.Reading.{Reading}
+use Rattle.check_fairness.specs.Searching.{Goes, all_spare}
+use Rattle.check_fairness.specs.Readings.{SomeGoes, AreReadings}
+use Rattle.check_fairness.specs.Builds.{BeginsWith}
+use Rattle.check_fairness.specs.Keeping.{any_room, left_at, IsKept, KnowsReadings}
+use Rattle.check_fairness.proofs.AnswerLemmas.{finds_none, iff_trans}
+
+-- ---- what was kept at a place
+
+take_take : (i n : ℕ) (xs : List ℕ) → i ≤ n → take i (take n xs) ≡ take i xs
+take_take zero n xs h = refl
+take_take (suc i) zero xs h = absurd (omega arith)
+take_take (suc i) (suc n) [] h = refl
+take_take (suc i) (suc n) (x ∷ xs) h = ap (λ ys. x ∷ ys) (take_take i n xs (omega arith))
+
+-- a number up to one more is one up to the other, or the one more
+up_to : (i n : ℕ) → i ≤ n + 1 → (i ≤ n) ⊎ (i ≡ n + 1)
+up_to zero n h = inl (omega arith)
+up_to (suc i) zero h = inr (omega arith)
+up_to (suc i) (suc n) h = ⊎_elim (λ k. inl (omega arith)) (λ e. inr (omega arith))
+    (up_to i n (omega arith))
+
+-- the readings in one of some places
+abbrev pub at : List (Vec Reading Global) → ℕ → List Reading
+at all i = slice_index_or (map (λ v. v.items) all) i []
+
+at_take : (n i : ℕ) (all : List (Vec Reading Global)) → i < n → at (take n all) i ≡ at all i
+at_take zero i all h = absurd (omega arith)
+at_take (suc n) i [] h = refl
+at_take (suc n) zero (v ∷ all) h = refl
+at_take (suc n) (suc i) (v ∷ all) h = at_take n i all (omega arith)
+
+at_left : (i : ℕ) (all more : List (Vec Reading Global)) → i < length all
+    → at (all ++ more) i ≡ at all i
+at_left i [] more h = absurd (omega arith)
+at_left zero (v ∷ all) more h = refl
+at_left (suc i) (v ∷ all) more h = at_left i all more (omega arith)
+
+at_end : (i : ℕ) (all : List (Vec Reading Global)) (v : Vec Reading Global) → i ≡ length all
+    → at (all ++ v ∷ []) i ≡ v.items
+at_end zero [] v h = refl
+at_end (suc i) [] v h = absurd (omega arith)
+at_end zero (w ∷ all) v h = absurd (omega arith)
+at_end (suc i) (w ∷ all) v h = at_end i all v (omega arith)
+
+-- ---- kept readings
+
+-- nothing is known if nothing is kept
+pub none_kept : (all : BTreeMap ℕ KeptReadings) (lists : List (List ℕ)) → all.entries ≡ []
+    → KnowsReadings all lists
+none_kept all lists empty caller kept e = absurd (clash (sym (finds_none all caller empty) ∙ e))
+  where
+    clash : None ≡ Some kept → ⊥
+    clash h = cc
+
+-- what was kept is right with more lists too
+kept_stays : (old new : List (List ℕ)) (kept : KeptReadings) → BeginsWith old new → IsKept old kept
+    → IsKept new kept
+kept_stays old new kept front k =
+    let same = front kept.lists k.within in
+    record {
+      within = same.0;
+      long = k.long;
+      each = λ n h. subst (λ ls. AreReadings ls any_room (take n kept.sizes.items) (left_at kept n)) (sym same.1)
+          (k.each n h);
+    }
+
+-- what is kept stays right when lists are added at the end
+pub readings_stay : (all : BTreeMap ℕ KeptReadings) (old new : List (List ℕ)) → BeginsWith old new
+    → KnowsReadings all old → KnowsReadings all new
+readings_stay all old new front known caller kept e = kept_stays old new kept front
+    (known caller kept e)
+
+module _ (lists : List (List ℕ)) where
+  -- readings may go on with a size
+  pub left_on : (sizes : List ℕ) (size : ℕ) (old new : List Reading)
+      → ((more : List ℕ) → SomeGoes lists any_room new more
+      ↔ SomeGoes lists any_room old (size ∷ more))
+      → AreReadings lists any_room sizes old → AreReadings lists any_room (sizes ++ size ∷ []) new
+  left_on sizes size old new r k more =
+      subst (λ xs. SomeGoes lists any_room new more
+      ↔ Goes (λ l. Among l lists) any_room all_spare [] true xs)
+      (sym (append_assoc sizes (size ∷ []) more)) (iff_trans (r more) (k (size ∷ more)))
+
+-- the first of some lists, as the code takes them
+pub first_is : (xs ys fs : List (Vec ℕ Global)) (m : ℕ) → xs ≡ ys
+    → m ≤ length (map (λ v. v.items) ys) → (m ≤ length xs → fs ≡ take m xs)
+    → map (λ v. v.items) fs ≡ take m (map (λ v. v.items) ys)
+first_is xs ys fs m e h value =
+    let long : length (map (λ v. v.items) ys) ≡ length ys = length-map ys (λ v. v.items) in
+    let same : length xs ≡ length ys = ap length e in
+    ap (map (λ v. v.items)) (value (omega arith)) ∙ sym (take-map (λ v. v.items) m xs)
+    ∙ ap (λ zs. take m (map (λ v. v.items) zs)) e
+
+-- ---- the kept readings after each number of sizes
+
+module _ (lists : List (List ℕ)) where
+  -- of none
+  pub kept_none : (kept : KeptReadings) (first : List Reading) → kept.lists ≡ length lists
+      → kept.sizes.items ≡ [] → length kept.left.items ≡ 1 → left_at kept 0 ≡ first
+      → AreReadings lists any_room [] first → IsKept lists kept
+  kept_none kept first many none one is k =
+      record {
+        within = omega arith;
+        long = let e : length kept.sizes.items ≡ 0 = ap length none in omega arith;
+        each = λ n h.
+            let e : length kept.sizes.items ≡ 0 = ap length none in
+            let zero : n ≡ 0 = omega arith in
+            subst (λ i. AreReadings (take kept.lists lists) any_room (take i kept.sizes.items) (left_at kept i))
+            (sym zero)
+            (subst (λ ls. AreReadings ls any_room [] (left_at kept 0)) (sym (take_all kept.lists lists (omega arith)))
+            (subst (AreReadings lists any_room []) (sym is) k));
+      }
+
+  -- of the first ones
+  pub kept_cut : (old new : KeptReadings) (n : ℕ) → new.lists ≡ old.lists
+      → n ≤ length old.sizes.items → new.sizes.items ≡ take n old.sizes.items
+      → new.left.items ≡ take (n + 1) old.left.items → IsKept lists old → IsKept lists new
+  kept_cut old new n count fits sizes left k =
+      let many : length new.sizes.items ≡ n = ap length sizes
+      ∙ length-take-le n old.sizes.items fits in
+      record {
+        within = let w : old.lists ≤ length lists = k.within in omega arith;
+        long =
+            let more : length old.left.items ≡ length old.sizes.items + 1 = k.long in
+            let all : length new.left.items ≡ n + 1 = ap length left
+            ∙ length-take-le (n + 1) old.left.items (omega arith) in
+            omega arith;
+        each = λ i h.
+            let whole : take i new.sizes.items ≡ take i old.sizes.items =
+            ap (take i) sizes ∙ take_take i n old.sizes.items (omega arith) in
+            let same : left_at new i ≡ left_at old i =
+            ap (λ xs. at xs i) left ∙ at_take (n + 1) i old.left.items (omega arith) in
+            moved count (sym whole) (sym same) (k.each i (omega arith));
+      }
+    where
+      moved : {m : ℕ} {xs ys : List ℕ} {rs qs : List Reading} → m ≡ old.lists → xs ≡ ys → rs ≡ qs
+          → AreReadings (take old.lists lists) any_room xs rs → AreReadings (take m lists) any_room ys qs
+      moved {m} {xs} {ys} {rs} {qs} c x r a =
+          subst (λ o. AreReadings (take o lists) any_room ys qs) (sym c)
+          (subst (AreReadings (take old.lists lists) any_room ys) r
+          (subst (λ zs. AreReadings (take old.lists lists) any_room zs rs) x a))
+
+  -- of one more
+  pub kept_more : (old new : KeptReadings) (size : ℕ) (next : Vec Reading Global)
+      → new.lists ≡ old.lists → new.sizes.items ≡ old.sizes.items ++ size ∷ []
+      → new.left.items ≡ old.left.items ++ next ∷ []
+      → ((more : List ℕ) → SomeGoes (take old.lists lists) any_room next.items more
+      ↔ SomeGoes (take old.lists lists) any_room (left_at old (length old.sizes.items))
+      (size ∷ more))
+      → IsKept lists old → IsKept lists new
+  kept_more old new size next count sizes left r k =
+      record {
+        within = let w : old.lists ≤ length lists = k.within in omega arith;
+        long =
+            let more : length old.left.items ≡ length old.sizes.items + 1 = k.long in
+            let all : length new.left.items ≡ length old.left.items + 1 = ap length left
+            ∙ length-append old.left.items (next ∷ []) in
+            let longer : length new.sizes.items ≡ length old.sizes.items + 1 = many in
+            omega arith;
+        each = λ i h.
+            let longer : length new.sizes.items ≡ length old.sizes.items + 1 = many in
+            let fits : i ≤ length old.sizes.items + 1 = omega arith in
+            subst (λ o. AreReadings (take o lists) any_room (take i new.sizes.items) (left_at new i)) (sym count)
+            (⊎_elim (before i) last (up_to i len fits));
+      }
+    where
+      len : ℕ
+      len = length old.sizes.items
+
+      known : List (List ℕ)
+      known = take old.lists lists
+
+      many : length new.sizes.items ≡ len + 1
+      many = ap length sizes ∙ length-append old.sizes.items (size ∷ [])
+
+      before : (i : ℕ) → i ≤ len → AreReadings known any_room (take i new.sizes.items) (left_at new i)
+      before i h =
+          let whole : take i new.sizes.items ≡ take i old.sizes.items =
+          ap (take i) sizes ∙ take-append-le i old.sizes.items (size ∷ []) h in
+          let more : length old.left.items ≡ length old.sizes.items + 1 = k.long in
+          let same : left_at new i ≡ left_at old i =
+          ap (λ xs. at xs i) left
+          ∙ at_left i old.left.items (next ∷ []) (omega arith) in
+          subst (AreReadings known any_room (take i new.sizes.items)) (sym same)
+          (subst (λ xs. AreReadings known any_room xs (left_at old i)) (sym whole) (k.each i h))
+
+      last : {i : ℕ} → i ≡ len + 1 → AreReadings known any_room (take i new.sizes.items) (left_at new i)
+      last {i} e =
+          let longer : length new.sizes.items ≡ length old.sizes.items + 1 = many in
+          let here : i ≡ length old.sizes.items + 1 = e in
+          let whole : take i new.sizes.items ≡ old.sizes.items ++ size ∷ [] =
+          take_all i new.sizes.items (omega arith) ∙ sizes in
+          let is : i ≡ length old.left.items = e ∙ sym k.long in
+          let same : left_at new i ≡ next.items =
+          ap (λ xs. at xs i) left ∙ at_end i old.left.items next is in
+          let all = subst (λ xs. AreReadings known any_room xs (left_at old len))
+          (take_all len old.sizes.items (omega arith)) (k.each len (omega arith)) in
+          subst (AreReadings known any_room (take i new.sizes.items)) (sym same)
+          (subst (λ xs. AreReadings known any_room xs next.items) (sym whole)
+          (left_on known old.sizes.items size (left_at old len) next.items r all))

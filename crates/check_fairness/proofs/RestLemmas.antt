@@ -1,0 +1,153 @@
+-- What is left of a building list from a place on, and the lists that begin. Serves `fairness.rt`.
+use Rattle.std.proofs.Common.{◌≡◌, ◌≢◌, ◌↔◌, ◌∙◌, ◌+◌, ◌-◌, ◌<◌, ◌≤◌, ◌⊎◌, Bool, ℕ, zero, suc, List}
+use Rattle.std.proofs.Common.{[], ◌∷◌, ◌++◌, length, get_or, map, take, drop, refl, sym, ap, subst}
+use Rattle.std.proofs.Common.{inl, inr, ⊎_elim, arith, length-drop}
+use Rattle.std.specs.Prelude.{slice_index_or}
+use Rattle.std.proofs.lemmas.List.{take_more, take_all}
+use Rattle.ist_core.specs.Elements.{Among}
+use Rattle.ist_core.proofs.ElementLemmas.{among-append, among_left, among_right}
+use Rattle.check_fairness.specs.declared.spares.Spare.{Spare}
+use Rattle.check_fairness.specs.Searching.{Goes, is_full, TakesNext, BeginsOne}
+use Rattle.check_fairness.specs.Readings.{rest_at, BeginsAmong}
+use Rattle.check_fairness.proofs.BehindLemmas.{behind}
+use Rattle.check_fairness.proofs.ReadingLemmas.{on_none, on_other, on_is}
+
+module _ {A : Type 0} (f : A → List ℕ) where
+  -- a list of the slice
+  pub list_at : (xs : List A) (i : ℕ) (x : A) → i < length xs → x ≡ get_or xs i x
+      → slice_index_or (map f xs) i [] ≡ f x
+  list_at [] i x h e = absurd (omega arith)
+  list_at (y ∷ ys) zero x h e = sym (ap f e)
+  list_at (y ∷ ys) (suc i) x h e = list_at ys i x (omega arith) e
+
+  -- there is no list past the end
+  pub list_past : (xs : List A) (i : ℕ) → length xs ≤ i → slice_index_or (map f xs) i [] ≡ []
+  list_past [] i h = refl
+  list_past (y ∷ ys) zero h = absurd (omega arith)
+  list_past (y ∷ ys) (suc i) h = list_past ys i (omega arith)
+
+drop_none : (n : ℕ) → drop {A = ℕ} n [] ≡ []
+drop_none zero = refl
+drop_none (suc n) = refl
+
+drop_past : (n : ℕ) (xs : List ℕ) → length xs ≤ n → drop n xs ≡ []
+drop_past n [] h = drop_none n
+drop_past zero (x ∷ xs) h = absurd (omega arith)
+drop_past (suc n) (x ∷ xs) h = drop_past n xs (omega arith)
+
+module _ {A : Type 0} (f : A → List ℕ) (xs : List A) where
+  -- nothing is left of a list that isn't there, nor past the end of one
+  pub rest_none : (i n : ℕ) → length xs ≤ i → [] ≡ rest_at (map f xs) i n
+  rest_none i n h = sym (ap (drop n) (list_past f xs i h) ∙ drop_none n)
+
+  -- past the end of a list nothing is left of it
+  pub rest_past : (i n : ℕ) (x : A) → i < length xs → x ≡ get_or xs i x → length (f x) ≤ n
+      → [] ≡ rest_at (map f xs) i n
+  rest_past i n x h e past = sym (ap (drop n) (list_at f xs i x h e) ∙ drop_past n (f x) past)
+
+  -- what is left of a list is its elements from the place on
+  pub rest_is : (i n : ℕ) (x : A) → i < length xs → x ≡ get_or xs i x
+      → take (length (f x) - n) (drop n (f x)) ≡ rest_at (map f xs) i n
+  rest_is i n x h e =
+      let left = length-drop n (f x) in
+      take_all (length (f x) - n) (drop n (f x)) (omega arith)
+      ∙ sym (ap (drop n) (list_at f xs i x h e))
+
+-- after the first of what is left
+pub rest_behind : (lists : List (List ℕ)) (i n : ℕ) (left : List ℕ) → left ≡ rest_at lists i n
+    → 1 ≤ length left
+    → behind left ≡ rest_at lists i (n + 1)
+rest_behind lists i n left e some = ap behind e ∙ at n (slice_index_or lists i [])
+    (subst (λ ys. 1 ≤ length ys) e some)
+  where
+    at : (n : ℕ) (xs : List ℕ) → 1 ≤ length (drop n xs) → behind (drop n xs) ≡ drop (n + 1) xs
+    at zero [] h = absurd (omega arith)
+    at zero (x ∷ xs) h = let whole : length xs ≡ length (x ∷ xs) - 1 = omega arith in ap
+        (λ k. take k xs) (sym whole) ∙ take_all (length xs) xs (omega arith)
+    at (suc n) [] h = absurd (omega arith)
+    at (suc n) (x ∷ xs) h = let next : suc n + 1 ≡ suc (n + 1) = omega arith in at n xs h
+        ∙ sym (ap (λ k. drop k (x ∷ xs)) next)
+
+-- what a list leaves after the size with which it continues
+module _ (lists : List (List ℕ)) (room : ℕ) (may : Spare) (i n : ℕ) (left : List ℕ)
+    (left_is : left ≡ rest_at lists i n) (x : ℕ) (xs : List ℕ) where
+  -- if nothing is left, no size goes on
+  pub nothing_on : length left < 1
+      → ¬ (TakesNext (λ l. Among l lists) room may (rest_at lists i n) x xs)
+  nothing_on h = subst (λ ys. ¬ (TakesNext (λ l. Among l lists) room may ys x xs)) left_is
+      (on_none (λ l. Among l lists) room may left x xs h)
+
+  -- if another size comes first, this one doesn't go on
+  pub other_on : get_or left 0 0 ≢ x
+      → ¬ (TakesNext (λ l. Among l lists) room may (rest_at lists i n) x xs)
+  other_on ne = subst (λ ys. ¬ (TakesNext (λ l. Among l lists) room may ys x xs)) left_is
+      (on_other (λ l. Among l lists) room may left x xs ne)
+
+  -- if the size comes first, the further sizes go on with the rest of the list
+  pub this_on : (full : Bool) → 1 ≤ length left → get_or left 0 0 ≡ x
+      → full ≡ is_full room (behind left)
+      → Goes (λ l. Among l lists) room may (rest_at lists i (n + 1)) full xs
+      ↔ TakesNext (λ l. Among l lists) room may (rest_at lists i n) x xs
+  this_on full some e f =
+      subst (λ ys. Goes (λ l. Among l lists) room may ys full xs ↔ TakesNext (λ l. Among l lists)
+      room may (rest_at lists i n) x xs)
+      (rest_behind lists i n left left_is some)
+      (subst (λ ys. Goes (λ l. Among l lists) room may (behind left) full xs
+      ↔ TakesNext (λ l. Among l lists) room may ys x xs) left_is
+      (on_is (λ l. Among l lists) room may left x xs full some e f))
+
+-- ---- begun lists
+
+module _ (lists : List (List ℕ)) (room : ℕ) (may : Spare) (x : ℕ) (xs : List ℕ) where
+  -- none of no lists begins with the size
+  pub begins_none : ¬ (BeginsAmong lists [] room may x xs)
+  begins_none h = h.listed
+
+  begins_all : BeginsAmong lists lists room may x xs ↔ BeginsOne (λ l. Among l lists) room may x xs
+  begins_all = (
+    (λ h. record { rest = h.rest; building = h.listed; goes = h.goes }),
+    (λ h. record { rest = h.rest; listed = h.building; goes = h.goes }),
+  )
+
+  -- one of all lists begins with the size exactly if the size can begin a list
+  pub begins_end : (i : ℕ) → length lists ≤ i
+      → BeginsAmong lists (take i lists) room may x xs ↔ BeginsOne (λ l. Among l lists) room may x
+      xs
+  begins_end i h =
+      subst (λ some. BeginsAmong lists some room may x xs ↔ BeginsOne (λ l. Among l lists) room may
+      x xs) (sym (take_all i lists h)) begins_all
+
+  -- one of the lists up to one more
+  pub begins_more : (i : ℕ) → i < length lists
+      → BeginsAmong lists (take (i + 1) lists) room may x xs
+      ↔ (BeginsAmong lists (take i lists) room may x xs ⊎ TakesNext (λ l. Among l lists) room may
+      (rest_at lists i 0) x xs)
+  begins_more i h =
+      let here = get_or lists i [] in
+      let whole : take (i + 1) lists ≡ take i lists ++ here ∷ [] = take_more lists i [] h in (
+        (λ b.
+            ⊎_elim (λ a. inl record { rest = b.rest; listed = a; goes = b.goes })
+            (λ a. inr record {
+              rest = b.rest;
+              list_is = ⊎_elim (λ e. sym e) (λ n. absurd n) a;
+              goes = b.goes;
+            })
+            (among-append (x ∷ b.rest) (take i lists) (here ∷ []) (subst (Among (x ∷ b.rest)) whole
+            b.listed))),
+        (λ k.
+            ⊎_elim
+            (λ b. record {
+              rest = b.rest;
+              listed = subst (Among (x ∷ b.rest)) (sym whole)
+                  (among_left (x ∷ b.rest) (take i lists) (here ∷ []) b.listed);
+              goes = b.goes;
+            })
+            (λ g. record {
+              rest = g.rest;
+              listed = subst (Among (x ∷ g.rest)) (sym whole)
+                  (among_right (x ∷ g.rest) (take i lists) (here ∷ []) (inl (sym g.list_is)));
+              goes =
+                  g.goes;
+            })
+            k),
+      )

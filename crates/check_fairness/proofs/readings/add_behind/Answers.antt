@@ -1,0 +1,32 @@
+use Rattle.std.proofs.Common.{map}
+use Rattle.ist_core.specs.Elements.{Among}
+use Rattle.check_fairness.specs.Readings.{rest_at}
+use Rattle.check_fairness.proofs.AnswerLemmas.{on_ok}
+use Rattle.check_fairness.proofs.AddedLemmas.{two_added, three_added, not_set, is_set}
+use Rattle.check_fairness.proofs.ReadingLemmas.{goes_free, goes_bound}
+use Rattle.check_fairness.proofs.readings.add_behind.Goals as goal
+
+pub returns-then-not-reading : goal.returns-then-not-reading
+returns-then-not-reading c =
+    let lists = map (λ v. v.items) c.args.lists.now in
+    let r = c.args.reading in
+    record {
+      added = λ sizes.
+          two_added (c.in_ok-add_left_out.ensures.added sizes) (c.in_ok-add_on.ensures.added sizes)
+          (goes_bound (λ l. Among l lists) c.args.room r.may (rest_at lists r.list r.at) c.args.size
+          sizes r.free (not_set r.free c.if-not-reading.true));
+    }
+
+pub returns : goal.returns
+returns c =
+    let lists = map (λ v. v.items) c.args.lists.now in
+    let r = c.args.reading in
+    record {
+      added = on_ok c.add_begun.result _ _
+          (λ f sizes.
+          three_added (c.in_ok-add_left_out.ensures.added sizes) (c.in_ok-add_on.ensures.added
+          sizes) (f sizes)
+          (goes_free (λ l. Among l lists) c.args.room r.may (rest_at lists r.list r.at) c.args.size
+          sizes r.free (is_set r.free c.if-not-reading.false)))
+          c.add_begun.ensures.added;
+    }

@@ -1,0 +1,218 @@
+-- Decided changes after an event: they stay, and only a Decide makes one. Serves `starting.rt`.
+use Rattle.std.proofs.Common.{◌≡◌, ◌≢◌, ◌∙◌, ◌⊎◌, ℕ, nat_lt, if◌then◌else◌, Bool, true, false, List}
+use Rattle.std.proofs.Common.{◌∷◌, Option, Some, refl, sym, ap, subst, inl, inr, ⊎_elim}
+use Rattle.ist_core.specs.declared.lists.Row.{Row}
+use Rattle.ist_core.specs.declared.states.ChangeRow.{ChangeRow}
+use Rattle.ist_core.specs.declared.events.Event.{Event}
+use Rattle.ist_core.specs.declared.events.Event.TheVariants.{Enter, Reserve, Install, Okay, Decide}
+use Rattle.ist_core.specs.declared.events.Event.TheVariants.{Resolve, Count, Mark, Pass, Finish}
+use Rattle.ist_core.specs.declared.events.Event.TheVariants.{Root, Draw, Place, Lose}
+use Rattle.ist_core.specs.References.{ChangeAt, word_of}
+use Rattle.ist_core.specs.Statuses.{undecided, marked_word, finished_word}
+use Rattle.ist_core.specs.Elements.{Among, Each}
+use Rattle.ist_core.specs.Pieces.{Pieces, Piece, Leaf, Inner, Change, Rebuild, with_inners}
+use Rattle.ist_core.specs.Pieces.{changed_at, with_slot, with_status, counted, with_decision}
+use Rattle.ist_core.specs.Pieces.{with_root, drawn}
+use Rattle.ist_core.specs.Snapshots.{Snapshot, bases_of}
+use Rattle.ist_core.specs.After.{after, decision_word, side_of}
+use Rattle.ist_core.specs.Logs.{Log, state}
+use Rattle.ist_core.specs.Installing.{pair_row, pair_over, FitsKind, a_put, a_pair, a_remove}
+use Rattle.ist_core.specs.Installing.{a_start, a_finish}
+use Rattle.ist_core.specs.Deciding.{CanDecide}
+use Rattle.ist_core.specs.Enabled.{Enabled}
+use Rattle.ist_core.proofs.ElementLemmas.{each-among}
+use Rattle.ist_core.proofs.RowLemmas.{changed_at-some}
+use Rattle.ist_core.proofs.MoveLemmas.{HeldLieApart}
+use Rattle.ist_core.proofs.InstallLemmas.{with_installed}
+use Rattle.ist_core.proofs.AddingLemmas.{IsInstalled, adds_install, adds-with_inners}
+use Rattle.ist_core.proofs.GrowingLemmas.{change_there}
+use Rattle.ist_core.proofs.StepLemmas.{rows_resolved, rows_placed, holds_installed, known}
+use Rattle.ist_core.proofs.StepLemmas.{grow_step}
+use Rattle.ist_core.proofs.TreeLemmas.{IsTreeRow, root_tree, tree_of_ideal, tree_rows}
+
+-- ---- fresh rows are undecided
+
+-- the decision of a change, and undecided of any other row
+abbrev decision_in : Piece → ℕ
+decision_in (Change r) = r.decision
+decision_in _ = undecided
+
+pair_fresh : (key base other_key other : ℕ) → decision_in (pair_row key base other_key other)
+    ≡ undecided
+pair_fresh key base other_key other =
+    elim (nat_lt other_key key) as (λ v. decision_in (if v then pair_over key other base else
+    pair_over other_key base other) ≡ undecided) [ true ↦ refl | false ↦ refl ]
+
+installed_fresh : (first : Snapshot) (log : Log) (at : ℕ) (change : ChangeRow) (fresh : List Row)
+    (fits : FitsKind first log change fresh) (base : ℕ) (p : Piece) → change.decision ≡ undecided
+    → IsInstalled first log at change fresh fits base p → decision_in p ≡ undecided
+installed_fresh first log at change fresh fits base p unset (inl h) = ap decision_in h.1 ∙ unset
+installed_fresh first log at change fresh (a_put f) base p unset (inr h) = ap decision_in h.1
+installed_fresh first log at change fresh (a_pair f) base p unset (inr (inl h)) = ap decision_in h.1
+    ∙ pair_fresh change.key f.leaf f.other_key f.other
+installed_fresh first log at change fresh (a_pair f) base p unset (inr (inr h)) = ap decision_in h.1
+installed_fresh first log at change fresh (a_remove f) base p unset (inr h) = absurd h
+installed_fresh first log at change fresh (a_start f) base p unset (inr h) = ap decision_in h.1
+installed_fresh first log at change fresh (a_finish f) base p unset (inr h) = absurd h
+
+tree_fresh : (ps : Pieces) (rows : List ℕ) (base : ℕ) (p : Piece) → Each (IsTreeRow ps) rows
+    → Among base rows → ps base ≡ Some p → decision_in p ≡ undecided
+tree_fresh ps rows base p all i e = let it = each-among (IsTreeRow ps) base rows all i in known
+    (λ x. decision_in x ≡ undecided) (ps base) p (Inner it.row) e it.published refl
+
+-- ---- what each write does to a change
+
+-- a change after the write is one before it
+abbrev Keeps : (Piece → Piece) → Type 0
+Keeps f = (p : Piece) (r : ChangeRow) → f p ≡ Change r → p ≡ Change r
+
+slot_keeps : (i word : ℕ) → Keeps (with_slot i word)
+slot_keeps i word (Inner r) s e = absurd (cc)
+slot_keeps i word (Leaf r) s e = e
+slot_keeps i word (Change r) s e = e
+slot_keeps i word (Rebuild r) s e = e
+
+status_keeps : (status : ℕ) → Keeps (with_status status)
+status_keeps status (Inner r) s e = absurd (cc)
+status_keeps status (Leaf r) s e = e
+status_keeps status (Change r) s e = e
+status_keeps status (Rebuild r) s e = e
+
+root_keeps : (word : ℕ) → Keeps (with_root word)
+root_keeps word (Inner r) s e = e
+root_keeps word (Leaf r) s e = e
+root_keeps word (Change r) s e = e
+root_keeps word (Rebuild r) s e = absurd (cc)
+
+counted_keeps : Keeps counted
+counted_keeps (Inner r) s e = absurd (cc)
+counted_keeps (Leaf r) s e = e
+counted_keeps (Change r) s e = e
+counted_keeps (Rebuild r) s e = e
+
+drawn_keeps : Keeps drawn
+drawn_keeps (Inner r) s e = e
+drawn_keeps (Leaf r) s e = e
+drawn_keeps (Change r) s e = e
+drawn_keeps (Rebuild r) s e = absurd (cc)
+
+-- ---- an event
+
+-- each decided change of the second was the same in the first
+abbrev DecidedCame : Pieces → Pieces → Type 0
+DecidedCame ps qs = (base : ℕ) (r : ChangeRow) → qs base ≡ Some (Change r) → r.decision ≢ undecided
+    → ps base ≡ Some (Change r)
+
+came_changed : (ps xs qs : Pieces) (at : ℕ) (f : Piece → Piece) → qs ≡ changed_at xs at f → Keeps f
+    → DecidedCame ps xs → DecidedCame ps qs
+came_changed ps xs qs at f pieces keeps old base r e d =
+    let it = changed_at-some xs at base f (Change r) (subst (λ ys. ys base ≡ Some (Change r)) pieces
+    e) in
+    ⊎_elim
+    (λ k. old base r (it.1 ∙ ap (λ x. Some x) (sym k)) d)
+    (λ k. old base r (it.1 ∙ ap (λ x. Some x) (keeps it.0 r (sym k.1))) d)
+    it.2
+
+came_added : (ps qs : Pieces)
+    → ((base : ℕ) (q : Piece) → qs base ≡ Some q → (ps base ≡ Some q) ⊎ (decision_in q ≡ undecided))
+    → DecidedCame ps qs
+came_added ps qs from base r e d = ⊎_elim (λ k. k) (λ k. absurd (d k)) (from base (Change r) e)
+
+-- only a Decide decides a change
+pub came_step : (first : Snapshot) (log : Log) (event : Event) → Enabled first log event
+    → HeldLieApart (state first log) → ((c b : ℕ) (x : Bool) → event ≢ Decide c b x)
+    → DecidedCame (state first log).pieces (state first (event ∷ log)).pieces
+came_step first log (Install caller base rows) h s other =
+    let t = state first log in
+    let qs = with_installed t.pieces base h.change h.fresh in
+    let adds = adds_install first log caller base h.change h.fresh h.fits
+    (holds_installed first log caller base rows h) s in
+    came_changed t.pieces qs (after t (Install caller base rows)).pieces h.change.node
+    (with_slot h.change.index (word_of (ChangeAt base)))
+    (ap (λ xs. (after t (Install caller base xs)).pieces) h.rows_are)
+    (slot_keeps h.change.index (word_of (ChangeAt base)))
+    (came_added t.pieces qs (λ b q e. ⊎_elim (λ k. inl k)
+    (λ k. inr (installed_fresh first log base h.change h.fresh h.fits b q h.unset k))
+    (adds.from b q e)))
+came_step first log (Resolve caller base) h s other =
+    came_changed (state first log).pieces (state first log).pieces
+    (after (state first log) (Resolve caller base)).pieces h.change.node
+    (with_slot h.change.index (side_of h.change))
+    (ap (λ u. u.pieces) (rows_resolved (state first log) caller base h))
+    (slot_keeps h.change.index (side_of h.change)) (λ b r e d. e)
+came_step first log (Root caller at word rows) h s other =
+    let t = state first log in
+    let qs = with_inners t.pieces rows in
+    let adds = adds-with_inners t caller rows h.held s in
+    let tree = root_tree qs word h.k h.leaves h.row.target (bases_of rows) h.root in
+    came_changed t.pieces qs (changed_at qs at (with_root word)) at (with_root word) refl
+    (root_keeps word)
+    (came_added t.pieces qs (λ b q e. ⊎_elim (λ k. inl k)
+    (λ k. inr (tree_fresh qs (bases_of rows) b q (tree_rows qs tree.0 h.row.target
+    (bases_of rows) tree.2) k e)) (adds.from b q e)))
+came_step first log (Place caller at i word rows) h s other =
+    let t = state first log in
+    let qs = with_inners t.pieces rows in
+    let adds = adds-with_inners t caller rows h.held s in
+    let tree = tree_of_ideal qs h.ref h.part h.root (bases_of rows) h.ideal in
+    came_changed t.pieces qs (after t (Place caller at i word rows)).pieces h.root
+    (with_slot i word) (rows_placed t caller at i word rows h) (slot_keeps i word)
+    (came_added t.pieces qs (λ b q e. ⊎_elim (λ k. inl k)
+    (λ k. inr (tree_fresh qs (bases_of rows) b q (tree_rows qs h.ref h.root (bases_of rows)
+    tree) k e)) (adds.from b q e)))
+came_step first log (Draw caller at part) h s other = came_changed (state first log).pieces
+    (state first log).pieces _ at drawn refl drawn_keeps (λ b r e d. e)
+came_step first log (Count caller at) h s other = came_changed (state first log).pieces
+    (state first log).pieces _ at counted refl counted_keeps (λ b r e d. e)
+came_step first log (Decide caller base said) h s other = absurd (other caller base said refl)
+came_step first log (Mark caller at) h s other = came_changed (state first log).pieces
+    (state first log).pieces _ at (with_status marked_word) refl (status_keeps marked_word)
+    (λ b r e d. e)
+came_step first log (Finish caller at keys) h s other = came_changed (state first log).pieces
+    (state first log).pieces _ at (with_status (finished_word keys)) refl
+    (status_keeps (finished_word keys)) (λ b r e d. e)
+came_step first log (Enter caller) h s other = λ b r e d. e
+came_step first log (Reserve caller base size) h s other = λ b r e d. e
+came_step first log (Okay caller base) h s other = λ b r e d. e
+came_step first log (Pass caller at i word) h s other = λ b r e d. e
+came_step first log (Lose caller bases) h s other = λ b r e d. e
+
+-- a change after a Decide was the same before, or is the decided one
+pub came_decided : (first : Snapshot) (log : Log) (caller base : ℕ) (said : Bool)
+    → (h : CanDecide (state first log) log caller base said) → (b : ℕ) (r : ChangeRow)
+    → (state first (Decide caller base said ∷ log)).pieces b ≡ Some (Change r)
+    → ((state first log).pieces b ≡ Some (Change r))
+    ⊎ ((b ≡ base) × (r ≡ record (h.change) { decision = decision_word said }))
+came_decided first log caller base said h b r e =
+    let t = state first log in
+    let it = changed_at-some t.pieces base b (with_decision (decision_word said)) (Change r) e in
+    ⊎_elim
+    (λ k. inl (it.1 ∙ ap (λ x. Some x) (sym k)))
+    (λ k. inr (k.0, same (t.pieces b) it.0 it.1 (ap t.pieces k.0 ∙ h.pending.published) (sym k.1)))
+    it.2
+  where
+    same : (o : Option Piece) (p : Piece) → o ≡ Some p → o ≡ Some (Change h.change) → with_decision
+        (decision_word said) p ≡ Change r
+        → r ≡ record (h.change) { decision = decision_word said }
+    same o p e f g =
+        let is : p ≡ Change h.change = cc in
+        let made : Change record (h.change) { decision = decision_word said } ≡ Change r = ap
+        (with_decision (decision_word said)) (sym is) ∙ g in
+        cc
+
+decided_as : ℕ → ChangeRow → ChangeRow
+decided_as decision r = record r { decision = decision }
+
+-- a decided change stays as it is
+pub decided_stays : (first : Snapshot) (log : Log) (event : Event) → Enabled first log event
+    → HeldLieApart (state first log) → (base : ℕ) (r : ChangeRow) → (state first log).pieces base
+    ≡ Some (Change r)
+    → r.decision ≢ undecided → (state first (event ∷ log)).pieces base ≡ Some (Change r)
+unfolding decided_as
+decided_stays first log event h s base r e d =
+    let on = change_there (state first log).pieces (state first (event ∷ log)).pieces
+    (grow_step first log event h s) base r e in
+    let grown = on.2 in
+    let same : on.0 ≡ r = ap (λ x. decided_as x on.0) (grown.decided d) ∙ ap (decided_as r.decision)
+    grown.others in
+    on.1 ∙ ap (λ x. Some (Change x)) same

@@ -1,0 +1,154 @@
+-- The state after an event, in the cases of the code. Serves `advancing.rt`.
+use Rattle.std.proofs.Common.{
+  ◌≡◌,
+  ◌≢◌,
+  ◌∙◌,
+  ℕ,
+  Bool,
+  true,
+  false,
+  List,
+  [],
+  ◌∷◌,
+  Option,
+  Some,
+  None,
+  refl,
+  sym,
+  ap,
+  subst,
+}
+use Rattle.ist_core.specs.declared.pairs.Pair.{Pair}
+use Rattle.ist_core.specs.declared.lists.Row.{Row}
+use Rattle.ist_core.specs.declared.states.ChangeRow.{ChangeRow}
+use Rattle.ist_core.specs.declared.states.RebuildRow.{RebuildRow}
+use Rattle.ist_core.specs.declared.events.Event.{Event}
+use Rattle.ist_core.specs.declared.events.Event.TheVariants.{Enter, Reserve, Install, Okay, Decide, Resolve, Count, Mark, Pass, Finish, Root, Draw, Place, Lose}
+use Rattle.ist_core.specs.References.{InnerAt, ref_of}
+use Rattle.ist_core.specs.Pieces.{Pieces, change_of, changed_at, with_slot, with_decision}
+use Rattle.ist_core.specs.Snapshots.{Snapshot, bases_of, without}
+use Rattle.ist_core.specs.After.{after, decision_word, with_change, installed, with_part, placed}
+use Rattle.ist_core.specs.Logs.{Log}
+use Rattle.ist_core.specs.Lawful.{Lawful}
+use Rattle.check_events.specs.declared.replicas.Replica.{Replica}
+use Rattle.check_events.specs.Mirroring.{Mirrors}
+use Rattle.check_state.specs.Advancing.{TakesNoRows}
+
+-- the event is the one that was matched
+pub by_event : (r : Replica) (t : Snapshot) (e f : Event) → e ≡ f → Mirrors r (after t f)
+    → Mirrors r (after t e)
+by_event r t e f is h = subst (λ x. Mirrors r (after t x)) (sym is) h
+
+-- what is right after the event that was matched is right after the event
+pub at_event : (pairs : List Pair) (words : ℕ) (log : Log) (Right : Log → Type 0) (e f : Event) → e
+    ≡ f
+    → Lawful pairs words (e ∷ log) → (Lawful pairs words (f ∷ log) → Right (f ∷ log))
+    → Right (e ∷ log)
+at_event pairs words log Right e f is law right =
+    subst (λ x. Right (x ∷ log)) (sym is) (right (subst (λ x. Lawful pairs words (x ∷ log)) is law))
+
+-- an event that isn't one of those that take rows takes none
+pub takes_none : (e : Event) → ((c b n : ℕ) → e ≢ Reserve c b n)
+    → ((c x : ℕ) (rows : List Row) → e ≢ Install c x rows)
+    → ((c r w : ℕ) (rows : List Row) → e ≢ Root c r w rows)
+    → ((c r i w : ℕ) (rows : List Row) → e ≢ Place c r i w rows)
+    → ((c : ℕ) (bases : List ℕ) → e ≢ Lose c bases) → TakesNoRows e
+takes_none (Reserve c b n) reserve install root place lose = absurd (reserve c b n refl)
+takes_none (Install c x rows) reserve install root place lose = absurd (install c x rows refl)
+takes_none (Root c r w rows) reserve install root place lose = absurd (root c r w rows refl)
+takes_none (Place c r i w rows) reserve install root place lose = absurd (place c r i w rows refl)
+takes_none (Lose c bases) reserve install root place lose = absurd (lose c bases refl)
+takes_none (Enter c) reserve install root place lose = tt
+takes_none (Okay c x) reserve install root place lose = tt
+takes_none (Decide c x said) reserve install root place lose = tt
+takes_none (Resolve c x) reserve install root place lose = tt
+takes_none (Count c n) reserve install root place lose = tt
+takes_none (Mark c n) reserve install root place lose = tt
+takes_none (Pass c n i w) reserve install root place lose = tt
+takes_none (Finish c n k) reserve install root place lose = tt
+takes_none (Draw c r i) reserve install root place lose = tt
+
+-- of those that take no rows, an Okay and a Pass write nothing
+module _ (r : Replica) (t : Snapshot) where
+  -- an event of no kind that writes leaves the replica right
+  pub nothing_written : (e : Event) → ((c : ℕ) → e ≢ Enter c)
+      → ((c x : ℕ) (said : Bool) → e ≢ Decide c x said) → ((c x : ℕ) → e ≢ Resolve c x)
+      → ((c n : ℕ) → e ≢ Count c n) → ((c n : ℕ) → e ≢ Mark c n)
+      → ((c n k : ℕ) → e ≢ Finish c n k) → ((c b i : ℕ) → e ≢ Draw c b i)
+      → TakesNoRows e → Mirrors r t → Mirrors r (after t e)
+  nothing_written (Enter c) enter decide resolve count mark finish draw none h = absurd (enter c refl)
+  nothing_written (Decide c x said) enter decide resolve count mark finish draw none h =
+      absurd (decide c x said refl)
+  nothing_written (Resolve c x) enter decide resolve count mark finish draw none h =
+      absurd (resolve c x refl)
+  nothing_written (Count c n) enter decide resolve count mark finish draw none h =
+      absurd (count c n refl)
+  nothing_written (Mark c n) enter decide resolve count mark finish draw none h =
+      absurd (mark c n refl)
+  nothing_written (Finish c n k) enter decide resolve count mark finish draw none h =
+      absurd (finish c n k refl)
+  nothing_written (Draw c b i) enter decide resolve count mark finish draw none h =
+      absurd (draw c b i refl)
+  nothing_written (Okay c x) enter decide resolve count mark finish draw none h = h
+  nothing_written (Pass c n i w) enter decide resolve count mark finish draw none h = h
+  nothing_written (Reserve c b n) enter decide resolve count mark finish draw none h = absurd none
+  nothing_written (Install c x rows) enter decide resolve count mark finish draw none h = absurd none
+  nothing_written (Root c b w rows) enter decide resolve count mark finish draw none h = absurd none
+  nothing_written (Place c b i w rows) enter decide resolve count mark finish draw none h = absurd none
+  nothing_written (Lose c bases) enter decide resolve count mark finish draw none h = absurd none
+
+-- an Install holds as much as before, until its rows are taken away
+pub held_installed : (t : Snapshot) (base : ℕ) (rows : List Row) → (installed t base rows).held
+    ≡ t.held
+held_installed t base [] = refl
+held_installed t base (row ∷ fresh) = at (change_of row.words)
+  where
+    at : (o : Option ChangeRow) → (with_change t base fresh o).held ≡ t.held
+    at None = refl
+    at (Some change) = refl
+
+-- the held rows are taken away from what they were before the Install
+pub installed_given_up : (r : Replica) (t : Snapshot) (base : ℕ) (rows gone : List Row) → gone
+    ≡ rows
+    → Mirrors r (record (installed t base rows) {
+      held = without (bases_of gone)
+          (installed t base rows).held;
+    })
+    → Mirrors r (record (installed t base rows) { held = without (bases_of rows) t.held })
+installed_given_up r t base rows gone same h =
+    subst (λ xs. Mirrors r (record (installed t base rows) { held = without (bases_of rows) xs }))
+    (held_installed t base rows)
+    (subst (λ xs. Mirrors r (record (installed t base rows) {
+      held = without (bases_of xs)
+          (installed t base rows).held;
+    })) same h)
+
+-- the word of a decision
+pub decided_so : (r : Replica) (t : Snapshot) (base word : ℕ) (said : Bool) → word ≡ decision_word
+    said
+    → Mirrors r (record t { pieces = changed_at t.pieces base (with_decision word) })
+    → Mirrors r (record t {
+      pieces = changed_at t.pieces base (with_decision (decision_word said));
+    })
+decided_so r t base word said e h = subst
+    (λ w. Mirrors r (record t { pieces = changed_at t.pieces base (with_decision w) })) e h
+
+-- the word of a yes
+pub yes_word : (word : ℕ) (said : Bool) → said ≡ true → word ≡ 1 → word ≡ decision_word said
+yes_word word said e is = is ∙ ap decision_word (sym e)
+
+-- the word of a no
+pub no_word : (word : ℕ) (said : Bool) → said ≡ false → word ≡ 2 → word ≡ decision_word said
+no_word word said e is = is ∙ ap decision_word (sym e)
+
+-- ---- a Place
+
+module _ (r : Replica) (t : Snapshot) (qs : Pieces) (part word : ℕ) (o : Option RebuildRow) where
+  -- the word is in the slot of the root
+  pub placed_some : (row : RebuildRow) (root : ℕ) → o ≡ Some row → ref_of row.root
+      ≡ Some (InnerAt root)
+      → Mirrors r (record t { pieces = changed_at qs root (with_slot part word) })
+      → Mirrors r (record t { pieces = placed qs o part word })
+  placed_some row root e names h =
+      subst (λ x. Mirrors r (record t { pieces = placed qs x part word })) (sym e)
+      (subst (λ ref. Mirrors r (record t { pieces = with_part qs ref part word })) (sym names) h)

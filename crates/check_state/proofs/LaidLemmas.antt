@@ -1,0 +1,152 @@
+-- What one part more adds to a list made by an index, and to the rows of a new table. Serves `opening.rt`.
+use Rattle.std.proofs.Common.{◌≡◌, ◌∙◌, ◌+◌, ◌-◌, ◌<◌, ◌≤◌, ℕ, List, [], ◌∷◌, ◌++◌, length, map, get_or, Some, None, sym, ap, subst, arith}
+use Rattle.std.specs.List.{range_with_len}
+use Rattle.std.proofs.lemmas.List.FromFn.{map-range_with_len_more}
+use Rattle.ist_core.specs.declared.pairs.Pair.{Pair}
+use Rattle.ist_core.specs.declared.states.InnerRow.{InnerRow}
+use Rattle.ist_core.specs.Arithmetic.{degree, part_len}
+use Rattle.ist_core.specs.RowLayout.{first_row}
+use Rattle.ist_core.specs.References.{word_of}
+use Rattle.ist_core.specs.Pieces.{Piece, Leaf, Inner, with_row}
+use Rattle.ist_core.specs.Snapshots.{Snapshot}
+use Rattle.ist_core.specs.StartLayout.{tree_at, placed_parts, top_row, rows_within, rows_from, pieces_of}
+use Rattle.check_events.specs.declared.replicas.Replica.{Replica}
+use Rattle.check_events.specs.Mirroring.{Mirrors}
+use Rattle.ist_image.specs.Placing.{part_of, part_base, rows_behind}
+use Rattle.ist_image.proofs.PlacingLemmas.{rows_from-many, rows_behind-first, rows_behind-last}
+use Rattle.ist_image.proofs.PlacedLemmas.{length-part_of, slots_are}
+use Rattle.check_state.specs.Laying.{with_pieces, Publishes}
+use Rattle.check_state.proofs.LayingLemmas.{with_pieces-none, with_pieces-append}
+
+-- a list made by an index, with one more
+pub made_more : (f : ℕ → ℕ) (a j here x : ℕ) (old new : List ℕ) → old ≡ map f (range_with_len a j)
+    → new ≡ old ++ x ∷ [] → a + j ≡ here → x ≡ f here → new ≡ map f (range_with_len a (j + 1))
+made_more f a j here x old new e i at v =
+    i ∙ ap (λ xs. xs ++ x ∷ []) e ∙ ap (λ y. map f (range_with_len a j) ++ y ∷ []) v
+    ∙ sym (map-range_with_len_more f a j here at)
+
+-- ---- slots
+
+-- the words for the trees of the first j parts, whatever the pairs are
+abbrev pub SlotsTo : ℕ → ℕ → ℕ → List ℕ → Type 0
+SlotsTo base n j slots =
+    (pairs : List Pair) → length pairs ≡ n
+    → slots ≡ map (λ i. word_of (tree_at (part_base base n i) (part_of pairs i)))
+    (range_with_len 0 j)
+
+-- the word for the tree of one part more
+pub slot_more : (base : ℕ) {n j at len word : ℕ} {old new : List ℕ} → j < degree n
+    → at ≡ part_base base n j → len ≡ part_len n j
+    → ((pairs : List Pair) → length pairs ≡ len → word ≡ word_of (tree_at at pairs))
+    → new ≡ old ++ word ∷ [] → SlotsTo base n j old → SlotsTo base n (j + 1) new
+slot_more base {n = n} {j = j} {word = word} {old = old} {new = new} below e i is pushed
+    so_far pairs long =
+    made_more (λ i. word_of (tree_at (part_base base n i) (part_of pairs i))) 0 j j word old new
+    (so_far pairs long) pushed (omega arith)
+    (is (part_of pairs j) (length-part_of pairs n j long below ∙ sym i)
+    ∙ ap (λ b. word_of (tree_at b (part_of pairs j))) e)
+
+-- the words of all parts are the slots of the top row
+pub slots_whole : (base : ℕ) {n j : ℕ} {slots : List ℕ} → j ≡ degree n → SlotsTo base n j slots
+    → (pairs : List Pair) → length pairs ≡ n
+    → slots ≡ map (λ part. word_of (tree_at part.0 part.1)) (placed_parts base pairs)
+slots_whole base {n = n} end all pairs long =
+    all pairs long
+    ∙ ap (λ d. map (λ i. word_of (tree_at (part_base base n i) (part_of pairs i)))
+    (range_with_len 0 d)) end
+    ∙ slots_are base n pairs long
+
+-- ---- rows
+
+-- the rows of the last part and those after it
+laid_in_front : (r : Replica) (t : Snapshot) (base at j : ℕ) (pairs part : List Pair)
+    → j < degree (length pairs)
+    → at ≡ part_base base (length pairs) j → part ≡ part_of pairs j
+    → Mirrors r (record t {
+      pieces = with_pieces
+          (with_pieces t.pieces (rows_behind base pairs (j + 1))) (rows_from at part);
+    })
+    → Mirrors r (record t { pieces = with_pieces t.pieces (rows_behind base pairs j) })
+laid_in_front r t base at j pairs part h e i m =
+    let behind = rows_behind base pairs (j + 1) in
+    subst (λ ps. Mirrors r (record t { pieces = ps }))
+    (ap (λ b. with_pieces (with_pieces t.pieces behind) (rows_from b part)) e
+    ∙ ap (λ xs. with_pieces (with_pieces t.pieces behind)
+    (rows_from (part_base base (length pairs) j) xs)) i
+    ∙ sym (with_pieces-append t.pieces (rows_from (part_base base (length pairs) j)
+    (part_of pairs j)) behind)
+    ∙ ap (with_pieces t.pieces) (sym (rows_behind-first base pairs j h)))
+    m
+
+-- the rows of the parts from part j on, and then those of the part before them
+pub part_laid : (base : ℕ) (pairs : List Pair) {r s u : Replica} {at j : ℕ} {part : List Pair} → 0 < j
+    → j ≤ degree (length pairs) → at ≡ part_base base (length pairs) (j - 1)
+    → part ≡ part_of pairs (j - 1) → Publishes r s (rows_behind base pairs j)
+    → Publishes s u (rows_from at part) → Publishes r u (rows_behind base pairs (j - 1))
+part_laid base pairs {s = s} {u = u} {at = at} {j = j} {part = part} some most e i so_far here t m =
+    let next : j ≡ j - 1 + 1 = omega arith in
+    let there = subst (λ k. Mirrors s (record t {
+      pieces = with_pieces t.pieces (rows_behind base pairs k);
+    })) next (so_far t m) in
+    laid_in_front u t base at (j - 1) pairs part (omega arith) e i
+    (here (record t { pieces = with_pieces t.pieces (rows_behind base pairs (j - 1 + 1)) }) there)
+
+-- after the last part nothing is published
+pub none_laid : (base : ℕ) (pairs : List Pair) {r : Replica} {d : ℕ} → d ≡ degree (length pairs)
+    → Publishes r r (rows_behind base pairs d)
+none_laid base pairs {r = r} e t m =
+    subst (λ rows. Mirrors r (record t { pieces = with_pieces t.pieces rows }))
+    (sym (ap (rows_behind base pairs) e ∙ rows_behind-last base pairs)) m
+
+-- the top row is published last
+pub top_laid : (base : ℕ) (pairs : List Pair) {r s u : Replica} {row : InnerRow}
+    → 2 ≤ length pairs → Inner row ≡ top_row base pairs
+    → Publishes r s (rows_behind base pairs 0)
+    → ((t : Snapshot) → Mirrors s t
+    → Mirrors u (record t { pieces = with_row t.pieces base (Some (Inner row)) }))
+    → Publishes r u (rows_from base pairs)
+top_laid base pairs {u = u} two e parts put t m =
+    let behind = rows_behind base pairs 0 in
+    subst (λ rows. Mirrors u (record t { pieces = with_pieces t.pieces rows }))
+    (sym (rows_from-many base pairs two))
+    (subst (λ p. Mirrors u (record t {
+      pieces = with_row (with_pieces t.pieces behind) base (Some p);
+    })) e (put (record t { pieces = with_pieces t.pieces behind }) (parts t m)))
+
+-- the one row of a pair, and none of no pair
+pub leaf_laid : (base : ℕ) (pairs : List Pair) (default : Pair) {r s : Replica} → length pairs ≡ 1
+    → ((t : Snapshot) → Mirrors r t → Mirrors s (record t {
+      pieces = with_row t.pieces base
+          (Some (Leaf record {
+            key = (get_or pairs 0 default).key;
+            value = (get_or pairs 0 default).value;
+          }));
+    }))
+    → Publishes r s (rows_from base pairs)
+unfolding rows_within
+leaf_laid base [] default one put t m = absurd (omega arith)
+leaf_laid base (p ∷ []) default one put t m = put t m
+leaf_laid base (p ∷ q ∷ pairs) default one put t m = absurd (omega arith)
+
+-- for no pairs nothing is published
+pub nothing_laid : (base : ℕ) (pairs : List Pair) {r : Replica} → length pairs < 1
+    → Publishes r r (rows_from base pairs)
+unfolding rows_within
+nothing_laid base [] none t m = m
+nothing_laid base (p ∷ pairs) none t m = absurd (omega arith)
+
+-- the rows of a whole table
+all_laid : (r : Replica) (t : Snapshot) (rows : List (ℕ × Piece))
+    → Mirrors r (record t { pieces = with_pieces (λ base. None) rows })
+    → Mirrors r (record t { pieces = pieces_of rows })
+all_laid r t rows m = subst (λ ps. Mirrors r (record t { pieces = ps })) (with_pieces-none rows) m
+
+-- a whole table, if the rows were published from the first row of a table on
+pub opened : (r : Replica) (t : Snapshot) (first : ℕ) (pairs : List Pair) → first ≡ first_row
+    → Mirrors r (record t { pieces = with_pieces (λ base. None) (rows_from first pairs) })
+    → Mirrors r (record t { pieces = pieces_of (rows_from first_row pairs) })
+opened r t first pairs e m =
+    all_laid r t (rows_from first_row pairs)
+    (subst (λ base. Mirrors r (record t {
+      pieces = with_pieces (λ at. None) (rows_from base pairs);
+    })) e m)

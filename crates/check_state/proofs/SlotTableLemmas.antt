@@ -1,0 +1,203 @@
+-- What a table of slots says of a lawful log, and what follows from its entries. Serves
+-- `linking.rt`.
+use Rattle.std.proofs.Common.{
+  ◌≡◌,
+  ◌↔◌,
+  ◌≤◌,
+  ℕ,
+  List,
+  [],
+  ◌∷◌,
+  Option,
+  Some,
+  None,
+  refl,
+  sym,
+  subst,
+  inl,
+  inr,
+  ⊎_elim,
+  arith,
+}
+use Rattle.std.proofs.lemmas.Grind.{common_steps}
+use Rattle.std.specs.Ordering.{nat_cmp}
+use Rattle.std.specs.BTreeMap as tree
+use Rattle.std.specs.BTreeMap.{BTreeMap}
+use Rattle.ist_core.specs.declared.pairs.Pair.{Pair}
+use Rattle.ist_core.specs.RowLayout.{anchor}
+use Rattle.ist_core.specs.Snapshots.{Snapshot}
+use Rattle.ist_core.specs.StartLayout.{start}
+use Rattle.ist_core.specs.Logs.{Log, GoesOn, same_log, one_event, Ever, state}
+use Rattle.ist_core.specs.Links.{IsChild, Linked, at_anchor, below}
+use Rattle.ist_core.specs.Lawful.{CanOpen, EachEnabled, state_of}
+use Rattle.ist_core.proofs.FateLemmas.{enabled_before}
+use Rattle.ist_core.proofs.HomeLemmas.{mentioned_here}
+use Rattle.ist_core.proofs.MentionLemmas.{child_mentioned, one_parent}
+use Rattle.ist_core.proofs.NamingLemmas.{WordsName}
+use Rattle.ist_core.proofs.OrderLemmas.{names, child_above}
+use Rattle.ist_core.proofs.PlaceLemmas.{anchor_free}
+use Rattle.ist_core.proofs.SlotLemmas.{anchor_slot}
+use Rattle.check_events.specs.declared.pasts.Slot.{Slot}
+use Rattle.check_events.specs.Remembering.{WasChild, SlotsRise, KnowsSlots}
+use Rattle.check_state.specs.Hanging.{Hangs, hangs_here, HasSlot, AddsSlots, HangsOnce}
+use Rattle.check_state.proofs.HangingLemmas.{hangs_child, hangs_linked, hangs_on}
+
+-- what held at some moment held after a prefix of the log
+ever_before : (first : Snapshot) (P : Snapshot → Type 0) (log : Log) → Ever first P log
+    → (earlier : Log) × GoesOn earlier log × P (state first earlier)
+ever_before first P [] h = ([], same_log, h)
+ever_before first P (event ∷ log) (inl h) = (event ∷ log, same_log, h)
+ever_before first P (event ∷ log) (inr h) =
+    let it = ever_before first P log h in (it.0, one_event event it.1, it.2)
+
+-- what is so now was so at some moment
+pub ever_now : (first : Snapshot) (P : Snapshot → Type 0) (log : Log) → P (state first log)
+    → Ever first P log
+ever_now first P [] h = h
+ever_now first P (event ∷ log) h = inl h
+
+-- ---- no entries
+
+-- `None` isn't some slot
+no_entry : {o : Option Slot} (slot : Slot) → o ≡ None → o ≡ Some slot → ⊥
+no_entry slot none e = cc
+
+-- an empty table has no slot
+pub empty_table : (empty : BTreeMap ℕ Slot) → tree.IsEmpty empty → (child : ℕ)
+    → tree.get nat_cmp empty child ≡ None
+empty_table empty none child = grind (arith, common_steps)
+
+-- ---- entries
+
+module _ (pairs : List Pair) (words : ℕ) (opens : CanOpen pairs words) where
+  -- the state after a log
+  abbrev behind : Log → Snapshot
+  behind log = state_of pairs words log
+
+  -- each entry of the table is of a row that was linked
+  abbrev pub AreOfLinked : BTreeMap ℕ Slot → Log → Type 0
+  AreOfLinked slots log =
+      (child : ℕ) (slot : Slot) → tree.get nat_cmp slots child ≡ Some slot
+      → WasChild (start pairs words) log slot.node slot.index child
+
+  -- each entry of the right table is for a row that was linked
+  pub of_linked : (slots : BTreeMap ℕ Slot) (log : Log) → KnowsSlots slots (start pairs words) log
+      → AreOfLinked slots log
+  of_linked slots log known child slot e = (known.entries slot.node slot.index child).0 e
+
+  -- after an enabled log logical children hang once, and a table of slots that is right for a
+  -- prefix of it has no other slot for them
+  pub hangs_once : (earlier log : Log) → GoesOn earlier log → EachEnabled (start pairs words) log
+      → (slots : BTreeMap ℕ Slot)
+      → AreOfLinked slots earlier → HangsOnce slots (behind log)
+  hangs_once earlier log on h slots of =
+      record {
+        anchor_free = anchor_free pairs words log h;
+        rows = λ node i child c. mentioned_here t node i child o (child_mentioned t node i child o
+            c);
+        above = λ node i child c. child_above t node i child o c;
+        one = one_parent pairs words opens log log same_log h;
+        told = λ node i child slot c e.
+            let was =
+            ever_before (start pairs words)
+            (λ u. Linked u slot.node × IsChild u slot.node slot.index child) earlier
+            (of child slot e) in
+            let same =
+            one_parent pairs words opens was.0 log (longer was.0 earlier log was.1 on) h
+            slot.node slot.index node i child was.2.1 c in
+            at node i slot same.0 same.1;
+      }
+    where
+      t : Snapshot
+      t = behind log
+
+      o : WordsName (behind log)
+      o = names pairs words opens log h
+
+      at : (n i : ℕ) (slot : Slot) → slot.node ≡ n → slot.index ≡ i
+          → slot ≡ record { node = n; index = i }
+      at n i slot a b =
+          let P : ℕ → ℕ → Type 0 = λ x y. slot ≡ record { node = x; index = y } in
+          subst (P n) b (subst (λ x. P x slot.index) a refl)
+
+      longer : (a b c : Log) → GoesOn a b → GoesOn b c → GoesOn a c
+      longer a b _ g same_log = g
+      longer a b _ g (one_event event k) = one_event event (longer a b _ g k)
+
+  -- a linked node lies no lower than the anchor
+  linked_high : (log : Log) → EachEnabled (start pairs words) log → (node : ℕ)
+      → Linked (behind log) node
+      → anchor ≤ node
+  linked_high log h _ at_anchor = omega arith
+  linked_high log h _ (below {node = node} {child = child} i l c) =
+      let low = linked_high log h node l in
+      let up = child_above (behind log) node i child (names pairs words opens log h) c in
+      omega arith
+
+  -- the slots of rows that were linked are of lower nodes
+  rises : (log : Log) → EachEnabled (start pairs words) log → (slots : BTreeMap ℕ Slot)
+      → AreOfLinked slots log → SlotsRise slots
+  rises log h slots of child slot e =
+      let was =
+      ever_before (start pairs words)
+      (λ u. Linked u slot.node × IsChild u slot.node slot.index child) log (of child slot e) in
+      let all = enabled_before (start pairs words) was.0 log was.1 h in (
+        linked_high was.0 all slot.node was.2.0,
+        child_above (behind was.0) slot.node slot.index child
+            (names pairs words opens was.0 all) was.2.1,
+      )
+
+  -- a table with the right entries is the right one
+  pub knows : (log : Log) → EachEnabled (start pairs words) log → (slots : BTreeMap ℕ Slot)
+      → ((node i child : ℕ)
+      → HasSlot slots node i child ↔ WasChild (start pairs words) log node i child)
+      → KnowsSlots slots (start pairs words) log
+  knows log h slots entries =
+      record {
+        entries = entries;
+        rises = rises log h slots (λ child slot e. (entries slot.node slot.index child).0 e);
+      }
+
+  -- ---- a new table
+
+  -- with no slots in the table the logical children of a new table hang once
+  pub once_at_start : (empty : BTreeMap ℕ Slot)
+      → ((child : ℕ) → tree.get nat_cmp empty child ≡ None)
+      → HangsOnce empty (start pairs words)
+  once_at_start empty none =
+      hangs_once [] [] same_log tt empty (λ child slot e. absurd (no_entry slot (none child) e))
+
+  -- what is linked hangs below the anchor's slot
+  hangs_from_anchor : (t : Snapshot) → t.pieces anchor ≡ None → (node i child : ℕ) → Linked t node
+      → IsChild t node i child
+      → Hangs t anchor 0 node i child
+  hangs_from_anchor t free _ i child at_anchor c =
+      let one = anchor_slot t anchor i c.word free c.holds refl in
+      subst (λ j. Hangs t anchor 0 anchor j child) (sym one)
+      (hangs_here (subst (λ j. IsChild t anchor j child) one c))
+  hangs_from_anchor t free _ i child (below {node = node} {child = row} k l d) c =
+      hangs_on t anchor 0 node k row i child (hangs_from_anchor t free node k row l d) c
+
+  -- the slots below the anchor are the slots of a new table
+  pub knows_start : (empty slots : BTreeMap ℕ Slot)
+      → ((child : ℕ) → tree.get nat_cmp empty child ≡ None)
+      → AddsSlots empty slots (Hangs (start pairs words) anchor 0)
+      → KnowsSlots slots (start pairs words) []
+  knows_start empty slots none adds =
+      knows [] tt slots
+      (λ node i child. (
+        (λ e. ⊎_elim (λ o. absurd (no_entry (record { node = node; index = i }) (none child) o))
+            (λ p. linked node i child p) ((adds node i child).0 e)),
+        (λ h. (adds node i child).1
+            (inr (hangs_from_anchor t (anchor_free pairs words [] tt) node i child h.0 h.1))),
+      ))
+    where
+      t : Snapshot
+      t = start pairs words
+
+      linked : (node i child : ℕ) → Hangs (start pairs words) anchor 0 node i child
+          → Linked (start pairs words) node × IsChild (start pairs words) node i child
+      linked node i child p = (
+        hangs_linked t anchor 0 node i child at_anchor p,
+        hangs_child t anchor 0 node i child p,
+      )

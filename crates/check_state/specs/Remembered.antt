@@ -1,0 +1,34 @@
+-- What the checker's tables require of the log, in addition to what they hold of it. It holds for
+-- every lawful log.
+use Rattle.std.specs.Prelude.{◌≡◌, ℕ, Some}
+use Rattle.check_events.specs.Passing.{TargetFinishedWith}
+use Rattle.ist_core.specs.declared.states.ChangeRow.{ChangeRow}
+use Rattle.ist_core.specs.References.{RebuildAt, ref_of}
+use Rattle.ist_core.specs.Statuses.{start_kind}
+use Rattle.ist_core.specs.Pieces.{Change}
+use Rattle.ist_core.specs.Snapshots.{Snapshot}
+use Rattle.ist_core.specs.Logs.{Log, Happened, Passes}
+
+-- all passes of a slot name one word
+abbrev pub PassesAreOne : Log → Type 0
+PassesAreOne log = (node i word other : ℕ) → Happened (Passes node i word) log → Happened (Passes node i other) log → word ≡ other
+
+-- the change, if it is decided yes, starts the rebuild
+pub record StartsRebuild (t : Snapshot) (base rebuild : ℕ) : Type 0 where
+  pub change : ChangeRow
+  pub published : t.pieces base ≡ Some (Change change)
+  pub kind : change.kind ≡ start_kind
+  pub to : ref_of change.to ≡ Some (RebuildAt rebuild)
+
+-- the change, if it is decided yes, starts a rebuild whose target is finished with k keys
+pub record StartsFinished (t : Snapshot) (base k : ℕ) : Type 0 where
+  pub rebuild : ℕ
+  pub starts : StartsRebuild t base rebuild
+  pub finished : TargetFinishedWith t rebuild k
+
+-- the change, if it is decided no, is a change of the caller on the node
+pub record Refuses (t : Snapshot) (base caller node : ℕ) : Type 0 where
+  pub change : ChangeRow
+  pub published : t.pieces base ≡ Some (Change change)
+  pub owned : change.owner ≡ caller
+  pub on : change.node ≡ node

@@ -1,0 +1,116 @@
+-- What holds of a build once all its rows are reserved, and once they are built. Serves
+-- `build_at_once`.
+use Rattle.std.proofs.Common.{◌≡◌, ℕ, ◌≤◌, List, ◌++◌, length, sym, ap, subst, arith}
+use Rattle.ist_core.specs.Arithmetic.{degree}
+use Rattle.ist_core.specs.Leaves.{PlacedLeaf}
+use Rattle.ist_core.specs.RowLayout.{inner_words, place_limit}
+use Rattle.ist_core.specs.Shapes.{shape}
+use Rattle.ist_core.proofs.ShapeLemmas.{shape_many}
+use Rattle.ist_rule.specs.declared.view.View.{View}
+use Rattle.ist_rule.specs.Rule.{IsSound, own_at}
+use Rattle.ist_rule.specs.Learning.{now}
+use Rattle.ist_rows.specs.declared.callers.Caller.{Caller}
+use Rattle.ist_rows.specs.Rows.{IsCaller}
+use Rattle.ist_rows.specs.Building.{IsInBuild, HasTaken}
+use Rattle.ist_rows.specs.Block.{HoldsBlock, AreNext, ReservedAll}
+use Rattle.ist_rows.proofs.BlockLemmas.{holds_them}
+use Rattle.ist_rows.proofs.ReserveLemmas.{next_low}
+use Rattle.ist_build.specs.Laying.{BuiltOn, ArePlaced, HaveLeaves, AreKeysOf, IsDue, IsLaid, IsWritten, IsLaidBelow}
+use Rattle.ist_build.proofs.BuiltLemmas.{built_grow, rewritten_built}
+use Rattle.ist_build.proofs.MidwayLemmas.{published_on}
+use Rattle.ist_build.proofs.KeyLemmas.{keys_on}
+use Rattle.ist_build.proofs.LayingLemmas.{row_within}
+use Rattle.ist_build.proofs.RowOpenedLemmas.{at_rewritten}
+use Rattle.ist_build.proofs.StoringLemmas.{block_first}
+use Rattle.ist_build.proofs.ReservedLemmas.{IsFreshBlock, reserved_all_built, fresh_block}
+use Rattle.ist_build.proofs.ShareLemmas.{laid_lower}
+
+-- several keys take a row at least
+pub some_rows : (n : ℕ) → 2 ≤ n → 1 ≤ length (shape n)
+some_rows n two = let long = ap length (shape_many n two) in omega arith
+
+-- the rows that are due are the next
+pub due_next : (who : Caller) (n : ℕ) → IsDue who n → AreNext who (shape n)
+due_next who n h = record { stuck = h.stuck; done = h.done; rest = h.rest; at = h.at }
+
+-- leaves stay at their bases
+pub placed_on : (v w : View) → BuiltOn v w → (bases : List ℕ) (leaves : List PlacedLeaf)
+    → ArePlaced (now v) bases leaves → ArePlaced (now w) bases leaves
+placed_on v w b bases leaves a =
+    record { bases_are = a.bases_are; published = published_on v w b leaves a.published }
+
+-- ---- once the rows are reserved
+
+module _ (old new : Caller) (leaves keys : List ℕ) (at base : ℕ) (base_is : base ≡ at)
+    (s : IsSound old.seat.view) (c : IsCaller old) (two : 2 ≤ length leaves) (same : new ≡ record old { seat = new.seat })
+    (reserved : ReservedAll old.seat.view old.number at (shape (length leaves)) new.seat.view) where
+  abbrev sizes : List ℕ
+  sizes = shape (length leaves)
+
+  r : ReservedAll old.seat.view old.number base sizes new.seat.view
+  r =
+      subst (λ b. ReservedAll old.seat.view old.number b sizes new.seat.view) (sym base_is) reserved
+
+  built : BuiltOn old.seat.view new.seat.view
+  built = reserved_all_built old.seat.view old.number base sizes new.seat.view r
+
+  fresh : IsFreshBlock old.seat.view base new.seat.view
+  fresh =
+      fresh_block old.seat.view s old.number base sizes (some_rows (length leaves) two) new.seat.view r
+
+  -- they are held
+  pub block_held : HoldsBlock (now new.seat.view) new.number base sizes
+  block_held =
+      subst (λ k. HoldsBlock (now new.seat.view) k base sizes) (sym (ap (λ (x : Caller). x.number) same))
+      (holds_them old new.seat base sizes c r)
+
+  -- their words are 0
+  pub block_fresh : (place : ℕ) → base ≤ place → own_at new.seat.view.own place ≡ 0
+  block_fresh = fresh.zero_words
+
+  -- they lie in the table
+  pub block_low : base ≤ place_limit
+  block_low =
+      let row = (block_first (now new.seat.view) new.number base (length leaves) two block_held).0 in
+      let inside = (row_within new.seat.view reserved.reserved.sound new.number base
+      (inner_words (degree (length leaves))) row).1 in
+      let low = next_low new.seat.view reserved.reserved.sound in
+      let free = low.0 in
+      let all = low.1 in
+      omega arith
+
+  -- and the leaves and their keys are what they were
+  pub block_leaves : HaveLeaves (now old.seat.view) leaves → HaveLeaves (now new.seat.view) leaves
+  block_leaves have = (have.0, placed_on old.seat.view new.seat.view built leaves have.0 have.1)
+
+  pub block_keys : AreKeysOf (now old.seat.view) leaves keys → AreKeysOf (now new.seat.view) leaves keys
+  block_keys have =
+      keys_on (now old.seat.view) (now new.seat.view) (built_grow old.seat.view new.seat.view built) leaves
+      keys have
+
+  -- ---- once they are laid
+
+  module _ (last : Caller) (end word : ℕ) (written : IsWritten new last base end) where
+    -- the caller only reserved, and stored into what it reserved
+    pub block_built : BuiltOn old.seat.view last.seat.view
+    block_built =
+        let high = fresh.high in
+        subst (λ (x : Caller). BuiltOn old.seat.view x.seat.view) (sym written.same)
+        (rewritten_built old.seat.view new.seat.view last.seat.view.own built
+        (subst (λ (x : Caller). IsSound x.seat.view) written.same written.sound)
+        (λ place low. written.below place (omega arith)))
+
+    -- the word is laid
+    pub block_laid : ((placed : List PlacedLeaf) → ArePlaced (now new.seat.view) leaves placed
+        → IsLaidBelow last.seat.view last.number base end word placed)
+        → (placed : List PlacedLeaf) → ArePlaced (now old.seat.view) leaves placed
+        → IsLaid last.seat.view last.number (now old.seat.view).next word placed
+    block_laid laid placed a =
+        laid_lower last.seat.view last.number (now old.seat.view).next base word placed fresh.high
+        (laid placed (placed_on old.seat.view new.seat.view built leaves placed a)).laid
+
+    -- and the caller has taken all rows
+    pub block_taken : HasTaken old sizes new → HasTaken old sizes last
+    block_taken taken stuck done rest h =
+        subst (λ (x : Caller). IsInBuild x stuck (done ++ sizes) rest) (sym written.same)
+        (at_rewritten new last.seat.view.own stuck (done ++ sizes) rest (taken stuck done rest h))

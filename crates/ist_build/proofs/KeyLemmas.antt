@@ -1,0 +1,148 @@
+-- The keys of leaves, as they were loaded before anything was stored: of all leaves, and of a part.
+-- Serves `load_keys` and `build`.
+use Rattle.std.proofs.Common.{◌≡◌, ℕ, zero, suc, ◌+◌, ◌<◌, List, [], ◌∷◌, ◌++◌, length, map, take, drop, Some, slice_index_or, slice_set, refl, sym, ap, ◌∙◌, subst, arith}
+use Rattle.std.proofs.lemmas.List.{take_more_set}
+use Rattle.std.proofs.Math.Seq.{take-suc}
+use Rattle.ist_core.specs.declared.states.LeafRow.{LeafRow}
+use Rattle.ist_core.specs.Elements.{Each}
+use Rattle.ist_core.specs.Growing.{AllGrow}
+use Rattle.ist_core.specs.Leaves.{PlacedLeaf}
+use Rattle.ist_core.specs.Pieces.{Leaf}
+use Rattle.ist_core.specs.Snapshots.{Snapshot}
+use Rattle.ist_core.specs.Arithmetic.{part_len, part_start}
+use Rattle.laws_rows.specs.Dividing.{share_of}
+use Rattle.ist_rule.specs.Learning.{now}
+use Rattle.ist_rows.specs.declared.callers.Caller.{Caller}
+use Rattle.ist_build.specs.Laying.{ArePlaced, HaveLeaves, IsLeaf, IsKeyOf, AreKeysOf}
+use Rattle.ist_build.specs.Midway.{IsMidway}
+use Rattle.ist_build.proofs.BuiltLemmas.{leaf_grows, built_grow}
+use Rattle.ist_build.proofs.MidwayLemmas.{part_placed}
+
+-- keys stay as rows grow
+pub keys_on : (t u : Snapshot) → AllGrow t.pieces u.pieces → (bases keys : List ℕ)
+    → AreKeysOf t bases keys → AreKeysOf u bases keys
+keys_on t u g [] [] h = tt
+keys_on t u g (base ∷ bases) (key ∷ keys) h = (
+  record {
+    row = h.0.row;
+    published = leaf_grows t.pieces u.pieces g base h.0.row h.0.published;
+    key_is = h.0.key_is;
+  },
+  keys_on t u g bases keys h.1,
+)
+keys_on t u g [] (key ∷ keys) h = h
+keys_on t u g (base ∷ bases) [] h = h
+
+-- one more comes last
+pub keys_last : (t : Snapshot) (bases keys : List ℕ) (base key : ℕ) → AreKeysOf t bases keys
+    → IsKeyOf t base key → AreKeysOf t (bases ++ base ∷ []) (keys ++ key ∷ [])
+keys_last t [] [] base key h k = (k, tt)
+keys_last t (b ∷ bases) (x ∷ keys) base key h k = (h.0, keys_last t bases keys base key h.1 k)
+keys_last t [] (x ∷ keys) base key h k = absurd h
+keys_last t (b ∷ bases) [] base key h k = absurd h
+
+-- each of them
+pub leaf_here : (t : Snapshot) (bases : List ℕ) (i : ℕ) → HaveLeaves t bases → i < length bases
+    → IsLeaf t (slice_index_or bases i 0)
+leaf_here t bases i have less = at bases have.0 have.1.bases_are have.1.published i less
+  where
+    at : (bases : List ℕ) (placed : List PlacedLeaf) → map (λ leaf. leaf.base) placed ≡ bases
+        → Each (λ leaf. t.pieces leaf.base ≡ Some (Leaf leaf.row)) placed → (i : ℕ)
+        → i < length bases → IsLeaf t (slice_index_or bases i 0)
+    at bases [] is all i less = absurd (let none = ap length is in omega arith)
+    at bases (leaf ∷ placed) is all zero less =
+        subst (λ xs. IsLeaf t (slice_index_or xs 0 0)) is
+        record { row = leaf.row; published = all.0 }
+    at bases (leaf ∷ placed) is all (suc i) less =
+        subst (λ xs. suc i < length xs → IsLeaf t (slice_index_or xs (suc i) 0)) is
+        (λ l. at (map (λ x. x.base) placed) placed refl all.1 i (omega arith)) less
+
+-- one more key is stored after those before it
+pub keys_set : (t u : Snapshot) → AllGrow t.pieces u.pieces → (leaves keys : List ℕ) (i key : ℕ)
+    → i < length leaves → length keys ≡ length leaves
+    → AreKeysOf t (take i leaves) (take i keys) → IsKeyOf u (slice_index_or leaves i 0) key
+    → AreKeysOf u (take (i + 1) leaves) (take (i + 1) (slice_set keys i key))
+keys_set t u g leaves keys i key less many h k =
+    subst (λ xs. AreKeysOf u xs (take (i + 1) (slice_set keys i key)))
+    (sym (ap (λ n. take n leaves) (let q : i + 1 ≡ suc i = omega arith in q)
+    ∙ take-suc leaves i 0 less))
+    (subst (AreKeysOf u (take i leaves ++ slice_index_or leaves i 0 ∷ []))
+    (sym (take_more_set keys i key (omega arith)))
+    (keys_last u (take i leaves) (take i keys) (slice_index_or leaves i 0) key
+    (keys_on t u g (take i leaves) (take i keys) h) k))
+
+-- the first ones, and those after them
+keys_take : (t : Snapshot) (n : ℕ) (bases keys : List ℕ) → AreKeysOf t bases keys
+    → AreKeysOf t (take n bases) (take n keys)
+keys_take t zero bases keys h = tt
+keys_take t (suc n) [] [] h = tt
+keys_take t (suc n) (base ∷ bases) (key ∷ keys) h = (h.0, keys_take t n bases keys h.1)
+keys_take t (suc n) [] (key ∷ keys) h = absurd h
+keys_take t (suc n) (base ∷ bases) [] h = absurd h
+
+keys_drop : (t : Snapshot) (n : ℕ) (bases keys : List ℕ) → AreKeysOf t bases keys
+    → AreKeysOf t (drop n bases) (drop n keys)
+keys_drop t zero bases keys h = h
+keys_drop t (suc n) [] [] h = tt
+keys_drop t (suc n) (base ∷ bases) (key ∷ keys) h = keys_drop t n bases keys h.1
+keys_drop t (suc n) [] (key ∷ keys) h = absurd h
+keys_drop t (suc n) (base ∷ bases) [] h = absurd h
+
+-- the keys of a part are its leaves' keys
+pub keys_share : (t : Snapshot) (n j : ℕ) (bases keys : List ℕ) → AreKeysOf t bases keys
+    → AreKeysOf t (share_of n j bases) (share_of n j keys)
+keys_share t n j bases keys h =
+    keys_take t (part_len n j) (drop (part_start n j) bases) (drop (part_start n j) keys)
+    (keys_drop t (part_start n j) bases keys h)
+
+-- the first key is the first leaf's key
+pub key_first : (t : Snapshot) (bases keys : List ℕ) → AreKeysOf t bases keys → (leaf : PlacedLeaf)
+    (others : List PlacedLeaf) → leaf.base ∷ map (λ l. l.base) others ≡ bases
+    → t.pieces leaf.base ≡ Some (Leaf leaf.row) → slice_index_or keys 0 0 ≡ leaf.row.key
+key_first t (base ∷ bases) (key ∷ keys) h leaf others is there =
+    h.0.key_is ∙ ap (λ (r : LeafRow). r.key) (same_leaf (t.pieces base) h.0.row leaf.row
+    h.0.published (ap t.pieces (sym (head_same leaf.base base _ bases is)) ∙ there))
+  where
+    head_same : (x y : ℕ) (xs ys : List ℕ) → x ∷ xs ≡ y ∷ ys → x ≡ y
+    head_same x y xs ys e = cc
+
+    same_leaf : (o : _) (r s : LeafRow) → o ≡ Some (Leaf r) → o ≡ Some (Leaf s) → r ≡ s
+    same_leaf o r s e f = cc
+key_first t [] [] h leaf others is there = absurd (none leaf.base _ is)
+  where
+    none : (x : ℕ) (xs : List ℕ) → x ∷ xs ≡ [] → ⊥
+    none x xs e = cc
+key_first t [] (key ∷ keys) h leaf others is there = absurd h
+key_first t (base ∷ bases) [] h leaf others is there = absurd h
+
+-- ---- a part
+
+module _ (old who : Caller) (leaves keys : List ℕ) (base d j : ℕ)
+    (m : IsMidway old leaves base d j who) (have : AreKeysOf (now old.seat.view) leaves keys)
+    (own_keys : List ℕ) (keys_are : own_keys ≡ share_of (length leaves) j keys) where
+  abbrev n : ℕ
+  n = length leaves
+
+  shared : AreKeysOf (now who.seat.view) (share_of n j leaves) (share_of n j keys)
+  shared =
+      keys_share (now who.seat.view) n j leaves keys
+      (keys_on (now old.seat.view) (now who.seat.view)
+      (built_grow old.seat.view who.seat.view m.built) leaves keys have)
+
+  -- its keys are its leaves' keys
+  pub part_keys : (own : List ℕ) → own ≡ share_of n j leaves
+      → AreKeysOf (now who.seat.view) own own_keys
+  part_keys own own_is =
+      subst (λ xs. AreKeysOf (now who.seat.view) xs own_keys) (sym own_is)
+      (subst (AreKeysOf (now who.seat.view) (share_of n j leaves)) (sym keys_are) shared)
+
+  -- and the first is its first leaf's key
+  pub part_key : (placed : List PlacedLeaf) → ArePlaced (now old.seat.view) leaves placed
+      → (leaf : PlacedLeaf) (others : List PlacedLeaf) → share_of n j placed ≡ leaf ∷ others
+      → slice_index_or own_keys 0 0 ≡ leaf.row.key
+  part_key placed a leaf others is =
+      let it = subst (ArePlaced (now who.seat.view) (share_of n j leaves)) is
+      (part_placed old.seat.view who.seat.view m.built n j leaves placed a) in
+      ap (λ xs. slice_index_or xs 0 0) keys_are
+      ∙ key_first (now who.seat.view) (share_of n j leaves) (share_of n j keys) shared leaf others
+      it.bases_are it.published.0

@@ -1,0 +1,270 @@
+-- One more part of a row that is built only by stores. Serves `lay`.
+use Rattle.std.proofs.Common.{◌≡◌, ◌≢◌, ℕ, zero, suc, ◌+◌, ◌-◌, ◌<◌, ◌≤◌, List, [], ◌∷◌, ◌++◌, length, take, drop, slice_index_or, Some, refl, sym, ap, ap₂, ◌∙◌, subst, arith}
+use Rattle.std.specs.List.{sum, flat_map}
+use Rattle.std.proofs.lemmas.List.{length-map, take-map, drop-map}
+use Rattle.std.proofs.lemmas.List.Sums.{sum_by-append}
+use Rattle.ist_core.specs.Arithmetic.{degree, part_len, part_start}
+use Rattle.ist_core.specs.Leaves.{PlacedLeaf}
+use Rattle.ist_core.specs.Parts.{first_keys}
+use Rattle.ist_core.specs.Pieces.{Leaf}
+use Rattle.ist_core.specs.RowLayout.{inner_words, place_limit}
+use Rattle.ist_core.specs.Shapes.{shape}
+use Rattle.ist_core.specs.Snapshots.{Snapshot}
+use Rattle.ist_rule.specs.declared.view.View.{View}
+use Rattle.ist_rule.specs.declared.view.OwnWord.{OwnWord}
+use Rattle.ist_rule.specs.Rule.{IsSound, own_at}
+use Rattle.ist_rule.specs.Learning.{now}
+use Rattle.ist_rows.specs.declared.callers.Caller.{Caller}
+use Rattle.ist_rows.specs.Rows.{IsCaller}
+use Rattle.laws_rows.specs.Dividing.{lens_to, parts_to, share_of}
+use Rattle.laws_rows.proofs.PartLemmas.{keys_next}
+use Rattle.ist_rows.specs.Block.{HoldsBlock}
+use Rattle.ist_build.specs.Laying.{ArePlaced, HaveLeaves, AreKeysOf, IsWritten, IsLaidBelow}
+use Rattle.ist_build.specs.Midway.{words_at, lens_from, IsLaying, setting}
+use Rattle.ist_build.proofs.MidwayLemmas.{each_take, each_drop, length-share_of, some_first}
+use Rattle.ist_build.proofs.OwnWordLemmas.{words_at_same, words_at_more}
+use Rattle.ist_build.proofs.PartsLemmas.{sizes_next, sizes_left}
+use Rattle.ist_build.proofs.RowOpenedLemmas.{at_key, elsewhere, opened_on, setting_is}
+use Rattle.ist_build.proofs.BlockLemmas.{holds_split, part_laid_too}
+use Rattle.ist_build.proofs.KeyLemmas.{keys_share, key_first}
+
+-- the leaves of a part, in the same state
+pub share_placed : (t : Snapshot) (n j : ℕ) (bases : List ℕ) (leaves : List PlacedLeaf)
+    → ArePlaced t bases leaves → ArePlaced t (share_of n j bases) (share_of n j leaves)
+share_placed t n j bases leaves a =
+    record {
+      bases_are = sym (take-map (λ (leaf : PlacedLeaf). leaf.base) (part_len n j)
+          (drop (part_start n j) leaves))
+          ∙ ap (take (part_len n j)) (sym (drop-map (λ (leaf : PlacedLeaf). leaf.base)
+          (part_start n j) leaves) ∙ ap (drop (part_start n j)) a.bases_are);
+      published = each_take (λ leaf. t.pieces leaf.base ≡ Some (Leaf leaf.row)) (part_len n j)
+          (drop (part_start n j) leaves)
+          (each_drop (λ leaf. t.pieces leaf.base ≡ Some (Leaf leaf.row)) (part_start n j) leaves
+          a.published);
+    }
+
+-- the first key of a part is its first leaf's key
+share_key : (t : Snapshot) (n j : ℕ) (bases keys own_keys : List ℕ) → AreKeysOf t bases keys
+    → own_keys ≡ share_of n j keys → (placed : List PlacedLeaf) → ArePlaced t bases placed
+    → (leaf : PlacedLeaf) (others : List PlacedLeaf) → share_of n j placed ≡ leaf ∷ others
+    → slice_index_or own_keys 0 0 ≡ leaf.row.key
+share_key t n j bases keys own_keys have keys_are placed a leaf others is =
+    let it = subst (ArePlaced t (share_of n j bases)) is (share_placed t n j bases placed a) in
+    ap (λ xs. slice_index_or xs 0 0) keys_are
+    ∙ key_first t (share_of n j bases) (share_of n j keys) (keys_share t n j bases keys have) leaf others
+    it.bases_are it.published.0
+
+-- the rows of a part, and the rows of the parts after it
+part_block : (old who : Caller) (leaves : List ℕ) (base d j next : ℕ)
+    → IsLaying old leaves base d j next who → j < degree (length leaves)
+    → HoldsBlock (now who.seat.view) who.number next (shape (part_len (length leaves) j))
+    × HoldsBlock (now who.seat.view) who.number (next + sum (shape (part_len (length leaves) j)))
+    (flat_map shape (lens_from (length leaves) (j + 1)))
+part_block old who leaves base d j next m less =
+    let n = length leaves in
+    holds_split (now who.seat.view) who.number next (shape (part_len n j))
+    (flat_map shape (lens_from n (j + 1)))
+    (subst (HoldsBlock (now who.seat.view) who.number next) (sizes_left n j less) m.rest)
+
+-- ---- before a part is laid
+
+module _ (old who : Caller) (leaves keys : List ℕ) (base d j next : ℕ)
+    (m : IsLaying old leaves base d j next who) (less : j < degree (length leaves))
+    (own own_keys : List ℕ) (own_is : own ≡ share_of (length leaves) j leaves)
+    (keys_are : own_keys ≡ share_of (length leaves) j keys) where
+  -- nothing but words was stored
+  same_state : now who.seat.view ≡ now old.seat.view
+  same_state = ap (λ (x : Caller). now x.seat.view) m.written.same
+
+  -- it has the length of the part, and one key per leaf
+  pub long_part : length own ≡ part_len (length leaves) j
+  long_part = ap length own_is ∙ length-share_of (length leaves) j leaves refl less
+
+  pub long_keys : length keys ≡ length leaves → length own_keys ≡ length own
+  long_keys many =
+      ap length keys_are ∙ length-share_of (length leaves) j keys many less ∙ sym long_part
+
+  -- its rows are held
+  pub held_part : HoldsBlock (now who.seat.view) who.number next (shape (length own))
+  held_part =
+      subst (λ k. HoldsBlock (now who.seat.view) who.number next (shape k)) (sym long_part)
+      (part_block old who leaves base d j next m less).0
+
+  -- its leaves are published, and its keys are theirs
+  pub leaves_part : HaveLeaves (now old.seat.view) leaves → HaveLeaves (now who.seat.view) own
+  leaves_part have =
+      subst (λ t. HaveLeaves t own) (sym same_state) (
+        share_of (length leaves) j have.0,
+        subst (λ xs. ArePlaced (now old.seat.view) xs (share_of (length leaves) j have.0)) (sym own_is)
+            (share_placed (now old.seat.view) (length leaves) j leaves have.0 have.1),
+      )
+
+  pub keys_part : AreKeysOf (now old.seat.view) leaves keys → AreKeysOf (now who.seat.view) own own_keys
+  keys_part have =
+      subst (λ t. AreKeysOf t own own_keys) (sym same_state)
+      (subst (λ xs. AreKeysOf (now old.seat.view) xs own_keys) (sym own_is)
+      (subst (AreKeysOf (now old.seat.view) (share_of (length leaves) j leaves)) (sym keys_are)
+      (keys_share (now old.seat.view) (length leaves) j leaves keys have)))
+
+  -- and its first key is its first leaf's key
+  pub key_part : AreKeysOf (now old.seat.view) leaves keys
+      → (placed : List PlacedLeaf) → ArePlaced (now old.seat.view) leaves placed
+      → (leaf : PlacedLeaf) (others : List PlacedLeaf) → share_of (length leaves) j placed ≡ leaf ∷ others
+      → slice_index_or own_keys 0 0 ≡ leaf.row.key
+  key_part have placed a leaf others is =
+      share_key (now old.seat.view) (length leaves) j leaves keys own_keys have keys_are placed a leaf others
+      is
+
+-- ---- once it is laid
+
+module _ (old who : Caller) (leaves : List ℕ) (base d j next end key word : ℕ)
+    (nown : List OwnWord) (m : IsLaying old leaves base d j next who)
+    (d_is : d ≡ degree (length leaves)) (less : j < d) (some : 1 ≤ part_len (length leaves) j)
+    (sound : IsSound (record who.seat.view { own = nown }))
+    (below : (p : ℕ) → p < next → own_at nown p ≡ own_at who.seat.view.own p)
+    (above : (p : ℕ) → end ≤ p → own_at nown p ≡ own_at who.seat.view.own p)
+    (end_is : end ≡ next + sum (shape (part_len (length leaves) j))) (low : end ≤ place_limit)
+    (laid : (part : List PlacedLeaf)
+    → ArePlaced (now who.seat.view) (share_of (length leaves) j leaves) part
+    → IsLaidBelow (record who.seat.view { own = nown }) who.number next end word part)
+    (key_is : (placed : List PlacedLeaf) → ArePlaced (now old.seat.view) leaves placed
+    → (leaf : PlacedLeaf) (others : List PlacedLeaf)
+    → share_of (length leaves) j placed ≡ leaf ∷ others → key ≡ leaf.row.key)
+  where
+    abbrev n : ℕ
+    n = length leaves
+
+    abbrev v : View
+    v = who.seat.view
+
+    abbrev c : View
+    c = record v { own = nown }
+
+    abbrev words : List OwnWord
+    words = (setting c base d j key word).own
+
+    abbrev last : Caller
+    last = record who { seat = record who.seat { view = record v { own = words } } }
+
+    in_row : base + inner_words d ≤ next
+    in_row = let is = m.next_is in omega arith
+
+    up : next ≤ end
+    up = omega arith
+
+    -- what was stored before lies still
+    stays : (p : ℕ) → p < next → p ≢ base + 3 + d + j → (1 ≤ j → p ≢ base + 3 + j)
+        → own_at words p ≡ own_at v.own p
+    stays p l ne nk = elsewhere c base d j key word less p ne nk ∙ below p l
+
+    same_now : now v ≡ now old.seat.view
+    same_now = ap (λ (x : Caller). now x.seat.view) m.written.same
+
+    all_sizes : end ≡ base + inner_words d + sum (flat_map shape (lens_to n (j + 1)))
+    all_sizes =
+        let is = m.next_is in
+        let more = ap sum (sizes_next n j)
+        ∙ sum_by-append (λ x. x) (flat_map shape (lens_to n j)) (shape (part_len n j)) in
+        omega arith
+
+    keys_more : (placed : List PlacedLeaf) → ArePlaced (now old.seat.view) leaves placed
+        → words_at words (base + 4) (j + 1 - 1)
+        ≡ first_keys (λ (leaf : PlacedLeaf). leaf.row.key) (drop 1 (parts_to n (j + 1) placed))
+    keys_more placed a = at j refl
+      where
+        first_part : (leaf : PlacedLeaf) × (others : List PlacedLeaf)
+            × (share_of n j placed ≡ leaf ∷ others)
+        first_part =
+            let many = sym (length-map placed (λ (leaf : PlacedLeaf). leaf.base)) ∙ ap length a.bases_are in
+            let len = length-share_of n j placed many (let q : j < degree n = omega (arith, d_is) in q) in
+            let one = some in
+            some_first (share_of n j placed) (omega arith)
+
+        at : (i : ℕ) → i ≡ j → words_at words (base + 4) (i + 1 - 1)
+            ≡ first_keys (λ (leaf : PlacedLeaf). leaf.row.key) (drop 1 (parts_to n (i + 1) placed))
+        at zero e = refl
+        at (suc i) e =
+            let one : 1 ≤ j = omega arith in
+            let it = first_part in
+            let inside = in_row in
+            let place : base + 4 + (j - 1) ≡ base + 3 + j = omega arith in
+            ap (words_at words (base + 4)) (let q : suc i + 1 - 1 ≡ j - 1 + 1 = omega arith in q)
+            ∙ words_at_more words (base + 4) (j - 1)
+            ∙ ap₂ (λ xs x. xs ++ x ∷ [])
+            (words_at_same words v.own (base + 4) (j - 1)
+            (λ p lo hi. stays p (omega arith) (λ f. omega arith) (λ g f. omega arith))
+            ∙ m.keys placed a)
+            (ap (own_at words) place ∙ at_key c base d j key word less one
+            ∙ key_is placed a it.0 it.1 it.2)
+            ∙ sym (keys_next n j placed it.0 it.1 one it.2)
+            ∙ ap (λ k. first_keys (λ (leaf : PlacedLeaf). leaf.row.key)
+            (drop 1 (parts_to n (k + 1) placed))) (sym e)
+
+    pub laying_set : IsCaller last → IsSound (record v { own = words })
+        → IsLaying old leaves base d (j + 1) end last
+    laying_set caller sound_last =
+        let inside = in_row in
+        let more = up in
+        record {
+          written = record {
+            same = ap (λ (x : Caller). record x {
+              seat = record x.seat { view = record x.seat.view { own = words } };
+            }) m.written.same;
+            caller = caller;
+            sound = sound_last;
+            below = λ p l. stays p (omega arith) (λ e. omega arith) (λ one e. omega arith)
+                ∙ m.written.below p l;
+            above = λ p l. elsewhere c base d j key word less p (λ e. omega arith)
+                (λ one e. omega arith) ∙ above p l ∙ m.written.above p (omega arith);
+          };
+          next_is = all_sizes;
+          low = low;
+          held = m.held;
+          rest = subst (λ b. HoldsBlock (now v) who.number b (flat_map shape (lens_from n (j + 1))))
+              (sym end_is) (part_block old who leaves base d j next m
+              (let q : j < degree n = omega (arith, d_is) in q)).1;
+          opened = opened_on v.own words base d n
+              (λ p l. stays p (omega arith) (λ e. omega arith) (λ one e. omega arith)) m.opened;
+          laid = λ placed a.
+              part_laid_too v who.number base d n j next end key word nown less in_row up below sound
+              placed (m.laid placed a)
+              (laid (share_of n j placed)
+              (share_placed (now v) n j leaves placed
+              (subst (λ t. ArePlaced t leaves placed) (sym same_now) a)));
+          keys = λ placed a. keys_more placed a;
+        }
+
+-- ---- in the form of the functions' clauses
+
+-- the part was laid, and its word and key were stored
+pub laying_part : (old who new last : Caller) (leaves : List ℕ) (base d j next end key word : ℕ)
+    → IsLaying old leaves base d j next who → d ≡ degree (length leaves) → j < d
+    → 1 ≤ part_len (length leaves) j → IsWritten who new next end
+    → end ≡ next + sum (shape (part_len (length leaves) j)) → end ≤ place_limit
+    → ((part : List PlacedLeaf)
+    → ArePlaced (now who.seat.view) (share_of (length leaves) j leaves) part
+    → IsLaidBelow new.seat.view new.number next end word part)
+    → ((placed : List PlacedLeaf) → ArePlaced (now old.seat.view) leaves placed
+    → (leaf : PlacedLeaf) (others : List PlacedLeaf)
+    → share_of (length leaves) j placed ≡ leaf ∷ others → key ≡ leaf.row.key)
+    → last ≡ record new { seat = record new.seat { view = setting new.seat.view base d j key word } }
+    → IsCaller last → IsSound last.seat.view → IsLaying old leaves base d (j + 1) end last
+laying_part old who new last leaves base d j next end key word m d_is less some written end_is low laid
+    key_is is caller sound =
+    let nown = new.seat.view.own in
+    let there : Caller =
+    record who { seat = record who.seat { view = record who.seat.view { own = nown } } } in
+    let set = λ (x : Caller). record x {
+      seat = record x.seat { view = setting x.seat.view base d j key word };
+    } in
+    let view_is = setting_is there.seat.view base d j key word less in
+    let whole = is ∙ ap set written.same
+    ∙ ap (λ v. record there { seat = record there.seat { view = v } }) view_is in
+    subst (IsLaying old leaves base d (j + 1) end) (sym whole)
+    (laying_set old who leaves base d j next end key word nown m d_is less some
+    (subst (λ (x : Caller). IsSound x.seat.view) written.same written.sound)
+    written.below written.above end_is low
+    (λ part a. subst (λ (x : Caller). IsLaidBelow x.seat.view x.number next end word part) written.same
+    (laid part a))
+    key_is (subst IsCaller whole caller)
+    (subst (λ (x : Caller). IsSound x.seat.view) whole sound))

@@ -1,0 +1,49 @@
+use Rattle.std.proofs.Common.{◌≡◌, ◌*◌, ◌-◌, ◌<◌, ◌≤◌, ◌^◌, length, IfSome, sym, ap, ◌∙◌, subst, arith}
+use Rattle.std.specs.List.{sum}
+use Rattle.ist_core.proofs.WordLemmas.{ideal_words_is}
+use Rattle.ist_rows.specs.Building.{HasTaken}
+use Rattle.ist_rows.specs.Block.{AreNext}
+use Rattle.ist_rows.proofs.ReserveLemmas.{read_on}
+use Rattle.ist_build.proofs.AtOnceLemmas.{some_rows, due_next}
+use Rattle.ist_build.proofs.block.reserve_shape.Goals as goal
+
+-- leaves take two words each
+pub overflow_sub-inner : goal.overflow_sub-inner
+overflow_sub-inner g c =
+    let is = c.ideal_words.ensures.value ∙ ideal_words_is c.args.size in
+    let h : 2 * c.args.size ≤ c.ideal_words.result = omega arith in
+    h
+
+-- the rows take the others, and are few words
+pub reserve_block-requires : goal.reserve_block-requires
+reserve_block-requires g c =
+    let is = c.ideal_words.ensures.value ∙ ideal_words_is c.args.size in
+    let rows = ap sum c.requires.0 in
+    let most = c.ideal_words.ensures.most in
+    let few = c.requires.1.1.1.1.1 in
+    let asked : c.ideal_words.result - 2 * c.args.size ≡ sum g.sizes = omega arith in
+    let small : c.ideal_words.result - 2 * c.args.size < 2 ^ 32 = omega arith in (
+      c.requires.1.0,
+      (
+        c.requires.1.1.0,
+        (
+          subst (AreNext c.args.who.now) (sym c.requires.0)
+              (due_next c.args.who.now c.args.size c.requires.1.1.1.0),
+          (
+            subst (λ xs. 1 ≤ length xs) (sym c.requires.0)
+                (some_rows c.args.size c.requires.1.1.1.1.0),
+            (asked, small),
+          ),
+        ),
+      ),
+    )
+
+-- they are taken in the order of the shape
+pub returns-clause-taken : goal.returns-clause-taken
+returns-clause-taken g c =
+    subst (λ xs. IfSome c.reserve_block.result (λ base. HasTaken c.args.who.now xs
+    c.reserve_block.new.who)) c.requires.0 c.reserve_block.ensures.taken
+
+-- if they don't fit, only loads were made
+pub returns-clause-none : goal.returns-clause-none
+returns-clause-none g c none = read_on _ _ _ (c.reserve_block.ensures.none none).read

@@ -1,5 +1,0 @@
-use Rattle.ist_buildings.proofs.leaves.agree_in.Goals as goal
-
--- so few keys are a share of their own
-pub part-requires-clause-few : goal.part-requires-clause-few
-part-requires-clause-few g c = c.are_few.ensures.few c.if-not-are_few.false

@@ -1,6 +1,0 @@
-use Rattle.ist_buildings.specs.Late.{put_of}
-use Rattle.ist_buildings.proofs.marked.put_late.Given as goal
-
--- what is installed is the put, with its leaf
-abbrev pub ghost-install_late : goal.ghost-install_late
-ghost-install_late a = put_of a.put.leaf a.put.row

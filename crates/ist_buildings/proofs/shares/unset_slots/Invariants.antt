@@ -1,6 +1,0 @@
-use Rattle.std.proofs.Common.{◌≡◌}
-use Rattle.ist_buildings.proofs.shares.unset_slots.Given as goal
-
--- the seat is of the table
-abbrev pub invariant-loop-i : goal.invariant-loop-i
-invariant-loop-i l = l.seat.table ≡ l.table.table

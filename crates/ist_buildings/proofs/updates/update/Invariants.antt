@@ -1,6 +1,0 @@
-use Rattle.ist_tree.proofs.EndingLemmas.{ended_call}
-use Rattle.ist_buildings.proofs.updates.update.Given as goal
-
--- the call ends at its entry, or at the first position with its reply
-abbrev pub ghost-end_call : goal.ghost-end_call
-ghost-end_call g a = ended_call a.seat.now.view a.reply

@@ -1,7 +1,0 @@
-use Rattle.std.proofs.Common.{◌≡◌}
-use Rattle.ist_tree.specs.Insides.{IsPass}
-use Rattle.ist_buildings.proofs.updates.update_all.Given as goal
-
--- the caller is of the table, and in no call
-abbrev pub invariant-loop-key : goal.invariant-loop-key
-invariant-loop-key g l = (l.who.seat.table ≡ l.table.table) × IsPass l.who

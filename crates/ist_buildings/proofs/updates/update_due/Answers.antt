@@ -1,8 +1,0 @@
-use Rattle.ist_buildings.proofs.UpdateLemmas.{made_due}
-use Rattle.ist_buildings.proofs.updates.update_due.Goals as goal
-
--- the row that it made due may be rebuilt
-pub returns-in-Ok-clause-due : goal.returns-in-Ok-clause-due
-returns-in-Ok-clause-due g c =
-    let done = c.in-Ok.ensures in
-    made_due c.ask.new.who c.apply.new.who _ done.caller done.refused done.quiet done.due

@@ -1,4 +1,0 @@
-use Rattle.ist_check_builds.proofs.ideals.+nth_part.Given as goal
-
-abbrev pub decreases-nth_part : goal.decreases-nth_part
-decreases-nth_part l = l.left

@@ -1,5 +1,0 @@
-use Rattle.std.proofs.Common.{length}
-use Rattle.ist_check_builds.proofs.roots.+are_unset.Given as goal
-
-abbrev pub decreases-are_unset : goal.decreases-are_unset
-decreases-are_unset l = length l.slots.now

@@ -1,2 +1,0 @@
-pub mod MapLemmas
-pub mod ExchangeLemmas

@@ -1,2 +1,0 @@
--- what the contracts of the example say
-pub mod Turns

@@ -1,3 +1,0 @@
-pub mod FinishLemmas
-pub mod NumberLemmas
-pub mod FreezeLemmas

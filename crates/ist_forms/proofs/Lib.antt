@@ -1,4 +1,0 @@
-pub mod SizedLemmas
-pub mod RootFormLemmas
-pub mod PartLemmas
-pub mod CarryLemmas

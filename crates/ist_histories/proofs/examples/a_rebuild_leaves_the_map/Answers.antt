@@ -1,5 +1,0 @@
-use Rattle.ist_histories.proofs.RefusedExampleLemmas.{rebuild_changes}
-use Rattle.ist_histories.proofs.examples.a_rebuild_leaves_the_map.Goals as goal
-
-pub returns : goal.returns
-returns c = record { changes = rebuild_changes }

@@ -1,5 +1,0 @@
-use Rattle.ist_histories.proofs.SearchExampleLemmas.{search_behind, search_before}
-use Rattle.ist_histories.proofs.examples.a_search_reads_a_change.Goals as goal
-
-pub returns : goal.returns
-returns c = record { behind = search_behind; before = search_before }

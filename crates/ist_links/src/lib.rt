@@ -1,6 +1,0 @@
-//! Laws over lawful logs on rows that were linked and on changes in their slots. Nothing here runs.
-//!
-//! `specs/Lib.antt` gives the statements in reading order. Stands on `ist_core`.
-#![tactic(auto)]
-
-pub mod laws;

@@ -1,0 +1,111 @@
+-- The next pair above and below a key. Serves `ends` and `cursors`.
+use Rattle.std.proofs.Common.{◌≡◌, ◌≢◌, ℕ, ◌+◌, ◌<◌, ◌≤◌, if◌then◌else◌, List, [], ◌∷◌, length, Option, Some, None, ⊎_elim, refl, ap, subst, arith}
+use Rattle.std.proofs.lemmas.Bool.{cases_lt}
+use Rattle.std.proofs.lemmas.Bool.Decides.{eqb_tells}
+use Rattle.ist_core.specs.declared.pairs.Pair.{Pair}
+use Rattle.ist_tree.specs.Faces.{PassFace}
+use Rattle.ist_live.specs.Reading.{Begins, HasRead, Had, HadNone, HasReadSpan, ReadsUp, ReadsDown, one_of, span_up, none_down, span_down}
+use Rattle.ist_live.specs.Lists.{value_among}
+use Rattle.ist_live.specs.Ends.{IsNextUp, IsNextDown, end_up, end_down}
+use Rattle.ist_live.proofs.ReadLemmas.{read_not, read_more, had_before, had_after, up_to_pair, down_to_pair}
+use Rattle.ist_live.proofs.ListLemmas.{Listed, all_up}
+
+-- a pair gives no key but its own a value
+other_key : (pair : Pair) (k : ℕ) → pair.key ≢ k → value_among (pair ∷ []) k ≡ None
+other_key pair k ne =
+    ⊎_elim (λ a. absurd (ne a.1)) (λ a. ap (λ b. if b then Some pair.value else None) a.0)
+    (eqb_tells pair.key k)
+
+pub own_key : (pair : Pair) → value_among (pair ∷ []) pair.key ≡ Some pair.value
+own_key pair =
+    ⊎_elim (λ a. ap (λ b. if b then Some pair.value else None) a.0) (λ a. absurd (a.1 refl))
+    (eqb_tells pair.key pair.key)
+
+-- ---- upwards
+
+next_listed : (p q : PassFace) (first : ℕ) (pair : Option Pair)
+    → Listed p q first (end_up pair) (one_of pair) → IsNextUp p q first pair
+next_listed p q first (Some x) h =
+    let above = h.within.0 in (
+      above,
+      subst (Had p q x.key) (own_key x) (h.values x.key above (omega arith)),
+      (λ k low high. subst (Had p q k) (other_key x k (λ e. omega arith))
+          (h.values k low (omega arith))),
+    )
+next_listed p q first None h = λ k low high. h.values k low high
+
+-- what was read upwards for a pair has it as the next one
+pub next_up : (p q : PassFace) (first : ℕ) (pair : Option Pair)
+    → ReadsUp p first q (end_up pair) (one_of pair) → IsNextUp p q first pair
+next_up p q first pair r = next_listed p q first pair (all_up p first q (end_up pair) (one_of pair) r)
+
+-- ---- downwards
+
+-- what is so where no pair was found yet
+pub record NoneRead (p m : PassFace) (from behind : ℕ) : Type 0 where
+  pub read : HasRead p m
+  pub under : from ≤ behind
+  pub none : HadNone p m from behind
+
+pub none_read : (p : PassFace) (behind : ℕ) (m : PassFace) (from : ℕ) (pairs : List Pair) → pairs ≡ []
+    → ReadsDown p behind m from pairs → NoneRead p m from behind
+none_read p behind _ _ pairs e none_down =
+    record { read = read_not p; under = omega arith; none = λ k low high. absurd (omega arith) }
+none_read p behind q first _ e (span_down {m = m} {from = from} {pairs = pairs} None r begins s) =
+    let h = none_read p behind m (from + 1) pairs e r in
+    let under = h.under in
+    let low = s.low in
+    let high = s.high in
+    record {
+      read = read_more p m q h.read s.read;
+      under = omega arith;
+      none = λ k least most. ⊎_elim
+          (λ (l : k < from + 1). had_before p m q h.read k None (s.values k least l))
+          (λ (l : from + 1 ≤ k). had_after p m q s.read k None (h.none k l most)) (cases_lt k (from + 1));
+    }
+none_read p behind q first _ e (span_down {pairs = pairs} (Some x) r begins s) =
+    let long = ap length e in
+    absurd (omega arith)
+
+-- one span more, with the pair or with none
+pub next_down : (p m q : PassFace) (asked from behind : ℕ) (pair : Option Pair)
+    → ReadsDown p behind m from [] → HasReadSpan m q asked (end_down pair) from pair
+    → IsNextDown p q behind pair
+next_down p m q asked from behind (Some x) r s =
+    let h = none_read p behind m from [] refl r in
+    let under = h.under in
+    let within = s.within.1 in (
+      omega arith,
+      had_before p m q h.read x.key (Some x.value)
+          (subst (Had m q x.key) (own_key x) (s.values x.key (omega arith) within)),
+      (λ k low high. ⊎_elim
+          (λ (l : k < from). had_before p m q h.read k None
+          (subst (Had m q k) (other_key x k (λ e. omega arith)) (s.values k (omega arith) l)))
+          (λ (l : from ≤ k). had_after p m q s.read k None (h.none k l high)) (cases_lt k from)),
+    )
+next_down p m q asked from behind None r s =
+    let h = none_read p behind m from [] refl r in
+    λ k low high. ⊎_elim (λ (l : k < from). had_before p m q h.read k None (s.values k low l))
+    (λ (l : from ≤ k). had_after p m q s.read k None (h.none k l high)) (cases_lt k from)
+
+-- ---- one span more
+
+module _ (p m q : PassFace) (key from to : ℕ) (o : Option Pair) where
+  -- upwards, up to its pair
+  pub pair_up : (x : Pair) → o ≡ Some x → ReadsUp p key m from [] → Begins m key from
+      → HasReadSpan m q from from (to + 1) o → ReadsUp p key q (x.key + 1) (x ∷ [])
+  pair_up x is r begins s =
+      span_up (Some x) r begins
+      (up_to_pair m q from from (to + 1) x (subst (HasReadSpan m q from from (to + 1)) is s) refl)
+
+  -- or all of it, without a pair
+  pub on_up : o ≡ None → ReadsUp p key m from [] → Begins m key from
+      → HasReadSpan m q from from (to + 1) o → ReadsUp p key q (to + 1) []
+  on_up is r begins s =
+      span_up None r begins (subst (HasReadSpan m q from from (to + 1)) is s)
+
+  -- downwards, down to its pair
+  pub pair_down : (x : Pair) → o ≡ Some x → HasReadSpan m q from to (from + 1) o
+      → HasReadSpan m q from x.key (from + 1) (Some x)
+  pair_down x is s =
+      down_to_pair m q from to (from + 1) x (subst (HasReadSpan m q from to (from + 1)) is s) refl

@@ -1,0 +1,4 @@
+pub mod ReadLemmas
+pub mod ListLemmas
+pub mod EndLemmas
+pub mod TurnLemmas

@@ -1,0 +1,181 @@
+-- The pairs that were read upwards, as one list. Serves `lists` and `ends`.
+use Rattle.std.proofs.Common.{◌≡◌, ◌≢◌, ℕ, zero, suc, ◌+◌, ◌<◌, ◌≤◌, ◌==◌, if◌then◌else◌, List, [], ◌∷◌, ◌++◌, length, map, get_or, Option, Some, None, ⊎_elim, refl, sym, ap, ◌∙◌, subst, length-append, append-nil, arith}
+use Rattle.std.proofs.lemmas.Bool.{cases_lt}
+use Rattle.std.proofs.lemmas.Bool.Decides.{eqb_tells}
+use Rattle.std.proofs.lemmas.List.{get_or_append_left, get_or_push, map-append}
+use Rattle.std.specs.List.Sorted.{IsStrictlyIncreasing}
+use Rattle.ist_core.specs.declared.pairs.Pair.{Pair}
+use Rattle.ist_core.specs.Elements.{Each}
+use Rattle.ist_core.proofs.ElementLemmas.{each_append}
+use Rattle.ist_tree.specs.Faces.{PassFace}
+use Rattle.ist_live.specs.Reading.{HasRead, Had, HasReadSpan, ReadsUp, one_of, none_up, span_up}
+use Rattle.ist_live.specs.Lists.{value_among, AreLive}
+use Rattle.ist_live.proofs.ReadLemmas.{read_not, read_more, had_before, had_after}
+
+-- a pair of another key gives the key nothing
+other_first : (pair : Pair) (pairs : List Pair) (k : ℕ) → pair.key ≢ k
+    → value_among (pair ∷ pairs) k ≡ value_among pairs k
+other_first pair pairs k ne =
+    ⊎_elim (λ a. absurd (ne a.1))
+    (λ a. ap (λ b. if b then Some pair.value else value_among pairs k) a.0)
+    (eqb_tells pair.key k)
+
+-- pairs below a key give it nothing
+pub among_none : (pairs : List Pair) (from k : ℕ) → Each (λ p. p.key < from) pairs → from ≤ k
+    → value_among pairs k ≡ None
+among_none [] from k low h = refl
+among_none (p ∷ pairs) from k low h =
+    let less = low.0 in
+    other_first p pairs k (λ e. omega arith) ∙ among_none pairs from k low.1 h
+
+-- one more pair above a key gives it nothing
+pub among_old : (pairs : List Pair) (pair : Pair) (k : ℕ) → k < pair.key
+    → value_among (pairs ++ pair ∷ []) k ≡ value_among pairs k
+among_old [] pair k high = other_first pair [] k (λ e. omega arith)
+among_old (p ∷ pairs) pair k high =
+    ap (λ o. if p.key == k then Some p.value else o) (among_old pairs pair k high)
+
+-- and gives what it gives to a key above the others
+pub among_new : (pairs : List Pair) (pair : Pair) (from k : ℕ) → Each (λ p. p.key < from) pairs
+    → from ≤ k → value_among (pairs ++ pair ∷ []) k ≡ value_among (pair ∷ []) k
+among_new [] pair from k low h = refl
+among_new (p ∷ pairs) pair from k low h =
+    let less = low.0 in
+    other_first p (pairs ++ pair ∷ []) k (λ e. omega arith) ∙ among_new pairs pair from k low.1 h
+
+-- the keys rise still
+keys_low : (pairs : List Pair) (from : ℕ) → Each (λ p. p.key < from) pairs → (k : ℕ)
+    → k < length (map (λ (p : Pair). p.key) pairs) → get_or (map (λ (p : Pair). p.key) pairs) k 0 < from
+keys_low [] from low k less = absurd (omega arith)
+keys_low (p ∷ pairs) from low zero less = low.0
+keys_low (p ∷ pairs) from low (suc k) less = keys_low pairs from low.1 k (omega arith)
+
+push_rises : (xs : List ℕ) (y : ℕ) → IsStrictlyIncreasing xs
+    → ((k : ℕ) → k < length xs → get_or xs k 0 < y) → IsStrictlyIncreasing (xs ++ y ∷ [])
+push_rises xs y rises low k within =
+    let long : length (xs ++ y ∷ []) ≡ length xs + 1 = length-append xs (y ∷ []) in
+    let left : get_or (xs ++ y ∷ []) k 0 ≡ get_or xs k 0 =
+    get_or_append_left xs (y ∷ []) 0 k (omega arith) in
+    ⊎_elim (λ (l : k + 1 < length xs).
+    let right : get_or (xs ++ y ∷ []) (k + 1) 0 ≡ get_or xs (k + 1) 0 =
+    get_or_append_left xs (y ∷ []) 0 (k + 1) l in
+    let up = rises k l in
+    omega arith)
+    (λ (l : length xs ≤ k + 1).
+    let right : get_or (xs ++ y ∷ []) (k + 1) 0 ≡ y = get_or_push xs y 0 (k + 1) (omega arith) in
+    let up = low k (omega arith) in
+    omega arith)
+    (cases_lt (k + 1) (length xs))
+
+pub rises_on : (pairs : List Pair) (pair : Pair) (from : ℕ) → Each (λ p. p.key < from) pairs
+    → from ≤ pair.key → IsStrictlyIncreasing (map (λ (p : Pair). p.key) pairs)
+    → IsStrictlyIncreasing (map (λ (p : Pair). p.key) (pairs ++ pair ∷ []))
+rises_on pairs pair from low h rises =
+    subst IsStrictlyIncreasing (sym (map-append (λ (p : Pair). p.key) pairs (pair ∷ [])))
+    (push_rises (map (λ (p : Pair). p.key) pairs) pair.key rises
+    (λ k less. let under = keys_low pairs from low k less in omega arith))
+
+-- ---- what was read upwards
+
+-- each key before `behind` had what the pairs give it, at a position of its own
+pub record Listed (p q : PassFace) (first behind : ℕ) (pairs : List Pair) : Type 0 where
+  pub read : HasRead p q
+  pub above : first ≤ behind
+  pub rise : IsStrictlyIncreasing (map (λ (x : Pair). x.key) pairs)
+  pub low : Each (λ x. x.key < behind) pairs
+  pub within : Each (λ x. first ≤ x.key) pairs
+  pub values : (k : ℕ) → first ≤ k → k < behind → Had p q k (value_among pairs k)
+
+-- no key yet
+listed_none : (p : PassFace) (first : ℕ) → Listed p p first first []
+listed_none p first =
+    record {
+      read = read_not p;
+      above = omega arith;
+      rise = λ k less. absurd (omega arith);
+      low = tt;
+      within = tt;
+      values = λ k low high. absurd (omega arith);
+    }
+
+each_higher : (pairs : List Pair) (from to : ℕ) → from ≤ to → Each (λ x. x.key < from) pairs
+    → Each (λ x. x.key < to) pairs
+each_higher [] from to h e = tt
+each_higher (x ∷ pairs) from to h e = let less = e.0 in (omega arith, each_higher pairs from to h e.1)
+
+-- those of one span more
+module _ (p m q : PassFace) (first asked from behind : ℕ) (pairs : List Pair)
+    (h : Listed p m first from pairs) where
+  before : HasRead m q → (k : ℕ) → first ≤ k → k < from → Had p q k (value_among pairs k)
+  before r k low high = had_after p m q r k (value_among pairs k) (h.values k low high)
+
+  listed_on : (pair : Option Pair) → HasReadSpan m q asked from behind pair
+      → Listed p q first behind (pairs ++ one_of pair)
+  listed_on None s =
+      let above = h.above in
+      let low = s.low in
+      let high = s.high in
+      subst (Listed p q first behind) (sym (append-nil pairs)) record {
+        read = read_more p m q h.read s.read;
+        above = omega arith;
+        rise = h.rise;
+        low = each_higher pairs from behind (omega arith) h.low;
+        within = h.within;
+        values = λ k least most. ⊎_elim (λ (l : k < from). before s.read k least l)
+            (λ (l : from ≤ k). subst (Had p q k) (sym (among_none pairs from k h.low l))
+            (had_before p m q h.read k None (s.values k l most)))
+            (cases_lt k from);
+      }
+  listed_on (Some x) s =
+      let above = h.above in
+      let low = s.low in
+      let high = s.high in
+      let least = s.within.0 in
+      let most = s.within.1 in
+      record {
+        read = read_more p m q h.read s.read;
+        above = omega arith;
+        rise = rises_on pairs x from h.low least h.rise;
+        low = each_append (λ (y : Pair). y.key < behind) pairs (x ∷ [])
+            (each_higher pairs from behind (omega arith) h.low) (most, tt);
+        within = each_append (λ (y : Pair). first ≤ y.key) pairs (x ∷ []) h.within (omega arith, tt);
+        values = λ k a b. ⊎_elim (λ (l : k < from).
+            subst (Had p q k) (sym (among_old pairs x k (omega arith))) (before s.read k a l))
+            (λ (l : from ≤ k). subst (Had p q k) (sym (among_new pairs x from k h.low l))
+            (had_before p m q h.read k (value_among (x ∷ []) k) (s.values k l b)))
+            (cases_lt k from);
+      }
+
+-- those of all spans
+pub all_up : (p : PassFace) (first : ℕ) (q : PassFace) (behind : ℕ) (pairs : List Pair)
+    → ReadsUp p first q behind pairs → Listed p q first behind pairs
+all_up p first _ _ _ none_up = listed_none p first
+all_up p first q behind _ (span_up {m = m} {from = from} {pairs = pairs} pair r begins s) =
+    listed_on p m q first from from behind pairs (all_up p first m from pairs r) pair s
+
+-- the pairs lie between both ends
+each_both : (pairs : List Pair) (first last : ℕ) → Each (λ x. first ≤ x.key) pairs
+    → Each (λ x. x.key < last + 1) pairs → Each (λ x. (first ≤ x.key) × (x.key ≤ last)) pairs
+each_both [] first last a b = tt
+each_both (x ∷ pairs) first last a b =
+    let less = b.0 in ((a.0, omega arith), each_both pairs first last a.1 b.1)
+
+-- all keys up to the last one were read
+pub all_live : (p q : PassFace) (first last : ℕ) (pairs : List Pair)
+    → ReadsUp p first q (last + 1) pairs → AreLive p q first last pairs
+all_live p q first last pairs r =
+    let h = all_up p first q (last + 1) pairs r in
+    record {
+      rise = h.rise;
+      within = each_both pairs first last h.within h.low;
+      values = λ k low high. h.values k low (omega arith);
+    }
+
+-- where there are none, nothing needs to be read
+pub none_live : (p : PassFace) (first last : ℕ) → last < first → AreLive p p first last []
+none_live p first last less =
+    record {
+      rise = λ k h. absurd (omega arith);
+      within = tt;
+      values = λ k low high. absurd (omega arith);
+    }

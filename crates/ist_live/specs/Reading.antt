@@ -1,0 +1,62 @@
+-- Reading keys in order: one span after another, each at a later moment of the pass.
+use Rattle.std.specs.Prelude.{◌≡◌, ℕ, ◌+◌, ◌<◌, ◌≤◌, ◌⊎◌, List, [], ◌∷◌, ◌++◌, Option, Some, None, IfSome}
+use Rattle.ist_core.specs.declared.pairs.Pair.{Pair}
+use Rattle.laws_histories.specs.Searching.{HasPosition}
+use Rattle.ist_find.specs.Spans.{pair_value, IsEdge}
+use Rattle.ist_tree.specs.Calls.{HasSeenMore}
+use Rattle.ist_tree.specs.Faces.{PassFace}
+use Rattle.ist_tree.specs.Spans.{HasLoadedFewOver, state_seen}
+
+-- the pass has seen more, and is otherwise unchanged: a read is no call of the map
+pub record HasRead (p q : PassFace) : Type 0 where
+  pub seen : HasSeenMore p q
+  pub calls : q.calls ≡ p.calls
+  pub stamp : q.stamp ≡ p.stamp
+  pub refused : q.refused ≡ p.refused
+
+-- between these two moments of the pass, the key had this value, or none, at some position
+abbrev pub Had : PassFace → PassFace → ℕ → Option ℕ → Type 0
+Had p q key value = HasPosition p.tree.start p.tree.words p.seen q.seen key value
+
+-- each key from the first to before `behind` had none, at a position of its own
+abbrev pub HadNone : PassFace → PassFace → ℕ → ℕ → Type 0
+HadNone p q first behind = (k : ℕ) → first ≤ k → k < behind → Had p q k None
+
+-- ---- a span
+
+-- the pair as a list
+abbrev pub one_of : Option Pair → List Pair
+one_of (Some pair) = pair ∷ []
+one_of None = []
+
+-- by one search for the key that was asked for, the pass read all keys from the first to before `behind`:
+-- each had what the pair gives it at a position of its own
+pub record HasReadSpan (p q : PassFace) (asked first behind : ℕ) (pair : Option Pair) : Type 0 where
+  pub read : HasRead p q
+  pub low : first ≤ asked
+  pub high : asked < behind
+  pub within : IfSome pair (λ x. (first ≤ x.key) × (x.key < behind))
+  pub values : (k : ℕ) → first ≤ k → k < behind → Had p q k (pair_value pair k)
+  pub loads : HasLoadedFewOver p q asked (pair_value pair asked)
+
+-- a read begins at the key that its caller named, or at an edge of the tree
+abbrev pub Begins : PassFace → ℕ → ℕ → Type 0
+Begins p named key = (key ≡ named) ⊎ IsEdge (state_seen p) key
+
+-- ---- span after span
+
+-- the pass read the keys from the first to before `behind` upwards, one span after another, and found
+-- these pairs. What a later span tells isn't older than what an earlier one told
+pub data ReadsUp (p : PassFace) (first : ℕ) : PassFace → ℕ → List Pair → Type 0 where
+  none_up : ReadsUp p first p first []
+  span_up : {m q : PassFace} {from behind : ℕ} {pairs : List Pair} (pair : Option Pair)
+      → ReadsUp p first m from pairs → Begins m first from
+      → HasReadSpan m q from from behind pair → ReadsUp p first q behind (pairs ++ one_of pair)
+
+-- the pass read the keys from `first` to before `behind` downwards, one span after another
+pub data ReadsDown (p : PassFace) (behind : ℕ) : PassFace → ℕ → List Pair → Type 0 where
+  none_down : ReadsDown p behind p behind []
+  span_down : {m q : PassFace} {from first : ℕ} {pairs : List Pair} (pair : Option Pair)
+      → ReadsDown p behind m (from + 1) pairs → Begins m behind (from + 1)
+      → HasReadSpan m q from first (from + 1) pair
+      → ReadsDown p behind q first (one_of pair ++ pairs)

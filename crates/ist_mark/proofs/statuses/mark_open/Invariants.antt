@@ -1,0 +1,6 @@
+use Rattle.ist_mark.specs.Naming.{marking}
+use Rattle.ist_mark.proofs.statuses.mark_open.Given as goal
+
+-- the event is the Mark of the node whose status lies there
+abbrev pub ghost-exchange : goal.ghost-exchange
+ghost-exchange a = marking a.seat.now.view a.place

@@ -1,0 +1,23 @@
+use Rattle.std.proofs.Common.{◌+◌, ap, subst, arith}
+use Rattle.ist_rule.specs.Learning.{Looked}
+use Rattle.ist_core.specs.Pieces.{Inner}
+use Rattle.ist_dcss.proofs.FieldLemmas.{row_low}
+use Rattle.ist_mark.proofs.MarkLemmas.{mark_row}
+use Rattle.ist_mark.proofs.statuses.own_word.Goals as goal
+
+-- the row lies within the table
+pub load-requires-clause-within : goal.load-requires-clause-within
+load-requires-clause-within c =
+    let it = mark_row _ c.know.ensures.sound c.args.node c.requires.may_mark in
+    let first = c.requires.first in
+    let low = (row_low _ c.know.ensures.sound c.args.node (Inner it.0) it.1 c.args.offset
+    (omega arith)).0 in
+    let from = c.from.ensures in
+    let known = c.know.ensures.words in
+    let same = ap (λ t. t.words) c.requires.same_table in
+    omega arith
+
+pub returns-clause-looked : goal.returns-clause-looked
+returns-clause-looked c =
+    subst (λ n. Looked c.args.seat.now.view (n + c.args.offset) c.load.result c.load.new.seat.view)
+    c.from.ensures c.load.ensures.looked

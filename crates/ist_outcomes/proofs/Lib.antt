@@ -1,5 +1,0 @@
-pub mod BetweenLemmas
-pub mod AcceptedLemmas
-pub mod InstalledLemmas
-pub mod CountedLemmas
-pub mod UpLemmas

@@ -1,6 +1,0 @@
-use Rattle.ist_samples.specs.Samples.{sample_put}
-use Rattle.ist_samples.proofs.changes.install_put.Given as goal
-
--- the change is the put of a leaf of 1 and 1 into the anchor's slot
-abbrev pub ghost-install : goal.ghost-install
-ghost-install a = sample_put

@@ -1,6 +1,0 @@
-//! Laws over lawful logs on events that stay enabled while others make events. Nothing here runs.
-//!
-//! `specs/Lib.antt` gives the statements in reading order. Stands on `ist_core` and `ist_links`.
-#![tactic(auto)]
-
-pub mod laws;

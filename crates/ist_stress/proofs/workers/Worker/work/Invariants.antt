@@ -1,7 +1,0 @@
-use Rattle.std.proofs.Common.{◌≡◌}
-use Rattle.ist_stress.proofs.workers.Worker.work.Given as goal
-
--- the pass stays on the tree
-abbrev pub invariant-loop : goal.invariant-loop
-invariant-loop g l =
-    (l.self.pass.tree ≡ l.tree) × (l.self.plan ≡ l.fn.self.plan)

@@ -1,7 +1,0 @@
-use Rattle.std.proofs.Common.{◌≡◌}
-use Rattle.ist_tree.specs.Freezing.{IsFrozenFor}
-use Rattle.ist_stress.proofs.workers.frozen_pairs.Given as goal
-
--- the tree stays frozen
-abbrev pub invariant-loop-i : goal.invariant-loop-i
-invariant-loop-i l = (l.pass.tree ≡ l.tree) × IsFrozenFor l.pass l.frozen

@@ -1,0 +1,72 @@
+-- What a word names instead of a row, and that it was helped. Serves `help_other`.
+use Rattle.std.proofs.Common.{◌≡◌, ◌≢◌, ℕ, Option, Some, None, ap, sym, ◌∙◌, subst}
+use Rattle.ist_core.specs.Logs.{Happened, Resolves}
+use Rattle.ist_core.specs.References.{ChangeAt, Empty, InnerAt, LeafAt, RebuildAt, Ref, Unset, ref_of}
+use Rattle.ist_rule.specs.declared.view.View.{View}
+use Rattle.ist_rule.specs.Learning.{now}
+use Rattle.ist_build.specs.Calls.{IsBuildable}
+use Rattle.ist_tree.specs.declared.rebuilding.Instead.TheVariants.{Rebuild, Change, Other}
+use Rattle.ist_tree.specs.Working.{IsHelpedWord, instead_of}
+
+-- a rebuild's word
+pub names_rebuild : (ref : Option Ref) (base : ℕ) → instead_of ref ≡ Rebuild base
+    → ref ≡ Some (RebuildAt base)
+names_rebuild (Some (RebuildAt other)) base e = cc
+names_rebuild (Some (ChangeAt other)) base e = absurd (cc)
+names_rebuild (Some (LeafAt other)) base e = absurd (cc)
+names_rebuild (Some (InnerAt other)) base e = absurd (cc)
+names_rebuild (Some Empty) base e = absurd (cc)
+names_rebuild (Some Unset) base e = absurd (cc)
+names_rebuild None base e = absurd (cc)
+
+-- a change's word
+pub names_change : (ref : Option Ref) (base : ℕ) → instead_of ref ≡ Change base
+    → ref ≡ Some (ChangeAt base)
+names_change (Some (RebuildAt other)) base e = absurd (cc)
+names_change (Some (ChangeAt other)) base e = cc
+names_change (Some (LeafAt other)) base e = absurd (cc)
+names_change (Some (InnerAt other)) base e = absurd (cc)
+names_change (Some Empty) base e = absurd (cc)
+names_change (Some Unset) base e = absurd (cc)
+names_change None base e = absurd (cc)
+
+same_rebuild_base : (a b : ℕ) → Some (RebuildAt a) ≡ Some (RebuildAt b) → a ≡ b
+same_rebuild_base a b e = cc
+
+same_change_base : (a b : ℕ) → Some (ChangeAt a) ≡ Some (ChangeAt b) → a ≡ b
+same_change_base a b e = cc
+
+no_change_here : (a b : ℕ) → Some (RebuildAt a) ≢ Some (ChangeAt b)
+no_change_here a b e = cc
+
+-- a rebuild was helped
+pub rebuild_helped : (w : View) (word base : ℕ) → ref_of word ≡ Some (RebuildAt base)
+    → IsBuildable (now w) base → IsHelpedWord w word
+rebuild_helped w word base is done =
+    record {
+      change = λ other e. absurd (no_change_here base other (sym is ∙ e));
+      rebuild = λ other e. subst (IsBuildable (now w)) (same_rebuild_base base other (sym is ∙ e)) done;
+    }
+
+-- a change was helped
+pub change_helped : (w : View) (word base : ℕ) → ref_of word ≡ Some (ChangeAt base)
+    → Happened (Resolves base) w.log → IsHelpedWord w word
+change_helped w word base is done =
+    record {
+      change = λ other e. subst (λ n. Happened (Resolves n) w.log) (same_change_base base other (sym is ∙ e)) done;
+      rebuild = λ other e. absurd (no_change_here other base (sym e ∙ is));
+    }
+
+-- neither stood there
+pub none_helped : (w : View) (word : ℕ) → instead_of (ref_of word) ≡ Other → IsHelpedWord w word
+none_helped w word other =
+    record {
+      change = λ base e. absurd (clash_change base (sym (ap instead_of e) ∙ other));
+      rebuild = λ base e. absurd (clash_rebuild base (sym (ap instead_of e) ∙ other));
+    }
+  where
+    clash_change : (base : ℕ) → Change base ≢ Other
+    clash_change base e = cc
+
+    clash_rebuild : (base : ℕ) → Rebuild base ≢ Other
+    clash_rebuild base e = cc

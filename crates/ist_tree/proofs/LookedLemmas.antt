@@ -1,0 +1,148 @@
+-- A find that is given up at its end, in the words of its steps, and what it leaves. Serves `find_unless` and `update_if`.
+use Rattle.std.proofs.Common.{◌≡◌, ◌≢◌, ℕ, ◌+◌, Option, Some, None, length, refl, inl, ⊎_elim, sym, ap, ap₂, ◌∙◌, subst, arith}
+use Rattle.ist_core.specs.declared.events.Event.TheVariants.{Count}
+use Rattle.ist_core.specs.Authors.{whose}
+use Rattle.laws_settling.proofs.DoneLemmas.{others_start_nothing}
+use Rattle.ist_tree.specs.Refusals.{KeepsRefusal}
+use Rattle.ist_tree.specs.Rounds.{HasNoEffect}
+use Rattle.ist_tree.proofs.CameLemmas.{event_since}
+use Rattle.ist_tree.proofs.InstallLemmas.{none_due, not_before}
+use Rattle.ist_core.specs.declared.commands.Command.TheVariants.{Get}
+use Rattle.ist_core.specs.declared.events.Who.{Who}
+use Rattle.ist_core.specs.declared.events.Who.TheVariants.{Caller as CallerOf}
+use Rattle.ist_core.specs.declared.ports.Full.{Full}
+use Rattle.ist_core.specs.Authors.{Later}
+use Rattle.laws_histories.specs.Searching.{HasPosition}
+use Rattle.ist_rule.specs.declared.view.View.{View}
+use Rattle.ist_rule.specs.Conditions.{CanGiveUp}
+use Rattle.ist_rule.specs.Faces.{SeatFace}
+use Rattle.ist_rule.specs.Learning.{Turned, beginning, giving_up}
+use Rattle.ist_rule.specs.Rule.{IsSound}
+use Rattle.ist_rule.proofs.LaterLemmas.{later-goes_on, later_more}
+use Rattle.ist_rows.specs.declared.callers.Caller.{Caller}
+use Rattle.ist_find.specs.Searches.{HasSearched}
+use Rattle.ist_tree.specs.Calls.{HasSeenMore}
+use Rattle.ist_tree.specs.Faces.{PassFace}
+use Rattle.ist_tree.specs.Insides.{IsPass, IsPassWith, face_as, pass_face}
+use Rattle.ist_tree.specs.Rounds.{HadValue}
+use Rattle.ist_tree.proofs.BetweenLemmas.{between_behind}
+use Rattle.ist_tree.proofs.FindingLemmas.{searched_view}
+use Rattle.ist_tree.proofs.FoundLemmas.{before, its_position, later, lawful, w_is}
+use Rattle.laws_histories.proofs.PositionOnLemmas.{position_on}
+use Rattle.ist_tree.proofs.GoingLemmas.{IsLaterView, pass_with_later}
+
+-- what a find that is given up results in, for a pass with this face
+pub record FindLeaves (old : PassFace) (who : Caller) (refused : Option Full) (seat : SeatFace)
+    (key : ℕ) (value : Option ℕ) : Type 0 where
+  pub pass : IsPassWith (record who { seat = seat }) refused
+  pub seen : HasSeenMore old (face_as seat who.number refused)
+  pub others : Later (CallerOf old.number) old.seen seat.view.log
+  pub calls : seat.view.calls ≡ old.calls
+  pub stamp : seat.view.stamp ≡ old.stamp
+  pub position : HadValue old (face_as seat who.number refused) key value
+
+-- the seat began a get and searched
+module _ (who : Caller) (key : ℕ) (value : Option ℕ) (b w : View) (s : IsSound who.seat.view)
+    (p : IsPass who) (begun : Turned who.seat.view (beginning who.seat.view (Some (Get key))) b)
+    (seen : HasSearched b w) (has : HasPosition w.start w.words b.log w.log key value) where
+  -- the view before the find
+  abbrev v : View
+  v = who.seat.view
+
+  to_b : Later (CallerOf who.number) v.log b.log
+  to_b = before who key value b w s p begun seen has
+
+  to_w : Later (CallerOf who.number) b.log w.log
+  to_w = later who key value b w s p begun seen has
+
+  is_w : w ≡ searched_view v key b.log w.log w.loads w.loaded w.searches
+  is_w = w_is who key value b w s p begun seen has
+
+  -- it may give its call up
+  pub can_leave : CanGiveUp w
+  can_leave =
+      let between = between_behind v who.number s p.caller.mine p.in_none w.log
+      (lawful who key value b w s p begun seen has) (later_more to_b to_w) in
+      subst CanGiveUp (sym is_w)
+      record {
+        number = who.number;
+        mine = p.caller.mine;
+        pending = record { command = Some (Get key); length = length b.log };
+        in_call = refl;
+        resolved = between.resolved;
+        none = between.made;
+      }
+
+  -- and gave it up
+  module _ (seat : SeatFace) (refused : Option Full) (all : IsPassWith who refused)
+      (same_table : seat.table ≡ who.seat.table)
+      (given : Turned w (giving_up w) seat.view) where
+    -- the view after the find
+    abbrev x : View
+    x = seat.view
+
+    x_is : x ≡ record v { log = x.log; loads = w.loads; loaded = w.loaded + 1; searches = w.searches; pending = None }
+    x_is = given.view ∙ ap (λ (y : View). giving_up y x.log) is_w
+
+    w_to_x : Later (CallerOf who.number) w.log x.log
+    w_to_x =
+        subst (λ (a : Who). Later a w.log x.log) (ap (λ (y : View). y.who) is_w ∙ p.caller.mine)
+        given.later
+
+    all_later : Later (CallerOf who.number) v.log x.log
+    all_later = later_more (later_more to_b to_w) w_to_x
+
+    later_view : IsLaterView v x
+    later_view =
+        record {
+          who_is = ap (λ (y : View). y.who) x_is;
+          start_is = ap (λ (y : View). y.start) x_is;
+          words_is = ap (λ (y : View). y.words) x_is;
+          later = subst (λ a. Later a v.log x.log) (sym p.caller.mine) all_later;
+          sound = given.sound;
+        }
+
+    -- a find that is given up results in this
+    pub find_leaves : (old : PassFace) → pass_face who refused ≡ old
+        → FindLeaves old who refused seat key value
+    find_leaves old view =
+        subst (λ (o : PassFace). FindLeaves o who refused seat key value) view
+        record {
+          pass = pass_with_later who seat refused all later_view (ap (λ (y : View). y.pending) x_is);
+          seen = record {
+            tree = ap₂ (λ t (y : View). record { table = t; start = y.start; words = y.words })
+                same_table x_is;
+            number = refl;
+            seen = later-goes_on all_later;
+            stamp = let same = ap (λ (y : View). y.stamp) x_is in omega arith;
+          };
+          others = all_later;
+          calls = ap (λ (y : View). y.calls) x_is;
+          stamp = ap (λ (y : View). y.stamp) x_is;
+          position = position_on v.start v.words v.log b.log w.log x.log (later-goes_on to_b)
+              (later-goes_on w_to_x) key value
+              (its_position who key value b w s p begun seen has);
+        }
+
+-- ---- what only saw more had no effect
+
+-- what had no effect keeps the refusal that there was
+pub idle_keeps : (p q : PassFace) → HasNoEffect p q → KeepsRefusal p q
+idle_keeps p q i =
+    record { stays = λ full e. i.refused ∙ e; cause = λ full e. inl (sym i.refused ∙ e) }
+
+-- a pass that only saw more had no effect
+pub only_saw : (p q : PassFace) → HasSeenMore p q → q.refused ≡ p.refused
+    → Later (CallerOf p.number) p.seen q.seen → HasNoEffect p q
+only_saw p q s r l =
+    record {
+      seen = s;
+      refused = r;
+      none_came = λ row c.
+          ⊎_elim (λ before. not_before p.tree.start p.tree.words p.number (Count p.number row) p.seen c.at c.since before)
+          (λ other. other refl)
+          (event_since (λ event. whose event ≢ CallerOf p.number) (Count p.number row) p.seen c.at
+          q.seen l c.until);
+      starts = none_due p.tree.start p.tree.words p.number
+          (λ event. whose event ≢ CallerOf p.number) (others_start_nothing p.number) p.seen q.seen l;
+    }

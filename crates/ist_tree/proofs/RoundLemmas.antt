@@ -1,0 +1,291 @@
+-- A pass that has let calls go: what its next call does holds since the beginning too. Serves
+-- `update_if`.
+use Rattle.std.proofs.Common.{◌≡◌, ℕ, ◌∷◌, Option, sym, ap, ◌∙◌, subst, inl, inr, refl, ⊎_elim, arith}
+use Rattle.std.proofs.Math.Nat.{le_trans}
+use Rattle.ist_core.specs.declared.commands.Command.{Command}
+use Rattle.ist_core.specs.declared.events.Event.TheVariants.{Count, Install}
+use Rattle.ist_core.specs.declared.ports.Full.{Full}
+use Rattle.ist_core.specs.Lawful.{Lawful, state_of}
+use Rattle.ist_core.specs.Logs.{GoesOn, Log, same_log}
+use Rattle.ist_core.specs.StartLayout.{start}
+use Rattle.ist_core.proofs.FateLemmas.{grow_between}
+use Rattle.laws_histories.proofs.ChangeLemmas.{changes_rise}
+use Rattle.laws_links.proofs.FormLemmas.{replaced_grows}
+use Rattle.ist_rule.proofs.LaterLemmas.{goes_on_more}
+use Rattle.ist_tree.specs.Calls.{AddsCall, HasSeenMore}
+use Rattle.ist_tree.specs.DueRows.{CameDue, HasCounted, LeavesNoneDue, StartsOnlyDue, is_closed, none_came, was_refused}
+use Rattle.ist_tree.specs.Faces.{PassFace}
+use Rattle.ist_tree.specs.Refusals.{HadTooFew, IsAskedIn, IsRebuildRefused, IsRefused, KeepsRefusal, for_leaf, for_pair, for_put, for_rebuild, for_remove}
+use Rattle.ist_tree.specs.Rounds.{HasLetGo, HasNoEffect}
+use Rattle.ist_tree.proofs.CameLemmas.{in_order, whole_or_before}
+use Rattle.ist_tree.proofs.InstallLemmas.{due_more, not_before}
+
+-- the pass as it was let go, when it had seen the log, had made this many loads and had begun this
+-- many walks
+abbrev pub let_go_at : PassFace → Log → ℕ → ℕ → PassFace
+let_go_at p seen loaded searches = record p { seen = seen; loaded = loaded; searches = searches }
+
+module _ (p : PassFace) (seen : Log) (loaded searches : ℕ) (g : GoesOn p.seen seen) (q : PassFace) where
+  -- the pass between the two parts
+  abbrev m : PassFace
+  m = let_go_at p seen loaded searches
+
+  -- ---- refusals
+
+  few_since : (full : Full) → HadTooFew m q full → HadTooFew p q full
+  few_since full h =
+      record {
+        at = h.at;
+        since = goes_on_more g h.since;
+        until = h.until;
+        few = record {
+          next_is = h.few.next_is;
+          words_is = h.few.words_is;
+          small = h.few.small;
+        };
+      }
+
+  rebuild_since : (full : Full) → IsRebuildRefused m q full → IsRebuildRefused p q full
+  rebuild_since full r = record { had = few_since full r.had; asked = r.asked }
+
+  asked_since : Lawful p.tree.start p.tree.words seen → (key : ℕ) (value : Option ℕ) (asked : ℕ)
+      → IsAskedIn m q key value asked → IsAskedIn p q key value asked
+  asked_since lawful key _ asked (for_leaf e) = for_leaf e
+  asked_since lawful key _ asked (for_pair e) = for_pair e
+  asked_since lawful key _ asked (for_put e) = for_put e
+  asked_since lawful key _ asked (for_remove found has e) =
+      for_remove found
+      record {
+        position = has.position;
+        from = le_trans (changes_rise (start p.tree.start p.tree.words) p.seen seen g) has.from;
+        to = has.to;
+        value_is = has.value_is;
+      }
+      e
+  asked_since lawful key value asked (for_rebuild met a) =
+      for_rebuild
+      record {
+        rebuild = met.rebuild;
+        started = met.started;
+        unreplaced = λ k. met.unreplaced
+            (replaced_grows (state_of p.tree.start p.tree.words p.seen)
+            (state_of p.tree.start p.tree.words seen)
+            (grow_between p.tree.start p.tree.words p.seen seen lawful.enabled g) met.rebuild k);
+      }
+      a
+
+  refused_since : Lawful p.tree.start p.tree.words seen → (key : ℕ) (value : Option ℕ) (full : Full)
+      → IsRefused m q key value full → IsRefused p q key value full
+  refused_since lawful key value full r =
+      record {
+        had = few_since full r.had;
+        asked = asked_since lawful key value full.asked r.asked;
+      }
+
+  keeps_since : KeepsRefusal m q → KeepsRefusal p q
+  keeps_since k =
+      record {
+        stays = k.stays;
+        cause = λ full e. ⊎_elim (λ was. inl was) (λ r. inr (rebuild_since full r)) (k.cause full e);
+      }
+
+  -- ---- calls and counts
+
+  adds_since : (command : Command) (reply : Option ℕ) → AddsCall m q command reply
+      → AddsCall p q command reply
+  adds_since command reply a =
+      record {
+        call = a.call;
+        command_is = a.command_is;
+        reply_is = a.reply_is;
+        stamp_is = a.stamp_is;
+        calls_are = a.calls_are;
+        added = record {
+          has_calls = a.added.has_calls;
+          fresh = record {
+            position = le_trans (changes_rise (start p.tree.start p.tree.words) p.seen seen g)
+                a.added.fresh.position;
+            later = a.added.fresh.later;
+          };
+        };
+        learnt = λ other l h. a.learnt other
+            record { tree = l.tree; seen = goes_on_more l.seen g; stamp = l.stamp } h;
+      }
+
+  counted_since : (command : Command) → HasCounted m q command → HasCounted p q command
+  counted_since command c =
+      record {
+        base = c.base;
+        change = c.change;
+        published = c.published;
+        owned = c.owned;
+        command_is = c.command_is;
+        decision = c.decision;
+        rows = c.rows;
+        chain = c.chain;
+        counted = λ row i. let it = c.counted row i in
+            record { at = it.at; since = goes_on_more g it.since; until = it.until };
+      }
+
+  -- ---- rows that reached their limits
+
+  module _ (none : (row : ℕ) → ¬ (CameDue p m row)) (longer : GoesOn seen q.seen) where
+    came_then : (row : ℕ) → CameDue p q row → CameDue m q row
+    came_then row c =
+        ⊎_elim (λ before. absurd (none row (early before)))
+        (λ since. ⊎_elim
+        (λ whole. absurd (none row (early (subst (GoesOn (Count p.number row ∷ c.at)) (sym whole) same_log))))
+        (λ on. record {
+          at = c.at;
+          since = on;
+          until = c.until;
+          row = c.row;
+          published = c.published;
+          reached = c.reached;
+        })
+        (whole_or_before seen (Count p.number row) c.at since))
+        (in_order c.until longer)
+      where
+        early : GoesOn (Count p.number row ∷ c.at) seen → CameDue p m row
+        early before =
+            record {
+              at = c.at;
+              since = c.since;
+              until = before;
+              row = c.row;
+              published = c.published;
+              reached = c.reached;
+            }
+
+    came_since : (row : ℕ) → CameDue m q row → CameDue p q row
+    came_since row c =
+        record {
+          at = c.at;
+          since = goes_on_more g c.since;
+          until = c.until;
+          row = c.row;
+          published = c.published;
+          reached = c.reached;
+        }
+
+    none_since : ((row : ℕ) → ¬ (CameDue m q row)) → (row : ℕ) → ¬ (CameDue p q row)
+    none_since quiet row c = quiet row (came_then row c)
+
+    due_since : LeavesNoneDue m q → LeavesNoneDue p q
+    due_since (none_came quiet) = none_came (none_since quiet)
+    due_since (is_closed row t closed) =
+        is_closed row
+        record {
+          came = came_since row t.came;
+          above = λ other c. t.above other (came_then other c);
+        }
+        closed
+    due_since (was_refused full r e) = was_refused full (rebuild_since full r) e
+
+  starts_since : StartsOnlyDue p m → GoesOn seen q.seen → StartsOnlyDue m q → StartsOnlyDue p q
+  starts_since before longer then =
+      due_more p.tree.start p.tree.words p.number p.seen seen q.seen longer before then
+
+  seen_since : HasSeenMore m q → HasSeenMore p q
+  seen_since h =
+      record { tree = h.tree; number = h.number; seen = goes_on_more g h.seen; stamp = h.stamp }
+
+-- ---- in the words of what was let go
+
+module _ (p m : PassFace) (h : HasLetGo p m) where
+  g : GoesOn p.seen m.seen
+  g = h.idle.seen.seen
+
+  -- the pass differs by its log, its loads and its walks only
+  pub is_let_go : m ≡ let_go_at p m.seen m.loaded m.searches
+  is_let_go =
+      ap (λ t. record m { tree = t }) h.idle.seen.tree
+      ∙ ap (λ n. record m { tree = p.tree; number = n }) h.idle.seen.number
+      ∙ ap (λ n. record m { tree = p.tree; number = p.number; stamp = n }) h.stamp
+      ∙ ap (λ calls. record m { tree = p.tree; number = p.number; stamp = p.stamp; calls = calls })
+      h.calls
+      ∙ ap (λ r. record m { tree = p.tree; number = p.number; stamp = p.stamp; calls = p.calls; refused = r })
+      h.idle.refused
+
+  back : (Q : PassFace → Type 0) → Q m → Q (let_go_at p m.seen m.loaded m.searches)
+  back Q = subst Q is_let_go
+
+  none : (row : ℕ) → ¬ (CameDue p (let_go_at p m.seen m.loaded m.searches) row)
+  none = back (λ (x : PassFace). (row : ℕ) → ¬ (CameDue p x row)) h.idle.none_came
+
+  starts : StartsOnlyDue p (let_go_at p m.seen m.loaded m.searches)
+  starts = back (λ (x : PassFace). StartsOnlyDue p x) h.idle.starts
+
+  module _ (q : PassFace) where
+    -- the pass has seen more since the first part
+    pub seen_from : HasSeenMore m q → HasSeenMore p q
+    seen_from s = seen_since p m.seen m.loaded m.searches g q (back (λ (x : PassFace). HasSeenMore x q) s)
+
+    -- a call that the second part adds is added since the first part
+    pub adds_from : (command : Command) (reply : Option ℕ) → AddsCall m q command reply
+        → AddsCall p q command reply
+    adds_from command reply a =
+        adds_since p m.seen m.loaded m.searches g q command reply
+        (back (λ (x : PassFace). AddsCall x q command reply) a)
+
+    -- what the second part counted is counted since the first part
+    pub counted_from : (command : Command) → HasCounted m q command → HasCounted p q command
+    counted_from command c =
+        counted_since p m.seen m.loaded m.searches g q command (back (λ (x : PassFace). HasCounted x q command) c)
+
+    -- if the second part leaves no row due, none is left due since the first part
+    pub due_from : GoesOn m.seen q.seen → LeavesNoneDue m q → LeavesNoneDue p q
+    due_from longer d =
+        due_since p m.seen m.loaded m.searches g q none longer (back (λ (x : PassFace). LeavesNoneDue x q) d)
+
+    -- rebuilds started since the first part were of rows at their limits
+    pub starts_from : GoesOn m.seen q.seen → StartsOnlyDue m q → StartsOnlyDue p q
+    starts_from longer d =
+        starts_since p m.seen m.loaded m.searches g q starts longer (back (λ (x : PassFace). StartsOnlyDue x q) d)
+
+    -- a refusal in the second part is one since the first part
+    pub refused_from : Lawful m.tree.start m.tree.words m.seen → (key : ℕ) (value : Option ℕ)
+        (full : Full) → IsRefused m q key value full → IsRefused p q key value full
+    refused_from lawful key value full r =
+        refused_since p m.seen m.loaded m.searches g q
+        (back (λ (x : PassFace). Lawful x.tree.start x.tree.words m.seen) lawful) key value full
+        (back (λ (x : PassFace). IsRefused x q key value full) r)
+
+    -- a refusal of a rebuild is kept since the first part
+    pub keeps_from : KeepsRefusal m q → KeepsRefusal p q
+    keeps_from k = keeps_since p m.seen m.loaded m.searches g q (back (λ (x : PassFace). KeepsRefusal x q) k)
+
+    -- what had no effect had none since the beginning
+    pub idle_from : HasNoEffect m q → HasNoEffect p q
+    idle_from i =
+        record {
+          seen = seen_from i.seen;
+          refused = i.refused ∙ h.idle.refused;
+          none_came = none_since p m.seen m.loaded m.searches g q none i.seen.seen
+              (back (λ (x : PassFace). (row : ℕ) → ¬ (CameDue x q row)) i.none_came);
+          starts = starts_from i.seen.seen i.starts;
+        }
+
+    -- if the second part is given up too, nothing took effect since the first part
+    pub let_go_from : HasLetGo m q → HasLetGo p q
+    let_go_from l =
+        record {
+          idle = idle_from l.idle;
+          calls = l.calls ∙ h.calls;
+          stamp = l.stamp ∙ h.stamp;
+        }
+
+-- a pass that did nothing has let go
+pub let_go_none : (p : PassFace) → HasLetGo p p
+let_go_none p =
+    record {
+      idle = record {
+        seen = record { tree = refl; number = refl; seen = same_log; stamp = omega arith };
+        refused = refl;
+        none_came = λ row c. not_before p.tree.start p.tree.words p.number (Count p.number row) p.seen c.at c.since c.until;
+        starts = λ at base rows change since until is kind.
+            absurd (not_before p.tree.start p.tree.words p.number (Install p.number base rows) p.seen at since until);
+      };
+      calls = refl;
+      stamp = refl;
+    }

@@ -1,0 +1,33 @@
+-- What a pass did without effect, and which value a key had meanwhile.
+use Rattle.std.specs.Prelude.{◌≡◌, ℕ, Option}
+use Rattle.laws_histories.specs.Searching.{HasPosition}
+use Rattle.ist_updates.specs.declared.updates.When.{When}
+use Rattle.ist_updates.specs.Meeting.{IsMissedBy}
+use Rattle.ist_tree.specs.Calls.{HasSeenMore}
+use Rattle.ist_tree.specs.DueRows.{CameDue, StartsOnlyDue}
+use Rattle.ist_tree.specs.Faces.{PassFace}
+
+-- the pass met no refused rebuild, no row reached its limit by its counts, and each rebuild that it
+-- started was of a due row
+pub record HasNoEffect (p q : PassFace) : Type 0 where
+  pub seen : HasSeenMore p q
+  pub refused : q.refused ≡ p.refused
+  pub none_came : (row : ℕ) → ¬ (CameDue p q row)
+  pub starts : StartsOnlyDue p q
+
+-- what the pass did had no effect, and added no call to it
+pub record HasLetGo (p q : PassFace) : Type 0 where
+  pub idle : HasNoEffect p q
+  pub calls : q.calls ≡ p.calls
+  pub stamp : q.stamp ≡ p.stamp
+
+-- the key had this value at a position between what the pass had seen before and what it has seen
+-- since
+abbrev pub HadValue : PassFace → PassFace → ℕ → Option ℕ → Type 0
+HadValue p q key value = HasPosition p.tree.start p.tree.words p.seen q.seen key value
+
+-- at such a position the key had a value at which the update isn't meant to take effect
+pub record HadMissed (p q : PassFace) (key : ℕ) (when : When) : Type 0 where
+  pub had : Option ℕ
+  pub missed : IsMissedBy when had
+  pub position : HadValue p q key had

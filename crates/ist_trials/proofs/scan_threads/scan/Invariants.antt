@@ -1,7 +1,0 @@
-use Rattle.std.proofs.Common.{◌≡◌}
-use Rattle.ist_trials.proofs.scan_threads.scan.Given as goal
-
--- the pass stays on the tree
-abbrev pub invariant-loop : goal.invariant-loop
-invariant-loop g l =
-    l.pass.tree ≡ l.tree

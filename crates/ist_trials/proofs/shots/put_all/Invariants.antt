@@ -1,7 +1,0 @@
-use Rattle.std.proofs.Common.{◌≡◌}
-use Rattle.ist_trials.proofs.shots.put_all.Given as goal
-
--- the pass stays on the tree
-abbrev pub invariant-loop-pair : goal.invariant-loop-pair
-invariant-loop-pair g l =
-    l.pass.tree ≡ l.tree

@@ -1,9 +1,0 @@
-use Rattle.std.proofs.Common.{◌∙◌}
-use Rattle.ist_samples.proofs.PutLemmas.{put_met}
-use Rattle.ist_units.proofs.helping.help_met.Goals as goal
-
--- the caller has met the change
-pub help-requires-clause-may_help : goal.help-requires-clause-may_help
-help-requires-clause-may_help c =
-    put_met _ _ _ _ c.requires.caller.mine c.load-met.ensures.looked
-    (c.if-met-to_word.true ∙ c.to_word.ensures.value)

@@ -1,0 +1,234 @@
+-- Each walk that is to begin again has seen the table come further. Serves `try_slot` and `apply`.
+use Rattle.std.proofs.Common.{◌≡◌, ◌≢◌, ℕ, List, Some, Result, Ok, sym, ap, ◌∙◌, subst, inl, inr, ⊎_elim, refl}
+use Rattle.ist_core.specs.declared.events.Event.{Event}
+use Rattle.ist_core.specs.declared.states.ChangeRow.{ChangeRow}
+use Rattle.ist_core.specs.Lawful.{state_of}
+use Rattle.ist_core.specs.Links.{WasLinked}
+use Rattle.ist_core.specs.Logs.{GoesOn, Happened, Resolves, same_log}
+use Rattle.ist_core.specs.Pieces.{Rebuild}
+use Rattle.ist_core.specs.Rebuilding.{IsReplaced}
+use Rattle.ist_core.specs.References.{ChangeAt, InnerAt, RebuildAt, ref_of}
+use Rattle.ist_core.specs.RowLayout.{anchor}
+use Rattle.ist_core.specs.Slots.{IsOpen, SlotHolds, anchor_is, past_change}
+use Rattle.ist_core.specs.Snapshots.{Snapshot}
+use Rattle.ist_core.specs.StartLayout.{start}
+use Rattle.ist_core.proofs.FateLemmas.{grow_between}
+use Rattle.ist_core.proofs.GrowingLemmas.{rebuild_there}
+use Rattle.ist_core.proofs.NamingLemmas.{IsRebuildFor, SlotNames, slot_names}
+use Rattle.ist_core.proofs.OrderLemmas.{names}
+use Rattle.ist_core.proofs.PlaceLemmas.{anchor_free}
+use Rattle.ist_core.proofs.ReferenceLemmas.{ref_of-unset}
+use Rattle.ist_core.proofs.SlotLemmas.{slot_once}
+use Rattle.laws_links.proofs.ClosedLemmas.{same_rebuild}
+use Rattle.laws_links.proofs.LinkLemmas.{open_linked}
+use Rattle.laws_links.proofs.ReadLemmas.{ReadsAs}
+use Rattle.laws_rebuilds.proofs.RebuiltLemmas.{read_unreplaced}
+use Rattle.ist_rule.specs.declared.view.View.{View}
+use Rattle.ist_rule.specs.Going.{WentOn}
+use Rattle.ist_rule.specs.Learning.{now, searching, Turned}
+use Rattle.ist_rule.specs.Rule.{IsSound}
+use Rattle.ist_rule.proofs.LaterLemmas.{later-goes_on}
+use Rattle.ist_dcss.specs.Installing.{Filling, IsInstalled}
+use Rattle.laws_progress.proofs.ProgressLemmas.{installing}
+use Rattle.laws_progress.proofs.StandstillLemmas.{child_open}
+use Rattle.laws_coming.specs.Further.{CameFurther}
+use Rattle.ist_rebuild.specs.Helping.{IsLeftToParent}
+use Rattle.laws_coming.proofs.FurtherLemmas.{helped_further}
+use Rattle.ist_updates.specs.declared.plans.Aim.{Aim}
+use Rattle.ist_updates.specs.declared.updates.Tried.{Tried}
+use Rattle.ist_updates.specs.declared.updates.Tried.TheVariants.{Again}
+use Rattle.ist_core.specs.declared.ports.Full.{Full}
+use Rattle.ist_rebuild.specs.declared.answers.Helped.{Helped}
+use Rattle.ist_rebuild.specs.declared.answers.Helped.TheVariants.{ParentMarked, Replaced}
+use Rattle.ist_find.specs.Searches.{HasCome}
+use Rattle.laws_histories.proofs.PositionLemmas.{node_met}
+use Rattle.laws_walks.proofs.WalkLemmas.{meeting_comes}
+use Rattle.ist_updates.specs.Trying.{IsAtSlot}
+use Rattle.ist_updates.specs.Further.{HasAimed, IsBehind, IsFresh}
+use Rattle.laws_histories.proofs.ChangeLemmas.{on_trans}
+use Rattle.ist_updates.proofs.BehindLemmas.{behind_more, further_behind, further_on, further_or_not, lawful_is, now_is, stands, stays_open}
+
+-- ---- the way down
+
+-- a walk begins at the anchor
+pub anchor_fresh : (first v : View) → IsBehind first v → IsFresh first v anchor
+anchor_fresh first v b = record { behind = b; is = inl (anchor_is refl) }
+
+-- a node that was fresh is still fresh
+pub fresh_on : (first v w : View) (node : ℕ) → IsFresh first v node → IsBehind v w → IsSound w
+    → IsFresh first w node
+fresh_on first v w node f b s =
+    record {
+      behind = behind_more first v w f.behind b;
+      is = ⊎_elim
+          (λ is. ⊎_elim (λ k. inr (further_behind first v w f.behind k))
+          (λ few. inl (stays_open v w b s few node is)) (further_or_not v w))
+          (λ k. inr (further_on first v w k b)) f.is;
+    }
+
+-- and so is a row that one of its slots holds
+pub down_fresh : (first w : View) (node i word child : ℕ) → IsFresh first w node → IsSound w
+    → WasLinked (start w.start w.words) w.log node → SlotHolds (now w) node i word
+    → ref_of word ≡ Some (InnerAt child) → IsFresh first w child
+down_fresh first w node i word child f s was here is =
+    record {
+      behind = f.behind;
+      is = ⊎_elim
+          (λ o. inl (child_open w.start w.words s.lawful.opens w.log s.lawful.enabled node i word
+          child (open_linked w.start w.words s.lawful.opens w.log s.lawful.enabled node was o) o here
+          is))
+          (λ k. inr k) f.is;
+    }
+
+-- ---- each cause to begin again
+
+module _ (first v w : View) (node i word : ℕ) (a : HasAimed first v node i word)
+    (b : IsBehind v w) (s : IsSound w) where
+  abbrev whole : IsBehind a.at w
+  whole = behind_more a.at v w a.behind b
+
+  -- what is further since the look is further since the walk began
+  since : CameFurther a.at w → CameFurther first w
+  since k = further_behind first a.at w a.fresh.behind k
+
+  -- the node isn't open
+  pub shut_further : ¬ (IsOpen (now w) node) → CameFurther first w
+  shut_further shut =
+      ⊎_elim
+      (λ is. ⊎_elim since
+      (λ few. absurd (shut (stays_open a.at w whole s few node is))) (further_or_not a.at w))
+      (λ k. further_on first a.at w k whole) a.fresh.is
+
+  -- the slot doesn't hold the word
+  pub gone_further : ¬ (SlotHolds (now w) node i word) → CameFurther first w
+  gone_further gone =
+      ⊎_elim since
+      (λ few. absurd (gone (stands a.at w whole s few node i word a.set a.holds)))
+      (further_or_not a.at w)
+
+  -- it holds another one
+  pub other_further : (other : ℕ) → SlotHolds (now w) node i other → other ≢ word
+      → CameFurther first w
+  other_further other there ne =
+      gone_further (λ here. ne (slot_once (now w) node i other word
+      (anchor_free w.start w.words w.log s.lawful.enabled) there here))
+
+  -- the rebuild that stood there was replaced
+  pub replaced_further : (rebuild : ℕ) → ref_of word ≡ Some (RebuildAt rebuild)
+      → IsReplaced (now w) rebuild → CameFurther first w
+  replaced_further rebuild is replaced = gone_further standing
+    where
+      standing : ¬ (SlotHolds (now w) node i word)
+      standing here =
+          let it : IsRebuildFor (now w).pieces node i rebuild =
+          subst (SlotNames (now w).pieces node i) is
+          (slot_names (now w) node i word
+          (names w.start w.words s.lawful.opens w.log s.lawful.enabled) here) in
+          let reads : ReadsAs (now w) node i (RebuildAt rebuild) =
+          record { word = word; holds = here; reads = ap (past_change (now w).pieces) is } in
+          read_unreplaced w.start w.words s.lawful.opens w.log s.lawful.enabled rebuild it.row
+          it.published
+          (subst (λ n. ReadsAs (now w) n it.row.index (RebuildAt rebuild)) (sym it.parent)
+          (subst (λ j. ReadsAs (now w) node j (RebuildAt rebuild)) (sym it.index) reads))
+          replaced
+
+  -- or its parent isn't open
+  pub left_further : (rebuild : ℕ) → ref_of word ≡ Some (RebuildAt rebuild)
+      → IsLeftToParent (now w) rebuild → CameFurther first w
+  left_further rebuild is left =
+      let l = lawful_is a.at w whole s in
+      let it : IsRebuildFor (now a.at).pieces node i rebuild =
+      subst (SlotNames (now a.at).pieces node i) is
+      (slot_names (now a.at) node i word (names a.at.start a.at.words a.sound.lawful.opens a.at.log
+      a.sound.lawful.enabled) a.holds) in
+      let on = rebuild_there (now a.at).pieces (state_of a.at.start a.at.words w.log).pieces
+      (grow_between a.at.start a.at.words a.at.log w.log l.enabled whole.later) rebuild it.row
+      it.published in
+      let there = subst (λ (t : Snapshot). t.pieces rebuild ≡ Some (Rebuild on.0))
+      (now_is a.at w whole) on.1 in
+      let same = same_rebuild ((now w).pieces rebuild) left.row on.0 left.published there in
+      let parent : left.row.parent ≡ node = ap (λ r. r.parent) same ∙ on.2.parent ∙ it.parent in
+      shut_further (subst (λ n. ¬ (IsOpen (now w) n)) parent left.closed)
+
+-- a change was installed since
+pub installed_further : (first v w x : View) (node i word base : ℕ) (f : Filling)
+    → HasAimed first v node i word → IsInstalled v base f w → IsBehind w x → CameFurther first x
+installed_further first v w x node i word base f a k b =
+    let g = on_trans a.at.log v.log k.before.log a.behind.later (later-goes_on k.seen.later) in
+    let at = on_trans a.at.log k.before.log k.logged.before g (later-goes_on k.logged.later) in
+    let log_is = ap (λ (y : View). y.log) k.logged.view in
+    further_behind first a.at x a.fresh.behind record {
+      more = installing a.at.log k.logged.before x.log k.number base _ at
+          (subst (λ log. GoesOn log x.log) log_is b.later);
+    }
+
+-- ---- aims
+
+-- a walk that has aimed has aimed still
+pub aimed_on : (first v w : View) (node i word : ℕ) → HasAimed first v node i word → IsBehind v w
+    → HasAimed first w node i word
+aimed_on first v w node i word a b =
+    record {
+      at = a.at;
+      sound = a.sound;
+      fresh = a.fresh;
+      holds = a.holds;
+      set = a.set;
+      behind = behind_more a.at v w a.behind b;
+    }
+
+-- the change of a plan has the aim
+pub planned_aim : (first v w : View) (aim : Aim) (row : ChangeRow)
+    → HasAimed first v aim.node aim.index aim.word → IsBehind v w → row.node ≡ aim.node
+    → row.index ≡ aim.index → row.from ≡ aim.word → HasAimed first w row.node row.index row.from
+planned_aim first v w aim row a b n i f =
+    subst (λ x. HasAimed first w x row.index row.from) (sym n)
+    (subst (λ x. HasAimed first w aim.node x row.from) (sym i)
+    (subst (λ x. HasAimed first w aim.node aim.index x) (sym f)
+    (aimed_on first v w aim.node aim.index aim.word a b)))
+
+-- a walk that has come to a slot has aimed
+pub slot_aimed : (first v : View) (key node i word : ℕ) → IsSound v → IsAtSlot v key node i word
+    → IsFresh first v node → HasAimed first v node i word
+slot_aimed first v key node i word s at f =
+    record {
+      at = v;
+      sound = s;
+      fresh = f;
+      holds = at.holds;
+      set = λ e. at.set (ap ref_of e ∙ ref_of-unset);
+      behind = record { later = same_log; start_is = refl; words_is = refl };
+    }
+
+-- a result of `Again`
+pub ok_again : (t : Tried) → ◌≡◌ {A = Result Tried Full} (Ok t) (Ok Again) → t ≡ Again
+ok_again t e = cc
+
+-- a change that stood in the slot is resolved
+pub change_further : (P : Event → Type 0) (first v w : View) (node i word change : ℕ) → IsSound v
+    → HasAimed first v node i word → SlotHolds (now v) node i word → WentOn P v w
+    → ref_of word ≡ Some (ChangeAt change) → Happened (Resolves change) w.log → CameFurther first w
+change_further P first v w node i word change s a here g is out =
+    further_behind first v w (behind_more first a.at v a.fresh.behind a.behind)
+    (helped_further P v w s g node i word change here is out)
+
+-- by what came of a help
+pub by_helped : {R : Type 0} (h : Helped) → (h ≡ Replaced → R) → (h ≡ ParentMarked → R) → R
+by_helped Replaced a b = a refl
+by_helped ParentMarked a b = b refl
+
+-- a node to which a search came was linked
+pub come_linked : (v : View) → IsSound v → (key node : ℕ) (rows : List ℕ) → HasCome v key node rows
+    → WasLinked (start v.start v.words) v.log node
+come_linked v s key node rows h =
+    (node_met v.start v.words s.lawful.opens v.log s.lawful.enabled key v.loads.since h.last node
+    (meeting_comes v.start v.words v.log key v.loads.since h.last node rows h.comes)).linked
+
+-- a walk begins
+pub begun_fresh : (v w : View) → Turned v (searching v) w → IsFresh v w anchor
+begun_fresh v w t =
+    anchor_fresh v w record {
+      later = later-goes_on t.later;
+      start_is = ap (λ (x : View). x.start) t.view;
+      words_is = ap (λ (x : View). x.words) t.view;
+    }

@@ -1,0 +1,169 @@
+-- A slot of a root that was seen Unset, and what has become of it since. Serves `laws.builds_come`.
+use Rattle.std.proofs.Common.{◌≡◌, ◌≢◌, ℕ, ◌+◌, ◌<◌, ◌≤◌, List, ◌∷◌, length, slice_get, Some, refl, sym, ap, ◌∙◌, subst, inl, ⊎_elim, length-append, arith}
+use Rattle.std.proofs.lemmas.Bool.Decides.{eqb_tells}
+use Rattle.ist_core.specs.declared.events.Event.{Event}
+use Rattle.ist_core.specs.declared.lists.Row.{Row}
+use Rattle.ist_core.specs.declared.pairs.Pair.{Pair}
+use Rattle.ist_core.specs.declared.states.InnerRow.{InnerRow}
+use Rattle.ist_core.specs.declared.states.RebuildRow.{RebuildRow}
+use Rattle.ist_core.specs.Arithmetic.{part_len}
+use Rattle.ist_core.specs.RowLayout.{first_row, slot_place}
+use Rattle.ist_core.specs.Shapes.{shape}
+use Rattle.ist_core.specs.References.{InnerAt, ref_of, unset_word}
+use Rattle.ist_core.specs.Pieces.{Piece, Inner, Rebuild, size_of, words_of}
+use Rattle.ist_core.specs.Snapshots.{sizes_of}
+use Rattle.ist_core.specs.StartLayout.{start}
+use Rattle.ist_core.specs.Growing.{Grows, inner_grows, InnerGrows}
+use Rattle.ist_core.specs.Authors.{no_more, one_more}
+use Rattle.ist_core.specs.Logs.{Log, GoesOn, same_log, one_event}
+use Rattle.ist_core.specs.Slots.{SlotHolds, in_row}
+use Rattle.ist_core.specs.Rebuilding.{IsFinishedWith}
+use Rattle.ist_core.specs.Building.{IsBeaten, CanPlace}
+use Rattle.ist_core.specs.Lawful.{EachEnabled, CanOpen, state_of}
+use Rattle.ist_core.proofs.AddingLemmas.{held_free}
+use Rattle.ist_core.proofs.FateLemmas.{grow_between}
+use Rattle.ist_core.proofs.GrowingLemmas.{rebuild_there}
+use Rattle.ist_core.proofs.ImageLemmas.{get_below, get-words_of_slot}
+use Rattle.ist_core.proofs.PlaceLemmas.{claimed_apart, claimed_within, one_piece, placed}
+use Rattle.ist_core.proofs.ShapedLemmas.{shaped}
+use Rattle.laws_links.proofs.ClosedLemmas.{same_rebuild}
+use Rattle.laws_links.proofs.FormLemmas.{finished_with_grows}
+use Rattle.laws_links.proofs.FormedLemmas.{rooted_is_finished}
+use Rattle.laws_links.proofs.InductionLemmas.{sound_behind}
+use Rattle.laws_rebuilds.proofs.BuiltLemmas.{root_once}
+use Rattle.laws_rebuilds.proofs.NumberLemmas.{number_is}
+use Rattle.ist_core.specs.Shown.{IsShown, shown_next, shown_callers, shown_status, shown_slot, shown_row, shown_free}
+use Rattle.ist_rule.proofs.LaterLemmas.{goes_on_more}
+use Rattle.laws_stability.proofs.SetLemmas.{set_by}
+use Rattle.laws_coming.specs.Builds.{EndsBuild, EndsNone}
+use Rattle.laws_coming.proofs.BeatenLemmas.{beaten_on, finished_once, without-goes_on}
+use Rattle.laws_coming.proofs.KnownLemmas.{same_size}
+use Rattle.laws_coming.proofs.PlacedLemmas.{IsPlaceIn, is_place, filled, part_length, part_sizes, slot_there}
+
+-- ---- the slot after a prefix
+
+-- what grew into an inner row was one
+was_inner : (p : Piece) (r : InnerRow) → Grows p (Inner r) → (old : InnerRow) × (p ≡ Inner old)
+    × InnerGrows old r
+was_inner _ r (inner_grows {old = old} g) = (old, refl, g)
+
+module _ (pairs : List Pair) (words : ℕ) (prefix log : Log) (on : GoesOn prefix log)
+    (h : EachEnabled (start pairs words) log) (node i : ℕ) (row : InnerRow)
+    (published : (state_of pairs words log).pieces node ≡ Some (Inner row))
+    (within : i < row.degree) where
+  -- a word that is shown at the place of a slot, and isn't 0, is the slot's
+  pub slot_was : (place word : ℕ) → IsShown (state_of pairs words prefix) place word
+      → place ≡ slot_place node row.degree i → word ≢ 0
+      → SlotHolds (state_of pairs words prefix) node i word
+  slot_was place word shown at some = by place word shown at some
+    where
+      inside : first_row ≤ node
+      inside = (claimed_within pairs words log node (size_of (Inner row)) h
+          ((placed pairs words log h).published node (Inner row) published)).behind_fixed
+
+      by : (q w : ℕ) → IsShown (state_of pairs words prefix) q w
+          → q ≡ slot_place node row.degree i → w ≢ 0
+          → SlotHolds (state_of pairs words prefix) node i w
+      by _ _ shown_next is some = let low = inside in absurd (omega arith)
+      by _ _ shown_callers is some = let low = inside in absurd (omega arith)
+      by _ _ shown_status is some = let low = inside in absurd (omega arith)
+      by _ _ shown_slot is some = let low = inside in absurd (omega arith)
+      by _ _ (shown_free far near) is some = absurd (some refl)
+      by _ w (shown_row base p k e got) is some =
+          let g = grow_between pairs words prefix log h on in
+          let it = g base p e in
+          let size = same_size p it.0 it.2 in
+          let less = get_below (words_of p) k w got in
+          let keys = (shaped pairs words log h node (Inner row) published).keys in
+          let slots = (shaped pairs words log h node (Inner row) published).slots in
+          let whole = inner_size row in
+          ⊎_elim
+          (λ one.
+          let here = one_piece ((state_of pairs words log).pieces node) it.0 (Inner row)
+          (subst (λ b. (state_of pairs words log).pieces b ≡ Some it.0) one.0 it.1) published in
+          let old = was_inner p row (subst (Grows p) here it.2) in
+          let same_keys = ap length old.2.keys in
+          let base_is = one.0 in
+          let offset : k ≡ 4 + length old.0.keys + i = omega arith in
+          in_row old.0
+          (subst (λ b. (state_of pairs words prefix).pieces b ≡ Some (Inner old.0)) one.0
+          (e ∙ ap (λ x. Some x) old.1))
+          (sym (get-words_of_slot old.0 i)
+          ∙ ap (λ x. slice_get (words_of x) (4 + length old.0.keys + i)) (sym old.1)
+          ∙ ap (slice_get (words_of p)) (sym offset) ∙ got))
+          (λ two. ⊎_elim (λ le. absurd (omega arith)) (λ le. absurd (omega arith)) two.1)
+          (claimed_apart pairs words log base (size_of it.0) node (size_of (Inner row)) h
+          ((placed pairs words log h).published base it.0 it.1)
+          ((placed pairs words log h).published node (Inner row) published))
+        where
+          inner_size : (r : InnerRow) → size_of (Inner r) ≡ 4 + length r.keys + length r.slots
+          inner_size r = let both = length-append r.keys r.slots in omega arith
+
+-- ---- Places
+
+module _ (pairs : List Pair) (words : ℕ) (opens : CanOpen pairs words) (number k : ℕ) (last : Log)
+    (h : EachEnabled (start pairs words) last) (rebuild root i : ℕ) (row : RebuildRow)
+    (published : (state_of pairs words last).pieces rebuild ≡ Some (Rebuild row))
+    (root_is : ref_of row.root ≡ Some (InnerAt root))
+    (done : IsFinishedWith (state_of pairs words last) row.target k) where
+  -- a Place into the root has the sizes of the part
+  placed_sizes : (log : Log) → GoesOn log last → EachEnabled (start pairs words) log
+      → (caller other word : ℕ) (rows : List Row)
+      → (can : CanPlace (state_of pairs words log) caller other i word rows) → root ≡ can.root
+      → sizes_of rows ≡ shape (part_len k i)
+  placed_sizes log on enabled caller other word rows can same =
+      let t = state_of pairs words log in
+      let u = state_of pairs words last in
+      let g = grow_between pairs words log last h on in
+      let set : can.row.root ≢ unset_word = set_by can.row.root _ can.root_is (λ q. cc) in
+      let it = rebuild_there t.pieces u.pieces g other can.row can.published in
+      let one : other ≡ rebuild =
+      root_once pairs words opens last h other rebuild root it.0 row it.1 published
+      (ap ref_of (it.2.rooted set) ∙ subst (λ b. ref_of can.row.root ≡ Some (InnerAt b)) (sym same)
+      can.root_is) root_is in
+      let target : it.0.target ≡ row.target =
+      ap (λ r. r.target) (same_rebuild (u.pieces rebuild) it.0 row
+      (subst (λ b. u.pieces b ≡ Some (Rebuild it.0)) one it.1) published) in
+      let number_of = rooted_is_finished pairs words log enabled other can.row can.published set in
+      let number_is_k : number_of.0 ≡ k =
+      finished_once u row.target number_of.0 k
+      (subst (λ n. IsFinishedWith u n number_of.0) (sym it.2.target ∙ target)
+      (finished_with_grows t u g can.row.target number_of.0 number_of.1)) done in
+      let many : length can.leaves ≡ k =
+      number_is pairs words opens log enabled can.row.target number_of.0 can.leaves number_of.1
+      can.reached ∙ number_is_k in
+      part_sizes t.pieces rows can.ref can.part can.root can.once
+      (held_free t caller rows can.held (sound_behind pairs words log enabled)) can.ideal
+      ∙ ap shape ((part_length can.leaves can.part i can.part_is).1 ∙ ap (λ n. part_len n i) many)
+
+  -- a slot that was Unset and is set was set by another's Place of the same sizes
+  pub beaten_part : (prefix : Log) → SlotHolds (state_of pairs words prefix) root i unset_word
+      → (log : Log) → EndsNone number prefix log → GoesOn log last
+      → EachEnabled (start pairs words) log → (w : ℕ)
+      → SlotHolds (state_of pairs words log) root i w → w ≢ unset_word
+      → (one : (v : ℕ) → SlotHolds (state_of pairs words prefix) root i v → v ≡ unset_word)
+      → IsBeaten number (shape (part_len k i)) log
+  beaten_part prefix was _ no_more on enabled w now set one = absurd (set (one w now))
+  beaten_part prefix was _ (one_more {log = log} event g out) on enabled w now set one =
+      let before = goes_on_more (one_event event same_log) on in
+      let there = slot_there (state_of pairs words prefix) (state_of pairs words log)
+      (grow_between pairs words prefix log enabled.0 (without-goes_on g)) root i unset_word was in
+      ⊎_elim
+      (λ unset.
+      at event out before
+      (filled pairs words log event enabled root i w
+      (subst (SlotHolds (state_of pairs words log) root i) unset.1 there.1) now set))
+      (λ other. beaten_on number (shape (part_len k i)) log event out
+      (beaten_part prefix was log g before enabled.0 there.0 there.1 other.1 one))
+      (eqb_tells there.0 unset_word)
+    where
+      at : (event : Event) → ¬ (EndsBuild number event) → GoesOn log last
+          → IsPlaceIn (start pairs words) log root i event
+          → IsBeaten number (shape (part_len k i)) (event ∷ log)
+      at _ out before (is_place {caller = caller} {rebuild = other} {word = word} {rows = rows} can
+          same here) = (
+            out,
+            inl (placed_sizes log before enabled.0 caller other word rows
+                (subst (λ j. CanPlace (state_of pairs words log) caller other j word rows) (sym here)
+                can) (same)),
+          )

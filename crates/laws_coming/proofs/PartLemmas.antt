@@ -1,0 +1,200 @@
+-- What was built for a part of a shared root may be put in place, or lost. Serves
+-- `laws.builds_come`.
+use Rattle.std.proofs.Common.{◌≡◌, ◌≢◌, ℕ, ◌<◌, List, slice_get, Some, refl, sym, ap, ◌∙◌, subst, inr, ⊎_elim, arith}
+use Rattle.std.proofs.lemmas.Bool.Decides.{eqb_tells}
+use Rattle.std.proofs.lemmas.Option.{slice_get-get_or}
+use Rattle.std.specs.Prelude.{get_or}
+use Rattle.ist_core.specs.declared.events.Event.TheVariants.{Place, Lose}
+use Rattle.ist_core.specs.declared.lists.Row.{Row}
+use Rattle.ist_core.specs.Arithmetic.{degree, part_len}
+use Rattle.ist_core.specs.Shapes.{shape}
+use Rattle.ist_core.specs.References.{ref_of, unset_word}
+use Rattle.ist_core.specs.Pieces.{Inner, as_rebuild}
+use Rattle.ist_core.specs.Snapshots.{bases_of, sizes_of}
+use Rattle.ist_core.specs.Authors.{Later}
+use Rattle.ist_core.specs.StartLayout.{start}
+use Rattle.ist_core.specs.Logs.{Log, same_log}
+use Rattle.ist_core.specs.Fairness.{IsBuild, build_part}
+use Rattle.ist_core.specs.Slots.{SlotHolds, in_row}
+use Rattle.ist_core.specs.Building.{CanPlace, IsBeaten}
+use Rattle.ist_core.specs.Rebuilding.{IsFinishedWith}
+use Rattle.ist_core.specs.Lawful.{state_of}
+use Rattle.ist_core.specs.Writing.{place_of_slot, touch_of_place, touch_in_root}
+use Rattle.ist_core.proofs.AddingLemmas.{held_free}
+use Rattle.ist_core.proofs.FateLemmas.{enabled_before}
+use Rattle.ist_core.proofs.GrowingLemmas.{rebuild_there}
+use Rattle.ist_core.proofs.PlaceLemmas.{anchor_free}
+use Rattle.ist_core.proofs.ShapedLemmas.{shaped}
+use Rattle.ist_core.proofs.SlotLemmas.{slot_once}
+use Rattle.laws_links.proofs.FormLemmas.{finished_with_grows, started_grows}
+use Rattle.laws_links.proofs.InductionLemmas.{sound_behind}
+use Rattle.laws_rebuilds.proofs.NumberLemmas.{number_is}
+use Rattle.ist_rule.specs.declared.view.View.{View}
+use Rattle.ist_core.specs.declared.events.Who.TheVariants.{Caller}
+use Rattle.ist_core.specs.Shown.{IsShown}
+use Rattle.ist_rule.specs.Rule.{IsSound}
+use Rattle.ist_rule.specs.Learning.{now}
+use Rattle.ist_rule.specs.Conditions.{MayCome, CanMake, StoredAll, CanExchange, LeavesAt, CanExchangeOrLose}
+use Rattle.ist_rule.proofs.GoingOnLemmas.{callers_later}
+use Rattle.ist_rule.proofs.LaterLemmas.{later-goes_on}
+use Rattle.laws_stability.proofs.HoldingLemmas.{rows_later}
+use Rattle.laws_stability.proofs.SetLemmas.{set_by, set_later}
+use Rattle.laws_stability.proofs.SlotWordLemmas.{place_later, place_of_row}
+use Rattle.laws_stability.proofs.WordLemmas.{slot_word}
+use Rattle.laws_coming.specs.Builds.{IsPartBuilt, WasUnset}
+use Rattle.laws_coming.proofs.BeatenLemmas.{without_later, without-goes_on}
+use Rattle.laws_coming.proofs.ComingLemmas.{exchange_comes}
+use Rattle.laws_coming.proofs.FilledLemmas.{beaten_part, slot_was}
+use Rattle.laws_coming.proofs.KnownLemmas.{IsFast, grow, slot_fast, fast_known, gone_missed}
+use Rattle.laws_coming.proofs.PlacedLemmas.{part_length, part_sizes, slot_there}
+use Rattle.laws_coming.proofs.RootLemmas.{holds_sizes}
+
+module _ (v : View) (s : IsSound v) (number rebuild i word : ℕ) (rows : List Row)
+    (mine : v.who ≡ Caller number) (stored : StoredAll v rows)
+    (b : IsPartBuilt (now v) number rebuild i word rows) (place : ℕ)
+    (at : place ≡ place_of_slot (now v) b.root i) where
+  make_place : CanMake v (Place number rebuild i word rows)
+  make_place = record { mine = sym mine; stored = stored; allowed = tt }
+
+  -- the slot has a word
+  slot_now : (w : ℕ) × (slice_get b.root_row.slots i ≡ Some w)
+  slot_now =
+      let slots = (shaped v.start v.words v.log s.lawful.enabled b.root (Inner b.root_row)
+      b.root_published).slots in
+      let less = b.within in
+      (get_or b.root_row.slots i 0, slice_get-get_or b.root_row.slots i 0 (omega arith))
+
+  holds_now : SlotHolds (now v) b.root i slot_now.0
+  holds_now = in_row b.root_row b.root_published slot_now.1
+
+  -- what is shown at its place after a log that may come is its word there
+  slot_behind : (log : Log) → MayCome v log → (found : ℕ)
+      → IsShown (state_of v.start v.words log) place found
+      → SlotHolds (state_of v.start v.words log) b.root i found
+  slot_behind log m found shown =
+      let u = state_of v.start v.words log in
+      let there = slot_there (now v) u (grow v log m) b.root i slot_now.0 holds_now in
+      let is : place ≡ place_of_slot u b.root i =
+      at ∙ sym (place_later v.start v.words v.log log (later-goes_on m.later) m.lawful.enabled
+      b.root i slot_now.0 holds_now) in
+      subst (SlotHolds u b.root i)
+      (sym (slot_word v.start v.words log m.lawful.enabled b.root i there.0 there.1 found
+      (subst (λ p. IsShown u p found) is shown))) there.1
+
+  -- the exchange of the slot may be the Place
+  pub part_comes : CanExchange v place unset_word word (Place number rebuild i word rows)
+  part_comes =
+      ⊎_elim (λ none. exchange_comes v s (Place number rebuild i word rows) tt make_place _ _ _
+      record {
+        enabled = can (slot_now.1 ∙ ap (λ w. Some w) none.1);
+        touches = ap (λ o. touch_of_place (now v) o i word) (ap as_rebuild b.published)
+            ∙ ap (λ o. touch_in_root (now v) o i word) b.root_is
+            ∙ ap (λ p. Some record { place = p; found = unset_word; left = word }) (sym at);
+      })
+      (λ set. gone_missed v (Place number rebuild i word rows) make_place _ _ _
+      (fast_known v place (subst (IsFast (now v)) (sym at) (slot_fast v s b.root i slot_now.0 holds_now)))
+      (λ log m shown.
+      let still = set_later v.start v.words s.lawful.opens (later-goes_on m.later) m.lawful.enabled
+      b.root i record { word = slot_now.0; holds = holds_now; set = set.1 } in
+      still.set (slot_once (state_of v.start v.words log) b.root i still.word unset_word
+      (anchor_free v.start v.words log m.lawful.enabled) still.holds
+      (slot_behind log m unset_word shown))))
+      (eqb_tells slot_now.0 unset_word)
+    where
+      can : slice_get b.root_row.slots i ≡ Some unset_word
+          → CanPlace (now v) number rebuild i word rows
+      can free =
+          record {
+            known = s.is_true.low number mine;
+            row = b.row;
+            published = b.published;
+            root = b.root;
+            root_is = b.root_is;
+            root_row = b.root_row;
+            root_published = b.root_published;
+            free = free;
+            leaves = b.leaves;
+            reached = b.reached;
+            part = b.part;
+            part_is = b.part_is;
+            ref = b.ref;
+            ref_is = b.ref_is;
+            ideal = b.ideal;
+            once = b.once;
+            held = b.held;
+          }
+
+  -- the rows have the sizes of the part
+  sizes_fit : (sizes_of rows ≡ shape (part_len b.k i)) × (i < degree b.k)
+  sizes_fit =
+      let many = number_is v.start v.words s.lawful.opens v.log s.lawful.enabled b.row.target b.k
+      b.leaves b.finished b.reached in
+      let long = part_length b.leaves b.part i b.part_is in (
+        part_sizes (now v).pieces rows b.ref b.part b.root b.once
+            (held_free (now v) number rows b.held
+            (sound_behind v.start v.words v.log s.lawful.enabled)) b.ideal
+            ∙ ap shape (long.1 ∙ ap (λ n. part_len n i) many),
+        subst (λ n. i < degree n) many long.0,
+      )
+
+  -- the rows are lost if the slot isn't Unset any more
+  part_loses : WasUnset v number place → (log : Log) → MayCome v log → (found : ℕ)
+      → IsShown (state_of v.start v.words log) place found → found ≢ unset_word
+      → LeavesAt v log (Lose number (bases_of rows)) place found
+  part_loses was log m found shown differs =
+      let u = state_of v.start v.words log in
+      let g = grow v log m in
+      let low = s.is_true.low number mine in
+      let more = callers_later v.start v.words v.log log m.later in
+      let since = without_later number mine was.since m.later in
+      let on = rebuild_there (now v).pieces u.pieces g rebuild b.row b.published in
+      let set : b.row.root ≢ unset_word = set_by b.row.root _ b.root_is (λ q. cc) in
+      let done = subst (λ n. IsFinishedWith u n b.k) (sym on.2.target)
+      (finished_with_grows (now v) u g b.row.target b.k b.finished) in
+      let first = enabled_before (start v.start v.words) was.prefix v.log
+      (without-goes_on was.since) s.lawful.enabled in
+      let slot = slot_was v.start v.words was.prefix v.log (without-goes_on was.since)
+      s.lawful.enabled b.root i b.root_row b.root_published b.within place unset_word was.shown
+      (at ∙ place_of_row (now v) b.root i b.root_row
+      (anchor_free v.start v.words v.log s.lawful.enabled) b.root_published) (λ e. omega arith) in
+      record {
+        enabled = record {
+          known = omega arith;
+          cause = inr record {
+            sizes = sizes_of rows;
+            held = holds_sizes u number rows
+                (rows_later v.start v.words number
+                (subst (λ who. Later who v.log log) mine m.later) m.lawful.enabled
+                rows b.held);
+            once = b.once;
+            building = record {
+              rebuild = rebuild;
+              row = on.0;
+              published = on.1;
+              started = started_grows (now v) u g rebuild b.started;
+              k = b.k;
+              finished = done;
+              build = subst (IsBuild b.k) (sym sizes_fit.0) (build_part i b.shared sizes_fit.1);
+            };
+            beaten = subst (λ sizes. IsBeaten number sizes log) (sym sizes_fit.0)
+                (beaten_part v.start v.words s.lawful.opens number b.k log m.lawful.enabled rebuild
+                b.root i on.0 on.1 (ap (λ w. ref_of w) (on.2.rooted set) ∙ b.root_is) done
+                was.prefix slot log since same_log m.lawful.enabled found
+                (slot_behind log m found shown) differs
+                (λ w holds. slot_once (state_of v.start v.words was.prefix) b.root i w unset_word
+                (anchor_free v.start v.words was.prefix first) holds slot));
+          };
+        };
+        leaves = inr refl;
+      }
+
+  -- the exchange of the slot may be the Place, or the Lose if it fails
+  pub part_comes_or_loses : WasUnset v number place
+      → CanExchangeOrLose v place unset_word word (Place number rebuild i word rows)
+      (Lose number (bases_of rows))
+  part_comes_or_loses was =
+      record {
+        hit = part_comes;
+        make = record { mine = sym mine; stored = tt; allowed = tt };
+        miss = λ log m found shown differs. part_loses was log m found shown differs;
+      }

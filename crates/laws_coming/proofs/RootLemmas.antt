@@ -1,0 +1,190 @@
+-- What was built for a root may be put in place, or lost. Serves `laws.builds_come`.
+use Rattle.std.proofs.Common.{◌≡◌, ◌≢◌, ℕ, ◌+◌, ◌≤◌, List, [], ◌∷◌, Some, refl, sym, ap, ◌∙◌, subst, inr, ⊎_elim, arith}
+use Rattle.std.proofs.lemmas.Bool.Decides.{eqb_tells}
+use Rattle.ist_core.specs.declared.events.Event.TheVariants.{Root, Lose}
+use Rattle.ist_core.specs.declared.lists.Row.{Row}
+use Rattle.ist_core.specs.declared.states.RebuildRow.{RebuildRow}
+use Rattle.ist_core.specs.RowLayout.{rebuild_root_offset}
+use Rattle.ist_core.specs.Shapes.{shape}
+use Rattle.ist_core.specs.References.{unset_word}
+use Rattle.ist_core.specs.Pieces.{Rebuild}
+use Rattle.ist_core.specs.Snapshots.{Snapshot, bases_of, sizes_of, HoldsRows}
+use Rattle.ist_core.specs.Authors.{Later}
+use Rattle.ist_core.specs.StartLayout.{start}
+use Rattle.ist_core.specs.Logs.{Log}
+use Rattle.ist_core.specs.Fairness.{IsBuild, build_whole, build_top}
+use Rattle.ist_core.specs.Building.{HoldsSizes, CanRoot}
+use Rattle.ist_core.specs.Rebuilding.{IsFinishedWith}
+use Rattle.ist_core.specs.Lawful.{state_of}
+use Rattle.ist_core.proofs.AddingLemmas.{held_free}
+use Rattle.ist_core.proofs.FateLemmas.{enabled_before}
+use Rattle.ist_core.proofs.GrowingLemmas.{rebuild_there}
+use Rattle.ist_core.proofs.ShapeLemmas.{shape_none, shape_one}
+use Rattle.laws_links.proofs.FormLemmas.{finished_with_grows, started_grows}
+use Rattle.laws_links.proofs.InductionLemmas.{sound_behind}
+use Rattle.laws_rebuilds.proofs.NumberLemmas.{number_is}
+use Rattle.ist_rule.specs.declared.view.View.{View}
+use Rattle.ist_core.specs.declared.events.Who.TheVariants.{Caller}
+use Rattle.ist_core.specs.Shown.{IsShown}
+use Rattle.ist_rule.specs.Rule.{IsSound}
+use Rattle.ist_rule.specs.Learning.{now}
+use Rattle.ist_rule.specs.Conditions.{MayCome, CanMake, StoredAll, CanExchange, LeavesAt, CanExchangeOrLose}
+use Rattle.ist_rule.proofs.GoingOnLemmas.{callers_later}
+use Rattle.ist_rule.proofs.WatchLemmas.{shown_in_row}
+use Rattle.laws_stability.proofs.HoldingLemmas.{rows_later}
+use Rattle.laws_coming.specs.Builds.{IsRootBuilt, WasUnset}
+use Rattle.laws_coming.proofs.BeatenLemmas.{beaten_root, without_later, without-goes_on}
+use Rattle.laws_coming.proofs.ComingLemmas.{exchange_comes}
+use Rattle.laws_coming.proofs.KnownLemmas.{grow, in_piece, fast_known, gone_missed}
+use Rattle.laws_coming.proofs.SizeLemmas.{IsRootSizes, of_whole, of_top, root_sizes}
+
+-- ---- rows of a build
+
+-- rows that a caller holds it holds by their bases and sizes
+pub holds_sizes : (t : Snapshot) (caller : ℕ) (rows : List Row) → HoldsRows t caller rows
+    → HoldsSizes t caller (bases_of rows) (sizes_of rows)
+holds_sizes t caller [] held = tt
+holds_sizes t caller (row ∷ rows) held = (held.0, holds_sizes t caller rows held.1)
+
+-- if there are rows, a shape is a shape of two keys or more
+pub shape_some : (k : ℕ) (rows : List Row) → rows ≢ [] → sizes_of rows ≡ shape k → 2 ≤ k
+shape_some k rows some e = at k e
+  where
+    no_rows : (xs : List Row) → sizes_of xs ≡ [] → xs ≡ []
+    no_rows [] f = refl
+    no_rows (x ∷ xs) f = absurd (cc)
+
+    at : (n : ℕ) → sizes_of rows ≡ shape n → 2 ≤ n
+    at n f =
+        ⊎_elim (λ none. absurd (some (no_rows rows (f ∙ ap shape none.1 ∙ shape_none))))
+        (λ more. ⊎_elim (λ one. absurd (some (no_rows rows (f ∙ ap shape one.1 ∙ shape_one))))
+        (λ two. let a = more.1 in let b = two.1 in omega arith) (eqb_tells n 1))
+        (eqb_tells n 0)
+
+-- a root of some rows is a build
+root_build : (k : ℕ) (rows : List Row) → rows ≢ [] → IsRootSizes k (sizes_of rows)
+    → IsBuild k (sizes_of rows)
+root_build k rows some (of_whole few e) =
+    subst (IsBuild k) (sym e) (build_whole (shape_some k rows some e) few)
+root_build k rows some (of_top many e) = subst (IsBuild k) (sym e) (build_top many)
+
+-- ---- a root
+
+module _ (v : View) (s : IsSound v) (number rebuild word : ℕ) (rows : List Row)
+    (mine : v.who ≡ Caller number) (stored : StoredAll v rows)
+    (b : IsRootBuilt (now v) number rebuild word rows) where
+  -- the seat may make the Root
+  make_root : CanMake v (Root number rebuild word rows)
+  make_root = record { mine = sym mine; stored = stored; allowed = tt }
+
+  -- the root word after a log that may come
+  root_behind : (log : Log) → MayCome v log → (found : ℕ)
+      → IsShown (state_of v.start v.words log) (rebuild + rebuild_root_offset) found
+      → (r : RebuildRow) × ((state_of v.start v.words log).pieces rebuild ≡ Some (Rebuild r))
+      × (found ≡ r.root) × (r.target ≡ b.row.target)
+      × (b.row.root ≢ unset_word → r.root ≡ b.row.root)
+  root_behind log m found shown =
+      let u = state_of v.start v.words log in
+      let on = rebuild_there (now v).pieces u.pieces (grow v log m) rebuild b.row b.published in (
+        on.0,
+        on.1,
+        shown_in_row v.start v.words log m.lawful.enabled rebuild (Rebuild on.0) 3 on.0.root on.1
+            refl (rebuild + rebuild_root_offset) found shown refl,
+        on.2.target,
+        on.2.rooted,
+      )
+
+  -- the exchange of the root word may be the Root
+  pub root_comes : CanExchange v (rebuild + rebuild_root_offset) unset_word word
+      (Root number rebuild word rows)
+  root_comes =
+      ⊎_elim (λ none. exchange_comes v s (Root number rebuild word rows) tt make_root _ _ _
+      record { enabled = can none.1; touches = refl })
+      (λ set. gone_missed v (Root number rebuild word rows) make_root _ _ _
+      (fast_known v _ (in_piece rebuild 3 (Rebuild b.row) b.published (omega arith)))
+      (λ log m shown.
+      let r = root_behind log m unset_word shown in
+      set.1 (sym (r.4 set.1) ∙ sym r.2)))
+      (eqb_tells b.row.root unset_word)
+    where
+      can : b.row.root ≡ unset_word → CanRoot (now v) number rebuild word rows
+      can none =
+          record {
+            known = s.is_true.low number mine;
+            row = b.row;
+            published = b.published;
+            started = b.started;
+            rootless = none;
+            k = b.k;
+            finished = b.finished;
+            leaves = b.leaves;
+            reached = b.reached;
+            root = b.root;
+            once = b.once;
+            held = b.held;
+          }
+
+  -- the rows have the sizes of a root over this many keys
+  sizes_fit : IsRootSizes b.k (sizes_of rows)
+  sizes_fit =
+      root_sizes (now v).pieces rows word b.k b.leaves b.row.target b.once
+      (held_free (now v) number rows b.held (sound_behind v.start v.words v.log s.lawful.enabled))
+      (number_is v.start v.words s.lawful.opens v.log s.lawful.enabled b.row.target b.k b.leaves
+      b.finished b.reached)
+      b.root
+
+  -- the rows are lost if the root isn't Unset any more
+  root_loses : rows ≢ [] → WasUnset v number (rebuild + rebuild_root_offset) → (log : Log)
+      → MayCome v log → (found : ℕ)
+      → IsShown (state_of v.start v.words log) (rebuild + rebuild_root_offset) found
+      → found ≢ unset_word
+      → LeavesAt v log (Lose number (bases_of rows)) (rebuild + rebuild_root_offset) found
+  root_loses some was log m found shown differs =
+      let u = state_of v.start v.words log in
+      let r = root_behind log m found shown in
+      let low = s.is_true.low number mine in
+      let more = callers_later v.start v.words v.log log m.later in
+      let since = without_later number mine was.since m.later in
+      let done = subst (λ n. IsFinishedWith u n b.k) (sym r.3)
+      (finished_with_grows (now v) u (grow v log m) b.row.target b.k b.finished) in
+      record {
+        enabled = record {
+          known = omega arith;
+          cause = inr record {
+            sizes = sizes_of rows;
+            held = holds_sizes u number rows
+                (rows_later v.start v.words number
+                (subst (λ who. Later who v.log log) mine m.later) m.lawful.enabled
+                rows b.held);
+            once = b.once;
+            building = record {
+              rebuild = rebuild;
+              row = r.0;
+              published = r.1;
+              started = started_grows (now v) u (grow v log m) rebuild b.started;
+              k = b.k;
+              finished = done;
+              build = root_build b.k rows some sizes_fit;
+            };
+            beaten = beaten_root v.start v.words s.lawful.opens number rebuild b.k (sizes_of rows)
+                sizes_fit was.prefix
+                (λ p e. sym (shown_in_row v.start v.words was.prefix
+                (enabled_before (start v.start v.words) was.prefix log (without-goes_on since)
+                m.lawful.enabled) rebuild (Rebuild p) 3 p.root e refl
+                (rebuild + rebuild_root_offset) unset_word was.shown refl))
+                log since m.lawful.enabled r.0 r.1 (λ e. differs (r.2 ∙ e)) done;
+          };
+        };
+        leaves = inr refl;
+      }
+
+  -- the exchange of the root word may be the Root, or the Lose if it fails
+  pub root_comes_or_loses : rows ≢ [] → WasUnset v number (rebuild + rebuild_root_offset)
+      → CanExchangeOrLose v (rebuild + rebuild_root_offset) unset_word word
+      (Root number rebuild word rows) (Lose number (bases_of rows))
+  root_comes_or_loses some was =
+      record {
+        hit = root_comes;
+        make = record { mine = sym mine; stored = tt; allowed = tt };
+        miss = λ log m found shown differs. root_loses some was log m found shown differs;
+      }

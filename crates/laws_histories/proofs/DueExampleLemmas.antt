@@ -1,0 +1,291 @@
+-- A row is due after eight puts. Serves `examples`.
+use Rattle.std.proofs.Common.{[], ◌∷◌, refl, arith}
+use Rattle.ist_core.specs.declared.events.Event.TheVariants.{Enter}
+use Rattle.ist_core.specs.Arithmetic.{degree, square_root, root_up_to, part_len, part_lens}
+use Rattle.ist_core.specs.Shapes.{ideal_words, ideal_words_within}
+use Rattle.ist_core.specs.References.{ref_of}
+use Rattle.ist_core.specs.StartLayout.{rows_within}
+use Rattle.ist_core.specs.Logs.{Log, state}
+use Rattle.ist_core.specs.Enabled.{CanEnter}
+use Rattle.ist_core.specs.Lawful.{EachEnabled}
+use Rattle.ist_core.proofs.RefusalLemmas.{NoneRefused}
+use Rattle.laws_histories.specs.ExampleRebuilds.{put_again, both_entered, four_puts, eight_puts}
+use Rattle.laws_histories.proofs.ReadyExampleLemmas.{three}
+use Rattle.laws_histories.proofs.BusyExampleLemmas.{put_enabled}
+use Rattle.laws_histories.proofs.QuietExampleLemmas.{put_keeps, at_opening}
+
+-- caller 0 enters
+first_entered : CanEnter three 0
+first_entered = record { number = refl; below_limit = omega arith }
+
+-- caller 1 enters
+second_entered : CanEnter (state three (Enter 0 ∷ [])) 1
+second_entered = record { number = refl; below_limit = omega arith }
+
+-- the log of one put
+abbrev one_put : Log
+one_put = put_again 24 26 145 193 both_entered
+
+-- the log of two puts
+abbrev two_puts : Log
+two_puts = put_again 35 37 193 281 one_put
+
+-- the log of three puts
+abbrev three_puts : Log
+three_puts = put_again 46 48 281 369 two_puts
+
+-- the log of five puts
+abbrev five_puts : Log
+five_puts = put_again 68 70 457 545 four_puts
+
+-- the log of six puts
+abbrev six_puts : Log
+six_puts = put_again 79 81 545 633 five_puts
+
+-- the log of seven puts
+abbrev seven_puts : Log
+seven_puts = put_again 90 92 633 721 six_puts
+
+-- the log is enabled until both callers have entered
+entered : EachEnabled three both_entered
+entered = ((tt, first_entered), second_entered)
+
+-- put 1 of eight is enabled
+one_put_enabled : EachEnabled three one_put
+unfolding ref_of rows_within degree square_root root_up_to part_len part_lens ideal_words ideal_words_within
+one_put_enabled =
+    put_enabled both_entered 24 145 193 18 0
+    record {
+      callers = refl;
+      next = refl;
+      words = refl;
+      held = refl;
+      anchor = refl;
+      top_row = refl;
+      left_row = refl;
+      old_is = refl;
+      old_leaf = refl;
+    }
+    record {
+      change = refl;
+      row = refl;
+      decided = refl;
+      stands = refl;
+      resolved = refl;
+      callers = refl;
+    }
+    (omega arith) refl at_opening entered
+
+-- no change is refused in the log up to this put
+one_put_refuse : NoneRefused (state three one_put).pieces
+one_put_refuse = put_keeps both_entered 24 145 193 at_opening
+
+-- put 2 of eight is enabled
+two_puts_enabled : EachEnabled three two_puts
+unfolding ref_of rows_within degree square_root root_up_to part_len part_lens ideal_words ideal_words_within
+two_puts_enabled =
+    put_enabled one_put 35 193 281 24 1
+    record {
+      callers = refl;
+      next = refl;
+      words = refl;
+      held = refl;
+      anchor = refl;
+      top_row = refl;
+      left_row = refl;
+      old_is = refl;
+      old_leaf = refl;
+    }
+    record {
+      change = refl;
+      row = refl;
+      decided = refl;
+      stands = refl;
+      resolved = refl;
+      callers = refl;
+    }
+    (omega arith) refl one_put_refuse one_put_enabled
+
+-- no change is refused in the log up to this put
+two_puts_refuse : NoneRefused (state three two_puts).pieces
+two_puts_refuse = put_keeps one_put 35 193 281 one_put_refuse
+
+-- put 3 of eight is enabled
+three_puts_enabled : EachEnabled three three_puts
+unfolding ref_of rows_within degree square_root root_up_to part_len part_lens ideal_words ideal_words_within
+three_puts_enabled =
+    put_enabled two_puts 46 281 369 35 2
+    record {
+      callers = refl;
+      next = refl;
+      words = refl;
+      held = refl;
+      anchor = refl;
+      top_row = refl;
+      left_row = refl;
+      old_is = refl;
+      old_leaf = refl;
+    }
+    record {
+      change = refl;
+      row = refl;
+      decided = refl;
+      stands = refl;
+      resolved = refl;
+      callers = refl;
+    }
+    (omega arith) refl two_puts_refuse two_puts_enabled
+
+-- no change is refused in the log up to this put
+three_puts_refuse : NoneRefused (state three three_puts).pieces
+three_puts_refuse = put_keeps two_puts 46 281 369 two_puts_refuse
+
+-- put 4 of eight is enabled
+four_puts_enabled : EachEnabled three four_puts
+unfolding ref_of rows_within degree square_root root_up_to part_len part_lens ideal_words ideal_words_within
+four_puts_enabled =
+    put_enabled three_puts 57 369 457 46 3
+    record {
+      callers = refl;
+      next = refl;
+      words = refl;
+      held = refl;
+      anchor = refl;
+      top_row = refl;
+      left_row = refl;
+      old_is = refl;
+      old_leaf = refl;
+    }
+    record {
+      change = refl;
+      row = refl;
+      decided = refl;
+      stands = refl;
+      resolved = refl;
+      callers = refl;
+    }
+    (omega arith) refl three_puts_refuse three_puts_enabled
+
+-- no change is refused in the log up to this put
+four_puts_refuse : NoneRefused (state three four_puts).pieces
+four_puts_refuse = put_keeps three_puts 57 369 457 three_puts_refuse
+
+-- put 5 of eight is enabled
+five_puts_enabled : EachEnabled three five_puts
+unfolding ref_of rows_within degree square_root root_up_to part_len part_lens ideal_words ideal_words_within
+five_puts_enabled =
+    put_enabled four_puts 68 457 545 57 4
+    record {
+      callers = refl;
+      next = refl;
+      words = refl;
+      held = refl;
+      anchor = refl;
+      top_row = refl;
+      left_row = refl;
+      old_is = refl;
+      old_leaf = refl;
+    }
+    record {
+      change = refl;
+      row = refl;
+      decided = refl;
+      stands = refl;
+      resolved = refl;
+      callers = refl;
+    }
+    (omega arith) refl four_puts_refuse four_puts_enabled
+
+-- no change is refused in the log up to this put
+five_puts_refuse : NoneRefused (state three five_puts).pieces
+five_puts_refuse = put_keeps four_puts 68 457 545 four_puts_refuse
+
+-- put 6 of eight is enabled
+six_puts_enabled : EachEnabled three six_puts
+unfolding ref_of rows_within degree square_root root_up_to part_len part_lens ideal_words ideal_words_within
+six_puts_enabled =
+    put_enabled five_puts 79 545 633 68 5
+    record {
+      callers = refl;
+      next = refl;
+      words = refl;
+      held = refl;
+      anchor = refl;
+      top_row = refl;
+      left_row = refl;
+      old_is = refl;
+      old_leaf = refl;
+    }
+    record {
+      change = refl;
+      row = refl;
+      decided = refl;
+      stands = refl;
+      resolved = refl;
+      callers = refl;
+    }
+    (omega arith) refl five_puts_refuse five_puts_enabled
+
+-- no change is refused in the log up to this put
+six_puts_refuse : NoneRefused (state three six_puts).pieces
+six_puts_refuse = put_keeps five_puts 79 545 633 five_puts_refuse
+
+-- put 7 of eight is enabled
+seven_puts_enabled : EachEnabled three seven_puts
+unfolding ref_of rows_within degree square_root root_up_to part_len part_lens ideal_words ideal_words_within
+seven_puts_enabled =
+    put_enabled six_puts 90 633 721 79 6
+    record {
+      callers = refl;
+      next = refl;
+      words = refl;
+      held = refl;
+      anchor = refl;
+      top_row = refl;
+      left_row = refl;
+      old_is = refl;
+      old_leaf = refl;
+    }
+    record {
+      change = refl;
+      row = refl;
+      decided = refl;
+      stands = refl;
+      resolved = refl;
+      callers = refl;
+    }
+    (omega arith) refl six_puts_refuse six_puts_enabled
+
+-- no change is refused in the log up to this put
+seven_puts_refuse : NoneRefused (state three seven_puts).pieces
+seven_puts_refuse = put_keeps six_puts 90 633 721 six_puts_refuse
+
+-- put 8 of eight is enabled
+pub eight_puts_enabled : EachEnabled three eight_puts
+unfolding ref_of rows_within degree square_root root_up_to part_len part_lens ideal_words ideal_words_within
+eight_puts_enabled =
+    put_enabled seven_puts 101 721 809 90 7
+    record {
+      callers = refl;
+      next = refl;
+      words = refl;
+      held = refl;
+      anchor = refl;
+      top_row = refl;
+      left_row = refl;
+      old_is = refl;
+      old_leaf = refl;
+    }
+    record {
+      change = refl;
+      row = refl;
+      decided = refl;
+      stands = refl;
+      resolved = refl;
+      callers = refl;
+    }
+    (omega arith) refl seven_puts_refuse seven_puts_enabled
+
+-- no change is refused in the log up to this put
+pub eight_puts_refuse : NoneRefused (state three eight_puts).pieces
+eight_puts_refuse = put_keeps seven_puts 101 721 809 seven_puts_refuse

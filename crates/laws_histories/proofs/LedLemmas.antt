@@ -1,0 +1,141 @@
+-- To which nodes the search for a key is led, from event to event: a node drops out only once it is finished. Serves the
+-- search law and the changes law.
+use Rattle.std.proofs.Common.{◌≡◌, ℕ, ◌⊎◌, List, ◌∷◌, Option, Some, sym, ap, ◌∙◌, subst, inl, inr, ⊎_elim}
+use Rattle.ist_core.specs.declared.pairs.Pair.{Pair}
+use Rattle.ist_core.specs.declared.states.ChangeRow.{ChangeRow}
+use Rattle.ist_core.specs.declared.events.Event.{Event}
+use Rattle.ist_core.specs.Arithmetic.{child_count}
+use Rattle.ist_core.specs.References.{Ref, Empty, LeafAt, InnerAt, RebuildAt, ref_of}
+use Rattle.ist_core.specs.Pieces.{Pieces}
+use Rattle.ist_core.specs.Snapshots.{Snapshot}
+use Rattle.ist_core.specs.StartLayout.{start}
+use Rattle.ist_core.specs.Logs.{Log, GoesOn, same_log, one_event}
+use Rattle.ist_core.specs.Slots.{IsChildFor, of_anchor, of_row, rebuild_reads, past_rebuild}
+use Rattle.ist_core.specs.Links.{IsChild, Leads, from_anchor, down}
+use Rattle.ist_core.specs.Growing.{AllGrow}
+use Rattle.ist_core.specs.Marking.{HasTarget}
+use Rattle.ist_core.specs.Lawful.{EachEnabled, CanOpen, state_of}
+use Rattle.ist_core.proofs.GrowingLemmas.{inner_there}
+use Rattle.laws_links.specs.Linking.{IsFinished}
+use Rattle.laws_links.proofs.InductionLemmas.{grow_behind}
+use Rattle.laws_histories.proofs.NeedLemmas.{HasForm, into_nothing, over_leaf, beside_low, beside_high, takes_out, begins, ends, Needs, AllNeeds}
+use Rattle.laws_histories.proofs.ReadLemmas.{reads_step}
+
+-- ---- growing
+
+-- the child for a key stays
+pub child_stays : (t u : Snapshot) → AllGrow t.pieces u.pieces → (node key i : ℕ)
+    → IsChildFor t node key i → IsChildFor u node key i
+child_stays t u g node key i (of_anchor a b) = of_anchor a b
+child_stays t u g node key i (of_row r e f) =
+    let it = inner_there t.pieces u.pieces g node r e in
+    of_row it.0 it.1 (f ∙ ap (λ keys. child_count keys key) (sym it.2.keys))
+
+-- ---- at an event
+
+-- nothing and a leaf lead to no node
+no_inner : (ps : Pieces) (ref : Option Ref) (child : ℕ)
+    → (ref ≡ Some Empty) ⊎ ((base : ℕ) × (ref ≡ Some (LeafAt base)))
+    → past_rebuild ps ref ≡ Some (InnerAt child) → ⊥
+no_inner ps ref child (inl e) h =
+    let x : Some Empty ≡ Some (InnerAt child) = sym (ap (past_rebuild ps) e) ∙ h in cc
+no_inner ps ref child (inr e) h =
+    let x : Some (LeafAt e.0) ≡ Some (InnerAt child) = sym (ap (past_rebuild ps) e.1) ∙ h in cc
+
+-- what a rebuild reads as
+target_read : (t : Snapshot) (rebuild target : ℕ) → HasTarget t rebuild target
+    → past_rebuild t.pieces (Some (RebuildAt rebuild)) ≡ Some (InnerAt target)
+target_read t rebuild target h =
+    ap rebuild_reads h.published ∙ ap (λ n. Some (InnerAt n)) h.target_is
+
+module _ (pairs : List Pair) (words : ℕ) where
+  -- an inner row that a change takes out of its slot is put back by it, or is finished
+  pub left_finished : (log : Log) (change : ChangeRow) → Needs pairs words log
+      → HasForm (state_of pairs words log) change
+      → (child : ℕ)
+      → past_rebuild (state_of pairs words log).pieces (ref_of change.from) ≡ Some (InnerAt child)
+      → (past_rebuild (state_of pairs words log).pieces (ref_of change.to) ≡ Some (InnerAt child))
+      ⊎ IsFinished (state_of pairs words log) child
+  left_finished log change n (into_nothing leaf kind from to new) child e =
+      absurd (no_inner (state_of pairs words log).pieces _ child (inl from) e)
+  left_finished log change n (over_leaf old leaf kind from is to new) child e =
+      absurd (no_inner (state_of pairs words log).pieces _ child (inr (old, from)) e)
+  left_finished log change n (beside_low other k leaf pair kind from is less to p new) child e =
+      absurd (no_inner (state_of pairs words log).pieces _ child (inr (other, from)) e)
+  left_finished log change n (beside_high other k leaf pair kind from is less to p new) child e =
+      absurd (no_inner (state_of pairs words log).pieces _ child (inr (other, from)) e)
+  left_finished log change n (takes_out leaf kind from is to) child e =
+      absurd (no_inner (state_of pairs words log).pieces _ child (inr (leaf, from)) e)
+  left_finished log change n (begins target rebuild kind from to h) child e =
+      let t = state_of pairs words log in
+      let same : Some (InnerAt target) ≡ Some (InnerAt child) =
+      sym (ap (past_rebuild t.pieces) from) ∙ e in
+      inl (ap (past_rebuild t.pieces) to ∙ target_read t rebuild target h ∙ same)
+  left_finished log change n (ends rebuild row kind from e f set) child h =
+      let t = state_of pairs words log in
+      let read : Some (InnerAt row.target) ≡ Some (InnerAt child) =
+      sym (ap rebuild_reads e) ∙ sym (ap (past_rebuild t.pieces) from) ∙ h in
+      let same : row.target ≡ child = cc in
+      inr (subst (λ c. IsFinished t c) same (n.target_finished rebuild row e set))
+
+module _ (pairs : List Pair) (words : ℕ) (opens : CanOpen pairs words) where
+  -- after an event a child still hangs in its slot, or is finished
+  child_step : (log : Log) (event : Event) → EachEnabled (start pairs words) (event ∷ log)
+      → Needs pairs words log
+      → (node i child : ℕ) → IsChild (state_of pairs words log) node i child
+      → IsChild (state_of pairs words (event ∷ log)) node i child ⊎ IsFinished (state_of pairs words log) child
+  child_step log event h n node i child c =
+      ⊎_elim
+      (λ r. inl record { word = r.word; holds = r.holds; reads = r.reads })
+      (λ turn.
+      ⊎_elim
+      (λ same. inl record { word = turn.now.word; holds = turn.now.holds; reads = turn.now.reads ∙ same })
+      (λ f. inr f)
+      (left_finished pairs words log turn.change n (n.form turn.base turn.change turn.pending) child turn.from))
+      (reads_step pairs words opens log event h node i (Some (InnerAt child)) (λ e. cc) record { word = c.word; holds = c.holds; reads = c.reads })
+
+  -- after an event a node that was led to still is, or is finished
+  pub led_step : (log : Log) (event : Event) → EachEnabled (start pairs words) (event ∷ log)
+      → Needs pairs words log
+      → (key node : ℕ) → Leads (state_of pairs words log) key node
+      → Leads (state_of pairs words (event ∷ log)) key node ⊎ IsFinished (state_of pairs words log) node
+  led_step log event h n key _ from_anchor = inl from_anchor
+  led_step log event h n key _ (down {node = node} {child = child} i led index c) =
+      ⊎_elim
+      (λ still.
+      ⊎_elim
+      (λ d. inl (down i still (child_stays (state_of pairs words log) (state_of pairs words (event ∷ log)) (grow_behind pairs words log event h) node key i index) d))
+      (λ f. inr f)
+      (child_step log event h n node i child c))
+      (λ f. inr (n.finished_below node i child f c))
+      (led_step log event h n key node led)
+
+-- ---- over a log
+
+-- the node was led to after some log in between, and was finished by then
+pub record WasLeft (pairs : List Pair) (words : ℕ) (key : ℕ) (earlier log : Log)
+    (node : ℕ) : Type 0 where
+  pub at : Log
+  pub since : GoesOn earlier at
+  pub until : GoesOn at log
+  pub led : Leads (state_of pairs words at) key node
+  pub finished : IsFinished (state_of pairs words at) node
+
+module _ (pairs : List Pair) (words : ℕ) (opens : CanOpen pairs words)
+    (needs : AllNeeds pairs words) where
+  -- a node that was led to is led to, or was left when it was finished
+  pub led_on : (earlier log : Log) → GoesOn earlier log → EachEnabled (start pairs words) log
+      → (key node : ℕ)
+      → Leads (state_of pairs words earlier) key node
+      → Leads (state_of pairs words log) key node ⊎ WasLeft pairs words key earlier log node
+  unfolding AllNeeds
+  led_on earlier _ same_log h key node led = inl led
+  led_on earlier _ (one_event {log = log} event g) h key node led =
+      ⊎_elim
+      (λ x.
+      ⊎_elim
+      (λ y. inl y)
+      (λ f. inr record { at = log; since = g; until = one_event event same_log; led = x; finished = f })
+      (led_step pairs words opens log event h (needs log h.0) key node x))
+      (λ w. inr record { at = w.at; since = w.since; until = one_event event w.until; led = w.led; finished = w.finished })
+      (led_on earlier log g h.0 key node led)

@@ -1,0 +1,136 @@
+-- What was loaded stays true as the log grows. Serves `laws.searches_go_on`.
+use Rattle.std.proofs.Common.{◌≡◌, ℕ, zero, suc, ◌-◌, ◌≤◌, List, [], ◌∷◌, length, drop, Option, refl, sym, ap, ◌∙◌, subst, arith}
+use Rattle.ist_core.specs.declared.loads.Load.{Load}
+use Rattle.ist_core.specs.declared.pairs.Pair.{Pair}
+use Rattle.ist_core.specs.References.{Ref}
+use Rattle.ist_core.specs.Logs.{Log, GoesOn, same_log, one_event}
+use Rattle.ist_core.specs.Slots.{IsChildFor}
+use Rattle.ist_core.specs.Writing.{place_of_slot}
+use Rattle.ist_core.specs.Lawful.{state_of}
+use Rattle.ist_core.specs.Shown.{IsShown}
+use Rattle.laws_histories.specs.Loads.{log_at, IsLoad}
+use Rattle.laws_histories.specs.Searching.{ReadsSide, no_change, by_to, by_from, ReadsTarget, no_rebuild, by_target, LooksAt, ComesTo, begins, goes_down, ReadsValue, of_nothing, of_other, of_key, Searched}
+
+-- ---- the log at a length
+
+-- what is left of a log without its newest events is a prefix of it
+drop_on : (k : ℕ) (log : Log) → GoesOn (drop k log) log
+drop_on zero log = same_log
+drop_on (suc k) [] = same_log
+drop_on (suc k) (event ∷ log) = one_event event (drop_on k log)
+
+-- the fewer newest events are dropped, the longer the prefix
+drop_rises : (a b : ℕ) (log : Log) → b ≤ a → GoesOn (drop a log) (drop b log)
+drop_rises a zero log h = drop_on a log
+drop_rises zero (suc b) log h = absurd (omega arith)
+drop_rises (suc a) (suc b) [] h = same_log
+drop_rises (suc a) (suc b) (event ∷ log) h = drop_rises a b log (omega arith)
+
+-- the log at an earlier length is a prefix of it
+pub at_on : (log : Log) (n : ℕ) → GoesOn (log_at log n) log
+at_on log n = drop_on (length log - n) log
+
+-- with more events it is a longer one
+pub at_rises : (log : Log) (m n : ℕ) → m ≤ n → GoesOn (log_at log m) (log_at log n)
+at_rises log m n h = drop_rises (length log - m) (length log - n) log (omega arith)
+
+-- a prefix is no longer than its log
+pub length_rises : (log longer : Log) → GoesOn log longer → length log ≤ length longer
+length_rises log _ same_log = omega arith
+length_rises log _ (one_event {log = rest} event g) =
+    let low = length_rises log rest g in omega arith
+
+-- a log keeps at each length what it was
+at_same : (log longer : Log) → GoesOn log longer → (n : ℕ) → n ≤ length log
+    → log_at longer n ≡ log_at log n
+at_same log _ same_log n h = refl
+at_same log _ (one_event {log = rest} event g) n h =
+    let low = length_rises log rest g in
+    let more : suc (length rest) - n ≡ suc (length rest - n) = omega arith in
+    ap (λ k. drop k (event ∷ rest)) more ∙ at_same log rest g n h
+
+-- a prefix is the log at its length
+pub at_prefix : (prefix log : Log) → GoesOn prefix log → log_at log (length prefix) ≡ prefix
+at_prefix prefix log g =
+    let none : length prefix - length prefix ≡ 0 = omega arith in
+    at_same prefix log g (length prefix) (omega arith) ∙ ap (λ k. drop k prefix) none
+
+module _ (pairs : List Pair) (words : ℕ) (log longer : Log) (g : GoesOn log longer) where
+  -- a load reports the same in the longer log
+  pub load_on : (place least : ℕ) (load : Load) → IsLoad pairs words log place least load
+      → IsLoad pairs words longer place least load
+  load_on place least load h =
+      record {
+        tells =
+            subst (λ l. (word : ℕ) → IsShown (state_of pairs words l) load.place word → load.word ≡ word)
+            (sym (at_same log longer g load.length h.within)) h.tells;
+        place_is = h.place_is;
+        since = h.since;
+        within = (let low = length_rises log longer g in let here = h.within in omega arith);
+      }
+
+  -- what a slot's word reads as stays
+  pub side_on : (slot : Load) (side last : ℕ) → ReadsSide pairs words log slot side last
+      → ReadsSide pairs words longer slot side last
+  side_on slot _ _ (no_change plain) = no_change plain
+  side_on slot _ _ (by_to base decision side is load said other) =
+      by_to base decision side is (load_on _ _ decision load) said (load_on _ _ side other)
+  side_on slot _ _ (by_from base decision side is load unsaid other) =
+      by_from base decision side is (load_on _ _ decision load) unsaid (load_on _ _ side other)
+
+  -- what a rebuild's word reads as stays
+  pub target_on : (least word : ℕ) (ref : Ref) → ReadsTarget pairs words log least word ref
+      → ReadsTarget pairs words longer least word ref
+  target_on least word _ (no_rebuild ref is plain) = no_rebuild ref is plain
+  target_on least word _ (by_target base target is load) =
+      by_target base target is (load_on _ _ target load)
+
+  -- a look at a slot is one there too
+  pub look_on : (key least last node : ℕ) (ref : Ref)
+      → LooksAt pairs words log key least last node ref
+      → LooksAt pairs words longer key least last node ref
+  look_on key least last node ref h =
+      let same = sym (at_same log longer g h.slot.length h.is_load.within) in
+      record {
+        slot = h.slot;
+        index = h.index;
+        index_is =
+            subst (λ l. IsChildFor (state_of pairs words l) node key h.index) same h.index_is;
+        is_load =
+            subst (λ l. IsLoad pairs words longer (place_of_slot (state_of pairs words l) node h.index) least h.slot) same
+            (load_on _ _ h.slot h.is_load);
+        side = h.side;
+        side_is = side_on h.slot h.side last h.side_is;
+        ref_is = target_on last h.side ref h.ref_is;
+      }
+
+  -- a search that reached a node reached it in the longer log too
+  pub come_on : (key began last node : ℕ) → ComesTo pairs words log key began last node
+      → ComesTo pairs words longer key began last node
+  come_on key began _ _ begins = begins
+  come_on key began _ _ (goes_down {least = least} {last = last} {node = node} {child = child} c look) =
+      goes_down (come_on key began least node c) (look_on key least last node _ look)
+
+  -- what a leaf gave stays
+  value_on : (key least : ℕ) (ref : Ref) (value : Option ℕ)
+      → ReadsValue pairs words log key least ref value
+      → ReadsValue pairs words longer key least ref value
+  value_on key least _ _ of_nothing = of_nothing
+  value_on key least _ _ (of_other load is other) = of_other load (load_on _ _ load is) other
+  value_on key least _ _ (of_key load value is same at) =
+      of_key load value (load_on _ _ load is) same (load_on _ _ value at)
+
+  -- a search that ended, ended so
+  pub end_on : (key began node : ℕ) (value : Option ℕ)
+      → Searched pairs words log key began node value
+      → Searched pairs words longer key began node value
+  end_on key began node value h =
+      record {
+        least = h.least;
+        last = h.last;
+        since = (let low = length_rises log longer g in let here = h.since in omega arith);
+        comes = come_on key began h.least node h.comes;
+        ref = h.ref;
+        look = look_on key h.least h.last node h.ref h.look;
+        value_is = value_on key h.last h.ref value h.value_is;
+      }

@@ -1,0 +1,23 @@
+-- The words with which slots were passed. Serves the search law.
+use Rattle.std.proofs.Common.{◌≢◌, ℕ, [], ◌∷◌, Some, inl, inr}
+use Rattle.ist_core.specs.References.{Unset, ChangeAt, ref_of}
+use Rattle.ist_core.specs.Snapshots.{Snapshot}
+use Rattle.ist_core.specs.Logs.{Log, Happened, Passes}
+use Rattle.ist_core.specs.Lawful.{EachEnabled}
+use Rattle.ist_core.proofs.InstallNamingLemmas.{not_unset}
+use Rattle.laws_links.proofs.PassLemmas.{passing}
+
+-- a word with which a slot may be passed: it is set, and no change
+pub record IsPlain (word : ℕ) : Type 0 where
+  pub set : ref_of word ≢ Some Unset
+  pub no_change : (base : ℕ) → ref_of word ≢ Some (ChangeAt base)
+
+-- a slot is passed with such a word
+pub passed_plain : (first : Snapshot) (log : Log) (node i word : ℕ) → EachEnabled first log
+    → Happened (Passes node i word) log → IsPlain word
+passed_plain first [] node i word h p = absurd p
+passed_plain first (event ∷ log) node i word h (inl now) =
+    let can =
+    (passing first log event node i word h.1 now).1 in record { set = not_unset word can.set; no_change = can.no_change }
+passed_plain first (event ∷ log) node i word h (inr before) =
+    passed_plain first log node i word h.0 before

@@ -1,0 +1,86 @@
+-- A table of three pairs, and what a put of it meets. Serves `examples`.
+use Rattle.std.proofs.Common.{◌≡◌, ℕ, zero, suc, [], ◌∷◌, map, Some, arith}
+use Rattle.std.specs.List.Sorted.{IsStrictlyIncreasing}
+use Rattle.ist_core.specs.declared.states.LeafRow.{LeafRow}
+use Rattle.ist_core.specs.declared.states.InnerRow.{InnerRow}
+use Rattle.ist_core.specs.declared.states.ChangeRow.{ChangeRow}
+use Rattle.ist_core.specs.Arithmetic.{degree, square_root, root_up_to, part_len, part_lens}
+use Rattle.ist_core.specs.Shapes.{ideal_words, ideal_words_within}
+use Rattle.ist_core.specs.References.{LeafAt, ref_of}
+use Rattle.ist_core.specs.Statuses.{put_kind}
+use Rattle.ist_core.specs.Pieces.{Leaf, Inner}
+use Rattle.ist_core.specs.Snapshots.{Snapshot}
+use Rattle.ist_core.specs.StartLayout.{start}
+use Rattle.ist_core.specs.Lawful.{CanOpen}
+use Rattle.laws_histories.specs.ExampleRebuilds.{three_pairs}
+
+-- the table at its start
+abbrev pub three : Snapshot
+three = start three_pairs 200
+
+-- the keys are strictly increasing
+rising : IsStrictlyIncreasing (map (λ pair. pair.key) three_pairs)
+rising zero h = omega arith
+rising (suc zero) h = omega arith
+rising (suc (suc k)) h = absurd (omega arith)
+
+-- the table may open
+pub three_open : CanOpen three_pairs 200
+unfolding ideal_words ideal_words_within degree square_root root_up_to part_len part_lens
+three_open = record { rising = rising; room = omega arith; within = omega arith }
+
+-- the put, with a decision
+abbrev pub again : ℕ → ℕ → ℕ → ChangeRow
+again from to decision =
+    record {
+      decision = decision;
+      kind = put_kind;
+      node = 11;
+      index = 0;
+      from = from;
+      to = to;
+      owner = 0;
+      key = 10;
+      value = 1;
+    }
+
+-- the leaf of the put
+abbrev pub ten : LeafRow
+ten = record { key = 10; value = 1 }
+
+-- the left row, with a status, a count and the word in its first slot
+abbrev pub left : ℕ → ℕ → ℕ → InnerRow
+left status count word =
+    record {
+      status = status;
+      count = count;
+      degree = 2;
+      size = 2;
+      keys = 20 ∷ [];
+      slots = word ∷ 161 ∷ [];
+    }
+
+-- the top row, with a status and the word in its first slot
+abbrev pub top : ℕ → ℕ → InnerRow
+top status word =
+    record {
+      status = status;
+      count = 0;
+      degree = 2;
+      size = 3;
+      keys = 30 ∷ [];
+      slots = word ∷ 177 ∷ [];
+    }
+
+-- the state before a put: both rows are as at the start, except for their counts, and the old leaf
+-- is in the slot
+pub record IsReady (t : Snapshot) (leaf from old count : ℕ) : Type 0 where
+  pub callers : t.callers ≡ 2
+  pub next : t.next ≡ leaf
+  pub words : t.words ≡ 200
+  pub held : t.held ≡ []
+  pub anchor : t.anchor ≡ 34
+  pub top_row : t.pieces 4 ≡ Some (Inner (top 0 90))
+  pub left_row : t.pieces 11 ≡ Some (Inner (left 0 count from))
+  pub old_is : ref_of from ≡ Some (LeafAt old)
+  pub old_leaf : t.pieces old ≡ Some (Leaf ten)

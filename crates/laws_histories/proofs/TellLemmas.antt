@@ -1,0 +1,289 @@
+-- The tree gives each key what the map after the changes has, and each change has the reply of the
+-- map at its place. Serves the changes law.
+use Rattle.std.proofs.Common.{◌≡◌, ◌≢◌, ℕ, true, List, [], ◌∷◌, ◌++◌, Option, Some, None, option_map, refl, sym, ap, ◌∙◌, subst, inl, inr, ⊎_elim, arith}
+use Rattle.std.proofs.lemmas.Bool.Decides.{eqb_tells}
+use Rattle.std.specs.FinMap as fin
+use Rattle.ist_core.specs.declared.pairs.Pair.{Pair}
+use Rattle.ist_core.specs.declared.states.ChangeRow.{ChangeRow}
+use Rattle.ist_core.specs.declared.events.Event.TheVariants.{Decide}
+use Rattle.ist_core.specs.Map.{Map, map_of, map_after}
+use Rattle.ist_core.specs.References.{Ref, InnerAt, ChangeAt, ref_of, word_of}
+use Rattle.ist_core.specs.Statuses.{decided_yes}
+use Rattle.ist_core.specs.Pieces.{Leaf, Inner, Change, with_decision}
+use Rattle.ist_core.specs.Snapshots.{Snapshot}
+use Rattle.ist_core.specs.StartLayout.{start}
+use Rattle.ist_core.specs.Logs.{Log}
+use Rattle.ist_core.specs.Slots.{SlotHolds, IsChildFor, rebuild_reads, past_rebuild, logical}
+use Rattle.ist_core.specs.Links.{Leads}
+use Rattle.ist_core.specs.Changes.{Entry, command_of, reply_of, entry_for, entry_of, changes_of, map_behind}
+use Rattle.ist_core.specs.Rebuilding.{IsUpdate}
+use Rattle.ist_core.specs.Lawful.{EachEnabled, CanOpen, state_of}
+use Rattle.ist_core.proofs.RowLemmas.{changed_at-same}
+use Rattle.ist_core.proofs.FateLemmas.{grow_between}
+use Rattle.ist_core.proofs.PlaceLemmas.{anchor_free}
+use Rattle.ist_core.proofs.RoomLemmas.{published_good}
+use Rattle.ist_core.proofs.NamingStepLemmas.{changed_at-fixed}
+use Rattle.ist_core.proofs.OrderLemmas.{names, past_rebuild_above}
+use Rattle.ist_core.proofs.SlotStepLemmas.{slot_stays}
+use Rattle.ist_core.proofs.FreezingLemmas.{change_read, side_not_yes, same_change}
+use Rattle.laws_links.specs.Linking.{IsFinished}
+use Rattle.laws_links.proofs.FormLemmas.{finished_grows}
+use Rattle.laws_links.proofs.InductionLemmas.{sound_behind, grow_behind}
+use Rattle.laws_links.proofs.ReadLemmas.{side_yes}
+use Rattle.laws_histories.specs.Finding.{Finds, Gives}
+use Rattle.laws_histories.specs.Telling.{AreLegal}
+use Rattle.laws_histories.proofs.NeedLemmas.{HasForm, into_nothing, over_leaf, beside_low, beside_high, takes_out, begins, ends, Needs, AllNeeds}
+use Rattle.laws_histories.proofs.ReadLemmas.{side_reads, change_logical, Turns}
+use Rattle.laws_histories.proofs.LedLemmas.{child_stays, led_step, led_on}
+use Rattle.laws_histories.proofs.DecisionLemmas.{unfinished}
+use Rattle.laws_histories.proofs.FindLemmas.{finds_once, finds_above, gives_step, IsHigh, finds_high}
+use Rattle.laws_histories.proofs.CameLemmas.{came}
+use Rattle.laws_histories.proofs.SideLemmas.{start_commands, finish_commands, Sides, sides}
+use Rattle.laws_histories.proofs.MapLemmas.{map_behind-append, entries_append}
+use Rattle.laws_histories.proofs.RootLemmas.{root_finds}
+
+-- one event decides one change
+pub same_base : (a b c d : ℕ) → Decide a b true ≡ Decide c d true → b ≡ d
+same_base a b c d e = cc
+
+-- what the tree gives and the changes reply after a log
+pub record Told (pairs : List Pair) (words : ℕ) (log : Log) : Type 0 where
+  pub gives : (key : ℕ)
+      → Gives (state_of pairs words log) key (fin.get (map_behind (map_of pairs) (changes_of pairs words log)) key)
+  pub legal : AreLegal (map_of pairs) (changes_of pairs words log)
+
+-- ---- a change that is decided yes
+
+module _ (pairs : List Pair) (words : ℕ) (opens : CanOpen pairs words)
+    (needs : AllNeeds pairs words) (log : Log) (caller base : ℕ)
+    (h : EachEnabled (start pairs words) (Decide caller base true ∷ log)) where
+  -- the states before and after, and the change
+  abbrev Before : Snapshot
+  Before = state_of pairs words log
+
+  abbrev Behind : Snapshot
+  Behind = state_of pairs words (Decide caller base true ∷ log)
+
+  abbrev change : ChangeRow
+  change = h.1.change
+
+  abbrev From : Option Ref
+  From = past_rebuild Before.pieces (ref_of h.1.change.from)
+
+  abbrev To : Option Ref
+  To = past_rebuild Before.pieces (ref_of h.1.change.to)
+
+  -- what is needed of the log
+  needed : Needs pairs words log
+  unfolding AllNeeds
+  needed = needs log h.0
+
+  -- the change has its form
+  form : HasForm Before change
+  form = needed.form base change h.1.pending
+
+  -- the change that turns is this one
+  turned_is : (node i : ℕ) (ref : Option Ref)
+      (turn : Turns Before Behind (Decide caller base true) node i ref) → turn.change ≡ change
+  turned_is node i ref turn =
+      let same = same_base caller base turn.decides.caller turn.base turn.decides.is in
+      same_change (Before.pieces base) turn.change change
+      (subst (λ b. Before.pieces b ≡ Some (Change turn.change)) (sym same) turn.pending.published) h.1.pending.published
+
+  -- if `to` gives what `from` gave, the tree gives what it gave
+  alike_gives : (key : ℕ)
+      → ((value : Option ℕ) → Finds Before.pieces key From value → Finds Behind.pieces key To value)
+      → (value : Option ℕ) → Gives Before key value → Gives Behind key value
+  alike_gives key alike =
+      gives_step pairs words opens log (Decide caller base true) h key
+      (λ node i ref value turn f.
+      let same = turned_is node i ref turn in
+      subst (λ c. Finds Behind.pieces key (past_rebuild Before.pieces (ref_of c.to)) value)
+      (sym same)
+      (alike value (subst (λ c. Finds Before.pieces key (past_rebuild Before.pieces (ref_of c.from)) value) same (subst (λ x. Finds Before.pieces key x value) (sym turn.from) f))))
+
+  -- the slot of an update; the key of the update leads to it before and after
+  record IsLedHere : Type 0 where
+    led : Leads Before change.key change.node
+    index_is : IsChildFor Before change.node change.key change.index
+    slot : SlotHolds Before change.node change.index (word_of (ChangeAt base))
+    reads : logical Before.pieces (word_of (ChangeAt base)) ≡ From
+    led_behind : Leads Behind change.key change.node
+    index_behind : IsChildFor Behind change.node change.key change.index
+    slot_behind : SlotHolds Behind change.node change.index (word_of (ChangeAt base))
+    reads_behind : logical Behind.pieces (word_of (ChangeAt base)) ≡ To
+
+  -- the key of the update leads to its slot
+  led_here : IsUpdate change.kind → IsLedHere
+  led_here update =
+      let pending = h.1.pending in
+      let by_key = came pairs words log h.0 base change pending.published update in
+      let never : IsFinished Before change.node → ⊥ =
+      unfinished pairs words opens log h.0 needed base change pending h.1.outcome in
+      let led : Leads Before change.key change.node =
+      ⊎_elim (λ x. x)
+      (λ w. absurd (never (finished_grows (state_of pairs words w.at) Before (grow_between pairs words w.at log h.0 w.until) change.node w.finished)))
+      (led_on pairs words opens needs by_key.at log by_key.until h.0 change.key change.node by_key.led) in
+      let slot = needed.in_slot base change pending in
+      let turned : ChangeRow = record change { decision = decided_yes } in
+      let there : Behind.pieces base ≡ Some (Change turned) =
+      changed_at-same Before.pieces base (with_decision decided_yes)
+      ∙ ap (option_map (with_decision decided_yes)) pending.published in
+      let word = change_read pairs words opens log h.0 base change pending.published in
+      let none : change.decision ≢ decided_yes = λ e. (let zero = pending.unset in omega arith) in
+      let row = (names pairs words opens log h.0).rows base (Change change) pending.published in
+      let grows = grow_behind pairs words log (Decide caller base true) h in
+      record {
+        led = led;
+        index_is = by_key.index_is;
+        slot = slot;
+        reads =
+            change_logical Before.pieces
+            (word_of (ChangeAt base)) base change word pending.published
+            ∙ ap (λ w. past_rebuild Before.pieces (ref_of w)) (side_not_yes change none);
+        led_behind =
+            ⊎_elim (λ x. x) (λ f. absurd (never f))
+            (led_step pairs words opens log (Decide caller base true) h needed change.key change.node led);
+        index_behind =
+            child_stays Before Behind grows change.node change.key change.index by_key.index_is;
+        slot_behind =
+            slot_stays (start pairs words) log (Decide caller base true) h.1
+            (sound_behind pairs words log h.0) tt change.node change.index
+            (word_of (ChangeAt base)) slot;
+        reads_behind =
+            change_logical Behind.pieces (word_of (ChangeAt base)) base turned word there
+            ∙ ap (λ w. past_rebuild Behind.pieces (ref_of w)) (side_yes turned refl)
+            ∙ side_reads Before.pieces Behind.pieces grows change.node change.index
+            (ref_of change.to) row.1;
+      }
+
+  -- the two sides of the update
+  its_sides : IsUpdate change.kind → Sides Before Behind change
+  its_sides update =
+      sides Before Behind change
+      record {
+        leaves =
+            λ b r e. changed_at-fixed Before.pieces base b (with_decision decided_yes) (Leaf r) e refl;
+        inners =
+            λ b r e. changed_at-fixed Before.pieces base b (with_decision decided_yes) (Inner r) e refl;
+      }
+      (λ b p e. published_good pairs words opens log b p h.0 e) form update
+
+  -- an update is one step of the map
+  update_gives : (update : IsUpdate change.kind) (m : Map)
+      → ((key : ℕ) → Gives Before key (fin.get m key))
+      → (key : ℕ) → Gives Behind key (fin.get (map_after m (its_sides update).makes.command) key)
+  update_gives update m all key =
+      ⊎_elim (λ e. here e.1) (λ e. elsewhere e.1) (eqb_tells key change.key)
+    where
+      z : Sides Before Behind change
+      z = its_sides update
+
+      here : key ≡ change.key → Gives Behind key (fin.get (map_after m z.makes.command) key)
+      here e =
+          let s = led_here update in
+          subst (λ k. Gives Behind k (fin.get (map_after m z.makes.command) k)) (sym e)
+          (subst (λ v. Gives Behind change.key v) (sym (z.makes.made m))
+          (finds_above Behind change.key change.node change.index (word_of (ChangeAt base)) (z.new change.key) (anchor_free pairs words (Decide caller base true ∷ log) h) s.led_behind s.index_behind s.slot_behind
+          (subst (λ ref. Finds Behind.pieces change.key ref (z.new change.key)) (sym s.reads_behind) (z.to_finds change.key))))
+
+      elsewhere : key ≢ change.key → Gives Behind key (fin.get (map_after m z.makes.command) key)
+      elsewhere ne =
+          subst (λ v. Gives Behind key v) (sym (z.makes.others m key ne))
+          (alike_gives key
+          (λ value f. subst (λ v. Finds Behind.pieces key To v) (z.others key ne ∙ finds_once Before.pieces key From (z.old key) value (z.from_finds key) f) (z.to_finds key))
+          (fin.get m key) (all key))
+
+  -- its reply is the map's
+  update_reply : (update : IsUpdate change.kind) (m : Map)
+      → ((key : ℕ) → Gives Before key (fin.get m key))
+      → fin.get m change.key ≡ reply_of Before.pieces change
+  update_reply update m all =
+      let z = its_sides update in
+      let s = led_here update in
+      let here =
+      finds_above Before change.key change.node change.index (word_of (ChangeAt base))
+      (z.old change.key) (anchor_free pairs words log h.0) s.led s.index_is s.slot
+      (subst (λ ref. Finds Before.pieces change.key ref (z.old change.key)) (sym s.reads) (z.from_finds change.key)) in
+      finds_once Before.pieces change.key (logical Before.pieces Before.anchor)
+      (fin.get m change.key) (z.old change.key) (all change.key) here ∙ z.reply
+
+  -- a start and a finish leave what each key is given
+  rebuild_gives : ((key : ℕ) (value : Option ℕ) → Finds Before.pieces key From value → Finds Before.pieces key To value)
+      → (key : ℕ) (value : Option ℕ) → Gives Before key value → Gives Behind key value
+  rebuild_gives same key =
+      alike_gives key
+      (λ value f.
+      finds_high pairs words opens log (Decide caller base true) h key change.node
+      (λ at i ref turn. sym turn.node_is ∙ ap (λ c. c.node) (turned_is at i ref turn))
+      To value high (same key value f))
+    where
+      high : IsHigh pairs words opens log (Decide caller base true) h change.node To
+      high child is =
+          let o = names pairs words opens log h.0 in
+          let row = o.rows base (Change change) h.1.pending.published in
+          past_rebuild_above Before change.node change.index child (ref_of change.to) o row.1 is
+
+  -- what holds after the Decide, if these entries are new
+  told_more : (new : List Entry)
+      → changes_of pairs words (Decide caller base true ∷ log) ≡ changes_of pairs words log ++ new
+      → Told pairs words log
+      → ((key : ℕ) → Gives Behind key (fin.get (map_behind (map_behind (map_of pairs) (changes_of pairs words log)) new) key))
+      → AreLegal (map_behind (map_of pairs) (changes_of pairs words log)) new
+      → Told pairs words (Decide caller base true ∷ log)
+  told_more new are told gives legal =
+      let m = map_of pairs in
+      let old = changes_of pairs words log in
+      record {
+        gives = λ key.
+            subst (λ es. Gives Behind key (fin.get (map_behind m es) key)) (sym are)
+            (subst (λ n. Gives Behind key (fin.get n key)) (sym (map_behind-append m old new)) (gives key));
+        legal = subst (λ es. AreLegal m es) (sym are) (entries_append m old new told.legal legal);
+      }
+
+  -- an update is its new entry
+  told_update : IsUpdate change.kind → Told pairs words log
+      → Told pairs words (Decide caller base true ∷ log)
+  told_update update told =
+      let m = map_behind (map_of pairs) (changes_of pairs words log) in
+      let makes = (its_sides update).makes in
+      let entry : Entry =
+      record { owner = change.owner; command = makes.command; reply = reply_of Before.pieces change } in
+      let made : entry_of Before.pieces (Before.pieces base) ≡ entry ∷ [] =
+      ap (entry_of Before.pieces) h.1.pending.published
+      ∙ ap (entry_for Before.pieces change) makes.command_is in
+      told_more (entry ∷ []) (ap (λ es. changes_of pairs words log ++ es) made) told
+      (update_gives update m told.gives)
+      (ap (λ r. r ∷ []) (ap (fin.get m) makes.key_is ∙ update_reply update m told.gives))
+
+  -- a start and a finish make no entry
+  told_rebuild : ((key : ℕ) (value : Option ℕ) → Finds Before.pieces key From value → Finds Before.pieces key To value)
+      → command_of change ≡ None → Told pairs words log
+      → Told pairs words (Decide caller base true ∷ log)
+  told_rebuild same none told =
+      let made : entry_of Before.pieces (Before.pieces base) ≡ [] =
+      ap (entry_of Before.pieces) h.1.pending.published
+      ∙ ap (entry_for Before.pieces change) none in
+      let m = map_behind (map_of pairs) (changes_of pairs words log) in
+      told_more [] (ap (λ es. changes_of pairs words log ++ es) made) told
+      (λ key. rebuild_gives same key (fin.get m key) (told.gives key)) refl
+
+  -- so what holds of the tree and the changes holds after each Decide with yes
+  pub told_yes : Told pairs words log → Told pairs words (Decide caller base true ∷ log)
+  told_yes told = at form
+    where
+      at : HasForm Before change → Told pairs words (Decide caller base true ∷ log)
+      at (into_nothing leaf kind from to new) = told_update (inl kind) told
+      at (over_leaf old leaf kind from is to new) = told_update (inl kind) told
+      at (beside_low other k leaf pair kind from is less to p new) = told_update (inl kind) told
+      at (beside_high other k leaf pair kind from is less to p new) = told_update (inl kind) told
+      at (takes_out leaf kind from is to) = told_update (inr kind) told
+      at (begins target rebuild kind from to has) =
+          let same : From ≡ To =
+          ap (past_rebuild Before.pieces) from
+          ∙ sym (ap (past_rebuild Before.pieces) to ∙ ap rebuild_reads has.published ∙ ap (λ n. Some (InnerAt n)) has.target_is) in
+          told_rebuild (λ key value f. subst (λ ref. Finds Before.pieces key ref value) same f)
+          (start_commands change kind) told
+      at (ends rebuild row kind from e f set) =
+          let it = needed.same_leaves base change h.1.pending h.1.outcome kind in
+          told_rebuild (λ key value g. root_finds pairs words opens log h.0 base rebuild change row h.1.pending.published from e f set it.0 it.1 it.2 key value g) (finish_commands change kind) told

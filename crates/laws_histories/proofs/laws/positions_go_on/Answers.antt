@@ -1,0 +1,5 @@
+use Rattle.laws_histories.proofs.PositionOnLemmas.{position_on}
+use Rattle.laws_histories.proofs.laws.positions_go_on.Goals as goal
+
+pub returns : goal.returns
+returns c = record { position = position_on }

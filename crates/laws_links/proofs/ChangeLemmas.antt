@@ -1,0 +1,214 @@
+-- What holds of each published change: a pending one is in its slot, its node was linked, and yes
+-- takes an Okay. Serves the linked law.
+use Rattle.std.proofs.Common.{Bool, List, None, Some, [], ap, arith, false, inl, inr, refl, subst, sym, true, ℕ, ⊎_elim, ◌*◌, ◌+◌, ◌∙◌, ◌∷◌, ◌≡◌, ◌≢◌}
+use Rattle.ist_core.specs.declared.events.Event.{Event}
+use Rattle.ist_core.specs.declared.events.Event.TheVariants.{Count, Decide, Draw, Enter, Finish, Install, Lose, Mark, Okay, Pass, Place, Reserve, Resolve, Root}
+use Rattle.ist_core.specs.declared.lists.Row.{Row}
+use Rattle.ist_core.specs.declared.pairs.Pair.{Pair}
+use Rattle.ist_core.specs.declared.states.ChangeRow.{ChangeRow}
+use Rattle.ist_core.specs.After.{decision_word}
+use Rattle.ist_core.specs.Deciding.{MayBe}
+use Rattle.ist_core.specs.Enabled.{Enabled}
+use Rattle.ist_core.specs.Installing.{CanInstall}
+use Rattle.ist_core.specs.Lawful.{CanOpen, EachEnabled, state_of}
+use Rattle.ist_core.specs.Links.{Linked, WasLinked}
+use Rattle.ist_core.specs.Logs.{Ever, Happened, Log, Okays, Resolves, state}
+use Rattle.ist_core.specs.Pieces.{Change}
+use Rattle.ist_core.specs.References.{ChangeAt, ref_of, word_of}
+use Rattle.ist_core.specs.Slots.{SlotHolds}
+use Rattle.ist_core.specs.Snapshots.{Snapshot}
+use Rattle.ist_core.specs.StartLayout.{start}
+use Rattle.ist_core.specs.Statuses.{decided_yes, undecided}
+use Rattle.ist_core.proofs.FreezingLemmas.{change_read, same_change}
+use Rattle.ist_core.proofs.GrowingLemmas.{change_there}
+use Rattle.ist_core.proofs.InstallNamingLemmas.{from_plain}
+use Rattle.ist_core.proofs.MoveLemmas.{HeldLieApart}
+use Rattle.ist_core.proofs.PlaceLemmas.{absent, anchor_free, no_piece}
+use Rattle.ist_core.proofs.SlotStepLemmas.{install_writes, place_writes, resolve_writes, slot_stays}
+use Rattle.ist_core.proofs.StepLemmas.{holds_installed}
+use Rattle.laws_links.proofs.InductionLemmas.{changes_by, grow_behind, sound_behind}
+
+-- two words of changes are one
+pub same_change_word : (a b : ℕ) → word_of (ChangeAt a) ≡ word_of (ChangeAt b) → a ≡ b
+same_change_word a b e = let numbers : a * 8 + 3 ≡ b * 8 + 3 = e in omega arith
+
+-- a word of a decision isn't undecided
+pub said_something : (said : Bool) → decision_word said ≢ undecided
+said_something true e = let one : ◌≡◌ {A = ℕ} 1 0 = e in omega arith
+said_something false e = let two : ◌≡◌ {A = ℕ} 2 0 = e in omega arith
+
+-- if a decision's word is yes, the decision is yes
+pub said_yes : (said : Bool) → decision_word said ≡ decided_yes → said ≡ true
+said_yes true e = refl
+said_yes false e = let two : ◌≡◌ {A = ℕ} 2 1 = e in absurd (omega arith)
+
+-- the change that an event resolves is published and decided
+pub record IsDecidedAt (t : Snapshot) (base : ℕ) : Type 0 where
+  pub row : ChangeRow
+  pub published : t.pieces base ≡ Some (Change row)
+  pub decided : row.decision ≢ undecided
+
+-- a change that an enabled event resolves is decided
+pub resolved_now : (first : Snapshot) (log : Log) (event : Event) (base : ℕ)
+    → Enabled first log event
+    → Resolves base event → IsDecidedAt (state first log) base
+resolved_now first log (Resolve caller change) base h is =
+    record { row = h.change; published = subst (λ b. (state first log).pieces b ≡ Some (Change h.change)) is h.published; decided = h.decided }
+resolved_now first log (Enter caller) base h is = absurd is
+resolved_now first log (Reserve caller b size) base h is = absurd is
+resolved_now first log (Install caller change rows) base h is = absurd is
+resolved_now first log (Okay caller change) base h is = absurd is
+resolved_now first log (Decide caller change said) base h is = absurd is
+resolved_now first log (Count caller node) base h is = absurd is
+resolved_now first log (Mark caller node) base h is = absurd is
+resolved_now first log (Pass caller node i word) base h is = absurd is
+resolved_now first log (Finish caller node keys) base h is = absurd is
+resolved_now first log (Root caller rebuild word rows) base h is = absurd is
+resolved_now first log (Draw caller rebuild part) base h is = absurd is
+resolved_now first log (Place caller rebuild i word rows) base h is = absurd is
+resolved_now first log (Lose caller bases) base h is = absurd is
+
+-- a change that isn't published wasn't resolved
+unresolved_before : (pairs : List Pair) (words : ℕ) (log : Log)
+    → EachEnabled (start pairs words) log
+    → (base : ℕ) → (state_of pairs words log).pieces base ≡ None → ¬ (Happened (Resolves base) log)
+unresolved_before pairs words [] h base none happened = happened
+unresolved_before pairs words (event ∷ log) h base none (inl now) =
+    let it = resolved_now (start pairs words) log event base h.1 now in
+    let on = change_there (state_of pairs words log).pieces (state_of pairs words (event ∷ log)).pieces (grow_behind pairs words log event h) base it.row it.published in
+    no_piece ((state_of pairs words (event ∷ log)).pieces base) (Change on.0) none on.1
+unresolved_before pairs words (event ∷ log) h base none (inr before) =
+    unresolved_before pairs words log h.0 base (absent ((state_of pairs words log).pieces base) (λ p e.
+    let on = grow_behind pairs words log event h base p e in no_piece ((state_of pairs words (event ∷ log)).pieces base) on.0 none on.1)) before
+
+-- no row is published at the base at which a change is installed
+pub install_free : (first : Snapshot) (log : Log) (caller base : ℕ) (rows : List Row)
+    → CanInstall first log caller base rows → HeldLieApart (state first log)
+    → (state first log).pieces base ≡ None
+install_free first log caller base rows h s =
+    s.unpublished record { caller = caller; base = base; size = 9 }
+    (holds_installed first log caller base rows h).0
+
+module _ (pairs : List Pair) (words : ℕ) (opens : CanOpen pairs words) where
+  -- a change in a slot stays there until it is resolved
+  pub change_slot_stays : (log : Log) (event : Event)
+      → EachEnabled (start pairs words) (event ∷ log)
+      → (base : ℕ) (x : ChangeRow) → (state_of pairs words log).pieces base ≡ Some (Change x)
+      → ¬ (Resolves base event) → (n i : ℕ)
+      → SlotHolds (state_of pairs words log) n i (word_of (ChangeAt base))
+      → SlotHolds (state_of pairs words (event ∷ log)) n i (word_of (ChangeAt base))
+  change_slot_stays log (Install caller change rows) h base x e unresolved n i slot =
+      let writes = install_writes (start pairs words) log caller change rows h.1 (sound_behind pairs words log h.0) (anchor_free pairs words log h.0) in
+      ⊎_elim
+      (λ w. absurd (from_plain (start pairs words) log h.1.change h.1.fresh h.1.fits base (ap ref_of (sym w.0) ∙ change_read pairs words opens log h.0 base x e)))
+      (λ stays. stays)
+      (writes.others n i (word_of (ChangeAt base)) slot)
+  change_slot_stays log (Resolve caller change) h base x e unresolved n i slot =
+      let writes = resolve_writes (state_of pairs words log) caller change h.1 (anchor_free pairs words log h.0) in
+      ⊎_elim (λ w. absurd (unresolved (sym (same_change_word base change w.0)))) (λ stays. stays)
+      (writes.others n i (word_of (ChangeAt base)) slot)
+  change_slot_stays log (Place caller rebuild j word rows) h base x e unresolved n i slot =
+      let writes = place_writes (state_of pairs words log) caller rebuild j word rows h.1 (sound_behind pairs words log h.0) (anchor_free pairs words log h.0) in
+      ⊎_elim
+      (λ w. absurd (let seven : base * 8 + 3 ≡ 7 = w.0 in omega arith))
+      (λ stays. stays)
+      (writes.others n i (word_of (ChangeAt base)) slot)
+  change_slot_stays log (Enter caller) h base x e unresolved n i slot =
+      slot_stays (start pairs words) log (Enter caller) h.1
+      (sound_behind pairs words log h.0) tt n i (word_of (ChangeAt base)) slot
+  change_slot_stays log (Reserve caller b size) h base x e unresolved n i slot =
+      slot_stays (start pairs words) log (Reserve caller b size) h.1
+      (sound_behind pairs words log h.0) tt n i (word_of (ChangeAt base)) slot
+  change_slot_stays log (Okay caller change) h base x e unresolved n i slot =
+      slot_stays (start pairs words) log (Okay caller change) h.1
+      (sound_behind pairs words log h.0) tt n i (word_of (ChangeAt base)) slot
+  change_slot_stays log (Decide caller change said) h base x e unresolved n i slot =
+      slot_stays (start pairs words) log (Decide caller change said) h.1
+      (sound_behind pairs words log h.0) tt n i (word_of (ChangeAt base)) slot
+  change_slot_stays log (Count caller node) h base x e unresolved n i slot =
+      slot_stays (start pairs words) log (Count caller node) h.1
+      (sound_behind pairs words log h.0) tt n i (word_of (ChangeAt base)) slot
+  change_slot_stays log (Mark caller node) h base x e unresolved n i slot =
+      slot_stays (start pairs words) log (Mark caller node) h.1
+      (sound_behind pairs words log h.0) tt n i (word_of (ChangeAt base)) slot
+  change_slot_stays log (Pass caller node j word) h base x e unresolved n i slot =
+      slot_stays (start pairs words) log (Pass caller node j word) h.1
+      (sound_behind pairs words log h.0) tt n i (word_of (ChangeAt base)) slot
+  change_slot_stays log (Finish caller node keys) h base x e unresolved n i slot =
+      slot_stays (start pairs words) log (Finish caller node keys) h.1
+      (sound_behind pairs words log h.0) tt n i (word_of (ChangeAt base)) slot
+  change_slot_stays log (Root caller rebuild word rows) h base x e unresolved n i slot =
+      slot_stays (start pairs words) log (Root caller rebuild word rows) h.1
+      (sound_behind pairs words log h.0) tt n i (word_of (ChangeAt base)) slot
+  change_slot_stays log (Draw caller rebuild part) h base x e unresolved n i slot =
+      slot_stays (start pairs words) log (Draw caller rebuild part) h.1
+      (sound_behind pairs words log h.0) tt n i (word_of (ChangeAt base)) slot
+  change_slot_stays log (Lose caller bases) h base x e unresolved n i slot =
+      slot_stays (start pairs words) log (Lose caller bases) h.1
+      (sound_behind pairs words log h.0) tt n i (word_of (ChangeAt base)) slot
+
+  -- a change that wasn't resolved is in its slot
+  pub unresolved_stands : (log : Log) → EachEnabled (start pairs words) log
+      → (base : ℕ) (x : ChangeRow)
+      → (state_of pairs words log).pieces base ≡ Some (Change x) → ¬ (Happened (Resolves base) log)
+      → SlotHolds (state_of pairs words log) x.node x.index (word_of (ChangeAt base))
+  unresolved_stands =
+      changes_by pairs words
+      (λ log base x. ¬ (Happened (Resolves base) log) → SlotHolds (state_of pairs words log) x.node x.index (word_of (ChangeAt base)))
+      (λ log event h base x old there stands unresolved.
+      change_slot_stays log event h base x old (λ now. unresolved (inl now)) x.node x.index (stands (λ before. unresolved (inr before))))
+      (λ log caller base rows h can unresolved.
+      (install_writes (start pairs words) log caller base rows can (sound_behind pairs words log h.0) (anchor_free pairs words log h.0)).now)
+      (λ log caller base said h can stands unresolved.
+      change_slot_stays log (Decide caller base said) h base can.change can.pending.published (λ now. unresolved (inl now)) can.change.node can.change.index (stands (λ before. unresolved (inr before))))
+
+  -- an undecided change wasn't resolved
+  pub undecided_unresolved : (log : Log) → EachEnabled (start pairs words) log
+      → (base : ℕ) (x : ChangeRow)
+      → (state_of pairs words log).pieces base ≡ Some (Change x) → x.decision ≡ undecided
+      → ¬ (Happened (Resolves base) log)
+  undecided_unresolved =
+      changes_by pairs words
+      (λ log base x. x.decision ≡ undecided → ¬ (Happened (Resolves base) log))
+      (λ log event h base x old there before none happened.
+      ⊎_elim
+      (λ now.
+      let it = resolved_now (start pairs words) log event base h.1 now in
+      it.decided (ap (λ y. y.decision) (same_change ((state_of pairs words log).pieces base) it.row x it.published old) ∙ none))
+      (λ earlier. before none earlier)
+      happened)
+      (λ log caller base rows h can none happened.
+      ⊎_elim
+      (λ now. now)
+      (λ earlier. unresolved_before pairs words log h.0 base (install_free (start pairs words) log caller base rows can (sound_behind pairs words log h.0)) earlier)
+      happened)
+      (λ log caller base said h can before none happened. said_something said none)
+
+  -- an undecided change is in its slot
+  pub undecided_stands : (log : Log) → EachEnabled (start pairs words) log
+      → (base : ℕ) (x : ChangeRow)
+      → (state_of pairs words log).pieces base ≡ Some (Change x) → x.decision ≡ undecided
+      → SlotHolds (state_of pairs words log) x.node x.index (word_of (ChangeAt base))
+  undecided_stands log h base x e none =
+      unresolved_stands log h base x e (undecided_unresolved log h base x e none)
+
+  -- the node of each change was linked
+  pub node_was_linked : (log : Log) → EachEnabled (start pairs words) log
+      → (base : ℕ) (x : ChangeRow)
+      → (state_of pairs words log).pieces base ≡ Some (Change x)
+      → WasLinked (start pairs words) log x.node
+  node_was_linked =
+      changes_by pairs words (λ log base x. Ever (start pairs words) (λ t. Linked t x.node) log)
+      (λ log event h base x old there was. inr was)
+      (λ log caller base rows h can. inr can.linked)
+      (λ log caller base said h can was. inr was)
+
+  -- a change that was decided yes has an Okay
+  pub yes_has_okay : (log : Log) → EachEnabled (start pairs words) log → (base : ℕ) (x : ChangeRow)
+      → (state_of pairs words log).pieces base ≡ Some (Change x) → x.decision ≡ decided_yes
+      → Happened (Okays base) log
+  yes_has_okay =
+      changes_by pairs words (λ log base x. x.decision ≡ decided_yes → Happened (Okays base) log)
+      (λ log event h base x old there before yes. inr (before yes))
+      (λ log caller base rows h can yes. let none = can.unset in absurd (omega arith))
+      (λ log caller base said h can before yes. inr (subst (λ v. MayBe (state_of pairs words log) log base can.change v) (said_yes said yes) can.outcome))

@@ -1,0 +1,240 @@
+-- A row that isn't open was linked, and so was the row that a passed word leads to. Serves the
+-- replacement law and the rest law.
+use Rattle.std.proofs.Common.{Bool, List, Option, Some, [], ap, arith, inl, inr, subst, sym, true, ℕ, ⊎_elim, ◌*◌, ◌+◌, ◌∙◌, ◌∷◌, ◌≡◌, ◌≢◌}
+use Rattle.ist_core.specs.declared.events.Event.{Event}
+use Rattle.ist_core.specs.declared.events.Event.TheVariants.{Decide}
+use Rattle.ist_core.specs.declared.pairs.Pair.{Pair}
+use Rattle.ist_core.specs.declared.states.ChangeRow.{ChangeRow}
+use Rattle.ist_core.specs.declared.states.InnerRow.{InnerRow}
+use Rattle.ist_core.specs.declared.states.RebuildRow.{RebuildRow}
+use Rattle.ist_core.specs.Deciding.{CanDecide, MayBe}
+use Rattle.ist_core.specs.Lawful.{CanOpen, EachEnabled, state_of}
+use Rattle.ist_core.specs.Links.{Linked, WasLinked, below}
+use Rattle.ist_core.specs.Logs.{Happened, Log, Okays, Passes, state}
+use Rattle.ist_core.specs.Marking.{CanMark, CanPass, IsCalled, as_child, as_target, behind_rebuild}
+use Rattle.ist_core.specs.Pieces.{Change, Inner, Piece, Rebuild}
+use Rattle.ist_core.specs.Rebuilding.{IsStarted}
+use Rattle.ist_core.specs.References.{ChangeAt, InnerAt, RebuildAt, ref_of, word_of}
+use Rattle.ist_core.specs.Slots.{SlotHolds, in_row, past_rebuild, rebuild_reads}
+use Rattle.ist_core.specs.Snapshots.{Snapshot}
+use Rattle.ist_core.specs.StartLayout.{start}
+use Rattle.ist_core.specs.Statuses.{decided_yes, finish_kind, open_word, put_kind, remove_kind, start_kind}
+use Rattle.laws_links.specs.Linking.{IsFinished}
+use Rattle.ist_core.proofs.FrozenLemmas.{closed}
+use Rattle.ist_core.proofs.GrowingLemmas.{rebuild_there}
+use Rattle.ist_core.proofs.NamingLemmas.{IsRebuildFor, SlotNames, slot_names}
+use Rattle.ist_core.proofs.OrderLemmas.{names}
+use Rattle.ist_core.proofs.SlotLemmas.{same_inner}
+use Rattle.laws_links.proofs.ChangeLemmas.{said_yes, undecided_stands}
+use Rattle.laws_links.proofs.ComesLemmas.{status_comes}
+use Rattle.laws_links.proofs.FormLemmas.{IsFormed, of_finish, of_leaf_put, of_pair_put, of_remove, of_start}
+use Rattle.laws_links.proofs.FormedLemmas.{changes_are_formed}
+use Rattle.laws_links.proofs.InductionLemmas.{changes_by, grow_behind}
+use Rattle.laws_links.proofs.LinkLemmas.{linked_or_finished, okayed_linked}
+use Rattle.laws_links.proofs.OriginLemmas.{StatusComes, finished_now, is_new, marked_now, status_was}
+use Rattle.laws_links.proofs.PassLemmas.{passing}
+use Rattle.laws_links.proofs.QuietLemmas.{start_quiet}
+use Rattle.laws_links.proofs.ReadEventLemmas.{change_past}
+use Rattle.laws_links.proofs.ReadLemmas.{past_plain, side_undecided}
+
+-- a row that is linked after a log was linked
+pub linked_now : (first : Snapshot) (log : Log) (node : ℕ) → Linked (state first log) node
+    → WasLinked first log node
+linked_now first [] node l = l
+linked_now first (event ∷ log) node l = inl l
+
+-- the rebuild at the base has a target that was linked
+pub record HasLinkedTarget (pairs : List Pair) (words : ℕ) (log : Log) (rebuild : ℕ) : Type 0 where
+  pub row : RebuildRow
+  pub published : (state_of pairs words log).pieces rebuild ≡ Some (Rebuild row)
+  pub linked : WasLinked (start pairs words) log row.target
+
+-- the row that the word leads to was linked
+pub record IsLinkedBehind (pairs : List Pair) (words : ℕ) (log : Log) (word : ℕ) : Type 0 where
+  pub inner : (child : ℕ) → ref_of word ≡ Some (InnerAt child)
+      → WasLinked (start pairs words) log child
+  pub target : (rebuild : ℕ) → ref_of word ≡ Some (RebuildAt rebuild)
+      → HasLinkedTarget pairs words log rebuild
+
+-- two rows of rebuilds are one
+pub same_rebuild : (o : Option Piece) (r s : RebuildRow) → o ≡ Some (Rebuild r)
+    → o ≡ Some (Rebuild s) → r ≡ s
+same_rebuild o r s e f = cc
+
+module _ (pairs : List Pair) (words : ℕ) (opens : CanOpen pairs words) where
+  -- what a change that was decided yes took out of its slot was linked
+  pub yes_from_linked : (log : Log) → EachEnabled (start pairs words) log
+      → (base : ℕ) (x : ChangeRow)
+      → (state_of pairs words log).pieces base ≡ Some (Change x) → x.decision ≡ decided_yes
+      → (child : ℕ) → ref_of x.from ≡ Some (InnerAt child) → WasLinked (start pairs words) log child
+  yes_from_linked =
+      changes_by pairs words
+      (λ log base x. x.decision ≡ decided_yes → (child : ℕ) → ref_of x.from ≡ Some (InnerAt child) → WasLinked (start pairs words) log child)
+      (λ log event h base x old there before said child from. inr (before said child from))
+      (λ log caller base rows h can said child from. let none = can.unset in absurd (omega arith))
+      (λ log caller base said h can before is child from. inr (linked_now (start pairs words) log child (at log caller base said h can (said_yes said is) child from)))
+    where
+      at : (log : Log) (caller base : ℕ) (said : Bool)
+          → EachEnabled (start pairs words) (Decide caller base said ∷ log)
+          → (can : CanDecide (state_of pairs words log) log caller base said) → said ≡ true
+          → (child : ℕ)
+          → ref_of can.change.from ≡ Some (InnerAt child) → Linked (state_of pairs words log) child
+      at log caller base said h can is child from =
+          let t = state_of pairs words log in
+          let x = can.change in
+          let okay : Happened (Okays base) log = subst (λ v. MayBe t log base x v) is can.outcome in
+          below x.index
+          (okayed_linked pairs words opens log h.0 base x can.pending.published can.pending.unset okay)
+          record {
+            word = word_of (ChangeAt base);
+            holds =
+                undecided_stands pairs words opens log h.0 base x can.pending.published can.pending.unset;
+            reads =
+                ap (past_rebuild t.pieces) (change_past pairs words opens log h.0 base x can.pending.published ∙ ap ref_of (side_undecided x can.pending.unset) ∙ from);
+          }
+
+  -- the target of a started rebuild was linked
+  pub started_target_linked : (log : Log) → EachEnabled (start pairs words) log
+      → (rebuild : ℕ) (r : RebuildRow)
+      → (state_of pairs words log).pieces rebuild ≡ Some (Rebuild r)
+      → IsStarted (state_of pairs words log) rebuild
+      → WasLinked (start pairs words) log r.target
+  started_target_linked log h rebuild r e s =
+      at (changes_are_formed pairs words log h s.base s.change s.published)
+    where
+      kinds : (a b : ℕ) → s.change.kind ≡ a → s.change.kind ≡ b → a ≡ b
+      kinds a b x y = sym x ∙ y
+
+      at : IsFormed (state_of pairs words log) s.change → WasLinked (start pairs words) log r.target
+      at (of_leaf_put f) =
+          let one : ◌≡◌ {A = ℕ} 1 3 = kinds put_kind start_kind f.kind s.kind in absurd (omega arith)
+      at (of_pair_put f) =
+          let one : ◌≡◌ {A = ℕ} 1 3 = kinds put_kind start_kind f.kind s.kind in absurd (omega arith)
+      at (of_remove f) =
+          let one : ◌≡◌ {A = ℕ} 2 3 = kinds remove_kind start_kind f.kind s.kind in absurd (omega arith)
+      at (of_finish f) =
+          let one : ◌≡◌ {A = ℕ} 4 3 = kinds finish_kind start_kind f.kind s.kind in absurd (omega arith)
+      at (of_start f) =
+          let same : f.rebuild ≡ rebuild = one_rebuild f.rebuild rebuild (sym f.to ∙ s.to) in
+          let row : f.row ≡ r = same_rebuild ((state_of pairs words log).pieces rebuild) f.row r (subst (λ b. (state_of pairs words log).pieces b ≡ Some (Rebuild f.row)) same f.published) e in
+          subst (λ x. WasLinked (start pairs words) log x.target) row
+          (yes_from_linked log h s.base s.change s.published s.decision f.row.target f.from)
+        where
+          one_rebuild : (a b : ℕ) → Some (RebuildAt a) ≡ Some (RebuildAt b) → a ≡ b
+          one_rebuild a b k = cc
+
+  -- what is known of a word stays known
+  behind_later : (log : Log) (event : Event) → EachEnabled (start pairs words) (event ∷ log)
+      → (word : ℕ)
+      → IsLinkedBehind pairs words log word → IsLinkedBehind pairs words (event ∷ log) word
+  behind_later log event h word k =
+      record {
+        inner = λ child is. inr (k.inner child is);
+        target = λ rebuild is.
+            let it = k.target rebuild is in
+            let on = rebuild_there (state_of pairs words log).pieces (state_of pairs words (event ∷ log)).pieces (grow_behind pairs words log event h) rebuild it.row it.published in
+            record { row = on.0; published = on.1; linked = inr (subst (λ n. WasLinked (start pairs words) log n) (sym on.2.target) it.linked) };
+      }
+
+  -- the word of a Pass, if its node was linked
+  pass_behind : (log : Log) → EachEnabled (start pairs words) log → (caller node i word : ℕ)
+      → CanPass (state_of pairs words log) caller node i word
+      → WasLinked (start pairs words) log node
+      → IsLinkedBehind pairs words log word
+  pass_behind log h caller node i word can was =
+      record {
+        inner = λ child is. child_was child (ap (past_rebuild t.pieces) is);
+        target =
+            λ rebuild is. by_rebuild rebuild is (subst (λ o. SlotNames t.pieces node i o) is (slot_names t node i word (names pairs words opens log h) slot));
+      }
+    where
+      t : Snapshot
+      t = state_of pairs words log
+
+      slot : SlotHolds (state_of pairs words log) node i word
+      slot = in_row can.row can.published can.in_slot
+
+      here : Linked (state_of pairs words log) node
+      here =
+          ⊎_elim (λ l. l) (λ f. absurd (unfinished f))
+          (linked_or_finished pairs words opens log h node was)
+        where
+          unfinished : IsFinished (state_of pairs words log) node → ⊥
+          unfinished f =
+              let same = same_inner ((state_of pairs words log).pieces node) f.1.row can.row f.1.published can.published in
+              let odd : f.1.row.status ≡ 4 * f.0 + 3 = f.1.status in
+              let one : f.1.row.status ≡ 1 = ap (λ x. x.status) same ∙ can.marked in
+              omega arith
+
+      child_was : (child : ℕ)
+          → past_rebuild (state_of pairs words log).pieces (ref_of word) ≡ Some (InnerAt child)
+          → WasLinked (start pairs words) log child
+      child_was child e =
+          linked_now (start pairs words) log child
+          (below i here record { word = word; holds = slot; reads = ap (past_rebuild (state_of pairs words log).pieces) (past_plain (state_of pairs words log).pieces (ref_of word) can.no_change) ∙ e })
+
+      by_rebuild : (rebuild : ℕ) → ref_of word ≡ Some (RebuildAt rebuild)
+          → IsRebuildFor (state_of pairs words log).pieces node i rebuild
+          → HasLinkedTarget pairs words log rebuild
+      by_rebuild rebuild is r =
+          record {
+            row = r.row;
+            published = r.published;
+            linked =
+                child_was r.row.target (ap (past_rebuild (state_of pairs words log).pieces) is ∙ ap rebuild_reads r.published);
+          }
+
+  -- a row that may be marked was linked, if the rows that passed words lead to were
+  pub mark_linked : (log : Log) → EachEnabled (start pairs words) log → (caller node : ℕ)
+      → ((at i word : ℕ) → Happened (Passes at i word) log → IsLinkedBehind pairs words log word)
+      → CanMark (state_of pairs words log) log caller node → WasLinked (start pairs words) log node
+  mark_linked log h caller node passed can = cause can.called
+    where
+      cause : IsCalled (state_of pairs words log) log node → WasLinked (start pairs words) log node
+      cause (as_target rebuild target started) =
+          subst (λ n. WasLinked (start pairs words) log n) target.target_is
+          (started_target_linked log h rebuild target.row target.published started)
+      cause (as_child above i word p is) = (passed above i word p).inner node is
+      cause (behind_rebuild above i word rebuild p is target) =
+          let it = (passed above i word p).target rebuild is in
+          let row = same_rebuild ((state_of pairs words log).pieces rebuild) it.row target.row it.published target.published in
+          subst (λ n. WasLinked (start pairs words) log n)
+          (ap (λ r. r.target) row ∙ target.target_is) it.linked
+
+  mutual
+    -- a row that isn't open was linked
+    pub closed_was_linked : (log : Log) → EachEnabled (start pairs words) log
+        → (node : ℕ) (r : InnerRow)
+        → (state_of pairs words log).pieces node ≡ Some (Inner r) → r.status ≢ open_word
+        → WasLinked (start pairs words) log node
+    closed_was_linked [] h node r e closed =
+        absurd (closed (start_quiet pairs words node (Inner r) e))
+    closed_was_linked (event ∷ log) h node r e closed =
+        closed_by event h (status_comes pairs words log event h node r e)
+        (λ s old shut. closed_was_linked log h.0 node s old shut) (λ at i word p. passed_was_linked log h.0 at i word p)
+      where
+        closed_by : (event : Event) → EachEnabled (start pairs words) (event ∷ log)
+            → StatusComes (start pairs words) log node r.status event
+            → ((s : InnerRow) → (state_of pairs words log).pieces node ≡ Some (Inner s)
+            → s.status ≢ open_word → WasLinked (start pairs words) log node)
+            → ((at i word : ℕ) → Happened (Passes at i word) log
+            → IsLinkedBehind pairs words log word)
+            → WasLinked (start pairs words) (event ∷ log) node
+        closed_by event all (status_was s old same) before passed =
+            inr (before s old (λ o. closed (same ∙ o)))
+        closed_by event all (is_new none same) before passed = absurd (closed same)
+        closed_by _ all (marked_now {caller = caller} can same) before passed =
+            inr (mark_linked log all.0 caller node passed can)
+        closed_by _ all (finished_now can same) before passed =
+            inr (before can.row can.published (λ o. let one = can.marked in omega arith))
+
+    -- the row that a passed word leads to was linked
+    pub passed_was_linked : (log : Log) → EachEnabled (start pairs words) log → (node i word : ℕ)
+        → Happened (Passes node i word) log → IsLinkedBehind pairs words log word
+    passed_was_linked [] h node i word p = absurd p
+    passed_was_linked (event ∷ log) h node i word (inl now) =
+        let it = passing (start pairs words) log event node i word h.1 now in
+        behind_later log event h word
+        (pass_behind log h.0 it.0 node i word it.1 (closed_was_linked log h.0 node it.1.row it.1.published (λ o. let one = it.1.marked in omega arith)))
+    passed_was_linked (event ∷ log) h node i word (inr before) =
+        behind_later log event h word (passed_was_linked log h.0 node i word before)

@@ -1,0 +1,223 @@
+-- Where each change, each rebuild and each status after an event comes from, by cases on what the
+-- event does. Serves each conjunct on changes and rebuilds.
+use Rattle.std.proofs.Common.{List, Some, ap, refl, subst, sym, ℕ, ⊎_elim, ◌+◌, ◌∙◌, ◌∷◌, ◌≡◌}
+use Rattle.ist_core.specs.declared.events.Event.{Event}
+use Rattle.ist_core.specs.declared.events.Event.TheVariants.{Install}
+use Rattle.ist_core.specs.declared.pairs.Pair.{Pair}
+use Rattle.ist_core.specs.declared.states.ChangeRow.{ChangeRow}
+use Rattle.ist_core.specs.declared.states.InnerRow.{InnerRow}
+use Rattle.ist_core.specs.declared.states.RebuildRow.{RebuildRow}
+use Rattle.ist_core.specs.After.{decision_word, side_of}
+use Rattle.ist_core.specs.Lawful.{EachEnabled, state_of}
+use Rattle.ist_core.specs.Logs.{Log}
+use Rattle.ist_core.specs.Pieces.{Change, Inner, Leaf, Piece, Rebuild, counted, drawn, with_decision, with_root, with_slot}
+use Rattle.ist_core.specs.References.{ChangeAt, word_of}
+use Rattle.ist_core.specs.StartLayout.{start}
+use Rattle.ist_core.specs.Statuses.{finished_word, marked_word}
+use Rattle.ist_core.proofs.BornLemmas.{Born}
+use Rattle.ist_core.proofs.PlaceLemmas.{one_piece}
+use Rattle.laws_links.proofs.OriginLemmas.{ChangeComes, KeepsStatuses, RebuildComes, StatusComes, change-counted, change-drawn, change-with_root, change-with_slot, change-with_status, change_was, finished_now, is_begun, is_decided, is_drawn, is_installed, is_new, is_rooted, marked_now, rebuild-counted, rebuild-with_decision, rebuild-with_slot, rebuild-with_status, rebuild_was, status-counted, status-drawn, status-with_decision, status-with_root, status-with_slot, status-with_status, status_was}
+use Rattle.laws_links.proofs.PublishedLemmas.{born_open, installed_change, installed_rebuild, new_rebuild_row, published_inner}
+use Rattle.laws_links.proofs.TurnLemmas.{Came, BecameBy, as_it_was, by_count, by_decide, by_draw, by_finish, by_install, by_mark, by_place, by_resolve, by_root, came, from_new, from_old}
+use Rattle.ist_core.proofs.BornLemmas as born
+
+module _ (pairs : List Pair) (words : ℕ) where
+  -- how a change that was there before became what it is
+  turned_change : (log : Log) (event : Event) (base : ℕ) (x : ChangeRow) (p : Piece)
+      → (state_of pairs words log).pieces base ≡ Some p
+      → BecameBy (start pairs words) log base p (Change x) event
+      → ChangeComes (start pairs words) log base x event
+  turned_change log event base x p old (as_it_was is) = change_was (old ∙ ap (λ y. Some y) (sym is))
+  turned_change log _ base x p old (by_install {change = change} h here is) =
+      change_was
+      (old ∙ ap (λ y. Some y) (change-with_slot h.change.index (word_of (ChangeAt change)) p x (sym is)))
+  turned_change log _ base x p old (by_resolve h here is) =
+      change_was
+      (old ∙ ap (λ y. Some y) (change-with_slot h.change.index (side_of h.change) p x (sym is)))
+  turned_change log _ base x p old (by_place {i = i} {word = word} h here is) =
+      change_was (old ∙ ap (λ y. Some y) (change-with_slot i word p x (sym is)))
+  turned_change log _ base x p old (by_decide {said = said} h is) =
+      is_decided h
+      (decided p (sym is) (one_piece ((state_of pairs words log).pieces base) p (Change h.change) old h.pending.published))
+    where
+      decided : (p : Piece) → with_decision (decision_word said) p ≡ Change x → p ≡ Change h.change
+          → x ≡ record (h.change) { decision = decision_word said }
+      decided (Change r) e same =
+          let row : r ≡ h.change = cc in subst (λ y. x ≡ record y { decision = decision_word said }) row (cc)
+      decided (Leaf r) e same = absurd (cc)
+      decided (Inner r) e same = absurd (cc)
+      decided (Rebuild r) e same = absurd (cc)
+  turned_change log _ base x p old (by_count h is) =
+      change_was (old ∙ ap (λ y. Some y) (change-counted p x (sym is)))
+  turned_change log _ base x p old (by_mark h is) =
+      change_was (old ∙ ap (λ y. Some y) (change-with_status marked_word p x (sym is)))
+  turned_change log _ base x p old (by_finish {keys = keys} h is) =
+      change_was (old ∙ ap (λ y. Some y) (change-with_status (finished_word keys) p x (sym is)))
+  turned_change log _ base x p old (by_root {word = word} h is) =
+      change_was (old ∙ ap (λ y. Some y) (change-with_root word p x (sym is)))
+  turned_change log _ base x p old (by_draw h is) =
+      change_was (old ∙ ap (λ y. Some y) (change-drawn p x (sym is)))
+
+  -- how the event publishes a change
+  born_change : (log : Log) (event : Event) (base : ℕ) (x : ChangeRow)
+      → Born (start pairs words) log base (Change x) event
+      → ChangeComes (start pairs words) log base x event
+  born_change log _ base x
+      (born.by_install {caller = caller} {change = change} {rows = rows} h new) =
+      let it = installed_change (start pairs words) log change h.change h.fresh h.fits base x new in
+      subst (λ b. ChangeComes (start pairs words) log b x (Install caller change rows)) (sym it.0)
+      (is_installed h it.1)
+  born_change log _ base x (born.by_root {rows = rows} i e) =
+      ⊎_elim (λ w. absurd (not_inner w.0 w.1)) (λ old. change_was old)
+      (published_inner (state_of pairs words log).pieces rows base (Change x) e)
+    where
+      not_inner : (r : InnerRow) → Change x ≡ Inner r → ⊥
+      not_inner r k = cc
+  born_change log _ base x (born.by_place {rows = rows} i e) =
+      ⊎_elim (λ w. absurd (not_inner w.0 w.1)) (λ old. change_was old)
+      (published_inner (state_of pairs words log).pieces rows base (Change x) e)
+    where
+      not_inner : (r : InnerRow) → Change x ≡ Inner r → ⊥
+      not_inner r k = cc
+
+  -- where each change after an enabled event comes from
+  pub change_comes : (log : Log) (event : Event) → EachEnabled (start pairs words) (event ∷ log)
+      → (base : ℕ) (x : ChangeRow)
+      → (state_of pairs words (event ∷ log)).pieces base ≡ Some (Change x)
+      → ChangeComes (start pairs words) log base x event
+  change_comes log event h base x e = at (came pairs words log event h base (Change x) e)
+    where
+      at : Came (start pairs words) log event base (Change x)
+          → ChangeComes (start pairs words) log base x event
+      at (from_old p old turned) = turned_change log event base x p old turned
+      at (from_new new none) = born_change log event base x new
+
+  -- how a rebuild that was there before became what it is
+  turned_rebuild : (log : Log) (event : Event) (base : ℕ) (x : RebuildRow) (p : Piece)
+      → (state_of pairs words log).pieces base ≡ Some p
+      → BecameBy (start pairs words) log base p (Rebuild x) event
+      → RebuildComes (start pairs words) log base x event
+  turned_rebuild log event base x p old (as_it_was is) =
+      rebuild_was (old ∙ ap (λ y. Some y) (sym is))
+  turned_rebuild log _ base x p old (by_install {change = change} h here is) =
+      rebuild_was
+      (old ∙ ap (λ y. Some y) (rebuild-with_slot h.change.index (word_of (ChangeAt change)) p x (sym is)))
+  turned_rebuild log _ base x p old (by_resolve h here is) =
+      rebuild_was
+      (old ∙ ap (λ y. Some y) (rebuild-with_slot h.change.index (side_of h.change) p x (sym is)))
+  turned_rebuild log _ base x p old (by_place {i = i} {word = word} h here is) =
+      rebuild_was (old ∙ ap (λ y. Some y) (rebuild-with_slot i word p x (sym is)))
+  turned_rebuild log _ base x p old (by_decide {said = said} h is) =
+      rebuild_was (old ∙ ap (λ y. Some y) (rebuild-with_decision (decision_word said) p x (sym is)))
+  turned_rebuild log _ base x p old (by_count h is) =
+      rebuild_was (old ∙ ap (λ y. Some y) (rebuild-counted p x (sym is)))
+  turned_rebuild log _ base x p old (by_mark h is) =
+      rebuild_was (old ∙ ap (λ y. Some y) (rebuild-with_status marked_word p x (sym is)))
+  turned_rebuild log _ base x p old (by_finish {keys = keys} h is) =
+      rebuild_was (old ∙ ap (λ y. Some y) (rebuild-with_status (finished_word keys) p x (sym is)))
+  turned_rebuild log _ base x p old (by_root {word = word} h is) =
+      is_rooted h
+      (rooted p (sym is) (one_piece ((state_of pairs words log).pieces base) p (Rebuild h.row) old h.published))
+    where
+      rooted : (p : Piece) → with_root word p ≡ Rebuild x → p ≡ Rebuild h.row → x ≡ record (h.row) { root = word }
+      rooted (Rebuild r) e same =
+          let row : r ≡ h.row = cc in subst (λ y. x ≡ record y { root = word }) row (cc)
+      rooted (Leaf r) e same = absurd (cc)
+      rooted (Inner r) e same = absurd (cc)
+      rooted (Change r) e same = absurd (cc)
+  turned_rebuild log _ base x p old (by_draw h is) =
+      is_drawn h
+      (drew p (sym is) (one_piece ((state_of pairs words log).pieces base) p (Rebuild h.row) old h.published))
+    where
+      drew : (p : Piece) → drawn p ≡ Rebuild x → p ≡ Rebuild h.row → x ≡ record (h.row) { draw = h.row.draw + 1 }
+      drew (Rebuild r) e same =
+          let row : r ≡ h.row = cc in subst (λ y. x ≡ record y { draw = y.draw + 1 }) row (cc)
+      drew (Leaf r) e same = absurd (cc)
+      drew (Inner r) e same = absurd (cc)
+      drew (Change r) e same = absurd (cc)
+
+  -- how the event publishes a rebuild
+  born_rebuild : (log : Log) (event : Event) (base : ℕ) (x : RebuildRow)
+      → Born (start pairs words) log base (Rebuild x) event
+      → RebuildComes (start pairs words) log base x event
+  born_rebuild log _ base x (born.by_install {change = change} h new) =
+      let it =
+      installed_rebuild (start pairs words) log change h.change h.fresh h.fits base x new in
+      is_begun h it.starts it.here (same x (new_rebuild_row h.change it.starts.target) it.is)
+    where
+      same : (a b : RebuildRow) → Rebuild a ≡ Rebuild b → a ≡ b
+      same a b e = cc
+  born_rebuild log _ base x (born.by_root {rows = rows} i e) =
+      ⊎_elim (λ w. absurd (not_inner w.0 w.1)) (λ old. rebuild_was old)
+      (published_inner (state_of pairs words log).pieces rows base (Rebuild x) e)
+    where
+      not_inner : (r : InnerRow) → Rebuild x ≡ Inner r → ⊥
+      not_inner r k = cc
+  born_rebuild log _ base x (born.by_place {rows = rows} i e) =
+      ⊎_elim (λ w. absurd (not_inner w.0 w.1)) (λ old. rebuild_was old)
+      (published_inner (state_of pairs words log).pieces rows base (Rebuild x) e)
+    where
+      not_inner : (r : InnerRow) → Rebuild x ≡ Inner r → ⊥
+      not_inner r k = cc
+
+  -- where each rebuild after an enabled event comes from
+  pub rebuild_comes : (log : Log) (event : Event) → EachEnabled (start pairs words) (event ∷ log)
+      → (base : ℕ) (x : RebuildRow)
+      → (state_of pairs words (event ∷ log)).pieces base ≡ Some (Rebuild x)
+      → RebuildComes (start pairs words) log base x event
+  rebuild_comes log event h base x e = at (came pairs words log event h base (Rebuild x) e)
+    where
+      at : Came (start pairs words) log event base (Rebuild x)
+          → RebuildComes (start pairs words) log base x event
+      at (from_old p old turned) = turned_rebuild log event base x p old turned
+      at (from_new new none) = born_rebuild log event base x new
+
+  -- the status of a row that was there before, if the event that changes the row leaves statuses
+  same_status : (log : Log) (event : Event) (base : ℕ) (x : InnerRow) (p : Piece)
+      (f : Piece → Piece)
+      → KeepsStatuses f → (state_of pairs words log).pieces base ≡ Some p → Inner x ≡ f p
+      → StatusComes (start pairs words) log base x.status event
+  same_status log event base x p f keeps old is =
+      let it = keeps p x (sym is) in
+      status_was it.0 (old ∙ ap (λ y. Some y) it.1) it.2
+
+  -- how the status of a row that was there before became what it is
+  turned_status : (log : Log) (event : Event) (base : ℕ) (x : InnerRow) (p : Piece)
+      → (state_of pairs words log).pieces base ≡ Some p
+      → BecameBy (start pairs words) log base p (Inner x) event
+      → StatusComes (start pairs words) log base x.status event
+  turned_status log event base x p old (as_it_was is) =
+      status_was x (old ∙ ap (λ y. Some y) (sym is)) refl
+  turned_status log _ base x p old (by_install {change = change} h here is) =
+      same_status log _ base x p (with_slot h.change.index (word_of (ChangeAt change)))
+      (status-with_slot h.change.index (word_of (ChangeAt change))) old is
+  turned_status log _ base x p old (by_resolve h here is) =
+      same_status log _ base x p (with_slot h.change.index (side_of h.change))
+      (status-with_slot h.change.index (side_of h.change)) old is
+  turned_status log _ base x p old (by_place {i = i} {word = word} h here is) =
+      same_status log _ base x p (with_slot i word) (status-with_slot i word) old is
+  turned_status log _ base x p old (by_decide {said = said} h is) =
+      same_status log _ base x p (with_decision (decision_word said))
+      (status-with_decision (decision_word said)) old is
+  turned_status log _ base x p old (by_count h is) =
+      same_status log _ base x p counted status-counted old is
+  turned_status log _ base x p old (by_mark h is) =
+      marked_now h (status-with_status marked_word p x (sym is))
+  turned_status log _ base x p old (by_finish {keys = keys} h is) =
+      finished_now h (status-with_status (finished_word keys) p x (sym is))
+  turned_status log _ base x p old (by_root {word = word} h is) =
+      same_status log _ base x p (with_root word) (status-with_root word) old is
+  turned_status log _ base x p old (by_draw h is) =
+      same_status log _ base x p drawn status-drawn old is
+
+  -- where the status of each row after an enabled event comes from
+  pub status_comes : (log : Log) (event : Event) → EachEnabled (start pairs words) (event ∷ log)
+      → (base : ℕ) (x : InnerRow)
+      → (state_of pairs words (event ∷ log)).pieces base ≡ Some (Inner x)
+      → StatusComes (start pairs words) log base x.status event
+  status_comes log event h base x e = at (came pairs words log event h base (Inner x) e)
+    where
+      at : Came (start pairs words) log event base (Inner x)
+          → StatusComes (start pairs words) log base x.status event
+      at (from_old p old turned) = turned_status log event base x p old turned
+      at (from_new new none) = is_new none (born_open (start pairs words) log event base x h.1 new)

@@ -1,0 +1,170 @@
+-- A finished row: each slot was passed with a word that leads to a finished row, so each child is
+-- finished. Serves the linked law.
+use Rattle.std.proofs.Common.{List, Option, Some, [], ap, arith, inr, length, slice_get, subst, suc, sym, zero, ℕ, ◌*◌, ◌+◌, ◌∙◌, ◌∷◌, ◌≡◌}
+use Rattle.ist_core.specs.declared.events.Event.{Event}
+use Rattle.ist_core.specs.declared.events.Event.TheVariants.{Finish}
+use Rattle.ist_core.specs.declared.pairs.Pair.{Pair}
+use Rattle.ist_core.specs.declared.states.InnerRow.{InnerRow}
+use Rattle.ist_core.specs.Growing.{AllGrow}
+use Rattle.ist_core.specs.Lawful.{CanOpen, EachEnabled, state_of}
+use Rattle.ist_core.specs.Links.{IsChild}
+use Rattle.ist_core.specs.Logs.{Happened, Log, Passes}
+use Rattle.ist_core.specs.Marking.{ArePassed, CountsFor, HasTarget, no_key, of_child, of_target, one_key, one_passed, past_end}
+use Rattle.ist_core.specs.Pieces.{Inner, Pieces}
+use Rattle.ist_core.specs.Rebuilding.{IsFinishedWith}
+use Rattle.ist_core.specs.References.{InnerAt, Ref, ref_of}
+use Rattle.ist_core.specs.Slots.{SlotHolds, in_anchor, in_row, past_rebuild, rebuild_reads}
+use Rattle.ist_core.specs.Snapshots.{Snapshot}
+use Rattle.ist_core.specs.StartLayout.{start}
+use Rattle.ist_core.specs.Statuses.{finished_word}
+use Rattle.laws_links.specs.Linking.{IsFinished}
+use Rattle.ist_core.proofs.FrozenLemmas.{frozen_reads}
+use Rattle.ist_core.proofs.GrowingLemmas.{inner_there, rebuild_there}
+use Rattle.ist_core.proofs.PlaceLemmas.{anchor_free}
+use Rattle.ist_core.proofs.SlotLemmas.{no_row, same_inner}
+use Rattle.laws_links.proofs.ComesLemmas.{status_comes}
+use Rattle.laws_links.proofs.FormLemmas.{finished_with_grows}
+use Rattle.laws_links.proofs.InductionLemmas.{grow_behind}
+use Rattle.laws_links.proofs.OriginLemmas.{StatusComes, finished_now, is_new, marked_now, status_was}
+use Rattle.laws_links.proofs.QuietLemmas.{start_quiet}
+
+-- the target of a rebuild stays its target
+pub target_grows : (t u : Snapshot) → AllGrow t.pieces u.pieces → (rebuild target : ℕ)
+    → HasTarget t rebuild target → HasTarget u rebuild target
+target_grows t u g rebuild target h =
+    let it = rebuild_there t.pieces u.pieces g rebuild h.row h.published in
+    record { row = it.0; published = it.1; target_is = it.2.target ∙ h.target_is }
+
+-- what a word counts for stays the same
+counts_grows : (t u : Snapshot) → AllGrow t.pieces u.pieces → (o : Option Ref) (k : ℕ)
+    → CountsFor t o k
+    → CountsFor u o k
+counts_grows t u g _ _ no_key = no_key
+counts_grows t u g _ _ one_key = one_key
+counts_grows t u g _ _ (of_child {child = child} {k = k} f) =
+    of_child (finished_with_grows t u g child k f)
+counts_grows t u g _ _ (of_target {rebuild = rebuild} {target = target} {k = k} h f) =
+    of_target (target_grows t u g rebuild target h) (finished_with_grows t u g target k f)
+
+-- what was passed stays passed; of the slots only their number counts
+passed_grows : (t u : Snapshot) → AllGrow t.pieces u.pieces → (log : Log) (event : Event)
+    (node i k : ℕ) (old new : List ℕ)
+    → length new ≡ length old → ArePassed t log node i old k
+    → ArePassed u (event ∷ log) node i new k
+passed_grows t u g log event node i _ _ [] same past_end = past_end
+passed_grows t u g log event node i _ _ (w ∷ ws) same past_end = absurd (omega arith)
+passed_grows t u g log event node i _ _ [] same (one_passed word p c more) = absurd (omega arith)
+passed_grows t u g log event node i _ _ (w ∷ ws) same
+    (one_passed {here = here} {rest = rest} {slots = slots} word p c more) =
+    one_passed word (inr p) (counts_grows t u g (ref_of word) here c)
+    (passed_grows t u g log event node (i + 1) rest slots ws (omega arith) more)
+
+-- a slot was passed with some word
+pub record IsPassed (t : Snapshot) (log : Log) (node i : ℕ) : Type 0 where
+  pub word : ℕ
+  pub passed : Happened (Passes node i word) log
+  pub k : ℕ
+  pub counts : CountsFor t (ref_of word) k
+
+-- each of the slots was passed
+passed_at : (t : Snapshot) (log : Log) (node i k : ℕ) (slots : List ℕ)
+    → ArePassed t log node i slots k
+    → (j word : ℕ) → slice_get slots j ≡ Some word → IsPassed t log node (i + j)
+passed_at t log node i _ _ past_end j word e = absurd (cc)
+passed_at t log node i _ _ (one_passed {here = here} w p c more) zero word e =
+    let same : i ≡ i + 0 = omega arith in
+    subst (λ j. IsPassed t log node j) same record { word = w; passed = p; k = here; counts = c }
+passed_at t log node i _ _ (one_passed {rest = rest} {slots = slots} w p c more) (suc j) word e =
+    let same : i + 1 + j ≡ i + suc j = omega arith in
+    subst (λ n. IsPassed t log node n) same (passed_at t log node (i + 1) rest slots more j word e)
+
+-- the row that a passed word leads to is finished
+passed_finished : (t : Snapshot) (o : Option Ref) (k child : ℕ) → CountsFor t o k
+    → past_rebuild t.pieces o ≡ Some (InnerAt child) → IsFinished t child
+passed_finished t _ _ child no_key e = absurd (cc)
+passed_finished t _ _ child one_key e = absurd (cc)
+passed_finished t _ _ child (of_child {child = m} {k = k} f) e =
+    let same : m ≡ child = cc in (k, subst (λ n. IsFinishedWith t n k) same f)
+passed_finished t _ _ child (of_target {target = target} {k = k} h f) e =
+    let read : Some (InnerAt h.row.target) ≡ Some (InnerAt child) =
+    sym (ap rebuild_reads h.published) ∙ e in
+    let same : h.row.target ≡ child = one_inner h.row.target child read in
+    (k, subst (λ n. IsFinishedWith t n k) (sym h.target_is ∙ same) f)
+  where
+    one_inner : (a b : ℕ) → Some (InnerAt a) ≡ Some (InnerAt b) → a ≡ b
+    one_inner a b e = cc
+
+-- a row keeps its number of slots
+pub same_length : (ps qs : Pieces) → AllGrow ps qs → (base : ℕ) (r s : InnerRow)
+    → ps base ≡ Some (Inner r)
+    → qs base ≡ Some (Inner s) → length s.slots ≡ length r.slots
+same_length ps qs g base r s e f =
+    let it = inner_there ps qs g base r e in
+    ap (λ x. length x.slots) (same_inner (qs base) s it.0 f it.1) ∙ it.2.slots
+
+module _ (pairs : List Pair) (words : ℕ) where
+  -- each slot of a row that is finished with k keys was passed, and the passed words count for k
+  pub finished_passed : (log : Log) → EachEnabled (start pairs words) log
+      → (node k : ℕ) (r : InnerRow)
+      → (state_of pairs words log).pieces node ≡ Some (Inner r) → r.status ≡ finished_word k
+      → ArePassed (state_of pairs words log) log node 0 r.slots k
+  finished_passed [] h node k r e is =
+      let zero_status : r.status ≡ 0 = start_quiet pairs words node (Inner r) e in
+      let odd : r.status ≡ 4 * k + 3 = is in
+      absurd (omega arith)
+  finished_passed (event ∷ log) h node k r e is =
+      at event h e (status_comes pairs words log event h node r e) (finished_passed log h.0 node k)
+    where
+      at : (event : Event) → EachEnabled (start pairs words) (event ∷ log)
+          → (state_of pairs words (event ∷ log)).pieces node ≡ Some (Inner r)
+          → StatusComes (start pairs words) log node r.status event
+          → ((s : InnerRow) → (state_of pairs words log).pieces node ≡ Some (Inner s)
+          → s.status ≡ finished_word k
+          → ArePassed (state_of pairs words log) log node 0 s.slots k)
+          → ArePassed (state_of pairs words (event ∷ log)) (event ∷ log) node 0 r.slots k
+      at event all there (status_was s old same) before =
+          let g = grow_behind pairs words log event all in
+          passed_grows (state_of pairs words log)
+          (state_of pairs words (event ∷ log)) g log event node 0 k s.slots r.slots
+          (same_length (state_of pairs words log).pieces (state_of pairs words (event ∷ log)).pieces g node s r old there)
+          (before s old (sym same ∙ is))
+      at event all there (is_new none same) before =
+          let odd : r.status ≡ 4 * k + 3 = is in absurd (omega arith)
+      at _ all there (marked_now can same) before =
+          let odd : r.status ≡ 4 * k + 3 = is in absurd (omega arith)
+      at _ all there (finished_now {caller = caller} {keys = keys} can same) before =
+          let g = grow_behind pairs words log (Finish caller node keys) all in
+          let odd : r.status ≡ 4 * k + 3 = is in
+          let also : r.status ≡ 4 * keys + 3 = same in
+          let one : keys ≡ k = omega arith in
+          passed_grows (state_of pairs words log)
+          (state_of pairs words (Finish caller node keys ∷ log)) g log
+          (Finish caller node keys) node 0 k can.row.slots r.slots
+          (same_length (state_of pairs words log).pieces (state_of pairs words (Finish caller node keys ∷ log)).pieces g node can.row r can.published there)
+          (subst (λ n. ArePassed (state_of pairs words log) log node 0 can.row.slots n) one can.passed)
+
+  -- each slot of a finished row was passed
+  pub finished_slot : (log : Log) → EachEnabled (start pairs words) log → (node i word : ℕ)
+      → IsFinished (state_of pairs words log) node
+      → SlotHolds (state_of pairs words log) node i word
+      → IsPassed (state_of pairs words log) log node i
+  finished_slot log h node i word f (in_anchor a b e) =
+      absurd
+      (no_row (state_of pairs words log).pieces node f.1.row (anchor_free pairs words log h) a f.1.published)
+  finished_slot log h node i word f (in_row r e g) =
+      let t = state_of pairs words log in
+      let same = same_inner (t.pieces node) f.1.row r f.1.published e in
+      let first : 0 + i ≡ i = omega arith in
+      subst (λ j. IsPassed t log node j) first
+      (passed_at t log node 0 f.0 r.slots (finished_passed log h node f.0 r e (ap (λ x. x.status) (sym same) ∙ f.1.status)) i word g)
+
+  -- each logical child of a finished row is finished
+  pub finished_down : CanOpen pairs words → (log : Log) → EachEnabled (start pairs words) log
+      → (node i child : ℕ)
+      → IsFinished (state_of pairs words log) node → IsChild (state_of pairs words log) node i child
+      → IsFinished (state_of pairs words log) child
+  finished_down opens log h node i child f c =
+      let t = state_of pairs words log in
+      let p = finished_slot log h node i c.word f c.holds in
+      passed_finished t (ref_of p.word) p.k child p.counts
+      (sym (frozen_reads pairs words opens log h node i p.word c.word p.passed c.holds) ∙ c.reads)

@@ -1,0 +1,143 @@
+-- What the rows are that an event publishes. Serves each conjunct on changes, rebuilds and statuses.
+use Rattle.std.proofs.Common.{List, Some, [], ap, drop, false, if◌then◌else◌, inl, inr, nat_lt, subst, sym, take, true, ℕ, ⊎_elim, ◌-◌, ◌∷◌, ◌≡◌, ◌⊎◌}
+use Rattle.ist_core.specs.declared.events.Event.{Event}
+use Rattle.ist_core.specs.declared.lists.Row.{Row}
+use Rattle.ist_core.specs.declared.states.ChangeRow.{ChangeRow}
+use Rattle.ist_core.specs.declared.states.InnerRow.{InnerRow}
+use Rattle.ist_core.specs.declared.states.RebuildRow.{RebuildRow}
+use Rattle.ist_core.specs.Elements.{Among, Each}
+use Rattle.ist_core.specs.Enabled.{Enabled}
+use Rattle.ist_core.specs.Ideals.{IsTop}
+use Rattle.ist_core.specs.Installing.{FitsKind, Starts, a_finish, a_pair, a_put, a_remove, a_start, new_rebuild, pair_over, pair_row}
+use Rattle.ist_core.specs.Leaves.{PlacedLeaf}
+use Rattle.ist_core.specs.Logs.{Log, state}
+use Rattle.ist_core.specs.Pieces.{Change, Inner, Piece, Pieces, Rebuild, inner_of, with_inners}
+use Rattle.ist_core.specs.References.{unset_word}
+use Rattle.ist_core.specs.Snapshots.{Snapshot, bases_of}
+use Rattle.ist_core.specs.Statuses.{open_word}
+use Rattle.ist_core.proofs.AddingLemmas.{IsInstalled}
+use Rattle.ist_core.proofs.BornLemmas.{Born, by_install, by_place, by_root}
+use Rattle.ist_core.proofs.ElementLemmas.{each-among}
+use Rattle.ist_core.proofs.RowLemmas.{with_inners-some}
+use Rattle.ist_core.proofs.SlotLemmas.{same_inner}
+use Rattle.laws_links.proofs.OriginLemmas.{inner_is}
+use Rattle.laws_links.proofs.TopLemmas.{StandsAsTop, ideal_tops, root_tops}
+
+-- these words are read as an inner row only
+pub inner_only : (words : List ℕ) (p : Piece) → inner_of words ≡ Some p
+    → (r : InnerRow) × (p ≡ Inner r)
+inner_only [] p e = absurd (cc)
+inner_only (a ∷ []) p e = absurd (cc)
+inner_only (a ∷ b ∷ []) p e = absurd (cc)
+inner_only (a ∷ b ∷ c ∷ []) p e = absurd (cc)
+inner_only (a ∷ b ∷ c ∷ d ∷ rest) p e =
+    let r : InnerRow = record { status = a; count = b; degree = c; size = d; keys = take (c - 1) rest; slots = drop (c - 1) rest } in
+    (r, (cc))
+
+-- if inner rows are published, each other row was there before
+pub published_inner : (ps : Pieces) (rows : List Row) (base : ℕ) (p : Piece)
+    → with_inners ps rows base ≡ Some p → ((r : InnerRow) × (p ≡ Inner r)) ⊎ (ps base ≡ Some p)
+published_inner ps rows base p e =
+    ⊎_elim (λ w. inl (inner_only w.0.words p w.3)) (λ old. inr old)
+    (with_inners-some ps rows base p e)
+
+-- a pair row is open
+pair_open : (key base other_key other : ℕ) (x : InnerRow)
+    → Inner x ≡ pair_row key base other_key other → x.status ≡ open_word
+pair_open key base other_key other x =
+    elim (nat_lt other_key key) as (λ v. Inner x ≡ (if v then pair_over key other base else pair_over other_key base other) → x.status ≡ open_word) [
+      | true ↦ λ e. ap (λ y. y.status) (inner_is _ x (sym e))
+      | false ↦ λ e. ap (λ y. y.status) (inner_is _ x (sym e))
+    ]
+
+-- a pair row is no change and no rebuild
+pair_no_change : (key base other_key other : ℕ) (x : ChangeRow)
+    → Change x ≡ pair_row key base other_key other → ⊥
+pair_no_change key base other_key other x =
+    elim (nat_lt other_key key) as (λ v. Change x ≡ (if v then pair_over key other base else pair_over other_key base other) → ⊥) [
+      | true ↦ λ e. absurd (cc)
+      | false ↦ λ e. absurd (cc)
+    ]
+
+pair_no_rebuild : (key base other_key other : ℕ) (x : RebuildRow)
+    → Rebuild x ≡ pair_row key base other_key other → ⊥
+pair_no_rebuild key base other_key other x =
+    elim (nat_lt other_key key) as (λ v. Rebuild x ≡ (if v then pair_over key other base else pair_over other_key base other) → ⊥) [
+      | true ↦ λ e. absurd (cc)
+      | false ↦ λ e. absurd (cc)
+    ]
+
+-- a change that an Install publishes is its own
+pub installed_change : (first : Snapshot) (log : Log) (at : ℕ) (change : ChangeRow)
+    (fresh : List Row)
+    (fits : FitsKind first log change fresh) (base : ℕ) (x : ChangeRow)
+    → IsInstalled first log at change fresh fits base (Change x) → (base ≡ at) × (x ≡ change)
+installed_change first log at change fresh fits base x (inl (here, is)) = (here, (cc))
+installed_change first log at change fresh (a_put f) base x (inr (here, is)) = absurd (cc)
+installed_change first log at change fresh (a_pair f) base x (inr (inl (here, is))) =
+    absurd (pair_no_change change.key f.leaf f.other_key f.other x is)
+installed_change first log at change fresh (a_pair f) base x (inr (inr (here, is))) = absurd (cc)
+installed_change first log at change fresh (a_remove f) base x (inr is) = absurd is
+installed_change first log at change fresh (a_start f) base x (inr (here, is)) = absurd (cc)
+installed_change first log at change fresh (a_finish f) base x (inr is) = absurd is
+
+-- a rebuild that an Install publishes belongs to a start
+pub record IsStartOf (first : Snapshot) (log : Log) (change : ChangeRow) (fresh : List Row) (base : ℕ) (x : RebuildRow) : Type 0 where
+  pub starts : Starts (state first log) change fresh
+  pub here : base ≡ starts.rebuild
+  pub is : Rebuild x ≡ new_rebuild change starts.target
+
+-- a rebuild that an Install publishes is its start's
+pub installed_rebuild : (first : Snapshot) (log : Log) (at : ℕ) (change : ChangeRow)
+    (fresh : List Row)
+    (fits : FitsKind first log change fresh) (base : ℕ) (x : RebuildRow)
+    → IsInstalled first log at change fresh fits base (Rebuild x)
+    → IsStartOf first log change fresh base x
+installed_rebuild first log at change fresh fits base x (inl (here, is)) = absurd (cc)
+installed_rebuild first log at change fresh (a_put f) base x (inr (here, is)) = absurd (cc)
+installed_rebuild first log at change fresh (a_pair f) base x (inr (inl (here, is))) =
+    absurd (pair_no_rebuild change.key f.leaf f.other_key f.other x is)
+installed_rebuild first log at change fresh (a_pair f) base x (inr (inr (here, is))) = absurd (cc)
+installed_rebuild first log at change fresh (a_remove f) base x (inr is) = absurd is
+installed_rebuild first log at change fresh (a_start f) base x (inr (here, is)) =
+    record { starts = f; here = here; is = is }
+installed_rebuild first log at change fresh (a_finish f) base x (inr is) = absurd is
+
+-- an inner row that an Install publishes is open
+pub installed_open : (first : Snapshot) (log : Log) (at : ℕ) (change : ChangeRow) (fresh : List Row)
+    (fits : FitsKind first log change fresh) (base : ℕ) (x : InnerRow)
+    → IsInstalled first log at change fresh fits base (Inner x) → x.status ≡ open_word
+installed_open first log at change fresh fits base x (inl (here, is)) = absurd (cc)
+installed_open first log at change fresh (a_put f) base x (inr (here, is)) = absurd (cc)
+installed_open first log at change fresh (a_pair f) base x (inr (inl (here, is))) =
+    pair_open change.key f.leaf f.other_key f.other x is
+installed_open first log at change fresh (a_pair f) base x (inr (inr (here, is))) = absurd (cc)
+installed_open first log at change fresh (a_remove f) base x (inr is) = absurd is
+installed_open first log at change fresh (a_start f) base x (inr (here, is)) = absurd (cc)
+installed_open first log at change fresh (a_finish f) base x (inr is) = absurd is
+
+-- the row that a start publishes
+abbrev pub new_rebuild_row : ChangeRow → ℕ → RebuildRow
+new_rebuild_row change target =
+    record { target = target; parent = change.node; index = change.index; root = unset_word; draw = 0 }
+
+-- a row of a tree's rows is the top of an ideal subtree
+pub top_among : (ps : Pieces) (rows : List ℕ) (base : ℕ) (x : InnerRow) → Each (StandsAsTop ps) rows
+    → Among base rows → ps base ≡ Some (Inner x)
+    → (leaves : List PlacedLeaf) × (above : ℕ) × IsTop ps base x leaves above
+top_among ps rows base x all i e =
+    let it = each-among (StandsAsTop ps) base rows all i in
+    let same : it.row ≡ x = same_inner (ps base) it.row x it.top.published e in
+    (it.leaves, it.above, subst (λ y. IsTop ps base y it.leaves it.above) same it.top)
+
+-- each inner row that an event publishes is open
+pub born_open : (first : Snapshot) (log : Log) (event : Event) (base : ℕ) (x : InnerRow)
+    → Enabled first log event → Born first log base (Inner x) event → x.status ≡ open_word
+born_open first log _ base x can (by_install {change = at} h new) =
+    installed_open first log at h.change h.fresh h.fits base x new
+born_open first log _ base x can (by_root {word = word} {rows = rows} i e) =
+    let qs = with_inners (state first log).pieces rows in
+    (top_among qs (bases_of rows) base x (root_tops qs word can.k can.leaves can.row.target (bases_of rows) can.root) i e).2.status
+born_open first log _ base x can (by_place {rows = rows} i e) =
+    let qs = with_inners (state first log).pieces rows in
+    (top_among qs (bases_of rows) base x (ideal_tops qs can.ref can.part can.root (bases_of rows) can.ideal) i e).2.status

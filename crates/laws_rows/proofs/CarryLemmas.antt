@@ -1,0 +1,186 @@
+-- Ideal subtrees over rows that are added to others. Serves the law on ideal subtrees.
+use Rattle.std.proofs.Common.{Bool, List, None, Option, Some, [], false, if◌then◌else◌, inl, inr, refl, ap, subst, sym, true, ℕ, ⊎_elim, ◌==◌, ◌∙◌, ◌∷◌, ◌++◌, ◌≡◌}
+use Rattle.std.proofs.lemmas.List.{map-append}
+use Rattle.ist_core.specs.declared.lists.Row.{Row}
+use Rattle.ist_core.specs.declared.states.InnerRow.{InnerRow}
+use Rattle.ist_core.specs.declared.states.LeafRow.{LeafRow}
+use Rattle.ist_core.specs.Elements.{Among}
+use Rattle.ist_core.specs.Ideals.{AreIdeal, IsIdeal, IsTop, no_part, of_more, of_none, of_one, one_part}
+use Rattle.ist_core.specs.Leaves.{PlacedLeaf}
+use Rattle.ist_core.specs.Parts.{parts}
+use Rattle.ist_core.specs.Pieces.{Inner, Leaf, Piece, Pieces, inner_of, with_inners, with_row}
+use Rattle.ist_core.specs.References.{Ref, ref_of}
+use Rattle.ist_core.specs.Snapshots.{bases_of}
+use Rattle.ist_core.proofs.ElementLemmas.{among_left, among_right}
+use Rattle.ist_core.proofs.RowLemmas.{with_inners-other, with_inners-some}
+
+-- ---- ideal subtrees elsewhere
+
+module _ (ps qs : Pieces) (own : List ℕ)
+    (leaf : (base : ℕ) (r : LeafRow) → ps base ≡ Some (Leaf r) → qs base ≡ Some (Leaf r))
+    (inner : (base : ℕ) (r : InnerRow) → Among base own → ps base ≡ Some (Inner r)
+    → qs base ≡ Some (Inner r)) where
+  top_over : (base : ℕ) (r : InnerRow) (leaves : List PlacedLeaf) (above : ℕ) → Among base own
+      → IsTop ps base r leaves above → IsTop qs base r leaves above
+  top_over base r leaves above i h =
+      record {
+        published = inner base r i h.published;
+        two = h.two;
+        higher = h.higher;
+        status = h.status;
+        count = h.count;
+        degree = h.degree;
+        size = h.size;
+        keys = h.keys;
+      }
+
+  mutual
+    -- an ideal subtree is one wherever its leaves and rows are
+    pub ideal_over : (ref : Ref) (leaves : List PlacedLeaf) (above : ℕ) (bases : List ℕ)
+        → IsIdeal ps ref leaves above bases → ((base : ℕ) → Among base bases → Among base own)
+        → IsIdeal qs ref leaves above bases
+    ideal_over _ _ _ _ of_none i = of_none
+    ideal_over _ _ _ _ (of_one {base = base} {leaf = l} same e) i = of_one same (leaf base l.row e)
+    ideal_over _ _ above _ (of_more {base = base} {leaves = leaves} {rows = bases} r top under) i =
+        of_more r (top_over base r leaves above (i base (inl refl)) top)
+        (parts_over r.slots (parts leaves) base bases under (λ b j. i b (inr j)))
+
+    -- ideal parts are ideal wherever their leaves and rows are
+    pub parts_over : (words : List ℕ) (behind : List (List PlacedLeaf)) (above : ℕ) (bases : List ℕ)
+        → AreIdeal ps words behind above bases → ((base : ℕ) → Among base bases → Among base own)
+        → AreIdeal qs words behind above bases
+    parts_over _ _ _ _ no_part i = no_part
+    parts_over _ _ above _
+        (one_part {words = words} {here = here} {rest = rest} {part = part} {behind = behind} ref is
+        first more) i =
+        one_part ref is
+        (ideal_over ref part above here first (λ b j. i b (among_left b here rest j)))
+        (parts_over words behind above rest more (λ b j. i b (among_right b here rest j)))
+
+-- ideal parts with one more at the end are ideal parts
+pub parts_more : (ps : Pieces) (words : List ℕ) (behind : List (List PlacedLeaf)) (above : ℕ)
+    (bases : List ℕ) (word : ℕ) (ref : Ref) (part : List PlacedLeaf) (more : List ℕ)
+    → AreIdeal ps words behind above bases → ref_of word ≡ Some ref
+    → IsIdeal ps ref part above more
+    → AreIdeal ps (words ++ word ∷ []) (behind ++ part ∷ []) above (bases ++ more)
+parts_more ps _ _ above _ word ref part more no_part is ideal =
+    subst (AreIdeal ps (word ∷ []) (part ∷ []) above) (nil more) (one_part ref is ideal no_part)
+  where
+    nil : (xs : List ℕ) → xs ++ [] ≡ xs
+    nil [] = refl
+    nil (x ∷ xs) = ap (λ ys. x ∷ ys) (nil xs)
+parts_more ps _ _ above _ word ref part more
+    (one_part {words = words} {here = here} {rest = rest} {part = first} {behind = behind} r e i
+    others) is ideal =
+    subst (AreIdeal ps _ _ above) (assoc here rest more)
+    (one_part r e i (parts_more ps words behind above rest word ref part more others is ideal))
+  where
+    assoc : (xs ys zs : List ℕ) → xs ++ (ys ++ zs) ≡ (xs ++ ys) ++ zs
+    assoc [] ys zs = refl
+    assoc (x ∷ xs) ys zs = ap (λ w. x ∷ w) (assoc xs ys zs)
+
+-- ---- rows that are put
+
+-- an inner row is no leaf
+no_leaf : (words : List ℕ) (r : LeafRow) → inner_of words ≡ Some (Leaf r) → ⊥
+no_leaf [] r e = cc
+no_leaf (a ∷ []) r e = cc
+no_leaf (a ∷ b ∷ []) r e = cc
+no_leaf (a ∷ b ∷ c ∷ []) r e = cc
+no_leaf (a ∷ b ∷ c ∷ d ∷ rest) r e = cc
+
+-- a leaf after rows are put was there before
+pub leaf_stood : (ps : Pieces) (rows : List Row) (base : ℕ) (r : LeafRow)
+    → with_inners ps rows base ≡ Some (Leaf r) → ps base ≡ Some (Leaf r)
+leaf_stood ps rows base r e =
+    ⊎_elim (λ put. absurd (no_leaf put.0.words r put.3)) (λ stood. stood)
+    (with_inners-some ps rows base (Leaf r) e)
+
+-- putting joined lists of rows puts the second and then the first
+pub with_both : (ps : Pieces) (xs ys : List Row)
+    → with_inners ps (xs ++ ys) ≡ with_inners (with_inners ps ys) xs
+with_both ps [] ys = refl
+with_both ps (x ∷ xs) ys = ap (λ qs. with_row qs x.base (inner_of x.words)) (with_both ps xs ys)
+
+-- a row that is put at a free base is also there if the rows are put among others
+pub put_stands : (ps qs : Pieces) (rows : List Row) (base : ℕ) (p : Piece)
+    → ps base ≡ None → with_inners ps rows base ≡ Some p → with_inners qs rows base ≡ Some p
+put_stands ps qs [] base p none e = absurd (clash (ps base) p none e)
+  where
+    clash : (o : Option Piece) (q : Piece) → o ≡ None → o ≡ Some q → ⊥
+    clash o q e f = cc
+put_stands ps qs (row ∷ rows) base p none e =
+    at (inner_of row.words) e (put_stands ps qs rows base p none)
+  where
+    at : (o : Option Piece) → with_row (with_inners ps rows) row.base o base ≡ Some p
+        → (with_inners ps rows base ≡ Some p → with_inners qs rows base ≡ Some p)
+        → with_row (with_inners qs rows) row.base o base ≡ Some p
+    at None f rest = rest f
+    at (Some x) f rest = here (base == row.base) f
+      where
+        here : (v : Bool) → (if v then Some x else with_inners ps rows base) ≡ Some p
+            → (if v then Some x else with_inners qs rows base) ≡ Some p
+        here true g = g
+        here false g = rest g
+
+-- ---- two lists of rows that share no base, put where no row was before
+
+module _ (ps : Pieces) (xs ys : List Row)
+    (free : (base : ℕ) → Among base (bases_of (xs ++ ys)) → ps base ≡ None)
+    (apart : (base : ℕ) → Among base (bases_of xs) → ¬ (Among base (bases_of ys))) where
+  bases_both : bases_of (xs ++ ys) ≡ bases_of xs ++ bases_of ys
+  bases_both = map-append (λ (row : Row). row.base) xs ys
+
+  left_free : (base : ℕ) → Among base (bases_of xs) → ps base ≡ None
+  left_free base i =
+      free base (subst (Among base) (sym bases_both) (among_left base (bases_of xs) (bases_of ys)
+      i))
+
+  leaf_beside : (base : ℕ) (r : LeafRow) → ps base ≡ Some (Leaf r)
+      → with_inners ps (xs ++ ys) base ≡ Some (Leaf r)
+  leaf_beside base r e =
+      with_inners-other ps (xs ++ ys) base (λ i. clash (ps base) (free base i) e) ∙ e
+    where
+      clash : (o : Option Piece) → o ≡ None → o ≡ Some (Leaf r) → ⊥
+      clash o e f = cc
+
+  -- a leaf after the first rows are put is there after both lists are
+  pub left_leaf : (base : ℕ) (r : LeafRow) → with_inners ps xs base ≡ Some (Leaf r)
+      → with_inners ps (xs ++ ys) base ≡ Some (Leaf r)
+  left_leaf base r e = leaf_beside base r (leaf_stood ps xs base r e)
+
+  -- a leaf after the second rows are put is there after both lists are
+  pub right_leaf : (base : ℕ) (r : LeafRow) → with_inners ps ys base ≡ Some (Leaf r)
+      → with_inners ps (xs ++ ys) base ≡ Some (Leaf r)
+  right_leaf base r e = leaf_beside base r (leaf_stood ps ys base r e)
+
+  -- an inner row of the first list is there after both lists are put
+  pub left_inner : (base : ℕ) (r : InnerRow) → Among base (bases_of xs)
+      → with_inners ps xs base ≡ Some (Inner r) → with_inners ps (xs ++ ys) base ≡ Some (Inner r)
+  left_inner base r i e =
+      ap (λ qs. qs base) (with_both ps xs ys)
+      ∙ put_stands ps (with_inners ps ys) xs base (Inner r) (left_free base i) e
+
+  -- an inner row of the second list is there after both lists are put
+  pub right_inner : (base : ℕ) (r : InnerRow) → Among base (bases_of ys)
+      → with_inners ps ys base ≡ Some (Inner r) → with_inners ps (xs ++ ys) base ≡ Some (Inner r)
+  right_inner base r i e =
+      ap (λ qs. qs base) (with_both ps xs ys)
+      ∙ with_inners-other (with_inners ps ys) xs base (λ j. apart base j i) ∙ e
+
+  -- the parts of one and an ideal subtree of the other are parts of both
+  pub parts_joined : (words : List ℕ) (behind : List (List PlacedLeaf)) (above word : ℕ) (ref : Ref)
+      (part : List PlacedLeaf)
+      → AreIdeal (with_inners ps xs) words behind above (bases_of xs) → ref_of word ≡ Some ref
+      → IsIdeal (with_inners ps ys) ref part above (bases_of ys)
+      → AreIdeal (with_inners ps (xs ++ ys)) (words ++ word ∷ []) (behind ++ part ∷ []) above
+      (bases_of (xs ++ ys))
+  parts_joined words behind above word ref part are is ideal =
+      let qs = with_inners ps (xs ++ ys) in
+      subst (AreIdeal qs (words ++ word ∷ []) (behind ++ part ∷ []) above) (sym bases_both)
+      (parts_more qs words behind above (bases_of xs) word ref part (bases_of ys)
+      (parts_over (with_inners ps xs) qs (bases_of xs) left_leaf left_inner words behind above
+      (bases_of xs) are (λ b i. i))
+      is
+      (ideal_over (with_inners ps ys) qs (bases_of ys) right_leaf right_inner ref part above
+      (bases_of ys) ideal (λ b i. i)))

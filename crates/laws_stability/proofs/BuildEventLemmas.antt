@@ -1,0 +1,222 @@
+-- Roots, Draws and Places stay enabled under events of others. Serves their clauses.
+use Rattle.std.proofs.Common.{List, None, Some, ap, length, refl, subst, sym, ℕ, ◌+◌, ◌∙◌, ◌≡◌, ◌≢◌}
+use Rattle.ist_core.specs.declared.events.Event.{Event}
+use Rattle.ist_core.specs.declared.events.Event.TheVariants.{Count, Decide, Draw, Enter, Finish, Install, Lose, Mark, Okay, Pass, Place, Reserve, Resolve, Root}
+use Rattle.ist_core.specs.declared.events.Who.TheVariants.{Caller}
+use Rattle.ist_core.specs.declared.lists.HeldRow.{HeldRow}
+use Rattle.ist_core.specs.declared.lists.Row.{Row}
+use Rattle.ist_core.specs.declared.pairs.Pair.{Pair}
+use Rattle.ist_core.specs.declared.states.LeafRow.{LeafRow}
+use Rattle.ist_core.specs.Building.{CanDraw, CanPlace, CanRoot, IsRoot}
+use Rattle.ist_core.specs.Elements.{Among}
+use Rattle.ist_core.specs.Growing.{AllGrow}
+use Rattle.ist_core.specs.Lawful.{CanOpen, EachEnabled, state_of}
+use Rattle.ist_core.specs.Leaves.{HasLeaves, PlacedLeaf}
+use Rattle.ist_core.specs.Logs.{Draws, GoesOn, Happened, Log}
+use Rattle.ist_core.specs.Pieces.{Leaf, Rebuild, as_rebuild, with_inners}
+use Rattle.ist_core.specs.Rebuilding.{IsFinishedWith}
+use Rattle.ist_core.specs.References.{InnerAt, ref_of, unset_word}
+use Rattle.ist_core.specs.RowLayout.{rebuild_draw_offset}
+use Rattle.ist_core.specs.Slots.{in_row}
+use Rattle.ist_core.specs.Snapshots.{HoldsRow, HoldsRows, Snapshot, bases_of}
+use Rattle.ist_core.specs.StartLayout.{start}
+use Rattle.ist_core.specs.Writing.{touch_in_root, touch_of_draw, touch_of_place}
+use Rattle.ist_core.proofs.ElementLemmas.{each-among}
+use Rattle.ist_core.proofs.FateLemmas.{enabled_before, grow_between}
+use Rattle.ist_core.proofs.GrowingLemmas.{inner_there, leaf_there, rebuild_there}
+use Rattle.ist_core.proofs.KeepingLemmas.{finished_leaves_stay}
+use Rattle.ist_core.proofs.MoveLemmas.{HeldLieApart}
+use Rattle.ist_core.proofs.PlaceLemmas.{anchor_free}
+use Rattle.ist_core.proofs.PublishingLemmas.{row_among}
+use Rattle.laws_links.proofs.FormLemmas.{finished_with_grows, started_grows}
+use Rattle.laws_links.proofs.FormedLemmas.{rooted_is_finished}
+use Rattle.laws_links.proofs.InductionLemmas.{sound_behind}
+use Rattle.laws_links.specs.Linking.{IsFinished}
+use Rattle.ist_core.specs.Authors.{Later, whose}
+use Rattle.ist_core.specs.Shown.{IsShown}
+use Rattle.laws_stability.specs.Words.{FindsItsWord}
+use Rattle.laws_stability.proofs.HoldingLemmas.{rows_later}
+use Rattle.laws_stability.proofs.IdealLemmas.{ideal_put, root_put}
+use Rattle.laws_stability.proofs.LaterLemmas.{done_before, goes_on, known_later}
+use Rattle.laws_stability.proofs.SetLemmas.{set_by}
+use Rattle.laws_stability.proofs.SlotWordLemmas.{finds, slot_later, slot_of_row}
+use Rattle.ist_core.proofs.ShownLemmas.{row_word}
+
+-- a Draw of a caller is its own event
+draws_own : (caller rebuild part : ℕ) (event : Event) → Draws caller rebuild part event
+    → whose event ≡ Caller caller
+draws_own caller rebuild part (Draw c o p) is = ap Caller is.0
+draws_own caller rebuild part (Enter c) is = absurd is
+draws_own caller rebuild part (Reserve c base size) is = absurd is
+draws_own caller rebuild part (Install c change rows) is = absurd is
+draws_own caller rebuild part (Okay c change) is = absurd is
+draws_own caller rebuild part (Decide c change said) is = absurd is
+draws_own caller rebuild part (Resolve c change) is = absurd is
+draws_own caller rebuild part (Count c n) is = absurd is
+draws_own caller rebuild part (Mark c n) is = absurd is
+draws_own caller rebuild part (Pass c n i word) is = absurd is
+draws_own caller rebuild part (Finish c n keys) is = absurd is
+draws_own caller rebuild part (Root c o word rows) is = absurd is
+draws_own caller rebuild part (Place c o i word rows) is = absurd is
+draws_own caller rebuild part (Lose c bases) is = absurd is
+
+-- no row is published at the base of one that a caller holds
+held_free : (t : Snapshot) (caller : ℕ) (rows : List Row) → HeldLieApart t → HoldsRows t caller rows
+    → (base : ℕ)
+    → Among base (bases_of rows) → t.pieces base ≡ None
+held_free t caller rows s held base among =
+    let it = row_among base rows among in
+    let row : HeldRow = record { caller = caller; base = it.0.base; size = length it.0.words } in
+    subst (λ b. t.pieces b ≡ None) it.2
+    (s.unpublished row
+    (each-among (λ x. HoldsRow t caller x.base (length x.words)) it.0 rows held it.1))
+
+module _ (pairs : List Pair) (words : ℕ) (opens : CanOpen pairs words) {earlier log : Log}
+    (caller : ℕ)
+    (later : Later (Caller caller) earlier log)
+    (h : EachEnabled (start pairs words) log) where
+  on : GoesOn earlier log
+  on = goes_on later
+
+  before : EachEnabled (start pairs words) earlier
+  before = enabled_before (start pairs words) earlier log on h
+
+  grows : AllGrow (state_of pairs words earlier).pieces (state_of pairs words log).pieces
+  grows = grow_between pairs words earlier log h on
+
+  -- the leaves below a finished target stay
+  leaves_later : (old new : ℕ) → new ≡ old → (leaves : List PlacedLeaf)
+      → IsFinished (state_of pairs words earlier) old
+      → HasLeaves (state_of pairs words earlier).pieces (Some (InnerAt old)) leaves
+      → HasLeaves (state_of pairs words log).pieces (Some (InnerAt new)) leaves
+  leaves_later old new same leaves done reached =
+      subst (λ n. HasLeaves (state_of pairs words log).pieces (Some (InnerAt n)) leaves) (sym same)
+      (finished_leaves_stay pairs words opens earlier log on h old leaves done reached)
+
+  finished_later : (old new k : ℕ) → new ≡ old → IsFinishedWith (state_of pairs words earlier) old k
+      → IsFinishedWith (state_of pairs words log) new k
+  finished_later old new k same f =
+      subst (λ n. IsFinishedWith (state_of pairs words log) n k) (sym same)
+      (finished_with_grows (state_of pairs words earlier) (state_of pairs words log) grows old k f)
+
+  leaf_later : (base : ℕ) (r : LeafRow) → (state_of pairs words earlier).pieces base ≡ Some (Leaf r)
+      → (state_of pairs words log).pieces base ≡ Some (Leaf r)
+  leaf_later = leaf_there (state_of pairs words earlier).pieces
+      (state_of pairs words log).pieces grows
+
+  -- a Root stays enabled if the rebuild has no root
+  pub root_stays : (rebuild word : ℕ) (rows : List Row)
+      → CanRoot (state_of pairs words earlier) caller rebuild word rows
+      → FindsItsWord (state_of pairs words earlier) (state_of pairs words log)
+      (Root caller rebuild word rows)
+      → CanRoot (state_of pairs words log) caller rebuild word rows
+  root_stays rebuild word rows can f =
+      let t = state_of pairs words earlier in
+      let u = state_of pairs words log in
+      let it = rebuild_there t.pieces u.pieces grows rebuild can.row can.published in
+      let has = finds t u (Root caller rebuild word rows) _ refl f in
+      record {
+        known = known_later (start pairs words) on caller can.known;
+        row = it.0;
+        published = it.1;
+        started = started_grows t u grows rebuild can.started;
+        rootless =
+            sym (row_word pairs words log h rebuild 3 it.0.root
+            (Rebuild it.0) it.1 refl _ _ has refl);
+        k = can.k;
+        finished = finished_later can.row.target it.0.target can.k it.2.target can.finished;
+        leaves = can.leaves;
+        reached = leaves_later can.row.target it.0.target it.2.target can.leaves
+            (can.k, can.finished) can.reached;
+        root = subst
+            (λ n. IsRoot (with_inners u.pieces rows) word can.k can.leaves n (bases_of rows))
+            (sym it.2.target)
+            (root_put t.pieces u.pieces rows leaf_later
+            (held_free t caller rows (sound_behind pairs words earlier before) can.held)
+            word can.k can.leaves can.row.target can.root);
+        once = can.once;
+        held = rows_later pairs words caller later h rows can.held;
+      }
+
+  -- the Draw of the part that the draw word names is enabled
+  pub next_draw_stays : (rebuild part now : ℕ)
+      → CanDraw (state_of pairs words earlier) earlier caller rebuild part
+      → IsShown (state_of pairs words log) (rebuild + rebuild_draw_offset) now
+      → CanDraw (state_of pairs words log) log caller rebuild now
+  next_draw_stays rebuild part now can has =
+      let t = state_of pairs words earlier in
+      let u = state_of pairs words log in
+      let it = rebuild_there t.pieces u.pieces grows rebuild can.row can.published in
+      record {
+        known = known_later (start pairs words) on caller can.known;
+        row = it.0;
+        published = it.1;
+        rooted = λ none. can.rooted (sym (it.2.rooted can.rooted) ∙ none);
+        k = can.k;
+        finished = finished_later can.row.target it.0.target can.k it.2.target can.finished;
+        shared = can.shared;
+        part_is = row_word pairs words log h rebuild 4 it.0.draw
+            (Rebuild it.0) it.1 refl _ _ has refl;
+        not_past = λ old happened. can.not_past old (back old happened);
+      }
+    where
+      back : (old : ℕ) → Happened (Draws caller rebuild old) log
+          → Happened (Draws caller rebuild old) earlier
+      back old is = done_before (Draws caller rebuild old) (Caller caller)
+          (draws_own caller rebuild old) later is
+
+  -- a Draw stays enabled if the draw word still names its part
+  pub draw_stays : (rebuild part : ℕ) → CanDraw
+      (state_of pairs words earlier) earlier caller rebuild part
+      → FindsItsWord (state_of pairs words earlier) (state_of pairs words log)
+      (Draw caller rebuild part)
+      → CanDraw (state_of pairs words log) log caller rebuild part
+  draw_stays rebuild part can f =
+      let has = finds (state_of pairs words earlier) (state_of pairs words log)
+      (Draw caller rebuild part) _
+      (ap (λ o. touch_of_draw rebuild (as_rebuild o)) can.published) f in
+      next_draw_stays rebuild part part can
+      (subst (λ w. IsShown (state_of pairs words log) (rebuild + rebuild_draw_offset) w)
+      (sym can.part_is) has)
+
+  -- a Place stays enabled if the slot is Unset
+  pub place_stays : (rebuild i word : ℕ) (rows : List Row)
+      → CanPlace (state_of pairs words earlier) caller rebuild i word rows
+      → FindsItsWord (state_of pairs words earlier) (state_of pairs words log)
+      (Place caller rebuild i word rows)
+      → CanPlace (state_of pairs words log) caller rebuild i word rows
+  place_stays rebuild i word rows can f =
+      let t = state_of pairs words earlier in
+      let u = state_of pairs words log in
+      let it = rebuild_there t.pieces u.pieces grows rebuild can.row can.published in
+      let top = inner_there t.pieces u.pieces grows can.root can.root_row can.root_published in
+      let set : can.row.root ≢ unset_word = set_by can.row.root (InnerAt can.root) can.root_is
+      (λ q. cc) in
+      let has = finds t u (Place caller rebuild i word rows) _
+      (ap (λ o. touch_of_place t o i word) (ap as_rebuild can.published)
+      ∙ ap (λ o. touch_in_root t o i word) can.root_is) f in
+      record {
+        known = known_later (start pairs words) on caller can.known;
+        row = it.0;
+        published = it.1;
+        root = can.root;
+        root_is = ap ref_of (it.2.rooted set) ∙ can.root_is;
+        root_row = top.0;
+        root_published = top.1;
+        free = slot_of_row u can.root i unset_word top.0 (anchor_free pairs words log h) top.1
+            (slot_later pairs words earlier log on h can.root i unset_word
+            (in_row can.root_row can.root_published can.free) unset_word has);
+        leaves = can.leaves;
+        reached = leaves_later can.row.target it.0.target it.2.target can.leaves
+            (rooted_is_finished pairs words earlier before rebuild can.row can.published set)
+            can.reached;
+        part = can.part;
+        part_is = can.part_is;
+        ref = can.ref;
+        ref_is = can.ref_is;
+        ideal = ideal_put t.pieces u.pieces rows leaf_later
+            (held_free t caller rows (sound_behind pairs words earlier before) can.held)
+            can.ref can.part can.root (bases_of rows) can.ideal (λ b i. i);
+        once = can.once;
+        held = rows_later pairs words caller later h rows can.held;
+      }

@@ -1,0 +1,163 @@
+-- Okays, Decides and Resolves stay enabled under events of others. Serves their clauses.
+use Rattle.std.proofs.Common.{Bool, List, None, Some, ap, arith, false, if◌then◌else◌, refl, subst, sym, true, ℕ, ⊎_elim, ◌*◌, ◌+◌, ◌∙◌, ◌≡◌, ◌≢◌}
+use Rattle.std.proofs.lemmas.Bool.Decides.{eqb_tells}
+use Rattle.ist_core.specs.declared.events.Event.TheVariants.{Decide, Okay, Resolve}
+use Rattle.ist_core.specs.declared.pairs.Pair.{Pair}
+use Rattle.ist_core.specs.declared.states.ChangeRow.{ChangeRow}
+use Rattle.ist_core.specs.Deciding.{CanDecide, CanOkay, CanResolve, MayBe}
+use Rattle.ist_core.specs.Growing.{AllGrow, ChangeGrows, StatusGoesOn, is_closed, is_finished, is_marked, status_stays}
+use Rattle.ist_core.specs.Lawful.{CanOpen, EachEnabled, state_of}
+use Rattle.ist_core.specs.Logs.{GoesOn, Log, Okays}
+use Rattle.ist_core.specs.Pieces.{Change, Inner, as_change}
+use Rattle.ist_core.specs.References.{ChangeAt, word_of}
+use Rattle.ist_core.specs.RowLayout.{anchor, anchor_status_place, inner_status_offset}
+use Rattle.ist_core.specs.Slots.{IsOpen, SlotHolds, anchor_is, in_anchor, in_row, row_is}
+use Rattle.ist_core.specs.Snapshots.{Snapshot}
+use Rattle.ist_core.specs.StartLayout.{start}
+use Rattle.ist_core.specs.Statuses.{open_word, undecided}
+use Rattle.ist_core.specs.Writing.{place_of_status, touch_of_okay, touch_of_resolve}
+use Rattle.ist_core.proofs.FateLemmas.{enabled_before, grow_between}
+use Rattle.ist_core.proofs.GrowingLemmas.{change_there, inner_there}
+use Rattle.ist_core.proofs.PlaceLemmas.{anchor_free}
+use Rattle.ist_core.proofs.SlotLemmas.{no_row, same_inner}
+use Rattle.laws_links.proofs.ChangeLemmas.{undecided_stands}
+use Rattle.laws_stability.specs.Meanwhile.{IsStillUndecided}
+use Rattle.ist_core.specs.Shown.{IsShown}
+use Rattle.laws_stability.specs.Words.{FindsItsWord}
+use Rattle.laws_stability.proofs.LaterLemmas.{happened_later, known_later}
+use Rattle.laws_stability.proofs.SlotWordLemmas.{finds, slot_later}
+use Rattle.ist_core.proofs.ShownLemmas.{row_word}
+
+-- a status that isn't open is never open again
+closed_on : (old new : ℕ) → StatusGoesOn old new → old ≢ open_word → new ≢ open_word
+closed_on old new (status_stays e) closed is = closed (sym e ∙ is)
+closed_on old new (is_marked a b) closed is = closed a
+closed_on old new (is_finished k a b) closed is =
+    let odd : new ≡ 4 * k + 3 = b in absurd (omega arith)
+closed_on old new (is_closed k a b) closed is = closed a
+
+-- if the node of a change in its slot isn't open, it is never open again
+closed_later : (t u : Snapshot) → AllGrow t.pieces u.pieces → u.pieces anchor ≡ None
+    → (node i word : ℕ)
+    → SlotHolds t node i word → ¬ (IsOpen t node) → ¬ (IsOpen u node)
+closed_later t u g free node i word (in_anchor a b e) closed opened = closed (anchor_is a)
+closed_later t u g free node i word (in_row r p at) closed (anchor_is a) =
+    let it = inner_there t.pieces u.pieces g node r p in
+    no_row u.pieces node it.0 free a it.1
+closed_later t u g free node i word (in_row r p at) closed (row_is s e is) =
+    let it = inner_there t.pieces u.pieces g node r p in
+    let same = same_inner (u.pieces node) it.0 s it.1 e in
+    closed_on r.status it.0.status it.2.status (λ o. closed (row_is r p o))
+    (ap (λ x. x.status) same ∙ is)
+
+module _ (pairs : List Pair) (words : ℕ) (opens : CanOpen pairs words) (earlier log : Log)
+    (on : GoesOn earlier log)
+    (h : EachEnabled (start pairs words) log) where
+  grows : AllGrow (state_of pairs words earlier).pieces (state_of pairs words log).pieces
+  grows = grow_between pairs words earlier log h on
+
+  -- the change after the longer log
+  change_later : (base : ℕ) (r : ChangeRow) → (state_of pairs words earlier).pieces base ≡ Some
+      (Change r)
+      → (s : ChangeRow) × ((state_of pairs words log).pieces base ≡ Some (Change s))
+      × ChangeGrows r s
+  change_later base r e =
+      change_there (state_of pairs words earlier).pieces
+      (state_of pairs words log).pieces grows base r e
+
+  -- an outcome stays possible
+  outcome_later : (base : ℕ) (old new : ChangeRow) (said : Bool)
+      → (state_of pairs words earlier).pieces base ≡ Some (Change old) → old.decision ≡ undecided
+      → new.node ≡ old.node → MayBe (state_of pairs words earlier) earlier base old said
+      → MayBe (state_of pairs words log) log base new said
+  outcome_later base old new true e none same may = happened_later (Okays base) on may
+  outcome_later base old new false e none same may =
+      let before = enabled_before (start pairs words) earlier log on h in
+      subst (λ n. ¬ (IsOpen (state_of pairs words log) n)) (sym same)
+      (closed_later (state_of pairs words earlier) (state_of pairs words log) grows
+      (anchor_free pairs words log h)
+      old.node old.index (word_of (ChangeAt base))
+      (undecided_stands pairs words opens earlier before base old e none) may)
+
+  -- a Decide stays enabled if the change is undecided
+  pub decide_stays : (caller base : ℕ) (said : Bool)
+      → CanDecide (state_of pairs words earlier) earlier caller base said
+      → FindsItsWord (state_of pairs words earlier) (state_of pairs words log)
+      (Decide caller base said)
+      → CanDecide (state_of pairs words log) log caller base said
+  decide_stays caller base said can f =
+      let it = change_later base can.change can.pending.published in
+      let has = finds (state_of pairs words earlier) (state_of pairs words log)
+      (Decide caller base said) _ refl f in
+      record {
+        known = known_later (start pairs words) on caller can.known;
+        change = it.0;
+        pending = record {
+          published = it.1;
+          unset = sym
+              (row_word pairs words log h base 0 it.0.decision
+              (Change it.0) it.1 refl _ _ has refl);
+        };
+        outcome = outcome_later base can.change it.0 said can.pending.published can.pending.unset
+            (ap (λ c. c.node) it.2.others) can.outcome;
+      }
+
+  -- a Resolve stays enabled if the change is in its slot
+  pub resolve_stays : (caller base : ℕ) → CanResolve (state_of pairs words earlier) caller base
+      → FindsItsWord (state_of pairs words earlier) (state_of pairs words log) (Resolve caller base)
+      → CanResolve (state_of pairs words log) caller base
+  resolve_stays caller base can f =
+      let it = change_later base can.change can.published in
+      let has = finds (state_of pairs words earlier) (state_of pairs words log)
+      (Resolve caller base) _
+      (ap (λ o. touch_of_resolve (state_of pairs words earlier) base (as_change o)) can.published)
+      f in
+      let holds = slot_later pairs words earlier log on h can.change.node can.change.index
+      (word_of (ChangeAt base)) can.in_slot (word_of (ChangeAt base)) has in
+      record {
+        known = known_later (start pairs words) on caller can.known;
+        change = it.0;
+        published = it.1;
+        decided = λ none. can.decided (sym (it.2.decided can.decided) ∙ none);
+        in_slot =
+            subst (λ n. SlotHolds (state_of pairs words log) n it.0.index (word_of (ChangeAt base)))
+            (sym (ap (λ c. c.node) it.2.others))
+            (subst (λ i. SlotHolds (state_of pairs words log) can.change.node i
+            (word_of (ChangeAt base)))
+            (sym (ap (λ c. c.index) it.2.others)) holds);
+      }
+
+  -- a node is open if its status is still the open word
+  open_later : (node : ℕ) → IsOpen (state_of pairs words earlier) node
+      → IsShown (state_of pairs words log) (place_of_status node) open_word
+      → IsOpen (state_of pairs words log) node
+  open_later node (anchor_is a) has = anchor_is a
+  open_later node (row_is r e is) has =
+      let it = inner_there (state_of pairs words earlier).pieces
+      (state_of pairs words log).pieces grows node r e in
+      let out : node ≢ anchor = λ a. no_row (state_of pairs words log).pieces node it.0
+      (anchor_free pairs words log h) a it.1 in
+      ⊎_elim (λ same. absurd (out same.1))
+      (λ other.
+      let at = ap (λ b. if b then anchor_status_place else node + inner_status_offset) other.0 in
+      row_is it.0 it.1
+      (sym (row_word pairs words log h node 0 it.0.status (Inner it.0) it.1 refl _ _ has at)))
+      (eqb_tells node anchor)
+
+  -- an Okay stays enabled if the node is open and the change is undecided
+  pub okay_stays : (caller base : ℕ) → CanOkay (state_of pairs words earlier) caller base
+      → FindsItsWord (state_of pairs words earlier) (state_of pairs words log) (Okay caller base)
+      → IsStillUndecided (state_of pairs words log) base
+      → CanOkay (state_of pairs words log) caller base
+  okay_stays caller base can f none =
+      let it = change_later base can.change can.pending.published in
+      let has = finds (state_of pairs words earlier) (state_of pairs words log) (Okay caller base) _
+      (ap (λ o. touch_of_okay (as_change o)) can.pending.published) f in
+      record {
+        known = known_later (start pairs words) on caller can.known;
+        change = it.0;
+        pending = record { published = it.1; unset = none it.0 it.1 };
+        node_open =
+            subst (λ n. IsOpen (state_of pairs words log) n) (sym (ap (λ c. c.node) it.2.others))
+            (open_later can.change.node can.node_open has);
+      }

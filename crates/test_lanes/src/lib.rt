@@ -1,0 +1,18 @@
+//! Bytes in and out, the lanes of a round, and what is drawn from a seed, call by call: only tests.
+//!
+//! Read `bytes.rt`; `recorders.rt`, then `lanes.rt`, `meetings.rt` and `stealing.rt`; and
+//! `draws.rt`. Builds on `tele_io`, `tele_lanes`, `tele_steal` and `try_draws`.
+#![tactic(auto)]
+
+#[cfg(test)]
+mod bytes;
+#[cfg(test)]
+mod draws;
+#[cfg(test)]
+mod lanes;
+#[cfg(test)]
+mod meetings;
+#[cfg(test)]
+mod recorders;
+#[cfg(test)]
+mod stealing;

@@ -1,0 +1,9 @@
+use Rattle.std.proofs.Common.{◌∙◌}
+use Rattle.test_samples.proofs.StartLemmas.{start_met}
+use Rattle.test_parts.proofs.marking.meet.Goals as goal
+
+-- the caller has met the change
+pub see_start-requires-clause-may_help : goal.see_start-requires-clause-may_help
+see_start-requires-clause-may_help c =
+    start_met _ _ _ _ c.requires.caller.mine c.load-met.ensures.looked
+    (c.if-met-to_word.false ∙ c.to_word.ensures.value)

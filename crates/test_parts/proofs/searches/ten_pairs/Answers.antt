@@ -1,0 +1,39 @@
+use Rattle.std.proofs.Common.{zero, suc, map, subst, sym, ◌∙◌, arith}
+use Rattle.std.specs.List.Sorted.{IsStrictlyIncreasing}
+use Rattle.ist_core.specs.ExampleTables.{ten_pairs}
+use Rattle.ist_core.specs.Lawful.{CanOpen}
+use Rattle.ist_core.proofs.WordLemmas.{ideal_words_nine}
+use Rattle.test_parts.proofs.searches.ten_pairs.Goals as goal
+
+rising : IsStrictlyIncreasing (map (λ pair. pair.key) ten_pairs)
+rising zero h = omega arith
+rising (suc zero) h = omega arith
+rising (suc (suc zero)) h = omega arith
+rising (suc (suc (suc zero))) h = omega arith
+rising (suc (suc (suc (suc zero)))) h = omega arith
+rising (suc (suc (suc (suc (suc zero))))) h = omega arith
+rising (suc (suc (suc (suc (suc (suc zero)))))) h = omega arith
+rising (suc (suc (suc (suc (suc (suc (suc zero))))))) h = omega arith
+rising (suc (suc (suc (suc (suc (suc (suc (suc zero)))))))) h = omega arith
+rising (suc (suc (suc (suc (suc (suc (suc (suc (suc k))))))))) h = absurd (omega arith)
+
+-- the table may be opened
+opens : CanOpen ten_pairs 100
+opens =
+    record {
+      rising = λ k h. rising k h;
+      room = omega (arith, ideal_words_nine 10);
+      within = omega arith;
+    }
+
+pub lay_image-requires : goal.lay_image-requires
+lay_image-requires c =
+    record {
+      opens = subst (λ ps. CanOpen ps 100) (sym (c.as_slice.ensures.value ∙ c.in_ok-pairs.ensures.items))
+          opens;
+    }
+
+pub open_table-requires-clause-opens : goal.open_table-requires-clause-opens
+open_table-requires-clause-opens c =
+    subst (CanOpen c.in_ok-pairs.pairs.items) (sym c.in_ok-image.ensures.size)
+    (subst (λ ps. CanOpen ps 100) (sym c.in_ok-pairs.ensures.items) opens)

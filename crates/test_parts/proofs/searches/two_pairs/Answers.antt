@@ -1,0 +1,36 @@
+use Rattle.std.proofs.Common.{◌∷◌, [], refl, subst, sym}
+use Rattle.std.specs.Prelude.{IfOk, Result, Ok, Err}
+use Rattle.ist_core.specs.Arithmetic.{degree, square_root, root_up_to, part_len, part_lens}
+use Rattle.ist_core.specs.Shapes.{ideal_words, ideal_words_within}
+use Rattle.ist_core.specs.ExampleTables.{two_pairs}
+use Rattle.ist_core.specs.StartLayout.{rows_within}
+use Rattle.ist_rule.specs.Rule.{opened_view}
+use Rattle.ist_find.specs.Searches.{IsRow}
+use Rattle.test_parts.proofs.searches.two_pairs.Goals as goal
+
+-- the row at 4 is published
+row_there : IsRow (opened_view two_pairs 51) 4
+unfolding ideal_words ideal_words_within rows_within degree square_root root_up_to part_len part_lens
+row_there =
+    record {
+      row = record {
+        status = 0;
+        count = 0;
+        degree = 2;
+        size = 2;
+        keys = 9 ∷ [];
+        slots = 89 ∷ 105 ∷ [];
+      };
+      published = refl;
+    }
+
+-- what follows of a value follows of an Ok
+ok_with : {T E : Type 0} {P Q : T → Type 0} (r : Result T E) → ((t : T) → P t → Q t) → IfOk r P
+    → IfOk r Q
+ok_with (Ok t) f h = f t h
+ok_with (Err e) f h = h
+
+pub returns-clause-row : goal.returns-clause-row
+returns-clause-row c =
+    ok_with c.table_of_two.result (λ t h. subst (λ v. IsRow v 4) (sym h) row_there)
+    c.table_of_two.ensures.seat

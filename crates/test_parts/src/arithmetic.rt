@@ -1,0 +1,268 @@
+//! Independent values: computed by hand, or by a short program that counts each part by itself.
+ghost use Rattle.std.specs.Prelude.{◌≤◌, IsTrue};
+ghost use Rattle.std.specs.List.Sorted.{IsStrictlyIncreasing};
+
+use ist_math::{child_and_looks, child_of, degree, guess, ideal_words, limit, part};
+use std::alloc::{AllocError, Global};
+use std::process::Abort;
+use std::test::Fail;
+
+#[test]
+fn a_guess_in_even_keys_is_the_child(rt: HostRuntime) {
+    let keys = [100, 200, 300, 400];
+    // the key, the guess, the child
+    let cases = [(99, 0, 0), (250, 2, 2), (400, 4, 4)];
+    for (key, near, child) in cases {
+        let found = (guess(100, 400, 4, key), child_of(&keys, key));
+        assert_eq!(rt; found, (near, child), "key {key}");
+    }
+}
+
+#[test]
+fn a_guess_among_uneven_keys_is_corrected(rt: HostRuntime) {
+    let keys = [1, 2, 3, 1000000];
+    // the key, the guess, the child
+    let cases = [(999999, 3, 3), (3, 1, 3), (0, 0, 0), (1, 1, 1)];
+    for (key, near, child) in cases {
+        let found = (guess(1, 1000000, 4, key), child_of(&keys, key));
+        assert_eq!(rt; found, (near, child), "key {key}");
+    }
+}
+
+// Returns the guess for a key among this many over the whole range.
+fn guess_among(count: u64, key: u64) -> u64
+    requires some { 2 ≤ count }
+{
+    guess(0, u64::MAX, count, key)
+}
+
+#[test]
+fn extreme_keys_have_children(rt: HostRuntime) {
+    let whole = [0, u64::MAX];
+    // the key, the guess, the child
+    let cases = [(0, 1, 1), (1, 1, 1), (u64::MAX - 1, 1, 1), (u64::MAX, 2, 2)];
+    for (key, near, child) in cases {
+        let found = (guess_among(2, key), child_of(&whole, key));
+        assert_eq!(rt; found, (near, child), "key {key}");
+    }
+    // many keys over the whole range: the product has more than 64 bits
+    let cases = [
+        (1 << 32, u64::MAX - 1, (1 << 32) - 1),
+        (1 << 20, 1 << 63, 524288),
+        (1 << 63, 12345678901234567890, 6172839450617283945),
+        (u64::MAX, u64::MAX - 1, u64::MAX - 1),
+        (u64::MAX, 1 << 62, 4611686018427387904),
+    ];
+    for (count, key, near) in cases {
+        assert_eq!(rt; guess_among(count, key), near, "key {key} of {count}");
+    }
+    // a short range of wide keys: the quotient by the first 64 bits is far too low
+    assert_eq!(rt; guess(0, 1 << 40, 1 << 63, 1 << 39), 4611686018427387904);
+}
+
+#[test]
+fn few_keys_have_children(rt: HostRuntime) {
+    // one key
+    let cases = [(0, 0), (6, 0), (7, 1), (u64::MAX, 1)];
+    for (key, child) in cases {
+        let found = (guess(7, 7, 1, key), child_of(&[7], key));
+        assert_eq!(rt; found, (child as u64, child), "key {key}");
+    }
+    let found = (
+        child_of(&[], 5),
+        child_of(&[0], 0),
+        child_of(&[u64::MAX], u64::MAX - 1),
+    );
+    assert_eq!(rt; found, (0, 1, 0));
+}
+
+#[test]
+fn parts_follow_one_another(rt: HostRuntime) {
+    assert_eq!(rt; [degree(10), degree(2), degree(3)], [3, 2, 2]);
+    // the keys, the child, where its keys begin, how many it has
+    let cases = [
+        (10, 0, 0, 4),
+        (10, 1, 4, 3),
+        (10, 2, 7, 3),
+        (2, 0, 0, 1),
+        (2, 1, 1, 1),
+        (3, 0, 0, 2),
+        (3, 1, 2, 1),
+    ];
+    for (n, j, start, len) in cases {
+        if 2 <= n && n < 1 << 32 && j < degree(n) {
+            let found = part(n, j);
+            assert_eq!(rt; (found.start, found.len), (start, len), "child {j} of {n}");
+        }
+    }
+}
+
+#[test]
+fn degrees_of_large_nodes_are_whole_roots(rt: HostRuntime) {
+    // the keys, the degree
+    let cases = [
+        (65535 * 65535 - 1, 65534),
+        (65535 * 65535, 65535),
+        (4294967295, 65535),
+    ];
+    for (n, root) in cases {
+        if 2 <= n && n < 1 << 32 {
+            assert_eq!(rt; degree(n), root, "{n} keys");
+        }
+    }
+}
+
+#[test]
+fn ideal_trees_take_these_words(rt: HostRuntime) {
+    // the keys, the words
+    let small = [
+        (0, 0),
+        (1, 2),
+        (2, 11),
+        (3, 20),
+        (4, 29),
+        (10, 78),
+        (16, 127),
+    ];
+    let large = [
+        (100, 803),
+        (1000, 8383),
+        (86400, 704353),
+        (1048575, 8787573),
+        (4294967295, 34712447733),
+    ];
+    for (n, words) in small {
+        if n < 1 << 32 {
+            assert_eq!(rt; ideal_words(n), words, "{n} keys");
+        }
+    }
+    for (n, words) in large {
+        if n < 1 << 32 {
+            assert_eq!(rt; ideal_words(n), words, "{n} keys");
+        }
+    }
+}
+
+#[test]
+fn nodes_are_due_after_a_quarter_of_their_keys(rt: HostRuntime) {
+    // the size, the limit
+    let cases = [
+        (2, 8),
+        (31, 8),
+        (32, 8),
+        (35, 8),
+        (36, 9),
+        (256, 64),
+        (1000, 250),
+    ];
+    for (size, updates) in cases {
+        assert_eq!(rt; limit(size), updates, "size {size}");
+    }
+}
+
+// Does each key lie below the next?
+fn rises(keys: &[u64]) -> bool
+    ensures rising { IsTrue result → IsStrictlyIncreasing keys.now }
+{
+    for i in 1..keys.len() {
+        if keys[i - 1] >= keys[i] {
+            return false;
+        }
+    }
+    true
+}
+
+// How the keys of a row lie: each a second after the one before, half of them a year later, at the
+// squares, or the last far from the others.
+#[derive(Drop)]
+enum Lie {
+    Seconds,
+    Bursts,
+    Squares,
+    OneFar,
+}
+
+// Returns the key of this number.
+fn key_at(lie: &Lie, i: u64) -> u64 {
+    match lie {
+        Lie::Seconds => 1_700_000_000u64.wrapping_add(i),
+        Lie::Bursts => i.wrapping_add(if i < 500 { 0 } else { 31_536_000 }),
+        Lie::Squares => i.wrapping_mul(i),
+        Lie::OneFar => if i < 999 { i } else { u64::MAX },
+    }
+}
+
+// Returns this many keys that lie in this way.
+fn keys_by(alloc: Global, count: u64, lie: Lie) -> Result<Vec<u64>, AllocError> {
+    let mut keys = Vec::new(alloc);
+    for i in 0..count {
+        keys.push(key_at(&lie, i))?;
+    }
+    Ok(keys)
+}
+
+// Returns this many keys at random distances.
+fn random_keys(alloc: Global, count: u64, seed: u64) -> Result<Vec<u64>, AllocError> {
+    let mut keys = Vec::new(alloc);
+    let mut state = seed;
+    let mut key = 0u64;
+    for _ in 0..count {
+        state = state
+            .wrapping_mul(6364136223846793005)
+            .wrapping_add(1442695040888963407);
+        key = key.wrapping_add((state >> 11) + 1);
+        keys.push(key)?;
+    }
+    Ok(keys)
+}
+
+// Returns how many of the keys are at most this one.
+fn count_up_to(keys: &[u64], x: u64) -> usize {
+    let mut count = 0usize;
+    for key in keys {
+        if *key <= x {
+            count = count.wrapping_add(1);
+        }
+    }
+    count
+}
+
+// Returns the most looks for a key of these, for the number before it and for the number after it.
+// Checks that each child is the number of keys that a walk over all of them counts.
+fn most_looks(rt: &impl Abort, keys: &[u64]) -> usize {
+    let mut most = 0;
+    assert!(rt; rises(keys));
+    for key in keys {
+        for x in [key.saturating_sub(1), *key, key.saturating_add(1)] {
+            let found = child_and_looks(keys, x);
+            assert_eq!(rt; found.child, count_up_to(keys, x), "key {x}");
+            most = most.max(found.looks);
+        }
+    }
+    most
+}
+
+#[test]
+fn few_keys_are_looked_at_however_they_lie(rt: HostRuntime) -> Result<(), Fail> {
+    let seconds = keys_by(rt.alloc(), 1000, Lie::Seconds)?;
+    let bursts = keys_by(rt.alloc(), 1000, Lie::Bursts)?;
+    let squares = keys_by(rt.alloc(), 1000, Lie::Squares)?;
+    let one_far = keys_by(rt.alloc(), 1000, Lie::OneFar)?;
+    let random = random_keys(rt.alloc(), 1000, 1)?;
+    let four = keys_by(rt.alloc(), 4, Lie::Squares)?;
+    let five = keys_by(rt.alloc(), 5, Lie::Squares)?;
+    // the keys, the most looks
+    let cases = [
+        ("rising seconds", seconds.as_slice(), 4),
+        ("two bursts, a year apart", bursts.as_slice(), 20),
+        ("squares", squares.as_slice(), 18),
+        ("one key at the end", one_far.as_slice(), 21),
+        ("random, by the seed 1", random.as_slice(), 10),
+        ("four squares", four.as_slice(), 4),
+        ("five squares", five.as_slice(), 4),
+    ];
+    for (name, keys, most) in cases {
+        assert_eq!(rt; most_looks(&rt, keys), most, "{name}");
+    }
+    Ok(())
+}

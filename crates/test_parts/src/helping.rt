@@ -1,0 +1,129 @@
+//! One caller installs a put, and others help it, one after another and on threads of their own.
+ghost use Rattle.std.specs.Prelude.{◌≡◌, None};
+ghost use Rattle.ist_rows.specs.Rows.{IsCaller, spares_of, no_spares};
+
+use crate::beginnings::begin_put;
+use crate::samples::word_at;
+use ist_dcss::{Decision, help};
+use ist_layout::{ANCHOR_SLOT_PLACE, Ref};
+use ist_rows::{Caller, enter};
+use ist_rule::{TreeSeat, TreeTable, know, load};
+use std::alloc::{AllocError, Global};
+use std::test::Fail;
+use std::thread::{Threads, join};
+use test_samples::empty_table;
+
+/// Helps the change at 6 if the anchor's slot holds it.
+pub(crate) fn help_met(table: &TreeTable, who: &mut Caller) -> Option<Decision>
+    requires same_table { who.old.seat.table ≡ table.now.table }
+    requires caller { IsCaller who.old }
+    ensures same_table { who.new.seat.table ≡ table.now.table }
+{
+    know(&who.seat);
+    let met = load(table, &mut who.seat, ANCHOR_SLOT_PLACE);
+    if met == (Ref::Change { base: 6 }).to_word() {
+        return Some(help(table, &mut who.seat, 6));
+    }
+    None
+}
+
+// What is seen if the first caller installs a put, the second helps it, and then the first: the
+// word in the anchor's slot after each, and how each sees it decided.
+fn help_in_turn(
+    table: &TreeTable,
+    maker: &mut TreeSeat,
+    first: &mut Caller,
+    second: &mut Caller,
+) -> Option<([u64; 3], Option<Decision>, Decision)>
+    requires maker_table { maker.old.table ≡ table.now.table }
+    requires first_table { first.old.seat.table ≡ table.now.table }
+    requires second_table { second.old.seat.table ≡ table.now.table }
+    requires first { IsCaller first.old }
+    requires no_rows { spares_of first.old ≡ no_spares }
+    requires in_none { first.old.seat.view.pending ≡ None }
+    requires second { IsCaller second.old }
+{
+    if !begin_put(table, first) {
+        return None;
+    }
+    let installed = word_at(table, maker, ANCHOR_SLOT_PLACE);
+    let by_second = help_met(table, second);
+    let left = word_at(table, maker, ANCHOR_SLOT_PLACE);
+    let by_first = help(table, &mut first.seat, 6);
+    let again = word_at(table, maker, ANCHOR_SLOT_PLACE);
+    Some(([installed, left, again], by_second, by_first))
+}
+
+// The same in an empty table.
+fn help_two(alloc: Global) -> Result<Option<([u64; 3], Option<Decision>, Decision)>, AllocError> {
+    let (table, mut maker) = empty_table(alloc, 26)?;
+    let mut first = enter(&table, &mut maker);
+    let mut second = enter(&table, &mut maker);
+    let seen = help_in_turn(&table, &mut maker, &mut first, &mut second);
+    Ok(seen)
+}
+
+#[test]
+fn a_put_is_decided_once_and_leaves_its_slot(rt: HostRuntime) -> Result<(), Fail> {
+    let change = Ref::Change { base: 6 }.to_word();
+    let leaf = Ref::Leaf { base: 4 }.to_word();
+    let yes = Decision::Yes;
+    let seen = help_two(rt.alloc())?;
+    assert_eq!(rt; seen, Some(([change, leaf, leaf], Some(yes), yes)));
+    Ok(())
+}
+
+// Helps the change at 6, if the anchor's slot holds it, by a caller that has no more to do.
+fn help_moved(table: &TreeTable, who: Caller) -> Option<Decision>
+    requires same_table { who.seat.table ≡ table.now.table }
+    requires caller { IsCaller who }
+{
+    let mut who = who;
+    help_met(table, &mut who)
+}
+
+// What happens if a caller installs a put, and two threads help it.
+#[derive(Drop)]
+struct Helped {
+    installed: bool,
+    left: Option<Decision>,
+    right: Option<Decision>,
+    slot: u64,
+}
+
+// The same in an empty table.
+fn help_on_threads<R: Threads + Sync>(rt: &R, alloc: Global) -> Result<Helped, AllocError> {
+    let (table, mut maker) = empty_table(alloc, 26)?;
+    let mut first = enter(&table, &mut maker);
+    let second = enter(&table, &mut maker);
+    let third = enter(&table, &mut maker);
+    let installed = begin_put(&table, &mut first);
+    let (left, right) = join(
+        rt,
+        ||
+            requires same_table { second.seat.table ≡ table.table }
+            requires caller { IsCaller second }
+        { help_moved(&table, second) },
+        ||
+            requires same_table { third.seat.table ≡ table.table }
+            requires caller { IsCaller third }
+        { help_moved(&table, third) },
+    );
+    Ok(Helped {
+        installed,
+        left,
+        right,
+        slot: word_at(&table, &mut maker, ANCHOR_SLOT_PLACE),
+    })
+}
+
+#[test]
+fn two_threads_that_meet_one_change_see_it_decided_yes(rt: HostRuntime) -> Result<(), Fail> {
+    let leaf = Ref::Leaf { base: 4 }.to_word();
+    let no = Some(Decision::No);
+    let seen = help_on_threads(&rt, rt.alloc())?;
+    assert!(rt; seen.left.is_some() || seen.right.is_some());
+    assert!(rt; seen.left != no && seen.right != no);
+    assert_eq!(rt; (seen.installed, seen.slot), (true, leaf));
+    Ok(())
+}

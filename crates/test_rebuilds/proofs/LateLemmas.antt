@@ -1,0 +1,142 @@
+-- A put that is filled before its node is marked: its rows, what its install asks, and what comes
+-- of it. Serves the steps of `late`.
+use Rattle.std.proofs.Common.{◌≡◌, ℕ, ◌+◌, [], ◌∷◌, List, Some, sym, ap, ◌∙◌, subst, refl, arith}
+use Rattle.ist_core.specs.declared.commands.Command.TheVariants.{Put}
+use Rattle.ist_core.specs.declared.events.Event.TheVariants.{Install}
+use Rattle.ist_core.specs.declared.events.Who.TheVariants.{Caller as CallerOf}
+use Rattle.ist_core.specs.declared.states.ChangeRow.{ChangeRow}
+use Rattle.ist_core.specs.Growing.{AllGrow}
+use Rattle.ist_core.specs.Installing.{CanInstall, HasRoomFor, IsUnrefused, nothing, same_key}
+use Rattle.ist_core.specs.Pieces.{Change as ChangePiece, words_of}
+use Rattle.ist_core.specs.References.{IsGoodBase}
+use Rattle.ist_core.specs.Snapshots.{Snapshot}
+use Rattle.ist_core.specs.StartLayout.{start}
+use Rattle.ist_core.proofs.GrowingLemmas.{leaf_there}
+use Rattle.ist_dcss.specs.Helping.{MayHelp}
+use Rattle.ist_dcss.specs.Installing.{IsInstallable, IsInstalled, rows_of}
+use Rattle.ist_rule.specs.declared.view.View.{View}
+use Rattle.ist_rule.specs.Conditions.{StoredAll}
+use Rattle.ist_rule.specs.Learning.{now, storing}
+use Rattle.ist_rule.specs.Rule.{IsSound}
+use Rattle.ist_rule.proofs.GoingOnLemmas.{goes_on_who}
+use Rattle.ist_rows.specs.declared.callers.Caller.{Caller}
+use Rattle.ist_rows.specs.declared.kinds.Kind.TheVariants.{Leaf, Change}
+use Rattle.ist_rows.specs.Kinds.{kind_words}
+use Rattle.ist_rows.specs.Rows.{IsCaller}
+use Rattle.test_samples.specs.Samples as samples
+use Rattle.ist_updates.specs.Asking.{IsAsked}
+use Rattle.ist_updates.specs.Changing.{HasGone, Prepares}
+use Rattle.ist_updates.specs.Filling.{filled_with, storing_all, with_own}
+use Rattle.ist_updates.proofs.PlanLemmas.{leaf_planned}
+use Rattle.ist_updates.proofs.PublishLemmas.{installed_row}
+use Rattle.ist_updates.proofs.SlotLemmas.{prepared}
+use Rattle.ist_updates.proofs.StoredLemmas.{kinds_apart, own_twice, row_filled, stand_kept}
+use Rattle.test_rebuilds.specs.Late.{HasBoth, WasAt, put_of, row_of_put}
+
+-- ---- both rows
+
+-- words that a seat stores one after another are its own words with these
+storing_own : (v : View) (place : ℕ) (words : List ℕ)
+    → samples.storing_all v place words ≡ record v { own = storing_all v.own place words }
+storing_own v place [] = refl
+storing_own v place (word ∷ words) = storing_own (storing v place word) (place + 1) words
+
+-- so a caller that filled a row has filled it
+filled_so : (old new : Caller) (base : ℕ) (words : List ℕ)
+    → new ≡ record old {
+      seat = record old.seat { view = samples.storing_all old.seat.view base words };
+    }
+    → new ≡ filled_with old base words
+filled_so old new base words is =
+    is ∙ ap {B = Caller} (λ view. record old { seat = record old.seat { view = view } })
+    (storing_own old.seat.view base words)
+
+-- the result of filling both rows
+pub record HasFilledBoth (old new : Caller) (change leaf : ℕ) (row : ChangeRow) : Type 0 where
+  pub same : new ≡ with_own old new.seat.view.own
+  pub stored : StoredAll new.seat.view (rows_of (put_of leaf row) change)
+
+-- filling the leaf and then the change fills both rows
+pub both_filled : (old mid new : Caller) (change leaf : ℕ) (row : ChangeRow) → IsSound old.seat.view
+    → IsSound mid.seat.view → IsCaller old → IsCaller mid → HasBoth old change leaf
+    → mid ≡ record old {
+      seat = record old.seat {
+        view = samples.storing_all old.seat.view leaf (row.key ∷ row.value ∷ []);
+      };
+    }
+    → new ≡ record mid {
+      seat = record mid.seat {
+        view = samples.storing_all mid.seat.view change (words_of (ChangePiece row));
+      };
+    }
+    → HasFilledBoth old new change leaf row
+both_filled old mid new change leaf row s t c d has first second =
+    let words : List ℕ = row.key ∷ row.value ∷ [] in
+    let a = row_filled old mid Leaf leaf words s c has.leaf_is (omega arith)
+    (filled_so old mid leaf words first) in
+    let change_there = ap (λ (x : Caller). x.change) first ∙ has.change_is in
+    let leaf_there = ap (λ (x : Caller). x.leaf) first ∙ has.leaf_is in
+    let b = row_filled mid new Change change (words_of (ChangePiece row)) t d change_there
+    (omega arith) (filled_so mid new change (words_of (ChangePiece row)) second) in
+    record {
+      same = own_twice old mid new a.same b.same;
+      stored = (
+        b.stands,
+        (
+          stand_kept mid new change b.others
+              record { caller = mid.number; base = leaf; size = kind_words Leaf } refl
+              (d.rows Leaf leaf leaf_there)
+              (kinds_apart mid t d Leaf Change leaf change leaf_there change_there (omega arith))
+              words (omega arith) a.stands,
+          tt,
+        ),
+      );
+    }
+
+-- ---- the install
+
+-- a word still leaves room for the key as rows grow
+pub room_later : (t u : Snapshot) → AllGrow t.pieces u.pieces → (key word : ℕ)
+    → HasRoomFor t key word → HasRoomFor u key word
+room_later t u g key word (nothing e) = nothing e
+room_later t u g key word (same_key leaf e l) =
+    same_key leaf e record {
+      row = l.row;
+      published = leaf_there t.pieces u.pieces g leaf l.row l.published;
+      key_is = l.key_is;
+    }
+
+-- the put is filled for a slot of a node that was open, and may be installed
+pub put_filled : (old first mid new : Caller) (key value node index word change leaf : ℕ)
+    (row : ChangeRow) → IsAsked old (Put key value) → HasGone Prepares old first
+    → WasAt first.seat.view key node index word → HasRoomFor (now first.seat.view) key word
+    → IsUnrefused (now first.seat.view) first.number node → HasGone Prepares first mid
+    → HasBoth mid change leaf → IsGoodBase leaf
+    → row ≡ row_of_put key value node index word leaf mid.number → IsCaller new
+    → IsSound new.seat.view → new ≡ with_own mid new.seat.view.own
+    → StoredAll new.seat.view (rows_of (put_of leaf row) change)
+    → IsInstallable new.seat.view change (put_of leaf row)
+put_filled old first mid new key value node index word change leaf row asked gone at room unrefused
+    taken has good row_is c s same stored =
+    let planned = leaf_planned Prepares first mid taken.went
+    record { node = node; index = index; word = word; key = key } at change has.change_is value
+    leaf _ room has.leaf_is good refl row row_is in
+    (prepared old first mid new record { node = node; index = index; word = word; key = key } _ _
+    asked gone at unrefused taken planned c s same stored).installable
+
+-- whoever installed the put may help it
+pub late_helps : (v w : View) (number change leaf : ℕ) (row : ChangeRow) → v.who ≡ CallerOf number
+    → IsInstalled v change (put_of leaf row) w → MayHelp w change
+late_helps v w number change leaf row mine i =
+    let rows = rows_of (put_of leaf row) change in
+    let first = start i.before.start i.before.words in
+    let can : CanInstall first i.logged.before i.number change rows =
+    (subst IsSound i.logged.view i.logged.sound).lawful.enabled.1 in
+    record {
+      number = number;
+      mine = ap (λ (x : View). x.who) i.logged.view ∙ goes_on_who i.seen ∙ mine;
+      row = can.change;
+      installed = subst (λ t. t.pieces change ≡ Some (ChangePiece can.change))
+          (sym (ap now i.logged.view))
+          (installed_row i.before.start i.before.words i.logged.before i.number change rows can);
+    }

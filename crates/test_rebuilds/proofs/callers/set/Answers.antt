@@ -1,0 +1,19 @@
+use Rattle.ist_build.specs.Calls.{Builds}
+use Rattle.ist_rebuild.proofs.AbleLemmas.{built_helped}
+use Rattle.ist_rebuild.proofs.BuiltOutLemmas.{buildable_went}
+use Rattle.test_rebuilds.proofs.callers.set.Goals as goal
+
+pub returns-clause-able : goal.returns-clause-able
+returns-clause-able c =
+    (built_helped c.args.who.now c.set_root.new.who c.requires.able c.set_root.ensures.caller
+    c.set_root.ensures.refused c.set_root.ensures.number c.set_root.ensures.rows
+    c.set_root.ensures.went).able
+
+pub returns-clause-buildable : goal.returns-clause-buildable
+returns-clause-buildable c =
+    buildable_went Builds _ _ c.set_root.ensures.went c.args.rebuild c.requires.buildable
+
+pub returns-clause-started : goal.returns-clause-started
+returns-clause-started c =
+    (buildable_went Builds _ _ c.set_root.ensures.went c.args.rebuild
+    c.requires.buildable).told.started

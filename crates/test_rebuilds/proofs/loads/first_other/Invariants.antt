@@ -1,0 +1,12 @@
+use Rattle.std.proofs.Common.{◌≡◌}
+use Rattle.test_rebuilds.specs.Steps.{IsMarked}
+use Rattle.ist_rebuild.specs.Finishing.{IsAble}
+use Rattle.ist_rule.specs.Learning.{now}
+use Rattle.test_rebuilds.proofs.loads.first_other.Given as goal
+
+-- the seat is of the table, and the target is finished still
+abbrev pub invariant-loop-i : goal.invariant-loop-i
+invariant-loop-i l =
+    (l.who.seat.table ≡ l.table.table)
+    × IsAble l.who
+    × IsMarked (now l.who.seat.view) l.rebuild l.marked.target l.marked.keys

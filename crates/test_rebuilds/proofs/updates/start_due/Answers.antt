@@ -1,0 +1,15 @@
+use Rattle.test_rebuilds.proofs.updates.start_due.Goals as goal
+
+-- the caller may help
+pub returns-clause-able : goal.returns-clause-able
+returns-clause-able c =
+    let it = c.start.ensures in
+    record {
+      caller = it.caller;
+      refused = it.refused c.requires.due.refused;
+      quiet = it.quiet;
+    }
+
+-- what it has started
+pub returns-clause-started : goal.returns-clause-started
+returns-clause-started c rebuild is = (c.start.ensures.yes rebuild is).started

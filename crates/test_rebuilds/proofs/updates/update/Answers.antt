@@ -1,0 +1,19 @@
+use Rattle.ist_updates.specs.Asking.{command_for}
+use Rattle.test_rebuilds.proofs.UpdateLemmas.{ended_pass, may_end}
+use Rattle.test_rebuilds.proofs.updates.update.Goals as goal
+
+-- the call may end as it is answered
+pub end_call-requires : goal.end_call-requires
+end_call-requires c =
+    let done = c.in-Ok.ensures in (
+      done.same_table,
+      may_end c.args.who.now c.ask.new.who c.apply.new.who (command_for c.args.key c.args.value)
+          c.ask.ensures.sound c.requires.pass c.ask.ensures.begun c.ask.ensures.number done.went
+          done.number done.caller c.in-Ok.done.reply done.answered,
+    )
+
+-- and its caller is in none then
+pub returns-in-Ok-clause-pass : goal.returns-in-Ok-clause-pass
+returns-in-Ok-clause-pass c _ =
+    ended_pass c.apply.new.who c.end_call.new.seat _ c.in-Ok.ensures.caller c.in-Ok.ensures.refused
+    c.end_call.ensures.ended

@@ -1,0 +1,8 @@
+use Rattle.test_rebuilds.proofs.UpdateLemmas.{made_due}
+use Rattle.test_rebuilds.proofs.updates.update_due.Goals as goal
+
+-- the row that it made due may be rebuilt
+pub returns-in-Ok-clause-due : goal.returns-in-Ok-clause-due
+returns-in-Ok-clause-due c =
+    let done = c.in-Ok.ensures in
+    made_due c.ask.new.who c.apply.new.who _ done.caller done.refused done.quiet done.due

@@ -1,0 +1,175 @@
+//! Callers in a call, which start, mark, build and help rebuilds of what stands below the anchor.
+ghost use Rattle.std.specs.Prelude.{◌≡◌, ◌+◌, ◌<◌, ℕ, Ok, IfOk, IfSome};
+ghost use Rattle.ist_build.specs.Calls.{IsBuildable, IsRooted};
+ghost use Rattle.ist_core.specs.Enabled.{caller_limit};
+ghost use Rattle.ist_core.specs.Marking.{HasTarget};
+ghost use Rattle.ist_core.specs.Rebuilding.{IsStarted};
+ghost use Rattle.ist_core.specs.RowLayout.{anchor};
+ghost use Rattle.ist_core.specs.Slots.{SlotHolds};
+ghost use Rattle.test_rebuilds.specs.Steps.{IsMarked};
+ghost use Rattle.ist_rebuild.specs.declared.answers.Started.TheVariants.{Yes};
+ghost use Rattle.ist_rebuild.specs.Finishing.{IsAble};
+ghost use Rattle.ist_rebuild.specs.Starting.{MayStart};
+ghost use Rattle.ist_core.specs.declared.events.Who.TheVariants.{Maker};
+ghost use Rattle.ist_rule.specs.Learning.{now, GoesOnTo};
+
+use ist_build::{fill_parts, set_root};
+use ist_core::Full;
+use ist_layout::{ANCHOR, ANCHOR_SLOT_PLACE, REBUILD_TARGET_OFFSET, Ref};
+use ist_mark::mark_and_count;
+use ist_rebuild::{Helped, Started, help_rebuild, start};
+use ist_rows::{Caller, enter};
+use ist_rule::{TreeSeat, TreeTable, begin_call, know, load};
+
+/// A finished row, and how many keys it has.
+#[derive(Clone, Copy, Drop)]
+pub(crate) struct Marked {
+    pub(crate) target: u32,
+    pub(crate) keys: u64,
+}
+
+/// The next caller, in a call of its own.
+pub(crate) fn enter_call(table: &TreeTable, maker: &mut TreeSeat) -> Caller
+    requires same_table { maker.old.table ≡ table.now.table }
+    requires maker { maker.old.view.who ≡ Maker }
+    requires given { maker.old.view.given ≡ maker.old.view.made }
+    requires few { maker.old.view.made < caller_limit }
+    ensures able { IsAble result }
+    ensures same_table { result.seat.table ≡ table.now.table }
+    ensures maker_table { maker.new.table ≡ table.now.table }
+    ensures made { (maker.new.view.who ≡ Maker) × (maker.new.view.made ≡ maker.old.view.made + 1) }
+    ensures given { maker.new.view.given ≡ maker.new.view.made }
+{
+    let mut who = enter(table, maker);
+    know(&who.seat);
+    begin_call(table, &mut who.seat, None);
+    who
+}
+
+// Returns the word in the anchor's slot.
+fn slot_word(table: &TreeTable, who: &mut Caller) -> u64
+    requires same_table { who.old.seat.table ≡ table.now.table }
+    requires able { IsAble who.old }
+    ensures same_table { who.new.seat.table ≡ table.now.table }
+    ensures able { IsAble who.new }
+    ensures holds { SlotHolds (now who.new.seat.view) anchor 0 result }
+{
+    know(&who.seat);
+    load(table, &mut who.seat, ANCHOR_SLOT_PLACE)
+}
+
+// Returns the row that the rebuild will replace.
+fn target_of(table: &TreeTable, seat: &mut TreeSeat, rebuild: u32) -> u32
+    requires same_table { seat.old.table ≡ table.now.table }
+    requires started { IsStarted (now seat.old.view) rebuild }
+    ensures same_table { seat.new.table ≡ seat.old.table }
+    ensures seen { GoesOnTo seat.old.view seat.new.view }
+    ensures target { HasTarget (now seat.new.view) rebuild result }
+{
+    know(seat);
+    let target = load(table, seat, u64::from(rebuild) + REBUILD_TARGET_OFFSET);
+    know(seat);
+    target as u32
+}
+
+/// Returns the inner row below the anchor, if there is one: a rebuild of it may be started.
+pub(crate) fn see_row(table: &TreeTable, who: &mut Caller) -> Option<u32>
+    requires same_table { who.old.seat.table ≡ table.now.table }
+    requires able { IsAble who.old }
+    ensures same_table { who.new.seat.table ≡ table.now.table }
+    ensures able { IsAble who.new }
+    ensures may_start { IfSome result (MayStart who.new.seat.view anchor 0) }
+{
+    let word = slot_word(table, who);
+    know(&who.seat);
+    match Ref::from_word(word) {
+        Some(Ref::Inner { base }) => Some(base),
+        _ => None,
+    }
+}
+
+/// Starts a rebuild of the row that the caller has seen below the anchor.
+pub(crate) fn begin(table: &TreeTable, who: &mut Caller, target: u32) -> Result<Started, Full>
+    requires same_table { who.old.seat.table ≡ table.now.table }
+    requires able { IsAble who.old }
+    requires may_start { MayStart who.old.seat.view anchor 0 target }
+    ensures same_table { who.new.seat.table ≡ table.now.table }
+    ensures able { IsAble who.new }
+    ensures started { (rebuild : ℕ) → result ≡ Ok (Yes rebuild)
+        → IsStarted (now who.new.seat.view) rebuild }
+{
+    start(table, who, ANCHOR, 0, target)
+}
+
+/// Returns the rebuild below the anchor, if there is one.
+pub(crate) fn see_rebuild(table: &TreeTable, who: &mut Caller) -> Option<u32>
+    requires same_table { who.old.seat.table ≡ table.now.table }
+    requires able { IsAble who.old }
+    ensures same_table { who.new.seat.table ≡ table.now.table }
+    ensures able { IsAble who.new }
+    ensures started { IfSome result (IsStarted (now who.new.seat.view)) }
+{
+    let word = slot_word(table, who);
+    know(&who.seat);
+    match Ref::from_word(word) {
+        Some(Ref::Rebuild { base }) => Some(base),
+        _ => None,
+    }
+}
+
+/// Marks the target of the rebuild, and counts its keys.
+pub(crate) fn mark(table: &TreeTable, who: &mut Caller, rebuild: u32) -> Marked
+    requires same_table { who.old.seat.table ≡ table.now.table }
+    requires able { IsAble who.old }
+    requires started { IsStarted (now who.old.seat.view) rebuild }
+    ensures same_table { who.new.seat.table ≡ table.now.table }
+    ensures able { IsAble who.new }
+    ensures marked { IsMarked (now who.new.seat.view) rebuild result.target result.keys }
+    ensures started { IsStarted (now who.new.seat.view) rebuild }
+    ensures buildable { IsBuildable (now who.new.seat.view) rebuild }
+{
+    let target = target_of(table, &mut who.seat, rebuild);
+    let keys = mark_and_count(table, &mut who.seat, target);
+    Marked { target, keys }
+}
+
+/// Gives the rebuild its root.
+pub(crate) fn set(table: &TreeTable, who: &mut Caller, rebuild: u32) -> Result<Ref, Full>
+    requires same_table { who.old.seat.table ≡ table.now.table }
+    requires able { IsAble who.old }
+    requires buildable { IsBuildable (now who.old.seat.view) rebuild }
+    ensures same_table { who.new.seat.table ≡ table.now.table }
+    ensures able { IsAble who.new }
+    ensures buildable { IsBuildable (now who.new.seat.view) rebuild }
+    ensures started { IsStarted (now who.new.seat.view) rebuild }
+    ensures rooted { IfOk result (λ root. IsRooted (now who.new.seat.view) rebuild) }
+{
+    know(&who.seat);
+    set_root(table, who, rebuild)
+}
+
+/// Fills the parts of the rebuild's root.
+pub(crate) fn fill_all(table: &TreeTable, who: &mut Caller, rebuild: u32) -> Result<(), Full>
+    requires same_table { who.old.seat.table ≡ table.now.table }
+    requires able { IsAble who.old }
+    requires buildable { IsBuildable (now who.old.seat.view) rebuild }
+    requires rooted { IsRooted (now who.old.seat.view) rebuild }
+    ensures same_table { who.new.seat.table ≡ table.now.table }
+    ensures able { IsAble who.new }
+{
+    know(&who.seat);
+    fill_parts(table, who, rebuild)
+}
+
+/// Helps the rebuild until it is done.
+pub(crate) fn help_on(table: &TreeTable, who: &mut Caller, rebuild: u32) -> Result<Helped, Full>
+    requires same_table { who.old.seat.table ≡ table.now.table }
+    requires able { IsAble who.old }
+    requires started { IsStarted (now who.old.seat.view) rebuild }
+    ensures same_table { who.new.seat.table ≡ table.now.table }
+    ensures able { IsAble who.new }
+    ensures started { IsStarted (now who.new.seat.view) rebuild }
+{
+    know(&who.seat);
+    help_rebuild(table, who, rebuild)
+}

@@ -1,0 +1,92 @@
+//! Rebuilds of a row that holds two leaves, one, or none.
+ghost use Rattle.std.specs.Prelude.{◌≡◌};
+ghost use Rattle.ist_rebuild.specs.Finishing.{IsAble};
+ghost use Rattle.ist_tree.specs.Insides.{IsPass};
+
+use crate::callers::{begin, enter_call, help_on, mark, see_row};
+use crate::tables::{Opened, open_numbered, word_at};
+use crate::updates::{enter_idle, update_all};
+use ist_layout::Ref;
+use ist_rebuild::{Helped, Started};
+use ist_rows::Caller;
+use ist_rule::{TreeSeat, TreeTable};
+use ist_tree::OpenFault;
+use std::alloc::Global;
+use std::test::Fail;
+
+// What is seen of a rebuild: how many keys its finished target has, whether it was replaced, and
+// what is below the anchor then.
+#[derive(Clone, Copy, Debug, PartialEq, Eq, Drop)]
+struct Seen {
+    keys: u64,
+    replaced: bool,
+    below: Option<Ref>,
+}
+
+// Rebuilds the row over both pairs after these removes, which the first of the callers makes.
+fn see_in(
+    table: &TreeTable,
+    maker: &mut TreeSeat,
+    most: &mut Caller,
+    who: &mut Caller,
+    removes: &[(u64, Option<u64>)],
+) -> Option<Seen>
+    requires maker_table { maker.old.table ≡ table.now.table }
+    requires most_table { most.old.seat.table ≡ table.now.table }
+    requires most_pass { IsPass most.old }
+    requires same_table { who.old.seat.table ≡ table.now.table }
+    requires able { IsAble who.old }
+{
+    if !update_all(table, most, removes) {
+        return None;
+    }
+    let target = see_row(table, who)?;
+    let Ok(Started::Yes { rebuild }) = begin(table, who, target) else {
+        return None;
+    };
+    let marked = mark(table, who, rebuild);
+    let replaced = help_on(table, who, rebuild) == Ok(Helped::Replaced);
+    Some(Seen {
+        keys: marked.keys,
+        replaced,
+        below: Ref::from_word(word_at(table, maker, 3)),
+    })
+}
+
+// The same in a new table of the pairs (1, 1) and (2, 2).
+fn see(alloc: Global, removes: &[(u64, Option<u64>)]) -> Result<Option<Seen>, OpenFault> {
+    let Opened {
+        table,
+        mut maker,
+        ..
+    } = open_numbered(alloc, 2, 1_000)?;
+    let mut most = enter_idle(&table, &mut maker);
+    let mut who = enter_call(&table, &mut maker);
+    let seen = see_in(&table, &mut maker, &mut most, &mut who, removes);
+    Ok(seen)
+}
+
+#[test]
+fn a_row_of_one_leaf_is_replaced_by_it_and_one_of_none_by_nothing(
+    rt: HostRuntime,
+) -> Result<(), Fail> {
+    let none: &[(u64, Option<u64>)] = &[];
+    // the removes; how many keys are left, and what holds them: the leaves lie at 11 and at 13
+    let cases = [
+        (none, 2, Ref::Inner { base: 29 }),
+        (&[(2, None)], 1, Ref::Leaf { base: 11 }),
+        (&[(1, None)], 1, Ref::Leaf { base: 13 }),
+        (&[(1, None), (2, None)], 0, Ref::Empty),
+        (&[(2, None), (1, None)], 0, Ref::Empty),
+    ];
+    for (removes, keys, below) in cases {
+        let wanted = Seen {
+            keys,
+            replaced: true,
+            below: Some(below),
+        };
+        let seen = see(rt.alloc(), removes)?;
+        assert_eq!(rt; seen, Some(wanted), "{keys} keys");
+    }
+    Ok(())
+}

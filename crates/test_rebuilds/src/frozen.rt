@@ -1,0 +1,251 @@
+//! Rebuilds of a row whose slots hold pair rows, another rebuild, and the change of a put that came too late.
+ghost use Rattle.std.specs.Prelude.{◌≡◌, Some};
+ghost use Rattle.test_rebuilds.specs.Late.{IsFilled};
+ghost use Rattle.ist_core.specs.Rebuilding.{IsStarted};
+ghost use Rattle.ist_dcss.specs.declared.decisions.Installed.TheVariants.{Yes};
+ghost use Rattle.ist_dcss.specs.Helping.{MayHelp};
+ghost use Rattle.ist_rebuild.specs.Finishing.{IsAble};
+ghost use Rattle.ist_rule.specs.Learning.{now};
+ghost use Rattle.ist_tree.specs.Insides.{IsPass};
+
+use crate::callers::{enter_call, help_on, mark, see_rebuild};
+use crate::late::{LatePut, install_late, prepare};
+use crate::leaves::{are_few, are_pairs, part};
+use crate::shapes::{LAST, Shape, bring, map_of};
+use crate::shares::begin_top;
+use crate::tables::{Opened, all_words, are_alike, is_image, open, open_numbered, word_at};
+use crate::updates::enter_idle;
+use ist_core::Pair;
+use ist_dcss::{Decision, Installed, help};
+use ist_layout::Ref;
+use ist_rebuild::Helped;
+use ist_rows::Caller;
+use ist_rule::{TreeSeat, TreeTable};
+use ist_tree::OpenFault;
+use plain_map::Plain;
+use std::alloc::{AllocError, Global};
+use std::test::Fail;
+
+// What is seen of a rebuild: are the leaves below its finished target the map's leaves, is what is
+// built over them the ideal tree, was it replaced, and is the tree afterwards the ideal tree?
+#[derive(Clone, Copy, Debug, PartialEq, Eq, Drop)]
+struct Rebuilt {
+    leaves: bool,
+    part: bool,
+    replaced: bool,
+    whole: bool,
+}
+
+// What is seen of a tree of some shape: the tags of the first three slots at the moment of building, the
+// rebuild, and the result of the late put.
+#[derive(Clone, Copy, Debug, PartialEq, Eq, Drop)]
+struct Seen {
+    tags: (u64, u64, u64),
+    rebuilt: Rebuilt,
+    late: Option<Decision>,
+}
+
+// The tags of the first three slots of the row over all pairs, which lies at 4 and has 14 of them.
+fn tags(table: &TreeTable, seat: &mut TreeSeat) -> (u64, u64, u64)
+    requires same_table { seat.old.table ≡ table.now.table }
+    ensures same_table { seat.new.table ≡ table.now.table }
+{
+    (
+        word_at(table, seat, 21) % 8,
+        word_at(table, seat, 22) % 8,
+        word_at(table, seat, 23) % 8,
+    )
+}
+
+// What the builder finds: are the leaves below the finished target the pairs, and is what it builds over them
+// the tree of the image?
+fn build_over(
+    table: &TreeTable,
+    alloc: Global,
+    maker: &mut TreeSeat,
+    builder: &mut Caller,
+    pairs: &[Pair],
+    image: &[u64],
+) -> Result<(bool, bool), AllocError>
+    requires maker_table { maker.old.table ≡ table.now.table }
+    requires same_table { builder.old.seat.table ≡ table.now.table }
+    requires able { IsAble builder.old }
+    ensures maker_table { maker.new.table ≡ table.now.table }
+{
+    let Some(rebuild) = see_rebuild(table, builder) else {
+        return Ok((false, false));
+    };
+    let marked = mark(table, builder, rebuild);
+    let leaves = are_pairs(table, maker, builder, rebuild, marked, pairs);
+    if !are_few(marked.keys) {
+        return Ok((leaves, false));
+    }
+    let Ok(Ref::Inner { base }) = part(table, builder, rebuild, marked) else {
+        return Ok((leaves, false));
+    };
+    let words = all_words(alloc, table, maker)?;
+    let roots = (*image.get(3).unwrap_or(&0), u64::from(base) * 8 + 2);
+    Ok((leaves, are_alike(alloc, image, words.as_slice(), roots)?))
+}
+
+// Helps the late put, if it was installed.
+fn end_late(
+    table: &TreeTable,
+    who: &mut Caller,
+    put: LatePut,
+    installed: Option<Installed>,
+) -> Option<Decision>
+    requires same_table { who.old.seat.table ≡ table.now.table }
+    requires helped { installed ≡ Some Yes → MayHelp who.old.seat.view put.change }
+{
+    match installed {
+        Some(Installed::Yes) => Some(help(table, &mut who.seat, put.change)),
+        _ => None,
+    }
+}
+
+// The builder builds a tree of its own over the leaves, and the helper helps the rebuild until it
+// is done.
+fn rebuild_over(
+    table: &TreeTable,
+    alloc: Global,
+    maker: &mut TreeSeat,
+    helper: &mut Caller,
+    builder: &mut Caller,
+    rebuild: u32,
+    map: &Plain,
+) -> Result<Rebuilt, OpenFault>
+    requires maker_table { maker.old.table ≡ table.now.table }
+    requires helper_table { helper.old.seat.table ≡ table.now.table }
+    requires helper { IsAble helper.old }
+    requires started { IsStarted (now helper.old.seat.view) rebuild }
+    requires builder_table { builder.old.seat.table ≡ table.now.table }
+    requires builder { IsAble builder.old }
+{
+    let pairs = map.pairs();
+    let image = open(alloc, pairs, 20_000)?.image;
+    let image = image.as_slice();
+    let (leaves, part) = build_over(table, alloc, maker, builder, pairs, image)?;
+    let replaced = help_on(table, helper, rebuild) == Ok(Helped::Replaced);
+    Ok(Rebuilt {
+        leaves,
+        part,
+        replaced,
+        whole: is_image(alloc, table, maker, image)?,
+    })
+}
+
+// Installs the late put, if there is one.
+fn may_install(table: &TreeTable, who: &mut Caller, put: LatePut, late: bool) -> Option<Installed>
+    requires same_table { who.old.seat.table ≡ table.now.table }
+    requires filled { IsFilled who.old put.change put.leaf put.row }
+    ensures same_table { who.new.seat.table ≡ table.now.table }
+    ensures may_help { result ≡ Some Yes → MayHelp who.new.seat.view put.change }
+{
+    if late {
+        Some(install_late(table, who, put))
+    } else {
+        None
+    }
+}
+
+// Rebuilds a tree of this shape.
+fn see_in(
+    table: &TreeTable,
+    alloc: Global,
+    maker: &mut TreeSeat,
+    last: &mut Caller,
+    helper: &mut Caller,
+    builder: &mut Caller,
+    shape: Shape,
+) -> Result<Option<Seen>, OpenFault>
+    requires maker_table { maker.old.table ≡ table.now.table }
+    requires last_table { last.old.seat.table ≡ table.now.table }
+    requires last_pass { IsPass last.old }
+    requires helper_table { helper.old.seat.table ≡ table.now.table }
+    requires helper_able { IsAble helper.old }
+    requires builder_table { builder.old.seat.table ≡ table.now.table }
+    requires builder_able { IsAble builder.old }
+{
+    let Some(put) = prepare(table, last, 31, 9) else {
+        return Ok(None);
+    };
+    let Some(rebuild) = begin_top(table, helper) else {
+        return Ok(None);
+    };
+    mark(table, helper, rebuild);
+    let installed = may_install(table, last, put, shape.late);
+    let tags = tags(table, maker);
+    let map = map_of(alloc, shape)?;
+    Ok(Some(Seen {
+        tags,
+        rebuilt: rebuild_over(table, alloc, maker, helper, builder, rebuild, &map)?,
+        late: end_late(table, last, put, installed),
+    }))
+}
+
+// The same in a new table, which is brought into the shape.
+fn see(alloc: Global, shape: Shape) -> Result<Option<Seen>, OpenFault> {
+    let Opened {
+        table,
+        mut maker,
+        ..
+    } = open_numbered(alloc, LAST, 20_000)?;
+    let mut most = enter_idle(&table, &mut maker);
+    let mut one = enter_idle(&table, &mut maker);
+    let mut two = enter_idle(&table, &mut maker);
+    let mut three = enter_idle(&table, &mut maker);
+    let mut last = enter_idle(&table, &mut maker);
+    let mut helper = enter_call(&table, &mut maker);
+    let mut builder = enter_call(&table, &mut maker);
+    match bring(
+        &table, alloc, &mut most, &mut one, &mut two, &mut three, shape,
+    ) {
+        Ok(true) => see_in(
+            &table,
+            alloc,
+            &mut maker,
+            &mut last,
+            &mut helper,
+            &mut builder,
+            shape,
+        ),
+        Ok(false) => Ok(None),
+        Err(fault) => Err(fault),
+    }
+}
+
+#[test]
+fn a_rebuild_has_the_leaves_of_the_map_whatever_stands_in_the_slots(
+    rt: HostRuntime,
+) -> Result<(), Fail> {
+    // how many pair rows in the first slot, whether a rebuild in the second, whether a late change in the
+    // third; the tags of these slots: 1 a leaf, 2 a row, 3 a change, 4 a rebuild
+    let cases = [
+        (0, false, false, (1, 2, 1)),
+        (1, false, false, (2, 2, 1)),
+        (2, false, false, (2, 2, 1)),
+        (0, true, false, (1, 4, 1)),
+        (0, false, true, (1, 2, 3)),
+        (2, true, true, (2, 4, 3)),
+    ];
+    for (chain, rebuilt, late, tags) in cases {
+        let shape = Shape {
+            chain,
+            rebuilt,
+            late,
+        };
+        let wanted = Seen {
+            tags,
+            rebuilt: Rebuilt {
+                leaves: true,
+                part: true,
+                replaced: true,
+                whole: true,
+            },
+            late: if late { Some(Decision::No) } else { None },
+        };
+        assert_eq!(rt; see(rt.alloc(), shape)?, Some(wanted), "{shape:?}");
+    }
+    Ok(())
+}

@@ -1,0 +1,250 @@
+//! Puts whose change is filled while the node is open, and installed whenever the test says.
+ghost use Rattle.std.specs.Prelude.{◌≡◌, true, ℕ, Some, None, IfOk, IfSome};
+ghost use Rattle.test_rebuilds.specs.Late.{put_of, row_of_put, HasBoth, HasWalked, IsFilled, WasAt};
+ghost use Rattle.ist_core.specs.declared.commands.Command.TheVariants.{Put};
+ghost use Rattle.ist_core.specs.Installing.{HasRoomFor, IsLeafOf};
+ghost use Rattle.ist_core.specs.References.{ref_of, InnerAt, IsGoodBase};
+ghost use Rattle.ist_dcss.specs.declared.decisions.Installed.TheVariants.{Yes};
+ghost use Rattle.ist_dcss.specs.Helping.{MayHelp};
+ghost use Rattle.ist_dcss.specs.Installing.{rows_of, Filling};
+ghost use Rattle.ist_find.specs.Searches.{SeesLeaf};
+ghost use Rattle.ist_rows.specs.declared.callers.Caller.{Caller};
+ghost use Rattle.ist_rows.specs.Building.{HasRefused};
+ghost use Rattle.ist_rows.specs.Rows.{IsCaller, row_of, spares_of, with_row};
+ghost use Rattle.ist_rule.specs.Conditions.{StoredAll};
+ghost use Rattle.ist_rule.specs.Learning.{now, GoesOnTo};
+ghost use Rattle.ist_tree.specs.Insides.{IsPass};
+ghost use Rattle.ist_updates.specs.Asking.{IsAsked};
+ghost use Rattle.ist_updates.specs.Changing.{HasGone, Prepares};
+ghost use Rattle.ist_updates.specs.Filling.{with_own};
+ghost use Rattle.ist_updates.specs.Trying.{IsAtSlot};
+
+use crate::updates::ask;
+use ist_core::{ChangeRow, Full};
+use ist_dcss::{Installed, install, is_open};
+use ist_find::step_down;
+use ist_layout::{ANCHOR, LEAF_KEY_OFFSET, PUT_KIND, Ref, UNDECIDED};
+use ist_rows::{Caller, Kind, reserve};
+use ist_rule::{TreeSeat, TreeTable, begin_search, know, load};
+use test_samples::fill_row;
+
+/// A slot of a row below the anchor, and the word that it held.
+#[derive(Clone, Copy, Drop)]
+pub(crate) struct Slot {
+    pub(crate) node: u32,
+    pub(crate) index: u64,
+    pub(crate) word: u64,
+}
+
+/// A put's change, with the bases of its row and of its leaf.
+#[derive(Clone, Copy, Drop)]
+pub(crate) struct LatePut {
+    pub(crate) change: u32,
+    pub(crate) leaf: u32,
+    pub(crate) row: ChangeRow,
+}
+
+// Returns the inner row that the word names, if it names one.
+fn inner_in(word: u64) -> Option<u32>
+    ensures inner { (base : ℕ) → result ≡ Some base → ref_of word ≡ Some (InnerAt base) }
+    ensures no_inner { result ≡ None → (base : ℕ) → ¬ (ref_of word ≡ Some (InnerAt base)) }
+{
+    match Ref::from_word(word) {
+        Some(Ref::Inner { base }) => Some(base),
+        _ => None,
+    }
+}
+
+// Walks to the slot of the key in the row below the anchor, if there is such a row, and no row
+// below it.
+fn walk(table: &TreeTable, seat: &mut TreeSeat, key: u64) -> Option<Slot>
+    requires same_table { seat.old.table ≡ table.now.table }
+    ensures same_table { seat.new.table ≡ table.now.table }
+    ensures walked { IfSome result (λ slot.
+        HasWalked seat.old.view key slot.node slot.index slot.word seat.new.view) }
+{
+    know(seat);
+    begin_search(table, seat);
+    let top = step_down(table, seat, ANCHOR, key);
+    let Some(node) = inner_in(top.word) else {
+        return None;
+    };
+    let child = step_down(table, seat, node, key);
+    match inner_in(child.word) {
+        Some(_) => None,
+        None => Some(Slot {
+            node,
+            index: child.index,
+            word: child.word,
+        }),
+    }
+}
+
+// Returns the key of the leaf at the base.
+fn leaf_key(table: &TreeTable, seat: &mut TreeSeat, base: u32) -> u64
+    requires same_table { seat.old.table ≡ table.now.table }
+    requires leaf { SeesLeaf seat.old.view base }
+    ensures same_table { seat.new.table ≡ table.now.table }
+    ensures seen { GoesOnTo seat.old.view seat.new.view }
+    ensures key { IsLeafOf (now seat.new.view) base result }
+{
+    know(seat);
+    load(table, seat, u64::from(base) + LEAF_KEY_OFFSET)
+}
+
+// Returns whether the slot held a leaf of the key.
+fn has_leaf(table: &TreeTable, seat: &mut TreeSeat, slot: Slot, key: u64) -> bool
+    requires same_table { seat.old.table ≡ table.now.table }
+    requires at { IsAtSlot seat.old.view key slot.node slot.index slot.word }
+    ensures same_table { seat.new.table ≡ table.now.table }
+    ensures seen { GoesOnTo seat.old.view seat.new.view }
+    ensures room { result ≡ true → HasRoomFor (now seat.new.view) key slot.word }
+{
+    know(seat);
+    let Some(Ref::Leaf { base }) = Ref::from_word(slot.word) else {
+        return false;
+    };
+    let found = leaf_key(table, seat, base);
+    if found != key {
+        return false;
+    }
+    true
+}
+
+// Returns the row of this kind that the caller holds, or a fresh one.
+fn take(table: &TreeTable, who: &mut Caller, kind: Kind) -> Result<u32, Full>
+    requires same_table { who.old.seat.table ≡ table.now.table }
+    requires caller { IsCaller who.old }
+    requires refused { HasRefused who.old }
+    ensures same_table { who.new.seat.table ≡ table.now.table }
+    ensures gone { HasGone Prepares who.old who.new }
+    ensures held { IfOk result (λ base. row_of kind (spares_of who.new) ≡ Some base) }
+    ensures rows { IfOk result (λ base.
+        spares_of who.new ≡ with_row kind base (spares_of who.old)) }
+{
+    know(&who.seat);
+    let taken = reserve(table, who, kind);
+    know(&who.seat);
+    taken
+}
+
+// Takes the rows of a put of a leaf into the slot, and returns what to fill them with.
+fn plan(
+    table: &TreeTable,
+    who: &mut Caller,
+    slot: Slot,
+    key: u64,
+    value: u64,
+) -> Result<LatePut, Full>
+    requires same_table { who.old.seat.table ≡ table.now.table }
+    requires caller { IsCaller who.old }
+    requires refused { HasRefused who.old }
+    ensures same_table { who.new.seat.table ≡ table.now.table }
+    ensures gone { IfOk result (λ put. HasGone Prepares who.old who.new) }
+    ensures rows { IfOk result (λ put. HasBoth who.new put.change put.leaf) }
+    ensures good { IfOk result (λ put. IsGoodBase put.leaf) }
+    ensures row { IfOk result (λ put. put.row
+        ≡ row_of_put key value slot.node slot.index slot.word put.leaf who.new.number) }
+{
+    let leaf = take(table, who, Kind::Leaf)?;
+    let change = take(table, who, Kind::Change)?;
+    let row = ChangeRow {
+        decision: UNDECIDED,
+        kind: PUT_KIND,
+        node: u64::from(slot.node),
+        index: slot.index,
+        from: slot.word,
+        to: Ref::Leaf { base: leaf }.to_word(),
+        owner: u64::from(who.number),
+        key,
+        value,
+    };
+    Ok(LatePut { change, leaf, row })
+}
+
+// Fills both rows of the put.
+fn fill_both(table: &TreeTable, who: &mut Caller, put: LatePut)
+    requires same_table { who.old.seat.table ≡ table.now.table }
+    requires caller { IsCaller who.old }
+    requires rows { HasBoth who.old put.change put.leaf }
+    ensures same_table { who.new.seat.table ≡ table.now.table }
+    ensures caller { IsCaller who.new }
+    ensures same { who.new ≡ with_own who.old who.new.seat.view.own }
+    ensures stored { StoredAll who.new.seat.view
+        (rows_of (put_of put.leaf put.row) put.change) }
+{
+    know(&who.seat);
+    let row = put.row;
+    fill_row(table, who, Kind::Leaf, put.leaf, &[row.key, row.value]);
+    know(&who.seat);
+    let words = [
+        row.decision,
+        row.kind,
+        row.node,
+        row.index,
+        row.from,
+        row.to,
+        row.owner,
+        row.key,
+        row.value,
+    ];
+    fill_row(table, who, Kind::Change, put.change, &words);
+}
+
+// Reads the status of the node, and if it is open fills a put's change for its slot.
+fn fill_for(
+    table: &TreeTable,
+    who: &mut Caller,
+    slot: Slot,
+    key: u64,
+    value: u64,
+) -> Option<LatePut>
+    requires same_table { who.old.seat.table ≡ table.now.table }
+    requires asked { IsAsked who.old (Put key value) }
+    requires at_slot { WasAt who.old.seat.view key slot.node slot.index slot.word }
+    requires room { HasRoomFor (now who.old.seat.view) key slot.word }
+    ensures same_table { who.new.seat.table ≡ table.now.table }
+    ensures filled { IfSome result (λ put. IsFilled who.new put.change put.leaf put.row) }
+{
+    if !is_open(table, &mut who.seat, slot.node) {
+        return None;
+    }
+    let Ok(put) = plan(table, who, slot, key, value) else {
+        return None;
+    };
+    fill_both(table, who, put);
+    know(&who.seat);
+    Some(put)
+}
+
+/// Begins a put of the value at the key, whose leaf is in a slot of the row below the anchor. Makes all
+/// steps before the install, and no further step.
+pub(crate) fn prepare(table: &TreeTable, who: &mut Caller, key: u64, value: u64) -> Option<LatePut>
+    requires same_table { who.old.seat.table ≡ table.now.table }
+    requires pass { IsPass who.old }
+    ensures same_table { who.new.seat.table ≡ table.now.table }
+    ensures filled { IfSome result (λ put. IsFilled who.new put.change put.leaf put.row) }
+{
+    ask(table, who, key, Some(value));
+    let Some(slot) = walk(table, &mut who.seat, key) else {
+        return None;
+    };
+    know(&who.seat);
+    if !has_leaf(table, &mut who.seat, slot, key) {
+        return None;
+    }
+    fill_for(table, who, slot, key, value)
+}
+
+/// Installs the change.
+pub(crate) fn install_late(table: &TreeTable, who: &mut Caller, put: LatePut) -> Installed
+    ghost filling: { Filling }
+    requires same_table { who.old.seat.table ≡ table.now.table }
+    requires is_put { filling ≡ put_of put.leaf put.row }
+    requires filled { IsFilled who.old put.change put.leaf put.row }
+    ensures same_table { who.new.seat.table ≡ table.now.table }
+    ensures may_help { result ≡ Yes → MayHelp who.new.seat.view put.change }
+{
+    know(&who.seat);
+    install(table, &mut who.seat, put.change)
+}

@@ -1,0 +1,92 @@
+//! How many words are loaded on the way to a leaf of a large finished row.
+ghost use Rattle.std.specs.Prelude.{◌≡◌, ◌<◌};
+ghost use Rattle.test_rebuilds.specs.Steps.{IsMarked};
+ghost use Rattle.ist_rebuild.specs.Finishing.{IsAble};
+ghost use Rattle.ist_rule.specs.Learning.{now};
+
+use crate::callers::{Marked, enter_call, mark};
+use crate::shares::begin_top;
+use crate::tables::{Opened, open_numbered};
+use ist_build::leaf_and_loads;
+use ist_rows::Caller;
+use ist_rule::{TreeTable, know};
+use ist_tree::OpenFault;
+use std::alloc::Global;
+use std::test::Fail;
+
+// How many words are loaded on the way to the leaf number `i` of the finished target.
+fn loads_to(table: &TreeTable, who: &mut Caller, rebuild: u32, marked: Marked, i: u64) -> u64
+    requires same_table { who.old.seat.table ≡ table.now.table }
+    requires able { IsAble who.old }
+    requires marked { IsMarked (now who.old.seat.view) rebuild marked.target marked.keys }
+    requires within { i < marked.keys }
+    ensures same_table { who.new.seat.table ≡ table.now.table }
+    ensures able { IsAble who.new }
+    ensures marked { IsMarked (now who.new.seat.view) rebuild marked.target marked.keys }
+{
+    know(&who.seat);
+    leaf_and_loads(table, &mut who.seat, marked.target, i).1
+}
+
+// Returns the first of these leaves for which a different number of words is loaded, or which isn't
+// there.
+fn first_other(
+    table: &TreeTable,
+    who: &mut Caller,
+    rebuild: u32,
+    marked: Marked,
+    cases: &[(u64, u64)],
+) -> Option<u64>
+    requires same_table { who.old.seat.table ≡ table.now.table }
+    requires able { IsAble who.old }
+    requires marked { IsMarked (now who.old.seat.view) rebuild marked.target marked.keys }
+{
+    for (i, loads) in cases {
+        if *i >= marked.keys {
+            return Some(*i);
+        }
+        if loads_to(table, who, rebuild, marked, *i) != *loads {
+            return Some(*i);
+        }
+    }
+    None
+}
+
+// Returns how many keys the finished target has, and the first of these leaves for which a
+// different number of words is loaded, in a rebuild of what is below the anchor.
+fn see_in(table: &TreeTable, who: &mut Caller, cases: &[(u64, u64)]) -> Option<(u64, Option<u64>)>
+    requires same_table { who.old.seat.table ≡ table.now.table }
+    requires able { IsAble who.old }
+{
+    let rebuild = begin_top(table, who)?;
+    let marked = mark(table, who, rebuild);
+    Some((marked.keys, first_other(table, who, rebuild, marked, cases)))
+}
+
+// The same in a new table of 100,000 pairs.
+fn see(alloc: Global, cases: &[(u64, u64)]) -> Result<Option<(u64, Option<u64>)>, OpenFault> {
+    let Opened {
+        table,
+        mut maker,
+        ..
+    } = open_numbered(alloc, 100_000, 2_000_000)?;
+    let mut who = enter_call(&table, &mut maker);
+    let seen = see_in(&table, &mut who, cases);
+    Ok(seen)
+}
+
+#[test]
+fn a_frozen_leaf_is_reached_by_one_child_a_row(rt: HostRuntime) -> Result<(), Fail> {
+    // the leaf's number, and the words: of each row on its way the degree, and of each slot up to
+    // the leaf's slot its word, and the finished count of a row below it
+    let cases = [
+        (0, 17),
+        (1, 18),
+        (316, 55),
+        (317, 19),
+        (50_000, 357),
+        (99_999, 685),
+    ];
+    assert_eq!(rt; see(rt.alloc(), &cases)?, Some((100_000, None)));
+    Ok(())
+}

@@ -1,0 +1,191 @@
+//! A put that read its node as open, and is installed once the node is marked.
+ghost use Rattle.std.specs.Prelude.{◌≡◌};
+ghost use Rattle.test_rebuilds.specs.Late.{IsFilled};
+ghost use Rattle.ist_tree.specs.Insides.{IsPass};
+ghost use Rattle.ist_rebuild.specs.Finishing.{IsAble};
+
+use crate::callers::{begin, enter_call, help_on, mark, see_rebuild, see_row};
+use crate::late::{LatePut, install_late, prepare};
+use crate::tables::{Opened, open, word_at};
+use crate::updates::{enter_idle, start_due, update_all, update_due};
+use ist_core::{Full, Pair};
+use ist_dcss::{Decision, Installed, help};
+use ist_layout::{ANCHOR, DECIDED_NO, Ref};
+use ist_rebuild::{Helped, Started};
+use ist_rows::Caller;
+use ist_rule::{TreeSeat, TreeTable};
+use ist_tree::OpenFault;
+use ist_updates::Due;
+use std::alloc::Global;
+use std::test::Fail;
+
+const TEN: Pair = Pair { key: 10, value: 1 };
+
+const TWENTY: Pair = Pair { key: 20, value: 2 };
+
+// The first seven of eight puts at the key 10.
+const SEVEN: [(u64, Option<u64>); 7] = [
+    (10, Some(1)),
+    (10, Some(2)),
+    (10, Some(3)),
+    (10, Some(4)),
+    (10, Some(5)),
+    (10, Some(6)),
+    (10, Some(7)),
+];
+
+// What is seen if the key 10 is put eight times, one caller then starts the rebuild of the row over
+// both pairs, another tries to, a third marks the row, and a fourth installs its put after that and
+// helps it. The row's status and count were read between the marking and the late put.
+#[derive(Clone, Copy, Debug, PartialEq, Eq, Drop)]
+struct Seen {
+    due: Due,
+    started: Result<Started, Full>,
+    other: Result<Started, Full>,
+    keys: u64,
+    row: (u64, u64),
+    late: Late,
+    helped: Result<Helped, Full>,
+}
+
+// What became of the late put: after the install its slot holds the change, and after the help the word
+// that it held before.
+#[derive(Clone, Copy, Debug, PartialEq, Eq, Drop)]
+struct Late {
+    installed: bool,
+    stands: bool,
+    decision: Option<Decision>,
+    decided: u64,
+    is_as_before: bool,
+}
+
+// The status and the count of the row over both pairs.
+fn top_words(table: &TreeTable, seat: &mut TreeSeat) -> (u64, u64)
+    requires same_table { seat.old.table ≡ table.now.table }
+    ensures same_table { seat.new.table ≡ table.now.table }
+{
+    (word_at(table, seat, 4), word_at(table, seat, 5))
+}
+
+// Installs the put into the slot at the place, and helps it.
+fn put_late(
+    table: &TreeTable,
+    maker: &mut TreeSeat,
+    who: &mut Caller,
+    put: LatePut,
+    place: u64,
+) -> Late
+    requires same_table { who.old.seat.table ≡ table.now.table }
+    requires maker_table { maker.old.table ≡ table.now.table }
+    requires filled { IsFilled who.old put.change put.leaf put.row }
+    ensures maker_table { maker.new.table ≡ table.now.table }
+{
+    let before = word_at(table, maker, place);
+    let installed = install_late(table, who, put);
+    let between = word_at(table, maker, place);
+    let decision = match installed {
+        Installed::Yes => Some(help(table, &mut who.seat, put.change)),
+        Installed::Other(_) => None,
+    };
+    Late {
+        installed: installed == Installed::Yes,
+        // the word of a change is its base, eight times, and 3
+        stands: between == u64::from(put.change) * 8 + 3,
+        decision,
+        decided: word_at(table, maker, u64::from(put.change)),
+        is_as_before: word_at(table, maker, place) == before,
+    }
+}
+
+// The same in a table of both pairs, with the late put at a key whose slot lies at a place: both are given.
+fn see_in(
+    table: &TreeTable,
+    maker: &mut TreeSeat,
+    first: &mut Caller,
+    second: &mut Caller,
+    third: &mut Caller,
+    fourth: &mut Caller,
+    at: (u64, u64),
+) -> Option<Seen>
+    requires maker_table { maker.old.table ≡ table.now.table }
+    requires first_table { first.old.seat.table ≡ table.now.table }
+    requires second_table { second.old.seat.table ≡ table.now.table }
+    requires third_table { third.old.seat.table ≡ table.now.table }
+    requires fourth_table { fourth.old.seat.table ≡ table.now.table }
+    requires first_pass { IsPass first.old }
+    requires second_able { IsAble second.old }
+    requires third_able { IsAble third.old }
+    requires fourth_pass { IsPass fourth.old }
+{
+    let target = see_row(table, second)?;
+    if !update_all(table, first, &SEVEN) {
+        return None;
+    }
+    let due = update_due(table, first, 10, Some(8))?;
+    let put = prepare(table, fourth, at.0, 9)?;
+    let started = start_due(table, first, due);
+    let other = begin(table, second, target);
+    let rebuild = see_rebuild(table, third)?;
+    let marked = mark(table, third, rebuild);
+    Some(Seen {
+        due,
+        started,
+        other,
+        keys: marked.keys,
+        row: top_words(table, maker),
+        late: put_late(table, maker, fourth, put, at.1),
+        helped: help_on(table, third, rebuild),
+    })
+}
+
+// The same from a new table on.
+fn see(alloc: Global, key: u64, place: u64) -> Result<Option<Seen>, OpenFault> {
+    let Opened {
+        table,
+        mut maker,
+        ..
+    } = open(alloc, &[TEN, TWENTY], 1000)?;
+    let mut first = enter_idle(&table, &mut maker);
+    let mut fourth = enter_idle(&table, &mut maker);
+    let mut second = enter_call(&table, &mut maker);
+    let mut third = enter_call(&table, &mut maker);
+    let seen = see_in(
+        &table,
+        &mut maker,
+        &mut first,
+        &mut second,
+        &mut third,
+        &mut fourth,
+        (key, place),
+    );
+    Ok(seen)
+}
+
+#[test]
+fn a_put_that_is_installed_behind_a_marking_is_decided_no(rt: HostRuntime) -> Result<(), Fail> {
+    // Eight puts took 88 words after the 15 of the opening, and the late one 11.
+    let wanted = Seen {
+        due: Due {
+            parent: ANCHOR,
+            index: 0,
+            target: 4,
+        },
+        started: Ok(Started::Yes { rebuild: 114 }),
+        other: Ok(Started::Other(Ref::Rebuild { base: 114 }.to_word())),
+        keys: 2,
+        row: (11, 8),
+        late: Late {
+            installed: true,
+            stands: true,
+            decision: Some(Decision::No),
+            decided: DECIDED_NO,
+            is_as_before: true,
+        },
+        helped: Ok(Helped::Replaced),
+    };
+    // the key of the late put, the place of its slot
+    for (key, place) in [(10, 9), (20, 10)] {
+        assert_eq!(rt; see(rt.alloc(), key, place)?, Some(wanted), "key {key}");
+    }
+    Ok(())
+}

@@ -1,0 +1,217 @@
+//! Two callers that build a root for one rebuild, one after another: the first one's is set, and
+//! the other caller loses its row.
+ghost use Rattle.std.specs.Prelude.{◌≡◌, ◌+◌, IfSome};
+ghost use Rattle.test_rebuilds.specs.Races.{racing, HasBuilt};
+ghost use Rattle.test_rebuilds.specs.Steps.{IsMarked};
+ghost use Rattle.ist_core.specs.Rebuilding.{IsStarted};
+ghost use Rattle.ist_core.specs.References.{unset_word};
+ghost use Rattle.ist_core.specs.RowLayout.{rebuild_root_offset};
+ghost use Rattle.ist_rebuild.specs.Finishing.{IsAble};
+ghost use Rattle.ist_rule.specs.Learning.{now, ExchangedOrLost};
+
+use crate::callers::{Marked, enter_call, help_on, mark, see_rebuild, set};
+use crate::shares::begin_top;
+use crate::tables::{Opened, all_words, are_alike, open_numbered};
+use ist_build::build_part;
+use ist_layout::{REBUILD_ROOT_OFFSET, Ref};
+use ist_rebuild::Helped;
+use ist_rows::Caller;
+use ist_rule::{TreeSeat, TreeTable, exchange_or_lose, know, load};
+use ist_tree::OpenFault;
+use std::alloc::Global;
+use std::test::Fail;
+
+// Builds the root over two keys, in a row of the caller's own, and then looks whether the rebuild
+// has a root. If it has none yet, returns the word of what was built.
+fn build(table: &TreeTable, who: &mut Caller, rebuild: u32, marked: Marked) -> Option<u64>
+    requires same_table { who.old.seat.table ≡ table.now.table }
+    requires able { IsAble who.old }
+    requires marked { IsMarked (now who.old.seat.view) rebuild marked.target marked.keys }
+    ensures same_table { who.new.seat.table ≡ table.now.table }
+    ensures built { IfSome result (HasBuilt who.new.seat.view who.new.number rebuild) }
+{
+    know(&who.seat);
+    if marked.keys != 2 {
+        return None;
+    }
+    let Ok(root) = build_part(table, who, marked.target, 0, 2) else {
+        return None;
+    };
+    let word = root.to_word();
+    know(&who.seat);
+    let stood = load(
+        table,
+        &mut who.seat,
+        u64::from(rebuild) + REBUILD_ROOT_OFFSET,
+    );
+    if stood != Ref::Unset.to_word() {
+        return None;
+    }
+    Some(word)
+}
+
+// Gives the rebuild the root that was built, if it has none, and otherwise loses the row. Returns
+// the word found there.
+fn root_or_lose(table: &TreeTable, who: &mut Caller, rebuild: u32, word: u64) -> u64
+    requires same_table { who.old.seat.table ≡ table.now.table }
+    requires built { HasBuilt who.old.seat.view who.old.number rebuild word }
+    ensures same_table { who.new.seat.table ≡ table.now.table }
+    ensures rooted_or_lost { let v = who.old.seat.view in
+        let place = rebuild + rebuild_root_offset in
+        let events = racing v place word in
+        ExchangedOrLost v events.0 events.1 place unset_word result who.new.seat.view }
+{
+    know(&who.seat);
+    let place = u64::from(rebuild) + REBUILD_ROOT_OFFSET;
+    // Root, or the Lose of the row. Meets the other caller's Root.
+    exchange_or_lose(table, &mut who.seat, place, Ref::Unset.to_word(), word)
+}
+
+// What two callers built, and the word that each then found at the root's place.
+#[derive(Clone, Copy, Debug, PartialEq, Eq, Drop)]
+struct Raced {
+    built: (u64, u64),
+    found: (u64, u64),
+}
+
+// Each of the two builds a root for the rebuild; then the first tries to set its root, and then the
+// second.
+fn race(
+    table: &TreeTable,
+    first: &mut Caller,
+    second: &mut Caller,
+    rebuild: u32,
+    again: u32,
+) -> Option<Raced>
+    requires first_table { first.old.seat.table ≡ table.now.table }
+    requires second_table { second.old.seat.table ≡ table.now.table }
+    requires first_able { IsAble first.old }
+    requires second_able { IsAble second.old }
+    requires first_started { IsStarted (now first.old.seat.view) rebuild }
+    requires second_started { IsStarted (now second.old.seat.view) again }
+{
+    let marked = mark(table, first, rebuild);
+    let Some(left) = build(table, first, rebuild, marked) else {
+        return None;
+    };
+    let marked = mark(table, second, again);
+    let Some(right) = build(table, second, again, marked) else {
+        return None;
+    };
+    let stood = root_or_lose(table, first, rebuild, left);
+    let lost = root_or_lose(table, second, again, right);
+    Some(Raced {
+        built: (left, right),
+        found: (stood, lost),
+    })
+}
+
+// Returns the root that the rebuild has, and whether the root then replaces the target.
+fn end(table: &TreeTable, who: &mut Caller, rebuild: u32) -> (Option<Ref>, bool)
+    requires same_table { who.old.seat.table ≡ table.now.table }
+    requires able { IsAble who.old }
+    requires started { IsStarted (now who.old.seat.view) rebuild }
+{
+    mark(table, who, rebuild);
+    let root = set(table, who, rebuild).ok();
+    (root, help_on(table, who, rebuild) == Ok(Helped::Replaced))
+}
+
+// What is seen if two callers each build a root for a rebuild that a third has started: the
+// rebuilds that all found; the result of the race; the root that the starter gets, and whether the
+// target is then replaced; the used words and the root below the anchor afterwards; whether the
+// ideal tree is there; and whether some word names the row that was lost.
+#[derive(Clone, Copy, Debug, PartialEq, Eq, Drop)]
+struct Seen {
+    rebuilds: (u32, u32, u32),
+    raced: Option<Raced>,
+    ended: (Option<Ref>, bool),
+    used: Option<u64>,
+    root: Option<u64>,
+    is_ideal: bool,
+    names_lost: bool,
+}
+
+// The same in a table of two pairs whose words were the image.
+fn see_in(
+    table: &TreeTable,
+    alloc: Global,
+    maker: &mut TreeSeat,
+    starter: &mut Caller,
+    first: &mut Caller,
+    second: &mut Caller,
+    image: &[u64],
+) -> Result<Option<Seen>, OpenFault>
+    requires maker_table { maker.old.table ≡ table.now.table }
+    requires starter_table { starter.old.seat.table ≡ table.now.table }
+    requires starter_able { IsAble starter.old }
+    requires first_table { first.old.seat.table ≡ table.now.table }
+    requires first_able { IsAble first.old }
+    requires second_table { second.old.seat.table ≡ table.now.table }
+    requires second_able { IsAble second.old }
+{
+    let Some(rebuild) = begin_top(table, starter) else {
+        return Ok(None);
+    };
+    let (Some(one), Some(two)) = (see_rebuild(table, first), see_rebuild(table, second)) else {
+        return Ok(None);
+    };
+    let raced = race(table, first, second, one, two);
+    let ended = end(table, starter, rebuild);
+    let words = all_words(alloc, table, maker)?;
+    let words = words.as_slice();
+    let root = words.get(3).copied();
+    let lost = raced.map_or(0, |raced| raced.built.1);
+    Ok(Some(Seen {
+        rebuilds: (rebuild, one, two),
+        raced,
+        ended,
+        used: words.first().copied(),
+        root,
+        is_ideal: are_alike(alloc, image, words, (34, root.unwrap_or(0)))?,
+        names_lost: words.iter().any(|word| *word == lost),
+    }))
+}
+
+fn see(alloc: Global) -> Result<Option<Seen>, OpenFault> {
+    let Opened {
+        table,
+        mut maker,
+        image,
+    } = open_numbered(alloc, 2, 59)?;
+    let mut starter = enter_call(&table, &mut maker);
+    let mut first = enter_call(&table, &mut maker);
+    let mut second = enter_call(&table, &mut maker);
+    see_in(
+        &table,
+        alloc,
+        &mut maker,
+        &mut starter,
+        &mut first,
+        &mut second,
+        image.as_slice(),
+    )
+}
+
+#[test]
+fn of_two_that_build_a_root_at_once_the_second_loses_its_row(rt: HostRuntime) -> Result<(), Fail> {
+    // Each has a row of its own: the rows of the start end at 29.
+    let stands = Ref::Inner { base: 29 };
+    let lost = Ref::Inner { base: 36 };
+    let wanted = Seen {
+        rebuilds: (15, 15, 15),
+        raced: Some(Raced {
+            built: (stands.to_word(), lost.to_word()),
+            found: (Ref::Unset.to_word(), stands.to_word()),
+        }),
+        // Whoever asks for the root gets the first one's. It is then below the anchor, and no word
+        // of the table names the second one's row.
+        ended: (Some(stands), true),
+        used: Some(52),
+        root: Some(stands.to_word()),
+        is_ideal: true,
+        names_lost: false,
+    };
+    assert_eq!(rt; see(rt.alloc())?, Some(wanted));
+    Ok(())
+}

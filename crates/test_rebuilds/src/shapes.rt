@@ -1,0 +1,171 @@
+//! Trees whose top row has pair rows, another rebuild and plain leaves in its slots, and the map of what they hold.
+ghost use Rattle.std.specs.Prelude.{◌≡◌, true, Ok};
+ghost use Rattle.ist_tree.specs.Insides.{IsPass};
+
+use crate::callers::help_on;
+use crate::tables::numbered;
+use crate::updates::{start_due, update_all, update_due};
+use ist_core::{Command, Pair};
+use ist_rebuild::{Helped, Started};
+use ist_rows::Caller;
+use ist_rule::TreeTable;
+use ist_tree::OpenFault;
+use plain_map::Plain;
+use std::alloc::{AllocError, Global};
+
+/// The pairs of the table at first: the row over them has 14 children, the first three of 15 keys each.
+pub(crate) const LAST: u64 = 200;
+
+/// What the slots of the row over all pairs will hold: how many pair rows one below another its
+/// first slot holds; whether its second slot holds a started rebuild; whether its third slot, which
+/// otherwise holds a leaf, holds a change that came too late.
+#[derive(Clone, Copy, Debug, PartialEq, Eq, Drop)]
+pub(crate) struct Shape {
+    pub(crate) chain: u64,
+    pub(crate) rebuilt: bool,
+    pub(crate) late: bool,
+}
+
+// The removes of the keys from the first to the last one.
+fn removes(alloc: Global, first: u64, last: u64) -> Result<Vec<(u64, Option<u64>)>, AllocError> {
+    let mut updates = Vec::new(alloc);
+    for key in first..last.saturating_add(1) {
+        updates.push((key, None))?;
+    }
+    Ok(updates)
+}
+
+// This many puts of 1000, 1001, .. at the key.
+fn puts(alloc: Global, key: u64, count: u64) -> Result<Vec<(u64, Option<u64>)>, AllocError> {
+    let mut updates = Vec::new(alloc);
+    for i in 0..count {
+        updates.push((key, Some(i.saturating_add(1000))))?;
+    }
+    Ok(updates)
+}
+
+// This many puts at the keys 2, 3, ..: each but the first is put into a pair row, next to a leaf.
+fn chained(alloc: Global, count: u64) -> Result<Vec<(u64, Option<u64>)>, AllocError> {
+    let mut updates = Vec::new(alloc);
+    for i in 0..count {
+        updates.push((i.saturating_add(2), Some(7)))?;
+    }
+    Ok(updates)
+}
+
+// Carries out the same updates on a map of one thread.
+fn follow(map: &mut Plain, updates: &[(u64, Option<u64>)]) -> Result<(), AllocError> {
+    for (key, value) in updates {
+        let key = *key;
+        match *value {
+            Some(value) => map.apply(Command::Put { key, value })?,
+            None => map.apply(Command::Remove { key })?,
+        };
+    }
+    Ok(())
+}
+
+// Removes each key of a child but the first, and has the child rebuilt by the last of these removes: the
+// first key's leaf then replaces it.
+fn shrink(
+    table: &TreeTable,
+    alloc: Global,
+    most: &mut Caller,
+    rest: &mut Caller,
+    first: u64,
+) -> Result<bool, AllocError>
+    requires same_table { most.old.seat.table ≡ table.now.table }
+    requires pass { IsPass most.old }
+    requires its_table { rest.old.seat.table ≡ table.now.table }
+    requires its_pass { IsPass rest.old }
+    ensures same_table { most.new.seat.table ≡ table.now.table }
+    ensures pass { result ≡ Ok true → IsPass most.new }
+{
+    let last = first.saturating_add(14);
+    let updates = removes(alloc, first.saturating_add(1), last.saturating_sub(1))?;
+    if !update_all(table, most, updates.as_slice()) {
+        return Ok(false);
+    }
+    let Some(due) = update_due(table, rest, last, None) else {
+        return Ok(false);
+    };
+    match start_due(table, rest, due) {
+        Ok(Started::Yes { rebuild }) => {
+            Ok(help_on(table, rest, rebuild) == Ok(Helped::Replaced))
+        }
+        _ => Ok(false),
+    }
+}
+
+// Puts at a key of the second child until the child is due, and starts its rebuild, which stays
+// unfinished.
+fn start_second(
+    table: &TreeTable,
+    alloc: Global,
+    most: &mut Caller,
+    starter: &mut Caller,
+) -> Result<bool, AllocError>
+    requires same_table { most.old.seat.table ≡ table.now.table }
+    requires pass { IsPass most.old }
+    requires its_table { starter.old.seat.table ≡ table.now.table }
+    requires its_pass { IsPass starter.old }
+    ensures same_table { most.new.seat.table ≡ table.now.table }
+    ensures pass { result ≡ Ok true → IsPass most.new }
+{
+    let updates = puts(alloc, 16, 7)?;
+    if !update_all(table, most, updates.as_slice()) {
+        return Ok(false);
+    }
+    let Some(due) = update_due(table, starter, 16, Some(1007)) else {
+        return Ok(false);
+    };
+    match start_due(table, starter, due) {
+        Ok(Started::Yes { rebuild: _ }) => Ok(true),
+        _ => Ok(false),
+    }
+}
+
+/// Returns what the map holds after the updates that bring a tree of all pairs into this shape.
+pub(crate) fn map_of(alloc: Global, shape: Shape) -> Result<Plain, AllocError> {
+    let mut map = Plain::new(alloc);
+    for pair in numbered(alloc, LAST)?.as_slice() {
+        let Pair { key, value } = *pair;
+        map.apply(Command::Put { key, value })?;
+    }
+    follow(&mut map, removes(alloc, 2, 15)?.as_slice())?;
+    follow(&mut map, removes(alloc, 32, 45)?.as_slice())?;
+    if shape.rebuilt {
+        follow(&mut map, puts(alloc, 16, 8)?.as_slice())?;
+    }
+    follow(&mut map, chained(alloc, shape.chain)?.as_slice())?;
+    Ok(map)
+}
+
+/// Brings a tree of all pairs into this shape, but for the change.
+pub(crate) fn bring(
+    table: &TreeTable,
+    alloc: Global,
+    most: &mut Caller,
+    first: &mut Caller,
+    second: &mut Caller,
+    third: &mut Caller,
+    shape: Shape,
+) -> Result<bool, OpenFault>
+    requires same_table { most.old.seat.table ≡ table.now.table }
+    requires pass { IsPass most.old }
+    requires first_table { first.old.seat.table ≡ table.now.table }
+    requires first_pass { IsPass first.old }
+    requires second_table { second.old.seat.table ≡ table.now.table }
+    requires second_pass { IsPass second.old }
+    requires third_table { third.old.seat.table ≡ table.now.table }
+    requires third_pass { IsPass third.old }
+{
+    if !shrink(table, alloc, most, first, 1)? || !shrink(table, alloc, most, third, 31)? {
+        return Ok(false);
+    }
+    if shape.rebuilt && !start_second(table, alloc, most, second)? {
+        return Ok(false);
+    }
+    let updates = chained(alloc, shape.chain)?;
+    Ok(update_all(table, most, updates.as_slice()))
+}

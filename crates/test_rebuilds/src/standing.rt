@@ -1,0 +1,201 @@
+//! Rebuilds that nobody helps while others put and remove, or while the row above is rebuilt.
+ghost use Rattle.std.specs.Prelude.{◌≡◌};
+ghost use Rattle.ist_core.specs.Rebuilding.{IsStarted};
+ghost use Rattle.ist_rebuild.specs.Finishing.{IsAble};
+ghost use Rattle.ist_rule.specs.Learning.{now};
+ghost use Rattle.ist_tree.specs.Insides.{IsPass};
+
+use crate::callers::{enter_call, help_on, mark};
+use crate::shares::begin_top;
+use crate::tables::{Opened, is_image, numbered, open, open_numbered};
+use crate::updates::{enter_idle, start_due, update_all, update_due};
+use ist_core::{Full, Pair};
+use ist_find::find_from_anchor;
+use ist_rebuild::{Helped, Started};
+use ist_rows::Caller;
+use ist_rule::{TreeSeat, TreeTable};
+use ist_tree::OpenFault;
+use std::alloc::Global;
+use std::test::Fail;
+
+const TEN: Pair = Pair { key: 10, value: 1 };
+
+const TWENTY: Pair = Pair { key: 20, value: 2 };
+
+// What is seen if one caller starts the rebuild of the row over both pairs and makes no step, and
+// another puts 7 at the key 10 and removes 20: the rebuild, whether both were carried out, and what
+// is found at the two keys.
+#[derive(Clone, Copy, Debug, PartialEq, Eq, Drop)]
+struct Still {
+    rebuild: Option<u32>,
+    updated: bool,
+    found: (Option<u64>, Option<u64>),
+}
+
+fn see_still(alloc: Global) -> Result<Still, OpenFault> {
+    let Opened {
+        table,
+        mut maker,
+        ..
+    } = open(alloc, &[TEN, TWENTY], 1000)?;
+    let mut second = enter_idle(&table, &mut maker);
+    let mut first = enter_call(&table, &mut maker);
+    let rebuild = begin_top(&table, &mut first);
+    let updated = update_all(&table, &mut second, &[(10, Some(7)), (20, None)]);
+    let ten = find_from_anchor(&table, &mut maker, 10).value;
+    let twenty = find_from_anchor(&table, &mut maker, 20).value;
+    Ok(Still {
+        rebuild,
+        updated,
+        found: (ten, twenty),
+    })
+}
+
+#[test]
+fn a_put_is_answered_while_the_rebuild_in_its_way_stands_still(
+    rt: HostRuntime,
+) -> Result<(), Fail> {
+    let wanted = Still {
+        rebuild: Some(15),
+        updated: true,
+        found: (Some(7), None),
+    };
+    assert_eq!(rt; see_still(rt.alloc())?, wanted);
+    Ok(())
+}
+
+// The pairs of the table at first: the row over them has 14 children, the second of the keys from 16 to 30.
+const LAST: u64 = 200;
+
+// The first seven of eight puts at the key 16.
+const SEVEN: [(u64, Option<u64>); 7] = [
+    (16, Some(1)),
+    (16, Some(2)),
+    (16, Some(3)),
+    (16, Some(4)),
+    (16, Some(5)),
+    (16, Some(6)),
+    (16, Some(7)),
+];
+
+// Returns the words of a new table of these pairs, but with 8 at the key 16.
+fn image_behind(alloc: Global) -> Result<Vec<u64>, OpenFault> {
+    let mut pairs = numbered(alloc, LAST)?;
+    if let Some(pair) = pairs.get_mut(15) {
+        *pair = Pair { key: 16, value: 8 };
+    }
+    Ok(open(alloc, pairs.as_slice(), 20_000)?.image)
+}
+
+// Helps the rebuild, if the test says so.
+fn help_where(
+    table: &TreeTable,
+    who: &mut Caller,
+    rebuild: u32,
+    at_once: bool,
+) -> Option<Result<Helped, Full>>
+    requires same_table { who.old.seat.table ≡ table.now.table }
+    requires able { IsAble who.old }
+    requires started { IsStarted (now who.old.seat.view) rebuild }
+    ensures same_table { who.new.seat.table ≡ table.now.table }
+    ensures able { IsAble who.new }
+    ensures started { IsStarted (now who.new.seat.view) rebuild }
+{
+    if at_once {
+        return Some(help_on(table, who, rebuild));
+    }
+    None
+}
+
+// The results of both rebuilds: the node above the lower one, what helping each returned, how many
+// keys the upper one's target had, and whether the tree is then the ideal one.
+#[derive(Clone, Copy, Debug, PartialEq, Eq, Drop)]
+struct Both {
+    parent: u32,
+    lower: Option<Result<Helped, Full>>,
+    keys: u64,
+    upper: Result<Helped, Full>,
+    ideal: bool,
+}
+
+// One caller puts at the key 16 until the row over it is due, and starts its rebuild; another
+// starts the rebuild of the row above. Then the lower is helped, before or after the row above is
+// marked, and then the upper.
+fn rebuild_both(
+    table: &TreeTable,
+    alloc: Global,
+    maker: &mut TreeSeat,
+    most: &mut Caller,
+    low: &mut Caller,
+    high: &mut Caller,
+    early: bool,
+) -> Result<Option<Both>, OpenFault>
+    requires maker_table { maker.old.table ≡ table.now.table }
+    requires most_table { most.old.seat.table ≡ table.now.table }
+    requires most_pass { IsPass most.old }
+    requires low_table { low.old.seat.table ≡ table.now.table }
+    requires low_pass { IsPass low.old }
+    requires high_table { high.old.seat.table ≡ table.now.table }
+    requires high_able { IsAble high.old }
+{
+    if !update_all(table, most, &SEVEN) {
+        return Ok(None);
+    }
+    let Some(due) = update_due(table, low, 16, Some(8)) else {
+        return Ok(None);
+    };
+    let Ok(Started::Yes { rebuild: below }) = start_due(table, low, due) else {
+        return Ok(None);
+    };
+    let Some(above) = begin_top(table, high) else {
+        return Ok(None);
+    };
+    let first = help_where(table, low, below, early);
+    let marked = mark(table, high, above);
+    let second = help_where(table, low, below, !early);
+    let upper = help_on(table, high, above);
+    let image = image_behind(alloc)?;
+    Ok(Some(Both {
+        parent: due.parent,
+        lower: first.or(second),
+        keys: marked.keys,
+        upper,
+        ideal: is_image(alloc, table, maker, image.as_slice())?,
+    }))
+}
+
+// The same in a new table.
+fn see_both(alloc: Global, early: bool) -> Result<Option<Both>, OpenFault> {
+    let Opened {
+        table,
+        mut maker,
+        ..
+    } = open_numbered(alloc, LAST, 20_000)?;
+    let mut most = enter_idle(&table, &mut maker);
+    let mut low = enter_idle(&table, &mut maker);
+    let mut high = enter_call(&table, &mut maker);
+    rebuild_both(
+        &table, alloc, &mut maker, &mut most, &mut low, &mut high, early,
+    )
+}
+
+#[test]
+fn a_lower_rebuild_is_done_unless_the_row_above_was_marked_before(
+    rt: HostRuntime,
+) -> Result<(), Fail> {
+    // whether the lower rebuild is helped before the row above is marked, and what its help then
+    // returns
+    let cases = [(false, Helped::ParentMarked), (true, Helped::Replaced)];
+    for (early, lower) in cases {
+        let both = Both {
+            parent: 4,
+            lower: Some(Ok(lower)),
+            keys: LAST,
+            upper: Ok(Helped::Replaced),
+            ideal: true,
+        };
+        let came = see_both(rt.alloc(), early)?;
+        assert_eq!(rt; came, Some(both), "early {early}");
+    }
+    Ok(())
+}

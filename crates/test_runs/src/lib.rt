@@ -1,0 +1,18 @@
+//! Runs of the whole program, rounds on trees, and dumps of closed trees: only tests.
+//!
+//! Read `running.rt`, then `meetings.rt`, `stolen.rt`, `full_trees.rt`, `long_inputs.rt` and
+//! `dumps.rt`. Builds on `tele_run`, `tele_trees` and `tele_audit`.
+#![tactic(auto)]
+
+#[cfg(test)]
+mod dumps;
+#[cfg(test)]
+mod full_trees;
+#[cfg(test)]
+mod long_inputs;
+#[cfg(test)]
+mod meetings;
+#[cfg(test)]
+mod running;
+#[cfg(test)]
+mod stolen;

@@ -1,0 +1,56 @@
+-- Words that a seat has stored one after another, and the changes that the samples install.
+use Rattle.std.specs.Prelude.{ℕ, ◌+◌, List, [], ◌∷◌}
+use Rattle.ist_core.specs.Pieces.{Leaf, Rebuild, row_at}
+use Rattle.ist_core.specs.References.{Empty, LeafAt, InnerAt, RebuildAt, word_of, unset_word}
+use Rattle.ist_core.specs.RowLayout.{anchor}
+use Rattle.ist_core.specs.Statuses.{undecided, put_kind, start_kind}
+use Rattle.ist_rule.specs.declared.view.View.{View}
+use Rattle.ist_rule.specs.Learning.{storing}
+use Rattle.ist_dcss.specs.Installing.{Filling}
+
+-- the view that has stored the words one after another, from the place on
+abbrev pub storing_all : View → ℕ → List ℕ → View
+storing_all v place [] = v
+storing_all v place (word ∷ words) = storing_all (storing v place word) (place + 1) words
+
+-- a put of 1 and 1 into the anchor's slot, with its leaf at 4
+abbrev pub sample_put : Filling
+sample_put =
+    record {
+      change = record {
+        decision = undecided;
+        kind = put_kind;
+        node = anchor;
+        index = 0;
+        from = word_of Empty;
+        to = word_of (LeafAt 4);
+        owner = 0;
+        key = 1;
+        value = 1;
+      };
+      fresh = row_at 4 (Leaf record { key = 1; value = 1 }) ∷ [];
+    }
+
+-- the start of a rebuild at 15 of the row at 4, which hangs in the anchor
+abbrev pub sample_start : Filling
+sample_start =
+    record {
+      change = record {
+        decision = undecided;
+        kind = start_kind;
+        node = anchor;
+        index = 0;
+        from = word_of (InnerAt 4);
+        to = word_of (RebuildAt 15);
+        owner = 0;
+        key = 0;
+        value = 0;
+      };
+      fresh = row_at 15 (Rebuild record {
+        target = 4;
+        parent = anchor;
+        index = 0;
+        root = unset_word;
+        draw = 0;
+      }) ∷ [];
+    }

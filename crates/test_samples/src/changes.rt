@@ -1,0 +1,72 @@
+//! Installed changes.
+ghost use Rattle.std.specs.Prelude.{◌≡◌, None, Some};
+ghost use Rattle.ist_rows.specs.Rows.{IsCaller};
+ghost use Rattle.ist_dcss.specs.declared.decisions.Installed.TheVariants.{Yes};
+ghost use Rattle.ist_dcss.specs.Helping.{MayHelp};
+
+use crate::filling::fill_row;
+use ist_core::Command;
+use ist_dcss::{Installed, install};
+use ist_layout::{ANCHOR_SLOT_PLACE, PUT_KIND, Ref, START_KIND, UNDECIDED};
+use ist_rows::{Caller, Kind};
+use ist_rule::{TreeTable, begin_call, know, load};
+
+/// Fills a put of 1 and 1 into the rows at 4 and 6, and installs it in the anchor's slot.
+pub fn install_put(table: &TreeTable, who: &mut Caller) -> Installed
+    requires same_table { who.old.seat.table ≡ table.now.table }
+    requires caller { IsCaller who.old }
+    requires rows { (who.old.leaf ≡ Some 4) × (who.old.change ≡ Some 6) }
+    requires number { who.old.number ≡ 0 }
+    requires in_none { who.old.seat.view.pending ≡ None }
+    ensures same_table { who.new.seat.table ≡ table.now.table }
+    ensures may_help { result ≡ Yes → MayHelp who.new.seat.view 6 }
+{
+    let from = Ref::Empty.to_word();
+    let to = Ref::Leaf { base: 4 }.to_word();
+    fill_row(table, who, Kind::Leaf, 4, &[1, 1]);
+    fill_row(
+        table,
+        who,
+        Kind::Change,
+        6,
+        &[UNDECIDED, PUT_KIND, 2, 0, from, to, 0, 1, 1],
+    );
+    know(&who.seat);
+    begin_call(
+        table,
+        &mut who.seat,
+        Some(Command::Put { key: 1, value: 1 }),
+    );
+    install(table, &mut who.seat, 6)
+}
+
+/// Fills a start of a rebuild of the row at 4 into the rows at 15 and 20, and installs it in the
+/// anchor's slot, if that slot holds the row.
+pub fn install_start(table: &TreeTable, who: &mut Caller) -> Installed
+    requires same_table { who.old.seat.table ≡ table.now.table }
+    requires caller { IsCaller who.old }
+    requires rows { (who.old.rebuild ≡ Some 15) × (who.old.change ≡ Some 20) }
+    requires number { who.old.number ≡ 0 }
+    requires in_none { who.old.seat.view.pending ≡ None }
+    ensures same_table { who.new.seat.table ≡ table.now.table }
+    ensures may_help { result ≡ Yes → MayHelp who.new.seat.view 20 }
+{
+    let from = Ref::Inner { base: 4 }.to_word();
+    let to = Ref::Rebuild { base: 15 }.to_word();
+    let unset = Ref::Unset.to_word();
+    fill_row(table, who, Kind::Rebuild, 15, &[4, 2, 0, unset, 0]);
+    fill_row(
+        table,
+        who,
+        Kind::Change,
+        20,
+        &[UNDECIDED, START_KIND, 2, 0, from, to, 0, 0, 0],
+    );
+    know(&who.seat);
+    let met = load(table, &mut who.seat, ANCHOR_SLOT_PLACE);
+    if met != from {
+        return Installed::Other(met);
+    }
+    begin_call(table, &mut who.seat, None);
+    install(table, &mut who.seat, 20)
+}

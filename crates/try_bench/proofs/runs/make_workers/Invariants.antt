@@ -1,0 +1,13 @@
+use Rattle.std.proofs.Common.{◌≡◌, ◌≤◌, [], length, All}
+use Rattle.try_bench.proofs.runs.make_workers.Given as goal
+
+-- each worker has a pass on the tree
+abbrev pub invariant-loop-number : goal.invariant-loop-number
+invariant-loop-number l = record {
+  trees : All (λ w. w.pass.tree ≡ l.tree) l.workers.items;
+  spans : All (λ w. 1 ≤ w.plan.span) l.workers.items;
+  made : l.maker.made ≡ length l.workers.items;
+  same_tree : l.maker.tree ≡ l.tree;
+  taken : l.maker.taken ≡ [];
+  count : length l.workers.items ≡ l.number;
+}

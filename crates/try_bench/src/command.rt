@@ -1,0 +1,143 @@
+//! The command line: options with one value each.
+
+use crate::plans::{MOST_KEYS, MOST_THREADS, MOST_WORDS, Plan};
+use clap::builder::ValueParser;
+use clap::{Arg, ArgAction, ArgMatches, Command};
+use std::alloc::{AllocError, Global};
+use std::io;
+use try_draws::{Shares, Spread};
+
+/// What the words of the command line ask for.
+#[derive(Clone, Copy, Debug, PartialEq, Eq, Drop)]
+pub(crate) enum Job {
+    /// All that was to be said is said: help, the version, or that the words are no use of the program.
+    Done { status: u8 },
+    /// A plan is to be measured.
+    Measure(Plan),
+}
+
+// An option with one value, a number from one to another: its name, what it is for, and the two.
+type NumberOption = (&'static str, &'static str, u64, u64);
+
+// The options with numbers that stand before `spread`.
+const CALLS: [NumberOption; 6] = [
+    ("seed", "What all calls are drawn from (1)", 0, u64::MAX),
+    ("threads", "Threads (1)", 1, MOST_THREADS),
+    ("calls", "Calls of each thread (1000000)", 1, 1_000_000_000),
+    ("puts", "Share of puts (0)", 0, 1_000_000),
+    ("removes", "Share of removes (0)", 0, 1_000_000),
+    ("finds", "Share of finds (1)", 0, 1_000_000),
+];
+
+// Those behind it.
+const KEYS: [NumberOption; 4] = [
+    ("keys", "Keys at the opening (1000)", 0, MOST_KEYS),
+    (
+        "span",
+        "Keys that calls draw (those at the opening)",
+        1,
+        MOST_KEYS,
+    ),
+    (
+        "width",
+        "Keys that a find lists, from its own on (0: it finds the key; 1: the next pair)",
+        0,
+        u64::MAX,
+    ),
+    (
+        "words",
+        "Words of the tree (134217728)",
+        4,
+        MOST_WORDS as u64,
+    ),
+];
+
+// The command with these options too.
+fn with_numbers<'a>(
+    alloc: Global,
+    command: Command<'a>,
+    options: &[NumberOption],
+) -> Result<Command<'a>, AllocError> {
+    let mut command = command;
+    for &(name, help, low, high) in options {
+        let option = Arg::new(alloc, name)
+            .long(name)
+            .help(help)
+            .action(ArgAction::Set)
+            .value_parser(ValueParser::unsigned(low, high));
+        command = command.arg(option)?;
+    }
+    Ok(command)
+}
+
+// The option that says how keys lie.
+fn spread_option<'a>(alloc: Global) -> Arg<'a> {
+    Arg::new(alloc, "spread")
+        .long("spread")
+        .help("How keys lie: uniform, rising or clustered (uniform)")
+        .action(ArgAction::Set)
+}
+
+// The command with its options.
+fn command<'a>(alloc: Global) -> Result<Command<'a>, AllocError> {
+    let command = Command::new(alloc, "try_bench")
+        .version("1.0")
+        .about("Measures puts, removes and finds on one search tree");
+    let command = with_numbers(alloc, command, &CALLS)?.arg(spread_option(alloc))?;
+    with_numbers(alloc, command, &KEYS)
+}
+
+// The number of an option, or the one that holds where none is given.
+fn number(matches: &ArgMatches, name: &str, otherwise: u64) -> u64 {
+    match matches.get_str(name) {
+        Some(text) => text.parse::<u64>().unwrap_or(otherwise),
+        None => otherwise,
+    }
+}
+
+// How keys lie by this name.
+fn spread_of(name: &str) -> Option<Spread> {
+    match name {
+        "uniform" => Some(Spread::Uniform),
+        "rising" => Some(Spread::Rising),
+        "clustered" => Some(Spread::Clustered),
+        _ => None,
+    }
+}
+
+// The plan by what was found, unless keys are to lie in an unknown way.
+fn plan_of(matches: &ArgMatches) -> Option<Plan> {
+    let keys = number(matches, "keys", 1000);
+    Some(Plan {
+        seed: number(matches, "seed", 1),
+        threads: number(matches, "threads", 1),
+        calls: number(matches, "calls", 1_000_000),
+        shares: Shares {
+            puts: number(matches, "puts", 0),
+            removes: number(matches, "removes", 0),
+            finds: number(matches, "finds", 1),
+            freezes: 0,
+        },
+        spread: spread_of(matches.get_str("spread").unwrap_or("uniform"))?,
+        keys,
+        span: number(matches, "span", keys),
+        width: number(matches, "width", 0),
+        words: u32::try_from(number(matches, "words", 134_217_728)).unwrap_or(MOST_WORDS),
+    })
+}
+
+/// What the words ask for, of which the first is the program's name.
+pub(crate) fn read_words(rt: &HostRuntime, words: &[String]) -> io::Result<Job> {
+    match command(rt.alloc())?.try_get_matches_from(words) {
+        Ok(matches) => match plan_of(&matches) {
+            Some(plan) => Ok(Job::Measure(plan)),
+            None => Ok(Job::Done { status: 2 }),
+        },
+        Err(error) => {
+            error.print(rt)?;
+            Ok(Job::Done {
+                status: if error.use_stderr() { 2 } else { 0 },
+            })
+        }
+    }
+}

@@ -1,0 +1,138 @@
+-- Two passes that each made a put, and a find that follows the other's put. Serves `exchange`.
+use Rattle.std.proofs.Common.{◌≡◌, ◌≢◌, ℕ, ◌+◌, ◌<◌, ◌≤◌, ◌⊎◌, true, false, List, [], ◌∷◌, map, filter, Option, Some, refl, sym, ◌∙◌, ap, subst, inl, inr, ⊎_elim, if◌then◌else◌, length, ◌++◌, zero, suc, arith}
+use Rattle.std.proofs.lemmas.Bool.Decides.{eqb_tells}
+use Rattle.ist_core.specs.declared.calls.Call.{Call}
+use Rattle.ist_core.specs.declared.commands.Command.TheVariants.{Get, Put}
+use Rattle.ist_core.specs.declared.pairs.Pair.{Pair}
+use Rattle.ist_core.specs.Map.{Map, map_of, reply_to}
+use Rattle.ist_core.specs.Elements.{Among, Each}
+use Rattle.ist_core.specs.Changes.{Entry, changes_of, map_at}
+use Rattle.ist_core.specs.Resting.{AllStandIn}
+use Rattle.ist_core.specs.Standing.{is_change, makes_entry, entry_by, entries_by, Follows, StandAmong}
+use Rattle.ist_core.proofs.ElementLemmas.{each-among, among_filter}
+use Rattle.ist_tree.specs.Closing.{ClosesWith, calls_from}
+use Rattle.ist_tree.specs.Faces.{PassFace, MakerFace, calls_in, noted}
+use Rattle.try_example.specs.Turns.{HasPut, HasFound}
+use Rattle.try_example.proofs.MapLemmas.{PutsOneOf, has_it}
+
+-- what is true of whatever is an element is true of each element
+each_among : {A : Type 0} (P : A → Type 0) (xs : List A) → ((x : A) → Among x xs → P x) → Each P xs
+each_among P [] h = tt
+each_among P (x ∷ xs) h = (h x (inl refl), each_among P xs (λ y i. h y (inr i)))
+
+-- an owner with one entry has this one alone
+the_one : (owner : ℕ) (only : Entry) (es : List Entry) → entries_by owner es ≡ only ∷ []
+    → (e : Entry) → Among e es → e.owner ≡ owner → e ≡ only
+the_one owner only es is e among own =
+    let kept : Among e (entries_by owner es)
+    = among_filter _ e es among (⊎_elim (λ t. t.0) (λ f. absurd (f.1 own)) (eqb_tells e.owner owner)) in
+    each-among (λ x. x ≡ only) e (entries_by owner es)
+    (subst (Each (λ x. x ≡ only)) (sym is) (refl, tt)) kept
+
+-- a put, and a find behind it
+module _ (put find : Call) (p : Pair) (key : ℕ) (put_is : put.command ≡ Put p.key p.value)
+    (find_is : find.command ≡ Get key) where
+  pub changes : is_change put ≡ true
+  changes = ap (λ c. makes_entry c put.reply) put_is
+
+  pub reads : is_change find ≡ false
+  reads = ap (λ c. makes_entry c find.reply) find_is
+
+  -- their pass has one entry, which puts the pair
+  one_entry : (m : Map) (es : List Entry) (number : ℕ)
+      → StandAmong m es number (put ∷ find ∷ [])
+      → entries_by number es ≡ entry_by number put ∷ []
+  one_entry m es number s =
+      let few : filter is_change (put ∷ find ∷ []) ≡ put ∷ [] = rw changes (rw reads refl) in
+      s.exactly ∙ ap (map (entry_by number)) few
+
+  pub puts_own : (m : Map) (es : List Entry) (number : ℕ)
+      → StandAmong m es number (put ∷ find ∷ [])
+      → (e : Entry) → Among e es → e.owner ≡ number → e.command ≡ Put p.key p.value
+  puts_own m es number s e among own =
+      ap (λ x. x.command)
+      (the_one number (entry_by number put) es (one_entry m es number s) e among own) ∙ put_is
+
+-- where all entries are those of two passes that each put a pair, a find that follows the other's put
+-- finds what it put
+pub finds_theirs : (m : Map) (es : List Entry) (mine theirs : ℕ) (p q : Pair)
+    (put find other late : Call) → ((e : Entry) → Among e es → (e.owner ≡ mine) ⊎ (e.owner ≡ theirs))
+    → StandAmong m es mine (put ∷ find ∷ []) → StandAmong m es theirs (other ∷ late ∷ [])
+    → put.command ≡ Put p.key p.value → find.command ≡ Get q.key
+    → other.command ≡ Put q.key q.value → late.command ≡ Get p.key
+    → p.key ≢ q.key → Follows other find → find.reply ≡ Some q.value
+finds_theirs m es mine theirs p q put find other late owners ours others put_is find_is other_is
+    late_is apart follows =
+    let all : Each (PutsOneOf q.key q.value p.key p.value apart) es
+    = each_among _ es (λ e among. ⊎_elim
+    (λ own. inr (puts_own put find p q.key put_is find_is m es mine ours e among own))
+    (λ own. inl (puts_own other late q p.key other_is late_is m es theirs others e among own))
+    (owners e among)) in
+    let made = others.made other (inl refl) (changes other late q p.key other_is late_is) in
+    let read = ours.read find (inr (inl refl)) (reads put find p q.key put_is find_is) in
+    let behind : other.position + 1 ≤ find.position
+    = subst (λ b. (if b then other.position + 1 else other.position) ≤ find.position)
+    (changes other late q p.key other_is late_is) follows.position in
+    read.reply ∙ ap (reply_to (map_at m es find.position)) find_is
+    ∙ has_it q.key q.value p.key p.value apart other.position find.position m es all (entry_by theirs other) made
+    other_is (omega arith)
+
+below_two : (n : ℕ) → n < 2 → (n ≡ 0) ⊎ (n ≡ 1)
+below_two zero low = inl refl
+below_two (suc zero) low = inr refl
+below_two (suc (suc n)) low = absurd (omega arith)
+
+-- two passes that were taken back, the one with number 0 first
+module _ (one two : PassFace) (first : one.number ≡ 0) (second : two.number ≡ 1) where
+  calls_of_both : calls_from 0 2 (calls_in two ∷ calls_in one ∷ []) ≡ one.calls ∷ two.calls ∷ []
+  calls_of_both = rw first (rw second refl)
+
+-- a pass that put its pair, and then found a key
+module _ (p q r : PassFace) (pair : Pair) (note : PassFace) (key : ℕ) (reply : Option ℕ)
+    (put : HasPut p pair q) (found : HasFound q note key reply r) where
+  two_calls : r.calls ≡ put.call ∷ found.call ∷ []
+  two_calls = found.calls_are ∙ ap (λ calls. calls ++ found.call ∷ []) put.call_is
+
+-- each pass of the closed tree found what the other put
+pub both_find : (m : MakerFace) (words : List ℕ) → ClosesWith m words
+    → (left right : Pair) → left.key ≢ right.key
+    → (one two putter other end last : PassFace) (mine theirs : Option ℕ)
+    → HasPut one left putter → HasPut two right other
+    → HasFound putter (noted other) right.key mine end
+    → HasFound other (noted putter) left.key theirs last
+    → one.number ≡ 0 → two.number ≡ 1 → m.made ≡ 2
+    → m.taken ≡ calls_in last ∷ calls_in end ∷ []
+    → (mine ≡ Some right.value) × (theirs ≡ Some left.value)
+both_find m words closes left right apart one two putter other end last mine theirs put_one put_two
+    found_one found_two first second made taken =
+    let pairs = m.tree.start in
+    let log = closes.stands.log in
+    let es = changes_of pairs (length words) log in
+    let calls : closes.stands.calls
+    ≡ (put_one.call ∷ found_one.call ∷ []) ∷ (put_two.call ∷ found_two.call ∷ []) ∷ []
+    = closes.calls_are ∙ ap (λ n. calls_from 0 n m.taken) made ∙ ap (calls_from 0 2) taken
+    ∙ calls_of_both end last (found_one.number ∙ put_one.number ∙ first)
+    (found_two.number ∙ put_two.number ∙ second)
+    ∙ ap (λ x. x ∷ last.calls ∷ [])
+    (two_calls one putter end left (noted other) right.key mine put_one found_one)
+    ∙ ap (λ x. (put_one.call ∷ found_one.call ∷ []) ∷ x ∷ [])
+    (two_calls two other last right (noted putter) left.key theirs put_two found_two) in
+    let stand = subst (AllStandIn pairs (length words) log 0) calls closes.stands.stand in
+    let owned : (e : Entry) → Among e es → (e.owner ≡ 0) ⊎ (e.owner ≡ 1)
+    = λ e among. below_two e.owner
+    (subst (λ n. e.owner < n) made
+    (each-among (λ x. x.owner < m.made) e es closes.owners among)) in
+    let behind_two = subst (Each (λ known. Follows known found_one.call)) put_two.call_is
+    found_one.follows in
+    let behind_one = subst (Each (λ known. Follows known found_two.call)) put_one.call_is
+    found_two.follows in (
+      sym found_one.reply_is
+          ∙ finds_theirs (map_of pairs) es 0 1 left right put_one.call found_one.call put_two.call
+          found_two.call owned stand.0 stand.1.0 put_one.command_is found_one.command_is
+          put_two.command_is found_two.command_is apart behind_two.0,
+      sym found_two.reply_is
+          ∙ finds_theirs (map_of pairs) es 1 0 right left put_two.call found_two.call put_one.call
+          found_one.call (λ e among. ⊎_elim inr inl (owned e among)) stand.1.0 stand.0
+          put_two.command_is found_two.command_is put_one.command_is found_one.command_is
+          (λ same. apart (sym same)) behind_one.0,
+    )

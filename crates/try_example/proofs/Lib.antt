@@ -1,0 +1,3 @@
+pub mod MapLemmas
+pub mod ExchangeLemmas
+pub mod RaiseLemmas

@@ -1,0 +1,3 @@
+-- what the contracts of the example say
+pub mod Turns
+pub mod Raises

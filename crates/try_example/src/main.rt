@@ -1,0 +1,43 @@
+//! Two threads share a tree. Each puts a pair, tells the other by a note, and finds the other's pair. Then two
+//! threads raise one counter.
+//!
+//! `exchange::exchange` is the part to read: its contract says what both threads find. `counting::raise` shows
+//! a conditional put.
+#![tactic(auto)]
+
+mod counting;
+mod exchange;
+
+use crate::counting::count_in_two;
+use crate::exchange::exchange;
+use ist_core::Pair;
+use std::io;
+
+const LEFT: Pair = Pair { key: 1, value: 10 };
+
+const RIGHT: Pair = Pair { key: 2, value: 20 };
+
+const TIMES: u64 = 1000;
+
+fn main(rt: HostRuntime) -> io::Result<()> {
+    match exchange(&rt, rt.alloc(), LEFT, RIGHT) {
+        Ok(told) => {
+            println!(rt;
+                "at key {} the left thread found {:?}",
+                RIGHT.key, told.left
+            )?;
+            println!(rt;
+                "at key {} the right thread found {:?}",
+                LEFT.key, told.right
+            )?;
+        }
+        Err(fault) => println!(rt; "refused: {fault:?}")?,
+    }
+    match count_in_two(&rt, rt.alloc(), LEFT.key, TIMES) {
+        Ok(count) => println!(rt;
+            "after {} raises the counter has {:?}",
+            count.raises, count.number
+        ),
+        Err(fault) => println!(rt; "refused: {fault:?}"),
+    }
+}

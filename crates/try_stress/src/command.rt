@@ -1,0 +1,109 @@
+//! The command line: options with one number each.
+
+use crate::plans::{MOST_KEYS, MOST_PASSES, MOST_WORDS, Plan};
+use clap::builder::ValueParser;
+use clap::{Arg, ArgAction, ArgMatches, Command};
+use std::alloc::{AllocError, Global};
+use std::io;
+use try_draws::Shares;
+
+/// What stands behind the options in the text that `--help` prints.
+const STATUSES: &str =
+    "Statuses: 0 all holds, 1 a check failed, 2 usage, 3 memory or writing failed";
+
+/// What the words of the command line ask for.
+#[derive(Clone, Copy, Debug, PartialEq, Eq, Drop)]
+pub(crate) enum Job {
+    /// All that was to be said is said: help, the version, or that the words are no use of the program.
+    Done { status: u8 },
+    /// A plan is to be run.
+    Run(Plan),
+}
+
+// An option with one value, a number from one to another: its name, what it is for, and the two.
+type NumberOption = (&'static str, &'static str, u64, u64);
+
+// All options.
+const OPTIONS: [NumberOption; 10] = [
+    ("seed", "What all calls are drawn from (1)", 0, u64::MAX),
+    ("passes", "Threads, each with a pass (4)", 1, MOST_PASSES),
+    (
+        "rounds",
+        "Rounds, with notes between them (4)",
+        0,
+        1_000_000,
+    ),
+    (
+        "calls",
+        "Calls of each thread in a round (10000)",
+        0,
+        100_000_000,
+    ),
+    ("puts", "Share of puts (500)", 0, 1_000_000),
+    ("removes", "Share of removes (250)", 0, 1_000_000),
+    ("finds", "Share of finds (249)", 0, 1_000_000),
+    ("freezes", "Share of freezes (1)", 0, 1_000_000),
+    (
+        "span",
+        "Keys, the numbers below this one (1000)",
+        1,
+        MOST_KEYS,
+    ),
+    ("words", "Words of the tree (8388608)", 4, MOST_WORDS as u64),
+];
+
+// The command with its options.
+fn command<'a>(alloc: Global) -> Result<Command<'a>, AllocError> {
+    let mut command = Command::new(alloc, "try_stress")
+        .version("1.0")
+        .about("Runs threads on one search tree, and judges what each of them was told")
+        .after_help(STATUSES);
+    for &(name, help, low, high) in &OPTIONS {
+        let option = Arg::new(alloc, name)
+            .long(name)
+            .help(help)
+            .action(ArgAction::Set)
+            .value_parser(ValueParser::unsigned(low, high));
+        command = command.arg(option)?;
+    }
+    Ok(command)
+}
+
+// The number of an option, or the one that holds where none is given.
+fn number(matches: &ArgMatches, name: &str, otherwise: u64) -> u64 {
+    match matches.get_str(name) {
+        Some(text) => text.parse::<u64>().unwrap_or(otherwise),
+        None => otherwise,
+    }
+}
+
+// The plan by what was found.
+fn plan_of(matches: &ArgMatches) -> Plan {
+    Plan {
+        seed: number(matches, "seed", 1),
+        passes: number(matches, "passes", 4),
+        rounds: number(matches, "rounds", 4),
+        calls: number(matches, "calls", 10_000),
+        shares: Shares {
+            puts: number(matches, "puts", 500),
+            removes: number(matches, "removes", 250),
+            finds: number(matches, "finds", 249),
+            freezes: number(matches, "freezes", 1),
+        },
+        span: number(matches, "span", 1000),
+        words: u32::try_from(number(matches, "words", 8_388_608)).unwrap_or(MOST_WORDS),
+    }
+}
+
+/// What the words ask for, of which the first is the program's name.
+pub(crate) fn read_words(rt: &HostRuntime, words: &[String]) -> io::Result<Job> {
+    match command(rt.alloc())?.try_get_matches_from(words) {
+        Ok(matches) => Ok(Job::Run(plan_of(&matches))),
+        Err(error) => {
+            error.print(rt)?;
+            Ok(Job::Done {
+                status: if error.use_stderr() { 2 } else { 0 },
+            })
+        }
+    }
+}

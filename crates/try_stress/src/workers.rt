@@ -1,0 +1,280 @@
+//! A thread of a run: calls that are drawn, by a pass of its own, and what it was told.
+ghost use Rattle.std.specs.Prelude.{◌≡◌, ◌≤◌, ◌<◌};
+ghost use Rattle.ist_tree.specs.Freezing.{IsFrozenFor};
+
+use crate::plans::Plan;
+use ist_core::{Full, Pair, Reply};
+use ist_tree::{Frozen, Pass, Tree};
+use std::alloc::{AllocError, Global};
+use test_tales::{Asked, Told};
+use try_draws::{Draws, Kind};
+
+/// How many calls were answered and refused.
+#[derive(Clone, Copy, Debug, PartialEq, Eq, Drop)]
+pub(crate) struct Tally {
+    pub puts: u64,
+    pub removes: u64,
+    pub finds: u64,
+    pub freezes: u64,
+    /// How many puts and removes were refused for want of words.
+    pub refused: u64,
+    /// How many freezes were.
+    pub unfrozen: u64,
+}
+
+impl Tally {
+    /// No call.
+    pub(crate) fn none() -> Tally {
+        Tally {
+            puts: 0,
+            removes: 0,
+            finds: 0,
+            freezes: 0,
+            refused: 0,
+            unfrozen: 0,
+        }
+    }
+
+    /// These calls and the others.
+    pub(crate) fn and(&self, other: &Tally) -> Tally {
+        Tally {
+            puts: self.puts.wrapping_add(other.puts),
+            removes: self.removes.wrapping_add(other.removes),
+            finds: self.finds.wrapping_add(other.finds),
+            freezes: self.freezes.wrapping_add(other.freezes),
+            refused: self.refused.wrapping_add(other.refused),
+            unfrozen: self.unfrozen.wrapping_add(other.unfrozen),
+        }
+    }
+
+    // One answered call more.
+    fn count(&mut self, asked: Asked) {
+        match asked {
+            Asked::Put(..) => self.puts = self.puts.wrapping_add(1),
+            Asked::Remove(_) => self.removes = self.removes.wrapping_add(1),
+            Asked::Find(_) => self.finds = self.finds.wrapping_add(1),
+        }
+    }
+}
+
+/// One thread's calls on a tree.
+#[derive(Drop)]
+pub(crate) struct Worker {
+    pub pass: Pass,
+    pub plan: Plan,
+    number: u64,
+    draws: Draws,
+    // How many values it has made up.
+    made: u64,
+    /// What it was told in the last round, in its order.
+    pub told: Vec<Told>,
+    /// What became of its calls in all rounds.
+    pub tally: Tally,
+    /// Whether it had no memory left for what it was told.
+    pub lacked_memory: bool,
+}
+
+// Makes the call by the pass.
+fn call(tree: &Tree, pass: &mut Pass, asked: Asked) -> Result<Reply, Full>
+    requires same_tree { pass.old.tree ≡ tree.now }
+    ensures same_tree { pass.new.tree ≡ tree.now }
+{
+    match asked {
+        Asked::Put(key, value) => tree.put(pass, key, value),
+        Asked::Remove(key) => tree.remove(pass, key),
+        Asked::Find(key) => Ok(tree.find(pass, key)),
+    }
+}
+
+// Makes the update by the pass if the key still has the value that was found; otherwise finds what it has.
+fn call_if(tree: &Tree, pass: &mut Pass, asked: Asked, found: Reply) -> Result<Reply, Full>
+    requires same_tree { pass.old.tree ≡ tree.now }
+    ensures same_tree { pass.new.tree ≡ tree.now }
+{
+    match (asked, found) {
+        (Asked::Put(key, value), _) => tree.put_if(pass, key, found, value),
+        (Asked::Remove(key), Some(value)) => tree.remove_if(pass, key, value),
+        _ => Ok(tree.find(pass, asked.key())),
+    }
+}
+
+// All pairs of the frozen tree, in their order.
+fn frozen_pairs(
+    alloc: Global,
+    tree: &Tree,
+    pass: &mut Pass,
+    frozen: &Frozen,
+) -> Result<Vec<Pair>, AllocError>
+    requires same_tree { pass.old.tree ≡ tree.now }
+    requires frozen { IsFrozenFor pass.old frozen.now }
+    ensures same_tree { pass.new.tree ≡ tree.now }
+{
+    let mut pairs = Vec::new(alloc);
+    for i in 0..frozen.keys {
+        pairs.push(tree.frozen_pair(pass, frozen, i))?;
+    }
+    Ok(pairs)
+}
+
+// Adds what finds of the keys from one up to another would have been told that have no value.
+fn tell_none(told: &mut Vec<Told>, first: u64, end: u64) -> Result<(), AllocError> {
+    for key in first..end {
+        told.push(Told {
+            asked: Asked::Find(key),
+            reply: None,
+        })?;
+    }
+    Ok(())
+}
+
+// Adds what a find of each key below `span` would have been told where the map has these pairs.
+fn tell_pairs(told: &mut Vec<Told>, pairs: &[Pair], span: u64) -> Result<(), AllocError> {
+    let mut next = 0;
+    for pair in pairs {
+        let Pair { key, value } = *pair;
+        tell_none(told, next, key.min(span))?;
+        told.push(Told {
+            asked: Asked::Find(key),
+            reply: Some(value),
+        })?;
+        next = key.saturating_add(1);
+    }
+    tell_none(told, next, span)
+}
+
+impl Worker {
+    /// The worker with this number, which has made no call.
+    pub(crate) fn new(alloc: Global, pass: Pass, plan: Plan, number: u64) -> Worker
+        ensures pass { result.pass ≡ pass }
+        ensures plan { result.plan ≡ plan }
+    {
+        Worker {
+            pass,
+            plan,
+            number,
+            draws: Draws::for_thread(plan.seed, number),
+            made: 0,
+            told: Vec::new(alloc),
+            tally: Tally::none(),
+            lacked_memory: false,
+        }
+    }
+
+    // A value that no other put of the run has: the opening values are odd, and no two threads have one
+    // number.
+    fn new_value(&mut self) -> u64
+        ensures pass { self.new.pass ≡ self.old.pass }
+        ensures plan { self.new.plan ≡ self.old.plan }
+    {
+        self.made = self.made.wrapping_add(1);
+        self.made
+            .wrapping_mul(128)
+            .wrapping_add(self.number.wrapping_mul(2))
+    }
+
+    // Makes a call, and keeps what it was told.
+    fn ask(&mut self, tree: &Tree, asked: Asked) -> Result<(), AllocError>
+        requires same_tree { self.old.pass.tree ≡ tree.now }
+        ensures same_tree { self.new.pass.tree ≡ tree.now }
+        ensures plan { self.new.plan ≡ self.old.plan }
+    {
+        match call(tree, &mut self.pass, asked) {
+            Ok(reply) => {
+                self.tally.count(asked);
+                self.told.push(Told { asked, reply })?;
+            }
+            Err(_) => self.tally.refused = self.tally.refused.wrapping_add(1),
+        }
+        Ok(())
+    }
+
+    // Finds the key, and then makes the update if the key still has that value. Keeps both as the calls that they
+    // are by their answers, and counts the second.
+    fn ask_if(&mut self, tree: &Tree, asked: Asked) -> Result<(), AllocError>
+        requires same_tree { self.old.pass.tree ≡ tree.now }
+        ensures same_tree { self.new.pass.tree ≡ tree.now }
+        ensures plan { self.new.plan ≡ self.old.plan }
+    {
+        let find = Asked::Find(asked.key());
+        let found = tree.find(&mut self.pass, asked.key());
+        self.told.push(Told {
+            asked: find,
+            reply: found,
+        })?;
+        match call_if(tree, &mut self.pass, asked, found) {
+            Ok(reply) => {
+                let was = if reply == found { asked } else { find };
+                self.tally.count(was);
+                self.told.push(Told { asked: was, reply })?;
+            }
+            Err(_) => self.tally.refused = self.tally.refused.wrapping_add(1),
+        }
+        Ok(())
+    }
+
+    // Makes an update: each fourth one on condition, as the draws fall.
+    fn update(&mut self, tree: &Tree, asked: Asked) -> Result<(), AllocError>
+        requires same_tree { self.old.pass.tree ≡ tree.now }
+        ensures same_tree { self.new.pass.tree ≡ tree.now }
+        ensures plan { self.new.plan ≡ self.old.plan }
+    {
+        if self.draws.below(4) == 0 {
+            self.ask_if(tree, asked)
+        } else {
+            self.ask(tree, asked)
+        }
+    }
+
+    // Freezes the tree, and keeps what finds of all keys would have been told at that moment.
+    fn freeze(&mut self, alloc: Global, tree: &Tree) -> Result<(), AllocError>
+        requires same_tree { self.old.pass.tree ≡ tree.now }
+        ensures same_tree { self.new.pass.tree ≡ tree.now }
+        ensures plan { self.new.plan ≡ self.old.plan }
+    {
+        match tree.freeze(&mut self.pass) {
+            Ok(frozen) => {
+                let pairs = frozen_pairs(alloc, tree, &mut self.pass, &frozen)?;
+                self.tally.freezes = self.tally.freezes.wrapping_add(1);
+                tell_pairs(&mut self.told, pairs.as_slice(), self.plan.span)?;
+            }
+            Err(_) => self.tally.unfrozen = self.tally.unfrozen.wrapping_add(1),
+        }
+        Ok(())
+    }
+
+    // Makes the next call.
+    fn step(&mut self, alloc: Global, tree: &Tree) -> Result<(), AllocError>
+        requires same_tree { self.old.pass.tree ≡ tree.now }
+        requires some { 1 ≤ self.old.plan.span }
+        ensures same_tree { self.new.pass.tree ≡ tree.now }
+        ensures plan { self.new.plan ≡ self.old.plan }
+    {
+        let all = self.plan.shares.all();
+        let number = self.draws.below(all.max(1));
+        let key = self.draws.below(self.plan.span);
+        match self.plan.shares.kind_at(number) {
+            Kind::Put => {
+                let value = self.new_value();
+                self.update(tree, Asked::Put(key, value))
+            }
+            Kind::Remove => self.update(tree, Asked::Remove(key)),
+            Kind::Find => self.ask(tree, Asked::Find(key)),
+            Kind::Freeze => self.freeze(alloc, tree),
+        }
+    }
+
+    /// Makes the calls of a round.
+    pub(crate) fn work(&mut self, alloc: Global, tree: &Tree)
+        requires same_tree { self.old.pass.tree ≡ tree.now }
+        requires some { 1 ≤ self.old.plan.span }
+        ensures same_tree { self.new.pass.tree ≡ tree.now }
+        ensures plan { self.new.plan ≡ self.old.plan }
+    {
+        self.told.clear();
+        for _ in 0..self.plan.calls {
+            if self.step(alloc, tree).is_err() {
+                self.lacked_memory = true;
+            }
+        }
+    }
+}
