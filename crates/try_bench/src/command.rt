@@ -12,7 +12,7 @@ use try_draws::{Shares, Spread};
 pub(crate) enum Job {
     /// All that was to be said is said: help, the version, or that the words are no use of the program.
     Done { status: u8 },
-    /// A plan is to be measured.
+    /// Measure a plan.
     Measure(Plan),
 }
 
@@ -29,7 +29,7 @@ const CALLS: [NumberOption; 6] = [
     ("finds", "Share of finds (1)", 0, 1_000_000),
 ];
 
-// Those behind it.
+// The options after them.
 const KEYS: [NumberOption; 4] = [
     ("keys", "Keys at the opening (1000)", 0, MOST_KEYS),
     (
@@ -87,7 +87,7 @@ fn command<'a>(alloc: Global) -> Result<Command<'a>, AllocError> {
     with_numbers(alloc, command, &KEYS)
 }
 
-// The number of an option, or the one that holds where none is given.
+// The number of an option, or its default if none is given.
 fn number(matches: &ArgMatches, name: &str, otherwise: u64) -> u64 {
     match matches.get_str(name) {
         Some(text) => text.parse::<u64>().unwrap_or(otherwise),

@@ -15,10 +15,10 @@ use runs::{Figures, measure};
 use std::process::ExitCode;
 use std::{env, io};
 
-/// The status where the words of the command line can't be taken, or the tree can't be opened.
+/// The status if the arguments are refused, or the tree can't be opened.
 const USAGE: u8 = 2;
 
-/// The status where memory was wanting, or reading or writing failed.
+/// The status if memory ran out, or reading or writing failed.
 const FAILED: u8 = 3;
 
 fn main(rt: HostRuntime) -> ExitCode {

@@ -1,4 +1,4 @@
-//! What is to be measured.
+//! Plans: what a run measures.
 ghost use Rattle.std.specs.Prelude.{◌≡◌, ◌≤◌, true};
 ghost use Rattle.ist_core.specs.RowLayout.{place_limit};
 
@@ -13,7 +13,7 @@ pub(crate) const MOST_KEYS: u64 = 10_000_000;
 /// How many words there are at most.
 pub(crate) const MOST_WORDS: u32 = 268_435_456;
 
-/// What is to be measured.
+/// What a run measures.
 #[derive(Clone, Copy, Debug, PartialEq, Eq, Drop)]
 pub(crate) struct Plan {
     /// What all calls are drawn from.
@@ -30,7 +30,7 @@ pub(crate) struct Plan {
     pub keys: u64,
     /// The calls draw the keys with the numbers below this one.
     pub span: u64,
-    /// What a find reads: its key if 0, the next pair if 1, and otherwise the pairs of so many keys from
+    /// What a find reads: its key if 0, the next pair if 1, and otherwise the pairs of this many keys from
     /// its own on.
     pub width: u64,
     /// How many words the tree has.

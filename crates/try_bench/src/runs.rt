@@ -88,7 +88,7 @@ fn make_workers(
     Ok(workers)
 }
 
-// Lets each worker make its calls, on a thread of its own where one can be started.
+// Lets each worker make its calls, on its own thread if one can be started.
 fn call_all<R: Threads + Sync>(rt: &R, tree: &Tree, workers: &mut [Worker])
     requires trees { All (λ w. w.pass.tree ≡ tree.now) workers.old }
     requires spans { All (λ w. 1 ≤ w.plan.span) workers.old }
@@ -132,7 +132,7 @@ fn done_by(spent: Spent, workers: &[Worker]) -> Done {
     done
 }
 
-// Lets each worker make its calls, and tells what was spent meanwhile.
+// Lets each worker make its calls, and returns what was spent meanwhile.
 fn call_timed<R: Threads + Sync + Files + Clock + AllocGlobal>(
     rt: &R,
     tree: &Tree,
@@ -194,7 +194,7 @@ fn measure_in<R: Threads + Sync + Files + Clock + AllocGlobal>(
     })
 }
 
-/// Runs the plan on a tree of its own, where it is fit.
+/// Runs the plan on a new tree, if it can be run.
 pub(crate) fn measure<R: Threads + Sync + Files + Clock + AllocGlobal>(
     rt: &R,
     plan: Plan,

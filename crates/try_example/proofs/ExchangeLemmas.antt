@@ -20,7 +20,7 @@ each_among : {A : Type 0} (P : A → Type 0) (xs : List A) → ((x : A) → Amon
 each_among P [] h = tt
 each_among P (x ∷ xs) h = (h x (inl refl), each_among P xs (λ y i. h y (inr i)))
 
--- an owner with one entry has this one alone
+-- an owner with one entry has only this one
 the_one : (owner : ℕ) (only : Entry) (es : List Entry) → entries_by owner es ≡ only ∷ []
     → (e : Entry) → Among e es → e.owner ≡ owner → e ≡ only
 the_one owner only es is e among own =
@@ -29,7 +29,7 @@ the_one owner only es is e among own =
     each-among (λ x. x ≡ only) e (entries_by owner es)
     (subst (Each (λ x. x ≡ only)) (sym is) (refl, tt)) kept
 
--- a put, and a find behind it
+-- a put, and a find after it
 module _ (put find : Call) (p : Pair) (key : ℕ) (put_is : put.command ≡ Put p.key p.value)
     (find_is : find.command ≡ Get key) where
   pub changes : is_change put ≡ true
@@ -53,7 +53,7 @@ module _ (put find : Call) (p : Pair) (key : ℕ) (put_is : put.command ≡ Put 
       ap (λ x. x.command)
       (the_one number (entry_by number put) es (one_entry m es number s) e among own) ∙ put_is
 
--- where all entries are those of two passes that each put a pair, a find that follows the other's put
+-- if all entries are those of two passes that each put a pair, a find that follows the other's put
 -- finds what it put
 pub finds_theirs : (m : Map) (es : List Entry) (mine theirs : ℕ) (p q : Pair)
     (put find other late : Call) → ((e : Entry) → Among e es → (e.owner ≡ mine) ⊎ (e.owner ≡ theirs))

@@ -1,4 +1,4 @@
--- A map behind changes of which none puts another value at a key. Serves `exchange`.
+-- A map after changes none of which puts another value at a key. Serves `exchange`.
 use Rattle.std.proofs.Common.{◌≡◌, ◌≢◌, ℕ, ◌<◌, ◌⊎◌, List, [], ◌∷◌, zero, suc, slice_get, take, Some, ◌∙◌, ap, ⊎_elim, arith}
 use Rattle.std.specs.FinMap as fin
 use Rattle.std.specs.FinMap.{gets}
@@ -39,7 +39,7 @@ module _ (key value other what : ℕ) (apart : other ≢ key) where
       stays count (map_after m e.command) es each.1
       (⊎_elim (put_here m e.command) (λ there. put_there m e.command there ∙ has) each.0)
 
-  -- behind a put of the value the key has it
+  -- after a put of the value the key has it
   pub has_it : (i count : ℕ) (m : Map) (es : List Entry) → Each PutsOneOf es → (e : Entry)
       → slice_get es i ≡ Some e → e.command ≡ Put key value → i < count
       → fin.get (map_behind m (take count es)) key ≡ Some value

@@ -1,4 +1,4 @@
--- What raising a counter by conditional puts comes to.
+-- What a counter is after it was raised by conditional puts.
 use Rattle.std.specs.Prelude.{◌≡◌, ℕ, ◌+◌, Option, Some, None}
 use Rattle.ist_core.specs.declared.commands.Command.TheVariants.{Put}
 use Rattle.ist_tree.specs.Calls.{AddsCall, HasSeenMore}

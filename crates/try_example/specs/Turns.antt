@@ -1,4 +1,4 @@
--- What a thread of the example did: it put its pair, and behind a note it found a key.
+-- What a thread of the example did: it put its pair, and after a note it found a key.
 use Rattle.std.specs.Prelude.{◌≡◌, ℕ, [], ◌∷◌, ◌++◌, Option}
 use Rattle.ist_core.specs.declared.calls.Call.{Call}
 use Rattle.ist_core.specs.declared.commands.Command.TheVariants.{Get, Put}
@@ -7,7 +7,7 @@ use Rattle.ist_core.specs.Elements.{Each}
 use Rattle.ist_core.specs.Standing.{Follows}
 use Rattle.ist_tree.specs.Faces.{PassFace}
 
--- the second is the first behind one call, a put of the pair
+-- the second is the first after one more call, a put of the pair
 pub record HasPut (p : PassFace) (pair : Pair) (q : PassFace) : Type 0 where
   pub tree : q.tree ≡ p.tree
   pub number : q.number ≡ p.number
@@ -15,7 +15,7 @@ pub record HasPut (p : PassFace) (pair : Pair) (q : PassFace) : Type 0 where
   pub call_is : q.calls ≡ call ∷ []
   pub command_is : call.command ≡ Put pair.key pair.value
 
--- the last is the first behind one call more, a find of the key with this reply, which follows each
+-- the last is the first after one more call, a find of the key with this reply, which comes after each
 -- call that the note tells of
 pub record HasFound (p note : PassFace) (key : ℕ) (reply : Option ℕ) (q : PassFace) : Type 0 where
   pub tree : q.tree ≡ p.tree

@@ -59,7 +59,7 @@ fn put_own(tree: &Tree, pass: Pass, pair: Pair) -> Result<Pass, Full>
     Ok(pass)
 }
 
-// Learns what the note tells, and finds the key.
+// Learns what the note says, and finds the key.
 fn find_told(tree: &Tree, pass: Pass, note: Note, key: u64) -> Found
     requires same_tree { pass.tree ≡ tree.now }
     requires its_tree { note.tree ≡ tree.now }
@@ -131,9 +131,9 @@ fn find_both<R: Threads + Sync>(
 /// Each of two threads puts its pair into one new tree; then each meets a note of the other, and
 /// finds the other's key.
 ///
-/// Each finds what the other put, however their steps fall: a call that comes behind a note comes
-/// after all that the note tells of. `Open` where the tree couldn't be opened, for want of memory;
-/// `Full` where it had too few words for a put.
+/// Each finds what the other put, in whatever order their steps come: a call after a note comes
+/// after all that the note tells of. `Open` if the tree couldn't be opened since memory ran out;
+/// `Full` if it had too few words for a put.
 pub fn exchange<R: Threads + Sync>(
     rt: &R,
     alloc: Global,

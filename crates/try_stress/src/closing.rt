@@ -44,7 +44,7 @@ fn check_audit(alloc: Global, closed: &Closed, pairs: &[Pair]) -> Result<(), Fau
     }
 }
 
-/// Checks the closed tree: its pairs are what the keys had at the end, it is settled where it is to be,
+/// Checks the closed tree: its pairs are what the keys had at the end, it is settled if it must be,
 /// and the audit takes its words.
 pub(crate) fn check_closed(
     alloc: Global,

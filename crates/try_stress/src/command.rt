@@ -7,7 +7,7 @@ use std::alloc::{AllocError, Global};
 use std::io;
 use try_draws::Shares;
 
-/// What stands behind the options in the text that `--help` prints.
+/// What follows the options in the text that `--help` prints.
 const STATUSES: &str =
     "Statuses: 0 all holds, 1 a check failed, 2 usage, 3 memory or writing failed";
 
@@ -16,7 +16,7 @@ const STATUSES: &str =
 pub(crate) enum Job {
     /// All that was to be said is said: help, the version, or that the words are no use of the program.
     Done { status: u8 },
-    /// A plan is to be run.
+    /// Run a plan.
     Run(Plan),
 }
 
@@ -69,7 +69,7 @@ fn command<'a>(alloc: Global) -> Result<Command<'a>, AllocError> {
     Ok(command)
 }
 
-// The number of an option, or the one that holds where none is given.
+// The number of an option, or its default if none is given.
 fn number(matches: &ArgMatches, name: &str, otherwise: u64) -> u64 {
     match matches.get_str(name) {
         Some(text) => text.parse::<u64>().unwrap_or(otherwise),

@@ -21,7 +21,7 @@ pub(crate) enum Fault {
     Unsettled,
     /// The pairs of the closed tree aren't those that were found last.
     OtherPairs,
-    /// The audit refuses the words of the closed tree, or tells other pairs of them.
+    /// The audit refuses the words of the closed tree, or lists other pairs.
     Unaudited,
 }
 

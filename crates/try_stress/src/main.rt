@@ -19,13 +19,13 @@ use runs::{Report, run};
 use std::process::ExitCode;
 use std::{env, io};
 
-/// The status where a check failed.
+/// The status if a check failed.
 const WRONG: u8 = 1;
 
-/// The status where the words of the command line can't be taken.
+/// The status if the arguments are refused.
 const USAGE: u8 = 2;
 
-/// The status where memory was wanting, or writing failed.
+/// The status if memory ran out, or writing failed.
 const FAILED: u8 = 3;
 
 fn main(rt: HostRuntime) -> ExitCode {

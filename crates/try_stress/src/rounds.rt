@@ -1,4 +1,4 @@
-//! The rounds of a run: calls side by side, notes behind them, and the judging of what was told.
+//! The rounds of a run: calls at the same time, notes after them, and the judgement of the replies.
 ghost use Rattle.std.specs.Prelude.{◌≡◌, ◌≤◌, ◌+◌, length, All, IfOk};
 
 use crate::faults::Fault;
@@ -35,7 +35,7 @@ pub(crate) fn make_workers(
     Ok(workers)
 }
 
-// Lets each worker make the calls of a round, on a thread of its own where one can be started.
+// Lets each worker make the calls of a round, on its own thread if one can be started.
 fn call_all<R: Threads + Sync>(rt: &R, alloc: Global, tree: &Tree, workers: &mut [Worker])
     requires trees { All (λ w. w.pass.tree ≡ tree.now) workers.old }
     requires spans { All (λ w. 1 ≤ w.plan.span) workers.old }
@@ -141,10 +141,10 @@ fn judge(
     }
 }
 
-/// Runs a round, and judges what was told. Gives what each key has behind it.
+/// Runs a round, and judges the replies. Returns what each key has after it.
 ///
 /// All passes make their calls side by side. Then the keeper meets a note of each, finds every key, and
-/// each meets a note of the keeper. So each call of the next round comes behind all of this one.
+/// each meets a note of the keeper. So each call of the next round comes after all of this one.
 pub(crate) fn run_round<R: Threads + Sync>(
     rt: &R,
     alloc: Global,

@@ -59,7 +59,7 @@ fn open(alloc: Global, words: u32, plain: &Plain) -> Result<(Tree, Maker), OpenF
     Tree::open(alloc, words, pairs)
 }
 
-// Runs all rounds, each from what the keys have behind the one before. The values are what they have at
+// Runs all rounds, each from what the keys have after the one before. The values are what they have at
 // the opening, and then at the end.
 fn run_rounds<R: Threads + Sync>(
     rt: &R,

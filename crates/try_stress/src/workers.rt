@@ -16,7 +16,7 @@ pub(crate) struct Tally {
     pub removes: u64,
     pub finds: u64,
     pub freezes: u64,
-    /// How many puts and removes were refused for want of words.
+    /// How many puts and removes were refused since too few words were left.
     pub refused: u64,
     /// How many freezes were.
     pub unfrozen: u64,
@@ -127,7 +127,7 @@ fn tell_none(told: &mut Vec<Told>, first: u64, end: u64) -> Result<(), AllocErro
     Ok(())
 }
 
-// Adds what a find of each key below `span` would have been told where the map has these pairs.
+// Adds what a find of each key below `span` would have returned if the map has these pairs.
 fn tell_pairs(told: &mut Vec<Told>, pairs: &[Pair], span: u64) -> Result<(), AllocError> {
     let mut next = 0;
     for pair in pairs {
@@ -189,7 +189,7 @@ impl Worker {
     }
 
     // Finds the key, and then makes the update if the key still has that value. Keeps both as the calls that they
-    // are by their answers, and counts the second.
+    // are by their replies, and counts the second.
     fn ask_if(&mut self, tree: &Tree, asked: Asked) -> Result<(), AllocError>
         requires same_tree { self.old.pass.tree ≡ tree.now }
         ensures same_tree { self.new.pass.tree ≡ tree.now }
