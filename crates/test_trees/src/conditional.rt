@@ -1,4 +1,5 @@
-//! Conditional updates: worked rows of one pass, many of them beside a plain map, and a counter that two threads raise.
+//! Conditional updates: worked examples of one pass, many of them compared with a plain map, and a counter that two
+//! threads raise.
 ghost use Rattle.std.specs.Prelude.{◌≡◌, ◌≤◌};
 
 use crate::openings::two_pairs;
