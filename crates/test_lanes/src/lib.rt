@@ -1,7 +1,8 @@
-//! Bytes in and out, the lanes of a round, and what is drawn from a seed, call by call: only tests.
+//! Bytes in and out, lines, the lanes of a round, and what is drawn from a seed, call by call: only tests.
 //!
-//! Read `bytes.rt`; `recorders.rt`, then `lanes.rt`, `meetings.rt` and `stealing.rt`; and
-//! `draws.rt`. Builds on `tele_io`, `tele_lanes`, `tele_steal` and `try_draws`.
+//! Read `bytes.rt` and `lines.rt`; `recorders.rt`, then `lanes.rt`, `meetings.rt` and `stealing.rt`; and
+//! `draws.rt`. Builds on `tele_io`, `tele_lines`, `plain_map`, `tele_lanes`,
+//! `tele_steal` and `try_draws`.
 #![tactic(auto)]
 
 #[cfg(test)]
@@ -10,6 +11,8 @@ mod bytes;
 mod draws;
 #[cfg(test)]
 mod lanes;
+#[cfg(test)]
+mod lines;
 #[cfg(test)]
 mod meetings;
 #[cfg(test)]

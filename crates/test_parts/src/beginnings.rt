@@ -28,7 +28,7 @@ pub(crate) fn begin_put(table: &TreeTable, who: &mut Caller) -> bool
     if who.number != 0 || who.leaf != Some(4) || who.change != Some(6) {
         return false;
     }
-    match install_put(table, who) {
+    match install_put(table, who, 4, 6, 1) {
         Installed::Yes => true,
         Installed::Other(_) => false,
     }

@@ -4,20 +4,23 @@ ghost use Rattle.ist_rows.specs.Rows.{IsCaller, spares_of, no_spares};
 
 use crate::beginnings::begin_put;
 use crate::samples::word_at;
-use ist_dcss::{Decision, help};
+use ist_dcss::{Decision, Installed, help};
 use ist_layout::{ANCHOR_SLOT_PLACE, Ref};
-use ist_rows::{Caller, enter};
+use ist_rows::{Caller, Kind, enter, reserve};
 use ist_rule::{TreeSeat, TreeTable, know, load};
 use std::alloc::{AllocError, Global};
 use std::test::Fail;
 use std::thread::{Threads, join};
-use test_samples::empty_table;
+use test_samples::{empty_table, install_put};
 
 /// Helps the change at 6 if the anchor's slot holds it.
 pub(crate) fn help_met(table: &TreeTable, who: &mut Caller) -> Option<Decision>
     requires same_table { who.old.seat.table ≡ table.now.table }
     requires caller { IsCaller who.old }
     ensures same_table { who.new.seat.table ≡ table.now.table }
+    ensures caller { IsCaller who.new }
+    ensures same_rows { spares_of who.new ≡ spares_of who.old }
+    ensures in_same_call { who.new.seat.view.pending ≡ who.old.seat.view.pending }
 {
     know(&who.seat);
     let met = load(table, &mut who.seat, ANCHOR_SLOT_PLACE);
@@ -27,14 +30,43 @@ pub(crate) fn help_met(table: &TreeTable, who: &mut Caller) -> Option<Decision>
     None
 }
 
-// What is seen if the first caller installs a put, the second helps it, and then the first: the
-// word in the anchor's slot after each, and how each sees it decided.
+// Has a caller that holds no rows try to install a put into the anchor's empty slot. Returns the word
+// that stood there.
+fn put_late(table: &TreeTable, who: &mut Caller) -> Option<u64>
+    requires same_table { who.old.seat.table ≡ table.now.table }
+    requires caller { IsCaller who.old }
+    requires no_rows { spares_of who.old ≡ no_spares }
+    requires in_none { who.old.seat.view.pending ≡ None }
+{
+    if reserve(table, who, Kind::Leaf) != Ok(15) || reserve(table, who, Kind::Change) != Ok(17) {
+        return None;
+    }
+    if who.leaf != Some(15) || who.change != Some(17) {
+        return None;
+    }
+    match install_put(table, who, 15, 17, 2) {
+        Installed::Yes => None,
+        Installed::Other(word) => Some(word),
+    }
+}
+
+#[derive(Clone, Copy, Debug, PartialEq, Eq, Drop)]
+struct Seen {
+    words: [u64; 3],
+    by_second: Option<Decision>,
+    by_first: Decision,
+    met: Option<u64>,
+}
+
+// What is seen if the first caller installs a put, the second helps it, then the first, and then the
+// second tries to install another one: the word in the anchor's slot after each of the first three, how
+// each sees the put decided, and the word that the last install met.
 fn help_in_turn(
     table: &TreeTable,
     maker: &mut TreeSeat,
     first: &mut Caller,
     second: &mut Caller,
-) -> Option<([u64; 3], Option<Decision>, Decision)>
+) -> Option<Seen>
     requires maker_table { maker.old.table ≡ table.now.table }
     requires first_table { first.old.seat.table ≡ table.now.table }
     requires second_table { second.old.seat.table ≡ table.now.table }
@@ -42,6 +74,8 @@ fn help_in_turn(
     requires no_rows { spares_of first.old ≡ no_spares }
     requires in_none { first.old.seat.view.pending ≡ None }
     requires second { IsCaller second.old }
+    requires no_more_rows { spares_of second.old ≡ no_spares }
+    requires in_none_either { second.old.seat.view.pending ≡ None }
 {
     if !begin_put(table, first) {
         return None;
@@ -51,11 +85,16 @@ fn help_in_turn(
     let left = word_at(table, maker, ANCHOR_SLOT_PLACE);
     let by_first = help(table, &mut first.seat, 6);
     let again = word_at(table, maker, ANCHOR_SLOT_PLACE);
-    Some(([installed, left, again], by_second, by_first))
+    Some(Seen {
+        words: [installed, left, again],
+        by_second,
+        by_first,
+        met: put_late(table, second),
+    })
 }
 
 // The same in an empty table.
-fn help_two(alloc: Global) -> Result<Option<([u64; 3], Option<Decision>, Decision)>, AllocError> {
+fn help_two(alloc: Global) -> Result<Option<Seen>, AllocError> {
     let (table, mut maker) = empty_table(alloc, 26)?;
     let mut first = enter(&table, &mut maker);
     let mut second = enter(&table, &mut maker);
@@ -67,9 +106,13 @@ fn help_two(alloc: Global) -> Result<Option<([u64; 3], Option<Decision>, Decisio
 fn a_put_is_decided_once_and_leaves_its_slot(rt: HostRuntime) -> Result<(), Fail> {
     let change = Ref::Change { base: 6 }.to_word();
     let leaf = Ref::Leaf { base: 4 }.to_word();
-    let yes = Decision::Yes;
-    let seen = help_two(rt.alloc())?;
-    assert_eq!(rt; seen, Some(([change, leaf, leaf], Some(yes), yes)));
+    let wanted = Seen {
+        words: [change, leaf, leaf],
+        by_second: Some(Decision::Yes),
+        by_first: Decision::Yes,
+        met: Some(leaf),
+    };
+    assert_eq!(rt; help_two(rt.alloc())?, Some(wanted));
     Ok(())
 }
 

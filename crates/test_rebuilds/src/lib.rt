@@ -10,6 +10,8 @@
 #[cfg(test)]
 mod callers;
 #[cfg(test)]
+mod dropped;
+#[cfg(test)]
 mod few;
 #[cfg(test)]
 mod frozen;

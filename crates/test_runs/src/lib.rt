@@ -1,7 +1,7 @@
 //! Runs of the whole program, rounds on trees, and dumps of closed trees: only tests.
 //!
-//! Read `running.rt`, then `meetings.rt`, `stolen.rt`, `full_trees.rt`, `long_inputs.rt` and
-//! `dumps.rt`. Builds on `tele_run`, `tele_trees` and `tele_audit`.
+//! Read `running.rt`, then `statuses.rt`, `meetings.rt`, `stolen.rt`, `full_trees.rt`,
+//! `long_inputs.rt` and `dumps.rt`. Builds on `tele_run`, `tele_trees` and `tele_audit`.
 #![tactic(auto)]
 
 #[cfg(test)]
@@ -14,5 +14,7 @@ mod long_inputs;
 mod meetings;
 #[cfg(test)]
 mod running;
+#[cfg(test)]
+mod statuses;
 #[cfg(test)]
 mod stolen;

@@ -1,7 +1,8 @@
--- A put of 1 and 1 into the anchor's slot, by rows at 4 and 6. Serves `install_put`.
+-- A caller's put of a value at the key 1 into the anchor's empty slot. Serves `install_put`.
 use Rattle.std.proofs.Common.{◌≡◌, ℕ, ◌+◌, ◌<◌, ◌≤◌, List, [], ◌∷◌, length, slice_get, Some, None, refl, sym, ap, ap₂, ◌∙◌, subst, arith}
 use Rattle.ist_core.specs.declared.commands.Command.TheVariants.{Put}
 use Rattle.ist_core.specs.declared.lists.HeldRow.{HeldRow}
+use Rattle.ist_core.specs.RowLayout.{place_limit}
 use Rattle.ist_core.specs.References.{Empty, LeafAt, ChangeAt, word_of}
 use Rattle.ist_core.specs.Pieces.{Change, words_of}
 use Rattle.ist_core.specs.Elements.{Among}
@@ -32,19 +33,19 @@ use Rattle.test_samples.proofs.StoredLemmas.{stored_at, stored_first, filled_wit
 -- ---- the words
 
 -- the words for the leaf and for the change are stored
-pub put_stored : (v : View) (leaf change : List ℕ) → leaf ≡ 1 ∷ 1 ∷ []
-    → change ≡ words_of (Change sample_put.change)
-    → StoredAll (storing_all (storing_all v 4 leaf) 6 change) (rows_of sample_put 6)
-put_stored v leaf change l c = (
+pub put_stored : (v : View) (n a b value : ℕ) (leaf change : List ℕ) → a + 2 ≤ b
+    → leaf ≡ 1 ∷ value ∷ [] → change ≡ words_of (Change (sample_put n a value).change)
+    → StoredAll (storing_all (storing_all v a leaf) b change) (rows_of (sample_put n a value) b)
+put_stored v n a b value leaf change apart l c = (
   λ k less. subst (λ (ws : List ℕ). slice_get ws k
-      ≡ Some (own_at (storing_all (storing_all v 4 leaf) 6 change).own (6 + k))) c
-      (stored_at (storing_all v 4 leaf) 6 change k
+      ≡ Some (own_at (storing_all (storing_all v a leaf) b change).own (b + k))) c
+      (stored_at (storing_all v a leaf) b change k
       (subst (λ (ws : List ℕ). k < length ws) (sym c) less)),
   (
     λ k less. subst (λ (ws : List ℕ). slice_get ws k
-        ≡ Some (own_at (storing_all (storing_all v 4 leaf) 6 change).own (4 + k))) l
-        (stored_first v 4 leaf 6 change
-        (subst (λ (ws : List ℕ). 4 + length ws ≤ 6) (sym l) (omega arith)) k
+        ≡ Some (own_at (storing_all (storing_all v a leaf) b change).own (a + k))) l
+        (stored_first v a leaf b change
+        (subst (λ (ws : List ℕ). a + length ws ≤ b) (sym l) (omega arith)) k
         (subst (λ (ws : List ℕ). k < length ws) (sym l) less)),
     tt,
   ),
@@ -53,22 +54,24 @@ put_stored v leaf change l c = (
 -- ---- the install
 
 -- the put may be installed once its call has begun
-pub put_installable : (v : View) → IsSound v → v.who ≡ CallerOf 0
-    → v.pending ≡ None → StoredAll v (rows_of sample_put 6) → HoldsRow (now v) 0 6 9
-    → HoldsRow (now v) 0 4 2
-    → (w : View) → Turned v (beginning v (Some (Put 1 1))) w → IsInstallable w 6 sample_put
-put_installable v s mine none stored change leaf w t =
+pub put_installable : (v : View) (n a b value : ℕ) → 4 ≤ a → a < place_limit → IsSound v
+    → v.who ≡ CallerOf n → v.pending ≡ None → StoredAll v (rows_of (sample_put n a value) b)
+    → HoldsRow (now v) n b 9 → HoldsRow (now v) n a 2
+    → (w : View) → Turned v (beginning v (Some (Put 1 value))) w
+    → IsInstallable w b (sample_put n a value)
+put_installable v n a b value low high s mine none stored change leaf w t =
     record {
-      number = 0;
+      number = n;
       mine = ap (λ x. x.who) t.view ∙ mine;
-      held = (held 6 9 change, (held 4 2 leaf, tt));
-      stored = subst (λ (x : View). StoredAll x (rows_of sample_put 6)) (sym t.view) stored;
+      held = (held b 9 change, (held a 2 leaf, tt));
+      stored = subst (λ (x : View). StoredAll x (rows_of (sample_put n a value) b)) (sym t.view)
+          stored;
       owned = refl;
       unset = refl;
       word = (now w).anchor;
       slot = in_anchor refl refl refl;
       linked = ever_now (start w.start w.words) (λ u. Linked u 2) w.log at_anchor;
-      unrefused = open_unrefused w t.sound 0 2 (anchor_is refl);
+      unrefused = open_unrefused w t.sound n 2 (anchor_is refl);
       fits = a_put record {
         kind = refl;
         by_key = record {
@@ -76,60 +79,68 @@ put_installable v s mine none stored change leaf w t =
           index = of_anchor refl refl;
         };
         from = nothing (ref_of-word_of Empty tt);
-        leaf = 4;
-        to = ref_of-word_of (LeafAt 4)
-            record { behind_fixed = omega arith; below_limit = omega arith };
+        leaf = a;
+        to = ref_of-word_of (LeafAt a) record { behind_fixed = low; below_limit = high };
         fresh_are = refl;
       };
-      allowed = begun_allows v 0 (Some (Put 1 1)) w s mine none t sample_put.change (λ _. refl);
+      allowed = begun_allows v n (Some (Put 1 value)) w s mine none t
+          (sample_put n a value).change (λ _. refl);
     }
   where
-    held : (base size : ℕ) → HoldsRow (now v) 0 base size → HoldsRow (now w) 0 base size
+    held : (base size : ℕ) → HoldsRow (now v) n base size → HoldsRow (now w) n base size
     held base size h =
-        let here : IsSound (beginning v (Some (Put 1 1)) w.log) = subst IsSound t.view t.sound in
-        let row : HeldRow = record { caller = 0; base = base; size = size } in
+        let here : IsSound (beginning v (Some (Put 1 value)) w.log) = subst IsSound t.view t.sound in
+        let row : HeldRow = record { caller = n; base = base; size = size } in
         subst (λ (x : View). Among row (now x).held) (sym t.view)
         (held_later v.start v.words row v.log w.log here.lawful.enabled
         (subst (λ x. Later x v.log w.log) mine t.later) h)
 
--- a caller of number 0 that has filled its leaf and its change, and is in no call, may install it
+-- a caller that has filled its leaf and its change, and is in no call, may install it
 -- once its call has begun
-pub put_filled : (old mid who : Caller) (from to : ℕ) → from ≡ word_of Empty → to ≡ word_of (LeafAt 4)
-    → IsCaller old → (old.leaf ≡ Some 4) × (old.change ≡ Some 6) → old.number ≡ 0
-    → old.seat.view.pending ≡ None → mid ≡ filled_with old 4 (1 ∷ 1 ∷ [])
-    → who ≡ filled_with mid 6 (0 ∷ 1 ∷ 2 ∷ 0 ∷ from ∷ to ∷ 0 ∷ 1 ∷ 1 ∷ []) → IsCaller who
-    → IsSound who.seat.view → (w : View)
-    → Turned who.seat.view (beginning who.seat.view (Some (Put 1 1))) w
-    → IsInstallable w 6 sample_put × (who.seat.view.who ≡ CallerOf 0)
-put_filled old mid who from to from_is to_is c rows number none first second caller sound w t =
-    let change : List ℕ = 0 ∷ 1 ∷ 2 ∷ 0 ∷ from ∷ to ∷ 0 ∷ 1 ∷ 1 ∷ [] in
-    let is = filled_twice old mid who 4 6 (1 ∷ 1 ∷ []) change first second in
+pub put_filled : (old mid who : Caller) (a b value from to owner : ℕ) → a + 2 ≤ b → 4 ≤ a → b < place_limit
+    → from ≡ word_of Empty → to ≡ word_of (LeafAt a) → owner ≡ old.number → IsCaller old
+    → (old.leaf ≡ Some a) × (old.change ≡ Some b) → old.seat.view.pending ≡ None
+    → mid ≡ filled_with old a (1 ∷ value ∷ [])
+    → who ≡ filled_with mid b (0 ∷ 1 ∷ 2 ∷ 0 ∷ from ∷ to ∷ owner ∷ 1 ∷ value ∷ [])
+    → IsCaller who → IsSound who.seat.view → (w : View)
+    → Turned who.seat.view (beginning who.seat.view (Some (Put 1 value))) w
+    → IsInstallable w b (sample_put old.number a value) × (who.seat.view.who ≡ CallerOf old.number)
+put_filled old mid who a b value from to owner apart low high from_is to_is owner_is c rows none first
+    second caller sound w t =
+    let n = old.number in
+    let put = sample_put n a value in
+    let below : a < place_limit = omega arith in
+    let leaf : List ℕ = 1 ∷ value ∷ [] in
+    let change : List ℕ = 0 ∷ 1 ∷ 2 ∷ 0 ∷ from ∷ to ∷ owner ∷ 1 ∷ value ∷ [] in
+    let is = filled_twice old mid who a b leaf change first second in
     let V = old.seat.view in
-    let number_is : who.number ≡ 0 = ap (λ (x : Caller). x.number) is ∙ number in
-    let mine : who.seat.view.who ≡ CallerOf 0 = caller.mine ∙ ap CallerOf number_is in
+    let number_is : who.number ≡ n = ap (λ (x : Caller). x.number) is in
+    let mine : who.seat.view.who ≡ CallerOf n = caller.mine ∙ ap CallerOf number_is in
     let pending : who.seat.view.pending ≡ None =
     ap (λ (x : Caller). x.seat.view.pending) is
-    ∙ storing_all-pending (storing_all V 4 (1 ∷ 1 ∷ [])) 6 change ∙ none in
-    let words : change ≡ words_of (Change sample_put.change) =
-    ap₂ (λ a b. 0 ∷ 1 ∷ 2 ∷ 0 ∷ a ∷ b ∷ 0 ∷ 1 ∷ 1 ∷ []) from_is to_is in
-    let stored = subst (λ (x : Caller). StoredAll x.seat.view (rows_of sample_put 6)) (sym is)
-    (put_stored V (1 ∷ 1 ∷ []) change refl words) in (
-      put_installable who.seat.view sound mine pending stored
-          (subst (λ n. HoldsRow (now who.seat.view) n 6 9) number_is
-          (caller.rows ChangeKind 6 (ap (λ (x : Caller). x.change) is ∙ rows.1)))
-          (subst (λ n. HoldsRow (now who.seat.view) n 4 2) number_is
-          (caller.rows Leaf 4 (ap (λ (x : Caller). x.leaf) is ∙ rows.0))) w t,
+    ∙ storing_all-pending (storing_all V a leaf) b change ∙ none in
+    let words : change ≡ words_of (Change put.change) =
+    ap₂ (λ x y. 0 ∷ 1 ∷ 2 ∷ 0 ∷ x ∷ y ∷ owner ∷ 1 ∷ value ∷ []) from_is to_is
+    ∙ ap (λ o. 0 ∷ 1 ∷ 2 ∷ 0 ∷ word_of Empty ∷ word_of (LeafAt a) ∷ o ∷ 1 ∷ value ∷ []) owner_is in
+    let stored = subst (λ (x : Caller). StoredAll x.seat.view (rows_of put b)) (sym is)
+    (put_stored V n a b value leaf change apart refl words) in (
+      put_installable who.seat.view n a b value low below sound mine pending stored
+          (subst (λ m. HoldsRow (now who.seat.view) m b 9) number_is
+          (caller.rows ChangeKind b (ap (λ (x : Caller). x.change) is ∙ rows.1)))
+          (subst (λ m. HoldsRow (now who.seat.view) m a 2) number_is
+          (caller.rows Leaf a (ap (λ (x : Caller). x.leaf) is ∙ rows.0))) w t,
       mine,
     )
 
 -- the caller that installed it may help it
-pub put_helps : (u v w : View) → u.who ≡ CallerOf 0 → Turned u (beginning u (Some (Put 1 1))) v
-    → IsInstalled v 6 sample_put w → MayHelp w 6
-put_helps u v w mine t i =
-    met_change w i.logged.sound 0
+pub put_helps : (u v w : View) (n a b value : ℕ) → 4 ≤ b → b < place_limit → u.who ≡ CallerOf n
+    → Turned u (beginning u (Some (Put 1 value))) v → IsInstalled v b (sample_put n a value) w
+    → MayHelp w b
+put_helps u v w n a b value low high mine t i =
+    met_change w i.logged.sound n
     (ap (λ x. x.who) i.logged.view ∙ goes_on_who i.seen ∙ ap (λ x. x.who) t.view ∙ mine)
-    2 0 (word_of (ChangeAt 6)) 6 i.in_slot
-    (ref_of-word_of (ChangeAt 6) record { behind_fixed = omega arith; below_limit = omega arith })
+    2 0 (word_of (ChangeAt b)) b i.in_slot
+    (ref_of-word_of (ChangeAt b) record { behind_fixed = low; below_limit = high })
 
 -- a caller that loads its word from the anchor's slot may help it
 pub put_met : (v : View) (number word : ℕ) (w : View) → v.who ≡ CallerOf number

@@ -13,9 +13,9 @@ abbrev pub storing_all : View → ℕ → List ℕ → View
 storing_all v place [] = v
 storing_all v place (word ∷ words) = storing_all (storing v place word) (place + 1) words
 
--- a put of 1 and 1 into the anchor's slot, with its leaf at 4
-abbrev pub sample_put : Filling
-sample_put =
+-- a caller's put of a value at the key 1 into the anchor's empty slot, with its leaf at a base
+abbrev pub sample_put : (owner leaf value : ℕ) → Filling
+sample_put owner leaf value =
     record {
       change = record {
         decision = undecided;
@@ -23,12 +23,12 @@ sample_put =
         node = anchor;
         index = 0;
         from = word_of Empty;
-        to = word_of (LeafAt 4);
-        owner = 0;
+        to = word_of (LeafAt leaf);
+        owner = owner;
         key = 1;
-        value = 1;
+        value = value;
       };
-      fresh = row_at 4 (Leaf record { key = 1; value = 1 }) ∷ [];
+      fresh = row_at leaf (Leaf record { key = 1; value = value }) ∷ [];
     }
 
 -- the start of a rebuild at 15 of the row at 4, which hangs in the anchor

@@ -1,8 +1,11 @@
 //! Installed changes.
-ghost use Rattle.std.specs.Prelude.{◌≡◌, None, Some};
+ghost use Rattle.std.specs.Prelude.{◌≡◌, ◌+◌, ◌<◌, ◌≤◌, None, Some};
+ghost use Rattle.ist_core.specs.RowLayout.{place_limit};
 ghost use Rattle.ist_rows.specs.Rows.{IsCaller};
 ghost use Rattle.ist_dcss.specs.declared.decisions.Installed.TheVariants.{Yes};
 ghost use Rattle.ist_dcss.specs.Helping.{MayHelp};
+ghost use Rattle.ist_dcss.specs.Installing.{Filling};
+ghost use Rattle.test_samples.specs.Samples.{sample_put};
 
 use crate::filling::fill_row;
 use ist_core::Command;
@@ -11,33 +14,44 @@ use ist_layout::{ANCHOR_SLOT_PLACE, PUT_KIND, Ref, START_KIND, UNDECIDED};
 use ist_rows::{Caller, Kind};
 use ist_rule::{TreeTable, begin_call, know, load};
 
-/// Fills a put of 1 and 1 into the rows at 4 and 6, and installs it in the anchor's slot.
-pub fn install_put(table: &TreeTable, who: &mut Caller) -> Installed
+/// Fills a put of the value at the key 1 into both rows, and installs it in the anchor's slot, if that slot
+/// is empty.
+pub fn install_put(
+    table: &TreeTable,
+    who: &mut Caller,
+    leaf: u32,
+    change: u32,
+    value: u64,
+) -> Installed
+    ghost filling: { Filling }
     requires same_table { who.old.seat.table ≡ table.now.table }
+    requires is_put { filling ≡ sample_put who.old.number leaf value }
     requires caller { IsCaller who.old }
-    requires rows { (who.old.leaf ≡ Some 4) × (who.old.change ≡ Some 6) }
-    requires number { who.old.number ≡ 0 }
+    requires rows { (who.old.leaf ≡ Some leaf) × (who.old.change ≡ Some change) }
+    requires apart { leaf + 2 ≤ change }
+    requires within { (4 ≤ leaf) × (change < place_limit) }
     requires in_none { who.old.seat.view.pending ≡ None }
     ensures same_table { who.new.seat.table ≡ table.now.table }
-    ensures may_help { result ≡ Yes → MayHelp who.new.seat.view 6 }
+    ensures may_help { result ≡ Yes → MayHelp who.new.seat.view change }
 {
     let from = Ref::Empty.to_word();
-    let to = Ref::Leaf { base: 4 }.to_word();
-    fill_row(table, who, Kind::Leaf, 4, &[1, 1]);
+    let to = Ref::Leaf { base: leaf }.to_word();
+    let owner = u64::from(who.number);
+    fill_row(table, who, Kind::Leaf, leaf, &[1, value]);
     fill_row(
         table,
         who,
         Kind::Change,
-        6,
-        &[UNDECIDED, PUT_KIND, 2, 0, from, to, 0, 1, 1],
+        change,
+        &[UNDECIDED, PUT_KIND, 2, 0, from, to, owner, 1, value],
     );
     know(&who.seat);
     begin_call(
         table,
         &mut who.seat,
-        Some(Command::Put { key: 1, value: 1 }),
+        Some(Command::Put { key: 1, value }),
     );
-    install(table, &mut who.seat, 6)
+    install(table, &mut who.seat, change)
 }
 
 /// Fills a start of a rebuild of the row at 4 into the rows at 15 and 20, and installs it in the

@@ -20,8 +20,8 @@ fn two_closed(alloc: Global) -> Result<Closed, OpenFault> {
     Ok(tree.close(maker))
 }
 
-// The word at a place, if there is one.
-fn word_at(closed: &Closed, place: u64) -> Option<u64> {
+/// The word at a place, if there is one.
+pub(crate) fn word_at(closed: &Closed, place: u64) -> Option<u64> {
     if place < closed.word_count() {
         return Some(closed.word(place));
     }

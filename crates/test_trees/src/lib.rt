@@ -1,8 +1,9 @@
 //! Puts, removes, finds, freezes and shots of trees, by one pass and by several: tests alone.
 //!
-//! Read `openings.rt`, `new_trees.rt`, `closed_trees.rt` and `freezes.rt`, then `rows.rt`, `shortages.rt` and `finds.rt`, and
-//! then `shots.rt` with `scans.rt`, `scan_ends.rt` and `scan_threads.rt`, and `lives.rt`. Stands on `ist_tree`, `ist_scan`,
-//! `ist_live`, `test_tales` and `plain_map`.
+//! Read `openings.rt`, `new_trees.rt`, `closed_trees.rt` and `freezes.rt`, then `shapes.rt`, `rows.rt`,
+//! `rebuilds.rt`, `shortages.rt` and `finds.rt`, and then `shots.rt` with `scans.rt`, `scan_ends.rt` and
+//! `scan_threads.rt`, and `lives.rt`. Stands on `ist_tree`, `ist_scan`, `ist_live`, `test_tales` and
+//! `plain_map`.
 #![tactic(auto)]
 
 #[cfg(test)]
@@ -31,6 +32,8 @@ mod scan_ends;
 mod scan_threads;
 #[cfg(test)]
 mod scans;
+#[cfg(test)]
+mod shapes;
 #[cfg(test)]
 mod shortages;
 #[cfg(test)]

@@ -3,7 +3,8 @@ ghost use Rattle.std.specs.Prelude.{◌≡◌, ◌≤◌};
 
 use crate::asking::ask;
 use crate::openings::{numbered, open_with};
-use ist_core::Pair;
+use crate::shapes::is_ideal;
+use ist_core::{Command, Pair};
 use ist_tree::{OpenFault, Pass, Tree};
 use std::alloc::Global;
 use std::test::Fail;
@@ -24,19 +25,29 @@ fn put_again(tree: &Tree, pass: &mut Pass, key: u64, first: u64, last: u64) -> b
     agrees
 }
 
-// How many words are used, how many pairs there are, and the first, where so many puts of one key are made
-// in a tree of so many keys; and whether it is settled, and each put was answered right, without a refused
-// rebuild.
+// What a tree is like at its close.
+#[derive(Clone, Copy, Debug, PartialEq, Eq, Drop)]
+struct Found {
+    used: u64,
+    pairs: u64,
+    first: Option<Pair>,
+    /// Whether it is ideal, with counts of 0.
+    ideal: bool,
+    /// Whether it is settled, and each put was answered right, without a refused rebuild.
+    right: bool,
+}
+
+// What a tree of so many keys is like where so many puts of one key were made in it.
 fn used_by(
     alloc: Global,
     keys: u64,
     key: u64,
     puts: u64,
-) -> Result<(u64, usize, Option<Pair>, bool), OpenFault>
+) -> Result<Found, OpenFault>
     requires few { (keys ≤ 100000) × (puts ≤ 100000) }
 {
-    let plain = numbered(alloc, 1, keys + 1, 0)?;
-    let (tree, mut maker) = open_with(alloc, 100_000, &plain)?;
+    let mut plain = numbered(alloc, 1, keys + 1, 0)?;
+    let (tree, mut maker) = open_with(alloc, 10_000, &plain)?;
     let mut pass = tree.pass(&mut maker);
     let agrees = put_again(&tree, &mut pass, key, key, puts);
     let ample = pass.rebuild_refused().is_none();
@@ -44,28 +55,37 @@ fn used_by(
     let closed = tree.close(maker);
     let right = closed.settled() && agrees && ample;
     let pairs = closed.pairs(alloc)?;
-    Ok((closed.used(), pairs.len(), pairs.first().copied(), right))
+    plain.apply(Command::Put { key, value: puts })?;
+    Ok(Found {
+        used: closed.used(),
+        pairs: pairs.len() as u64,
+        first: pairs.first().copied(),
+        ideal: is_ideal(alloc, &closed, &plain)?,
+        right,
+    })
 }
 
 #[test]
 fn rows_that_come_due_are_rebuilt_from_the_top_one_down(rt: HostRuntime) -> Result<(), Fail> {
     // the keys, the key that is put, the puts, the words used: 4 and those of the opening, 11 a put, and for
-    // each rebuild 23 and those of the new inner rows
+    // each rebuild 23 and those of the new inner rows; whether the last put had the top row rebuilt
     let cases = [
-        (2, 1, 7, 92),
-        (2, 1, 8, 133),
-        (16, 1, 8, 337),
-        (400, 1, 99, 6148),
-        (400, 1, 100, 8685),
+        (2, 1, 7, 92, false),
+        (2, 1, 8, 133, true),
+        (16, 1, 8, 337, true),
+        (400, 1, 99, 6148, false),
+        (400, 1, 100, 8685, true),
     ];
-    for (keys, key, puts, used) in cases {
+    for (keys, key, puts, used, ideal) in cases {
         let found = used_by(rt.alloc(), keys, key, puts)?;
-        let first = Some(Pair { key, value: puts });
-        assert_eq!(rt;
-            (found.0, found.1 as u64, found.2, found.3),
-            (used, keys, first, true),
-            "{keys} keys, {puts} puts"
-        );
+        let wanted = Found {
+            used,
+            pairs: keys,
+            first: Some(Pair { key, value: puts }),
+            ideal,
+            right: true,
+        };
+        assert_eq!(rt; found, wanted, "{keys} keys, {puts} puts");
     }
     Ok(())
 }

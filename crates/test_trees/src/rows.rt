@@ -3,6 +3,7 @@ ghost use Rattle.std.specs.Prelude.{◌≡◌, ◌≤◌};
 
 use crate::asking::{ask, ask_each};
 use crate::openings::numbered;
+use crate::shapes::is_ideal;
 use Asked::{Find, Put, Remove};
 use ist_core::{Full, Pair, Reply};
 use ist_rest::Closed;
@@ -80,15 +81,16 @@ fn closed_behind_ten(alloc: Global) -> Result<(Closed, Option<usize>), OpenFault
     closed_behind(alloc, 1000, &cases)
 }
 
-// Whether the pairs of a closed tree are 1 to 10, each with its own number as the value, and those from 3 to 5 are
-// listed so.
-fn has_ten(alloc: Global, closed: &Closed) -> Result<(bool, bool), AllocError> {
+// Whether the pairs of a closed tree are 1 to 10, each with its own number as the value, those from 3 to 5 are
+// listed so, and the tree over all of them is ideal, with counts of 0.
+fn has_ten(alloc: Global, closed: &Closed) -> Result<[bool; 3], OpenFault> {
     let ten = numbered(alloc, 1, 11, 0)?;
     let all = closed.pairs(alloc)?.as_slice() == ten.pairs();
+    let ideal = is_ideal(alloc, closed, &ten)?;
     drop(ten);
     let three = numbered(alloc, 3, 6, 0)?;
     let some = closed.list(alloc, 3, 5)?.as_slice() == three.pairs();
-    Ok((all, some))
+    Ok([all, some, ideal])
 }
 
 #[test]
@@ -97,7 +99,7 @@ fn the_tenth_put_rebuilds_the_first_pair_row(rt: HostRuntime) -> Result<(), Fail
     let listed = has_ten(rt.alloc(), &closed)?;
     assert_eq!(rt;
         (wrong, closed.used(), closed.settled(), listed),
-        (None, 258, true, (true, true))
+        (None, 258, true, [true; 3])
     );
     Ok(())
 }

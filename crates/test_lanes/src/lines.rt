@@ -1,0 +1,274 @@
+//! Lines read from bytes, what is printed for them, and the map of one thread, call by call.
+ghost use Rattle.std.specs.Prelude.{◌<◌, ◌≤◌, ◌^◌};
+
+use ist_core::{Command, Pair, Reply};
+use plain_map::Plain;
+use std::alloc::{AllocError, Global};
+use std::test::Fail;
+use tele_io::{MemorySink, MemorySource, SinkFault};
+use tele_lines::{
+    Cause, Item, Line, LineFault, Lines, Version, print_answer, print_bad, print_interval,
+    print_pairs,
+};
+
+// What a call of `next` returns.
+type Next = Result<Option<Line>, LineFault>;
+
+fn asks(number: u64, item: Item) -> Next {
+    Ok(Some(Line { number, item }))
+}
+
+fn put(number: u64, key: u64, value: u64) -> Next {
+    asks(number, Item::Point(Command::Put { key, value }))
+}
+
+fn get(number: u64, key: u64) -> Next {
+    asks(number, Item::Point(Command::Get { key }))
+}
+
+fn remove(number: u64, key: u64) -> Next {
+    asks(number, Item::Point(Command::Remove { key }))
+}
+
+fn interval(number: u64, first: u64, last: u64) -> Next {
+    asks(number, Item::Interval { first, last })
+}
+
+fn bad(line: u64, cause: Cause) -> Next {
+    Err(LineFault::Bad { line, cause })
+}
+
+// Returns the number of the first call of `next` that returns something else than expected.
+fn first_other_call(lines: &mut Lines, source: &mut MemorySource, calls: &[Next]) -> Option<usize> {
+    for (i, expected) in calls.iter().enumerate() {
+        if lines.next(source) != *expected {
+            return Some(i);
+        }
+    }
+    None
+}
+
+// The same for a new reader, over bytes that come in pieces of this size, with these reads failing.
+fn first_other_line(
+    alloc: Global,
+    bytes: &[u8],
+    piece: usize,
+    fails: &[u64],
+    calls: &[Next],
+) -> Result<Option<usize>, AllocError>
+    requires some { 0 < piece }
+{
+    let mut source = MemorySource::new(bytes.to_vec(alloc)?, piece, fails.to_vec(alloc)?);
+    let mut lines = Lines::new(1_000);
+    Ok(first_other_call(&mut lines, &mut source, calls))
+}
+
+// Returns the first size of pieces, of 1, 2, 3 and more than all, in which a call returns something
+// else than expected.
+fn first_other_piece(
+    alloc: Global,
+    bytes: &[u8],
+    calls: &[Next],
+) -> Result<Option<(usize, usize)>, AllocError> {
+    for piece in [1usize, 2, 3, 1_000] {
+        if let Some(call) = first_other_line(alloc, bytes, piece.max(1), &[], calls)? {
+            return Ok(Some((piece, call)));
+        }
+    }
+    Ok(None)
+}
+
+#[test]
+fn good_lines_come_by_their_numbers_until_the_input_ends(rt: HostRuntime) -> Result<(), Fail> {
+    // the input, what each call of `next` returns
+    let rows: [(&[u8], &[Next]); 6] = [
+        (b"", &[Ok(None), Ok(None)]),
+        (
+            b"P 5 7\nG 5\nR 5\nI 0 10\n",
+            &[
+                put(1, 5, 7),
+                get(2, 5),
+                remove(3, 5),
+                interval(4, 0, 10),
+                Ok(None),
+                Ok(None),
+            ],
+        ),
+        (b"# note\r\n\nG 1", &[get(3, 1), Ok(None)]),
+        (
+            b"I 18446744073709551615 3",
+            &[interval(1, u64::MAX, 3), Ok(None)],
+        ),
+        (
+            b"P 000000000000000000000000000000000000000000000000000000000000000000000000000\
+            5 7\r\n",
+            &[put(1, 5, 7), Ok(None)],
+        ),
+        (
+            b"V 2\nP -1 0\nG 9223372036854775807\n",
+            &[put(2, (1 << 63) - 1, 1 << 63), get(3, u64::MAX), Ok(None)],
+        ),
+    ];
+    for (bytes, calls) in rows {
+        let other = first_other_piece(rt.alloc(), bytes, calls)?;
+        assert_eq!(rt; other, None);
+    }
+    Ok(())
+}
+
+#[test]
+fn a_bad_line_ends_the_reading(rt: HostRuntime) -> Result<(), Fail> {
+    // the input, what each call of `next` returns; the last is returned again and again
+    let rows: [(&[u8], &[Next]); 7] = [
+        (
+            b"P 1 1\nX 2\nP 3 3\n",
+            &[put(1, 1, 1), bad(2, Cause::Letter), bad(2, Cause::Letter)],
+        ),
+        (b"G 1\nV 2\n", &[get(1, 1), bad(2, Cause::Letter)]),
+        (b"P 1", &[bad(1, Cause::Fields), bad(1, Cause::Fields)]),
+        (b"P 1 x\n", &[bad(1, Cause::Number)]),
+        (b"P 18446744073709551616 1\n", &[bad(1, Cause::Number)]),
+        (b"V 2\n\nG 9223372036854775808", &[bad(3, Cause::Number)]),
+        (
+            b"P 0000000000000000000000000000000000000000000000000000000000000000000000000000\
+            5 7\nG 1\n",
+            &[bad(1, Cause::Long), bad(1, Cause::Long)],
+        ),
+    ];
+    for (bytes, calls) in rows {
+        let other = first_other_piece(rt.alloc(), bytes, calls)?;
+        assert_eq!(rt; other, None);
+    }
+    Ok(())
+}
+
+#[test]
+fn a_line_beyond_the_limit_is_bad(rt: HostRuntime) -> Result<(), Fail> {
+    // the input, what a call of `next` returns if two lines are allowed
+    let rows: [(&[u8], Next); 2] = [(b"\n\nG 1\n", bad(3, Cause::Lines)), (b"\n\n", Ok(None))];
+    for (bytes, expected) in rows {
+        let mut source = MemorySource::new(bytes.to_vec(rt.alloc())?, 3, Vec::new(rt.alloc()));
+        let mut lines = Lines::new(2);
+        let next = lines.next(&mut source);
+        assert_eq!(rt; next, expected);
+    }
+    Ok(())
+}
+
+#[test]
+fn a_reader_goes_on_after_a_failed_read(rt: HostRuntime) -> Result<(), Fail> {
+    // the size of pieces, which reads fail, what each call of `next` returns
+    let rows: [(usize, &[u64], &[Next]); 3] = [
+        (
+            1,
+            &[3],
+            &[Err(LineFault::Read), put(1, 5, 7), get(2, 5), Ok(None)],
+        ),
+        (
+            3,
+            &[3],
+            &[put(1, 5, 7), Err(LineFault::Read), get(2, 5), Ok(None)],
+        ),
+        (
+            100,
+            &[1, 2],
+            &[
+                put(1, 5, 7),
+                Err(LineFault::Read),
+                Err(LineFault::Read),
+                get(2, 5),
+                Ok(None),
+            ],
+        ),
+    ];
+    for (piece, fails, calls) in rows {
+        let other = first_other_line(rt.alloc(), b"P 5 7\nG 5", piece.max(1), fails, calls)?;
+        assert_eq!(rt; other, None);
+    }
+    Ok(())
+}
+
+#[test]
+fn each_reply_has_its_line(rt: HostRuntime) {
+    let pairs = [Pair { key: 1, value: 2 }, Pair { key: 1 << 63, value: 0 }];
+    let mut out = MemorySink::new(rt.alloc(), Vec::new(rt.alloc()));
+    let printed = [
+        print_answer(&mut out, Version::One, 17, Some(1200)),
+        print_answer(&mut out, Version::One, 18, None),
+        print_answer(&mut out, Version::Two, 19, Some(1200)),
+        print_interval(&mut out, Version::One, 20, &pairs),
+        print_interval(&mut out, Version::One, 21, &[]),
+        print_pairs(&mut out, Version::Two, &pairs),
+        print_bad(&mut out, 22, Cause::Long),
+        print_bad(&mut out, 23, Cause::Letter),
+        print_bad(&mut out, 24, Cause::Fields),
+        print_bad(&mut out, 25, Cause::Number),
+        print_bad(&mut out, u64::MAX, Cause::Lines),
+    ];
+    assert_eq!(rt; printed, [Ok(()); 11]);
+    let text: &[u8] = b"17 1200\n18 -\n19 -9223372036854774608\n\
+        20 2\n1 2\n9223372036854775808 0\n21 0\n\
+        -9223372036854775807 -9223372036854775806\n0 -9223372036854775808\n\
+        ! 22 long\n! 23 letter\n! 24 fields\n! 25 number\n! 18446744073709551615 lines\n";
+    assert_eq!(rt; out.bytes(), text);
+}
+
+#[test]
+fn a_failed_write_leaves_the_lines_before_it(rt: HostRuntime) -> Result<(), Fail> {
+    let pairs = [Pair { key: 1, value: 2 }, Pair { key: 3, value: 4 }];
+    // which write fails, what is written before it
+    let rows: [(u64, &[u8]); 3] = [(0, b""), (1, b"9 2\n"), (2, b"9 2\n1 2\n")];
+    for (fails, before) in rows {
+        let mut out = MemorySink::new(rt.alloc(), [fails].to_vec(rt.alloc())?);
+        let printed = print_interval(&mut out, Version::One, 9, &pairs);
+        assert_eq!(rt; (printed, out.bytes()), (Err(SinkFault::Failed), before));
+    }
+    Ok(())
+}
+
+#[test]
+fn a_map_of_one_thread_replies_with_the_value_before(rt: HostRuntime) -> Result<(), Fail> {
+    let mut map = Plain::new(rt.alloc());
+    // a command, the reply to it
+    let rows: [(Command, Reply); 6] = [
+        (Command::Put { key: 5, value: 7 }, None),
+        (Command::Put { key: 5, value: 9 }, Some(7)),
+        (Command::Get { key: 5 }, Some(9)),
+        (Command::Remove { key: 5 }, Some(9)),
+        (Command::Get { key: 5 }, None),
+        (Command::Remove { key: 5 }, None),
+    ];
+    for (command, expected) in rows {
+        let reply = map.apply(command)?;
+        assert_eq!(rt; reply, expected);
+    }
+    assert_eq!(rt; map.pairs().len(), 0);
+    Ok(())
+}
+
+#[test]
+fn a_map_of_one_thread_lists_from_one_key_to_another(rt: HostRuntime) -> Result<(), Fail> {
+    let mut map = Plain::new(rt.alloc());
+    for key in [9u64, 1, 5, u64::MAX] {
+        map.apply(Command::Put { key, value: key / 2 })?;
+    }
+    let all = [
+        Pair { key: 1, value: 0 },
+        Pair { key: 5, value: 2 },
+        Pair { key: 9, value: 4 },
+        Pair { key: u64::MAX, value: u64::MAX / 2 },
+    ];
+    // the first key, the last, the part of all pairs that is listed
+    let rows: [(u64, u64, usize, usize); 6] = [
+        (0, u64::MAX, 0, 4),
+        (1, 9, 0, 3),
+        (2, 9, 1, 3),
+        (1, 8, 0, 2),
+        (6, 8, 2, 2),
+        (9, 1, 0, 0),
+    ];
+    for (first, last, from, to) in rows {
+        assert_eq!(rt; Some(map.list(first, last)), all.get(from..to));
+    }
+    Ok(())
+}

@@ -1,0 +1,73 @@
+//! A caller that gives up its pair row, since another caller's put has published a higher one.
+ghost use Rattle.std.specs.Prelude.{◌≡◌};
+ghost use Rattle.ist_rows.specs.Rows.{IsCaller};
+ghost use Rattle.ist_tree.specs.Insides.{IsPass};
+
+use crate::tables::{Opened, open};
+use crate::updates::{enter_idle, update_all};
+use ist_core::{Full, Pair};
+use ist_layout::{ANCHOR_SLOT_PLACE, Ref};
+use ist_rows::{Caller, Kind, drop_pair, enter, reserve};
+use ist_rule::{TreeTable, know, load};
+use ist_tree::OpenFault;
+use std::alloc::Global;
+use std::test::Fail;
+
+// The row at which the inner row in the anchor's slot lies, for which the caller gives up its pair row,
+// if that lies lower.
+fn give_up(table: &TreeTable, who: &mut Caller) -> Option<u32>
+    requires same_table { who.old.seat.table ≡ table.now.table }
+    requires caller { IsCaller who.old }
+    ensures same_table { who.new.seat.table ≡ table.now.table }
+    ensures caller { IsCaller who.new }
+{
+    know(&who.seat);
+    let word = load(table, &mut who.seat, ANCHOR_SLOT_PLACE);
+    let base = match Ref::from_word(word) {
+        Some(Ref::Inner { base }) => base,
+        _ => return None,
+    };
+    match who.pair {
+        Some(pair) if pair < base => drop_pair(table, who, base),
+        _ => return None,
+    }
+    Some(base)
+}
+
+// What one caller sees that holds a pair row, and gives it up once another has put a key beside the
+// only one: the row that it held, the row that the other published, and the next row that it reserves.
+type Seen = (Result<u32, Full>, Option<u32>, Result<u32, Full>);
+
+fn reserve_again(table: &TreeTable, low: &mut Caller, other: &mut Caller) -> Option<Seen>
+    requires same_table { low.old.seat.table ≡ table.now.table }
+    requires caller { IsCaller low.old }
+    requires other_table { other.old.seat.table ≡ table.now.table }
+    requires other_pass { IsPass other.old }
+{
+    let held = reserve(table, low, Kind::Pair);
+    if !update_all(table, other, &[(9, Some(1))]) {
+        return None;
+    }
+    let published = give_up(table, low);
+    Some((held, published, reserve(table, low, Kind::Pair)))
+}
+
+// The same in a new table of one pair.
+fn see_dropped(alloc: Global) -> Result<Option<Seen>, OpenFault> {
+    let Opened {
+        table,
+        mut maker,
+        ..
+    } = open(alloc, &[Pair { key: 5, value: 7 }], 60)?;
+    let mut other = enter_idle(&table, &mut maker);
+    let mut low = enter(&table, &mut maker);
+    Ok(reserve_again(&table, &mut low, &mut other))
+}
+
+#[test]
+fn a_pair_row_below_that_of_a_put_is_given_up(rt: HostRuntime) -> Result<(), Fail> {
+    // the leaf lies at 4, the rows of the put at 13, 15 and 22
+    let seen = see_dropped(rt.alloc())?;
+    assert_eq!(rt; seen, Some((Ok(6), Some(15), Ok(31))));
+    Ok(())
+}
