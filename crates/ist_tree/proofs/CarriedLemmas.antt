@@ -29,7 +29,7 @@ use Rattle.ist_updates.specs.Further.{HasWalkedFew}
 use Rattle.laws_progress.proofs.ProgressLemmas.{never_falls}
 use Rattle.ist_rule.specs.Learning.{now}
 use Rattle.ist_rule.proofs.LaterLemmas.{goes_on_more}
-use Rattle.ist_rule.proofs.WentOnLemmas.{later_by-goes_on, went_all, went_lawful, went_more, went_now}
+use Rattle.ist_rule.proofs.WentOnLemmas.{later_by-goes_on, went_all, went_grow, went_lawful, went_more, went_now}
 use Rattle.ist_rows.specs.declared.callers.Caller.{Caller}
 use Rattle.ist_rows.specs.Building.{HasRefused}
 use Rattle.ist_rows.specs.Rows.{IsCaller}
@@ -38,14 +38,15 @@ use Rattle.std.specs.Prelude.{IfSome}
 use Rattle.ist_updates.specs.declared.updates.Applied.{Applied}
 use Rattle.ist_updates.specs.declared.updates.Due.{Due}
 use Rattle.ist_updates.specs.Asking.{MayEnd, Updates}
-use Rattle.ist_updates.specs.Counting.{CameToLimit, IsCounted, LeavesDue}
+use Rattle.ist_updates.specs.Counting.{CameToLimit, CountedNowhere, IsCounted, LeavesDue}
 use Rattle.laws_settling.proofs.DoneLemmas.{others_count_nothing}
-use Rattle.ist_tree.specs.Working.{CarriesOut, IsDueRefused, IsLetGo, IsShut, IsTopShut, KeepsDone, LeavesShut, Rebuilds, RebuildsOn, Works, is_shut, none_came, was_refused}
+use Rattle.ist_tree.specs.Working.{CarriesOut, IsDueRefused, IsLetGo, IsShut, IsTopCame, IsTopShut, KeepsDone, LeavesShut, Rebuilds, RebuildsOn, Works, is_shut, none_came, was_refused}
 use Rattle.ist_tree.proofs.CameLemmas.{came_inside, came_within, closed_above, due_since, ever_here}
 use Rattle.ist_tree.proofs.CarryLemmas.{counted_on, may_end_on}
 use Rattle.ist_tree.proofs.DueLemmas.{done_more}
 use Rattle.ist_tree.proofs.EventLemmas.{rebuilds_count_none, rebuilds_work, updates_start_none, updates_work}
 use Rattle.ist_tree.proofs.RebuildLemmas.{starts_went}
+use Rattle.ist_tree.proofs.ShortLemmas.{due_refused_more}
 
 -- ---- what `apply` ensures
 
@@ -129,8 +130,9 @@ pub let_go : (old new : Caller) → old.seat.view.who ≡ CallerOf old.number
     → IsResolved old.seat.view old.number → IsCaller new → HasRefused new → new.number ≡ old.number
     → SearchedOn Updates old.seat.view new.seat.view → HasWalkedFew old.seat.view new.seat.view
     → CanGiveUp new.seat.view
-    → LeavesDue old.seat.view new.seat.view old.number None → IsLetGo old new
-let_go old new mine resolved c refused number went few can due =
+    → LeavesDue old.seat.view new.seat.view old.number None
+    → CountedNowhere old.seat.view.log new.seat.view.log old.number → IsLetGo old new
+let_go old new mine resolved c refused number went few can due uncounted =
     record {
       caller = c;
       refused = refused;
@@ -139,6 +141,7 @@ let_go old new mine resolved c refused number went few can due =
       few_walks = few;
       can = can;
       none_came = due;
+      uncounted = uncounted;
       starts = applied_done old new mine resolved went;
       due = none_due old new.seat.view went due;
     }
@@ -207,9 +210,9 @@ module _ (old mid new : Caller) (words : ℕ) (command : Command) (reply : Optio
       (subst (λ n. LaterBy (CallerOf n) Rebuilds w.log x.log) a.number
       (subst (λ who. LaterBy who Rebuilds w.log x.log) a.caller.mine on.went.later)) row
 
-  -- the row or its parent isn't open
-  top_shut : IsShut (now x) due.parent due.target → IsTopShut old.seat.view x old.number due.target
-  top_shut shut =
+  -- the row is the topmost that reached its limit
+  top_came : IsTopCame old.seat.view x old.number due.target
+  top_came =
       record {
         came =
             came_within v.start v.words old.number v.log v.log w.log x.log same_log longer due.target
@@ -217,6 +220,14 @@ module _ (old mid new : Caller) (words : ℕ) (command : Command) (reply : Optio
         top = λ other c.
             ever_later (start v.start v.words) (λ t. (rows : List ℕ) × Chain t other rows
             × Among due.target rows) longer (a.due.top other (came_before other c));
+      }
+
+  -- the row or its parent isn't open
+  top_shut : IsShut (now x) due.parent due.target → IsTopShut old.seat.view x old.number due.target
+  top_shut shut =
+      record {
+        came = top_came.came;
+        top = top_came.top;
         parent = due.parent;
         index = due.index;
         was_child =
@@ -243,7 +254,7 @@ module _ (old mid new : Caller) (words : ℕ) (command : Command) (reply : Optio
   pub carried_some : (answer : Result (Unit {0}) Full) (refused : Option Full)
       → refused ≡ result_err answer
       → OnOk answer (IsShut (now x) due.parent due.target) → OnOk answer (KeepsDone mid new)
-      → IfErr answer (λ full. IsDueRefused x words full)
+      → IfErr answer (λ full. IsDueRefused (now w) x due.target words full)
       → CarriesOut old new words command reply refused
   carried_some answer refused is shut done full =
       record {
@@ -262,10 +273,12 @@ module _ (old mid new : Caller) (words : ℕ) (command : Command) (reply : Optio
       }
     where
       outcome : (r : Result (Unit {0}) Full) → OnOk r (IsShut (now x) due.parent due.target)
-          → IfErr r (λ f. IsDueRefused x words f)
+          → IfErr r (λ f. IsDueRefused (now w) x due.target words f)
           → LeavesShut old.seat.view x old.number words (result_err r)
       outcome (Ok u) s f = is_shut due.target (top_shut s)
-      outcome (Err e) s f = was_refused e f
+      outcome (Err e) s f =
+          was_refused e due.target top_came
+          (due_refused_more (now v) (now w) (went_grow Updates v w a.went.went) x due.target words e f)
 
       starts_done : (r : Result (Unit {0}) Full) → result_err r ≡ None → OnOk r (KeepsDone mid new)
           → KeepsDone old new

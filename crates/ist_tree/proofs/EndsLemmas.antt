@@ -24,14 +24,14 @@ use Rattle.ist_tree.specs.Calls.{AddsCall, HasSeenMore}
 use Rattle.ist_tree.specs.DueRows.{HasCounted, LeavesNoneDue, StartsOnlyDue}
 use Rattle.ist_tree.specs.Faces.{PassFace}
 use Rattle.ist_tree.specs.Insides.{IsPass, IsPassWith, face_as, pass_face}
-use Rattle.ist_tree.specs.Refusals.{IsRebuildRefused, KeepsRefusal}
+use Rattle.ist_tree.specs.Refusals.{IsRowRefused, KeepsRowRefusal}
 use Rattle.ist_tree.specs.Working as working
 use Rattle.ist_tree.specs.Working.{CarriesOut, IsLetGo, Works, StartsDue}
 use Rattle.ist_tree.proofs.InstallLemmas.{way_starts}
 use Rattle.ist_tree.proofs.BeginningLemmas.{begun_calls}
 use Rattle.ist_tree.proofs.EndingLemmas.{can_end_so, ended_call, ending_in}
-use Rattle.ist_tree.proofs.RefusalLemmas.{keeps_first, rebuild_was_refused}
-use Rattle.ist_tree.proofs.UpdateLemmas.{adds_call, has_counted, leaves_none_due, stamp_up}
+use Rattle.ist_tree.proofs.RefusalLemmas.{keeps_first}
+use Rattle.ist_tree.proofs.UpdateLemmas.{adds_call, has_counted, leaves_none_due, row_refused, stamp_up}
 use Rattle.ist_tree.proofs.WayLemmas.{IsWay, final_pass, seen_more, settled_then}
 
 -- ---- the call that ends
@@ -113,7 +113,7 @@ pub record UpdateEnds (old : PassFace) (new : Caller) (seat : SeatFace) (q : Opt
   pub counted : makes_entry command reply ≡ true
       → HasCounted old (face_as seat new.number q) command
   pub due : LeavesNoneDue old (face_as seat new.number q)
-  pub refused : KeepsRefusal old (face_as seat new.number q)
+  pub refused : KeepsRowRefusal old (face_as seat new.number q)
 
 -- if no refusal is kept, none was met
 none_kept : (r met : Option Full) → option_or r met ≡ None → (r ≡ None) × (met ≡ None)
@@ -190,10 +190,12 @@ module _ (who began new : Caller) (seat : SeatFace) (command : Command) (s : IsS
         cause : (o : Option Full)
             → working.LeavesShut began.seat.view new.seat.view began.number words o
             → (full : Full) → o ≡ Some full
-            → IsRebuildRefused (pass_face who r) (face_as seat new.number q) full
-        cause _ (working.was_refused f d) full e =
-            subst (IsRebuildRefused (pass_face who r) (face_as seat new.number q)) (one f full e)
-            (rebuild_was_refused who began new seat command it r q words f same_words d)
+            → (row : ℕ) × IsRowRefused (pass_face who r) (face_as seat new.number q) row full
+        cause _ (working.was_refused f row t d) full e = (
+          row,
+          subst (IsRowRefused (pass_face who r) (face_as seat new.number q) row) (one f full e)
+              (row_refused who began new seat command it r q words f same_words row t d),
+        )
           where
             one : (a d : Full) → Some a ≡ Some d → a ≡ d
             one a d e = cc

@@ -5,10 +5,17 @@ use Rattle.std.proofs.lemmas.List.Elements.{filter-append}
 use Rattle.ist_core.specs.declared.ports.Full.{Full}
 use Rattle.ist_core.specs.Changes.{Entry, changes_of}
 use Rattle.ist_core.specs.Lawful.{state_of}
-use Rattle.ist_core.specs.Rebuilding.{IsFinishedWith}
-use Rattle.ist_core.specs.RowLayout.{change_words, rebuild_words}
+use Rattle.ist_core.specs.Growing.{AllGrow}
+use Rattle.ist_core.specs.Links.{IsChild}
+use Rattle.ist_core.specs.Marking.{HasTarget}
+use Rattle.ist_core.specs.Rebuilding.{IsFinishedWith, IsReplaced, IsStarted}
+use Rattle.ist_core.specs.RowLayout.{anchor, change_words, rebuild_words}
+use Rattle.ist_core.specs.Snapshots.{Snapshot}
 use Rattle.ist_core.specs.Spending.{spent}
 use Rattle.ist_core.specs.StartLayout.{start}
+use Rattle.ist_core.proofs.FateLemmas.{grow_between}
+use Rattle.laws_links.proofs.FinishedLemmas.{target_grows}
+use Rattle.laws_links.proofs.FormLemmas.{replaced_grows, started_grows}
 use Rattle.laws_rows.specs.Finishing.{is_put, puts_in}
 use Rattle.laws_rows.proofs.NumberLemmas.{finished_few}
 use Rattle.laws_histories.proofs.ChangeLemmas.{changes_on}
@@ -21,13 +28,14 @@ use Rattle.ist_rule.proofs.LaterLemmas.{goes_on_more}
 use Rattle.ist_rows.specs.declared.callers.Caller.{Caller}
 use Rattle.ist_tree.specs.declared.freezing.Frozen.{Frozen}
 use Rattle.ist_tree.specs.declared.freezing.Outcome.{Outcome}
-use Rattle.ist_tree.specs.FreezeSteps.{Freezes, IsStopped}
+use Rattle.ist_tree.specs.FreezeSteps.{Freezes, IsStopped, IsTopShort}
 use Rattle.ist_tree.specs.Calls.{HasSeenMore}
 use Rattle.ist_tree.specs.Faces.{PassFace}
-use Rattle.ist_tree.specs.Freezing.{HasFrozen, HasStartedNone, IsFreezeRefused, IsFrozen, IsFrozenFor, WasFrozen}
+use Rattle.ist_tree.specs.Freezing.{HasFrozen, HasStartedNone, HeldInnerRow, IsFreezeRefused, LeavesRebuilt, IsFrozen, IsFrozenFor, WasFrozen}
 use Rattle.ist_tree.specs.Insides.{IsPassWith, face_as, pass_face}
-use Rattle.ist_tree.specs.Refusals.{HadTooFew, IsForRebuild, IsRebuildRefused, KeepsRefusal}
-use Rattle.ist_tree.specs.Working.{IsAskedToRebuild, IsDueRefused, IsShort, for_help, for_start}
+use Rattle.ist_tree.specs.Refusals.{HadTooFew, IsForRebuild, IsTopRefused, KeepsRefusal}
+use Rattle.ist_tree.specs.Working.{IsShort}
+use Rattle.ist_tree.proofs.AskedLemmas.{asked_grows, held_on}
 use Rattle.ist_tree.proofs.FreezingLemmas.{was_frozen_on}
 use Rattle.ist_tree.proofs.FreezeCallLemmas.{IsWay}
 use Rattle.ist_tree.proofs.FreezeCallLemmas as way
@@ -74,7 +82,7 @@ module _ (who began new : Caller) (seat : SeatFace) (it : IsWay who began new se
 
   -- ---- refusals
 
-  had_too_few : (r q : Option Full) (words : ℕ) (full : Full) → words ≡ v.words
+  abbrev had_too_few : (r q : Option Full) (words : ℕ) (full : Full) → words ≡ v.words
       → IsShort w words full → HadTooFew (pass_face who r) (face_as seat new.number q) full
   had_too_few r q words full same s =
       record {
@@ -91,9 +99,18 @@ module _ (who began new : Caller) (seat : SeatFace) (it : IsWay who began new se
   -- a start that was refused in the work was refused in the call
   pub freeze_refused : (r q : Option Full) (words : ℕ) (full : Full) → words ≡ v.words
       → IsShort w words full → (full.asked ≡ rebuild_words) ⊎ (full.asked ≡ change_words)
+      → HeldInnerRow b.start b.words b.log w.log
       → IsFreezeRefused (pass_face who r) (face_as seat new.number q) full
-  freeze_refused r q words full same s asked =
-      record { had = had_too_few r q words full same s; asked = asked }
+  freeze_refused r q words full same s asked held =
+      let l = way.b_view who began new seat it in
+      record {
+        had = had_too_few r q words full same s;
+        asked = asked;
+        held = held_on v.start v.words v.log b.log w.log x.log (way.v_to_b who began new seat it)
+            (way.w_to_x who began new seat it)
+            (subst (λ pairs. HeldInnerRow pairs v.words b.log w.log) l.start_is
+            (subst (λ words. HeldInnerRow b.start words b.log w.log) l.words_is held));
+      }
 
   puts_rise : puts_in (changes_of v.start v.words w.log) ≤ puts_in (changes_of v.start v.words x.log)
   puts_rise =
@@ -139,23 +156,49 @@ module _ (who began new : Caller) (seat : SeatFace) (it : IsWay who began new se
         asked_is = is;
       }
 
-  rebuild_refused : (r q : Option Full) (words : ℕ) (full : Full) → words ≡ v.words
-      → IsDueRefused w words full
-      → IsRebuildRefused (pass_face who r) (face_as seat new.number q) full
-  rebuild_refused r q words full same d =
+  -- what is true of the state after the work, and of each that grows from it, is true after the call
+  in_last : (Q : Snapshot → Type 0)
+      → ((t u : Snapshot) → AllGrow t.pieces u.pieces → Q t → Q u) → Q (now w)
+      → Q (state_of x.start x.words x.log)
+  in_last Q grows h =
+      subst (λ words. Q (state_of x.start words x.log)) (sym (way.x_words who began new seat it))
+      (subst (λ pairs. Q (state_of pairs v.words x.log)) (sym (way.x_start who began new seat it))
+      (grows (state_of v.start v.words w.log) (state_of v.start v.words x.log)
+      (grow_between v.start v.words w.log x.log (way.lawful_x who began new seat it).enabled
+      (way.w_to_x who began new seat it))
+      (way.by_middle who began new seat it (λ pairs words. Q (state_of pairs words w.log)) h)))
+
+  -- helping the rebuild of what was below the anchor was refused
+  top_refused : (r q : Option Full) (words : ℕ) (full : Full) → words ≡ v.words
+      → IsTopShort b w words full
+      → IsTopRefused (pass_face who r) (face_as seat new.number q) full
+  top_refused r q words full same d =
+      let l = way.b_view who began new seat it in
       record {
-        had = had_too_few r q words full same d.short;
-        asked = asked d.asked;
+        row = d.target;
+        at = d.top.at;
+        since = goes_on_more (way.v_to_b who began new seat it) d.top.since;
+        until = goes_on_more d.top.until (way.w_to_x who began new seat it);
+        child =
+            subst (λ pairs. IsChild (state_of pairs v.words d.top.at) anchor 0 d.target) l.start_is
+            (subst (λ words. IsChild (state_of b.start words d.top.at) anchor 0 d.target) l.words_is
+            d.top.child);
+        had = had_too_few r q words full same d.help.short;
+        asked = record {
+          rebuild = d.rebuild;
+          started = in_last (λ t. IsStarted t d.rebuild)
+              (λ t u g. started_grows t u g d.rebuild) d.of.started;
+          target = in_last (λ t. HasTarget t d.rebuild d.target)
+              (λ t u g. target_grows t u g d.rebuild d.target) d.of.target_is;
+          size = asked_for_rebuild r q d.rebuild full.asked d.help.asked;
+          help = in_last (λ t. IsAskedFor t d.rebuild full.asked)
+              (λ t u g. asked_grows t u g d.rebuild full.asked) d.help.asked;
+        };
       }
-    where
-      asked : IsAskedToRebuild (now w) full.asked
-          → (full.asked ≡ rebuild_words) ⊎ IsForRebuild (face_as seat new.number q) full.asked
-      asked (for_start e) = inl e
-      asked (for_help rebuild a) = inr (asked_for_rebuild r q rebuild full.asked a)
 
   -- the first refusal is kept
   pub keeps_refusal : (r met : Option Full) (words : ℕ) → words ≡ v.words
-      → IfSome met (IsDueRefused w words)
+      → IfSome met (IsTopShort b w words)
       → KeepsRefusal (pass_face who r) (face_as seat new.number (option_or r met))
   keeps_refusal r met words same cause =
       record {
@@ -166,14 +209,14 @@ module _ (who began new : Caller) (seat : SeatFace) (it : IsWay who began new se
       one : (a c : Full) → Some a ≡ Some c → a ≡ c
       one a c e = cc
 
-      from : (o m : Option Full) → IfSome m (IsDueRefused w words) → (full : Full)
+      from : (o m : Option Full) → IfSome m (IsTopShort b w words) → (full : Full)
           → option_or o m ≡ Some full
-          → (o ≡ Some full) ⊎ IsRebuildRefused (pass_face who r)
+          → (o ≡ Some full) ⊎ IsTopRefused (pass_face who r)
           (face_as seat new.number (option_or r met)) full
       from (Some first) m c full e = inl e
       from None (Some other) c full e =
-          inr (rebuild_refused r (option_or r met) words full same
-          (subst (IsDueRefused w words) (one other full e) c))
+          inr (top_refused r (option_or r met) words full same
+          (subst (IsTopShort b w words) (one other full e) c))
       from None None c full e = absurd (cc)
 
 -- ---- all of this together
@@ -185,6 +228,7 @@ pub record FreezeEnds (old : PassFace) (new : Caller) (seat : SeatFace) (q : Opt
   pub seen : HasSeenMore old (face_as seat new.number q)
   pub still : IsFrozenFor (face_as seat new.number q) frozen
   pub pairs : HasFrozen old (face_as seat new.number q) frozen
+  pub rebuilt : LeavesRebuilt (face_as seat new.number q) frozen
   pub calls : seat.view.calls ≡ old.calls
   pub refused : KeepsRefusal old (face_as seat new.number q)
 
@@ -206,6 +250,19 @@ freeze_ends who began new seat it r q all words same table outcome f is old view
       still = frozen_for who began new seat it (option_or r outcome.refused) outcome.frozen
           had.frozen_is;
       pairs = had;
+      rebuilt = λ row e.
+          (let k = f.rebuilt row e in
+          record {
+            rebuild = k.rebuild;
+            started = in_last who began new seat it (λ t. IsStarted t k.rebuild)
+                (λ t u g. started_grows t u g k.rebuild) k.of.started;
+            target = in_last who began new seat it (λ t. HasTarget t k.rebuild row)
+                (λ t u g. target_grows t u g k.rebuild row) k.of.target_is;
+            replaced = λ none.
+                in_last who began new seat it (λ t. IsReplaced t k.rebuild)
+                (λ t u g. replaced_grows t u g k.rebuild)
+                (k.replaced (both r outcome.refused none).1);
+          });
       calls = way.calls_are who began new seat it;
       refused = keeps_refusal who began new seat it r outcome.refused words same f.refused;
     })
@@ -234,7 +291,7 @@ stop_ends who began new seat it r all words same table full s old view =
     subst (λ (o : PassFace). StopEnds o new seat r full) view record {
       pass = way.ended_pass_with who began new seat it r r all (λ none. none) (λ none. s.idle.done);
       seen = way.has_seen_more who began new seat it r r table;
-      full_is = freeze_refused who began new seat it r r words full same s.short s.asked;
+      full_is = freeze_refused who began new seat it r r words full same s.short s.asked s.held;
       calls = way.calls_are who began new seat it;
       none = has_started_none who began new seat it s.idle.none;
       unrefused = refl;

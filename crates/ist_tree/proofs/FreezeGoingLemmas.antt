@@ -1,14 +1,16 @@
 -- A caller that looks below the anchor, and what it has met there over further steps. Serves the
 -- functions that freeze a tree.
-use Rattle.std.proofs.Common.{◌≡◌, ◌≢◌, ℕ, List, Option, Some, None, Result, Ok, Err, IfOk, IfErr, refl, sym, ap, subst, inr}
+use Rattle.std.proofs.Common.{◌≡◌, ◌≢◌, ℕ, List, Option, Some, None, Result, Ok, Err, IfOk, IfErr, refl, sym, ap, ◌∙◌, subst, inr}
 use Rattle.ist_core.specs.declared.events.Event.{Event}
 use Rattle.ist_core.specs.declared.pairs.Pair.{Pair}
 use Rattle.ist_core.specs.declared.ports.Full.{Full}
 use Rattle.ist_core.specs.Lawful.{Lawful, state_of}
 use Rattle.ist_core.specs.Links.{IsChild}
 use Rattle.ist_core.specs.Logs.{Log, same_log}
-use Rattle.ist_core.specs.Rebuilding.{IsFinishedWith}
+use Rattle.ist_core.specs.Growing.{AllGrow}
 use Rattle.ist_core.specs.RowLayout.{anchor}
+use Rattle.ist_core.specs.Snapshots.{Snapshot}
+use Rattle.ist_core.proofs.GrowingLemmas.{rebuild_there}
 use Rattle.laws_links.proofs.FinishedLemmas.{target_grows}
 use Rattle.laws_links.proofs.FormLemmas.{started_grows}
 use Rattle.ist_rebuild.specs.declared.answers.Started.{Started}
@@ -21,18 +23,18 @@ use Rattle.ist_rule.specs.Faces.{SeatFace}
 use Rattle.ist_rule.specs.Learning.{now}
 use Rattle.ist_rule.specs.Rule.{IsSound}
 use Rattle.ist_rule.proofs.LaterLemmas.{goes_on_more}
-use Rattle.ist_rule.proofs.WentOnLemmas.{later_by-goes_on, went_grow, went_lawful, went_now}
+use Rattle.ist_rule.proofs.WentOnLemmas.{later_by-goes_on, went_grow, went_lawful}
 use Rattle.ist_rows.specs.declared.callers.Caller.{Caller}
 use Rattle.laws_settling.specs.Settling.{StartsAreDone}
 use Rattle.ist_tree.specs.declared.freezing.Frozen.{Frozen}
-use Rattle.ist_tree.specs.declared.freezing.Outcome.{Outcome}
 use Rattle.ist_tree.specs.declared.freezing.Site.{Site}
 use Rattle.ist_tree.specs.declared.freezing.Site.TheVariants.{Rebuilt, Still}
-use Rattle.ist_tree.specs.Freezing.{WasFrozen}
-use Rattle.ist_tree.specs.FreezeSteps.{Freezes, FreezesTarget, GoesIdle, HasMet, IsRebuildOf, IsSite, IsStopped, KeepsDoneBut, MayHaveMet, WasTop, rebuild_in}
+use Rattle.ist_tree.specs.Freezing.{HeldInnerRow, WasFrozen}
+use Rattle.ist_tree.specs.FreezeSteps.{GoesIdle, HasMet, IsBelowAnchor, IsRebuildOf, IsSite, IsStopped, KeepsDoneBut, MayHaveMet, WasTop, rebuild_in}
 use Rattle.ist_tree.specs.Working.{IsReady, KeepsDone, Rebuilds, RebuildsOn}
+use Rattle.ist_tree.proofs.AskedLemmas.{held_on}
 use Rattle.ist_tree.proofs.DueLemmas.{done_more}
-use Rattle.ist_tree.proofs.FreezingLemmas.{row_was_frozen, was_frozen_on}
+use Rattle.ist_tree.proofs.FreezingLemmas.{was_frozen_on}
 use Rattle.ist_tree.proofs.EventLemmas.{IsPlainHelp, none_starts_none}
 use Rattle.ist_tree.proofs.RebuildLemmas.{plain_done, plain_on, rebuilds_more, rebuilds_same}
 use Rattle.ist_tree.proofs.ShortLemmas.{short_now}
@@ -154,7 +156,7 @@ met_more a b c site on done m =
 
     here : (s : Site) → IsSite b.seat.view c.seat.view s → IsSite a.seat.view c.seat.view s
     here (Still frozen) w =
-        frozen_more Rebuilds a.seat.view b.seat.view c.seat.view.log on.went frozen lawful w
+        (frozen_more Rebuilds a.seat.view b.seat.view c.seat.view.log on.went frozen lawful w.0, w.1)
     here (Rebuilt rebuild target) w =
         (w.0, top_more Rebuilds a.seat.view b.seat.view c.seat.view.log on.went target w.1)
 
@@ -170,19 +172,37 @@ may_have_met_more a b c None g m = idle_more a b c g m
 pub stopped_more : (a b c : Caller) (words : ℕ) (full : Full) → GoesIdle a b
     → IsStopped b c words full → IsStopped a c words full
 stopped_more a b c words full g s =
-    record { idle = idle_more a b c g s.idle; short = s.short; asked = s.asked }
+    record {
+      idle = idle_more a b c g s.idle;
+      short = s.short;
+      asked = s.asked;
+      held = by_table Rebuilds a.seat.view b.seat.view g.on.went
+          (λ pairs words. HeldInnerRow pairs words a.seat.view.log c.seat.view.log)
+          (held_on b.seat.view.start b.seat.view.words a.seat.view.log b.seat.view.log
+          c.seat.view.log c.seat.view.log (later_by-goes_on g.on.went.later) same_log s.held);
+    }
 
 -- a start was refused
 pub start_stopped : (old new : Caller) (words : ℕ) (full : Full) → GoesIdle old new
+    → HeldInnerRow old.seat.view.start old.seat.view.words old.seat.view.log old.seat.view.log
     → IsStartRefused old.seat.view words full new.seat.view → IsStopped old new words full
-start_stopped old new words full g r =
+start_stopped old new words full g held r =
     record {
       idle = g;
       short = short_now Begins old.seat.view words full new.seat.view r.short;
       asked = r.asked;
+      held = held_on old.seat.view.start old.seat.view.words old.seat.view.log old.seat.view.log
+          old.seat.view.log new.seat.view.log same_log (later_by-goes_on g.on.went.later) held;
     }
 
 -- ---- a rebuild
+
+-- a rebuild below the anchor stays there
+pub below_grows : (t u : Snapshot) → AllGrow t.pieces u.pieces → (rebuild : ℕ)
+    → IsBelowAnchor t rebuild → IsBelowAnchor u rebuild
+below_grows t u grow rebuild b =
+    let it = rebuild_there t.pieces u.pieces grow rebuild b.row b.published in
+    record { row = it.0; published = it.1; parent_is = it.2.parent ∙ b.parent_is }
 
 -- a rebuild of this target stays one
 pub rebuild_on : (P : Event → Type 0) (v w : View) → WentOn P v w → (rebuild target : ℕ)
@@ -192,51 +212,18 @@ rebuild_on P v w g rebuild target r =
     record {
       started = started_grows (now v) (now w) grow rebuild r.started;
       target_is = target_grows (now v) (now w) grow rebuild target r.target_is;
+      below = below_grows (now v) (now w) grow rebuild r.below;
     }
 
 -- the one that was started
-pub begun_of : (t : View) (rebuild parent index target : ℕ)
-    → IsStartedAt (now t) rebuild parent index target → IsRebuildOf (now t) rebuild target
-begun_of t rebuild parent index target s =
+pub begun_of : (t : View) (rebuild index target : ℕ)
+    → IsStartedAt (now t) rebuild anchor index target → IsRebuildOf (now t) rebuild target
+begun_of t rebuild index target s =
     record {
       started = s.started;
       target_is = record { row = s.row; published = s.published; target_is = s.target_is };
+      below = record { row = s.row; published = s.published; parent_is = s.parent_is };
     }
-
--- ---- the tree was frozen
-
--- the target of a rebuild that was met, and finished
-pub target_frozen : (a b c : Caller) (words rebuild target : ℕ) (outcome : Outcome)
-    → HasMet a b (Rebuilt rebuild target) → FreezesTarget b c words rebuild target outcome
-    → Freezes a c words outcome
-target_frozen a b c words rebuild target outcome m f =
-    record {
-      on = all;
-      frozen = was_frozen_on v.start v.words v.log m.is.1.at w.log w.log lawful m.is.1.since same_log
-          outcome.frozen
-          (row_was_frozen v.start v.words m.is.1.at w.log lawful
-          (goes_on_more m.is.1.until (later_by-goes_on f.on.went.later)) outcome.frozen target
-          m.is.1.child f.root_is
-          (subst (λ t. IsFinishedWith t target outcome.frozen.keys) (went_now Rebuilds v w all.went)
-          f.finished));
-      done = λ unrefused done.
-          subst (StartsAreDone (now w)) m.on.number
-          (f.done unrefused
-          (subst (λ n. StartsAreDoneBut (now b.seat.view) n rebuild) (sym m.on.number) (m.done done)));
-      refused = f.refused;
-    }
-  where
-    v : View
-    v = a.seat.view
-
-    w : View
-    w = c.seat.view
-
-    all : RebuildsOn a c
-    all = rebuilds_more a b c m.on f.on
-
-    lawful : Lawful v.start v.words w.log
-    lawful = went_lawful Rebuilds v w all.went
 
 -- ---- results
 

@@ -1,11 +1,11 @@
 -- What is below the anchor, by the word in its slot. Serves `look` and what it calls.
-use Rattle.std.proofs.Common.{◌≡◌, ℕ, Some, refl, sym, ap, ◌∙◌, subst, inr}
+use Rattle.std.proofs.Common.{◌≡◌, ◌≢◌, ℕ, Some, refl, sym, ap, ◌∙◌, subst, inr}
 use Rattle.ist_core.specs.declared.states.RebuildRow.{RebuildRow}
 use Rattle.ist_core.specs.Links.{Linked, at_anchor}
 use Rattle.ist_core.specs.Logs.{same_log}
 use Rattle.ist_core.specs.Marking.{HasTarget}
 use Rattle.ist_core.specs.Rebuilding.{IsStarted}
-use Rattle.ist_core.specs.References.{ChangeAt, InnerAt, LeafAt, RebuildAt, Ref, ref_of}
+use Rattle.ist_core.specs.References.{ChangeAt, Empty, InnerAt, LeafAt, RebuildAt, Ref, ref_of}
 use Rattle.ist_core.specs.RowLayout.{anchor}
 use Rattle.ist_core.specs.Slots.{SlotHolds, in_anchor, in_row, logical, past_change, past_rebuild, rebuild_reads}
 use Rattle.ist_core.specs.StartLayout.{start}
@@ -32,11 +32,11 @@ use Rattle.ist_rule.proofs.WentOnLemmas.{goes_on_grow, goes_on_went, later_by-go
 use Rattle.ist_rows.specs.declared.callers.Caller.{Caller}
 use Rattle.ist_tree.specs.declared.freezing.Frozen.{Frozen}
 use Rattle.ist_tree.specs.declared.freezing.Site.TheVariants.{Rebuilt, Still}
-use Rattle.ist_tree.specs.Freezing.{IsStill, WasFrozen, all_keys, no_key, one_key}
-use Rattle.ist_tree.specs.FreezeSteps.{GoesIdle, HasBegun, HasMet, WasTop}
+use Rattle.ist_tree.specs.Freezing.{HeldInnerRow, IsStill, WasFrozen, all_keys, no_key, one_key}
+use Rattle.ist_tree.specs.FreezeSteps.{GoesIdle, HasBegun, HasMet, HasNoRow, IsBelowAnchor, WasTop}
 use Rattle.ist_tree.specs.Working.{IsReady}
 use Rattle.ist_tree.proofs.CameLemmas.{ever_here}
-use Rattle.ist_tree.proofs.FreezeGoingLemmas.{all_but, frozen_more, plain_idle}
+use Rattle.ist_tree.proofs.FreezeGoingLemmas.{all_but, below_grows, frozen_more, plain_idle}
 use Rattle.ist_tree.proofs.FreezingLemmas.{top_was_frozen}
 use Rattle.ist_tree.proofs.RebuildLemmas.{load_plain, plain_done, plain_on}
 
@@ -86,6 +86,19 @@ module _ (v : View) (s : IsSound v) (word : ℕ) (holds : SlotHolds (now v) anch
         due = inr refl;
       }
 
+  -- so the anchor's slot holds an inner row
+  pub row_held : (target : ℕ) → ref_of word ≡ Some (InnerAt target)
+      → HeldInnerRow v.start v.words v.log v.log
+  row_held target is =
+      record {
+        at = v.log;
+        since = same_log;
+        until = same_log;
+        row = target;
+        holds = subst (SlotHolds (now v) anchor 0)
+            (sym (word_of-ref_of word (InnerAt target) is).same_word) holds;
+      }
+
   -- ---- a rebuild
 
   -- a rebuild that the word names is started
@@ -94,6 +107,15 @@ module _ (v : View) (s : IsSound v) (word : ℕ) (holds : SlotHolds (now v) anch
   rebuild_started rebuild is =
       read_started v.start v.words s.lawful.opens v.log s.lawful.enabled anchor 0 rebuild
       record { word = word; holds = holds; reads = ap (past_change (now v).pieces) is }
+
+  -- and is below the anchor
+  pub rebuild_below : (rebuild : ℕ) → ref_of word ≡ Some (RebuildAt rebuild)
+      → IsBelowAnchor (now v) rebuild
+  rebuild_below rebuild is =
+      let named = subst (SlotNames (now v).pieces anchor 0) is
+      (slot_names (now v) anchor 0 word (names v.start v.words s.lawful.opens v.log s.lawful.enabled)
+      holds) in
+      record { row = named.row; published = named.published; parent_is = named.parent }
 
   -- the target of a rebuild that the word names was the anchor's child
   pub rebuild_top : (rebuild : ℕ) → ref_of word ≡ Some (RebuildAt rebuild) → (target : ℕ)
@@ -156,14 +178,25 @@ module _ (who : Caller) (seat : SeatFace) (ready : IsReady who)
   -- the caller has met the frozen tree
   pub looked_still : (frozen : Frozen)
       → WasFrozen seat.view.start seat.view.words seat.view.log seat.view.log frozen
-      → HasMet who (record who { seat = seat }) (Still frozen)
-  looked_still frozen was =
+      → HasNoRow frozen → HasMet who (record who { seat = seat }) (Still frozen)
+  looked_still frozen was none =
       record {
         on = looked_idle.on;
-        is = frozen_more (λ event. ⊥) who.seat.view seat.view seat.view.log went frozen
-            seen.sound.lawful was;
+        is = (
+          frozen_more (λ event. ⊥) who.seat.view seat.view seat.view.log went frozen
+              seen.sound.lawful was,
+          none,
+        );
         done = looked_idle.done;
       }
+
+-- a leaf is no inner row
+pub leaf_no_row : (base row : ℕ) → LeafAt base ≢ InnerAt row
+leaf_no_row base row e = cc
+
+-- nor is nothing
+pub empty_no_row : (row : ℕ) → Empty ≢ InnerAt row
+empty_no_row row e = cc
 
 -- ---- rebuilds that were met
 
@@ -189,11 +222,11 @@ begun_met old new target rebuild top b =
 -- one that stood there
 pub stood_met : (who : Caller) (seat : SeatFace) (rebuild target : ℕ) → IsSound who.seat.view
     → IsReady who → GoesOnTo who.seat.view seat.view → IsStarted (now who.seat.view) rebuild
-    → HasTarget (now seat.view) rebuild target
+    → HasTarget (now seat.view) rebuild target → IsBelowAnchor (now who.seat.view) rebuild
     → ((n : ℕ) → HasTarget (now who.seat.view) rebuild n
     → WasTop who.seat.view who.seat.view.log n)
     → HasMet who (record who { seat = seat }) (Rebuilt rebuild target)
-stood_met who seat rebuild target s ready seen started h top =
+stood_met who seat rebuild target s ready seen started h below top =
     let v = who.seat.view in
     let w = seat.view in
     let went = goes_on_went (λ event. ⊥) v w seen in
@@ -211,7 +244,11 @@ stood_met who seat rebuild target s ready seen started h top =
     record {
       on = plain_on (λ event. ⊥) load_plain who seat ready went;
       is = (
-        record { started = started_grows (now v) (now w) grow rebuild started; target_is = h },
+        record {
+          started = started_grows (now v) (now w) grow rebuild started;
+          target_is = h;
+          below = below_grows (now v) (now w) grow rebuild below;
+        },
         record {
           at = was.at;
           since = was.since;

@@ -1,9 +1,12 @@
 -- Marking the target of a rebuild, and then helping the rebuild. Serves `freeze_target`.
-use Rattle.std.proofs.Common.{◌≡◌, ℕ, ◌⊎◌, Option, None, Result, Ok, Err, IfSome, IfErr, refl, sym, ◌∙◌, subst}
+use Rattle.std.proofs.Common.{◌≡◌, ℕ, ◌⊎◌, Option, None, Result, Ok, Err, IfSome, IfErr, refl, sym, ap, ◌∙◌, subst, inl, inr}
 use Rattle.std.specs.Result.{result_err}
 use Rattle.ist_core.specs.declared.events.Event.{Event}
 use Rattle.ist_core.specs.declared.ports.Full.{Full}
+use Rattle.ist_core.specs.declared.states.RebuildRow.{RebuildRow}
 use Rattle.ist_core.specs.Marking.{as_target}
+use Rattle.ist_core.specs.Slots.{anchor_is}
+use Rattle.ist_core.proofs.DrawLemmas.{same_rebuild}
 use Rattle.ist_core.specs.Rebuilding.{IsFinishedWith, IsReplaced}
 use Rattle.laws_links.proofs.FormLemmas.{finished_with_grows}
 use Rattle.ist_mark.specs.Marking.{MayMark, Marks}
@@ -19,12 +22,13 @@ use Rattle.ist_rule.specs.Going.{WentOn}
 use Rattle.ist_rule.specs.Learning.{now}
 use Rattle.ist_rule.proofs.WentOnLemmas.{went_all, went_grow, went_more}
 use Rattle.ist_rows.specs.declared.callers.Caller.{Caller}
-use Rattle.ist_tree.specs.FreezeSteps.{FreezesTarget, IsRebuildOf}
-use Rattle.ist_tree.specs.Working.{IsDueRefused, IsReady, RebuildsOn}
+use Rattle.ist_tree.specs.FreezeSteps.{FreezesTarget, IsBelowAnchor, IsHelpShort, IsRebuildOf}
+use Rattle.ist_tree.specs.Working.{IsReady, RebuildsOn}
 use Rattle.ist_tree.proofs.DueLemmas.{helped_either}
+use Rattle.ist_tree.proofs.FreezeGoingLemmas.{below_grows}
 use Rattle.ist_tree.proofs.EventLemmas.{IsPlainHelp, serves_rebuild}
 use Rattle.ist_tree.proofs.RebuildLemmas.{plain_on, rebuilds_more}
-use Rattle.ist_tree.proofs.ShortLemmas.{help_refused}
+use Rattle.ist_tree.proofs.ShortLemmas.{short_now}
 use Rattle.ist_tree.proofs.ShutLemmas.{all_done}
 use Rattle.ist_layout.specs.declared.references.Ref.TheVariants as layout
 
@@ -57,7 +61,8 @@ marked old seat target ready went =
 
 -- the target is finished, and its rebuild was helped
 pub target_froze : (old : Caller) (seat : SeatFace) (new : Caller) (words rebuild target keys : ℕ)
-    → IsReady old → WentOn (Marks seat.view target) old.seat.view seat.view
+    → IsReady old → IsBelowAnchor (now old.seat.view) rebuild
+    → WentOn (Marks seat.view target) old.seat.view seat.view
     → IsFinishedWith (now seat.view) target keys → RebuildsOn (record old { seat = seat }) new
     → WentOn Serves seat.view new.seat.view → (answer : Result Helped Full)
     → (refused : Option Full) → refused ≡ result_err answer
@@ -66,7 +71,7 @@ pub target_froze : (old : Caller) (seat : SeatFace) (new : Caller) (words rebuil
     → IfErr answer (λ full. IsHelpRefused seat.view rebuild words full new.seat.view)
     → FreezesTarget old new words rebuild target
     record { frozen = record { root = layout.Inner target; keys = keys }; refused = refused }
-target_froze old seat new words rebuild target keys ready went f on serves answer refused is replaced
+target_froze old seat new words rebuild target keys ready below went f on serves answer refused is replaced
     left full =
     record {
       on = rebuilds_more old (record old { seat = seat }) new (marked old seat target ready went) on;
@@ -79,10 +84,24 @@ target_froze old seat new words rebuild target keys ready went f on serves answe
           (went_all (Marks seat.view target) Serves (marks_serve seat.view target) old.seat.view
           seat.view went) serves)
           rebuild but (helped answer refl (sym is ∙ unrefused));
-      refused = subst (λ o. IfSome o (IsDueRefused new.seat.view words)) (sym is)
+      replaced = λ unrefused. alone (helped answer refl (sym is ∙ unrefused));
+      refused = subst (λ o. IfSome o (IsHelpShort new.seat.view rebuild words)) (sym is)
           (cause answer full);
     }
   where
+    -- the anchor is never closed
+    alone : IsReplaced (now new.seat.view) rebuild ⊎ IsLeftToParent (now new.seat.view) rebuild
+        → IsReplaced (now new.seat.view) rebuild
+    alone (inl k) = k
+    alone (inr l) =
+        let b = below_grows (now seat.view) (now new.seat.view)
+        (went_grow Serves seat.view new.seat.view serves) rebuild
+        (below_grows (now old.seat.view) (now seat.view)
+        (went_grow (Marks seat.view target) old.seat.view seat.view went) rebuild below) in
+        let one = same_rebuild ((now new.seat.view).pieces rebuild) l.row b.row l.published b.published
+        in
+        absurd (l.closed (anchor_is (ap (λ (x : RebuildRow). x.parent) one ∙ b.parent_is)))
+
     helped : (r : Result Helped Full) → answer ≡ r → result_err r ≡ None
         → IsReplaced (now new.seat.view) rebuild ⊎ IsLeftToParent (now new.seat.view) rebuild
     helped (Ok h) e none =
@@ -91,6 +110,10 @@ target_froze old seat new words rebuild target keys ready went f on serves answe
 
     cause : (r : Result Helped Full)
         → IfErr r (λ full. IsHelpRefused seat.view rebuild words full new.seat.view)
-        → IfSome (result_err r) (IsDueRefused new.seat.view words)
+        → IfSome (result_err r) (IsHelpShort new.seat.view rebuild words)
     cause (Ok h) k = tt
-    cause (Err full) k = help_refused seat.view rebuild words full new.seat.view k
+    cause (Err full) k =
+        record {
+          short = short_now Serves seat.view words full new.seat.view k.short;
+          asked = k.asked;
+        }

@@ -16,12 +16,14 @@ use Rattle.ist_updates.specs.Refusals.{WasRefused}
 use Rattle.laws_histories.specs.Searching.{HasPosition}
 use Rattle.laws_histories.proofs.PositionOnLemmas.{position_on}
 use Rattle.ist_tree.specs.Calls.{HasSeenMore}
-use Rattle.ist_tree.specs.DueRows.{CameDue, StartsOnlyDue}
-use Rattle.ist_tree.specs.Faces.{PassFace}
+use Rattle.ist_tree.specs.DueRows.{CameDue, CountsNowhere, StartsOnlyDue}
+use Rattle.ist_tree.specs.Faces.{HasItsCalls, PassFace}
 use Rattle.ist_tree.specs.Insides.{IsPassWith, face_as, pass_face}
 use Rattle.ist_tree.specs.Refusals.{IsRefused}
 use Rattle.ist_tree.specs.Rounds.{HadMissed, HasLetGo}
 use Rattle.ist_tree.specs.Working.{IsLetGo, StartsDue}
+use Rattle.ist_tree.proofs.BetweenLemmas.{has_its_calls}
+use Rattle.ist_tree.proofs.CountedLemmas.{way_counted}
 use Rattle.ist_tree.proofs.InstallLemmas.{way_starts}
 use Rattle.ist_tree.proofs.RefusalLemmas.{update_was_refused}
 use Rattle.ist_tree.proofs.UpdateLemmas.{came_nowhere}
@@ -97,6 +99,20 @@ module _ (who began new : Caller) (seat : SeatFace) (command : Command) (s : IsS
         subst (λ (o : PassFace). (row : ℕ) → ¬ (CameDue o (face_as seat new.number r) row)) view
         (came_nowhere who began new seat command stops r r d.none_came)
 
+    -- it counted nowhere
+    pub stopped_counted : (old : PassFace) → pass_face who r ≡ old
+        → CountsNowhere old (face_as seat new.number r)
+    stopped_counted old view =
+        subst (λ (o : PassFace). CountsNowhere o (face_as seat new.number r)) view
+        (way_counted who began new seat command stops r r d.uncounted)
+
+    -- its calls are placed in what it has seen then
+    pub stopped_placed : HasItsCalls (face_as seat new.number r)
+    stopped_placed =
+        has_its_calls seat.view new.number given.sound
+        (ap (λ (y : View). y.who) given.view ∙ d.caller.mine)
+        (ap (λ (y : View). y.pending) given.view)
+
     -- for a pass with this face: it is let go
     pub stopped : StartsDue began new → (old : PassFace) → pass_face who r ≡ old
         → HasLetGo old (face_as seat new.number r)
@@ -106,6 +122,7 @@ module _ (who began new : Caller) (seat : SeatFace) (command : Command) (s : IsS
             seen = stopped_seen old view;
             refused = ap (λ (o : PassFace). o.refused) view;
             none_came = none_came_here old view;
+            uncounted = stopped_counted old view;
             starts = stopped_starts due old view;
           };
           calls = ap (λ (y : View). y.calls) given.view ∙ ap (λ (y : View). y.calls) d.went.went.same

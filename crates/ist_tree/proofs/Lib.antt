@@ -5,6 +5,7 @@ pub mod StartLemmas
 pub mod RebuildLemmas
 pub mod ShutLemmas
 pub mod ShortLemmas
+pub mod AskedLemmas
 pub mod DueLemmas
 pub mod CameLemmas
 pub mod CarryLemmas
@@ -13,6 +14,8 @@ pub mod EndingLemmas
 pub mod BeginningLemmas
 pub mod WayLemmas
 pub mod InstallLemmas
+pub mod CountedLemmas
+pub mod RoundWalkLemmas
 pub mod RefusalLemmas
 pub mod UpdateLemmas
 pub mod EndsLemmas
@@ -29,6 +32,7 @@ pub mod TakenLemmas
 pub mod ClosingLemmas
 pub mod FreezingLemmas
 pub mod FreezeGoingLemmas
+pub mod FreezeBelowLemmas
 pub mod FreezeLookLemmas
 pub mod FreezeCallLemmas
 pub mod FreezeEndLemmas
@@ -39,6 +43,7 @@ pub mod WalkCountLemmas
 pub mod DueFurtherLemmas
 pub mod InsteadLemmas
 pub mod SpanLemmas
+pub mod RoundRefusalLemmas
 pub mod RoundLemmas
 pub mod FewChangesLemmas
 pub mod LookedLemmas

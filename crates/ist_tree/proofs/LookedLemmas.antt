@@ -3,9 +3,10 @@ use Rattle.std.proofs.Common.{◌≡◌, ◌≢◌, ℕ, ◌+◌, Option, Some, 
 use Rattle.ist_core.specs.declared.events.Event.TheVariants.{Count}
 use Rattle.ist_core.specs.Authors.{whose}
 use Rattle.laws_settling.proofs.DoneLemmas.{others_start_nothing}
-use Rattle.ist_tree.specs.Refusals.{KeepsRefusal}
+use Rattle.ist_tree.specs.Refusals.{KeepsRowRefusal}
 use Rattle.ist_tree.specs.Rounds.{HasNoEffect}
 use Rattle.ist_tree.proofs.CameLemmas.{event_since}
+use Rattle.ist_tree.proofs.CountedLemmas.{others_counted}
 use Rattle.ist_tree.proofs.InstallLemmas.{none_due, not_before}
 use Rattle.ist_core.specs.declared.commands.Command.TheVariants.{Get}
 use Rattle.ist_core.specs.declared.events.Who.{Who}
@@ -127,7 +128,7 @@ module _ (who : Caller) (key : ℕ) (value : Option ℕ) (b w : View) (s : IsSou
 -- ---- what only saw more had no effect
 
 -- what had no effect keeps the refusal that there was
-pub idle_keeps : (p q : PassFace) → HasNoEffect p q → KeepsRefusal p q
+pub idle_keeps : (p q : PassFace) → HasNoEffect p q → KeepsRowRefusal p q
 idle_keeps p q i =
     record { stays = λ full e. i.refused ∙ e; cause = λ full e. inl (sym i.refused ∙ e) }
 
@@ -138,6 +139,7 @@ only_saw p q s r l =
     record {
       seen = s;
       refused = r;
+      uncounted = others_counted p.number p.seen q.seen l;
       none_came = λ row c.
           ⊎_elim (λ before. not_before p.tree.start p.tree.words p.number (Count p.number row) p.seen c.at c.since before)
           (λ other. other refl)

@@ -1,16 +1,19 @@
 -- A port keeps its last refusal, which is one of its pass. Serves the `call` of a port.
-use Rattle.std.proofs.Common.{◌≢◌, ℕ, ◌+◌, ◌≤◌, length, Option, Some, None, Result, Ok, Err, IfErr, IfSome, sym, ◌∙◌, subst, inl, inr, ⊎_elim, arith}
+use Rattle.std.proofs.Common.{◌≡◌, ◌≢◌, ℕ, ◌+◌, ◌≤◌, length, Option, Some, None, Result, Ok, Err, IfErr, IfSome, refl, sym, ◌∙◌, subst, inl, inr, ⊎_elim, arith}
+use Rattle.std.proofs.Math.Nat.{le_refl, le_trans}
 use Rattle.ist_core.specs.declared.commands.Command.{Command}
 use Rattle.ist_core.specs.declared.commands.Command.TheVariants.{Get, Put, Remove}
 use Rattle.ist_core.specs.declared.ports.Full.{Full}
+use Rattle.ist_core.specs.Logs.{same_log}
 use Rattle.ist_core.specs.Replies.{Refused, refusal}
 use Rattle.ist_rule.proofs.LaterLemmas.{goes_on_more}
 use Rattle.laws_rows.specs.Finishing.{puts_in}
 use Rattle.ist_core.specs.Changes.{changes_of}
+use Rattle.ist_updates.specs.Asking.{command_for}
 use Rattle.ist_tree.specs.Calls.{HasSeenMore}
 use Rattle.ist_tree.specs.Faces.{PassFace, TreeFace}
 use Rattle.ist_tree.specs.Insides.{IsPort}
-use Rattle.ist_tree.specs.Refusals.{IsAskedIn, IsForNode, IsRefused, LeavesTooFew, MayBeAsked, WasRefused, for_leaf, for_pair, for_put, for_rebuild, for_remove}
+use Rattle.ist_tree.specs.Refusals.{IsAskedIn, IsForNode, IsRefused, IsRefusedCall, LeavesTooFew, MayBeAsked, WasRefused, for_leaf, for_pair, for_put, for_rebuild, for_remove}
 use Rattle.ist_tree.proofs.RefusalLemmas.{puts_rise}
 
 -- the size of a node is still one for a pass that has seen more
@@ -46,6 +49,16 @@ refused_more p q said m r =
           (λ b. inr (⊎_elim (λ a. inl a)
           (λ c. inr (⊎_elim (λ a. inl a) (λ n. inr (node_more p q said.full.asked m n)) c)) b))
           r.asked;
+      began = r.began;
+      ended = r.ended;
+      call = r.call;
+      later = record {
+        tree = m.tree ∙ r.later.tree;
+        number = m.number ∙ r.later.number;
+        seen = goes_on_more r.later.seen m.seen;
+        stamp = le_trans r.later.stamp m.stamp;
+      };
+      cause = r.cause;
     }
 
 -- what was asked for in a call
@@ -55,14 +68,14 @@ asked_then p q key _ asked (for_leaf e) = inl e
 asked_then p q key _ asked (for_pair e) = inr (inl e)
 asked_then p q key _ asked (for_put e) = inr (inr (inl e))
 asked_then p q key _ asked (for_remove found has e) = inr (inr (inl e))
-asked_then p q key value asked (for_rebuild met a) =
+asked_then p q key value asked (for_rebuild met a help) =
     inr (inr (⊎_elim (λ e. inl e) (λ n. inr n) a))
 
 -- a refusal of this call
 pub refused_now : (p q : PassFace) (key : ℕ) (value : Option ℕ) (command : Command) (full : Full)
-    → HasSeenMore p q → ((k : ℕ) → command ≢ Get k) → IsRefused p q key value full
-    → WasRefused q (refusal command full)
-refused_now p q key value command full m update r =
+    → HasSeenMore p q → ((k : ℕ) → command ≢ Get k) → command ≡ command_for key value
+    → IsRefused p q key value full → WasRefused q (refusal command full)
+refused_now p q key value command full m update is r =
     record {
       update = update;
       at = r.had.at;
@@ -74,6 +87,11 @@ refused_now p q key value command full m update r =
             small = r.had.few.small;
           };
       asked = asked_then p q key value full.asked r.asked;
+      began = p;
+      ended = q;
+      call = m;
+      later = record { tree = refl; number = refl; seen = same_log; stamp = le_refl q.stamp };
+      cause = record { key = key; value = value; command_is = is; cause = r };
     }
 
 -- a put and a remove are no get
@@ -102,8 +120,17 @@ port_refused tree p q said now m i r = record { same_tree = m.tree ∙ i.same_tr
 -- a result that is such a refusal
 pub answer_refused : {A : Type 0} (answer : Result A Full) (p q : PassFace) (key : ℕ)
     (value : Option ℕ) (command : Command) → HasSeenMore p q → ((k : ℕ) → command ≢ Get k)
-    → IfErr answer (λ full. IsRefused p q key value full)
+    → command ≡ command_for key value → IfErr answer (λ full. IsRefused p q key value full)
     → IfErr answer (λ full. WasRefused q (refusal command full))
-answer_refused (Ok a) p q key value command m update r = tt
-answer_refused (Err full) p q key value command m update r =
-    refused_now p q key value command full m update r
+answer_refused (Ok a) p q key value command m update is r = tt
+answer_refused (Err full) p q key value command m update is r =
+    refused_now p q key value command full m update is r
+
+-- a refusal of the call with this command
+pub answer_cause : {A : Type 0} (answer : Result A Full) (p q : PassFace) (key : ℕ)
+    (value : Option ℕ) (command : Command) → command ≡ command_for key value
+    → IfErr answer (λ full. IsRefused p q key value full)
+    → IfErr answer (IsRefusedCall p q command)
+answer_cause (Ok a) p q key value command is r = tt
+answer_cause (Err full) p q key value command is r =
+    record { key = key; value = value; command_is = is; cause = r }

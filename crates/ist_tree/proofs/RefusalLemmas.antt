@@ -7,9 +7,11 @@ use Rattle.ist_core.specs.declared.pairs.Pair.{Pair}
 use Rattle.ist_core.specs.declared.ports.Full.{Full}
 use Rattle.ist_core.specs.Changes.{Entry, changes_of}
 use Rattle.ist_core.specs.Lawful.{state_of}
+use Rattle.ist_core.specs.Growing.{AllGrow}
 use Rattle.ist_core.specs.Logs.{GoesOn, Log}
+use Rattle.ist_core.specs.Marking.{HasTarget}
 use Rattle.ist_core.specs.Rebuilding.{IsFinishedWith, IsReplaced, IsStarted}
-use Rattle.ist_core.specs.RowLayout.{rebuild_words}
+use Rattle.ist_core.specs.Snapshots.{Snapshot}
 use Rattle.ist_core.specs.Spending.{spent}
 use Rattle.ist_core.specs.StartLayout.{start}
 use Rattle.ist_core.proofs.FateLemmas.{grow_between}
@@ -17,6 +19,7 @@ use Rattle.laws_rows.specs.Finishing.{is_put, puts_in}
 use Rattle.laws_rows.proofs.NumberLemmas.{finished_few}
 use Rattle.laws_histories.proofs.ChangeLemmas.{changes_on}
 use Rattle.laws_histories.specs.Searching.{HasPosition}
+use Rattle.laws_links.proofs.FinishedLemmas.{target_grows}
 use Rattle.laws_links.proofs.FormLemmas.{replaced_grows, started_grows}
 use Rattle.ist_rule.specs.declared.view.View.{View}
 use Rattle.ist_rule.specs.Faces.{SeatFace}
@@ -25,12 +28,14 @@ use Rattle.ist_rule.proofs.LaterLemmas.{goes_on_more}
 use Rattle.ist_rows.specs.declared.callers.Caller.{Caller}
 use Rattle.ist_rebuild.specs.Helping.{IsAskedFor, for_change, for_row}
 use Rattle.ist_updates.specs.Asking.{Updates}
+use Rattle.ist_updates.specs.Counting.{CameToLimit}
 use Rattle.ist_updates.specs.Refusals as updates
 use Rattle.ist_tree.specs.Faces.{PassFace}
 use Rattle.ist_tree.specs.Insides.{face_as, pass_face}
-use Rattle.ist_tree.specs.Refusals.{HadTooFew, IsAskedIn, IsForRebuild, IsRebuildRefused, IsRefused, KeepsRefusal, for_leaf, for_pair, for_put, for_remove, for_rebuild}
+use Rattle.ist_tree.specs.Refusals.{HadTooFew, IsAskedForRow, IsAskedIn, IsForHelp, IsForRebuild, IsRefused, IsRowRefused, KeepsRowRefusal, for_leaf, for_other, for_own, for_pair, for_put, for_remove, for_rebuild, for_start}
 use Rattle.ist_tree.specs.Working as working
 use Rattle.laws_histories.proofs.PositionOnLemmas.{position_on}
+use Rattle.ist_tree.proofs.AskedLemmas.{asked_grows}
 use Rattle.ist_tree.proofs.GoingLemmas.{lawful_behind}
 use Rattle.ist_tree.proofs.ShortLemmas.{short_now}
 use Rattle.ist_tree.proofs.WayLemmas.{IsWay, b_start, b_view, b_words, b_to_w, lawful_w, lawful_x, v_to_b, w_start, w_to_x, w_words, x_start, x_words}
@@ -69,7 +74,7 @@ module _ (who began new : Caller) (seat : SeatFace) (command : Command)
   x = seat.view
 
   -- there were too few words at the end of the work
-  had_too_few : (words : ℕ) (full : Full) → words ≡ v.words → working.IsShort w words full
+  abbrev had_too_few : (words : ℕ) (full : Full) → words ≡ v.words → working.IsShort w words full
       → HadTooFew before behind full
   had_too_few words full same s =
       record {
@@ -111,19 +116,84 @@ module _ (who began new : Caller) (seat : SeatFace) (command : Command)
         asked_is = is;
       }
 
-  -- a rebuild after the update was refused
-  pub rebuild_was_refused : (words : ℕ) (full : Full) → words ≡ v.words
-      → working.IsDueRefused w words full → IsRebuildRefused before behind full
-  rebuild_was_refused words full same d =
+  -- what is true of the state after the work, and of each that grows from it, is true after the call
+  in_last : (Q : Snapshot → Type 0)
+      → ((t u : Snapshot) → AllGrow t.pieces u.pieces → Q t → Q u) → Q (now w)
+      → Q (state_of x.start x.words x.log)
+  in_last Q grows h =
+      subst (λ words. Q (state_of x.start words x.log)) (sym (x_words who began new seat command it))
+      (subst (λ pairs. Q (state_of pairs v.words x.log)) (sym (x_start who began new seat command it))
+      (grows (state_of v.start v.words w.log) (state_of v.start v.words x.log)
+      (grow_between v.start v.words w.log x.log (lawful_x who began new seat command it).enabled
+      (w_to_x who began new seat command it)) (subst Q now_w h)))
+
+  -- and of this very rebuild
+  for_help : (rebuild asked : ℕ) → IsAskedFor (now w) rebuild asked → IsForHelp behind rebuild asked
+  for_help rebuild asked =
+      in_last (λ t. IsAskedFor t rebuild asked) (λ t u g. asked_grows t u g rebuild asked)
+
+  -- a rebuild that was started is started after the call
+  started_last : (rebuild : ℕ) → IsStarted (now w) rebuild
+      → IsStarted (state_of x.start x.words x.log) rebuild
+  started_last rebuild = in_last (λ t. IsStarted t rebuild) (λ t u g. started_grows t u g rebuild)
+
+  -- one that wasn't replaced when the call had begun wasn't before
+  unreplaced_first : (rebuild : ℕ) → ¬ (IsReplaced (now began.seat.view) rebuild)
+      → ¬ (IsReplaced (now v) rebuild)
+  unreplaced_first rebuild unreplaced k =
+      unreplaced
+      (subst (λ t. IsReplaced t rebuild) (sym now_b)
+      (replaced_grows (now v) (state_of v.start v.words began.seat.view.log)
+      (grow_between v.start v.words v.log began.seat.view.log
+      (lawful_behind v began.seat.view (b_view who began new seat command it)).enabled
+      (v_to_b who began new seat command it)) rebuild k))
+    where
+      now_b : now began.seat.view ≡ state_of v.start v.words began.seat.view.log
+      now_b =
+          ap₂ (λ pairs words. state_of pairs words began.seat.view.log)
+          (b_start who began new seat command it) (b_words who began new seat command it)
+
+  -- the rebuild of a row that reached its limit in the work was refused
+  pub row_was_refused : (words : ℕ) (full : Full) → words ≡ v.words → (row : ℕ)
+      → CameToLimit v.start v.words began.seat.view.log w.log who.number row
+      → working.IsDueRefused (now began.seat.view) w row words full
+      → IsRowRefused before behind row full
+  row_was_refused words full same row c d =
       record {
+        came = record {
+          at = c.at;
+          since = goes_on_more (v_to_b who began new seat command it) c.since;
+          until = goes_on_more c.until (w_to_x who began new seat command it);
+          row = c.row;
+          published = c.published;
+          reached = c.reached;
+        };
         had = had_too_few words full same d.short;
+        after = c.until;
         asked = asked d.asked;
       }
     where
-      asked : working.IsAskedToRebuild (now w) full.asked
-          → (full.asked ≡ rebuild_words) ⊎ IsForRebuild behind full.asked
-      asked (working.for_start e) = inl e
-      asked (working.for_help rebuild a) = inr (asked_for_rebuild rebuild full.asked a)
+      asked : working.IsAskedToRebuild (now began.seat.view) (now w) row full.asked
+          → IsAskedForRow before behind row full.asked
+      asked (working.for_start e) = for_start e
+      asked (working.for_own rebuild started of a) =
+          for_own
+          record {
+            rebuild = rebuild;
+            started = started_last rebuild started;
+            target = in_last (λ t. HasTarget t rebuild row)
+                (λ t u g. target_grows t u g rebuild row) of;
+            size = asked_for_rebuild rebuild full.asked a;
+            help = for_help rebuild full.asked a;
+          }
+      asked (working.for_other rebuild started unreplaced a) =
+          for_other
+          record {
+            rebuild = rebuild;
+            started = started_last rebuild started;
+            unreplaced = unreplaced_first rebuild unreplaced;
+          }
+          (asked_for_rebuild rebuild full.asked a) (for_help rebuild full.asked a)
 
   -- the update itself was
   pub update_was_refused : (words key : ℕ) (value : Option ℕ) (full : Full) → words ≡ v.words
@@ -155,34 +225,15 @@ module _ (who began new : Caller) (seat : SeatFace) (command : Command)
           for_rebuild
           record {
             rebuild = rebuild;
-            started =
-                subst (λ words. IsStarted (state_of x.start words x.log) rebuild)
-                (sym (x_words who began new seat command it))
-                (subst (λ pairs. IsStarted (state_of pairs v.words x.log) rebuild)
-                (sym (x_start who began new seat command it))
-                (started_grows (state_of v.start v.words w.log) (state_of v.start v.words x.log)
-                (grow_between v.start v.words w.log x.log
-                (lawful_x who began new seat command it).enabled (w_to_x who began new seat command it))
-                rebuild (subst (λ t. IsStarted t rebuild) now_w started)));
-            unreplaced = λ k.
-                unreplaced
-                (subst (λ t. IsReplaced t rebuild) (sym now_b)
-                (replaced_grows (now v) (state_of v.start v.words began.seat.view.log)
-                (grow_between v.start v.words v.log began.seat.view.log
-                (lawful_behind v began.seat.view (b_view who began new seat command it)).enabled
-                (v_to_b who began new seat command it)) rebuild k));
+            started = started_last rebuild started;
+            unreplaced = unreplaced_first rebuild unreplaced;
           }
-          (asked_for_rebuild rebuild n a)
-        where
-          now_b : now began.seat.view ≡ state_of v.start v.words began.seat.view.log
-          now_b =
-              ap₂ (λ pairs words. state_of pairs words began.seat.view.log)
-              (b_start who began new seat command it) (b_words who began new seat command it)
+          (asked_for_rebuild rebuild n a) (for_help rebuild n a)
 
   -- the first refusal of a rebuild is kept
   pub keeps_first : (met : Option Full) → q ≡ option_or r met
-      → ((full : Full) → met ≡ Some full → IsRebuildRefused before behind full)
-      → KeepsRefusal before behind
+      → ((full : Full) → met ≡ Some full → (row : ℕ) × IsRowRefused before behind row full)
+      → KeepsRowRefusal before behind
   keeps_first met is cause =
       record {
         stays = λ full e. is ∙ ap (λ o. option_or o met) e;
@@ -190,6 +241,6 @@ module _ (who began new : Caller) (seat : SeatFace) (command : Command)
       }
     where
       from : {full : Full} (o : Option Full) → option_or o met ≡ Some full
-          → (o ≡ Some full) ⊎ IsRebuildRefused before behind full
+          → (o ≡ Some full) ⊎ ((row : ℕ) × IsRowRefused before behind row full)
       from (Some first) e = inl e
       from {full = full} None e = inr (cause full e)

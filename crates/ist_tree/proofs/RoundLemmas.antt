@@ -1,93 +1,30 @@
 -- A pass that has let calls go: what its next call does holds since the beginning too. Serves
 -- `update_if`.
-use Rattle.std.proofs.Common.{◌≡◌, ℕ, ◌∷◌, Option, sym, ap, ◌∙◌, subst, inl, inr, refl, ⊎_elim, arith}
+use Rattle.std.proofs.Common.{◌≡◌, ℕ, ◌∷◌, Option, sym, ap, ◌∙◌, subst, refl, ⊎_elim, arith}
 use Rattle.std.proofs.Math.Nat.{le_trans}
 use Rattle.ist_core.specs.declared.commands.Command.{Command}
 use Rattle.ist_core.specs.declared.events.Event.TheVariants.{Count, Install}
 use Rattle.ist_core.specs.declared.ports.Full.{Full}
-use Rattle.ist_core.specs.Lawful.{Lawful, state_of}
+use Rattle.ist_core.specs.Lawful.{Lawful}
 use Rattle.ist_core.specs.Logs.{GoesOn, Log, same_log}
 use Rattle.ist_core.specs.StartLayout.{start}
-use Rattle.ist_core.proofs.FateLemmas.{grow_between}
 use Rattle.laws_histories.proofs.ChangeLemmas.{changes_rise}
-use Rattle.laws_links.proofs.FormLemmas.{replaced_grows}
 use Rattle.ist_rule.proofs.LaterLemmas.{goes_on_more}
 use Rattle.ist_tree.specs.Calls.{AddsCall, HasSeenMore}
-use Rattle.ist_tree.specs.DueRows.{CameDue, HasCounted, LeavesNoneDue, StartsOnlyDue, is_closed, none_came, was_refused}
+use Rattle.ist_updates.specs.Counting.{CountedNowhere}
+use Rattle.ist_tree.specs.DueRows.{CameDue, CountsNowhere, HasCounted, IsTopmostDue, LeavesNoneDue, StartsOnlyDue, is_closed, none_came, was_refused}
 use Rattle.ist_tree.specs.Faces.{PassFace}
-use Rattle.ist_tree.specs.Refusals.{HadTooFew, IsAskedIn, IsRebuildRefused, IsRefused, KeepsRefusal, for_leaf, for_pair, for_put, for_rebuild, for_remove}
+use Rattle.ist_tree.specs.Refusals.{IsRefused, KeepsRowRefusal}
 use Rattle.ist_tree.specs.Rounds.{HasLetGo, HasNoEffect}
 use Rattle.ist_tree.proofs.CameLemmas.{in_order, whole_or_before}
+use Rattle.ist_tree.proofs.CountedLemmas.{counted_more}
 use Rattle.ist_tree.proofs.InstallLemmas.{due_more, not_before}
-
--- the pass as it was let go, when it had seen the log, had made this many loads and had begun this
--- many walks
-abbrev pub let_go_at : PassFace → Log → ℕ → ℕ → PassFace
-let_go_at p seen loaded searches = record p { seen = seen; loaded = loaded; searches = searches }
+use Rattle.ist_tree.proofs.RoundRefusalLemmas.{keeps_since, let_go_at, refused_since, row_since}
 
 module _ (p : PassFace) (seen : Log) (loaded searches : ℕ) (g : GoesOn p.seen seen) (q : PassFace) where
   -- the pass between the two parts
   abbrev m : PassFace
   m = let_go_at p seen loaded searches
-
-  -- ---- refusals
-
-  few_since : (full : Full) → HadTooFew m q full → HadTooFew p q full
-  few_since full h =
-      record {
-        at = h.at;
-        since = goes_on_more g h.since;
-        until = h.until;
-        few = record {
-          next_is = h.few.next_is;
-          words_is = h.few.words_is;
-          small = h.few.small;
-        };
-      }
-
-  rebuild_since : (full : Full) → IsRebuildRefused m q full → IsRebuildRefused p q full
-  rebuild_since full r = record { had = few_since full r.had; asked = r.asked }
-
-  asked_since : Lawful p.tree.start p.tree.words seen → (key : ℕ) (value : Option ℕ) (asked : ℕ)
-      → IsAskedIn m q key value asked → IsAskedIn p q key value asked
-  asked_since lawful key _ asked (for_leaf e) = for_leaf e
-  asked_since lawful key _ asked (for_pair e) = for_pair e
-  asked_since lawful key _ asked (for_put e) = for_put e
-  asked_since lawful key _ asked (for_remove found has e) =
-      for_remove found
-      record {
-        position = has.position;
-        from = le_trans (changes_rise (start p.tree.start p.tree.words) p.seen seen g) has.from;
-        to = has.to;
-        value_is = has.value_is;
-      }
-      e
-  asked_since lawful key value asked (for_rebuild met a) =
-      for_rebuild
-      record {
-        rebuild = met.rebuild;
-        started = met.started;
-        unreplaced = λ k. met.unreplaced
-            (replaced_grows (state_of p.tree.start p.tree.words p.seen)
-            (state_of p.tree.start p.tree.words seen)
-            (grow_between p.tree.start p.tree.words p.seen seen lawful.enabled g) met.rebuild k);
-      }
-      a
-
-  refused_since : Lawful p.tree.start p.tree.words seen → (key : ℕ) (value : Option ℕ) (full : Full)
-      → IsRefused m q key value full → IsRefused p q key value full
-  refused_since lawful key value full r =
-      record {
-        had = few_since full r.had;
-        asked = asked_since lawful key value full.asked r.asked;
-      }
-
-  keeps_since : KeepsRefusal m q → KeepsRefusal p q
-  keeps_since k =
-      record {
-        stays = k.stays;
-        cause = λ full e. ⊎_elim (λ was. inl was) (λ r. inr (rebuild_since full r)) (k.cause full e);
-      }
 
   -- ---- calls and counts
 
@@ -171,16 +108,18 @@ module _ (p : PassFace) (seen : Log) (loaded searches : ℕ) (g : GoesOn p.seen 
     none_since : ((row : ℕ) → ¬ (CameDue m q row)) → (row : ℕ) → ¬ (CameDue p q row)
     none_since quiet row c = quiet row (came_then row c)
 
-    due_since : LeavesNoneDue m q → LeavesNoneDue p q
-    due_since (none_came quiet) = none_came (none_since quiet)
-    due_since (is_closed row t closed) =
-        is_closed row
+    top_since : (row : ℕ) → IsTopmostDue m q row → IsTopmostDue p q row
+    top_since row t =
         record {
           came = came_since row t.came;
           above = λ other c. t.above other (came_then other c);
         }
-        closed
-    due_since (was_refused full r e) = was_refused full (rebuild_since full r) e
+
+    due_since : Lawful p.tree.start p.tree.words seen → LeavesNoneDue m q → LeavesNoneDue p q
+    due_since lawful (none_came quiet) = none_came (none_since quiet)
+    due_since lawful (is_closed row t closed) = is_closed row (top_since row t) closed
+    due_since lawful (was_refused row full t r e) =
+        was_refused row full (top_since row t) (row_since p seen loaded searches g q lawful row full r) e
 
   starts_since : StartsOnlyDue p m → GoesOn seen q.seen → StartsOnlyDue m q → StartsOnlyDue p q
   starts_since before longer then =
@@ -234,9 +173,11 @@ module _ (p m : PassFace) (h : HasLetGo p m) where
         counted_since p m.seen m.loaded m.searches g q command (back (λ (x : PassFace). HasCounted x q command) c)
 
     -- if the second part leaves no row due, none is left due since the first part
-    pub due_from : GoesOn m.seen q.seen → LeavesNoneDue m q → LeavesNoneDue p q
-    due_from longer d =
-        due_since p m.seen m.loaded m.searches g q none longer (back (λ (x : PassFace). LeavesNoneDue x q) d)
+    pub due_from : Lawful m.tree.start m.tree.words m.seen → GoesOn m.seen q.seen
+        → LeavesNoneDue m q → LeavesNoneDue p q
+    due_from lawful longer d =
+        due_since p m.seen m.loaded m.searches g q none longer
+        (back (λ (x : PassFace). Lawful x.tree.start x.tree.words m.seen) lawful) (back (λ (x : PassFace). LeavesNoneDue x q) d)
 
     -- rebuilds started since the first part were of rows at their limits
     pub starts_from : GoesOn m.seen q.seen → StartsOnlyDue m q → StartsOnlyDue p q
@@ -252,8 +193,18 @@ module _ (p m : PassFace) (h : HasLetGo p m) where
         (back (λ (x : PassFace). IsRefused x q key value full) r)
 
     -- a refusal of a rebuild is kept since the first part
-    pub keeps_from : KeepsRefusal m q → KeepsRefusal p q
-    keeps_from k = keeps_since p m.seen m.loaded m.searches g q (back (λ (x : PassFace). KeepsRefusal x q) k)
+    pub keeps_from : Lawful m.tree.start m.tree.words m.seen → KeepsRowRefusal m q
+        → KeepsRowRefusal p q
+    keeps_from lawful k =
+        keeps_since p m.seen m.loaded m.searches g q
+        (back (λ (x : PassFace). Lawful x.tree.start x.tree.words m.seen) lawful)
+        (back (λ (x : PassFace). KeepsRowRefusal x q) k)
+
+    -- if the second part counted nowhere, nothing was counted since the first part
+    pub nowhere_from : GoesOn m.seen q.seen → CountsNowhere m q → CountsNowhere p q
+    nowhere_from longer none =
+        counted_more p.number p.seen m.seen q.seen longer h.idle.uncounted
+        (subst (λ n. CountedNowhere m.seen q.seen n) h.idle.seen.number none)
 
     -- what had no effect had none since the beginning
     pub idle_from : HasNoEffect m q → HasNoEffect p q
@@ -263,6 +214,7 @@ module _ (p m : PassFace) (h : HasLetGo p m) where
           refused = i.refused ∙ h.idle.refused;
           none_came = none_since p m.seen m.loaded m.searches g q none i.seen.seen
               (back (λ (x : PassFace). (row : ℕ) → ¬ (CameDue x q row)) i.none_came);
+          uncounted = nowhere_from i.seen.seen i.uncounted;
           starts = starts_from i.seen.seen i.starts;
         }
 
@@ -283,6 +235,7 @@ let_go_none p =
         seen = record { tree = refl; number = refl; seen = same_log; stamp = omega arith };
         refused = refl;
         none_came = λ row c. not_before p.tree.start p.tree.words p.number (Count p.number row) p.seen c.at c.since c.until;
+        uncounted = λ row c. not_before p.tree.start p.tree.words p.number (Count p.number row) p.seen c.at c.since c.until;
         starts = λ at base rows change since until is kind.
             absurd (not_before p.tree.start p.tree.words p.number (Install p.number base rows) p.seen at since until);
       };

@@ -1,17 +1,29 @@
 -- Starts and helps that were refused because too few words were left. Serves `rebuild_due` and
 -- `freeze`.
-use Rattle.std.proofs.Common.{◌≡◌, ℕ, Result, Ok, Err, IsErrAnd, IfErr, sym, ◌∙◌, subst, ⊎_elim}
+use Rattle.std.proofs.Common.{◌≡◌, ℕ, Some, Result, Ok, Err, IsErrAnd, IfErr, OnErr, sym, ap, ◌∙◌, subst}
 use Rattle.ist_core.specs.declared.events.Event.{Event}
 use Rattle.ist_core.specs.declared.ports.Full.{Full}
+use Rattle.ist_core.specs.Growing.{AllGrow}
+use Rattle.ist_core.specs.Rebuilding.{IsStarted}
+use Rattle.ist_core.specs.References.{RebuildAt, ref_of}
 use Rattle.ist_core.specs.Shown.{shown_next}
+use Rattle.ist_core.specs.Slots.{SlotHolds, past_change}
+use Rattle.ist_core.specs.Snapshots.{Snapshot}
+use Rattle.ist_core.proofs.NamingLemmas.{IsRebuildFor, SlotNames, slot_names}
+use Rattle.ist_core.proofs.OrderLemmas.{names}
+use Rattle.laws_links.proofs.FinishedLemmas.{target_grows}
+use Rattle.laws_links.proofs.FormLemmas.{replaced_grows, started_grows}
+use Rattle.laws_rebuilds.proofs.RebuiltLemmas.{read_unreplaced}
+use Rattle.ist_rule.specs.Going.{WentOn}
+use Rattle.ist_rule.proofs.WentOnLemmas.{went_grow}
 use Rattle.ist_core.proofs.SpendingLemmas.{words_are_spent}
 use Rattle.ist_rule.specs.declared.view.View.{View}
 use Rattle.ist_rule.specs.Learning.{now}
+use Rattle.ist_rule.specs.Rule.{IsSound}
 use Rattle.ist_rebuild.specs.Going.{Begins, Serves, IsShortOf}
 use Rattle.ist_rebuild.specs.Helping.{IsHelpRefused}
-use Rattle.ist_rebuild.specs.Starting.{IsStartRefused}
-use Rattle.ist_tree.specs.Working.{IsShort, for_start, for_help, IsDueRefused}
-use Rattle.ist_rebuild.specs.Helping as helping
+use Rattle.ist_rebuild.specs.Starting.{IsStartRefused, IsStartedAt, StoodInstead}
+use Rattle.ist_tree.specs.Working.{IsAskedToRebuild, IsDueRefused, IsShort, for_other, for_own, for_start}
 
 -- ---- too few words
 
@@ -27,19 +39,64 @@ short_now P v words full w s =
     }
 
 -- a start was refused
-pub start_refused : (v : View) (words : ℕ) (full : Full) (w : View)
-    → IsStartRefused v words full w → IsDueRefused w words full
-start_refused v words full w r =
+pub start_refused : (s : Snapshot) (v : View) (target words : ℕ) (full : Full) (w : View)
+    → IsStartRefused v words full w → IsDueRefused s w target words full
+start_refused s v target words full w r =
+    record { short = short_now Begins v words full w r.short; asked = for_start r.asked }
+
+-- helping the rebuild that was started was refused
+pub own_refused : (s : Snapshot) (v w : View) (rebuild parent index target words : ℕ) (full : Full)
+    → IsStartedAt (now v) rebuild parent index target → WentOn Serves v w
+    → IsHelpRefused v rebuild words full w → IsDueRefused s w target words full
+own_refused s v w rebuild parent index target words full at went r =
+    let grow = went_grow Serves v w went in
     record {
-      short = short_now Begins v words full w r.short;
-      asked = ⊎_elim (λ k. for_start k) (λ k. for_help 0 (helping.for_change k)) r.asked;
+      short = short_now Serves v words full w r.short;
+      asked = for_own rebuild (started_grows (now v) (now w) grow rebuild at.started)
+          (target_grows (now v) (now w) grow rebuild target
+          record { row = at.row; published = at.published; target_is = at.target_is })
+          r.asked;
     }
 
--- helping a rebuild was refused
-pub help_refused : (v : View) (rebuild words : ℕ) (full : Full) (w : View)
-    → IsHelpRefused v rebuild words full w → IsDueRefused w words full
-help_refused v rebuild words full w r =
-    record { short = short_now Serves v words full w r.short; asked = for_help rebuild r.asked }
+-- helping another rebuild, which stood in the slot, was refused
+pub other_refused : (v w : View) → IsSound v → (parent index target word rebuild words : ℕ)
+    (full : Full) → StoodInstead v parent index target word → ref_of word ≡ Some (RebuildAt rebuild)
+    → IsStarted (now v) rebuild → WentOn Serves v w → IsHelpRefused v rebuild words full w
+    → IsDueRefused (now v) w target words full
+other_refused v w s parent index target word rebuild words full stood is started went r =
+    record {
+      short = short_now Serves v words full w r.short;
+      asked = for_other rebuild
+          (started_grows (now v) (now w) (went_grow Serves v w went) rebuild started)
+          (λ replaced.
+          read_unreplaced v.start v.words s.lawful.opens v.log s.lawful.enabled rebuild named.row
+          named.published record {
+            word = word;
+            holds = subst (λ m. SlotHolds (now v) m named.row.index word) (sym named.parent)
+                (subst (λ i. SlotHolds (now v) parent i word) (sym named.index) stood.holds);
+            reads = ap (past_change (now v).pieces) is;
+          } replaced)
+          r.asked;
+    }
+  where
+    named : IsRebuildFor (now v).pieces parent index rebuild
+    named =
+        subst (SlotNames (now v).pieces parent index) is
+        (slot_names (now v) parent index word
+        (names v.start v.words s.lawful.opens v.log s.lawful.enabled) stood.holds)
+
+-- a rebuild that was refused since a state was refused since an earlier one
+pub due_refused_more : (s t : Snapshot) → AllGrow s.pieces t.pieces → (w : View)
+    (target words : ℕ) (full : Full) → IsDueRefused t w target words full
+    → IsDueRefused s w target words full
+due_refused_more s t grow w target words full d =
+    record { short = d.short; asked = asked d.asked }
+  where
+    asked : IsAskedToRebuild t (now w) target full.asked → IsAskedToRebuild s (now w) target full.asked
+    asked (for_start e) = for_start e
+    asked (for_own rebuild started of a) = for_own rebuild started of a
+    asked (for_other rebuild started unreplaced a) =
+        for_other rebuild started (λ k. unreplaced (replaced_grows s t grow rebuild k)) a
 
 -- ---- results
 
@@ -48,3 +105,8 @@ pub passed_on : {A : Type 0} (answer : Result A Full) (full : Full) (P : Full �
     → IsErrAnd answer (λ x. x ≡ full) → P full → IfErr answer P
 passed_on (Ok a) full P same p = tt
 passed_on (Err e) full P same p = subst P (sym same) p
+
+-- what is true is true if there is a refusal
+pub on_any : {A : Type 0} (answer : Result A Full) (P : Type 0) → P → OnErr answer P
+on_any (Ok a) P p = tt
+on_any (Err e) P p = p

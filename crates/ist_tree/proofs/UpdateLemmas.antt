@@ -7,7 +7,7 @@ use Rattle.ist_core.specs.declared.events.Event.TheVariants.{Count}
 use Rattle.ist_core.specs.declared.ports.Full.{Full}
 use Rattle.ist_core.specs.Elements.{Among}
 use Rattle.ist_core.specs.Lawful.{state_of}
-use Rattle.ist_core.specs.Links.{Chain, IsChild}
+use Rattle.ist_core.specs.Links.{Chain, IsChild, WasOnChain}
 use Rattle.ist_core.specs.Logs.{GoesOn, Log, one_event, same_log}
 use Rattle.ist_core.specs.Slots.{IsOpen, SlotHolds, in_anchor, in_row}
 use Rattle.ist_core.specs.Snapshots.{Snapshot}
@@ -27,21 +27,22 @@ use Rattle.ist_core.specs.declared.events.Who.TheVariants.{Caller as CallerOf}
 use Rattle.ist_core.specs.Authors.{whose}
 use Rattle.ist_rule.specs.Conditions.{CanEnd}
 use Rattle.ist_rule.specs.Faces.{SeatFace}
-use Rattle.ist_rule.specs.Learning.{Turned, beginning, ending}
+use Rattle.ist_rule.specs.Learning.{Turned, beginning, ending, now}
 use Rattle.ist_rule.specs.Watching.{IsNode, is_anchor, is_inner}
 use Rattle.ist_rule.proofs.LaterLemmas.{between, goes_on_length, goes_on_more}
 use Rattle.ist_rows.specs.declared.callers.Caller.{Caller}
 use Rattle.ist_updates.specs.Counting.{CameToLimit, IsCounted}
 use Rattle.ist_tree.specs.Calls.{AddsCall}
-use Rattle.ist_tree.specs.DueRows.{CameDue, HasCounted, LeavesNoneDue, first_refusal, is_closed, none_came, was_refused}
+use Rattle.ist_tree.specs.DueRows.{CameDue, HasCounted, IsClosedAt, IsTopmostDue, LeavesNoneDue, first_refusal, is_closed, none_came, was_refused}
 use Rattle.ist_tree.specs.Faces.{PassFace}
 use Rattle.ist_tree.specs.Insides.{face_as, pass_face}
+use Rattle.ist_tree.specs.Refusals.{IsRowRefused}
 use Rattle.ist_tree.specs.Working as working
 use Rattle.ist_tree.proofs.BetweenLemmas.{has_its_calls}
 use Rattle.ist_tree.proofs.CameLemmas.{came_inside, came_within}
 use Rattle.ist_tree.proofs.CarryLemmas.{counted_on}
 use Rattle.ist_tree.proofs.FindingLemmas.{changes_rise}
-use Rattle.ist_tree.proofs.RefusalLemmas.{rebuild_was_refused}
+use Rattle.ist_tree.proofs.RefusalLemmas.{row_was_refused}
 use Rattle.ist_tree.proofs.WayLemmas as way
 
 module _ (who began new : Caller) (seat : SeatFace) (command : Command)
@@ -131,6 +132,20 @@ module _ (who began new : Caller) (seat : SeatFace) (command : Command)
           node s e in
           is_inner k.0 k.1
 
+  -- the topmost row that reached its limit in the work did so in the call
+  topmost : (row : ℕ) → CameToLimit v.start v.words b.log w.log began.number row
+      → ((other : ℕ) → CameToLimit v.start v.words b.log w.log began.number other
+      → WasOnChain (start v.start v.words) w.log other row)
+      → IsTopmostDue before behind row
+  topmost row came top =
+      record {
+        came = came_in_call row came;
+        above = λ other c.
+            ever_later (start v.start v.words) (λ s. (rows : List ℕ) × Chain s other rows
+            × Among row rows) (way.w_to_x who began new seat command it)
+            (top other (came_at_work other c));
+      }
+
   -- the topmost row that reached its limit, or its parent, isn't open
   top_is_shut : (row : ℕ) → working.IsTopShut (record (beginning v (Some command) b.log) {
     log = b.log;
@@ -139,15 +154,8 @@ module _ (who began new : Caller) (seat : SeatFace) (command : Command)
   top_is_shut row t =
       let child = ever_from (start v.start v.words) (λ s. IsChild s t.parent t.index row) w.log
       t.was_child in
-      in_view (is_closed row
-      record {
-        came = came_in_call row t.came;
-        above = λ other c.
-            ever_later (start v.start v.words) (λ s. (rows : List ℕ) × Chain s other rows
-            × Among row rows) (way.w_to_x who began new seat command it)
-            (t.top other (came_at_work other c));
-      }
-      record {
+      is_closed row (topmost row t.came t.top)
+      (in_view record {
         parent = t.parent;
         index = t.index;
         was_child =
@@ -163,9 +171,8 @@ module _ (who began new : Caller) (seat : SeatFace) (command : Command)
             t.shut;
       })
     where
-      in_view : LeavesNoneDue before (record behind { tree = before.tree })
-          → LeavesNoneDue before behind
-      in_view = subst (λ tree. LeavesNoneDue before (record behind { tree = tree }))
+      in_view : IsClosedAt (record behind { tree = before.tree }) row → IsClosedAt behind row
+      in_view = subst (λ tree. IsClosedAt (record behind { tree = tree }) row)
           (sym (way.same_tree who began new seat command it))
 
   -- if the work brought no row to its limit, the call didn't
@@ -176,13 +183,31 @@ module _ (who began new : Caller) (seat : SeatFace) (command : Command)
       (subst (λ (y : View). CameToLimit y.start y.words b.log w.log began.number row)
       (sym it.begun.view) (came_at_work row c))
 
+  -- the topmost row that reached its limit in the work, by the first view's table
+  top_here : (row : ℕ) → working.IsTopCame b w began.number row
+      → working.IsTopCame (record (beginning v (Some command) b.log) { log = b.log }) w began.number
+      row
+  top_here row t =
+      subst (λ (y : View). working.IsTopCame (record y { log = b.log }) w began.number row)
+      it.begun.view t
+
+  -- its rebuild was refused in the call, if it was in the work
+  pub row_refused : (words : ℕ) (full : Full) → words ≡ v.words → (row : ℕ)
+      → working.IsTopCame b w began.number row
+      → working.IsDueRefused (now b) w row words full → IsRowRefused before behind row full
+  row_refused words full same row t d =
+      row_was_refused who began new seat command it r q words full same row
+      (subst (λ n. CameToLimit v.start v.words b.log w.log n row) it.began_number
+      (top_here row t).came)
+      d
+
   -- what became of the rows that reached their limits
   pub leaves_none_due : (words : ℕ) (met : Option Full) → words ≡ v.words → q ≡ option_or r met
       → working.LeavesShut b w began.number words met → LeavesNoneDue before behind
   leaves_none_due words _ same is (working.none_came none) = none_came (came_nowhere none)
-  leaves_none_due words _ same is (working.was_refused full d) =
-      was_refused full (rebuild_was_refused who began new seat command it r q words full same d)
-      (is ∙ first r)
+  leaves_none_due words _ same is (working.was_refused full row t d) =
+      was_refused row full (topmost row (top_here row t).came (top_here row t).top)
+      (row_refused words full same row t d) (is ∙ first r)
     where
       first : (o : Option Full) → option_or o (Some full) ≡ first_refusal o full
       first None = refl

@@ -19,14 +19,18 @@ use Rattle.ist_core.specs.Snapshots.{Snapshot}
 use Rattle.ist_core.specs.StartLayout.{start}
 use Rattle.ist_core.specs.Statuses.{start_kind}
 use Rattle.ist_core.specs.Writing.{first_change}
-use Rattle.ist_updates.specs.Counting.{IsCounted, CameToLimit}
+use Rattle.ist_updates.specs.Counting.{CountedNowhere, IsCounted, CameToLimit}
 use Rattle.ist_tree.specs.Faces.{PassFace}
-use Rattle.ist_tree.specs.Refusals.{IsRebuildRefused}
+use Rattle.ist_tree.specs.Refusals.{IsRowRefused}
 
 -- in the call the pass has put or removed as the command says, and counted that at each row on the
 -- chain of its change
 abbrev pub HasCounted : PassFace → PassFace → Command → Type 0
 HasCounted p q command = IsCounted p.tree.start p.tree.words p.seen q.seen p.number command
+
+-- the pass counted at no node in the call
+abbrev pub CountsNowhere : PassFace → PassFace → Type 0
+CountsNowhere p q = CountedNowhere p.seen q.seen p.number
 
 -- an increment of the pass in this call brought the row's counter to its limit, or beyond it
 abbrev pub CameDue : PassFace → PassFace → ℕ → Type 0
@@ -52,11 +56,11 @@ first_refusal (Some first) full = Some first
 first_refusal None full = Some full
 
 -- no row reached its limit by the counts of the call; or the topmost that did, or its parent, isn't
--- open; or a rebuild was refused in this call
+-- open; or too few words were left to rebuild it, and the pass keeps this refusal
 pub data LeavesNoneDue (p q : PassFace) : Type 0 where
   none_came : ((row : ℕ) → ¬ (CameDue p q row)) → LeavesNoneDue p q
   is_closed : (row : ℕ) → IsTopmostDue p q row → IsClosedAt q row → LeavesNoneDue p q
-  was_refused : (full : Full) → IsRebuildRefused p q full
+  was_refused : (row : ℕ) (full : Full) → IsTopmostDue p q row → IsRowRefused p q row full
       → q.refused ≡ first_refusal p.refused full → LeavesNoneDue p q
 
 -- ---- which rebuilds it started

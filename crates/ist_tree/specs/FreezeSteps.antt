@@ -1,37 +1,52 @@
 -- What the functions that freeze a tree promise each other: what is below the anchor, and what
 -- freezing it results in.
-use Rattle.std.specs.Prelude.{◌≡◌, ℕ, ◌⊎◌, List, slice_get, Option, Some, None, IfSome}
+use Rattle.std.specs.Prelude.{◌≡◌, ◌≢◌, ℕ, ◌⊎◌, List, slice_get, Option, Some, None, IfSome}
 use Rattle.ist_core.specs.declared.pairs.Pair.{Pair}
 use Rattle.ist_core.specs.declared.ports.Full.{Full}
 use Rattle.ist_core.specs.declared.states.LeafRow.{LeafRow}
+use Rattle.ist_core.specs.declared.states.RebuildRow.{RebuildRow}
 use Rattle.ist_core.specs.Lawful.{state_of}
 use Rattle.ist_core.specs.Leaves.{HasLeaves, PlacedLeaf}
 use Rattle.ist_core.specs.Links.{IsChild}
 use Rattle.ist_core.specs.Logs.{Log, GoesOn}
 use Rattle.ist_core.specs.Marking.{HasTarget}
-use Rattle.ist_core.specs.Pieces.{Leaf}
-use Rattle.ist_core.specs.Rebuilding.{IsFinishedWith, IsStarted}
-use Rattle.ist_core.specs.References.{Ref}
+use Rattle.ist_core.specs.Pieces.{Leaf, Rebuild}
+use Rattle.ist_core.specs.Rebuilding.{IsFinishedWith, IsReplaced, IsStarted}
+use Rattle.ist_core.specs.References.{InnerAt, Ref}
 use Rattle.ist_core.specs.RowLayout.{anchor, change_words, rebuild_words}
 use Rattle.ist_core.specs.Snapshots.{Snapshot}
 use Rattle.ist_layout.specs.declared.references.Ref.TheVariants.{Inner}
+use Rattle.ist_layout.specs.Meanings.{ref_meant}
 use Rattle.laws_settling.specs.Settling.{StartsAreDone}
 use Rattle.ist_rule.specs.declared.view.View.{View}
 use Rattle.ist_rule.specs.Learning.{now}
 use Rattle.ist_rows.specs.declared.callers.Caller.{Caller}
+use Rattle.ist_rebuild.specs.Helping.{IsAskedFor}
 use Rattle.ist_rebuild.specs.Starting.{StartsAreDoneBut, StartsNone}
+use Rattle.ist_tree.specs.declared.freezing.Frozen.{Frozen}
 use Rattle.ist_tree.specs.declared.freezing.Outcome.{Outcome}
 use Rattle.ist_tree.specs.declared.freezing.Site.{Site}
 use Rattle.ist_tree.specs.declared.freezing.Site.TheVariants.{Still, Rebuilt}
-use Rattle.ist_tree.specs.Freezing.{WasFrozen}
-use Rattle.ist_tree.specs.Working.{IsDueRefused, IsShort, KeepsDone, RebuildsOn}
+use Rattle.ist_tree.specs.Freezing.{HeldInnerRow, WasFrozen}
+use Rattle.ist_tree.specs.Working.{IsShort, KeepsDone, RebuildsOn}
 
 -- ---- what is below the anchor
 
--- the rebuild is a started one of this target
+-- the rebuild is one below the anchor
+pub record IsBelowAnchor (t : Snapshot) (rebuild : ℕ) : Type 0 where
+  pub row : RebuildRow
+  pub published : t.pieces rebuild ≡ Some (Rebuild row)
+  pub parent_is : row.parent ≡ anchor
+
+-- the rebuild is a started one of this target, below the anchor
 pub record IsRebuildOf (t : Snapshot) (rebuild target : ℕ) : Type 0 where
   pub started : IsStarted t rebuild
   pub target_is : HasTarget t rebuild target
+  pub below : IsBelowAnchor t rebuild
+
+-- the root of the frozen tree is no inner row
+abbrev pub HasNoRow : Frozen → Type 0
+HasNoRow frozen = (row : ℕ) → ref_meant frozen.root ≢ InnerAt row
 
 -- the row was the anchor's child after some log between these
 pub record WasTop (v : View) (log : Log) (target : ℕ) : Type 0 where
@@ -42,7 +57,7 @@ pub record WasTop (v : View) (log : Log) (target : ℕ) : Type 0 where
 
 -- what a look at the anchor's slot found: a tree that is frozen, or a rebuild of what was there
 abbrev pub IsSite : View → View → Site → Type 0
-IsSite v w (Still frozen) = WasFrozen v.start v.words v.log w.log frozen
+IsSite v w (Still frozen) = WasFrozen v.start v.words v.log w.log frozen × HasNoRow frozen
 IsSite v w (Rebuilt rebuild target) = IsRebuildOf (now w) rebuild target × WasTop v w.log target
 
 -- if all starts of the caller were done, they still are, except the start of this rebuild, if one
@@ -82,11 +97,26 @@ HasBegun old new target None = GoesIdle old new
 
 -- ---- what it results in
 
--- the caller was refused a row for the start, and has started no rebuild
+-- the caller was refused a row for the start of a rebuild of an inner row that the anchor's slot
+-- held, and has started no rebuild
 pub record IsStopped (old new : Caller) (words : ℕ) (full : Full) : Type 0 where
   pub idle : GoesIdle old new
   pub short : IsShort new.seat.view words full
   pub asked : (full.asked ≡ rebuild_words) ⊎ (full.asked ≡ change_words)
+  pub held : let v = old.seat.view in HeldInnerRow v.start v.words v.log new.seat.view.log
+
+-- too few words were left to help the rebuild
+pub record IsHelpShort (w : View) (rebuild words : ℕ) (full : Full) : Type 0 where
+  pub short : IsShort w words full
+  pub asked : IsAskedFor (now w) rebuild full.asked
+
+-- too few words were left to help a rebuild of a row that was the anchor's child since
+pub record IsTopShort (v w : View) (words : ℕ) (full : Full) : Type 0 where
+  pub rebuild : ℕ
+  pub target : ℕ
+  pub of : IsRebuildOf (now w) rebuild target
+  pub top : WasTop v w.log target
+  pub help : IsHelpShort w rebuild words full
 
 -- the caller has finished the target; if it wasn't refused, the rebuild is done too
 pub record FreezesTarget (old new : Caller) (words rebuild target : ℕ) (outcome : Outcome)
@@ -96,7 +126,14 @@ pub record FreezesTarget (old new : Caller) (words rebuild target : ℕ) (outcom
   pub finished : IsFinishedWith (now new.seat.view) target outcome.frozen.keys
   pub done : outcome.refused ≡ None → StartsAreDoneBut (now old.seat.view) old.number rebuild
       → StartsAreDone (now new.seat.view) old.number
-  pub refused : IfSome outcome.refused (IsDueRefused new.seat.view words)
+  pub replaced : outcome.refused ≡ None → IsReplaced (now new.seat.view) rebuild
+  pub refused : IfSome outcome.refused (IsHelpShort new.seat.view rebuild words)
+
+-- a rebuild of the row was started, and was replaced, if none was refused
+pub record IsRebuiltIn (t : Snapshot) (row : ℕ) (refused : Option Full) : Type 0 where
+  pub rebuild : ℕ
+  pub of : IsRebuildOf t rebuild row
+  pub replaced : refused ≡ None → IsReplaced t rebuild
 
 -- the caller has frozen the tree; if it wasn't refused, all that it started is done
 pub record Freezes (old new : Caller) (words : ℕ) (outcome : Outcome) : Type 0 where
@@ -104,7 +141,9 @@ pub record Freezes (old new : Caller) (words : ℕ) (outcome : Outcome) : Type 0
   pub frozen : let v = old.seat.view in
       WasFrozen v.start v.words v.log new.seat.view.log outcome.frozen
   pub done : outcome.refused ≡ None → KeepsDone old new
-  pub refused : IfSome outcome.refused (IsDueRefused new.seat.view words)
+  pub rebuilt : (row : ℕ) → ref_meant outcome.frozen.root ≡ InnerAt row
+      → IsRebuiltIn (now new.seat.view) row outcome.refused
+  pub refused : IfSome outcome.refused (IsTopShort old.seat.view new.seat.view words)
 
 -- ---- reading what is frozen
 

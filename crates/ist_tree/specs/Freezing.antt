@@ -1,5 +1,5 @@
 -- A whole tree that was frozen: when it is so, which pairs it has, and why a freeze is refused.
-use Rattle.std.specs.Prelude.{◌≡◌, ℕ, ◌⊎◌, List, map, length, slice_get, Some}
+use Rattle.std.specs.Prelude.{◌≡◌, ℕ, ◌⊎◌, List, map, length, slice_get, Some, None}
 use Rattle.std.specs.List.Sorted.{IsStrictlyIncreasing}
 use Rattle.ist_core.specs.declared.pairs.Pair.{Pair}
 use Rattle.ist_core.specs.declared.ports.Full.{Full}
@@ -8,9 +8,11 @@ use Rattle.ist_core.specs.Lawful.{Lawful, state_of}
 use Rattle.ist_core.specs.Leaves.{HasLeaves, PlacedLeaf, pair_of}
 use Rattle.ist_core.specs.Logs.{Log, GoesOn}
 use Rattle.ist_core.specs.Pieces.{Leaf}
-use Rattle.ist_core.specs.Rebuilding.{IsFinishedWith}
-use Rattle.ist_core.specs.References.{Ref, Empty, LeafAt, InnerAt}
-use Rattle.ist_core.specs.RowLayout.{change_words, rebuild_words}
+use Rattle.ist_core.specs.Marking.{HasTarget}
+use Rattle.ist_core.specs.Rebuilding.{IsFinishedWith, IsReplaced, IsStarted}
+use Rattle.ist_core.specs.References.{Ref, Empty, LeafAt, InnerAt, word_of}
+use Rattle.ist_core.specs.RowLayout.{anchor, change_words, rebuild_words}
+use Rattle.ist_core.specs.Slots.{SlotHolds}
 use Rattle.ist_core.specs.Snapshots.{Snapshot}
 use Rattle.laws_rows.specs.Freezing.{WereThePairs}
 use Rattle.ist_layout.specs.Meanings.{ref_meant}
@@ -97,11 +99,31 @@ IsFrozenFor p frozen = IsFrozen p.tree.start p.tree.words p.seen frozen
 abbrev pub HasFrozen : PassFace → PassFace → Frozen → Type 0
 HasFrozen p q frozen = WasFrozen p.tree.start p.tree.words p.seen q.seen frozen
 
--- the freeze couldn't start its rebuild: too few words were left for the rebuild's row or its
--- change
+-- after some log between these the anchor's slot held an inner row
+pub record HeldInnerRow (pairs : List Pair) (words : ℕ) (earlier log : Log) : Type 0 where
+  pub at : Log
+  pub since : GoesOn earlier at
+  pub until : GoesOn at log
+  pub row : ℕ
+  pub holds : SlotHolds (state_of pairs words at) anchor 0 (word_of (InnerAt row))
+
+-- the freeze couldn't start its rebuild: the anchor's slot held an inner row at a step of this call,
+-- and too few words were left for the rebuild's row or its change
 pub record IsFreezeRefused (p q : PassFace) (full : Full) : Type 0 where
   pub had : HadTooFew p q full
   pub asked : (full.asked ≡ rebuild_words) ⊎ (full.asked ≡ change_words)
+  pub held : HeldInnerRow p.tree.start p.tree.words p.seen q.seen
+
+-- a rebuild of this row was started, and was replaced, unless the pass keeps a refusal of a rebuild
+pub record IsRebuiltFor (p : PassFace) (row : ℕ) : Type 0 where
+  pub rebuild : ℕ
+  pub started : IsStarted (state_of p.tree.start p.tree.words p.seen) rebuild
+  pub target : HasTarget (state_of p.tree.start p.tree.words p.seen) rebuild row
+  pub replaced : p.refused ≡ None → IsReplaced (state_of p.tree.start p.tree.words p.seen) rebuild
+
+-- if the root of the frozen tree is an inner row, it was rebuilt so
+abbrev pub LeavesRebuilt : PassFace → Frozen → Type 0
+LeavesRebuilt p frozen = (row : ℕ) → ref_meant frozen.root ≡ InnerAt row → IsRebuiltFor p row
 
 -- the pass has started no rebuild in the call: each of its starts that was decided yes by the end
 -- was decided yes before

@@ -1,16 +1,25 @@
 -- Why a put or a remove is refused, and why the rebuild after one is refused.
-use Rattle.std.specs.Prelude.{◌≡◌, ◌≢◌, ℕ, ◌+◌, ◌*◌, ◌<◌, ◌≤◌, ◌⊎◌, length, Option, Some, None}
+use Rattle.std.specs.Prelude.{◌≡◌, ◌≢◌, ℕ, ◌+◌, ◌*◌, ◌<◌, ◌≤◌, ◌⊎◌, ◌∷◌, length, Option, Some, None}
+use Rattle.ist_core.specs.declared.commands.Command.{Command}
 use Rattle.ist_core.specs.declared.commands.Command.TheVariants.{Get}
+use Rattle.ist_core.specs.declared.events.Event.TheVariants.{Count}
 use Rattle.ist_core.specs.declared.ports.Full.{Full}
 use Rattle.ist_core.specs.Arithmetic.{degree}
 use Rattle.ist_core.specs.Lawful.{state_of}
+use Rattle.ist_core.specs.Links.{IsChild}
 use Rattle.ist_core.specs.Logs.{Log, GoesOn}
+use Rattle.ist_core.specs.Marking.{HasTarget}
 use Rattle.ist_core.specs.Rebuilding.{IsStarted, IsReplaced}
 use Rattle.ist_core.specs.Replies.{Refused}
-use Rattle.ist_core.specs.RowLayout.{leaf_words, pair_words, change_words, rebuild_words}
+use Rattle.ist_core.specs.RowLayout.{anchor, leaf_words, pair_words, change_words, rebuild_words}
 use Rattle.ist_core.specs.Spending.{spent}
 use Rattle.laws_rows.specs.Finishing.{puts_in}
 use Rattle.laws_histories.specs.Searching.{HasPosition}
+use Rattle.laws_settling.specs.Settling.{StartsAreDone}
+use Rattle.ist_rebuild.specs.Helping.{IsAskedFor}
+use Rattle.ist_updates.specs.Asking.{command_for}
+use Rattle.ist_updates.specs.Counting.{CameToLimit}
+use Rattle.ist_tree.specs.Calls.{HasSeenMore}
 use Rattle.ist_tree.specs.Faces.{PassFace, changes_seen}
 
 -- ---- how many words there were
@@ -43,6 +52,11 @@ pub record IsForNode (p : PassFace) (asked : ℕ) : Type 0 where
 abbrev pub IsForRebuild : PassFace → ℕ → Type 0
 IsForRebuild p asked = (asked ≡ change_words) ⊎ IsForNode p asked
 
+-- helping this very rebuild asks for this many words at a time: the size of a change, or of a node
+-- over at least two keys, and no more than its finished target has
+abbrev pub IsForHelp : PassFace → ℕ → ℕ → Type 0
+IsForHelp p rebuild = IsAskedFor (state_of p.tree.start p.tree.words p.seen) rebuild
+
 -- a rebuild was started by the end of a call, and hadn't been replaced when the call began
 pub record HasMetRebuild (p q : PassFace) : Type 0 where
   pub rebuild : ℕ
@@ -51,7 +65,7 @@ pub record HasMetRebuild (p q : PassFace) : Type 0 where
 
 -- this many words were asked for in a call with this key. A put asks for a leaf, a pair row or a
 -- change. A remove asks for a change, if the map had the key at some position no lower than what
--- the pass had seen. Both ask for what helping a rebuild takes, if they met one
+-- the pass had seen. Both ask for what helping a rebuild takes that they met
 pub data IsAskedIn (p q : PassFace) (key : ℕ) : Option ℕ → ℕ → Type 0 where
   for_leaf : {value asked : ℕ} → asked ≡ leaf_words → IsAskedIn p q key (Some value) asked
   for_pair : {value asked : ℕ} → asked ≡ pair_words → IsAskedIn p q key (Some value) asked
@@ -59,8 +73,8 @@ pub data IsAskedIn (p q : PassFace) (key : ℕ) : Option ℕ → ℕ → Type 0 
   for_remove : {asked : ℕ} (found : ℕ)
       → HasPosition p.tree.start p.tree.words p.seen q.seen key (Some found)
       → asked ≡ change_words → IsAskedIn p q key None asked
-  for_rebuild : {value : Option ℕ} {asked : ℕ} → HasMetRebuild p q → IsForRebuild q asked
-      → IsAskedIn p q key value asked
+  for_rebuild : {value : Option ℕ} {asked : ℕ} (met : HasMetRebuild p q) → IsForRebuild q asked
+      → IsForHelp q met.rebuild asked → IsAskedIn p q key value asked
 
 -- ---- refusals
 
@@ -70,18 +84,71 @@ pub record IsRefused (p q : PassFace) (key : ℕ) (value : Option ℕ) (full : F
   pub had : HadTooFew p q full
   pub asked : IsAskedIn p q key value full.asked
 
--- a rebuild was refused because too few words were left: for the rebuild's row, or for helping it
-pub record IsRebuildRefused (p q : PassFace) (full : Full) : Type 0 where
-  pub had : HadTooFew p q full
-  pub asked : (full.asked ≡ rebuild_words) ⊎ IsForRebuild q full.asked
+-- ---- refusals of a rebuild
 
--- a pass keeps its refusal of a rebuild, and a new one came in this call
+-- a rebuild of this row was started by the end of a call, and helping it asked for this many words
+pub record IsForRebuildOf (q : PassFace) (row asked : ℕ) : Type 0 where
+  pub rebuild : ℕ
+  pub started : IsStarted (state_of q.tree.start q.tree.words q.seen) rebuild
+  pub target : HasTarget (state_of q.tree.start q.tree.words q.seen) rebuild row
+  pub size : IsForRebuild q asked
+  pub help : IsForHelp q rebuild asked
+
+-- this many words were asked for to rebuild a row: for the start, which takes a rebuild's row and a
+-- change; for helping its rebuild; or for helping another rebuild that the call met
+pub data IsAskedForRow (p q : PassFace) (row asked : ℕ) : Type 0 where
+  for_start : (asked ≡ rebuild_words) ⊎ (asked ≡ change_words) → IsAskedForRow p q row asked
+  for_own : IsForRebuildOf q row asked → IsAskedForRow p q row asked
+  for_other : (met : HasMetRebuild p q) → IsForRebuild q asked → IsForHelp q met.rebuild asked
+      → IsAskedForRow p q row asked
+
+-- an increment of the pass in this call brought the row to its limit, and after it too few words
+-- were left to rebuild the row
+pub record IsRowRefused (p q : PassFace) (row : ℕ) (full : Full) : Type 0 where
+  pub came : CameToLimit p.tree.start p.tree.words p.seen q.seen p.number row
+  pub had : HadTooFew p q full
+  pub after : GoesOn (Count p.number row ∷ came.at) had.at
+  pub asked : IsAskedForRow p q row full.asked
+
+-- a pass keeps its refusal of a rebuild, and a new one is of a row that reached its limit in
+-- this put or remove
+pub record KeepsRowRefusal (p q : PassFace) : Type 0 where
+  pub stays : (full : Full) → p.refused ≡ Some full → q.refused ≡ Some full
+  pub cause : (full : Full) → q.refused ≡ Some full
+      → (p.refused ≡ Some full) ⊎ ((row : ℕ) × IsRowRefused p q row full)
+
+-- a row was below the anchor at a step of this call, and too few words were left to help a rebuild
+-- of it
+pub record IsTopRefused (p q : PassFace) (full : Full) : Type 0 where
+  pub row : ℕ
+  pub at : Log
+  pub since : GoesOn p.seen at
+  pub until : GoesOn at q.seen
+  pub child : IsChild (state_of p.tree.start p.tree.words at) anchor 0 row
+  pub had : HadTooFew p q full
+  pub asked : IsForRebuildOf q row full.asked
+
+-- a pass keeps its refusal of a rebuild, and a new one is of what was below the anchor in this
+-- freeze
 pub record KeepsRefusal (p q : PassFace) : Type 0 where
   pub stays : (full : Full) → p.refused ≡ Some full → q.refused ≡ Some full
   pub cause : (full : Full) → q.refused ≡ Some full
-      → (p.refused ≡ Some full) ⊎ IsRebuildRefused p q full
+      → (p.refused ≡ Some full) ⊎ IsTopRefused p q full
+
+-- if the pass keeps no refusal of a rebuild, each rebuild that it started was replaced, or is in a
+-- parent that isn't open
+abbrev pub HasStartsDone : PassFace → Type 0
+HasStartsDone p =
+    p.refused ≡ None → StartsAreDone (state_of p.tree.start p.tree.words p.seen) p.number
 
 -- ---- what a port reports
+
+-- this command is a put or a remove, which was refused in the call
+pub record IsRefusedCall (p q : PassFace) (command : Command) (full : Full) : Type 0 where
+  pub key : ℕ
+  pub value : Option ℕ
+  pub command_is : command ≡ command_for key value
+  pub cause : IsRefused p q key value full
 
 -- a put or a remove may ask for this many words at a time: the size of a leaf, a pair row, a change
 -- or a node
@@ -89,10 +156,16 @@ abbrev pub MayBeAsked : PassFace → ℕ → Type 0
 MayBeAsked p asked =
     (asked ≡ leaf_words) ⊎ ((asked ≡ pair_words) ⊎ ((asked ≡ change_words) ⊎ IsForNode p asked))
 
--- a put or a remove of the pass was refused with these numbers, after a log that the pass has seen
+-- a put or a remove of the pass was refused with these numbers, after a log that the pass has seen:
+-- it began when the pass had seen what `began` says, and ended when it had seen what `ended` says
 pub record WasRefused (p : PassFace) (said : Refused) : Type 0 where
   pub update : (key : ℕ) → said.command ≢ Get key
   pub at : Log
   pub until : GoesOn at p.seen
   pub few : LeavesTooFew p at said.full
   pub asked : MayBeAsked p said.full.asked
+  pub began : PassFace
+  pub ended : PassFace
+  pub call : HasSeenMore began ended
+  pub later : HasSeenMore ended p
+  pub cause : IsRefusedCall began ended said.command said.full

@@ -9,9 +9,10 @@ use Rattle.ist_core.specs.declared.states.ChangeRow.{ChangeRow}
 use Rattle.ist_core.specs.Lawful.{state_of}
 use Rattle.ist_core.specs.Links.{IsChild, WasOnChain}
 use Rattle.ist_core.specs.Logs.{Ever, Happened, Resolves}
-use Rattle.ist_core.specs.Rebuilding.{IsUpdate}
+use Rattle.ist_core.specs.Marking.{HasTarget}
+use Rattle.ist_core.specs.Rebuilding.{IsReplaced, IsStarted, IsUpdate}
 use Rattle.ist_core.specs.References.{ChangeAt, RebuildAt, Ref, ref_of}
-use Rattle.ist_core.specs.RowLayout.{rebuild_words}
+use Rattle.ist_core.specs.RowLayout.{change_words, rebuild_words}
 use Rattle.ist_core.specs.Slots.{IsOpen}
 use Rattle.ist_core.specs.Snapshots.{Snapshot}
 use Rattle.ist_core.specs.Spending.{spent}
@@ -30,7 +31,7 @@ use Rattle.ist_build.specs.Calls.{IsBuildable}
 use Rattle.ist_rebuild.specs.Going.{IsQuiet}
 use Rattle.ist_rebuild.specs.Helping.{IsAskedFor}
 use Rattle.ist_updates.specs.Asking.{MayEnd}
-use Rattle.ist_updates.specs.Counting.{IsCounted, CameToLimit, LeavesDue}
+use Rattle.ist_updates.specs.Counting.{CountedNowhere, IsCounted, CameToLimit, LeavesDue}
 use Rattle.ist_updates.specs.Further.{HasWalkedFew}
 use Rattle.ist_updates.specs.Refusals.{WasRefused}
 use Rattle.ist_tree.specs.declared.rebuilding.Instead.{Instead}
@@ -105,15 +106,19 @@ pub record IsShort (w : View) (words : ℕ) (full : Full) : Type 0 where
   pub words_is : full.words ≡ words
   pub small : words < full.next + full.asked
 
--- this many words were asked for: the size of a rebuild, or what helping one takes
-pub data IsAskedToRebuild (t : Snapshot) : ℕ → Type 0 where
-  for_start : {asked : ℕ} → asked ≡ rebuild_words → IsAskedToRebuild t asked
-  for_help : {asked : ℕ} (rebuild : ℕ) → IsAskedFor t rebuild asked → IsAskedToRebuild t asked
+-- this many words were asked for to rebuild the target: for its start; for helping a rebuild of it;
+-- or for helping another rebuild, which hadn't been replaced in the earlier state
+pub data IsAskedToRebuild (s t : Snapshot) (target asked : ℕ) : Type 0 where
+  for_start : (asked ≡ rebuild_words) ⊎ (asked ≡ change_words) → IsAskedToRebuild s t target asked
+  for_own : (rebuild : ℕ) → IsStarted t rebuild → HasTarget t rebuild target
+      → IsAskedFor t rebuild asked → IsAskedToRebuild s t target asked
+  for_other : (rebuild : ℕ) → IsStarted t rebuild → ¬ (IsReplaced s rebuild)
+      → IsAskedFor t rebuild asked → IsAskedToRebuild s t target asked
 
--- a rebuild was refused because too few words were left
-pub record IsDueRefused (w : View) (words : ℕ) (full : Full) : Type 0 where
+-- the rebuild of the target was refused because too few words were left
+pub record IsDueRefused (s : Snapshot) (w : View) (target words : ℕ) (full : Full) : Type 0 where
   pub short : IsShort w words full
-  pub asked : IsAskedToRebuild (now w) full.asked
+  pub asked : IsAskedToRebuild s (now w) target full.asked
 
 -- ---- an update
 
@@ -128,13 +133,20 @@ pub record IsTopShut (v w : View) (number row : ℕ) : Type 0 where
   pub was_child : Ever (start v.start v.words) (λ t. IsChild t parent index row) w.log
   pub shut : IsShut (state_of v.start v.words w.log) parent row
 
+-- of the rows that reached their limits by the caller's counts since, this is the topmost
+pub record IsTopCame (v w : View) (number row : ℕ) : Type 0 where
+  pub came : CameToLimit v.start v.words v.log w.log number row
+  pub top : (other : ℕ) → CameToLimit v.start v.words v.log w.log number other
+      → WasOnChain (start v.start v.words) w.log other row
+
 -- what became of the rows that reached their limits: there were none, the topmost or its parent
--- isn't open, or the rebuild was refused with this `Full`
+-- isn't open, or its rebuild was refused with this `Full`
 pub data LeavesShut (v w : View) (number words : ℕ) : Option Full → Type 0 where
   none_came : ((row : ℕ) → ¬ (CameToLimit v.start v.words v.log w.log number row))
       → LeavesShut v w number words None
   is_shut : (row : ℕ) → IsTopShut v w number row → LeavesShut v w number words None
-  was_refused : (full : Full) → IsDueRefused w words full → LeavesShut v w number words (Some full)
+  was_refused : (full : Full) (row : ℕ) → IsTopCame v w number row
+      → IsDueRefused (now v) w row words full → LeavesShut v w number words (Some full)
 
 -- the caller carried out the command with this reply, and met this refusal of the rebuild after it
 pub record CarriesOut (old new : Caller) (words : ℕ) (command : Command) (reply : Option ℕ)
@@ -161,6 +173,7 @@ pub record IsLetGo (old new : Caller) : Type 0 where
   pub few_walks : HasWalkedFew old.seat.view new.seat.view
   pub can : CanGiveUp new.seat.view
   pub none_came : LeavesDue old.seat.view new.seat.view old.number None
+  pub uncounted : CountedNowhere old.seat.view.log new.seat.view.log old.number
   pub starts : KeepsDone old new
   pub due : let v = old.seat.view in DueRowsAreClosed (start v.start v.words) v.log old.number
       → DueRowsAreClosed (start v.start v.words) new.seat.view.log old.number

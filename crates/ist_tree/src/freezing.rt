@@ -13,14 +13,14 @@ ghost use Rattle.ist_rebuild.specs.Starting.{MayStart};
 ghost use Rattle.ist_rule.specs.Faces.{word_count_of};
 ghost use Rattle.ist_rule.specs.Learning.{now, GoesOnTo, Turned, beginning};
 ghost use Rattle.ist_rule.specs.Rule.{IsSound};
-ghost use Rattle.ist_tree.specs.FreezeSteps.{IsRebuildOf, WasTop, HasBegun, HasMet, MayHaveMet};
+ghost use Rattle.ist_tree.specs.FreezeSteps.{IsBelowAnchor, IsRebuildOf, WasTop, HasBegun, HasMet, MayHaveMet};
 ghost use Rattle.ist_tree.specs.FreezeSteps.{GoesIdle, IsStopped, FreezesTarget, Freezes};
 ghost use Rattle.ist_tree.specs.FreezeSteps.{IsLeafNumber, IsPairOf};
 ghost use Rattle.ist_tree.specs.Calls.{HasSeenMore};
 ghost use Rattle.ist_tree.specs.Freezing.{IsStill, IsFrozenFor, HasFrozen, IsPairAt};
-ghost use Rattle.ist_tree.specs.Freezing.{HasStartedNone, IsFreezeRefused, IsFrozenPair};
+ghost use Rattle.ist_tree.specs.Freezing.{HasStartedNone, HeldInnerRow, IsFreezeRefused, IsFrozenPair, LeavesRebuilt};
 ghost use Rattle.ist_tree.specs.Insides.{IsPass};
-ghost use Rattle.ist_tree.specs.Refusals.{KeepsRefusal};
+ghost use Rattle.ist_tree.specs.Refusals.{HasStartsDone, KeepsRefusal};
 ghost use Rattle.ist_tree.specs.Working.{IsReady};
 
 use crate::passes::Pass;
@@ -92,6 +92,7 @@ fn begin_rebuild(table: &TreeTable, who: &mut Caller, target: u32) -> Result<Opt
     requires same_table { who.old.seat.table ≡ table.now.table }
     requires ready { IsReady who.old }
     requires may_start { MayStart who.old.seat.view anchor 0 target }
+    requires held { let v = who.old.seat.view in HeldInnerRow v.start v.words v.log v.log }
     ensures same_table { who.new.seat.table ≡ table.now.table }
     ensures begun { IfOk result (HasBegun who.old who.new target) }
     ensures further { result ≡ Ok None → (word : ℕ) → ref_of word ≡ Some (InnerAt target)
@@ -113,6 +114,7 @@ fn met_row(table: &TreeTable, who: &mut Caller, target: u32) -> Result<Option<Si
     requires ready { IsReady who.old }
     requires top { WasTop who.old.seat.view who.old.seat.view.log target }
     requires may_start { MayStart who.old.seat.view anchor 0 target }
+    requires held { let v = who.old.seat.view in HeldInnerRow v.start v.words v.log v.log }
     ensures same_table { who.new.seat.table ≡ table.now.table }
     ensures met { IfOk result (MayHaveMet who.old who.new) }
     ensures further { result ≡ Ok None → (word : ℕ) → ref_of word ≡ Some (InnerAt target)
@@ -131,6 +133,7 @@ fn met_rebuild(table: &TreeTable, who: &mut Caller, rebuild: u32) -> Site
     requires same_table { who.old.seat.table ≡ table.now.table }
     requires ready { IsReady who.old }
     requires started { IsStarted (now who.old.seat.view) rebuild }
+    requires below { IsBelowAnchor (now who.old.seat.view) rebuild }
     requires top { (target : ℕ) → HasTarget (now who.old.seat.view) rebuild target
         → WasTop who.old.seat.view who.old.seat.view.log target }
     ensures same_table { who.new.seat.table ≡ table.now.table }
@@ -333,17 +336,20 @@ impl Tree {
     /// before. If the tree is empty or a single leaf, it is frozen as it is. The calls of the pass
     /// are as before. It returns `Full` if the tree had too few words left for a row of the start:
     /// no rebuild was started in the call then. If only the rebuild after the start was short of
-    /// words, the tree is frozen, and the pass keeps the first such refusal.
+    /// words, the tree is frozen, and the pass keeps the first such refusal. Else the rebuild was
+    /// replaced.
     pub fn freeze(&self, pass: &mut Pass) -> Result<Frozen, Full>
         requires same_tree { pass.old.tree ≡ self.now }
         ensures seen { HasSeenMore pass.old pass.new }
         ensures frozen { IfOk result (IsFrozenFor pass.new) }
         ensures pairs { IfOk result (HasFrozen pass.old pass.new) }
+        ensures rebuilt { IfOk result (LeavesRebuilt pass.new) }
         ensures full { IfErr result (IsFreezeRefused pass.old pass.new) }
         ensures unstarted { OnErr result (HasStartedNone pass.old pass.new) }
         ensures calls { pass.new.calls ≡ pass.old.calls }
         ensures unrefused { OnErr result (pass.new.refused ≡ pass.old.refused) }
         ensures refused { KeepsRefusal pass.old pass.new }
+        ensures done { HasStartsDone pass.new }
     {
         begin(&self.table, &mut pass.caller);
         match freeze_below(&self.table, &mut pass.caller) {

@@ -1,8 +1,9 @@
 //! A pass on its tree, as one caller of a shared map.
-ghost use Rattle.std.specs.Prelude.{◌≡◌, ◌+◌, ◌<◌, [], None, IfSome, IfOk, IfErr, OnErr};
-ghost use Rattle.ist_core.specs.Replies.{refusal};
+ghost use Rattle.std.specs.Prelude.{◌≡◌, ℕ, ◌+◌, ◌<◌, ◌++◌, [], ◌∷◌, Some, None, IfSome, IfOk, IfErr, OnOk, OnErr};
+ghost use Rattle.ist_core.specs.Replies.{refusal, told};
 ghost use Rattle.ist_tree.specs.Calls.{HasSeenMore, AddsCall};
-ghost use Rattle.ist_tree.specs.Refusals.{WasRefused};
+ghost use Rattle.ist_tree.specs.Faces.{TreeFace};
+ghost use Rattle.ist_tree.specs.Refusals.{IsRefusedCall, WasRefused};
 
 use crate::passes::Pass;
 use crate::trees::Tree;
@@ -16,6 +17,7 @@ fn answer(tree: &Tree, pass: &mut Pass, command: Command) -> Result<Reply, Full>
     ensures seen { HasSeenMore pass.old pass.new }
     ensures added { IfOk result (λ reply. AddsCall pass.old pass.new command reply) }
     ensures full { IfErr result (λ full. WasRefused pass.new (refusal command full)) }
+    ensures cause { IfErr result (IsRefusedCall pass.old pass.new command) }
     ensures small { IfErr result (λ full. full.words < full.next + full.asked) }
     ensures calls { OnErr result (pass.new.calls ≡ pass.old.calls) }
 {
@@ -92,7 +94,19 @@ impl<'a> Port for TreePort<'a> {
 
     ghost tie = { λ p. (p.pass.tree, p.pass.number) };
 
-    fn call<R: Wait>(&mut self, rt: &R, command: Command) -> Result<Reply, Full> {
+    fn call<R: Wait>(&mut self, rt: &R, command: Command) -> Result<Reply, Full>
+        ensures recorded { IfOk result (λ r. map told_by_call self.new.pass.calls
+            ≡ map told_by_call self.old.pass.calls ++ told command r ∷ []) }
+        ensures unrefused { OnOk result (self.new.refused ≡ self.old.refused) }
+        ensures full { IfErr result (λ f. f.words < f.next + f.asked) }
+        ensures refused { IfErr result (λ f. self.new.refused ≡ Some (refusal command f)) }
+        ensures unchanged { OnErr result
+            (map told_by_call self.new.pass.calls ≡ map told_by_call self.old.pass.calls) }
+        ensures same_tie { let then : TreeFace × ℕ = (self.old.pass.tree, self.old.pass.number) in
+            let since : TreeFace × ℕ = (self.new.pass.tree, self.new.pass.number) in
+            since ≡ then }
+        ensures cause { IfErr result (IsRefusedCall self.old.pass self.new.pass command) }
+    {
         let _ = rt;
         match answer(self.tree, &mut self.pass, command) {
             Ok(reply) => Ok(reply),

@@ -54,7 +54,8 @@ fn help_other(table: &TreeTable, who: &mut Caller, due: Due, word: u64) -> Resul
     ensures done { OnOk result (KeepsDone who.old who.new) }
     ensures settled { OnOk result (IsHelpedWord who.new.seat.view word) }
     ensures full { IfErr result (λ full.
-        IsDueRefused who.new.seat.view (word_count_of table.now) full) }
+        IsDueRefused (now who.old.seat.view) who.new.seat.view due.target
+        (word_count_of table.now) full) }
 {
     know(&who.seat);
     match instead_in(word) {
@@ -84,7 +85,8 @@ fn try_due(table: &TreeTable, who: &mut Caller, due: Due) -> Result<bool, Full>
     ensures further { result ≡ Ok false → CameFurther who.old.seat.view who.new.seat.view }
     ensures done { OnOk result (KeepsDone who.old who.new) }
     ensures full { IfErr result (λ full.
-        IsDueRefused who.new.seat.view (word_count_of table.now) full) }
+        IsDueRefused (now who.old.seat.view) who.new.seat.view due.target
+        (word_count_of table.now) full) }
 {
     match start(table, who, due.parent, due.index, due.target)? {
         Started::Yes { rebuild } => {
@@ -111,7 +113,8 @@ pub(crate) fn rebuild_due(table: &TreeTable, who: &mut Caller, due: Due) -> Resu
     ensures shut { OnOk result (IsShut (now who.new.seat.view) due.parent due.target) }
     ensures done { OnOk result (KeepsDone who.old who.new) }
     ensures full { IfErr result (λ full.
-        IsDueRefused who.new.seat.view (word_count_of table.now) full) }
+        IsDueRefused (now who.old.seat.view) who.new.seat.view due.target
+        (word_count_of table.now) full) }
 {
     know(&who.seat);
     'turns: loop {

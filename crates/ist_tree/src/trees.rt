@@ -9,13 +9,14 @@ ghost use Rattle.ist_core.specs.Logs.{GoesOn};
 ghost use Rattle.ist_core.specs.Standing.{makes_entry};
 ghost use Rattle.laws_histories.specs.Searching.{HasPosition};
 ghost use Rattle.ist_find.specs.Spans.{pair_value, EndAtEdges};
-ghost use Rattle.ist_tree.specs.Faces.{noted, calls_in};
+ghost use Rattle.ist_tree.specs.Faces.{noted, calls_in, HasItsCalls};
 ghost use Rattle.ist_tree.specs.Calls.{HasSeenMore, HasLearnt, AddsCall, BeginsFewWalks};
 ghost use Rattle.ist_tree.specs.Calls.{WeavesWith, HasLoadedFew};
 ghost use Rattle.ist_tree.specs.Closing.{ClosesWith};
-ghost use Rattle.ist_tree.specs.DueRows.{HasCounted, LeavesNoneDue, StartsOnlyDue};
+ghost use Rattle.ist_tree.specs.DueRows.{CountsNowhere, HasCounted, LeavesNoneDue, StartsOnlyDue};
 ghost use Rattle.ist_tree.specs.Opening.{IsNewTree, IsFaultOf};
-ghost use Rattle.ist_tree.specs.Refusals.{IsRefused, KeepsRefusal};
+ghost use Rattle.ist_tree.specs.Refusals.{HasStartsDone, IsRefused, KeepsRowRefusal};
+ghost use Rattle.ist_tree.specs.Rounds.{BeginsFewRounds};
 ghost use Rattle.ist_tree.specs.Spans.{AllHave, HasLoadedFewOver, state_seen};
 
 use crate::faults::OpenFault;
@@ -226,7 +227,7 @@ impl Tree {
     /// the pass had seen. The change is counted at each node above it. If counts reached their
     /// limits, the topmost such node is rebuilt. No rebuild of a node below its limit is started.
     /// It returns `Full` if the tree had too few words left for a row of the put, or for a rebuild
-    /// on its way: the call didn't happen then. If only the rebuild after the change was short of
+    /// on its way: the call didn't happen then, and nothing was counted. If only the rebuild after the change was short of
     /// words, the call returns its reply, and the pass keeps the first such refusal.
     pub fn put(&self, pass: &mut Pass, key: u64, value: u64) -> Result<Reply, Full>
         requires same_tree { pass.old.tree ≡ self.now }
@@ -238,8 +239,11 @@ impl Tree {
         ensures few_walks { BeginsFewWalks pass.old pass.new }
         ensures full { IfErr result (λ full. IsRefused pass.old pass.new key (Some value) full) }
         ensures calls { OnErr result (pass.new.calls ≡ pass.old.calls) }
+        ensures placed { OnErr result (HasItsCalls pass.new) }
+        ensures uncounted { OnErr result (CountsNowhere pass.old pass.new) }
         ensures unrefused { OnErr result (pass.new.refused ≡ pass.old.refused) }
-        ensures refused { KeepsRefusal pass.old pass.new }
+        ensures refused { KeepsRowRefusal pass.old pass.new }
+        ensures done { HasStartsDone pass.new }
     {
         update(self, pass, key, Some(value))
     }
@@ -257,8 +261,11 @@ impl Tree {
         ensures few_walks { BeginsFewWalks pass.old pass.new }
         ensures full { IfErr result (λ full. IsRefused pass.old pass.new key None full) }
         ensures calls { OnErr result (pass.new.calls ≡ pass.old.calls) }
+        ensures placed { OnErr result (HasItsCalls pass.new) }
+        ensures uncounted { OnErr result (CountsNowhere pass.old pass.new) }
         ensures unrefused { OnErr result (pass.new.refused ≡ pass.old.refused) }
-        ensures refused { KeepsRefusal pass.old pass.new }
+        ensures refused { KeepsRowRefusal pass.old pass.new }
+        ensures done { HasStartsDone pass.new }
     {
         update(self, pass, key, None)
     }
@@ -290,10 +297,16 @@ impl Tree {
             → HasCounted pass.old pass.new (Put key value)) }
         ensures due { OnOk result (LeavesNoneDue pass.old pass.new) }
         ensures starts { StartsOnlyDue pass.old pass.new }
+        ensures few_walks { BeginsFewRounds pass.old pass.new }
+        ensures idle { IfOk result (λ reply. reply ≢ expected
+            → CountsNowhere pass.old pass.new) }
         ensures full { IfErr result (λ full. IsRefused pass.old pass.new key (Some value) full) }
         ensures calls { OnErr result (pass.new.calls ≡ pass.old.calls) }
+        ensures placed { OnErr result (HasItsCalls pass.new) }
+        ensures uncounted { OnErr result (CountsNowhere pass.old pass.new) }
         ensures unrefused { OnErr result (pass.new.refused ≡ pass.old.refused) }
-        ensures refused { KeepsRefusal pass.old pass.new }
+        ensures refused { KeepsRowRefusal pass.old pass.new }
+        ensures done { HasStartsDone pass.new }
     {
         update_if(self, pass, key, Some(value), expected)
     }
@@ -311,10 +324,16 @@ impl Tree {
             → HasCounted pass.old pass.new (Remove key)) }
         ensures due { OnOk result (LeavesNoneDue pass.old pass.new) }
         ensures starts { StartsOnlyDue pass.old pass.new }
+        ensures few_walks { BeginsFewRounds pass.old pass.new }
+        ensures idle { IfOk result (λ reply. reply ≢ Some expected
+            → CountsNowhere pass.old pass.new) }
         ensures full { IfErr result (λ full. IsRefused pass.old pass.new key None full) }
         ensures calls { OnErr result (pass.new.calls ≡ pass.old.calls) }
+        ensures placed { OnErr result (HasItsCalls pass.new) }
+        ensures uncounted { OnErr result (CountsNowhere pass.old pass.new) }
         ensures unrefused { OnErr result (pass.new.refused ≡ pass.old.refused) }
-        ensures refused { KeepsRefusal pass.old pass.new }
+        ensures refused { KeepsRowRefusal pass.old pass.new }
+        ensures done { HasStartsDone pass.new }
     {
         update_if(self, pass, key, None, Some(expected))
     }

@@ -1,5 +1,5 @@
 //! A put or a remove of a pass, from the beginning of its call to its end.
-ghost use Rattle.std.specs.Prelude.{◌≡◌, ◌≢◌, true, Option, Some, None, Result, Ok, IfOk, IfErr, IfSome, OnSome, OnOk, OnErr};
+ghost use Rattle.std.specs.Prelude.{◌≡◌, ◌≢◌, ◌+◌, true, Option, Some, None, Result, Ok, IfOk, IfErr, IfSome, OnSome, OnOk, OnErr};
 ghost use Rattle.ist_core.specs.declared.commands.Command.TheVariants.{Get};
 ghost use Rattle.ist_core.specs.declared.events.Who.TheVariants.{Caller as CallerOf};
 ghost use Rattle.ist_core.specs.Authors.{Later};
@@ -10,10 +10,11 @@ ghost use Rattle.ist_rule.specs.Rule.{IsSound};
 ghost use Rattle.ist_updates.specs.Asking.{command_for, IsAsked};
 ghost use Rattle.ist_updates.specs.Meeting.{IsMetBy, WasMissed};
 ghost use Rattle.ist_tree.specs.Calls.{HasSeenMore, AddsCall, BeginsFewWalks};
-ghost use Rattle.ist_tree.specs.DueRows.{HasCounted, LeavesNoneDue, StartsOnlyDue};
+ghost use Rattle.ist_tree.specs.DueRows.{CountsNowhere, HasCounted, LeavesNoneDue, StartsOnlyDue};
+ghost use Rattle.ist_tree.specs.Faces.{HasItsCalls};
 ghost use Rattle.ist_tree.specs.Insides.{IsPass};
-ghost use Rattle.ist_tree.specs.Refusals.{IsRefused, KeepsRefusal};
-ghost use Rattle.ist_tree.specs.Rounds.{HadMissed, HadValue, HasLetGo};
+ghost use Rattle.ist_tree.specs.Refusals.{HasStartsDone, IsRefused, KeepsRowRefusal};
+ghost use Rattle.ist_tree.specs.Rounds.{BeginsFewRounds, HadMissed, HadValue, HasLetGo};
 ghost use Rattle.ist_tree.specs.Working.{CarriesOut, IsLetGo, IsTurnedDown, StartsDue};
 
 use crate::passes::Pass;
@@ -112,8 +113,11 @@ pub(crate) fn update(
     ensures few_walks { BeginsFewWalks pass.old pass.new }
     ensures full { IfErr result (λ full. IsRefused pass.old pass.new key value full) }
     ensures calls { OnErr result (pass.new.calls ≡ pass.old.calls) }
+    ensures placed { OnErr result (HasItsCalls pass.new) }
+    ensures uncounted { OnErr result (CountsNowhere pass.old pass.new) }
     ensures unrefused { OnErr result (pass.new.refused ≡ pass.old.refused) }
-    ensures refused { KeepsRefusal pass.old pass.new }
+    ensures refused { KeepsRowRefusal pass.old pass.new }
+    ensures done { HasStartsDone pass.new }
 {
     match update_when(tree, pass, key, value, When::Always)? {
         Some(reply) => Ok(reply),
@@ -145,8 +149,11 @@ pub(crate) fn update_when(
     ensures few_walks { BeginsFewWalks pass.old pass.new }
     ensures full { IfErr result (λ full. IsRefused pass.old pass.new key value full) }
     ensures calls { OnErr result (pass.new.calls ≡ pass.old.calls) }
+    ensures placed { OnErr result (HasItsCalls pass.new) }
+    ensures uncounted { OnErr result (CountsNowhere pass.old pass.new) }
     ensures unrefused { OnErr result (pass.new.refused ≡ pass.old.refused) }
-    ensures refused { KeepsRefusal pass.old pass.new }
+    ensures refused { KeepsRowRefusal pass.old pass.new }
+    ensures done { HasStartsDone pass.new }
 {
     begin(&tree.table, &mut pass.caller, command_of(key, value));
     match carry_out_when(&tree.table, &mut pass.caller, key, value, when) {
@@ -178,6 +185,8 @@ fn find_unless(tree: &Tree, pass: &mut Pass, key: u64, expected: Reply) -> Optio
     ensures seen { HasSeenMore pass.old pass.new }
     ensures others { Later (CallerOf pass.old.number) pass.old.seen pass.new.seen }
     ensures refused { pass.new.refused ≡ pass.old.refused }
+    ensures done { HasStartsDone pass.new }
+    ensures one_walk { pass.new.searches ≡ pass.old.searches + 1 }
     ensures other { IfSome result (λ reply. reply ≢ expected) }
     ensures added { IfSome result (AddsCall pass.old pass.new (Get key)) }
     ensures calls { result ≡ None → pass.new.calls ≡ pass.old.calls }
@@ -222,10 +231,15 @@ pub(crate) fn update_if(
         → HasCounted pass.old pass.new (command_for key value)) }
     ensures due { OnOk result (LeavesNoneDue pass.old pass.new) }
     ensures starts { StartsOnlyDue pass.old pass.new }
+    ensures few_walks { BeginsFewRounds pass.old pass.new }
+    ensures idle { IfOk result (λ reply. reply ≢ expected → CountsNowhere pass.old pass.new) }
     ensures full { IfErr result (λ full. IsRefused pass.old pass.new key value full) }
     ensures calls { OnErr result (pass.new.calls ≡ pass.old.calls) }
+    ensures placed { OnErr result (HasItsCalls pass.new) }
+    ensures uncounted { OnErr result (CountsNowhere pass.old pass.new) }
     ensures unrefused { OnErr result (pass.new.refused ≡ pass.old.refused) }
-    ensures refused { KeepsRefusal pass.old pass.new }
+    ensures refused { KeepsRowRefusal pass.old pass.new }
+    ensures done { HasStartsDone pass.new }
 {
     pass.know();
     'rounds: loop {

@@ -26,13 +26,13 @@ use Rattle.ist_updates.specs.declared.updates.Applied.{Applied}
 use Rattle.ist_updates.specs.declared.updates.Due.{Due}
 use Rattle.ist_updates.specs.declared.walking.Walked.TheVariants.{Took}
 use Rattle.ist_updates.specs.Asking.{Updates, command_for, IsAsked, MayEnd}
-use Rattle.ist_updates.specs.Counting.{IsCounted, LeavesDue}
+use Rattle.ist_updates.specs.Counting.{CountedNowhere, IsCounted, LeavesDue}
 use Rattle.ist_updates.specs.Refusals.{IsUpdateRefused, WasRefused}
 use Rattle.ist_updates.specs.Trying.{Tries, BeganSince}
 use Rattle.ist_updates.specs.Walking.{HasStood, IsDueBy, HasCounted, HasTriedSince, IsAskedAgain, IsAskedStill, IsNotThere, HasWalked}
 use Rattle.ist_updates.proofs.AskedStillLemmas.{NoEvent, asked_searched, recounted}
 use Rattle.ist_updates.proofs.EndingLemmas.{taken_ends, nothing_ends}
-use Rattle.ist_updates.proofs.OwnCountLemmas.{CountsNone, came_none}
+use Rattle.ist_updates.proofs.OwnCountLemmas.{CountsNone, came_none, counted_nowhere}
 use Rattle.ist_updates.proofs.TriedWalkLemmas.{tries_update, went_table, tried_by}
 
 -- ---- the begin
@@ -127,6 +127,14 @@ module _ (old who : Caller) (key : ℕ) (value : Option ℕ) (a : IsAsked old (c
       → LeavesDue first new.seat.view old.number None
   still_due new s =
       came_none first.start first.words first.log old.number new.seat.view.log
+      (subst (λ m. GoesOnBy (CountsNone m) first.log new.seat.view.log) b.number
+      (tried_by who (command_for key value) b.asked first tried new.seat.view s.went))
+
+  -- nowhere at all
+  pub still_counted : (new : Caller) → IsAskedStill who new (command_for key value)
+      → CountedNowhere first.log new.seat.view.log old.number
+  still_counted new s =
+      counted_nowhere old.number first.log new.seat.view.log
       (subst (λ m. GoesOnBy (CountsNone m) first.log new.seat.view.log) b.number
       (tried_by who (command_for key value) b.asked first tried new.seat.view s.went))
 

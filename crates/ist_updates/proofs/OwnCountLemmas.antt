@@ -8,7 +8,7 @@ use Rattle.ist_core.specs.Logs.{Log, Counts, GoesOn, same_log, one_event}
 use Rattle.ist_core.specs.declared.events.Who.TheVariants.{Caller as CallerOf}
 use Rattle.ist_rule.proofs.LaterLemmas.{goes_on_more, goes_on_length}
 use Rattle.laws_walks.specs.Counting.{CountsFrom}
-use Rattle.ist_updates.specs.Counting.{CameToLimit, WasCounted}
+use Rattle.ist_updates.specs.Counting.{CameToLimit, CountedNowhere, WasCounted}
 use Rattle.ist_updates.specs.Trying.{Tries}
 
 -- the event is no Count of the caller
@@ -91,6 +91,13 @@ event_by P earlier _ no_more event before since until =
 event_by P earlier _ (one_more last later p) _ _ since same_log = p
 event_by P earlier _ (one_more {log = log} last later p) event before since (one_event _ sooner) =
     event_by P earlier log later event before since sooner
+
+-- a caller none of whose events is a Count counted nowhere
+pub counted_nowhere : (caller : ℕ) (earlier log : Log) → GoesOnBy (CountsNone caller) earlier log
+    → CountedNowhere earlier log caller
+counted_nowhere caller earlier log l node c =
+    event_by (CountsNone caller) earlier log l (Count caller node) c.at c.since c.until node
+    (refl, refl)
 
 -- ---- one Count
 

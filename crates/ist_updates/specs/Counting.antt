@@ -28,6 +28,10 @@ pub record WasCounted (earlier log : Log) (caller node : ℕ) : Type 0 where
   pub since : GoesOn earlier at
   pub until : GoesOn (Count caller node ∷ at) log
 
+-- the caller counted at no node after the earlier log
+abbrev pub CountedNowhere : Log → Log → ℕ → Type 0
+CountedNowhere earlier log caller = (node : ℕ) → ¬ (WasCounted earlier log caller node)
+
 -- the caller's update was decided yes, and was counted after the earlier log at each row of its chain
 pub record IsCounted (pairs : List Pair) (words : ℕ) (earlier log : Log) (caller : ℕ) (command : Command)
     : Type 0 where

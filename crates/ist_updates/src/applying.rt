@@ -8,7 +8,7 @@ ghost use Rattle.ist_rows.specs.Building.{HasRefused};
 ghost use Rattle.ist_rows.specs.Rows.{IsCaller};
 ghost use Rattle.ist_rebuild.specs.Going.{IsQuiet};
 ghost use Rattle.ist_updates.specs.Asking.{command_for, IsAsked, Updates, MayEnd};
-ghost use Rattle.ist_updates.specs.Counting.{IsCounted, LeavesDue};
+ghost use Rattle.ist_updates.specs.Counting.{CountedNowhere, IsCounted, LeavesDue};
 ghost use Rattle.ist_updates.specs.Further.{HasWalkedFew};
 ghost use Rattle.ist_updates.specs.Meeting.{IsMetBy, WasMissed};
 ghost use Rattle.ist_updates.specs.Refusals.{WasRefused};
@@ -28,7 +28,7 @@ use ist_rule::{TreeTable, begin_search, know};
 /// `due` is the topmost row whose count reached its limit by this.
 ///
 /// Returns `Full` if a load of the first word in this call left too few words for a row of the update,
-/// or for a row of a rebuild that it met. Nothing took effect then.
+/// or for a row of a rebuild that it met. Nothing took effect then, and nothing was counted.
 ///
 /// Always returns, and takes no memory. It begins one walk, and another only after the table made
 /// progress since the last one began.
@@ -58,6 +58,8 @@ pub fn apply(
     ensures given_up { IfErr result (λ full. CanGiveUp who.new.seat.view) }
     ensures none_due { OnErr result
         (LeavesDue who.old.seat.view who.new.seat.view who.old.number None) }
+    ensures uncounted { OnErr result
+        (CountedNowhere who.old.seat.view.log who.new.seat.view.log who.old.number) }
 {
     match apply_when(table, who, key, value, When::Always)? {
         Some(done) => Ok(done),
@@ -67,8 +69,8 @@ pub fn apply(
 
 /// As `apply`, but takes effect only if the key has the value that `when` names.
 ///
-/// Returns `None` if the key had another value at a moment of this call. Nothing took effect then, no
-/// row was brought to its limit, and the call may be given up.
+/// Returns `None` if the key had another value at a moment of this call. Nothing took effect then,
+/// nothing was counted, and the call may be given up.
 ///
 /// The value is compared after the slot's word was loaded, and the change is installed over that very
 /// word: if the value was replaced in between, the install fails and the walk begins again.
@@ -100,11 +102,15 @@ pub fn apply_when(
     ensures unmet { result ≡ Ok None → CanGiveUp who.new.seat.view }
     ensures none_came { result ≡ Ok None
         → LeavesDue who.old.seat.view who.new.seat.view who.old.number None }
+    ensures none_counted { result ≡ Ok None
+        → CountedNowhere who.old.seat.view.log who.new.seat.view.log who.old.number }
     ensures full { IfErr result (λ full. WasRefused who.old.seat.view key value
         (word_count_of table.now) full who.new.seat.view) }
     ensures given_up { IfErr result (λ full. CanGiveUp who.new.seat.view) }
     ensures none_due { OnErr result
         (LeavesDue who.old.seat.view who.new.seat.view who.old.number None) }
+    ensures uncounted { OnErr result
+        (CountedNowhere who.old.seat.view.log who.new.seat.view.log who.old.number) }
 {
     know(&who.seat);
     'turns: loop {

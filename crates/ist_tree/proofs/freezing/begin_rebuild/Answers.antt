@@ -18,14 +18,14 @@ returns-in_err-rebuild-clause-full c =
     (begins_on _ _ c.requires.ready c.start.ensures.caller c.start.ensures.refused
     c.start.ensures.quiet c.start.ensures.went c.start.ensures.number)
     c.in_err-rebuild.ensures.done c.in_err-rebuild.ensures.unstarted)
-    c.in_err-rebuild.ensures.full)
+    c.requires.held c.in_err-rebuild.ensures.full)
 
 -- a rebuild was started
 pub returns-in-Yes-clause-begun : goal.returns-in-Yes-clause-begun
 returns-in-Yes-clause-begun c = (
   begins_on _ _ c.requires.ready c.start.ensures.caller c.start.ensures.refused
       c.start.ensures.quiet c.start.ensures.went c.start.ensures.number,
-  begun_of c.start.new.who.seat.view _ _ _ _ (c.in_ok-rebuild.ensures.yes _ (ap Ok c.in-Yes.is)),
+  begun_of c.start.new.who.seat.view _ _ _ (c.in_ok-rebuild.ensures.yes _ (ap Ok c.in-Yes.is)),
   λ done. yes_leaves _ _ _ _ c.in-Yes.is (c.in_ok-rebuild.ensures.done done),
 )
 

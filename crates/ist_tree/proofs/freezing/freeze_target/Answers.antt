@@ -36,7 +36,7 @@ help_rebuild-requires-clause-started c =
 pub returns-clause-froze : goal.returns-clause-froze
 returns-clause-froze c =
     target_froze c.args.who.now c.mark_and_count-keys.new.seat c.help_rebuild.new.who _
-    c.args.rebuild c.args.target c.mark_and_count-keys.result c.requires.ready
+    c.args.rebuild c.args.target c.mark_and_count-keys.result c.requires.ready c.requires.of.below
     c.mark_and_count-keys.ensures.went c.mark_and_count-keys.ensures.finished
     (serves_on _ _ c.help_rebuild.ensures.caller c.help_rebuild.ensures.refused
     c.help_rebuild.ensures.quiet c.help_rebuild.ensures.went c.help_rebuild.ensures.number)

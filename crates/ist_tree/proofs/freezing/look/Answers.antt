@@ -2,7 +2,7 @@
 use Rattle.ist_mark.proofs.BelowLemmas.{read_as}
 use Rattle.ist_tree.specs.Freezing.{no_key}
 use Rattle.ist_tree.proofs.FreezeGoingLemmas.{err_map, idle_more, may_have_met_more, met_more, ok_map, stopped_more}
-use Rattle.ist_tree.proofs.FreezeLookLemmas.{change_seen, leaf_still, looked_idle, looked_still, rebuild_started, rebuild_top, row_may_start, row_top, still_top}
+use Rattle.ist_tree.proofs.FreezeLookLemmas.{change_seen, empty_no_row, leaf_no_row, leaf_still, looked_idle, looked_still, rebuild_below, rebuild_started, rebuild_top, row_held, row_may_start, row_top, still_top}
 use Rattle.ist_core.specs.RowLayout.{anchor}
 use Rattle.ist_mark.proofs.BelowLemmas.{read_none}
 use Rattle.ist_tree.specs.Working.{Rebuilds}
@@ -25,6 +25,11 @@ met_row-requires-clause-top c =
 pub met_row-requires-clause-may_start : goal.met_row-requires-clause-may_start
 met_row-requires-clause-may_start c =
     row_may_start _ c.know-2.ensures.sound _ c.anchor_word-word.ensures.holds _
+    (read_as _ _ _ _ c.from_word.ensures.value c.in-Some-Inner.is c.in-Some-Inner.field-0-is)
+
+pub met_row-requires-clause-held : goal.met_row-requires-clause-held
+met_row-requires-clause-held c =
+    row_held _ c.know-2.ensures.sound _ c.anchor_word-word.ensures.holds _
     (read_as _ _ _ _ c.from_word.ensures.value c.in-Some-Inner.is c.in-Some-Inner.field-0-is)
 
 pub returns-in-Some-Inner-clause-met : goal.returns-in-Some-Inner-clause-met
@@ -53,6 +58,11 @@ met_rebuild-requires-clause-ready c =
 pub met_rebuild-requires-clause-started : goal.met_rebuild-requires-clause-started
 met_rebuild-requires-clause-started c =
     rebuild_started _ c.know-2.ensures.sound _ c.anchor_word-word.ensures.holds _
+    (read_as _ _ _ _ c.from_word.ensures.value c.in-Some-Rebuild.is c.in-Some-Rebuild.field-0-is)
+
+pub met_rebuild-requires-clause-below : goal.met_rebuild-requires-clause-below
+met_rebuild-requires-clause-below c =
+    rebuild_below _ c.know-2.ensures.sound _ c.anchor_word-word.ensures.holds _
     (read_as _ _ _ _ c.from_word.ensures.value c.in-Some-Rebuild.is c.in-Some-Rebuild.field-0-is)
 
 pub met_rebuild-requires-clause-top : goal.met_rebuild-requires-clause-top
@@ -97,6 +107,7 @@ returns-in-Some-Leaf-clause-met c =
     c.anchor_word-word.ensures.seen _
     (still_top _ c.know-2.ensures.sound _ c.anchor_word-word.ensures.holds _ is
     (leaf_still _ c.know-2.ensures.sound _ c.anchor_word-word.ensures.holds _ is))
+    (λ row e. leaf_no_row _ row e)
 
 pub returns-in-Some-Empty-clause-met : goal.returns-in-Some-Empty-clause-met
 returns-in-Some-Empty-clause-met c =
@@ -105,6 +116,7 @@ returns-in-Some-Empty-clause-met c =
     looked_still c.args.who.now c.anchor_word-word.new.seat c.requires.ready
     c.anchor_word-word.ensures.seen _
     (still_top _ c.know-2.ensures.sound _ c.anchor_word-word.ensures.holds _ is no_key)
+    (λ row e. empty_no_row row e)
 
 -- ---- neither of these is ever there
 

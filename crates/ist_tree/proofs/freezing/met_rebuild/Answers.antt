@@ -6,4 +6,4 @@ pub returns-clause-met : goal.returns-clause-met
 returns-clause-met c =
     stood_met c.args.who.now c.target_of-target.new.seat c.args.rebuild c.target_of-target.result
     c.know.ensures.sound c.requires.ready c.target_of-target.ensures.seen c.requires.started
-    c.target_of-target.ensures.target c.requires.top
+    c.target_of-target.ensures.target c.requires.below c.requires.top

@@ -6,7 +6,7 @@ use Rattle.ist_rule.proofs.WentOnLemmas.{went_all, went_same}
 use Rattle.ist_tree.proofs.EventLemmas.{help_aims, help_plain, serves_aims, serves_rebuild, serves_start_none}
 use Rattle.ist_tree.proofs.InsteadLemmas.{change_helped, names_change, names_rebuild, none_helped, rebuild_helped}
 use Rattle.ist_tree.proofs.RebuildLemmas.{plain_done, plain_on, rebuilds_by, rebuilds_same, starts_went}
-use Rattle.ist_tree.proofs.ShortLemmas.{help_refused, passed_on}
+use Rattle.ist_tree.proofs.ShortLemmas.{other_refused, passed_on}
 use Rattle.ist_tree.proofs.ShutLemmas.{other_helped, other_started}
 use Rattle.ist_tree.proofs.rebuilding.help_other.Goals as goal
 
@@ -37,7 +37,11 @@ pub returns-in_err-help_rebuild-in-Rebuild-clause-full :
     goal.returns-in_err-help_rebuild-in-Rebuild-clause-full
 returns-in_err-help_rebuild-in-Rebuild-clause-full c =
     passed_on c.from_residual.result _ _ c.from_residual.ensures.1
-    (help_refused _ _ _ _ _ c.in_err-help_rebuild-in-Rebuild.ensures.full)
+    (other_refused _ c.help_rebuild.new.who.seat.view c.know.ensures.sound _ _ _ _ _ _ _
+    c.requires.stood (names_rebuild _ _ (sym c.instead_in.ensures.value ∙ c.in-Rebuild.is))
+    (other_started _ c.know.ensures.sound _ _ _ _ _ c.requires.stood
+    (names_rebuild _ _ (sym c.instead_in.ensures.value ∙ c.in-Rebuild.is)))
+    c.help_rebuild.ensures.went c.in_err-help_rebuild-in-Rebuild.ensures.full)
 
 pub returns-in_ok-help_rebuild-in-Rebuild-clause-on :
     goal.returns-in_ok-help_rebuild-in-Rebuild-clause-on

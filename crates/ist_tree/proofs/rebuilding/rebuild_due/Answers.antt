@@ -2,10 +2,11 @@
 use Rattle.std.proofs.Common.{Ok, ap, ◌∙◌}
 use Rattle.laws_coming.proofs.FurtherLemmas.{fewer_left}
 use Rattle.ist_rebuild.specs.Going.{StartsAt}
-use Rattle.ist_rule.proofs.WentOnLemmas.{went_more, went_same}
+use Rattle.ist_rule.proofs.WentOnLemmas.{went_grow, went_more, went_same}
 use Rattle.ist_tree.specs.Working.{Rebuilds}
 use Rattle.ist_tree.proofs.DueLemmas.{done_more}
 use Rattle.ist_tree.proofs.RebuildLemmas.{may_start_went, rebuilds_more, rebuilds_same}
+use Rattle.ist_tree.proofs.ShortLemmas.{due_refused_more, passed_on}
 use Rattle.ist_tree.proofs.rebuilding.rebuild_due.Goals as goal
 
 -- before the first attempt nothing was done
@@ -29,6 +30,13 @@ returns-in_err-try_due-clause-on c =
 pub returns-in_err-try_due-clause-aims : goal.returns-in_err-try_due-clause-aims
 returns-in_err-try_due-clause-aims c =
     went_more (StartsAt c.args.due.target) _ _ _ c.turns.invariant.3 c.try_due.ensures.aims
+
+pub returns-in_err-try_due-clause-full : goal.returns-in_err-try_due-clause-full
+returns-in_err-try_due-clause-full c =
+    passed_on c.from_residual.result _ _ c.from_residual.ensures.1
+    (due_refused_more _ _
+    (went_grow Rebuilds c.args.who.now.seat.view c.turns.who.seat.view c.turns.invariant.1.went)
+    _ _ _ _ c.in_err-try_due.ensures.full)
 
 -- the last attempt found it shut
 pub returns-then-branch-clause-on : goal.returns-then-branch-clause-on

@@ -2,13 +2,13 @@
 use Rattle.std.proofs.Common.{Ok, ap, inl, inr}
 use Rattle.ist_rule.specs.Watching.{is_inner}
 use Rattle.ist_rebuild.specs.Going.{Serves, StartsAt}
-use Rattle.ist_rule.proofs.WentOnLemmas.{goes_on_went, went_all, went_more}
+use Rattle.ist_rule.proofs.WentOnLemmas.{goes_on_went, went_all, went_grow, went_more}
 use Rattle.ist_tree.proofs.EventLemmas.{serves_aims}
 use Rattle.ist_rebuild.specs.Going.{Begins}
 use Rattle.ist_tree.proofs.DueFurtherLemmas.{due_further}
 use Rattle.ist_tree.proofs.DueLemmas.{begins_on, done_behind, done_more, helped_done, helped_either, helped_shut, marked_leaves, other_leaves, serves_on, yes_leaves}
 use Rattle.ist_tree.proofs.RebuildLemmas.{load_plain, may_start_went, plain_done, plain_on, rebuilds_more}
-use Rattle.ist_tree.proofs.ShortLemmas.{help_refused, passed_on, start_refused}
+use Rattle.ist_tree.proofs.ShortLemmas.{due_refused_more, own_refused, passed_on, start_refused}
 use Rattle.ist_tree.proofs.ShutLemmas.{not_open_shut, not_shut_open, same_ok}
 use Rattle.ist_tree.specs.Working.{Rebuilds}
 use Rattle.ist_tree.proofs.rebuilding.try_due.Goals as goal
@@ -23,7 +23,7 @@ returns-in_err-rebuild-clause-on c =
 pub returns-in_err-rebuild-clause-full : goal.returns-in_err-rebuild-clause-full
 returns-in_err-rebuild-clause-full c =
     passed_on c.from_residual.result _ _ c.from_residual.ensures.1
-    (start_refused _ _ _ _ c.in_err-rebuild.ensures.full)
+    (start_refused _ _ _ _ _ _ c.in_err-rebuild.ensures.full)
 
 -- ---- a rebuild is started, and helped
 
@@ -51,7 +51,9 @@ pub returns-in_err-help_rebuild-in-Yes-clause-full :
 returns-in_err-help_rebuild-in-Yes-clause-full c =
     passed_on c.from_residual-in_err-help_rebuild-in-Yes.result _ _
     c.from_residual-in_err-help_rebuild-in-Yes.ensures.1
-    (help_refused _ _ _ _ _ c.in_err-help_rebuild-in-Yes.ensures.full)
+    (own_refused _ c.start.new.who.seat.view c.help_rebuild.new.who.seat.view _ _ _ _ _ _
+    (c.in_ok-rebuild.ensures.yes _ (ap Ok c.in-Yes.is)) c.help_rebuild.ensures.went
+    c.in_err-help_rebuild-in-Yes.ensures.full)
 
 pub returns-in_ok-help_rebuild-in-Yes-clause-on : goal.returns-in_ok-help_rebuild-in-Yes-clause-on
 returns-in_ok-help_rebuild-in-Yes-clause-on c =
@@ -113,6 +115,15 @@ pub returns-in_err-help_other-in-Other-clause-aims :
     goal.returns-in_err-help_other-in-Other-clause-aims
 returns-in_err-help_other-in-Other-clause-aims c =
     went_more (StartsAt c.args.due.target) _ _ _ c.start.ensures.aims c.help_other.ensures.aims
+
+pub returns-in_err-help_other-in-Other-clause-full :
+    goal.returns-in_err-help_other-in-Other-clause-full
+returns-in_err-help_other-in-Other-clause-full c =
+    passed_on c.from_residual-in_err-help_other-in-Other.result _ _
+    c.from_residual-in_err-help_other-in-Other.ensures.1
+    (due_refused_more _ _
+    (went_grow Begins c.args.who.now.seat.view c.start.new.who.seat.view c.start.ensures.went)
+    _ _ _ _ c.in_err-help_other-in-Other.ensures.full)
 
 pub is_open-requires-clause-node : goal.is_open-requires-clause-node
 is_open-requires-clause-node c =

@@ -15,7 +15,7 @@ returns-in_err-done-clause-full c =
       let_go = let_go c.args.who.now c.apply_when.new.who c.requires.asked.caller.mine
           c.requires.asked.resolved c.in_err-done.ensures.caller c.in_err-done.ensures.refused
           c.in_err-done.ensures.number c.in_err-done.ensures.went c.in_err-done.ensures.few_walks c.in_err-done.ensures.given_up
-          c.in_err-done.ensures.none_due;
+          c.in_err-done.ensures.none_due c.in_err-done.ensures.uncounted;
       cause = c.in_err-done.ensures.full;
     }
 
@@ -72,6 +72,7 @@ returns-in-None-clause-let_go c e =
     let_go c.args.who.now c.apply_when.new.who c.requires.asked.caller.mine c.requires.asked.resolved
     c.apply_when.ensures.caller c.apply_when.ensures.refused c.apply_when.ensures.number
     c.apply_when.ensures.went c.apply_when.ensures.few_walks (c.apply_when.ensures.unmet was) (c.apply_when.ensures.none_came was)
+    (c.apply_when.ensures.none_counted was)
 
 pub returns-in-None-clause-starts : goal.returns-in-None-clause-starts
 returns-in-None-clause-starts c =

@@ -1,9 +1,12 @@
 -- A find whose call is given up if it meets the value that is expected.
-use Rattle.std.proofs.Common.{◌≡◌, ◌∙◌, subst, rules}
+use Rattle.std.proofs.Common.{◌≡◌, ap, ◌∙◌, subst, rules}
 use Rattle.laws_histories.specs.Searching.{HasPosition}
+use Rattle.ist_rule.specs.declared.view.View.{View}
+use Rattle.ist_tree.specs.Faces.{PassFace}
 use Rattle.ist_tree.proofs.GoingLemmas.{table_is}
 use Rattle.ist_tree.proofs.FoundLemmas.{FindEnds, can_end, find_ends}
 use Rattle.ist_tree.proofs.LookedLemmas.{FindLeaves, can_leave, find_leaves}
+use Rattle.ist_tree.proofs.RoundWalkLemmas.{one_search}
 use Rattle.ist_tree.proofs.updating.find_unless.Goals as goal
 use Rattle.ist_tree.proofs.updating.find_unless.Goals.{After-know-4, After-know-then-eq}
 
@@ -47,6 +50,16 @@ returns-then-eq-clause-value c e =
     subst (λ value. HasPosition c.args.pass.now.tree.start c.args.pass.now.tree.words
     c.args.pass.now.seen c.give_up.new.seat.view.log c.args.key value) same (leaves c).position
 
+pub returns-then-eq-clause-done : goal.returns-then-eq-clause-done
+returns-then-eq-clause-done c = λ none. ((leaves c).pass.settled none).starts
+
+pub returns-then-eq-clause-one_walk : goal.returns-then-eq-clause-one_walk
+returns-then-eq-clause-one_walk c =
+    one_search c.pass.inside.caller.seat.view c.begin_call.new.seat.view
+    c.find_from_anchor-found.new.seat.view c.give_up.new.seat.view c.args.pass.now.searches c.begin_call.ensures.begun c.find_from_anchor-found.ensures.seen
+    (ap (λ (y : View). y.searches) c.give_up.ensures.given_up.view)
+    (ap (λ (p : PassFace). p.searches) c.pass.view_is)
+
 -- ---- it met another
 
 pub end_call-requires : goal.end_call-requires
@@ -84,3 +97,13 @@ returns-clause-others c = (ends c).others
 
 pub returns-clause-added : goal.returns-clause-added
 returns-clause-added c = (ends c).added
+
+pub returns-clause-done : goal.returns-clause-done
+returns-clause-done c = λ none. ((ends c).pass.settled none).starts
+
+pub returns-clause-one_walk : goal.returns-clause-one_walk
+returns-clause-one_walk c =
+    one_search c.pass.inside.caller.seat.view c.begin_call.new.seat.view
+    c.find_from_anchor-found.new.seat.view c.end_call.new.seat.view c.args.pass.now.searches c.begin_call.ensures.begun c.find_from_anchor-found.ensures.seen
+    (ap (λ (y : View). y.searches) c.end_call.ensures.ended.view)
+    (ap (λ (p : PassFace). p.searches) c.pass.view_is)

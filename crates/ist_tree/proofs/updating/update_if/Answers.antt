@@ -9,12 +9,13 @@ use Rattle.ist_tree.specs.DueRows.{HasCounted, LeavesNoneDue, none_came}
 use Rattle.ist_tree.specs.Rounds.{HasLetGo, HasNoEffect}
 use Rattle.ist_tree.proofs.FewChangesLemmas.{round_smaller}
 use Rattle.ist_tree.proofs.LookedLemmas.{idle_keeps, only_saw}
-use Rattle.ist_tree.proofs.RoundLemmas.{adds_from, counted_from, due_from, idle_from, keeps_from, let_go_from, let_go_none, refused_from, seen_from, starts_from}
-use Rattle.ist_tree.proofs.ShortLemmas.{passed_on}
+use Rattle.ist_tree.proofs.RoundLemmas.{adds_from, counted_from, due_from, idle_from, keeps_from, let_go_from, let_go_none, nowhere_from, refused_from, seen_from, starts_from}
+use Rattle.ist_tree.proofs.RoundWalkLemmas.{few_found, few_taken, pays_none, pays_on}
+use Rattle.ist_tree.proofs.ShortLemmas.{on_any, passed_on}
 use Rattle.ist_tree.proofs.updating.update_if.Goals as goal
 
 pub rounds-init : goal.rounds-init
-rounds-init c = (let_go_none c.args.pass.now, c.know.ensures.lawful)
+rounds-init c = (let_go_none c.args.pass.now, c.know.ensures.lawful, pays_none c.args.pass.now)
 
 -- ---- the update was refused
 
@@ -32,7 +33,23 @@ returns-in_err-reply-clause-full c =
     (refused_from _ _ c.rounds.invariant.0 _ c.rounds.invariant.1 c.args.key c.args.value _
     c.in_err-reply.ensures.full)
 
+pub returns-in_err-reply-clause-uncounted : goal.returns-in_err-reply-clause-uncounted
+returns-in_err-reply-clause-uncounted c =
+    on_any c.from_residual.result _
+    (nowhere_from _ _ c.rounds.invariant.0 c.update_when.new.pass c.update_when.ensures.seen.seen
+    c.in_err-reply.ensures.uncounted)
+
+pub returns-in_err-reply-clause-few_walks : goal.returns-in_err-reply-clause-few_walks
+returns-in_err-reply-clause-few_walks c =
+    few_taken c.args.pass.now c.rounds.pass c.update_when.new.pass c.rounds.invariant.2
+    c.update_when.ensures.few_walks c.update_when.ensures.seen
+
 -- ---- it took effect
+
+pub returns-in-Some-clause-few_walks : goal.returns-in-Some-clause-few_walks
+returns-in-Some-clause-few_walks c =
+    few_taken c.args.pass.now c.rounds.pass c.update_when.new.pass c.rounds.invariant.2
+    c.update_when.ensures.few_walks c.update_when.ensures.seen
 
 pub returns-in-Some-clause-seen : goal.returns-in-Some-clause-seen
 returns-in-Some-clause-seen c =
@@ -55,7 +72,7 @@ returns-in-Some-clause-counted c e entry =
 
 pub returns-in-Some-clause-due : goal.returns-in-Some-clause-due
 returns-in-Some-clause-due c =
-    due_from _ _ c.rounds.invariant.0 _ c.update_when.ensures.seen.seen
+    due_from _ _ c.rounds.invariant.0 _ c.rounds.invariant.1 c.update_when.ensures.seen.seen
     (subst (λ (o : Option (Option ℕ)). IfSome o (λ reply. LeavesNoneDue c.rounds.pass
     c.update_when.new.pass)) c.in-Some.is c.in_ok-reply.ensures.due)
 
@@ -65,7 +82,7 @@ returns-in-Some-clause-starts c =
 
 pub returns-in-Some-clause-refused : goal.returns-in-Some-clause-refused
 returns-in-Some-clause-refused c =
-    keeps_from _ _ c.rounds.invariant.0 _ c.update_when.ensures.refused
+    keeps_from _ _ c.rounds.invariant.0 _ c.rounds.invariant.1 c.update_when.ensures.refused
 
 -- ---- the find met another value
 
@@ -94,6 +111,15 @@ returns-in-Some-find_unless-clause-got c other =
 pub returns-in-Some-find_unless-clause-due : goal.returns-in-Some-find_unless-clause-due
 returns-in-Some-find_unless-clause-due c = none_came (no_effect c).none_came
 
+pub returns-in-Some-find_unless-clause-idle : goal.returns-in-Some-find_unless-clause-idle
+returns-in-Some-find_unless-clause-idle c other = (no_effect c).uncounted
+
+pub returns-in-Some-find_unless-clause-few_walks : goal.returns-in-Some-find_unless-clause-few_walks
+returns-in-Some-find_unless-clause-few_walks c =
+    few_found c.args.pass.now c.rounds.pass c.update_when.new.pass c.find_unless.new.pass c.rounds.invariant.2
+    c.update_when.ensures.few_walks c.update_when.ensures.seen c.find_unless.ensures.seen
+    c.find_unless.ensures.one_walk
+
 pub returns-in-Some-find_unless-clause-starts : goal.returns-in-Some-find_unless-clause-starts
 returns-in-Some-find_unless-clause-starts c = (no_effect c).starts
 
@@ -121,4 +147,12 @@ rounds-preserved c =
             stamp = c.find_unless.ensures.stamp c.in_default-find_unless.is;
           },
       c.know-in-rounds.ensures.lawful,
+      pays_on c.args.pass.now c.rounds.pass c.update_when.new.pass c.find_unless.new.pass c.rounds.invariant.2
+          c.update_when.ensures.few_walks c.find_unless.ensures.seen
+          c.find_unless.ensures.one_walk
+          (round_smaller c.rounds.pass c.update_when.new.pass c.find_unless.new.pass
+          c.update_when.ensures.seen c.find_unless.ensures.seen c.args.key c.args.expected
+          (c.update_when.ensures.missed (c.in_ok-reply.was ∙ ap Ok c.in_default.is))
+          (c.find_unless.ensures.value c.in_default-find_unless.is)
+          c.know-in-rounds.ensures.lawful),
     )

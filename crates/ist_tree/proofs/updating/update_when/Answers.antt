@@ -10,7 +10,7 @@ use Rattle.ist_tree.specs.declared.updating.Carried.{Carried}
 use Rattle.ist_tree.specs.Faces.{PassFace, TreeFace}
 use Rattle.ist_tree.specs.Working.{CarriesOut}
 use Rattle.ist_tree.proofs.EndsLemmas.{UpdateEnds, picked_ends, update_ends, update_starts}
-use Rattle.ist_tree.proofs.LetGoLemmas.{stopped, stopped_full, stopped_missed, stopped_pass, stopped_seen, stopped_starts}
+use Rattle.ist_tree.proofs.LetGoLemmas.{stopped, stopped_full, stopped_counted, stopped_missed, stopped_pass, stopped_seen, stopped_placed, stopped_starts}
 use Rattle.ist_tree.proofs.WalkCountLemmas.{walks_end}
 use Rattle.ist_tree.proofs.updating.update_when.Goals as goal
 
@@ -70,6 +70,9 @@ returns-in-Some-clause-due c = (ends c).due
 pub returns-in-Some-clause-refused : goal.returns-in-Some-clause-refused
 returns-in-Some-clause-refused c = (ends c).refused
 
+pub returns-in-Some-clause-done : goal.returns-in-Some-clause-done
+returns-in-Some-clause-done c = λ none. ((ends c).pass.settled none).starts
+
 pub returns-in-Some-clause-starts : goal.returns-in-Some-clause-starts
 returns-in-Some-clause-starts c =
     let begun = subst (λ (command : Command). Turned c.pass.inside.caller.seat.view
@@ -103,6 +106,19 @@ invariant_of-pass-in-Err c =
     (c.give_up-in-Err.ensures.same_table ∙ c.carry_out_when.ensures.same_table
     ∙ ap (λ (t : TreeFace). t.table) tree) c.in-Err.ensures.full.let_go c.give_up-in-Err.ensures.given_up
 
+pub returns-in-Err-clause-done : goal.returns-in-Err-clause-done
+returns-in-Err-clause-done c =
+    let begun = subst (λ (command : Command). Turned c.pass.inside.caller.seat.view
+    (beginning c.pass.inside.caller.seat.view (Some command)) c.begin.new.who.seat.view)
+    c.command_of.ensures.value c.begin.ensures.begun in
+    let tree = c.tree.view_is ∙ sym c.requires.same_tree
+    ∙ sym (ap (λ (p : PassFace). p.tree) c.pass.view_is) in
+    λ none. ((stopped_pass c.pass.inside.caller c.begin.new.who c.carry_out_when.new.who c.give_up-in-Err.new.seat
+    (command_for c.args.key c.args.value) c.begin.ensures.sound c.pass.inside.refused
+    c.pass.invariant begun c.begin.ensures.number _ (ap (λ (t : TreeFace). t.words) tree)
+    (c.give_up-in-Err.ensures.same_table ∙ c.carry_out_when.ensures.same_table
+    ∙ ap (λ (t : TreeFace). t.table) tree) c.in-Err.ensures.full.let_go c.give_up-in-Err.ensures.given_up).settled none).starts
+
 pub returns-in-Err-clause-seen : goal.returns-in-Err-clause-seen
 returns-in-Err-clause-seen c =
     let begun = subst (λ (command : Command). Turned c.pass.inside.caller.seat.view
@@ -116,6 +132,33 @@ returns-in-Err-clause-seen c =
     (c.give_up-in-Err.ensures.same_table ∙ c.carry_out_when.ensures.same_table
     ∙ ap (λ (t : TreeFace). t.table) tree) c.in-Err.ensures.full.let_go c.give_up-in-Err.ensures.given_up c.args.pass.now
     c.pass.view_is
+
+pub returns-in-Err-clause-uncounted : goal.returns-in-Err-clause-uncounted
+returns-in-Err-clause-uncounted c =
+    let begun = subst (λ (command : Command). Turned c.pass.inside.caller.seat.view
+    (beginning c.pass.inside.caller.seat.view (Some command)) c.begin.new.who.seat.view)
+    c.command_of.ensures.value c.begin.ensures.begun in
+    let tree = c.tree.view_is ∙ sym c.requires.same_tree
+    ∙ sym (ap (λ (p : PassFace). p.tree) c.pass.view_is) in
+    stopped_counted c.pass.inside.caller c.begin.new.who c.carry_out_when.new.who c.give_up-in-Err.new.seat
+    (command_for c.args.key c.args.value) c.begin.ensures.sound c.pass.inside.refused
+    c.pass.invariant begun c.begin.ensures.number _ (ap (λ (t : TreeFace). t.words) tree)
+    (c.give_up-in-Err.ensures.same_table ∙ c.carry_out_when.ensures.same_table
+    ∙ ap (λ (t : TreeFace). t.table) tree) c.in-Err.ensures.full.let_go c.give_up-in-Err.ensures.given_up c.args.pass.now
+    c.pass.view_is
+
+pub returns-in-Err-clause-placed : goal.returns-in-Err-clause-placed
+returns-in-Err-clause-placed c =
+    let begun = subst (λ (command : Command). Turned c.pass.inside.caller.seat.view
+    (beginning c.pass.inside.caller.seat.view (Some command)) c.begin.new.who.seat.view)
+    c.command_of.ensures.value c.begin.ensures.begun in
+    let tree = c.tree.view_is ∙ sym c.requires.same_tree
+    ∙ sym (ap (λ (p : PassFace). p.tree) c.pass.view_is) in
+    stopped_placed c.pass.inside.caller c.begin.new.who c.carry_out_when.new.who c.give_up-in-Err.new.seat
+    (command_for c.args.key c.args.value) c.begin.ensures.sound c.pass.inside.refused
+    c.pass.invariant begun c.begin.ensures.number _ (ap (λ (t : TreeFace). t.words) tree)
+    (c.give_up-in-Err.ensures.same_table ∙ c.carry_out_when.ensures.same_table
+    ∙ ap (λ (t : TreeFace). t.table) tree) c.in-Err.ensures.full.let_go c.give_up-in-Err.ensures.given_up
 
 pub returns-in-Err-clause-starts : goal.returns-in-Err-clause-starts
 returns-in-Err-clause-starts c =
@@ -144,6 +187,19 @@ invariant_of-pass-in-None c =
     c.pass.invariant begun c.begin.ensures.number _ (ap (λ (t : TreeFace). t.words) tree)
     (c.give_up.ensures.same_table ∙ c.carry_out_when.ensures.same_table
     ∙ ap (λ (t : TreeFace). t.table) tree) (c.in-Ok.ensures.let_go (ap Ok c.in-None.is)) c.give_up.ensures.given_up
+
+pub returns-in-None-clause-done : goal.returns-in-None-clause-done
+returns-in-None-clause-done c =
+    let begun = subst (λ (command : Command). Turned c.pass.inside.caller.seat.view
+    (beginning c.pass.inside.caller.seat.view (Some command)) c.begin.new.who.seat.view)
+    c.command_of.ensures.value c.begin.ensures.begun in
+    let tree = c.tree.view_is ∙ sym c.requires.same_tree
+    ∙ sym (ap (λ (p : PassFace). p.tree) c.pass.view_is) in
+    λ none. ((stopped_pass c.pass.inside.caller c.begin.new.who c.carry_out_when.new.who c.give_up.new.seat
+    (command_for c.args.key c.args.value) c.begin.ensures.sound c.pass.inside.refused
+    c.pass.invariant begun c.begin.ensures.number _ (ap (λ (t : TreeFace). t.words) tree)
+    (c.give_up.ensures.same_table ∙ c.carry_out_when.ensures.same_table
+    ∙ ap (λ (t : TreeFace). t.table) tree) (c.in-Ok.ensures.let_go (ap Ok c.in-None.is)) c.give_up.ensures.given_up).settled none).starts
 
 pub returns-in-None-clause-seen : goal.returns-in-None-clause-seen
 returns-in-None-clause-seen c =

@@ -5,11 +5,11 @@ use Rattle.ist_rule.specs.Faces.{word_count_of}
 use Rattle.ist_rule.proofs.SearchedOnLemmas.{went_searched}
 use Rattle.ist_rule.proofs.WentOnLemmas.{went_same, later_by-goes_on}
 use Rattle.ist_updates.specs.Asking.{Updates, command_for}
-use Rattle.ist_updates.specs.Counting.{LeavesDue}
+use Rattle.ist_updates.specs.Counting.{CountedNowhere, LeavesDue}
 use Rattle.ist_updates.specs.Refusals.{WasRefused}
 use Rattle.ist_updates.specs.Trying.{Tries}
 use Rattle.ist_updates.specs.Walking.{IsAskedStill, IsNotThere, HasWalked}
-use Rattle.ist_updates.proofs.ApplyingLemmas.{begun_walk, all_searched, still_on, refused_first, still_due, took_is_counted, took_ends, took_due, nothing_told}
+use Rattle.ist_updates.proofs.ApplyingLemmas.{begun_walk, all_searched, still_on, refused_first, still_counted, still_due, took_is_counted, took_ends, took_due, nothing_told}
 use Rattle.laws_coming.proofs.FurtherLemmas.{fewer_left}
 use Rattle.ist_updates.proofs.FurtherLemmas.{begun_fresh}
 use Rattle.ist_updates.proofs.MissLemmas.{missed_since}
@@ -88,6 +88,18 @@ pub returns-in_err-done-clause-none_due : goal.returns-in_err-done-clause-none_d
 returns-in_err-done-clause-none_due c =
     let h : LeavesDue c.args.who.now.seat.view c.descend.new.who.seat.view c.args.who.now.number None =
     still_due _ _ c.args.key c.args.value c.requires.asked
+    (begun_walk c.args.who.now c.turns.who c.begin_search.new.seat _ _ c.turns.invariant.1
+    c.turns.invariant.2 c.begin_search.ensures.begun)
+    c.descend.new.who
+    (subst (λ r. HasWalked (record c.turns.who { seat = c.begin_search.new.seat }) c.args.key
+    c.args.value anchor (word_count_of c.args.table.now) r c.descend.new.who)
+    (c.in_err-done.was) c.descend.ensures.walked).0 in
+    search rules
+
+pub returns-in_err-done-clause-uncounted : goal.returns-in_err-done-clause-uncounted
+returns-in_err-done-clause-uncounted c =
+    let h : CountedNowhere c.args.who.now.seat.view.log c.descend.new.who.seat.view.log c.args.who.now.number =
+    still_counted _ _ c.args.key c.args.value c.requires.asked
     (begun_walk c.args.who.now c.turns.who c.begin_search.new.seat _ _ c.turns.invariant.1
     c.turns.invariant.2 c.begin_search.ensures.begun)
     c.descend.new.who
@@ -210,6 +222,18 @@ returns-in-Unmet-clause-went c =
 pub returns-in-Unmet-clause-none_came : goal.returns-in-Unmet-clause-none_came
 returns-in-Unmet-clause-none_came c e =
     still_due c.args.who.now (record c.turns.who { seat = c.begin_search.new.seat }) c.args.key c.args.value
+    c.requires.asked
+    (begun_walk c.args.who.now c.turns.who c.begin_search.new.seat c.args.key
+    (command_for c.args.key c.args.value) c.turns.invariant.1 c.turns.invariant.2
+    c.begin_search.ensures.begun)
+    c.descend.new.who
+    (subst (λ r. HasWalked (record c.turns.who { seat = c.begin_search.new.seat }) c.args.key
+    c.args.value anchor (word_count_of c.args.table.now) r c.descend.new.who)
+    (c.in_ok-done.was ∙ ap Ok c.in-Unmet.is) c.descend.ensures.walked)
+
+pub returns-in-Unmet-clause-none_counted : goal.returns-in-Unmet-clause-none_counted
+returns-in-Unmet-clause-none_counted c e =
+    still_counted c.args.who.now (record c.turns.who { seat = c.begin_search.new.seat }) c.args.key c.args.value
     c.requires.asked
     (begun_walk c.args.who.now c.turns.who c.begin_search.new.seat c.args.key
     (command_for c.args.key c.args.value) c.turns.invariant.1 c.turns.invariant.2

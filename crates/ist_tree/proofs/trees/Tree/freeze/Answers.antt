@@ -56,6 +56,12 @@ returns-in-Ok-clause-pairs c = (ends c).pairs
 pub returns-in-Ok-clause-refused : goal.returns-in-Ok-clause-refused
 returns-in-Ok-clause-refused c = (ends c).refused
 
+pub returns-in-Ok-clause-rebuilt : goal.returns-in-Ok-clause-rebuilt
+returns-in-Ok-clause-rebuilt c = (ends c).rebuilt
+
+pub returns-in-Ok-clause-done : goal.returns-in-Ok-clause-done
+returns-in-Ok-clause-done c = λ none. ((ends c).pass.settled none).starts
+
 -- what a refused freeze results in
 stops : (c : goal.After-give_up-in-Err) → StopEnds c.args.pass.now
     c.freeze_below.new.who c.give_up-in-Err.new.seat c.pass.inside.refused c.in-Err.full
@@ -90,3 +96,6 @@ returns-in-Err-clause-full c = (stops c).full_is
 
 pub returns-in-Err-clause-unstarted : goal.returns-in-Err-clause-unstarted
 returns-in-Err-clause-unstarted c = (stops c).none
+
+pub returns-in-Err-clause-done : goal.returns-in-Err-clause-done
+returns-in-Err-clause-done c = λ none. ((stops c).pass.settled none).starts

@@ -1,0 +1,35 @@
+-- What helping a rebuild asks for stays so as rows grow, and what was in the anchor's slot over longer
+-- logs. Serves `update_when` and `freeze`.
+use Rattle.std.proofs.Common.{ℕ, List, sym, subst}
+use Rattle.ist_core.specs.declared.pairs.Pair.{Pair}
+use Rattle.ist_core.specs.Growing.{AllGrow}
+use Rattle.ist_core.specs.Logs.{GoesOn, Log}
+use Rattle.ist_core.specs.Rebuilding.{IsFinishedWith}
+use Rattle.ist_core.specs.Snapshots.{Snapshot}
+use Rattle.ist_core.proofs.GrowingLemmas.{rebuild_there}
+use Rattle.laws_links.proofs.FormLemmas.{finished_with_grows}
+use Rattle.ist_rule.proofs.LaterLemmas.{goes_on_more}
+use Rattle.ist_rebuild.specs.Helping.{IsAskedFor, for_change, for_row}
+use Rattle.ist_tree.specs.Freezing.{HeldInnerRow}
+
+-- what helping a rebuild asked for is what it asks for as rows grow
+pub asked_grows : (t u : Snapshot) → AllGrow t.pieces u.pieces → (rebuild asked : ℕ)
+    → IsAskedFor t rebuild asked → IsAskedFor u rebuild asked
+asked_grows t u grow rebuild asked (for_change e) = for_change e
+asked_grows t u grow rebuild asked (for_row row k some e f least le is) =
+    let it = rebuild_there t.pieces u.pieces grow rebuild row e in
+    for_row it.0 k some it.1
+    (subst (λ n. IsFinishedWith u n k) (sym it.2.target)
+    (finished_with_grows t u grow row.target k f)) least le is
+
+-- an inner row that the anchor's slot held between two logs it held between two wider ones
+pub held_on : (pairs : List Pair) (words : ℕ) (a b c d : Log) → GoesOn a b → GoesOn c d
+    → HeldInnerRow pairs words b c → HeldInnerRow pairs words a d
+held_on pairs words a b c d g h k =
+    record {
+      at = k.at;
+      since = goes_on_more g k.since;
+      until = goes_on_more k.until h;
+      row = k.row;
+      holds = k.holds;
+    }

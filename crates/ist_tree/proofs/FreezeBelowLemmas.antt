@@ -1,0 +1,97 @@
+-- What is frozen below the anchor: what was met there as it is, or the target of a rebuild. Serves
+-- `freeze_below`.
+use Rattle.std.proofs.Common.{◌≡◌, ℕ, Option, Some, None, IfSome, sym, ap, ◌∙◌, subst}
+use Rattle.ist_core.specs.declared.ports.Full.{Full}
+use Rattle.ist_core.specs.Lawful.{Lawful}
+use Rattle.ist_core.specs.Logs.{same_log}
+use Rattle.ist_core.specs.Rebuilding.{IsFinishedWith}
+use Rattle.ist_core.specs.References.{InnerAt}
+use Rattle.ist_layout.specs.Meanings.{ref_meant}
+use Rattle.ist_rebuild.specs.Starting.{StartsAreDoneBut}
+use Rattle.ist_rule.specs.declared.view.View.{View}
+use Rattle.ist_rule.specs.Learning.{now}
+use Rattle.ist_rule.proofs.LaterLemmas.{goes_on_more}
+use Rattle.ist_rule.proofs.WentOnLemmas.{later_by-goes_on, went_lawful, went_now}
+use Rattle.ist_rows.specs.declared.callers.Caller.{Caller}
+use Rattle.laws_settling.specs.Settling.{StartsAreDone}
+use Rattle.ist_tree.specs.declared.freezing.Frozen.{Frozen}
+use Rattle.ist_tree.specs.declared.freezing.Outcome.{Outcome}
+use Rattle.ist_tree.specs.declared.freezing.Site.TheVariants.{Rebuilt, Still}
+use Rattle.ist_tree.specs.FreezeSteps.{Freezes, FreezesTarget, HasMet, IsHelpShort, IsRebuiltIn, IsTopShort}
+use Rattle.ist_tree.specs.Working.{Rebuilds, RebuildsOn}
+use Rattle.ist_tree.proofs.FreezingLemmas.{row_was_frozen, was_frozen_on}
+use Rattle.ist_tree.proofs.RebuildLemmas.{rebuilds_more}
+use Rattle.ist_tree.proofs.FreezeGoingLemmas.{rebuild_on}
+
+-- what was met as it is
+pub still_frozen : (a c : Caller) (words : ℕ) (frozen : Frozen) → HasMet a c (Still frozen)
+    → Freezes a c words record { frozen = frozen; refused = None }
+still_frozen a c words frozen m =
+    record {
+      on = m.on;
+      frozen = m.is.0;
+      done = λ unrefused. m.done;
+      rebuilt = λ row e. absurd (m.is.1 row e);
+      refused = tt;
+    }
+
+one_inner : (a b : ℕ) → InnerAt a ≡ InnerAt b → a ≡ b
+one_inner a b e = cc
+
+-- the target of a rebuild that was met, and finished
+pub target_frozen : (a b c : Caller) (words rebuild target : ℕ) (outcome : Outcome)
+    → HasMet a b (Rebuilt rebuild target) → FreezesTarget b c words rebuild target outcome
+    → Freezes a c words outcome
+target_frozen a b c words rebuild target outcome m f =
+    record {
+      on = all;
+      frozen = was_frozen_on v.start v.words v.log m.is.1.at w.log w.log lawful m.is.1.since same_log
+          outcome.frozen
+          (row_was_frozen v.start v.words m.is.1.at w.log lawful
+          (goes_on_more m.is.1.until (later_by-goes_on f.on.went.later)) outcome.frozen target
+          m.is.1.child f.root_is
+          (subst (λ t. IsFinishedWith t target outcome.frozen.keys) (went_now Rebuilds v w all.went)
+          f.finished));
+      done = λ unrefused done.
+          subst (StartsAreDone (now w)) m.on.number
+          (f.done unrefused
+          (subst (λ n. StartsAreDoneBut (now b.seat.view) n rebuild) (sym m.on.number) (m.done done)));
+      rebuilt = λ row e.
+          subst (λ n. IsRebuiltIn (now w) n outcome.refused)
+          (one_inner target row (sym (ap ref_meant f.root_is) ∙ e))
+          record {
+            rebuild = rebuild;
+            of = rebuild_on Rebuilds b.seat.view c.seat.view f.on.went rebuild target m.is.0;
+            replaced = f.replaced;
+          };
+      refused = cause outcome.refused f.refused;
+    }
+  where
+    cause : (o : Option Full) → IfSome o (IsHelpShort c.seat.view rebuild words)
+        → IfSome o (IsTopShort a.seat.view c.seat.view words)
+    cause None h = tt
+    cause (Some full) h =
+        record {
+          rebuild = rebuild;
+          target = target;
+          of = rebuild_on Rebuilds b.seat.view c.seat.view f.on.went rebuild target m.is.0;
+          top = record {
+            at = m.is.1.at;
+            since = m.is.1.since;
+            until = goes_on_more m.is.1.until (later_by-goes_on f.on.went.later);
+            child = m.is.1.child;
+          };
+          help = h;
+        }
+
+    v : View
+    v = a.seat.view
+
+    w : View
+    w = c.seat.view
+
+    all : RebuildsOn a c
+    all = rebuilds_more a b c m.on f.on
+
+    lawful : Lawful v.start v.words w.log
+    lawful = went_lawful Rebuilds v w all.went
