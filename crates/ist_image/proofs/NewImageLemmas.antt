@@ -1,6 +1,8 @@
 -- The words that are written are the image of a new table. Serves `images.rt`.
-use Rattle.std.proofs.Common.{◌≡◌, ◌∙◌, ◌+◌, ◌-◌, ◌<◌, ℕ, zero, suc, List, [], ◌∷◌, ◌++◌, length, drop, slice_get, refl, sym, ap, subst, arith, inl, inr, length-append, append_assoc}
+use Rattle.std.proofs.Common.{◌≡◌, ◌∙◌, ◌+◌, ◌-◌, ◌<◌, ◌≤◌, Some, get_or, ℕ, zero, suc, List, [], ◌∷◌, ◌++◌, length, drop, slice_get, refl, sym, ap, subst, arith, inl, inr, length-append, append_assoc}
 use Rattle.std.proofs.Math.ListN.{set}
+use Rattle.std.proofs.lemmas.Bool.{cases_lt}
+use Rattle.std.proofs.lemmas.Option.{slice_get-get_or, get_or_from_slice_get}
 use Rattle.std.proofs.lemmas.List.Edits.{sets, sets-eq}
 use Rattle.std.proofs.Math.Seq.{length-sets}
 use Rattle.ist_core.specs.declared.pairs.Pair.{Pair}
@@ -125,3 +127,17 @@ module _ (pairs : List Pair) (old : List ℕ) (opens : CanOpen pairs (length old
             zeros_behind zeros place behind
             (let same = length-sets old 0 (image_words pairs) in omega arith);
       }
+
+-- words that were made more by zeros, or fewer, are 0 from a later place on
+pub zeros_resized : (old new : List ℕ) (from later n : ℕ) → from ≤ later → ZerosFrom from old
+    → length new ≡ n
+    → ((k d : ℕ) → k < n → k < length old → get_or new k d ≡ get_or old k d)
+    → ((k d : ℕ) → length old ≤ k → k < n → get_or new k d ≡ 0)
+    → ZerosFrom later new
+zeros_resized old new from later n le zeros size same more place low high =
+    let below : place < n = omega arith in
+    slice_get-get_or new place 0 high ∙ ap Some (elim (cases_lt place (length old)) [
+      | inl before ↦ same place 0 below before
+          ∙ get_or_from_slice_get old place 0 0 (zeros place (omega arith) before)
+      | inr behind ↦ more place 0 behind below
+    ])

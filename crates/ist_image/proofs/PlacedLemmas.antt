@@ -15,14 +15,15 @@ use Rattle.ist_core.specs.StartLayout.{tree_at, placed_parts, top_row, rows_with
 use Rattle.ist_core.proofs.PartLemmas.{part_end-le}
 use Rattle.ist_core.proofs.WordLemmas.{ideal_words_one}
 use Rattle.ist_core.proofs.LayoutLemmas.{Fills, fills_rows, keys_of_parts, slots_of-top_row}
-use Rattle.ist_image.specs.Placing.{part_of, part_base, rows_behind, row_words, tree_words}
+use Rattle.ist_image.specs.Placing.{part_of, part_base, slot_base, slots_behind, rows_behind, row_words, tree_words, row_head}
 use Rattle.ist_image.proofs.PlacingLemmas.{
   placed_by_index,
   rows_from-many,
   rows_behind-first,
   rows_behind-last,
 }
-use Rattle.ist_image.proofs.SettingLemmas.{sets-append}
+use Rattle.ist_image.proofs.SettingLemmas.{sets-append, sets-sets, set_made, none_made}
+use Rattle.std.proofs.lemmas.List.FromFn.{length-map-range_with_len}
 
 -- ---- parts
 
@@ -219,3 +220,63 @@ pub no_part_set : (words : List ℕ) (base at j : ℕ) (pairs : List Pair) → j
 no_part_set words base at j pairs e =
     ap (λ rows. sets words at (row_words rows))
     (ap (rows_behind base pairs) e ∙ rows_behind-last base pairs)
+
+-- of the slots and the words of the parts, the next part's are set
+pub slot_and_part_set : (old new : List ℕ) (base slot next_slot at next j x : ℕ)
+    (pairs part : List Pair) → j < degree (length pairs) → at ≡ part_base base (length pairs) j
+    → part ≡ part_of pairs j → slot + (degree (length pairs) - j) ≤ at
+    → x ≡ slot_word base pairs j → slot + 1 ≡ next_slot
+    → new ≡ sets (set old slot x) at (tree_words at part) → at + ideal_words (length part) ≡ next
+    → sets (sets old slot (slots_behind base pairs j)) at (row_words (rows_behind base pairs j))
+    ≡ sets (sets new next_slot (slots_behind base pairs (j + 1))) next
+    (row_words (rows_behind base pairs (j + 1)))
+slot_and_part_set old new base slot next_slot at next j x pairs part h e i room is n put m =
+    let d = degree (length pairs) in
+    let more = slots_behind base pairs (j + 1) in
+    let here = tree_words at part in
+    let one = set old slot x in
+    let size = length-map-range_with_len (slot_word base pairs) (j + 1) (d - (j + 1)) in
+    ap (λ ws. sets ws at (row_words (rows_behind base pairs j)))
+    (set_made (slot_word base pairs) old slot next_slot j d x h is n)
+    ∙ part_set (sets one next_slot more) (sets (sets one next_slot more) at here) base at next j
+    pairs part h e i refl m
+    ∙ ap (λ ws. sets ws next (row_words (rows_behind base pairs (j + 1))))
+    (sym (sets-sets one next_slot at more here (omega arith))
+    ∙ ap (λ ws. sets ws next_slot more) (sym put))
+
+-- after the last part neither slots nor words of parts are set
+pub none_set : (words : List ℕ) (base slot at j : ℕ) (pairs : List Pair)
+    → j ≡ degree (length pairs)
+    → sets (sets words slot (slots_behind base pairs j)) at (row_words (rows_behind base pairs j))
+    ≡ words
+none_set words base slot at j pairs e =
+    no_part_set (sets words slot (slots_behind base pairs j)) base at j pairs e
+    ∙ none_made (slot_word base pairs) words slot j (degree (length pairs)) e
+
+-- the words of at least two pairs: the top row's fields and keys, then its slots and the parts
+pub head_set : (old mid new : List ℕ) (base : ℕ) (pairs : List Pair) → 2 ≤ length pairs
+    → mid ≡ row_head old base pairs
+    → new ≡ sets (sets mid (slot_base base (length pairs)) (slots_behind base pairs 0))
+    (part_base base (length pairs) 0) (row_words (rows_behind base pairs 0))
+    → new ≡ sets old base (tree_words base pairs)
+head_set old mid new base pairs two e i =
+    let n = length pairs in
+    let slots = sets mid (slot_base base n) (slots_behind base pairs 0) in
+    let all : degree n - 0 ≡ degree n = omega arith in
+    tree_set old slots new base pairs two
+    (row_set old mid slots base (degree n) pairs two refl e
+    (ap (λ d. sets mid (slot_base base n) (map (slot_word base pairs) (range_with_len 0 d))) all
+    ∙ ap (sets mid (slot_base base n)) (slots_are base n pairs refl)))
+    i
+
+-- at first all slots and all parts are still to be set
+pub all_left : (words : List ℕ) (base slot at : ℕ) (pairs : List Pair)
+    → slot ≡ slot_base base (length pairs) → at ≡ part_base base (length pairs) 0
+    → sets (sets words slot (slots_behind base pairs 0)) at (row_words (rows_behind base pairs 0))
+    ≡ sets (sets words (slot_base base (length pairs)) (slots_behind base pairs 0))
+    (part_base base (length pairs) 0) (row_words (rows_behind base pairs 0))
+all_left words base slot at pairs s e =
+    let slots = slots_behind base pairs 0 in
+    let rows = row_words (rows_behind base pairs 0) in
+    ap (λ k. sets (sets words k slots) at rows) s
+    ∙ ap (λ k. sets (sets words (slot_base base (length pairs)) slots) k rows) e

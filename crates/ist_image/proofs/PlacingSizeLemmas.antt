@@ -12,17 +12,18 @@ use Rattle.std.proofs.Common.{
   suc,
   List,
   length,
+  refl,
   sym,
   ap,
   subst,
   arith,
 }
 use Rattle.ist_core.specs.declared.pairs.Pair.{Pair}
-use Rattle.ist_core.specs.Arithmetic.{degree, part_len, part_lens}
+use Rattle.ist_core.specs.Arithmetic.{degree, part_len, part_lens, part_start}
 use Rattle.ist_core.specs.RowLayout.{first_row, inner_words}
 use Rattle.ist_core.specs.Shapes.{ideal_words}
 use Rattle.ist_core.specs.Lawful.{CanOpen}
-use Rattle.ist_core.proofs.PartLemmas.{sum_of_more, part_len-pos}
+use Rattle.ist_core.proofs.PartLemmas.{sum_of_more, part_len-pos, part_start-suc, part_end-le}
 use Rattle.ist_core.proofs.ShapeLemmas.{ideal_words_many}
 use Rattle.ist_core.proofs.WordLemmas.{ideal_words_is}
 use Rattle.ist_image.specs.Placing.{words_before, part_base, FitsAt}
@@ -120,3 +121,28 @@ opens_fit pairs words opens =
     let room = opens.room in
     let within = opens.within in
     record { behind_fixed = omega arith; below_limit = omega arith }
+
+-- no pair is before the first part
+pub part_start-first : (n : ℕ) → part_start n 0 ≡ 0
+unfolding part_start
+part_start-first n = refl
+
+-- the next part begins where this one ends
+pub next_start : (n m j start len next : ℕ) → m ≡ n → start ≡ part_start n j → len ≡ part_len m j
+    → j + 1 ≡ next → start + len ≡ part_start n next
+next_start n m j start len next e s l k =
+    let more = part_start-suc n j in
+    let same = ap (λ i. part_len i j) e in
+    let at = ap (part_start n) (let i : suc j ≡ next = omega arith in i) in
+    omega (arith, more, same, at)
+
+-- a part ends within the whole
+pub end_within : (n m j start len : ℕ) → m ≡ n → j < degree n → start ≡ part_start n j
+    → len ≡ part_len m j → start + len ≤ n
+end_within n m j start len e below s l =
+    let same = ap (λ i. part_len i j) e in
+    omega (arith, part_end-le n j below, same)
+
+-- a part of several pairs begins within the whole
+pub start_within : (n j start : ℕ) → 2 ≤ n → j < degree n → start ≡ part_start n j → start < n
+start_within n j start two below s = omega (arith, part_end-le n j below, part_len-pos n j two)

@@ -1,5 +1,6 @@
 -- Words that are set one after another. Serves `laying.rt` and `rows.rt`.
-use Rattle.std.proofs.Common.{◌≡◌, ◌∙◌, ◌+◌, ◌-◌, ◌<◌, ℕ, suc, List, [], ◌∷◌, ◌++◌, length, map, sym, ap, arith}
+use Rattle.std.proofs.Common.{◌≡◌, ◌∙◌, ◌+◌, ◌-◌, ◌<◌, ◌≤◌, ℕ, suc, List, [], ◌∷◌, ◌++◌, length, map, refl, sym, ap, arith}
+use Rattle.std.proofs.lemmas.List.{set_comm}
 use Rattle.std.specs.List.{range_with_len}
 use Rattle.std.proofs.Math.ListN.{set}
 use Rattle.std.proofs.lemmas.List.Edits.{sets}
@@ -30,3 +31,19 @@ pub none_made : (f : ℕ → ℕ) (words : List ℕ) (at j d : ℕ) → j ≡ d
 none_made f words at j d e =
     ap (λ k. sets words at (map f (range_with_len j k)))
     (let none : d - j ≡ 0 = omega arith in none)
+
+-- a word and words after it may be set in either order
+set-sets : (words : List ℕ) (at x base : ℕ) (ys : List ℕ) → at < base
+    → set (sets words base ys) at x ≡ sets (set words at x) base ys
+set-sets words at x base [] h = refl
+set-sets words at x base (y ∷ ys) h =
+    set-sets (set words base y) at x (suc base) ys (omega arith)
+    ∙ ap (λ ws. sets ws (suc base) ys) (set_comm words base at y x (λ same. omega arith))
+
+-- words and others after them may be set in either order
+pub sets-sets : (words : List ℕ) (at base : ℕ) (xs ys : List ℕ) → at + length xs ≤ base
+    → sets (sets words base ys) at xs ≡ sets (sets words at xs) base ys
+sets-sets words at base [] ys h = refl
+sets-sets words at base (x ∷ xs) ys h =
+    ap (λ ws. sets ws (suc at) xs) (set-sets words at x base ys (omega arith))
+    ∙ sets-sets (set words at x) (suc at) base xs ys (omega arith)

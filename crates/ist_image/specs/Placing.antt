@@ -1,12 +1,15 @@
 -- Where the rows of a new table lie, part by part, and their words.
 use Rattle.std.specs.Prelude.{◌≤◌, ℕ, ◌+◌, ◌-◌, List, ◌∷◌, length, map, take, drop, get_or}
 use Rattle.std.specs.List.{sum_by, flat_map, range_with_len}
+use Rattle.std.proofs.Math.ListN.{set}
+use Rattle.std.proofs.lemmas.List.Edits.{sets}
 use Rattle.ist_core.specs.declared.pairs.Pair.{Pair}
 use Rattle.ist_core.specs.Arithmetic.{degree, part_len, part_start}
 use Rattle.ist_core.specs.RowLayout.{first_row, place_limit, inner_words}
 use Rattle.ist_core.specs.Shapes.{ideal_words}
 use Rattle.ist_core.specs.References.{word_of}
 use Rattle.ist_core.specs.Pieces.{Piece, words_of}
+use Rattle.ist_core.specs.Parts.{parts, first_keys}
 use Rattle.ist_core.specs.StartLayout.{tree_at, rows_from}
 
 -- ---- parts by their indices
@@ -41,6 +44,10 @@ slots_behind base pairs j =
     map (λ i. word_of (tree_at (part_base base (length pairs) i) (part_of pairs i)))
     (range_with_len j (degree (length pairs) - j))
 
+-- where the slots of an inner row of n keys at the base begin
+abbrev pub slot_base : ℕ → ℕ → ℕ
+slot_base base n = base + 3 + degree n
+
 -- a tree of n keys fits into a table, from the base on
 pub record FitsAt (base n : ℕ) : Type 0 where
   pub behind_fixed : first_row ≤ base
@@ -55,6 +62,12 @@ row_words rows = flat_map (λ row. words_of row.1) rows
 -- the words of the tree of these pairs, from the base on
 abbrev pub tree_words : ℕ → List Pair → List ℕ
 tree_words base pairs = row_words (rows_from base pairs)
+
+-- the words with the fields and the keys of the top row of the tree of these pairs, from the base on
+abbrev pub row_head : List ℕ → ℕ → List Pair → List ℕ
+row_head words base pairs =
+    sets (set (set (set (set words base 0) (base + 1) 0) (base + 2) (degree (length pairs)))
+    (base + 3) (length pairs)) (base + 4) (first_keys (λ pair. pair.key) (drop 1 (parts pairs)))
 
 -- the used words of a new table with these pairs: the fixed words, then the words of the tree
 abbrev pub image_words : List Pair → List ℕ

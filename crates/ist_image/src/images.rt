@@ -1,5 +1,5 @@
 //! The words of a new table, whole.
-ghost use Rattle.std.specs.Prelude.{◌≡◌, ◌+◌, ◌≤◌, ◌<◌, ◌^◌, length, [], IfOk, OnOk};
+ghost use Rattle.std.specs.Prelude.{◌≡◌, ◌+◌, ◌≤◌, ◌<◌, ◌^◌, length, [], IfOk, OnOk, OnErr};
 ghost use Rattle.ist_core.specs.Shapes.{ideal_words};
 ghost use Rattle.ist_core.specs.RowLayout.{first_row};
 ghost use Rattle.ist_core.specs.StartLayout.{start};
@@ -30,7 +30,6 @@ pub fn needed_words(pairs: u64) -> u64
 /// increasing keys: the ideal tree of the pairs from the first row on, no callers, and then zeros.
 /// Fails only if memory runs out.
 ///
-/// Each used word is written once, into a vector of zeros.
 /// Each word that is used is written once, over a vector of zeros.
 pub fn lay_image(alloc: Global, words: u64, pairs: &[Pair]) -> Result<Vec<u64>, AllocError>
     requires opens { CanOpen pairs.now words }
@@ -45,8 +44,7 @@ pub fn lay_image(alloc: Global, words: u64, pairs: &[Pair]) -> Result<Vec<u64>, 
 /// Memory for images that are built one after another, with the last of them.
 ///
 /// All words that the last image doesn't use are 0. So building the next one touches only those
-/// that the last one used and its own.
-/// its own, and no others.
+/// that it uses itself, and those that only the last one used.
 #[derive(Drop)]
 pub struct Image {
     words: Vec<u64>,
@@ -69,18 +67,20 @@ impl Image {
     /// Builds the image of a new table of `words` words with these pairs, which have strictly
     /// increasing keys, in this memory, as `lay_image` would. Fails only if memory runs out.
     ///
-    /// It writes the words that the last image used, the words that this one uses, and the words
-    /// that are added. If it fails, the words that there are become 0.
+    /// It writes once each word that this image uses, each other word that the last one used, and
+    /// each word that is added. If it fails, the words are no image until the next call.
     pub fn lay(&mut self, words: u64, pairs: &[Pair]) -> Result<(), AllocError>
         requires opens { CanOpen pairs.now words }
         ensures size { OnOk result (length self.new.words.items ≡ words) }
         ensures image { OnOk result (IsImage (start pairs.now words) self.new.words.items) }
     {
-        clear(self.words.as_mut_slice(), self.used);
-        self.used = 0;
-        self.words.resize(words as usize, 0)?;
+        let needed = needed_words(pairs.len() as u64) as usize;
+        let kept = self.used.min(needed);
+        clear(self.words.as_mut_slice(), kept, self.used);
+        self.used = kept;
+        resize(&mut self.words, kept, words as usize)?;
         put_image(self.words.as_mut_slice(), pairs);
-        self.used = needed_words(pairs.len() as u64) as usize;
+        self.used = needed;
         Ok(())
     }
 
@@ -99,15 +99,27 @@ impl Image {
     }
 }
 
-/// Sets the first `used` words to 0; all others are 0 already.
-fn clear(words: &mut [u64], used: usize)
+/// Sets the words from one place to another to 0; all after them are 0 already.
+fn clear(words: &mut [u64], from: usize, used: usize)
+    requires ordered { from ≤ used }
     requires within { used ≤ length words.old }
     requires zeros { ZerosFrom used words.old }
-    ensures zeros { ZerosFrom 0 words.new }
+    ensures zeros { ZerosFrom from words.new }
 {
-    for i in 0..used {
+    for i in from..used {
         words[i] = 0;
     }
+}
+
+/// Makes this many words of them. Words that are added are 0. Fails only if memory runs out, and
+/// then leaves them as they were.
+fn resize(words: &mut Vec<u64>, from: usize, count: usize) -> Result<(), AllocError>
+    requires zeros { ZerosFrom from words.old.items }
+    ensures size { OnOk result (length words.new.items ≡ count) }
+    ensures zeros { OnOk result (ZerosFrom from words.new.items) }
+    ensures same { OnErr result (words.new.items ≡ words.old.items) }
+{
+    words.resize(count, 0)
 }
 
 /// Writes the image of a new table with these pairs into words that are 0 after it.

@@ -1,6 +1,7 @@
 use Rattle.std.proofs.Common.{◌≡◌, ◌+◌, ◌*◌, length}
 use Rattle.std.proofs.lemmas.List.Edits.{sets}
-use Rattle.ist_image.specs.Placing.{part_base, rows_behind, row_words}
+use Rattle.ist_core.specs.Arithmetic.{part_start}
+use Rattle.ist_image.specs.Placing.{part_base, slot_base, slots_behind, rows_behind, row_words}
 use Rattle.ist_image.proofs.laying.+laying.Given as goal
 
 abbrev pub decreases-put_parts : goal.decreases-put_parts
@@ -9,11 +10,15 @@ decreases-put_parts l = 2 * length l.pairs.now
 abbrev pub decreases-put_tree : goal.decreases-put_tree
 decreases-put_tree l = 2 * length l.pairs.now + 1
 
--- where the tree of the next part begins, and that the parts from it on are still to be written
+-- where the next part and its tree begin, and that the slots and the parts from it on are still to
+-- be written
 abbrev pub invariant-put_parts-loop-j : goal.invariant-put_parts-loop-j
 invariant-put_parts-loop-j l = record {
   place : l.at ≡ part_base l.base (length l.pairs) l.j;
-  left : sets l.words l.at (row_words (rows_behind l.base l.pairs l.j))
-      ≡ sets l.initial.words (part_base l.base (length l.pairs) 0)
+  start : l.start ≡ part_start (length l.pairs) l.j;
+  left : sets (sets l.words (l.slots + l.j) (slots_behind l.base l.pairs l.j)) l.at
+      (row_words (rows_behind l.base l.pairs l.j))
+      ≡ sets (sets l.initial.words (slot_base l.base (length l.pairs))
+      (slots_behind l.base l.pairs 0)) (part_base l.base (length l.pairs) 0)
       (row_words (rows_behind l.base l.pairs 0));
 }

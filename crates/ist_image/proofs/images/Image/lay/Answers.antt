@@ -3,8 +3,8 @@ use Rattle.ist_core.specs.RowLayout.{first_row}
 use Rattle.ist_image.proofs.PlacingSizeLemmas.{few_fit, opens_fit}
 use Rattle.ist_image.proofs.images.Image.lay.Goals as goal
 
-pub needed_words-requires : goal.needed_words-requires
-needed_words-requires c = record {
+pub needed_words-needed-requires : goal.needed_words-needed-requires
+needed_words-needed-requires c = record {
   fits = omega (
     arith,
     few_fit first_row
