@@ -1,16 +1,18 @@
--- A shot that is read after its pass went on. Serves `callers.rt`.
-use Rattle.std.proofs.Common.{◌≡◌, ℕ, [], ◌∷◌, ◌++◌, Option, ap, ◌∙◌, sym}
+-- A shot that is read after its pass went on, or by another pass. Serves `callers.rt`.
+use Rattle.std.proofs.Common.{◌≡◌, ℕ, List, [], ◌∷◌, ◌++◌, Option, ap, ◌∙◌, sym, subst}
 use Rattle.ist_core.specs.declared.commands.Command.TheVariants.{Remove}
 use Rattle.ist_core.specs.Lawful.{Lawful}
-use Rattle.ist_core.specs.Map.{listed}
+use Rattle.ist_core.specs.Logs.{GoesOn}
+use Rattle.ist_core.specs.declared.pairs.Pair.{Pair}
+use Rattle.ist_core.specs.Map.{listed, pairs_between, pairs_of}
 use Rattle.ist_tree.specs.declared.freezing.Frozen.{Frozen}
-use Rattle.ist_tree.specs.Calls.{HasSeenMore, AddsCall}
-use Rattle.ist_tree.specs.Faces.{PassFace}
+use Rattle.ist_tree.specs.Calls.{HasSeenMore, HasLearnt, AddsCall}
+use Rattle.ist_tree.specs.Faces.{PassFace, noted}
 use Rattle.ist_scan.specs.declared.totals.Total.{Total}
-use Rattle.ist_scan.specs.Callers.{IsTotalBefore}
-use Rattle.ist_scan.specs.Shots.{IsOf, HasTaken, HasLooked, map_seen}
+use Rattle.ist_scan.specs.Callers.{IsTotalBefore, IsListOnce}
+use Rattle.ist_scan.specs.Shots.{IsOf, HasPairs, HasTaken, HasLooked, map_seen}
 use Rattle.ist_scan.specs.Totals.{total_of}
-use Rattle.ist_scan.proofs.ShotLemmas.{GoesOnWell, of_on, map_on, later_calls}
+use Rattle.ist_scan.proofs.ShotLemmas.{GoesOnWell, has_on, of_on, of_pairs, map_on, later_calls}
 
 -- a pass that took a shot, made a call and then looked
 module _ (p taken made q : PassFace) (seen : HasSeenMore taken made)
@@ -40,3 +42,67 @@ module _ (p taken made q : PassFace) (seen : HasSeenMore taken made)
         calls_are = looked.calls ∙ added.calls_are ∙ ap (λ cs. cs ++ added.call ∷ []) calls;
         behind = later_calls taken made h.position shot (Remove key) reply h.is_of added;
       }
+
+-- a pass that took a shot and then looked at it, which gave this list
+module _ (p taken q : PassFace) (shot : Frozen) (h : HasTaken p taken shot)
+    (lawful : Lawful taken.tree.start taken.tree.words taken.seen) (looked : HasLooked taken q)
+    (lawful_now : Lawful q.tree.start q.tree.words q.seen) (first last : ℕ) (mine : List Pair)
+    (value : (position : ℕ) → IsOf taken position shot
+    → mine ≡ listed first last (map_seen taken position)) where
+  -- the list is of one position
+  pub listed_once : IsListOnce p q first last mine
+  listed_once =
+      let behind : GoesOnWell taken q =
+      record { tree = looked.seen.tree; seen = looked.seen.seen; lawful = lawful_now } in
+      let at = of_on taken q behind h.position shot h.is_of in
+      record {
+        position = h.position;
+        fresh = h.fresh;
+        within = at.within;
+        pairs_are = value h.position h.is_of
+            ∙ ap (listed first last) (sym (map_on taken q behind h.position h.is_of.within));
+      }
+
+  -- a pass that learnt of the shot lists the same pairs
+  pub listed_alike : (other : PassFace) → GoesOnWell taken other → (theirs : List Pair)
+      → ((pairs : List Pair) → HasPairs other shot pairs → theirs ≡ pairs_between first last pairs)
+      → mine ≡ theirs
+  listed_alike other on theirs by =
+      let pairs = pairs_of (map_seen taken h.position) in
+      value h.position h.is_of
+      ∙ sym (by pairs (has_on taken other on shot pairs (of_pairs taken h.position shot lawful h.is_of)))
+
+-- a pass that met a note of another has learnt what that one knew
+pub told_well : (took taken note other : PassFace) → note ≡ noted took → taken ≡ took
+    → HasLearnt other note → Lawful other.tree.start other.tree.words other.seen
+    → GoesOnWell taken other
+told_well took taken note other noted_is same l lawful =
+    let value = noted_is ∙ ap noted (sym same) in
+    record {
+      tree = sym l.tree ∙ ap (λ (n : PassFace). n.tree) value;
+      seen = subst (λ (n : PassFace). GoesOn n.seen other.seen) value l.seen;
+      lawful = lawful;
+    }
+
+-- one pass took a shot and listed it, and another met its note and listed it too
+module _ (p took taken q note other : PassFace) (shot : Frozen) (h : HasTaken p took shot)
+    (noted_is : note ≡ noted took) (same : taken ≡ took)
+    (lawful : Lawful taken.tree.start taken.tree.words taken.seen) (looked : HasLooked taken q)
+    (lawful_now : Lawful q.tree.start q.tree.words q.seen) (learnt : HasLearnt other note)
+    (lawful_other : Lawful other.tree.start other.tree.words other.seen) (first last : ℕ)
+    (mine theirs : List Pair) (value : (position : ℕ) → IsOf taken position shot
+    → mine ≡ listed first last (map_seen taken position))
+    (by : (pairs : List Pair) → HasPairs other shot pairs
+    → theirs ≡ pairs_between first last pairs) where
+  its : HasTaken p taken shot
+  its = subst (λ t. HasTaken p t shot) (sym same) h
+
+  -- both lists are the same pairs
+  pub both_alike : mine ≡ theirs
+  both_alike =
+      listed_alike p taken q shot its lawful looked lawful_now first last mine value other
+      (told_well took taken note other noted_is same learnt lawful_other) theirs by
+
+  -- the taker's list is of one position
+  pub both_once : IsListOnce p q first last mine
+  both_once = listed_once p taken q shot its lawful looked lawful_now first last mine value

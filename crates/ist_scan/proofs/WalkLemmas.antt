@@ -7,16 +7,15 @@ use Rattle.std.proofs.lemmas.List.{length-take}
 use Rattle.std.proofs.lemmas.Option.{slice_get_past}
 use Rattle.ist_core.proofs.PieceLemmas.{slice_get-drop, slice_get-take}
 use Rattle.ist_core.specs.declared.pairs.Pair.{Pair}
-use Rattle.ist_core.specs.Lawful.{Lawful}
-use Rattle.ist_core.specs.Map.{pairs_between, pairs_of}
+use Rattle.ist_core.specs.Map.{pairs_between}
 use Rattle.ist_tree.specs.declared.freezing.Frozen.{Frozen}
 use Rattle.ist_tree.specs.Faces.{PassFace}
 use Rattle.ist_scan.specs.Cuts.{CutsAt, IsCut, part_of}
-use Rattle.ist_scan.specs.Shots.{HasLooked, HasPairs, IsOf, map_seen}
+use Rattle.ist_scan.specs.Shots.{HasLooked, HasPairs}
 use Rattle.ist_scan.specs.Walks.{WalkFace, AreOneWalk, HasBegun, HasWalked, WalksStay}
 use Rattle.ist_scan.proofs.CutLemmas.{cut_is, between_is, none_between}
 use Rattle.ist_scan.proofs.PairLemmas.{rise}
-use Rattle.ist_scan.proofs.ShotLemmas.{GoesOnWell, has_on, one_pairs, of_pairs}
+use Rattle.ist_scan.proofs.ShotLemmas.{GoesOnWell, has_on, one_pairs}
 
 -- walks stay
 pub walks_stay : WalksStay
@@ -179,14 +178,11 @@ pub walked : (p : PassFace) (w : WalkFace) → w.begun ≡ true → HasBegun p w
 walked p w begun b =
     record { fresh = λ not. absurd (false≢true (sym not ∙ begun)); way = λ _. b }
 
--- the pairs of a shot at its position, for a pass that has looked and a walk that goes on
-pub pairs_at : (p q : PassFace) (position : ℕ) (shot : Frozen) (v w : WalkFace)
-    → Lawful p.tree.start p.tree.words p.seen → HasLooked p q → AreOneWalk v w → v.shot ≡ shot
-    → IsOf p position shot → HasPairs q w.shot (pairs_of (map_seen p position))
-pairs_at p q position shot v w lawful looked one its o =
-    let pairs = pairs_of (map_seen p position) in
-    subst (λ s. HasPairs q s pairs) (sym (one.shot ∙ its))
-    (looked.pairs shot pairs (of_pairs p position shot lawful o))
+-- the pairs of a shot, for a pass that has looked and a walk that goes on
+pub pairs_now : (p q : PassFace) (shot : Frozen) (v w : WalkFace) → HasLooked p q → AreOneWalk v w
+    → v.shot ≡ shot → (pairs : List Pair) → HasPairs p shot pairs → HasPairs q w.shot pairs
+pairs_now p q shot v w looked one its pairs h =
+    subst (λ s. HasPairs q s pairs) (sym (one.shot ∙ its)) (looked.pairs shot pairs h)
 
 -- the pairs cut a walk that has begun
 record HasBegunBy (pairs : List Pair) (w : WalkFace) : Type 0 where

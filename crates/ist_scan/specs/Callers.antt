@@ -1,7 +1,8 @@
--- The result of a caller that takes a shot, goes on, and then reads the shot.
-use Rattle.std.specs.Prelude.{◌≡◌, ℕ, ◌≤◌, [], ◌∷◌, ◌++◌, length}
+-- The results of callers that take a shot, and read it later or by another pass.
+use Rattle.std.specs.Prelude.{◌≡◌, ℕ, ◌≤◌, List, [], ◌∷◌, ◌++◌, length}
 use Rattle.ist_core.specs.declared.calls.Call.{Call}
 use Rattle.ist_core.specs.declared.commands.Command.TheVariants.{Remove}
+use Rattle.ist_core.specs.declared.pairs.Pair.{Pair}
 use Rattle.ist_core.specs.Map.{listed}
 use Rattle.ist_tree.specs.Faces.{PassFace, changes_seen}
 use Rattle.ist_scan.specs.declared.totals.Total.{Total}
@@ -18,3 +19,11 @@ pub record IsTotalBefore (p q : PassFace) (first last key : ℕ) (total : Total)
   pub command_is : call.command ≡ Remove key
   pub calls_are : q.calls ≡ p.calls ++ call ∷ []
   pub behind : position ≤ call.position
+
+-- the pairs are the map's from the first key to the last, at one position that isn't before what
+-- the pass had seen
+pub record IsListOnce (p q : PassFace) (first last : ℕ) (pairs : List Pair) : Type 0 where
+  pub position : ℕ
+  pub fresh : length (changes_seen p) ≤ position
+  pub within : position ≤ length (changes_seen q)
+  pub pairs_are : pairs ≡ listed first last (map_seen q position)

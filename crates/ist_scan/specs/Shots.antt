@@ -62,3 +62,23 @@ abbrev pub LaterCallsComeBehind : Type 0
 LaterCallsComeBehind =
     (p q : PassFace) (position : ℕ) (shot : Frozen) (command : Command) (reply : Option ℕ)
     → IsOf p position shot → (added : AddsCall p q command reply) → position ≤ added.call.position
+
+-- a shot that is frozen stays so for each pass that has seen more, with the same pairs
+abbrev pub PairsStay : Type 0
+PairsStay =
+    (p q : PassFace) → q.tree ≡ p.tree → GoesOn p.seen q.seen
+    → Lawful q.tree.start q.tree.words q.seen → (shot : Frozen) → IsFrozenFor p shot
+    → IsFrozenFor q shot × ((pairs : List Pair) → HasPairs p shot pairs → HasPairs q shot pairs)
+
+-- a shot that is frozen has its pairs, and no others
+abbrev pub ShotsHavePairs : Type 0
+ShotsHavePairs =
+    (p : PassFace) → Lawful p.tree.start p.tree.words p.seen → (shot : Frozen) → IsFrozenFor p shot
+    → (found : List Pair) × HasPairs p shot found
+    × ((others : List Pair) → HasPairs p shot others → others ≡ found)
+
+-- if it is of a position, these are the pairs that the map has there
+abbrev pub PositionsHavePairs : Type 0
+PositionsHavePairs =
+    (p : PassFace) → Lawful p.tree.start p.tree.words p.seen → (position : ℕ) (shot : Frozen)
+    → IsOf p position shot → HasPairs p shot (pairs_of (map_seen p position))

@@ -2,7 +2,7 @@
 use Rattle.std.specs.Prelude.{ℕ, ◌+◌, ◌*◌, ◌-◌, min, max, List, [], ◌∷◌, length, Option, Some, None}
 use Rattle.std.specs.List.{sum_by}
 use Rattle.ist_core.specs.declared.pairs.Pair.{Pair}
-use Rattle.ist_core.specs.Map.{Map, listed}
+use Rattle.ist_core.specs.Map.{Map, listed, pairs_between}
 use Rattle.ist_scan.specs.declared.totals.Total.{Total}
 
 -- the lesser of a number and of another, if there is one
@@ -34,6 +34,11 @@ total_of pairs =
       least = least_of pairs;
       greatest = greatest_of pairs;
     }
+
+-- those of some pairs whose keys are in bin number j of this width, counted from a first key
+abbrev pub pairs_in_bin : List Pair → ℕ → ℕ → ℕ → List Pair
+pairs_in_bin pairs first width j =
+    pairs_between (first + j * width) (first + (j + 1) * width - 1) pairs
 
 -- what a map has in bin number j of this width, counted from a first key
 abbrev pub in_bin : Map → ℕ → ℕ → ℕ → List Pair

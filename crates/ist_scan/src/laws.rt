@@ -1,5 +1,6 @@
 //! Laws of shots. The functions take no steps and return nothing: their contracts are the laws.
-ghost use Rattle.ist_scan.specs.Shots.{ShotsStay, LaterCallsComeBehind};
+ghost use Rattle.ist_scan.specs.Shots.{ShotsStay, LaterCallsComeBehind, PairsStay};
+ghost use Rattle.ist_scan.specs.Shots.{ShotsHavePairs, PositionsHavePairs};
 ghost use Rattle.ist_scan.specs.Walks.{WalksStay};
 
 /// A shot stays of its position while its pass goes on, and for each pass that has learnt what that
@@ -8,4 +9,12 @@ pub fn shots_stay()
     ensures stay { ShotsStay }
     ensures walks { WalksStay }
     ensures behind { LaterCallsComeBehind }
+{}
+
+/// A shot that is frozen in what a pass has seen has one list of pairs there: the map's, if the shot
+/// is of a position for the pass. It has the same pairs for each pass that has seen more.
+pub fn shots_have_pairs()
+    ensures has { ShotsHavePairs }
+    ensures position { PositionsHavePairs }
+    ensures stay { PairsStay }
 {}

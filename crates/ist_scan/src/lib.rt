@@ -1,8 +1,8 @@
 //! Listing a tree while passes work on it: a shot is the map as it was at one position, which is
 //! listed, added up and walked over while puts and removes go on.
 //!
-//! `specs/Shots.antt` says what a shot is; `src/shots.rt` has the calls; `src/callers.rt` is a
-//! caller to start from. Of `ist_tree` only `freeze` and `frozen_pair` are used.
+//! `specs/Shots.antt` says what a shot is; `src/shots.rt` has the calls; `src/callers.rt` has
+//! callers to start from. Of `ist_tree` only `freeze` and `frozen_pair` are used.
 #![tactic(auto)]
 
 mod callers;
@@ -12,7 +12,7 @@ mod shots;
 mod totals;
 mod walks;
 
-pub use crate::callers::total_then_remove;
+pub use crate::callers::{ListFault, list_by_both, total_then_remove};
 pub use crate::shots::Shot;
 pub use crate::totals::Total;
 pub use crate::walks::Walk;

@@ -44,7 +44,8 @@ fn keys_of(shot: Frozen) -> u64
 }
 
 // Returns how many pairs of the shot have keys below the bound, by halving: with at most one look
-// more than the logarithm of the keys to base two.
+// more than the logarithm of the keys to base two. The looks are counted by the search itself. No
+// clause ties them to the loads that the pass made.
 pub(crate) fn count_below(tree: &Tree, pass: &mut Pass, shot: Frozen, bound: u128) -> Cut
     requires same_tree { pass.old.tree ≡ tree.now }
     requires frozen { IsFrozenFor pass.old shot }
@@ -52,7 +53,7 @@ pub(crate) fn count_below(tree: &Tree, pass: &mut Pass, shot: Frozen, bound: u12
     ensures within { result.count ≤ shot.keys }
     ensures cuts { (pairs : List Pair) → HasPairs pass.old shot pairs
         → CutsAt pairs bound result.count }
-    ensures few { 2 ^ result.looks ≤ 2 * shot.keys + 1 }
+    ensures halves { 2 ^ result.looks ≤ 2 * shot.keys + 1 }
 {
     let mut low = 0;
     let mut high = keys_of(shot);

@@ -9,7 +9,7 @@ ghost use Rattle.ist_tree.specs.Freezing.{IsFrozenFor, IsFreezeRefused, HasStart
 ghost use Rattle.ist_tree.specs.Refusals.{KeepsRefusal};
 ghost use Rattle.ist_scan.specs.Cuts.{part_of};
 ghost use Rattle.ist_scan.specs.Shots.{HasPairs, IsOf, HasTaken, HasLooked, map_seen};
-ghost use Rattle.ist_scan.specs.Totals.{total_of, in_bin};
+ghost use Rattle.ist_scan.specs.Totals.{total_of, in_bin, pairs_in_bin};
 
 use crate::looking::{Ends, ends_of, pair_at};
 use crate::totals::Total;
@@ -23,7 +23,8 @@ use std::marker::Model;
 ///
 /// Whatever other passes do, all that a shot returns is of that one position. Each call asks that
 /// the shot is frozen in what the pass has seen. This holds for the pass that took it, and for each
-/// pass that has learnt of that since.
+/// pass that has learnt of that since. Each such pass reads the pairs that the shot has in what it
+/// has seen (`by_pairs`): one list, the same for all of them.
 #[derive(Debug, Drop)]
 pub struct Shot {
     frozen: Frozen,
@@ -144,6 +145,8 @@ impl Shot {
         ensures looked { HasLooked pass.old pass.new }
         ensures list { IfOk result (λ v. (position : ℕ) → IsOf pass.old position self.now
             → v.items ≡ listed first last (map_seen pass.old position)) }
+        ensures by_pairs { IfOk result (λ v. (pairs : List Pair)
+            → HasPairs pass.old self.now pairs → v.items ≡ pairs_between first last pairs) }
     {
         pass.know();
         if first > last {
@@ -162,6 +165,8 @@ impl Shot {
         ensures looked { HasLooked pass.old pass.new }
         ensures total { (position : ℕ) → IsOf pass.old position self.now
             → result ≡ total_of (listed first last (map_seen pass.old position)) }
+        ensures by_pairs { (pairs : List Pair) → HasPairs pass.old self.now pairs
+            → result ≡ total_of (pairs_between first last pairs) }
     {
         pass.know();
         if first > last {
@@ -185,6 +190,9 @@ impl Shot {
             → (j : ℕ) → j < length out.old
             → slice_get out.new j
             ≡ Some (total_of (in_bin (map_seen pass.old position) first width j)) }
+        ensures by_pairs { (pairs : List Pair) → HasPairs pass.old self.now pairs
+            → (j : ℕ) → j < length out.old
+            → slice_get out.new j ≡ Some (total_of (pairs_in_bin pairs first width j)) }
     {
         pass.know();
         for j in 0..out.len() {

@@ -1,8 +1,9 @@
 //! A walk over the pairs of a shot, one at a time.
-ghost use Rattle.std.specs.Prelude.{◌≡◌, ℕ, ◌+◌, ◌*◌, ◌^◌, ◌≤◌, true, false, slice_get, OnSome, IfNone};
-ghost use Rattle.ist_core.specs.Map.{listed};
+ghost use Rattle.std.specs.Prelude.{◌≡◌, ℕ, ◌+◌, ◌*◌, ◌^◌, ◌≤◌, List, true, false, slice_get, OnSome, IfNone};
+ghost use Rattle.ist_core.specs.declared.pairs.Pair.{Pair};
+ghost use Rattle.ist_core.specs.Map.{listed, pairs_between};
 ghost use Rattle.ist_tree.specs.Freezing.{IsFrozenFor};
-ghost use Rattle.ist_scan.specs.Shots.{IsOf, HasLooked, map_seen};
+ghost use Rattle.ist_scan.specs.Shots.{HasPairs, IsOf, HasLooked, map_seen};
 ghost use Rattle.ist_scan.specs.Walks.{HasWalked, HasBegun, AreOneWalk};
 
 use crate::looking::{count_below, pair_at};
@@ -74,8 +75,8 @@ impl Walk {
         ensures given { self.new.given ≡ self.old.given }
         ensures begun { self.new.begun ≡ true }
         ensures way { HasBegun pass.new self.new }
-        ensures once { self.old.begun ≡ true → result ≡ 0 }
-        ensures few { 2 ^ result ≤ 2 * shot.keys + 1 }
+        ensures not_again { self.old.begun ≡ true → result ≡ 0 }
+        ensures halves { 2 ^ result ≤ 2 * shot.keys + 1 }
     {
         pass.know();
         if self.begun {
@@ -102,6 +103,8 @@ impl Walk {
         ensures one_walk { AreOneWalk self.old self.new }
         ensures pair { (position : ℕ) → IsOf pass.old position shot.now → result ≡ slice_get
             (listed self.old.first self.old.last (map_seen pass.old position)) self.old.given }
+        ensures by_pairs { (pairs : List Pair) → HasPairs pass.old shot.now pairs
+            → result ≡ slice_get (pairs_between self.old.first self.old.last pairs) self.old.given }
         ensures given { OnSome result (self.new.given ≡ self.old.given + 1) }
         ensures ended { IfNone result (self.new.given ≡ self.old.given) }
         ensures way { HasWalked pass.new self.new }

@@ -1,10 +1,8 @@
 -- A find from its beginning to its end, in the words of its steps. Serves `find`.
-use Rattle.std.proofs.Common.{◌≡◌, ℕ, ◌+◌, ◌≤◌, Option, Some, None, List, [], ◌∷◌, ◌++◌, refl, sym, ap, ap₂, ◌∙◌, subst, arith}
+use Rattle.std.proofs.Common.{◌≡◌, ℕ, ◌+◌, ◌≤◌, Option, Some, None, [], ◌∷◌, ◌++◌, refl, sym, ap, ap₂, ◌∙◌, subst, arith}
 use Rattle.std.specs.List.{sum_by}
-use Rattle.std.specs.FinMap as fin
 use Rattle.ist_core.specs.declared.calls.Call.{Call}
 use Rattle.ist_core.specs.declared.commands.Command.TheVariants.{Get}
-use Rattle.ist_core.specs.declared.pairs.Pair.{Pair}
 use Rattle.ist_core.specs.declared.ports.Full.{Full}
 use Rattle.ist_core.specs.Logs.{Log, GoesOn}
 use Rattle.ist_core.specs.Lawful.{Lawful, state_of}
@@ -12,7 +10,8 @@ use Rattle.ist_core.specs.Standing.{IsFresh}
 use Rattle.ist_core.proofs.FateLemmas.{grow_between}
 use Rattle.laws_walks.specs.Walking.{IsChainOf}
 use Rattle.laws_histories.specs.Calls.{HasCalls}
-use Rattle.laws_histories.specs.Searching.{HasPosition}
+use Rattle.laws_histories.specs.Searching.{HasPosition, Searched}
+use Rattle.laws_histories.proofs.LoadOnLemmas.{end_on}
 use Rattle.laws_histories.proofs.PositionOnLemmas.{position_on}
 use Rattle.laws_histories.proofs.WovenLemmas.{learnt_first}
 use Rattle.ist_rule.specs.declared.view.View.{View}
@@ -24,9 +23,9 @@ use Rattle.ist_rule.specs.Faces.{SeatFace}
 use Rattle.ist_rule.specs.Rule.{IsSound}
 use Rattle.ist_rule.specs.Learning.{Turned, beginning, ending}
 use Rattle.ist_rule.specs.Conditions.{CanBegin, CanEnd}
-use Rattle.ist_rule.proofs.LaterLemmas.{later-goes_on, later_more}
+use Rattle.ist_rule.proofs.LaterLemmas.{goes_on_length, later-goes_on, later_more}
 use Rattle.ist_rows.specs.declared.callers.Caller.{Caller}
-use Rattle.ist_find.specs.Searches.{HasSearched, HasFewLoads}
+use Rattle.ist_find.specs.Searches.{HasSearched, HasFound, HasFewLoads}
 use Rattle.ist_tree.specs.Faces.{PassFace}
 use Rattle.ist_tree.specs.Calls.{HasSeenMore, AddsCall, row_loads, HasLoadedFew}
 use Rattle.ist_tree.specs.Insides.{face_as, pass_face, IsPass, IsPassWith}
@@ -47,7 +46,7 @@ pub record FindEnds (old : PassFace) (who : Caller) (refused : Option Full) (sea
   pub seen : HasSeenMore old (face_as seat who.number refused)
   pub added : AddsCall old (face_as seat who.number refused) (Get key) value
   pub position : HasPosition old.tree.start old.tree.words old.seen seat.view.log key value
-  pub loads : HasLoadedFew old (face_as seat who.number refused) key
+  pub loads : HasLoadedFew old (face_as seat who.number refused) key value
   pub others : Later (CallerOf old.number) old.seen seat.view.log
 
 -- the view after a find
@@ -202,10 +201,12 @@ module _ (who : Caller) (key : ℕ) (value : Option ℕ) (b w : View) (s : IsSou
         (ap (λ (y : View). y.who) w_is ∙ p.caller.mine) ended.later)
 
     -- and few loads were made
-    pub has_loaded_few : (node : ℕ) → HasFewLoads b w key node
-        → HasLoadedFew (pass_face who refused) (face_as seat who.number refused) key
-    has_loaded_few node few =
+    pub has_loaded_few : (node index : ℕ) → HasFound w key node index value → HasFewLoads b w key node
+        → HasLoadedFew (pass_face who refused) (face_as seat who.number refused) key value
+    has_loaded_few node index found few =
         let now_lawful = lawful_behind v x later_view in
+        let searched = subst (λ (y : View). Searched y.start y.words w.log key w.loads.since node value)
+        w_is found.searched in
         let chain = subst (λ (y : View). IsChainOf y.start y.words w.log node few.rows) w_is few.chain
         in
         let cost = subst (λ (y : View). w.loaded ≤ b.loaded + 10
@@ -213,25 +214,31 @@ module _ (who : Caller) (key : ℕ) (value : Option ℕ) (b w : View) (s : IsSou
         let rise = costs_rise (state_of v.start v.words w.log) (state_of v.start v.words x.log)
         (grow_between v.start v.words w.log x.log now_lawful.enabled longer) key few.rows in
         let first = ap (λ (y : View). y.loaded) begun.view in
+        let early = goes_on_length (later-goes_on before) in
+        let late = seen.since in
         subst (λ (y : View). HasLoadedFew (pass_face who refused)
-        (face_as record { table = seat.table; view = y } who.number refused) key) (sym x_is)
+        (face_as record { table = seat.table; view = y } who.number refused) key value) (sym x_is)
         record {
+          began = w.loads.since;
+          since = omega (arith, early, late);
           node = node;
+          searched = end_on v.start v.words w.log x.log longer key w.loads.since node value searched;
           rows = few.rows;
           chain = chain_on v.start v.words w.log x.log now_lawful longer node few.rows chain;
           few = omega arith;
         }
 
     -- all of this together, for a pass with this face
-    pub find_ends : (old : PassFace) → pass_face who refused ≡ old → (node : ℕ) → HasFewLoads b w key node
+    pub find_ends : (old : PassFace) → pass_face who refused ≡ old → (node index : ℕ)
+        → HasFound w key node index value → HasFewLoads b w key node
         → FindEnds old who refused seat key value
-    find_ends old view node few =
+    find_ends old view node index found few =
         subst (λ (o : PassFace). FindEnds o who refused seat key value) view
         record {
           pass = ended_pass;
           seen = has_seen_more;
           added = adds_call;
           position = has_position;
-          loads = has_loaded_few node few;
+          loads = has_loaded_few node index found few;
           others = all_later;
         }

@@ -1,5 +1,6 @@
--- The passes that a maker took back: all that it made, each with its calls. Serves `close`.
-use Rattle.std.proofs.Common.{◌≡◌, ◌≢◌, ℕ, ◌+◌, ◌<◌, ◌⊎◌, if◌then◌else◌, List, [], ◌∷◌, map, length, slice_get, Some, refl, sym, ap, ◌∙◌, inl, inr, ⊎_elim, zero, suc, arith}
+-- The passes that a maker took back: all that it made, each with its calls. Serves `close`
+-- and `take_back`.
+use Rattle.std.proofs.Common.{◌≡◌, ◌≢◌, ℕ, ◌+◌, ◌<◌, ◌≤◌, ◌⊎◌, if◌then◌else◌, List, [], ◌∷◌, map, length, slice_get, Some, refl, sym, ap, ◌∙◌, subst, inl, inr, ⊎_elim, zero, suc, arith}
 use Rattle.std.proofs.lemmas.Bool.Decides.{eqb_tells}
 use Rattle.ist_core.specs.declared.pairs.Pair.{Pair}
 use Rattle.ist_core.specs.Elements.{Among, Each, Distinct}
@@ -7,10 +8,14 @@ use Rattle.ist_core.specs.Histories.{PassCalls}
 use Rattle.ist_core.specs.Logs.{Log}
 use Rattle.ist_core.specs.Resting.{AllStandIn}
 use Rattle.ist_core.specs.Standing.{StandsIn}
+use Rattle.ist_core.specs.Enabled.{caller_limit}
+use Rattle.ist_core.proofs.DrawLemmas.{callers_low}
 use Rattle.ist_core.proofs.YesLemmas.{distinct_below}
 use Rattle.ist_rule.specs.declared.view.Taken.{Taken}
+use Rattle.ist_rule.specs.declared.view.View.{View}
+use Rattle.ist_rule.specs.Rule.{IsSound}
 use Rattle.ist_tree.specs.Closing.{calls_numbered, calls_from}
-use Rattle.ist_tree.specs.Insides.{taken_pass}
+use Rattle.ist_tree.specs.Insides.{taken_pass, IsMaker}
 
 -- ---- numbers
 
@@ -101,3 +106,18 @@ pub each_get : {A : Type 0} (P : A → Type 0) (xs : List A)
     → ((i : ℕ) (x : A) → slice_get xs i ≡ Some x → P x) → Each P xs
 each_get P [] h = tt
 each_get P (x ∷ xs) h = (h 0 x refl, each_get P xs (λ i y e. h (suc i) y e))
+
+-- ---- how many there are
+
+-- a maker took back no more passes than it made, and made no more than the limit
+pub taken_few : (v : View) → IsSound v → IsMaker v
+    → (length (map taken_pass v.taken) ≤ v.made) × (v.made ≤ caller_limit)
+taken_few v s m =
+    let low = distinct_below v.given (map (λ (t : Taken). t.number) v.taken) s.well_made.taken_once
+    (each_number (λ n. n < v.given) v.taken s.well_made.taken_given) in
+    let long = numbers_long v.taken in
+    let given = m.given in (
+      omega (arith, low, long, given),
+      subst (λ n. n ≤ caller_limit) (sym (s.is_true.made m.maker).0)
+          (callers_low v.start v.words v.log s.lawful.enabled),
+    )

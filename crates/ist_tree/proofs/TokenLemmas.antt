@@ -1,8 +1,9 @@
--- New passes and notes. Serves `pass` and `note`.
-use Rattle.std.proofs.Common.{◌≡◌, ℕ, ◌&&◌, ◌||◌, not, Bool, true, false, if◌then◌else◌, List, [], ◌∷◌, map, filter, is_some, Option, Some, None, refl, sym, ap, ◌∙◌, subst, nat_lt}
+-- New passes and notes. Serves `pass`, `take_back`, `note` and `learn`.
+use Rattle.std.proofs.Common.{◌≡◌, ℕ, ◌+◌, ◌≤◌, ◌&&◌, ◌||◌, not, Bool, true, false, if◌then◌else◌, List, [], ◌∷◌, length, map, filter, is_some, Option, Some, None, refl, sym, ap, ◌∙◌, subst, nat_lt, suc, arith}
 use Rattle.ist_core.specs.declared.lists.HeldRow.{HeldRow}
 use Rattle.ist_core.specs.declared.ports.Full.{Full}
 use Rattle.ist_core.specs.Elements.{Each}
+use Rattle.ist_core.specs.Enabled.{caller_limit}
 use Rattle.ist_core.specs.Logs.{GoesOn, one_event}
 use Rattle.ist_core.specs.declared.events.Event.TheVariants.{Enter}
 use Rattle.ist_rule.specs.declared.view.Taken.{Taken}
@@ -18,9 +19,10 @@ use Rattle.ist_rows.specs.declared.callers.Caller.{Caller}
 use Rattle.ist_rows.specs.Rows.{spares_of, is_spare, held_by, IsCaller}
 use Rattle.ist_rows.specs.Building.{AreStuck, none_stuck}
 use Rattle.ist_rows.specs.Entering.{HasEntered}
-use Rattle.ist_tree.specs.Insides.{IsPass, IsPassWith, IsMakerWith, HasSettled, IsNote}
+use Rattle.ist_tree.specs.Insides.{IsPass, IsPassWith, IsMaker, IsMakerWith, IsMakerCounted, HasSettled, IsNote, taken_pass}
 use Rattle.ist_tree.proofs.BetweenLemmas.{has_its_calls}
 use Rattle.ist_tree.proofs.SettlingLemmas.{idle_settled}
+use Rattle.ist_tree.proofs.TakenLemmas.{taken_few}
 
 -- a caller that holds no row has no build that goes on
 pub new_pass : (who : Caller) → IsCaller who → held_by (now who.seat.view) who.number ≡ []
@@ -65,6 +67,18 @@ entered_maker v number w refused h maker given m =
           (sym h.view) (m.settled unrefused);
     }
 
+-- and counts the new one
+pub entered_counted : (v : View) (number : ℕ) (w : View) (refused : Bool) → HasEntered v number w
+    → w.who ≡ Maker → w.made ≡ v.made + 1 → w.given ≡ w.made → (made taken_back : ℕ)
+    → IsMakerCounted v refused made taken_back → (more : ℕ) → more ≡ v.made + 1
+    → IsMakerCounted w refused more taken_back
+entered_counted v number w refused h maker one given made taken_back m more is =
+    record {
+      with = entered_maker v number w refused h maker given m.with;
+      made_is = is ∙ sym one;
+      taken_is = m.taken_is ∙ sym (ap (λ (x : View). length (map taken_pass x.taken)) h.view);
+    }
+
 -- ---- passes that come back
 
 -- a pass that met no refused rebuild, or none is kept of
@@ -101,7 +115,65 @@ taken_back v w x number word before refused m mine its start_is words_is l =
           ));
     }
 
+-- and counts it
+pub back_long : (v w x : View) (number word : ℕ) → w.who ≡ CallerOf number
+    → Looked (joined v w) 0 word x
+    → length (map taken_pass x.taken) ≡ length (map taken_pass v.taken) + 1
+back_long v w x number word mine l =
+    let more : length (map taken_pass x.taken) ≡ suc (length (map taken_pass v.taken)) =
+    ap (λ (y : View). length (map taken_pass y.taken)) l.view
+    ∙ ap (λ k. length (map taken_pass (with_taken k w.calls w.log v.taken))) mine in
+    omega arith
+
+-- a maker that took a pass back has not taken back more than the limit
+pub back_few : (v w x : View) (number word : ℕ) (refused : Bool) (made back : ℕ)
+    → IsMakerCounted v refused made back → w.who ≡ CallerOf number → Looked (joined v w) 0 word x
+    → back + 1 ≤ caller_limit
+back_few v w x number word refused made back m mine l =
+    let maker : IsMaker x = record {
+      maker = ap (λ (y : View). y.who) l.view ∙ m.with.maker.maker;
+      given = ap (λ (y : View). y.given) l.view ∙ m.with.maker.given
+          ∙ sym (ap (λ (y : View). y.made) l.view);
+    } in
+    let few = taken_few x l.sound maker in
+    let long = back_long v w x number word mine l in
+    omega (arith, few.0, few.1, long, m.taken_is)
+
+-- and counts all that it took back
+pub back_counted : (v w x : View) (number word : ℕ) (before : Bool) (made back : ℕ)
+    → IsMakerCounted v before made back → w.who ≡ CallerOf number → Looked (joined v w) 0 word x
+    → (after : Bool) → IsMakerWith x after → (more : ℕ) → more ≡ back + 1
+    → IsMakerCounted x after made more
+back_counted v w x number word before made back m mine l after with more is =
+    let long = back_long v w x number word mine l in
+    record {
+      with = with;
+      made_is = m.made_is ∙ sym (ap (λ (y : View). y.made) l.view);
+      taken_is = omega (arith, long, m.taken_is, is);
+    }
+
 -- ---- notes
+
+-- a maker that learnt what a note holds keeps the passes that it took back
+pub learnt : (v w x : View) (word : ℕ) (refused : Bool) → IsMakerWith v refused → IsNote w
+    → Looked (joined v w) 0 word x → IsMakerWith x refused × (x.taken ≡ v.taken)
+learnt v w x word refused m note l =
+    let taken_is : x.taken ≡ v.taken = ap (λ (y : View). y.taken) l.view
+    ∙ ap (λ k. with_taken k w.calls w.log v.taken) note.of_pass in (
+      record {
+        maker = record {
+          maker = ap (λ (y : View). y.who) l.view ∙ m.maker.maker;
+          given = ap (λ (y : View). y.given) l.view ∙ m.maker.given
+              ∙ sym (ap (λ (y : View). y.made) l.view);
+        };
+        settled = λ unrefused.
+            subst (λ (y : View). Each (λ (t : Taken). HasSettled y.start y.words t.log t.number) x.taken)
+            (sym l.view)
+            (subst (Each (λ (t : Taken). HasSettled v.start v.words t.log t.number)) (sym taken_is)
+            (m.settled unrefused));
+      },
+      taken_is,
+    )
 
 -- no caller waits for its seat in the view of one
 awaits_none : (v : View) (number : ℕ) → v.who ≡ CallerOf number → awaits_seat v ≡ false

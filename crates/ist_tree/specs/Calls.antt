@@ -1,6 +1,6 @@
 -- How a pass goes on: what it has seen and learnt, which call was added to it, how its calls are
 -- woven with the calls of another.
-use Rattle.std.specs.Prelude.{◌≡◌, ℕ, ◌+◌, ◌≤◌, List, [], ◌∷◌, ◌++◌, Option}
+use Rattle.std.specs.Prelude.{◌≡◌, ℕ, ◌+◌, ◌≤◌, List, [], ◌∷◌, ◌++◌, length, Option}
 use Rattle.std.specs.List.{sum_by}
 use Rattle.ist_core.specs.declared.calls.Call.{Call}
 use Rattle.ist_core.specs.declared.commands.Command.{Command}
@@ -17,6 +17,7 @@ use Rattle.laws_progress.specs.Progress.{progress}
 use Rattle.ist_math.specs.Guess.{guess_in, distance}
 use Rattle.laws_histories.specs.Calls.{IsAdded}
 use Rattle.laws_histories.specs.Placing.{HasPlaces}
+use Rattle.laws_histories.specs.Searching.{Searched}
 use Rattle.laws_walks.specs.Walking.{IsChainOf}
 use Rattle.ist_find.specs.Searches.{keys_in}
 use Rattle.ist_tree.specs.Faces.{PassFace, changes_seen, calls_in, HasItsCalls}
@@ -82,9 +83,14 @@ row_loads t key row =
     let keys = keys_in (as_inner (t.pieces row)) in
     distance (guess_in keys key) (child_count keys key) + 12
 
--- the pass made few loads: at most 12, and what the rows on the chain of one node cost
-pub record HasLoadedFew (p q : PassFace) (key : ℕ) : Type 0 where
+-- the pass made one search for the key, which began after what it had seen before and ended at a
+-- slot of this node with this value. It made few loads: at most 12, and what the rows on the
+-- node's chain cost
+pub record HasLoadedFew (p q : PassFace) (key : ℕ) (value : Option ℕ) : Type 0 where
+  pub began : ℕ
+  pub since : length p.seen ≤ began
   pub node : ℕ
+  pub searched : Searched q.tree.start q.tree.words q.seen key began node value
   pub rows : List ℕ
   pub chain : IsChainOf q.tree.start q.tree.words q.seen node rows
   pub few : let t = state_of q.tree.start q.tree.words q.seen in

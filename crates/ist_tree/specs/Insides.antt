@@ -1,5 +1,5 @@
 -- What the tokens of a tree are inside: which seat each has, and what contracts see of it.
-use Rattle.std.specs.Prelude.{◌≡◌, ℕ, Bool, false, List, map, Option, Some, None, IfSome}
+use Rattle.std.specs.Prelude.{◌≡◌, ℕ, Bool, false, List, length, map, Option, Some, None, IfSome}
 use Rattle.ist_core.specs.declared.commands.Command.{Command}
 use Rattle.ist_core.specs.declared.pairs.Pair.{Pair}
 use Rattle.ist_core.specs.declared.ports.Full.{Full}
@@ -113,6 +113,12 @@ pub record IsMakerWith (v : View) (refused : Bool) : Type 0 where
   pub maker : IsMaker v
   pub settled : refused ≡ false
       → Each (λ t. HasSettled v.start v.words t.log t.number) v.taken
+
+-- the seat is such a maker's, and these are how many passes it made and how many it took back
+pub record IsMakerCounted (v : View) (refused : Bool) (made taken_back : ℕ) : Type 0 where
+  pub with : IsMakerWith v refused
+  pub made_is : made ≡ v.made
+  pub taken_is : taken_back ≡ length (map taken_pass v.taken)
 
 -- ---- ports
 

@@ -1,5 +1,6 @@
 //! The tokens by which threads share a tree: the maker of passes, a pass, a note.
-ghost use Rattle.std.specs.Prelude.{◌≡◌};
+ghost use Rattle.std.specs.Prelude.{◌≡◌, ◌≤◌, length};
+ghost use Rattle.ist_core.specs.Enabled.{caller_limit};
 ghost use Rattle.ist_core.specs.Lawful.{Lawful};
 
 use ist_core::Full;
@@ -15,17 +16,46 @@ use std::marker::Model;
 pub struct Maker {
     pub(crate) seat: TreeSeat,
     pub(crate) refused: bool,
+    pub(crate) made: u64,
+    pub(crate) taken_back: u64,
 }
 
 impl Model for Maker {
     ghost use Rattle.ist_tree.specs.Faces.{MakerFace};
-    ghost use Rattle.ist_tree.specs.Insides.{maker_face, IsMakerWith};
+    ghost use Rattle.ist_tree.specs.Insides.{maker_face, IsMakerCounted};
 
     ghost Value = { MakerFace };
 
     ghost view = { λ m. maker_face m.seat m.refused };
 
-    ghost invariant = { λ m. IsMakerWith m.seat.view m.refused };
+    ghost invariant = { λ m. IsMakerCounted m.seat.view m.refused m.made m.taken_back };
+}
+
+impl Maker {
+    /// Returns how many passes it made.
+    pub fn made(&self) -> u64
+        ensures value { result ≡ self.now.made }
+    {
+        self.made
+    }
+
+    /// Returns how many passes it took back. Once these are as many as it made, the tree may be
+    /// closed.
+    pub fn taken_back(&self) -> u64
+        ensures value { result ≡ length self.now.taken }
+    {
+        self.taken_back
+    }
+
+    /// For proofs only: what the maker has seen is lawful, it took back no more passes than it
+    /// made, and it made no more than the limit. It costs nothing.
+    pub fn know(&self)
+        ensures lawful { let m = self.now in Lawful m.tree.start m.tree.words m.seen }
+        ensures back { length self.now.taken ≤ self.now.made }
+        ensures few { self.now.made ≤ caller_limit }
+    {
+        know(&self.seat);
+    }
 }
 
 /// A thread's handle to call the tree with.

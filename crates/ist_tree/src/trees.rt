@@ -93,6 +93,8 @@ impl Tree {
             Maker {
                 seat,
                 refused: false,
+                made: 0,
+                taken_back: 0,
             },
         ))
     }
@@ -114,6 +116,7 @@ impl Tree {
         ensures refused { maker.new.refused ≡ maker.old.refused }
     {
         let caller = enter(&self.table, &mut maker.seat);
+        maker.made = u64::from(caller.number) + 1;
         know(&caller.seat);
         Pass {
             caller,
@@ -138,6 +141,7 @@ impl Tree {
         let Pass { caller, refused } = pass;
         let Caller { seat, .. } = caller;
         join(&self.table, &mut maker.seat, seat);
+        maker.taken_back += 1;
         maker.refused |= refused.is_some();
     }
 
@@ -170,6 +174,24 @@ impl Tree {
         join(&self.table, &mut pass.caller.seat, seat);
     }
 
+    /// Lets the maker learn what the note holds. Each pass that it makes from then on has seen all
+    /// of that, so that its calls come after each call that the note keeps.
+    pub fn learn(&self, maker: &mut Maker, note: Note)
+        requires same_tree { maker.old.tree ≡ self.now }
+        requires its_tree { note.tree ≡ self.now }
+        ensures same_tree { maker.new.tree ≡ maker.old.tree }
+        ensures made { maker.new.made ≡ maker.old.made }
+        ensures taken { maker.new.taken ≡ maker.old.taken }
+        ensures seen { GoesOn maker.old.seen maker.new.seen }
+        ensures stamp { maker.old.stamp ≤ maker.new.stamp }
+        ensures note_seen { GoesOn note.seen maker.new.seen }
+        ensures note_stamp { note.stamp ≤ maker.new.stamp }
+        ensures refused { maker.new.refused ≡ maker.old.refused }
+    {
+        let Note { seat } = note;
+        join(&self.table, &mut maker.seat, seat);
+    }
+
     /// Returns the value of the key, if it has one. Never allocates, always returns.
     ///
     /// The call is added to the calls of the pass: the map has this value for the key after some
@@ -180,7 +202,7 @@ impl Tree {
         ensures added { AddsCall pass.old pass.new (Get key) result }
         ensures value { let tree = pass.old.tree in
             HasPosition tree.start tree.words pass.old.seen pass.new.seen key result }
-        ensures loads { HasLoadedFew pass.old pass.new key }
+        ensures loads { HasLoadedFew pass.old pass.new key result }
         ensures refused { pass.new.refused ≡ pass.old.refused }
     {
         let seat = &mut pass.caller.seat;

@@ -1,6 +1,7 @@
-use Rattle.std.proofs.Common.{◌≡◌, ℕ, ◌<◌, length, slice_get, Some}
-use Rattle.ist_scan.specs.Shots.{HasLooked, IsOf, map_seen}
-use Rattle.ist_scan.specs.Totals.{total_of, in_bin}
+use Rattle.std.proofs.Common.{◌≡◌, ℕ, ◌<◌, List, length, slice_get, Some}
+use Rattle.ist_core.specs.declared.pairs.Pair.{Pair}
+use Rattle.ist_scan.specs.Shots.{HasLooked, HasPairs}
+use Rattle.ist_scan.specs.Totals.{total_of, pairs_in_bin}
 use Rattle.ist_scan.proofs.shots.Shot.bins.Given as goal
 
 -- the bins so far are the shot's
@@ -8,6 +9,6 @@ abbrev pub invariant-loop-j : goal.invariant-loop-j
 invariant-loop-j l = record {
   looked : HasLooked l.fn.pass l.pass;
   long : length l.out ≡ length l.fn.out;
-  bins : (position : ℕ) → IsOf l.fn.pass position l.self → (k : ℕ) → k < l.j
-      → slice_get l.out k ≡ Some (total_of (in_bin (map_seen l.fn.pass position) l.first l.width k));
+  bins : (pairs : List Pair) → HasPairs l.fn.pass l.self pairs → (k : ℕ) → k < l.j
+      → slice_get l.out k ≡ Some (total_of (pairs_in_bin pairs l.first l.width k));
 }

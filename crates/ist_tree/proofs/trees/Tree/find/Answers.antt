@@ -30,7 +30,8 @@ ends c =
     c.find_from_anchor-found.ensures.value c.end_call.new.seat c.pass.inside.refused c.pass.invariant
     (c.end_call.ensures.same_table ∙ c.find_from_anchor-found.ensures.same_table
     ∙ c.begin_call.ensures.same_table) c.end_call.ensures.ended _ c.pass.view_is
-    c.find_from_anchor-found.result.node c.find_from_anchor-found.ensures.loads
+    c.find_from_anchor-found.result.node c.find_from_anchor-found.result.index
+    c.find_from_anchor-found.ensures.found c.find_from_anchor-found.ensures.loads
 
 pub invariant_of-pass : goal.invariant_of-pass
 invariant_of-pass c = (ends c).pass

@@ -1,8 +1,8 @@
 -- A new pass is a caller that was entered now.
-use Rattle.std.proofs.Common.{subst}
+use Rattle.std.proofs.Common.{◌+◌, subst, arith}
 use Rattle.ist_core.specs.Logs.{GoesOn}
 use Rattle.ist_tree.specs.Faces.{MakerFace}
-use Rattle.ist_tree.proofs.TokenLemmas.{new_pass_with, entered_goes_on, entered_maker}
+use Rattle.ist_tree.proofs.TokenLemmas.{new_pass_with, entered_goes_on, entered_counted}
 use Rattle.ist_tree.proofs.trees.Tree.pass.Goals as goal
 
 pub invariant_of-result : goal.invariant_of-result
@@ -13,9 +13,10 @@ invariant_of-result c =
 
 pub invariant_of-maker : goal.invariant_of-maker
 invariant_of-maker c =
-    entered_maker c.maker.inside.seat.view _ c.enter-caller.new.maker.view c.maker.inside.refused
-    c.enter-caller.ensures.entered c.enter-caller.ensures.made.0 c.enter-caller.ensures.given
-    c.maker.invariant
+    entered_counted c.maker.inside.seat.view _ c.enter-caller.new.maker.view c.maker.inside.refused
+    c.enter-caller.ensures.entered c.enter-caller.ensures.made.0 c.enter-caller.ensures.made.1
+    c.enter-caller.ensures.given c.maker.inside.made c.maker.inside.taken_back c.maker.invariant
+    (c.from.result + 1) (omega (arith, c.from.ensures, c.enter-caller.ensures.number))
 
 pub returns-clause-maker_seen : goal.returns-clause-maker_seen
 returns-clause-maker_seen c =
