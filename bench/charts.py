@@ -44,7 +44,7 @@ def rows_of(path):
     """Returns the cells that bench/tree.sh wrote, with numbers as numbers."""
     with open(path, newline="") as file:
         rows = list(csv.DictReader(file, delimiter="\t"))
-    return [{key: it if key in ("spread", "program") else int(it) for key, it in row.items()} for row in rows]
+    return [{key: it if key in ("spread", "further", "program") else int(it) for key, it in row.items()} for row in rows]
 
 
 def programs_of(rows):
@@ -87,7 +87,7 @@ def throughput(rows, where):
 
 
 def finds(rows, where):
-    alone = [it for it in rows if (it["puts"], it["removes"], it["width"], it["spread"], it["threads"]) == (0, 0, 0, "uniform", 1)]
+    alone = [it for it in rows if (it["puts"], it["removes"], it["further"], it["spread"], it["threads"]) == (0, 0, "", "uniform", 1)]
     figure, axes = pyplot.subplots(figsize=(7.2, 4.6))
     draw(axes, alone, "keys", lambda it: 1e9 / it["calls"])
     axes.set_xscale("log")

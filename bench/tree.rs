@@ -1,6 +1,6 @@
 //! What `bench/tree.sh` measures `try_bench` beside: the same calls on a `BTreeMap` under a lock that many may read at once. With
-//! `--width` a find is an ordered read, as of `try_bench`.
-use std::collections::BTreeMap;
+//! `--width` a find is an ordered read, as of `try_bench`; with `--expects 1` a put is conditional, by the map's entry.
+use std::collections::btree_map::{BTreeMap, Entry};
 use std::sync::RwLock;
 use std::time::Instant;
 
@@ -45,6 +45,7 @@ fn main() {
     let keys = number("--keys", 1000);
     let span = number("--span", keys);
     let width = number("--width", 0);
+    let expects = number("--expects", 0) == 1;
     let all = puts + removes + finds;
     let map: BTreeMap<u64, u64> = (0..keys).map(|it| (key_of(spread, it), it)).collect();
     let map = RwLock::new(map);
@@ -60,7 +61,13 @@ fn main() {
                         let drawn = draws.next() % all;
                         let number = draws.next() % span;
                         let key = key_of(spread, number);
-                        let answer = if drawn < puts {
+                        let answer = if drawn < puts && expects {
+                            match map.write().expect("a lock").entry(key) {
+                                Entry::Occupied(mut it) if *it.get() == number => Some(it.insert(number)),
+                                Entry::Occupied(it) => Some(*it.get()),
+                                Entry::Vacant(_) => None,
+                            }
+                        } else if drawn < puts {
                             map.write().expect("a lock").insert(key, number)
                         } else if drawn < puts + removes {
                             map.write().expect("a lock").remove(&key)

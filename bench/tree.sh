@@ -8,7 +8,7 @@
 #
 #     --beside OLD      another version of the program, which has turns too. It has no cell where it doesn't know an option
 #     --peers           ordered maps of other libraries have turns too, as far as g++ and javac find them here: bench/peers
-#     --only TABLE      finds, puts, mixes or reads, and not all four
+#     --only TABLE      finds, puts, mixes, conditional or reads, and not all five
 #     --turns N         turns of each program in each row (3)
 #     --seed SEED       what all calls are drawn from (1)
 #     --figures FILE    each cell is written there too, for bench/charts.py
@@ -42,7 +42,7 @@ all=$(mktemp -d "${TMPDIR:-/tmp}/tree.XXXXXX")
 trap 'rm -rf "$all"' EXIT
 priority=()
 chrt -f 50 true 2>/dev/null && priority=(chrt -f 50)
-printf 'spread\tkeys\tspan\tthreads\tputs\tremoves\tfinds\twidth\tprogram\tcalls\tns\n' >"$figures"
+printf 'spread\tkeys\tspan\tthreads\tputs\tremoves\tfinds\tfurther\tprogram\tcalls\tns\n' >"$figures"
 
 # The programs by their columns, each with its command.
 columns=(tree)
@@ -74,15 +74,14 @@ median() {
 }
 
 # One row: what it is, then spread, keys at the opening, keys that are drawn, threads, calls of each, shares of puts, removes and finds,
-# words of the tree, and width. A program whose option --width isn't known has no ordered reads.
+# words of the tree, and further options.
 row() {
-    local name=$1 words=(--spread "$2" --keys "$3" --span "$4" --threads "$5" --calls "$6" --puts "$7" --removes "$8" --finds "$9")
-    local size=${10} width=${11-0} line="| $1 | $3 | $5 |" it number
+    local words=(--spread "$2" --keys "$3" --span "$4" --threads "$5" --calls "$6" --puts "$7" --removes "$8" --finds "$9" "${@:11}")
+    local size=${10} further=${*:11} line="| $1 | $3 | $5 |" it number
     for ((number = 0; number < turns; number++)); do
         for it in "${columns[@]}"; do
             local given=("${words[@]}")
             case $it in tree | before) given+=(--words "$size") ;; esac
-            [ "$width" = 0 ] || given+=(--width "$width")
             # (a command may have words of its own)
             turn ${command[$it]} "${given[@]}" >>"$all/said.$it"
         done
@@ -92,7 +91,7 @@ row() {
             local calls ns
             calls=$(median "$all/said.$it" 1) ns=$(median "$all/said.$it" 2)
             line+=$(awk -v calls="$calls" -v ns="$ns" 'BEGIN { printf " %.3g, %d |", calls / 1e6, ns }')
-            printf '%s\t' "$2" "$3" "$4" "$5" "$7" "$8" "$9" "$width" "$it" "$calls" >>"$figures"
+            printf '%s\t' "$2" "$3" "$4" "$5" "$7" "$8" "$9" "$further" "$it" "$calls" >>"$figures"
             echo "$ns" >>"$figures"
         else
             line+=' |'
@@ -130,16 +129,23 @@ if table mixes; then
         row 'puts, finds: 1, 9' uniform $keys $keys 4 1000000 1 0 9 134217728
     done
 fi
+# Other libraries are asked neither for conditional puts nor for ordered reads.
+columns=(tree)
+[ -z "$old" ] || columns+=(before)
+columns+=(map)
+if table conditional; then
+    for keys in 1000 100000 1000000; do
+        for threads in 1 4; do
+            row 'conditional puts' uniform $keys $keys $threads $((1000000 / threads)) 1 0 0 134217728 --expects 1
+        done
+    done
+fi
 if table reads; then
-    # Other libraries aren't asked for ordered reads.
-    columns=(tree)
-    [ -z "$old" ] || columns+=(before)
-    columns+=(map)
     for keys in 10000 1000000; do
         # as many numbers as lie from one key to the next, in the mean: 2^64 / keys
         gap=$((9223372036854775807 / keys * 2))
-        row 'the next pair' uniform $keys $keys 1 2000000 0 0 1 33554432 1
-        row '100 pairs' uniform $keys $keys 1 200000 0 0 1 33554432 $((100 * gap))
+        row 'the next pair' uniform $keys $keys 1 2000000 0 0 1 33554432 --width 1
+        row '100 pairs' uniform $keys $keys 1 200000 0 0 1 33554432 --width $((100 * gap))
     done
-    row '10,000 pairs' uniform 1000000 1000000 1 4000 0 0 1 33554432 $((10000 * gap))
+    row '10,000 pairs' uniform 1000000 1000000 1 4000 0 0 1 33554432 --width $((10000 * gap))
 fi

@@ -7,3 +7,7 @@ pub mod SearchLemmas
 pub mod CostLemmas
 pub mod SpanLemmas
 pub mod EdgeLemmas
+pub mod SweepLemmas
+pub mod SlotEndLemmas
+pub mod SlotSawLemmas
+pub mod SweepingLemmas

@@ -68,7 +68,7 @@ has_searched v b w t g =
 -- ---- the end
 
 -- a log that goes on keeps at each length what it was
-log_stays : (log longer : Log) → GoesOn log longer → (n : ℕ) → n ≤ length log
+pub log_stays : (log longer : Log) → GoesOn log longer → (n : ℕ) → n ≤ length log
     → log_at longer n ≡ log_at log n
 log_stays log _ same_log n h = refl
 log_stays log _ (one_event {log = rest} event g) n h =

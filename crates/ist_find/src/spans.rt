@@ -48,7 +48,7 @@ fn first_of(table: &TreeTable, seat: &mut TreeSeat, node: u32, index: u64, first
 }
 
 // The greatest key up to `last` that isn't above the child's keys.
-fn last_of(
+pub(crate) fn last_of(
     table: &TreeTable,
     seat: &mut TreeSeat,
     node: u32,
@@ -212,7 +212,7 @@ fn leaf_pair(table: &TreeTable, seat: &mut TreeSeat, base: u32) -> Pair
 }
 
 // The pair in the slot, if it holds a leaf.
-fn end_pair(table: &TreeTable, seat: &mut TreeSeat, reference: Ref) -> Option<Pair>
+pub(crate) fn end_pair(table: &TreeTable, seat: &mut TreeSeat, reference: Ref) -> Option<Pair>
     requires same_table { seat.old.table ≡ table.now.table }
     requires end { IsEnd seat.old.view (ref_meant reference) }
     ensures same_table { seat.new.table ≡ seat.old.table }
@@ -229,7 +229,7 @@ fn end_pair(table: &TreeTable, seat: &mut TreeSeat, reference: Ref) -> Option<Pa
 }
 
 // The pair, if its key lies between the ends.
-fn pair_within(pair: Option<Pair>, ends: Ends) -> Option<Pair>
+pub(crate) fn pair_within(pair: Option<Pair>, ends: Ends) -> Option<Pair>
     ensures within { IfSome result (λ p. (ends.first ≤ p.key) × (p.key ≤ ends.last)) }
     ensures value { (k : ℕ) → ends.first ≤ k → k ≤ ends.last
         → pair_value result k ≡ pair_value pair k }

@@ -3,8 +3,9 @@ use Rattle.std.proofs.Common.{◌≡◌, ◌≢◌, ℕ, ◌+◌, ◌<◌, ◌�
 use Rattle.std.proofs.lemmas.Bool.{cases_lt}
 use Rattle.std.proofs.lemmas.Bool.Decides.{eqb_tells}
 use Rattle.ist_core.specs.declared.pairs.Pair.{Pair}
+use Rattle.ist_find.specs.Sweeps.{one_of}
 use Rattle.ist_tree.specs.Faces.{PassFace}
-use Rattle.ist_live.specs.Reading.{Begins, HasRead, Had, HadNone, HasReadSpan, ReadsUp, ReadsDown, one_of, span_up, none_down, span_down}
+use Rattle.ist_live.specs.Reading.{Begins, HasRead, Had, HadNone, HasReadSpan, ReadsUp, ReadsDown, span_up, none_down, span_down}
 use Rattle.ist_live.specs.Lists.{value_among}
 use Rattle.ist_live.specs.Ends.{IsNextUp, IsNextDown, end_up, end_down}
 use Rattle.ist_live.proofs.ReadLemmas.{read_not, read_more, had_before, had_after, up_to_pair, down_to_pair}

@@ -1,4 +1,6 @@
 pub mod ReadLemmas
+pub mod SlotLemmas
 pub mod ListLemmas
 pub mod EndLemmas
 pub mod TurnLemmas
+pub mod MomentLemmas

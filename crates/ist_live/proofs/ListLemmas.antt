@@ -8,8 +8,10 @@ use Rattle.ist_core.specs.declared.pairs.Pair.{Pair}
 use Rattle.ist_core.specs.Elements.{Each}
 use Rattle.ist_core.proofs.ElementLemmas.{each_append}
 use Rattle.ist_tree.specs.Faces.{PassFace}
-use Rattle.ist_live.specs.Reading.{HasRead, Had, HasReadSpan, ReadsUp, one_of, none_up, span_up}
+use Rattle.ist_find.specs.Sweeps.{one_of}
+use Rattle.ist_live.specs.Reading.{HasRead, Had, ReadsUp}
 use Rattle.ist_live.specs.Lists.{value_among, AreLive}
+use Rattle.ist_live.proofs.SlotLemmas.{HasReadSlot, SweepsUp, none_up, later_up, slot_up, slots_of}
 use Rattle.ist_live.proofs.ReadLemmas.{read_not, read_more, had_before, had_after}
 
 -- a pair of another key gives the key nothing
@@ -104,17 +106,16 @@ each_higher [] from to h e = tt
 each_higher (x ∷ pairs) from to h e = let less = e.0 in (omega arith, each_higher pairs from to h e.1)
 
 -- those of one span more
-module _ (p m q : PassFace) (first asked from behind : ℕ) (pairs : List Pair)
+module _ (p m q : PassFace) (first from behind : ℕ) (pairs : List Pair)
     (h : Listed p m first from pairs) where
   before : HasRead m q → (k : ℕ) → first ≤ k → k < from → Had p q k (value_among pairs k)
   before r k low high = had_after p m q r k (value_among pairs k) (h.values k low high)
 
-  listed_on : (pair : Option Pair) → HasReadSpan m q asked from behind pair
+  listed_on : (pair : Option Pair) → HasReadSlot m q from behind pair
       → Listed p q first behind (pairs ++ one_of pair)
   listed_on None s =
       let above = h.above in
-      let low = s.low in
-      let high = s.high in
+      let some = s.some in
       subst (Listed p q first behind) (sym (append-nil pairs)) record {
         read = read_more p m q h.read s.read;
         above = omega arith;
@@ -128,8 +129,7 @@ module _ (p m q : PassFace) (first asked from behind : ℕ) (pairs : List Pair)
       }
   listed_on (Some x) s =
       let above = h.above in
-      let low = s.low in
-      let high = s.high in
+      let some = s.some in
       let least = s.within.0 in
       let most = s.within.1 in
       record {
@@ -146,12 +146,33 @@ module _ (p m q : PassFace) (first asked from behind : ℕ) (pairs : List Pair)
             (cases_lt k from);
       }
 
+-- the same keys at a later moment
+listed_later : (p m q : PassFace) (first behind : ℕ) (pairs : List Pair)
+    → Listed p m first behind pairs → HasRead m q → Listed p q first behind pairs
+listed_later p m q first behind pairs h r =
+    record {
+      read = read_more p m q h.read r;
+      above = h.above;
+      rise = h.rise;
+      low = h.low;
+      within = h.within;
+      values = λ k low high. had_after p m q r k (value_among pairs k) (h.values k low high);
+    }
+
+-- those of all slots
+pub all_swept : (p : PassFace) (first : ℕ) (q : PassFace) (behind : ℕ) (pairs : List Pair)
+    → SweepsUp p first q behind pairs → Listed p q first behind pairs
+all_swept p first _ _ _ none_up = listed_none p first
+all_swept p first q behind pairs (later_up {m = m} s r) =
+    listed_later p m q first behind pairs (all_swept p first m behind pairs s) r
+all_swept p first q behind _ (slot_up {m = m} {from = from} {pairs = pairs} pair s r) =
+    listed_on p m q first from behind pairs (all_swept p first m from pairs s) pair r
+
 -- those of all spans
 pub all_up : (p : PassFace) (first : ℕ) (q : PassFace) (behind : ℕ) (pairs : List Pair)
     → ReadsUp p first q behind pairs → Listed p q first behind pairs
-all_up p first _ _ _ none_up = listed_none p first
-all_up p first q behind _ (span_up {m = m} {from = from} {pairs = pairs} pair r begins s) =
-    listed_on p m q first from from behind pairs (all_up p first m from pairs r) pair s
+all_up p first q behind pairs r =
+    all_swept p first q behind pairs (slots_of p first q behind pairs r)
 
 -- the pairs lie between both ends
 each_both : (pairs : List Pair) (first last : ℕ) → Each (λ x. first ≤ x.key) pairs
@@ -162,9 +183,9 @@ each_both (x ∷ pairs) first last a b =
 
 -- all keys up to the last one were read
 pub all_live : (p q : PassFace) (first last : ℕ) (pairs : List Pair)
-    → ReadsUp p first q (last + 1) pairs → AreLive p q first last pairs
+    → SweepsUp p first q (last + 1) pairs → AreLive p q first last pairs
 all_live p q first last pairs r =
-    let h = all_up p first q (last + 1) pairs r in
+    let h = all_swept p first q (last + 1) pairs r in
     record {
       rise = h.rise;
       within = each_both pairs first last h.within h.low;

@@ -4,10 +4,12 @@ use Rattle.ist_core.specs.declared.pairs.Pair.{Pair}
 use Rattle.ist_core.specs.Elements.{Among}
 use Rattle.ist_core.proofs.ElementLemmas.{among-append, each-among}
 use Rattle.ist_tree.specs.Faces.{PassFace}
-use Rattle.ist_live.specs.Reading.{Had, HasReadSpan, ReadsUp, one_of, none_up, span_up}
+use Rattle.ist_find.specs.Sweeps.{one_of}
+use Rattle.ist_live.specs.Reading.{HasRead, Had}
 use Rattle.ist_live.specs.Lists.{HadInTurn}
+use Rattle.ist_live.proofs.SlotLemmas.{HasReadSlot, SweepsUp, none_up, later_up, slot_up}
 use Rattle.ist_live.proofs.ReadLemmas.{read_more, had_before, had_after}
-use Rattle.ist_live.proofs.ListLemmas.{all_up}
+use Rattle.ist_live.proofs.ListLemmas.{all_swept}
 use Rattle.ist_live.proofs.EndLemmas.{own_key}
 
 -- a span has one pair at most
@@ -18,32 +20,47 @@ one_same (Some z) x y (inr a) b = absurd a
 one_same None x y a b = absurd a
 
 -- which was in the map at a position of its search
-span_had : (m q : PassFace) (asked from behind : ℕ) (pair : Option Pair)
-    → HasReadSpan m q asked from behind pair → (x : Pair) → Among x (one_of pair)
+span_had : (m q : PassFace) (from behind : ℕ) (pair : Option Pair)
+    → HasReadSlot m q from behind pair → (x : Pair) → Among x (one_of pair)
     → (from ≤ x.key) × Had m q x.key (Some x.value)
-span_had m q asked from behind (Some y) s x (inl e) =
+span_had m q from behind (Some y) s x (inl e) =
     subst (λ z. (from ≤ z.key) × Had m q z.key (Some z.value)) (sym e)
     (s.within.0, subst (Had m q y.key) (own_key y) (s.values y.key s.within.0 s.within.1))
-span_had m q asked from behind (Some y) s x (inr a) = absurd a
-span_had m q asked from behind None s x a = absurd a
+span_had m q from behind (Some y) s x (inr a) = absurd a
+span_had m q from behind None s x a = absurd a
 
 module _ (p : PassFace) (first : ℕ) where
   -- each pair that was read was in the map at a position
-  pair_had : (q : PassFace) (behind : ℕ) (pairs : List Pair) → ReadsUp p first q behind pairs
+  pair_had : (q : PassFace) (behind : ℕ) (pairs : List Pair) → SweepsUp p first q behind pairs
       → (x : Pair) → Among x pairs → Had p q x.key (Some x.value)
   pair_had _ _ _ none_up x a = absurd a
-  pair_had q behind _ (span_up {m = m} {from = from} {pairs = pairs} pair r begins s) x a =
+  pair_had q behind pairs (later_up {m = m} s r) x a =
+      had_after p m q r x.key (Some x.value) (pair_had m behind pairs s x a)
+  pair_had q behind _ (slot_up {m = m} {from = from} {pairs = pairs} pair r s) x a =
       ⊎_elim
       (λ b. had_after p m q s.read x.key (Some x.value) (pair_had m from pairs r x b))
-      (λ b. had_before p m q (all_up p first m from pairs r).read x.key (Some x.value)
-      (span_had m q from from behind pair s x b).1)
+      (λ b. had_before p m q (all_swept p first m from pairs r).read x.key (Some x.value)
+      (span_had m q from behind pair s x b).1)
       (among-append x pairs (one_of pair) a)
 
+  -- both were in turn at a later moment too
+  turn_later : (m q : PassFace) (x y : Pair) → HasRead m q → HadInTurn p m x y → HadInTurn p q x y
+  turn_later m q x y r t =
+      record {
+        between = t.between;
+        before = t.before;
+        after = read_more t.between m q t.after r;
+        one_had = t.one_had;
+        other_had = had_after t.between m q r y.key (Some y.value) t.other_had;
+      }
+
   -- and the greater of two at no earlier one
-  pub in_turn : (q : PassFace) (behind : ℕ) (pairs : List Pair) → ReadsUp p first q behind pairs
+  pub in_turn : (q : PassFace) (behind : ℕ) (pairs : List Pair) → SweepsUp p first q behind pairs
       → (x y : Pair) → Among x pairs → Among y pairs → x.key < y.key → HadInTurn p q x y
   in_turn _ _ _ none_up x y a b less = absurd a
-  in_turn q behind _ (span_up {m = m} {from = from} {pairs = pairs} pair r begins s) x y a b less =
+  in_turn q behind pairs (later_up {m = m} s r) x y a b less =
+      turn_later m q x y r (in_turn m behind pairs s x y a b less)
+  in_turn q behind _ (slot_up {m = m} {from = from} {pairs = pairs} pair r s) x y a b less =
       ⊎_elim
       (λ c. ⊎_elim (λ d. both_old (in_turn m from pairs r x y c d less)) (λ d. new_and_old c d) (among-append y pairs (one_of pair) b))
       (λ c. ⊎_elim (λ d. absurd (wrong_way c d))
@@ -52,28 +69,21 @@ module _ (p : PassFace) (first : ℕ) where
       (among-append x pairs (one_of pair) a)
     where
       both_old : HadInTurn p m x y → HadInTurn p q x y
-      both_old t =
-          record {
-            between = t.between;
-            before = t.before;
-            after = read_more t.between m q t.after s.read;
-            one_had = t.one_had;
-            other_had = had_after t.between m q s.read y.key (Some y.value) t.other_had;
-          }
+      both_old = turn_later m q x y s.read
 
       new_and_old : Among x pairs → Among y (one_of pair) → HadInTurn p q x y
       new_and_old c d =
           record {
             between = m;
-            before = (all_up p first m from pairs r).read;
+            before = (all_swept p first m from pairs r).read;
             after = s.read;
             one_had = pair_had m from pairs r x c;
-            other_had = (span_had m q from from behind pair s y d).1;
+            other_had = (span_had m q from behind pair s y d).1;
           }
 
       wrong_way : Among x (one_of pair) → Among y pairs → ⊥
       wrong_way c d =
-          let high = (span_had m q from from behind pair s x c).0 in
+          let high = (span_had m q from behind pair s x c).0 in
           let low = each-among (λ (z : Pair). z.key < from) y pairs
-          (all_up p first m from pairs r).low d in
+          (all_swept p first m from pairs r).low d in
           omega arith

@@ -1,10 +1,13 @@
 -- The pairs between two keys, as a pass reads them.
-use Rattle.std.specs.Prelude.{ℕ, ◌<◌, ◌≤◌, ◌==◌, if◌then◌else◌, List, [], ◌∷◌, map, Option, Some, None}
+use Rattle.std.specs.Prelude.{ℕ, ◌+◌, ◌<◌, ◌≤◌, ◌==◌, if◌then◌else◌, List, [], ◌∷◌, map, Option, Some, None}
 use Rattle.std.specs.List.Sorted.{IsStrictlyIncreasing}
 use Rattle.ist_core.specs.declared.pairs.Pair.{Pair}
 use Rattle.ist_core.specs.Elements.{Among, Each}
+use Rattle.ist_core.specs.Logs.{Log, GoesOn}
+use Rattle.ist_core.specs.RowLayout.{anchor}
 use Rattle.ist_tree.specs.Faces.{PassFace}
-use Rattle.ist_live.specs.Reading.{HasRead, Had, ReadsUp}
+use Rattle.ist_find.specs.Sweeps.{Swept}
+use Rattle.ist_live.specs.Reading.{HasRead, Had}
 
 -- the value that the first of the pairs with this key gives it
 abbrev pub value_among : List Pair → ℕ → Option ℕ
@@ -18,13 +21,20 @@ pub record AreLive (p q : PassFace) (first last : ℕ) (pairs : List Pair) : Typ
   pub within : Each (λ pair. (first ≤ pair.key) × (pair.key ≤ last)) pairs
   pub values : (k : ℕ) → first ≤ k → k ≤ last → Had p q k (value_among pairs k)
 
--- the pass read all of these keys upwards, span after span, and found the pairs
+-- the pass read all of these keys upwards, slot after slot, and found the pairs. Each key had what the
+-- pairs give it at a position of its own, and no earlier than the keys below it. It made few loads: 6 at
+-- most, and those that the sweep says
 pub record HasListed (p q : PassFace) (first last : ℕ) (pairs : List Pair) : Type 0 where
   pub behind : ℕ
   pub past : last < behind
-  pub spans : ReadsUp p first q behind pairs
+  pub at : Log
+  pub until : GoesOn at q.seen
+  pub row : ℕ
+  pub loads : ℕ
+  pub few : q.loaded ≤ p.loaded + 6 + loads
+  pub swept : Swept p.tree.start p.tree.words first anchor p.seen at behind row loads pairs
 
--- there is a moment of the pass such that the first pair was in the map at a position before it, and the
+-- there is a moment between both such that the first pair was in the map at a position before it, and the
 -- second at one after it
 pub record HadInTurn (p q : PassFace) (one other : Pair) : Type 0 where
   pub between : PassFace

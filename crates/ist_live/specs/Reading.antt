@@ -1,8 +1,9 @@
 -- Reading keys in order: one span after another, each at a later moment of the pass.
-use Rattle.std.specs.Prelude.{◌≡◌, ℕ, ◌+◌, ◌<◌, ◌≤◌, ◌⊎◌, List, [], ◌∷◌, ◌++◌, Option, Some, None, IfSome}
+use Rattle.std.specs.Prelude.{◌≡◌, ℕ, ◌+◌, ◌<◌, ◌≤◌, ◌⊎◌, List, [], ◌++◌, Option, None, IfSome}
 use Rattle.ist_core.specs.declared.pairs.Pair.{Pair}
 use Rattle.laws_histories.specs.Searching.{HasPosition}
 use Rattle.ist_find.specs.Spans.{pair_value, IsEdge}
+use Rattle.ist_find.specs.Sweeps.{one_of}
 use Rattle.ist_tree.specs.Calls.{HasSeenMore}
 use Rattle.ist_tree.specs.Faces.{PassFace}
 use Rattle.ist_tree.specs.Spans.{HasLoadedFewOver, state_seen}
@@ -23,11 +24,6 @@ abbrev pub HadNone : PassFace → PassFace → ℕ → ℕ → Type 0
 HadNone p q first behind = (k : ℕ) → first ≤ k → k < behind → Had p q k None
 
 -- ---- a span
-
--- the pair as a list
-abbrev pub one_of : Option Pair → List Pair
-one_of (Some pair) = pair ∷ []
-one_of None = []
 
 -- by one search for the key that was asked for, the pass read all keys from the first to before `behind`:
 -- each had what the pair gives it at a position of its own

@@ -1,6 +1,7 @@
 //! The next pair above or below a key.
 ghost use Rattle.std.specs.Prelude.{◌≡◌, ◌+◌};
-ghost use Rattle.ist_live.specs.Reading.{HasRead, ReadsUp, ReadsDown, one_of};
+ghost use Rattle.ist_find.specs.Sweeps.{one_of};
+ghost use Rattle.ist_live.specs.Reading.{HasRead, ReadsUp, ReadsDown};
 ghost use Rattle.ist_live.specs.Ends.{IsNextUp, IsNextDown, end_up, end_down};
 
 use crate::parts::{Part, read_down, read_up};

@@ -1,33 +1,19 @@
 //! The pairs between two keys.
-ghost use Rattle.std.specs.Prelude.{◌≡◌, ◌++◌, IfOk, OnOk};
-ghost use Rattle.ist_live.specs.Reading.{HasRead, one_of};
+ghost use Rattle.std.specs.Prelude.{◌≡◌, IfOk};
+ghost use Rattle.ist_live.specs.Reading.{HasRead};
 ghost use Rattle.ist_live.specs.Lists.{AreInTurn, AreLive, HasListed};
 
-use crate::parts::{Part, read_up};
 use ist_core::Pair;
 use ist_tree::{Pass, Tree};
 use std::alloc::{AllocError, Global};
-
-// Adds the pair to what was found, if there is one.
-fn push_pair(found: &mut Vec<Pair>, pair: Option<Pair>) -> Result<(), AllocError>
-    ensures found { OnOk result (found.new.items ≡ found.old.items ++ one_of pair) }
-{
-    match pair {
-        Some(pair) => {
-            found.push(pair)?;
-            Ok(())
-        }
-        None => Ok(()),
-    }
-}
 
 /// Returns the pairs from `first` to `last`, both included, in strictly increasing order of keys.
 /// Never blocks. If allocation fails it returns an error; the pass has then read some of the keys.
 ///
 /// Each key from `first` to `last` had what the list gives it at a position of its own during the call:
 /// not all at one moment, as in a shot. Time never goes back along the keys: a pair was in the map at
-/// a position after some moment of the pass, and each pair listed earlier at a position before it. The
-/// keys are read span after span (`spans`), each by one search.
+/// a position after some moment of the call, and each pair listed earlier at a position before it. The
+/// keys are read slot after slot (`spans`), by one way down and up the tree.
 pub fn list_live(
     alloc: Global,
     tree: &Tree,
@@ -45,13 +31,6 @@ pub fn list_live(
     if last < first {
         return Ok(found);
     }
-    let mut from = first;
-    'spans: loop {
-        let Part { pair, to } = read_up(tree, pass, from, last);
-        push_pair(&mut found, pair)?;
-        if to == last {
-            return Ok(found);
-        }
-        from = to + 1;
-    }
+    tree.sweep(pass, first, last, &mut found)?;
+    Ok(found)
 }

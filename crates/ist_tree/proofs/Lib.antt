@@ -47,3 +47,4 @@ pub mod RoundRefusalLemmas
 pub mod RoundLemmas
 pub mod FewChangesLemmas
 pub mod LookedLemmas
+mod SweepLemmas

@@ -3,6 +3,7 @@ pub mod Faces
 pub mod Opening
 pub mod Calls
 pub mod Spans
+pub mod Sweeps
 pub mod Refusals
 pub mod DueRows
 pub mod Closing

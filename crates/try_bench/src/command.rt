@@ -30,7 +30,7 @@ const CALLS: [NumberOption; 6] = [
 ];
 
 // The options after them.
-const KEYS: [NumberOption; 4] = [
+const KEYS: [NumberOption; 5] = [
     ("keys", "Keys at the opening (1000)", 0, MOST_KEYS),
     (
         "span",
@@ -43,6 +43,12 @@ const KEYS: [NumberOption; 4] = [
         "Keys that a find lists, from its own on (0: it finds the key; 1: the next pair)",
         0,
         u64::MAX,
+    ),
+    (
+        "expects",
+        "Whether a put expects the value that each put gives its key (0: no; 1: yes)",
+        0,
+        1,
     ),
     (
         "words",
@@ -122,6 +128,7 @@ fn plan_of(matches: &ArgMatches) -> Option<Plan> {
         keys,
         span: number(matches, "span", keys),
         width: number(matches, "width", 0),
+        expects: number(matches, "expects", 0) == 1,
         words: u32::try_from(number(matches, "words", 134_217_728)).unwrap_or(MOST_WORDS),
     })
 }

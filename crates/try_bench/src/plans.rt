@@ -33,6 +33,8 @@ pub(crate) struct Plan {
     /// What a find reads: its key if 0, the next pair if 1, and otherwise the pairs of this many keys from
     /// its own on.
     pub width: u64,
+    /// Whether a put is conditional: it takes effect only if the key has the value that each put gives it.
+    pub expects: bool,
     /// How many words the tree has.
     pub words: u32,
 }

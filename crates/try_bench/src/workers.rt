@@ -66,7 +66,13 @@ impl Worker {
         let number = self.draws.below(self.plan.span);
         let key = self.plan.spread.key(number);
         let answer = match self.plan.shares.kind_at(drawn) {
-            Kind::Put => tree.put(&mut self.pass, key, number),
+            Kind::Put => {
+                if self.plan.expects {
+                    tree.put_if(&mut self.pass, key, Some(number), number)
+                } else {
+                    tree.put(&mut self.pass, key, number)
+                }
+            }
             Kind::Remove => tree.remove(&mut self.pass, key),
             _ => {
                 let found = self.read(tree, key);

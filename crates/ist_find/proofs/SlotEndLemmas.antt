@@ -1,0 +1,90 @@
+-- Where the keys of a slot end, and which slot comes next. Serves `sweeping`.
+use Rattle.std.proofs.Common.{◌≡◌, ◌≢◌, ℕ, ◌+◌, ◌-◌, ◌<◌, ◌≤◌, List, [], length, get_or, refl, sym, ap, ◌∙◌, subst, ⊎_elim, arith}
+use Rattle.std.proofs.lemmas.Bool.{cases_lt}
+use Rattle.std.specs.List.Sorted.{IsStrictlyIncreasing}
+use Rattle.ist_core.specs.Arithmetic.{child_count}
+use Rattle.ist_core.specs.RowLayout.{anchor}
+use Rattle.ist_core.specs.Pieces.{as_inner}
+use Rattle.ist_core.specs.Slots.{IsChildFor, of_anchor, of_row}
+use Rattle.ist_core.proofs.PlaceLemmas.{anchor_free}
+use Rattle.ist_math.proofs.ChildLemmas.{child_count_is}
+use Rattle.ist_rule.specs.declared.view.View.{View}
+use Rattle.ist_core.specs.References.{InnerAt}
+use Rattle.ist_layout.specs.declared.references.Ref as coded
+use Rattle.ist_layout.specs.declared.references.Ref.TheVariants.{Empty, Unset, Leaf, Inner, Change, Rebuild}
+use Rattle.ist_layout.specs.Meanings.{ref_meant}
+use Rattle.ist_rule.specs.Learning.{now, GoesOnTo}
+use Rattle.ist_rule.specs.Watching.{IsNode, is_anchor, is_inner}
+use Rattle.ist_rule.specs.Rule.{IsSound}
+use Rattle.ist_find.specs.Searches.{keys_in, keys_at}
+use Rattle.ist_find.proofs.RowLemmas.{keys_are, keys_on}
+use Rattle.ist_find.proofs.SpanLemmas.{child_most, child_above}
+
+-- the anchor has no keys
+pub no_keys : (v : View) → IsSound v → (node : ℕ) → node ≡ anchor → keys_at v node ≡ []
+no_keys v s node e =
+    ap (λ p. keys_in (as_inner p))
+    (ap (now v).pieces e ∙ anchor_free v.start v.words v.log s.lawful.enabled)
+
+-- a node's keys stay when the seat goes on by loads
+pub node_keys_on : (v w : View) → IsSound v → GoesOnTo v w → (node : ℕ) → IsNode (now v) node
+    → keys_at w node ≡ keys_at v node
+node_keys_on v w s g node (is_anchor e) = no_keys w g.sound node e ∙ sym (no_keys v s node e)
+node_keys_on v w s g node (is_inner r e) = keys_on v w g node record { row = r; published = e }
+
+-- a reference that isn't one to an inner row means none
+pub not_inner : (r : coded.Ref) → ((base : ℕ) → r ≢ Inner base) → (base : ℕ) → ref_meant r ≢ InnerAt base
+not_inner Empty other base e = cc
+not_inner Unset other base e = cc
+not_inner (Leaf b) other base e = cc
+not_inner (Inner b) other base e = absurd (other b refl)
+not_inner (Change b) other base e = cc
+not_inner (Rebuild b) other base e = cc
+
+-- the slot for a key is one of the node's
+pub slot_within : (v : View) (node key i : ℕ) → IsChildFor (now v) node key i
+    → i ≤ length (keys_at v node)
+slot_within v node key i (of_anchor e zero) = omega arith
+slot_within v node key i (of_row r e is) =
+    let most = child_most r.keys key in
+    let same = ap length (keys_are v node record { row = r; published = e }) in
+    omega arith
+
+module _ (keys : List ℕ) (rises : IsStrictlyIncreasing keys) (from i to last : ℕ)
+    (is : i ≡ child_count keys from) (under : i < length keys → to < get_or keys i 0) where
+  within : i ≤ length keys
+  within = subst (λ n. n ≤ length keys) (sym is) (child_most keys from)
+
+  -- the keys up to its end share the slot
+  pub slot_shared : (k : ℕ) → from ≤ k → k ≤ to → child_count keys k ≡ i
+  slot_shared k low high =
+      child_count_is keys k i rises within (λ less. let u = under less in omega arith)
+      (λ some. let a = child_above keys rises from i is some in omega arith)
+
+  -- and the key after it has the next one
+  module _ (most : (k : ℕ) → k ≤ last → (i < length keys → k < get_or keys i 0) → k ≤ to)
+      (more : to < last) where
+    pub slot_more : i < length keys
+    slot_more =
+        ⊎_elim (λ l. l)
+        (λ (ge : length keys ≤ i). let no = most (to + 1) (omega arith) (λ l. absurd (omega arith)) in
+        absurd (omega arith))
+        (cases_lt i (length keys))
+
+    next_key : to + 1 ≡ get_or keys i 0
+    next_key =
+        let u = under slot_more in
+        ⊎_elim
+        (λ (l : to + 1 < get_or keys i 0). let no = most (to + 1) (omega arith) (λ x. l) in
+        absurd (omega arith))
+        (λ (ge : get_or keys i 0 ≤ to + 1). omega arith)
+        (cases_lt (to + 1) (get_or keys i 0))
+
+    pub slot_next : child_count keys (to + 1) ≡ i + 1
+    slot_next =
+        let less = slot_more in
+        let same = next_key in
+        child_count_is keys (to + 1) (i + 1) rises (omega arith)
+        (λ l. subst (λ x. x < get_or keys (i + 1) 0) (sym same) (rises i l))
+        (λ some. let n : i + 1 - 1 ≡ i = omega arith in
+        subst (λ m. get_or keys m 0 ≤ to + 1) (sym n) (omega arith))

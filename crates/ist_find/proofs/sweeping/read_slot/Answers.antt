@@ -1,0 +1,22 @@
+use Rattle.ist_rule.proofs.GoingOnLemmas.{goes_on_more}
+use Rattle.ist_find.proofs.LookLemmas.{holds_named}
+use Rattle.ist_find.proofs.SlotSawLemmas.{since_told}
+use Rattle.ist_find.proofs.sweeping.read_slot.Goals as goal
+
+-- the word in the slot names a row
+pub past_change-side-requires-clause-names : goal.past_change-side-requires-clause-names
+past_change-side-requires-clause-names c =
+    holds_named _ c.know-2.ensures.sound c.args.node c.args.place.index _ c.slot_word-word.ensures.holds
+
+pub returns-clause-seen : goal.returns-clause-seen
+returns-clause-seen c =
+    goes_on_more _ _ _ c.slot_word-word.ensures.seen
+    (goes_on_more _ _ _ c.past_change-side.ensures.side.seen
+    c.past_rebuild-reference.ensures.target.seen)
+
+-- the loads are a look for each key that has the slot
+pub returns-clause-looked : goal.returns-clause-looked
+returns-clause-looked c key least low child =
+    since_told _ _ _ _ key least c.args.node c.args.place.index _ _ _ c.slot_word-word.ensures.seen low
+    child c.slot_word-word.ensures.holds c.past_change-side.ensures.side
+    c.past_rebuild-reference.ensures.target

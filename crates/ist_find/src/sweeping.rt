@@ -1,0 +1,207 @@
+//! A sweep: it reads the slots of a range of keys in order, each inner row once.
+ghost use Rattle.std.specs.Prelude.{◌≡◌, ℕ, ◌+◌, ◌<◌, ◌≤◌, ◌++◌, length, OnOk};
+ghost use Rattle.ist_core.specs.Elements.{Among};
+ghost use Rattle.ist_core.specs.Slots.{SlotHolds, IsChildFor};
+ghost use Rattle.ist_layout.specs.Meanings.{ref_meant};
+ghost use Rattle.ist_rule.specs.Learning.{now, GoesOnTo};
+ghost use Rattle.ist_rule.specs.Watching.{IsNode};
+ghost use Rattle.ist_find.specs.Searches.{keys_at};
+ghost use Rattle.ist_find.specs.Reads.{IsFoundAs};
+ghost use Rattle.ist_find.specs.Sweeps.{WereLed, HasSwept, SweptBetween, LookedSince, starting, one_of};
+
+use crate::answers::Ends;
+use crate::keys::{child_for, key_count};
+use crate::reading::{past_change, past_rebuild};
+use crate::spans::{end_pair, last_of, pair_within};
+use ist_core::Pair;
+use ist_layout::{ANCHOR, ANCHOR_SLOT_PLACE, Ref, slot_place};
+use ist_rule::{TreeSeat, TreeTable, know, load};
+use std::alloc::AllocError;
+
+// A slot of a node, and how many keys the node has.
+#[derive(Clone, Copy, Drop)]
+struct Place {
+    count: u64,
+    index: u64,
+}
+
+// The slot of a node for the key. The anchor has no keys, and one slot.
+fn first_slot(table: &TreeTable, seat: &mut TreeSeat, node: u32, key: u64) -> Place
+    requires same_table { seat.old.table ≡ table.now.table }
+    requires node { IsNode (now seat.old.view) node }
+    ensures same_table { seat.new.table ≡ seat.old.table }
+    ensures seen { GoesOnTo seat.old.view seat.new.view }
+    ensures loads { seat.new.view.loaded ≤ seat.old.view.loaded + starting seat.old.view node key }
+    ensures count { result.count ≡ length (keys_at seat.old.view node) }
+    ensures child { IsChildFor (now seat.new.view) node key result.index }
+{
+    know(seat);
+    if node == ANCHOR {
+        return Place { count: 0, index: 0 };
+    }
+    let count = key_count(table, seat, node);
+    let index = child_for(table, seat, node, count, key);
+    know(seat);
+    Place {
+        count,
+        index: index.value,
+    }
+}
+
+// The greatest key up to `last` that has the same slot as `from`.
+fn slot_end(
+    table: &TreeTable,
+    seat: &mut TreeSeat,
+    node: u32,
+    place: Place,
+    from: u64,
+    last: u64,
+) -> u64
+    requires same_table { seat.old.table ≡ table.now.table }
+    requires node { IsNode (now seat.old.view) node }
+    requires count { place.count ≡ length (keys_at seat.old.view node) }
+    requires child { IsChildFor (now seat.old.view) node from place.index }
+    requires some { from ≤ last }
+    ensures same_table { seat.new.table ≡ seat.old.table }
+    ensures seen { GoesOnTo seat.old.view seat.new.view }
+    ensures loads { seat.new.view.loaded ≤ seat.old.view.loaded + 1 }
+    ensures first { from ≤ result }
+    ensures last { result ≤ last }
+    ensures share { (k : ℕ) → from ≤ k → k ≤ result
+        → IsChildFor (now seat.old.view) node k place.index }
+    ensures edge { result < last → Among (result + 1) (keys_at seat.old.view node) }
+    ensures next { result < last
+        → IsChildFor (now seat.old.view) node (result + 1) (place.index + 1) }
+    ensures within { result < last → place.index < place.count }
+{
+    know(seat);
+    if node == ANCHOR {
+        return last;
+    }
+    last_of(table, seat, node, place.count, place.index, from, last)
+}
+
+// The word in a slot of a node.
+fn slot_word(table: &TreeTable, seat: &mut TreeSeat, node: u32, place: Place) -> u64
+    requires same_table { seat.old.table ≡ table.now.table }
+    requires node { IsNode (now seat.old.view) node }
+    requires count { place.count ≡ length (keys_at seat.old.view node) }
+    requires within { place.index ≤ place.count }
+    ensures same_table { seat.new.table ≡ seat.old.table }
+    ensures seen { GoesOnTo seat.old.view seat.new.view }
+    ensures loads { seat.new.view.loaded ≡ seat.old.view.loaded + 1 }
+    ensures holds { SlotHolds (now seat.new.view) node place.index result }
+{
+    know(seat);
+    if node == ANCHOR {
+        return load(table, seat, ANCHOR_SLOT_PLACE);
+    }
+    load(table, seat, slot_place(node, place.count + 1, place.index))
+}
+
+// What a slot of a node reads as, by loads that are a look for each key of that slot.
+fn read_slot(table: &TreeTable, seat: &mut TreeSeat, node: u32, place: Place) -> Ref
+    requires same_table { seat.old.table ≡ table.now.table }
+    requires node { IsNode (now seat.old.view) node }
+    requires count { place.count ≡ length (keys_at seat.old.view node) }
+    requires within { place.index ≤ place.count }
+    ensures same_table { seat.new.table ≡ seat.old.table }
+    ensures seen { GoesOnTo seat.old.view seat.new.view }
+    ensures loads { seat.new.view.loaded ≤ seat.old.view.loaded + 4 }
+    ensures found { IsFoundAs seat.new.view (ref_meant result) }
+    ensures looked { (key least : ℕ) → least ≤ length seat.old.view.log
+        → IsChildFor (now seat.old.view) node key place.index
+        → LookedSince seat.new.view key least node place.index (ref_meant result) }
+{
+    know(seat);
+    let word = slot_word(table, seat, node, place);
+    know(seat);
+    let side = past_change(table, seat, word);
+    let reference = past_rebuild(table, seat, side.value);
+    reference.value
+}
+
+// Adds the pair to what was found, if there is one.
+fn push_pair(found: &mut Vec<Pair>, pair: Option<Pair>) -> Result<(), AllocError>
+    ensures found { OnOk result (found.new.items ≡ found.old.items ++ one_of pair) }
+{
+    match pair {
+        Some(pair) => {
+            found.push(pair)?;
+            Ok(())
+        }
+        None => Ok(()),
+    }
+}
+
+// Sweeps the keys from `first` to `last`, each of which led to the node. It ends, since bases rise on
+// the way down.
+fn sweep_below(
+    table: &TreeTable,
+    seat: &mut TreeSeat,
+    node: u32,
+    first: u64,
+    last: u64,
+    found: &mut Vec<Pair>,
+) -> Result<(), AllocError>
+    requires same_table { seat.old.table ≡ table.now.table }
+    requires led { WereLed seat.old.view first last node }
+    requires some { first ≤ last }
+    ensures same_table { seat.new.table ≡ seat.old.table }
+    ensures seen { GoesOnTo seat.old.view seat.new.view }
+    ensures swept { OnOk result (HasSwept seat.old.view seat.new.view first (last + 1) last node 0
+        (starting seat.old.view node first) found.old.items found.new.items) }
+{
+    know(seat);
+    let mut place = first_slot(table, seat, node, first);
+    let mut from = first;
+    'slots: loop {
+        let to = slot_end(table, seat, node, place, from, last);
+        let reference = read_slot(table, seat, node, place);
+        if let Ref::Inner { base } = reference {
+            sweep_below(table, seat, base, from, to, found)?;
+        } else {
+            let pair = end_pair(table, seat, reference);
+            let own = pair_within(
+                pair,
+                Ends {
+                    first: from,
+                    last: to,
+                },
+            );
+            push_pair(found, own)?;
+        }
+        if to == last {
+            return Ok(());
+        }
+        from = to + 1;
+        place = Place {
+            count: place.count,
+            index: place.index + 1,
+        };
+    }
+}
+
+/// Reads the keys from `first` to `last` upwards by loads only, and appends their pairs to `found`.
+///
+/// It goes down from the anchor once, and reads each slot of these keys once, in their order. Each key
+/// has the value that the pairs give it at a position of its own during the call, and none at an earlier
+/// one than a lesser key: also where a row is replaced meanwhile. Never blocks. If allocation fails
+/// it returns an error; `found` then has some of the pairs.
+pub fn sweep(
+    table: &TreeTable,
+    seat: &mut TreeSeat,
+    first: u64,
+    last: u64,
+    found: &mut Vec<Pair>,
+) -> Result<(), AllocError>
+    requires same_table { seat.old.table ≡ table.now.table }
+    requires some { first ≤ last }
+    ensures same_table { seat.new.table ≡ seat.old.table }
+    ensures seen { GoesOnTo seat.old.view seat.new.view }
+    ensures swept { OnOk result (SweptBetween seat.old.view seat.new.view first last
+        found.old.items found.new.items) }
+{
+    know(seat);
+    sweep_below(table, seat, ANCHOR, first, last, found)
+}

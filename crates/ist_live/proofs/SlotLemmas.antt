@@ -1,0 +1,38 @@
+-- Reading slot after slot, by moments of a pass. Serves `lists` and `ends`.
+use Rattle.std.specs.Prelude.{ℕ, ◌<◌, ◌≤◌, List, [], ◌++◌, Option, IfSome}
+use Rattle.ist_core.specs.declared.pairs.Pair.{Pair}
+use Rattle.ist_find.specs.Spans.{pair_value}
+use Rattle.ist_find.specs.Sweeps.{one_of}
+use Rattle.ist_tree.specs.Faces.{PassFace}
+use Rattle.ist_live.specs.Reading as spans
+use Rattle.ist_live.specs.Reading.{HasRead, Had, ReadsUp}
+
+-- between these moments the keys of one slot were read, from the first up to its end: each had what the
+-- pair gives it at a position of its own
+pub record HasReadSlot (p q : PassFace) (first behind : ℕ) (pair : Option Pair) : Type 0 where
+  pub read : HasRead p q
+  pub some : first < behind
+  pub within : IfSome pair (λ x. (first ≤ x.key) × (x.key < behind))
+  pub values : (k : ℕ) → first ≤ k → k < behind → Had p q k (pair_value pair k)
+
+-- the keys from the first up to a slot's end were read upwards, one slot after another, and the pairs were
+-- found
+pub data SweepsUp (p : PassFace) (first : ℕ) : PassFace → ℕ → List Pair → Type 0 where
+  none_up : SweepsUp p first p first []
+  later_up : {m q : PassFace} {from : ℕ} {pairs : List Pair}
+      → SweepsUp p first m from pairs → HasRead m q → SweepsUp p first q from pairs
+  slot_up : {m q : PassFace} {from behind : ℕ} {pairs : List Pair} (pair : Option Pair)
+      → SweepsUp p first m from pairs → HasReadSlot m q from behind pair
+      → SweepsUp p first q behind (pairs ++ one_of pair)
+
+-- what was read span after span was read slot after slot
+pub slots_of : (p : PassFace) (first : ℕ) (q : PassFace) (behind : ℕ) (pairs : List Pair)
+    → ReadsUp p first q behind pairs → SweepsUp p first q behind pairs
+slots_of p first _ _ _ spans.none_up = none_up
+slots_of p first q behind _ (spans.span_up {m = m} {from = from} {pairs = pairs} pair r begins s) =
+    slot_up pair (slots_of p first m from pairs r) record {
+      read = s.read;
+      some = s.high;
+      within = s.within;
+      values = s.values;
+    }

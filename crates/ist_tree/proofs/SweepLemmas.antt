@@ -1,0 +1,88 @@
+-- A pass whose seat swept a range of keys, in no call of its own. Serves `sweeping`.
+use Rattle.std.proofs.Common.{◌≡◌, ℕ, ◌+◌, List, Option, Result, Ok, Err, refl, sym, ap, ap₂, ◌∙◌, subst, arith}
+use Rattle.std.specs.Prelude.{OnOk}
+use Rattle.ist_core.specs.declared.pairs.Pair.{Pair}
+use Rattle.ist_core.specs.declared.ports.Full.{Full}
+use Rattle.ist_core.specs.RowLayout.{anchor}
+use Rattle.ist_rule.specs.declared.view.View.{View}
+use Rattle.ist_rule.specs.Faces.{SeatFace}
+use Rattle.ist_rule.specs.Learning.{GoesOnTo}
+use Rattle.ist_rule.proofs.LaterLemmas.{later-goes_on}
+use Rattle.ist_rows.specs.declared.callers.Caller.{Caller}
+use Rattle.ist_find.specs.Sweeps.{Swept, SweptBetween}
+use Rattle.ist_tree.specs.Calls.{HasSeenMore}
+use Rattle.ist_tree.specs.Faces.{PassFace}
+use Rattle.ist_tree.specs.Insides.{IsPassWith, face_as, pass_face}
+use Rattle.ist_tree.specs.Sweeps.{HasSweptOver}
+use Rattle.ist_tree.proofs.GoingLemmas.{IsLaterView, pass_with_later}
+
+-- what it results in, for a pass with this face
+pub record SweepEnds {A E : Type 0} (old : PassFace) (who : Caller) (refused : Option Full)
+    (seat : SeatFace) (first last : ℕ) (before after : List Pair) (r : Result A E) : Type 0 where
+  pub pass : IsPassWith (record who { seat = seat }) refused
+  pub seen : HasSeenMore old (face_as seat who.number refused)
+  pub swept : OnOk r (HasSweptOver old (face_as seat who.number refused) first last before after)
+  pub calls : seat.view.calls ≡ old.calls
+  pub stamp : seat.view.stamp ≡ old.stamp
+
+-- a sweep ends so
+pub sweep_ends : {A E : Type 0} (who : Caller) (refused : Option Full) (seat : SeatFace)
+    → IsPassWith who refused → GoesOnTo who.seat.view seat.view → seat.table ≡ who.seat.table
+    → (first last : ℕ) (before after : List Pair) (r : Result A E)
+    → OnOk r (SweptBetween who.seat.view seat.view first last before after)
+    → (old : PassFace) → pass_face who refused ≡ old
+    → SweepEnds old who refused seat first last before after r
+sweep_ends {A} {E} who refused seat all g table first last before after r swept old view =
+    subst (λ (o : PassFace). SweepEnds o who refused seat first last before after r) view from
+  where
+    v : View
+    v = who.seat.view
+
+    w : View
+    w = seat.view
+
+    later : IsLaterView v w
+    later =
+        record {
+          who_is = ap (λ (y : View). y.who) g.same;
+          start_is = ap (λ (y : View). y.start) g.same;
+          words_is = ap (λ (y : View). y.words) g.same;
+          later = g.later;
+          sound = g.sound;
+        }
+
+    over : (s : Result A E) → OnOk s (SweptBetween v w first last before after)
+        → OnOk s (HasSweptOver (pass_face who refused) (face_as seat who.number refused) first last
+        before after)
+    over (Err e) h = tt
+    over (Ok x) h =
+        record {
+          found = h.found;
+          are = h.are;
+          at = h.at;
+          until = h.until;
+          loads = h.loads;
+          few = h.few;
+          swept = subst (λ p. Swept p v.words first anchor v.log h.at (last + 1) 0 h.loads h.found)
+              later.start_is
+              (subst (λ n. Swept w.start n first anchor v.log h.at (last + 1) 0 h.loads h.found)
+              later.words_is h.swept);
+        }
+
+    from : SweepEnds (pass_face who refused) who refused seat first last before after r
+    from =
+        let stamps = ap (λ (y : View). y.stamp) g.same in
+        record {
+          pass = pass_with_later who seat refused all later
+              (ap (λ (y : View). y.pending) g.same ∙ all.pass.in_none);
+          seen = record {
+            tree = ap₂ (λ t (y : View). record { table = t; start = y.start; words = y.words })
+                table g.same;
+            number = refl;
+            seen = later-goes_on g.later;
+            stamp = omega arith;
+          };
+          swept = over r swept;
+          calls = ap (λ (y : View). y.calls) g.same;
+          stamp = stamps;
+        }
