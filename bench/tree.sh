@@ -16,7 +16,7 @@
 # With the right to do so, each turn runs with real-time priority.
 set -u
 usage() {
-    sed -n '5,6p' "$0" >&2
+    sed -n '5s,^# *,usage: ,p' "$0" >&2
     exit 2
 }
 [ $# -gt 0 ] && [ -x "$1" ] || usage

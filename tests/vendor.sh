@@ -61,7 +61,7 @@ ends 'once more' 0 "0 crates copied, $count were there"
 vendor ist_live "$top"
 ends 'a crate above it' 0 "1 crates copied, $count were there"
 
-# `ist_live` isn't proved again there.
+# (without `ist_live`, which the program doesn't use)
 rm -rf "$top/crates/ist_live" && sed -i '/^ist_live:/d' "$top/crates.txt"
 said=$(cd "$top" && rt ci 2>&1)
 status=$?
@@ -76,7 +76,7 @@ ends 'a crate that is not there' 1 'vendor: crates.txt has no crate none'
 vendor ist_tree "$here"
 ends 'into the same repository' 1 "vendor: $here is no folder of another repository"
 vendor ist_tree
-ends 'no folder' 2 'are wrong.'
+ends 'no folder' 2 'now, 1 if something stands in the way, and 2 if the arguments are wrong.'
 echo 'Handles allowed: Threads.' >"$top/HANDLES"
 said=$(python3 "$here/tools/vendor.py" ist_tree "$top" 2>&1 | grep HANDLES)
 status=$?

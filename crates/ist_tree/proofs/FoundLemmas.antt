@@ -216,9 +216,12 @@ module _ (who : Caller) (key : ℕ) (value : Option ℕ) (b w : View) (s : IsSou
         let first = ap (λ (y : View). y.loaded) begun.view in
         let early = goes_on_length (later-goes_on before) in
         let late = seen.since in
+        let more = seen.searches in
+        let none = ap (λ (y : View). y.searches) begun.view in
         subst (λ (y : View). HasLoadedFew (pass_face who refused)
         (face_as record { table = seat.table; view = y } who.number refused) key value) (sym x_is)
         record {
+          once = omega (arith, more, none);
           began = w.loads.since;
           since = omega (arith, early, late);
           node = node;

@@ -83,10 +83,11 @@ row_loads t key row =
     let keys = keys_in (as_inner (t.pieces row)) in
     distance (guess_in keys key) (child_count keys key) + 12
 
--- the pass made one search for the key, which began after what it had seen before and ended at a
--- slot of this node with this value. It made few loads: at most 12, and what the rows on the
+-- the pass made one search, for the key: it began after what the pass had seen before, and ended at
+-- a slot of this node with this value. The pass made few loads: at most 12, and what the rows on the
 -- node's chain cost
 pub record HasLoadedFew (p q : PassFace) (key : ℕ) (value : Option ℕ) : Type 0 where
+  pub once : q.searches ≡ p.searches + 1
   pub began : ℕ
   pub since : length p.seen ≤ began
   pub node : ℕ

@@ -10,7 +10,8 @@ use std::alloc::Global;
 pub struct Options {
     /// How many threads work in parallel, from 1 to 64.
     pub workers: u64,
-    /// How many words a tree has at most, from 64 to 268,435,456.
+    /// How many words the first tree of a round has at most, unless its pairs need more: from 64 to
+    /// 268,435,456.
     pub words: u64,
     /// How many lines are made instead of read, at most 1,048,576.
     pub generate: Option<u64>,

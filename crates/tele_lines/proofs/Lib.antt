@@ -8,3 +8,5 @@ pub mod ReaderLemmas
 pub mod CutterLemmas
 pub mod PlaceLemmas
 pub mod PrintedLemmas
+pub mod SparingLemmas
+pub mod ShownLemmas

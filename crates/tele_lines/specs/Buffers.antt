@@ -1,5 +1,5 @@
 -- Bytes that were taken from a source and are not yet read as lines, and where the first line ends in them.
-use Rattle.std.specs.Prelude.{◌≡◌, ℕ, ◌+◌, ◌<◌, ◌==◌, ◌⊎◌, Bool, true, List, [], ◌++◌, length, Option, Some, None, IfSome, IsSome, option_map, if◌then◌else◌}
+use Rattle.std.specs.Prelude.{◌≡◌, ℕ, ◌+◌, ◌<◌, ◌≤◌, ◌==◌, ◌⊎◌, Bool, true, false, List, [], ◌++◌, length, Option, Some, None, IfSome, IsSome, option_map, if◌then◌else◌}
 use Rattle.std.specs.List.{position_or_len}
 use Rattle.tele_lines.specs.Lines.{newline, longest}
 
@@ -48,3 +48,23 @@ unread_of buffer ended left = option_map (λ bytes. buffer ++ bytes) (if ended t
 pub record TellsEndOf (ended : Bool) (left : Option (List ℕ)) : Type 0 where
   pub told : IsSome left
   pub none : ended ≡ true → left ≡ Some []
+
+-- how many bytes a read takes at most
+abbrev pub piece_limit : ℕ
+piece_limit = 4096
+
+-- bytes were taken from a source that had these left, and the last read of them was made when the
+-- end of the first line hadn't been taken: no newline was among the bytes kept and those taken before
+pub record Refills (kept bytes : List ℕ) (now : Option (List ℕ)) : Type 0 where
+  pub before : List ℕ
+  pub piece : List ℕ
+  pub rest : List ℕ
+  pub left : now ≡ Some rest
+  pub same : bytes ≡ before ++ (piece ++ rest)
+  pub few : length piece ≤ piece_limit
+  pub waits : IsUnbroken (kept ++ before)
+
+-- a source that had these bytes left was read only while the end of the first line hadn't been taken
+abbrev pub RefillsOnly : List ℕ → Bool → List ℕ → Option (List ℕ) → Type 0
+RefillsOnly kept ended bytes now =
+    (now ≡ Some bytes) ⊎ ((ended ≡ false) × Refills kept bytes now)

@@ -1,14 +1,14 @@
 -- How far a reader of lines has come, and what its next call returns.
-use Rattle.std.specs.Prelude.{◌≡◌, ℕ, ◌+◌, List, [], ◌∷◌, ◌++◌, Bool, true, false, Option, Some, None}
+use Rattle.std.specs.Prelude.{◌≡◌, ℕ, ◌+◌, ◌≤◌, ◌⊎◌, List, [], ◌∷◌, ◌++◌, length, Bool, true, false, Option, Some, None}
 use Rattle.tele_lines.specs.declared.items.Cause.{Cause}
 use Rattle.tele_lines.specs.declared.items.Version.{Version}
 use Rattle.tele_lines.specs.declared.items.Said.{Said}
 use Rattle.tele_lines.specs.declared.items.Said.TheVariants.{Asks, Fails}
 use Rattle.tele_lines.specs.declared.reader.Lines.{Lines}
-use Rattle.tele_lines.specs.Buffers.{unread_of, TellsEndOf}
-use Rattle.tele_lines.specs.Lines.{lines_of, whole_lines}
+use Rattle.tele_lines.specs.Buffers.{unread_of, TellsEndOf, piece_limit}
+use Rattle.tele_lines.specs.Lines.{newline, lines_of, whole_lines}
 use Rattle.tele_lines.specs.Readings.{Mode, version_in, next_mode, reading}
-use Rattle.tele_lines.specs.Answer.{Read, Good, read_from}
+use Rattle.tele_lines.specs.Answer.{Read, Good, read_from, status_of}
 
 -- how far the reading has come: how many lines are allowed, how many were read, and the mode in
 -- which the next is read
@@ -116,3 +116,27 @@ pub record IsDone (lines : Lines) : Type 0 where
   pub ended : lines.ended ≡ true
   pub empty : lines.buffer ≡ []
   pub going : lines.stop ≡ None
+
+-- bytes were taken from a source that had these left, and the last read of them was made when no
+-- line that a newline ends, within the bytes kept and those taken before, asked for anything or was
+-- bad
+pub record TakesLast (place : Place) (kept bytes : List ℕ) (now : Option (List ℕ)) : Type 0 where
+  pub before : List ℕ
+  pub piece : List ℕ
+  pub rest : List ℕ
+  pub left : now ≡ Some rest
+  pub same : bytes ≡ before ++ (piece ++ rest)
+  pub few : length piece ≤ piece_limit
+  pub waits : read_at place (whole_lines (kept ++ before)) ≡ []
+
+-- a source that had these bytes left was read only while no line whose end was taken asked for
+-- anything or was bad
+abbrev pub TakesAsNeeded : Place → List ℕ → Bool → List ℕ → Option (List ℕ) → Type 0
+TakesAsNeeded place kept ended bytes now =
+    (now ≡ Some bytes) ⊎ ((ended ≡ false) × TakesLast place kept bytes now)
+
+-- the bytes that a reader keeps at a place begin with a bad line: the input has ended, or the line is
+-- bad if a newline comes after these bytes
+abbrev pub ShowsBad : Place → List ℕ → Bool → Type 0
+ShowsBad place kept ended =
+    (ended ≡ true) ⊎ (status_of (read_at place (whole_lines (kept ++ newline ∷ []))) ≡ 3)

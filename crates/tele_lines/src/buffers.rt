@@ -88,6 +88,7 @@ impl Buffer {
 
         ensures filled { IfOk result (λ n.
             Fills (S.left source.old) (S.left source.new) self.old self.new n) }
+        ensures few { IfOk result (λ n. n ≤ SIZE) }
 
         ensures failed { OnErr result (HaveRisen (S.faults source.old) (S.faults source.new)) }
         ensures kept { OnErr result (self.new ≡ self.old) }

@@ -1,7 +1,7 @@
 //! Reads lines, one after another, from a source that gives its bytes in any pieces.
-ghost use Rattle.std.specs.Prelude.{◌≡◌, ◌≤◌, ◌^◌, IfOk, IsOk, OnErr, true, false};
+ghost use Rattle.std.specs.Prelude.{◌≡◌, ◌≤◌, ◌^◌, IfOk, IfSome, IsOk, OnErr, true, false};
 ghost use Rattle.tele_io.specs.Bytes.{HaveRisen, Keeps};
-ghost use Rattle.tele_lines.specs.Buffers.{EndsAt, IsUnbroken, TellsEndOf, unread_of};
+ghost use Rattle.tele_lines.specs.Buffers.{EndsAt, IsUnbroken, TellsEndOf, RefillsOnly, unread_of};
 
 use crate::buffers::Buffer;
 use crate::items::{Cause, Line, LineFault, Said, Version};
@@ -32,7 +32,7 @@ impl Lines {
     ghost use Rattle.tele_lines.specs.Readings.{reading};
     ghost use Rattle.tele_lines.specs.Lines.{lines_of};
     ghost use Rattle.tele_lines.specs.Answer.{Bad, Good};
-    ghost use Rattle.tele_lines.specs.Progress.{Continues, GoesTo, reads_given, read_at, version_of, mode_of, behind, place_of, limit_of, count_of, stop_of, has_ended, kept_of, unread, TellsEnd, Waits, IsDone, TakesLine, MeetsLine};
+    ghost use Rattle.tele_lines.specs.Progress.{Continues, GoesTo, reads_given, read_at, version_of, mode_of, behind, place_of, limit_of, count_of, stop_of, has_ended, kept_of, unread, TellsEnd, Waits, IsDone, TakesLine, MeetsLine, TakesAsNeeded, ShowsBad};
     ghost use Rattle.tele_lines.specs.Buffers.{EndsAt};
 
     /// Makes a reader that has read nothing and allows `limit` lines.
@@ -94,6 +94,13 @@ impl Lines {
             read_at (place_of self.old) (lines_of bytes) ≡ Bad number cause ∷ []) }
         ensures stop { (number : _) (cause : _) → result ≡ Err (LineFault.Bad number cause) →
             (number ≡ count_of self.new + 1) × (stop_of self.new ≡ Some cause) }
+        ensures skipped { (number : _) (cause : _) → result ≡ Err (LineFault.Bad number cause) →
+            stop_of self.old ≡ None → IfSome (unread self.old (S.left source.old)) (λ bytes.
+            GoesTo (place_of self.old) (place_of self.new) (has_ended self.new) [] bytes
+            (unread self.new (S.left source.new))) }
+        ensures shown { (number : _) (cause : _) → result ≡ Err (LineFault.Bad number cause) →
+            stop_of self.old ≡ None → ShowsBad (place_of self.new) (kept_of self.new)
+            (has_ended self.new) }
         ensures stopped { (cause : _) → stop_of self.old ≡ Some cause →
             (result ≡ Err (LineFault.Bad (count_of self.old + 1) cause)) ×
             (source.new ≡ source.old) }
@@ -106,6 +113,11 @@ impl Lines {
             GoesTo (place_of self.old) (place_of self.new) (has_ended self.new) [] bytes
             (unread self.new (S.left source.new))) }
         ensures waiting { result ≡ Err LineFault.Read → Waits self.new }
+
+        // In every case the source is read only while no line whose end was taken says anything.
+        ensures sparing { IfSome (S.left source.old) (λ bytes.
+            TakesAsNeeded (place_of self.old) (kept_of self.old) (has_ended self.old) bytes
+            (S.left source.new)) }
 
         ensures going { OnOk result (stop_of self.new ≡ None) }
         ensures end { TellsEnd self.old (S.left source.old) →
@@ -166,6 +178,10 @@ impl Lines {
             read_at (place_of self.old) (lines_of bytes) ≡ Bad (self.old.count + 1) cause ∷ []) }
         ensures stop { (cause : _) → result ≡ Ok (Some (Said.Fails cause)) →
             (self.new.stop ≡ Some cause) × (place_of self.new ≡ place_of self.old) }
+        ensures left { (cause : _) → result ≡ Ok (Some (Said.Fails cause)) →
+            Keeps (unread self.old (S.left source.old)) (unread self.new (S.left source.new)) }
+        ensures shown { (cause : _) → result ≡ Ok (Some (Said.Fails cause)) →
+            ShowsBad (place_of self.new) (kept_of self.new) (has_ended self.new) }
         ensures going { IfOk result (λ next. IfSome next (λ said. Continues said →
             self.new.stop ≡ None)) }
 
@@ -174,6 +190,10 @@ impl Lines {
             Keeps (unread self.old (S.left source.old)) (unread self.new (S.left source.new))) }
         ensures still { OnErr result (place_of self.new ≡ place_of self.old) }
         ensures waiting { OnErr result (Waits self.new) }
+
+        ensures sparing { IfSome (S.left source.old) (λ bytes.
+            TakesAsNeeded (place_of self.old) (kept_of self.old) (has_ended self.old) bytes
+            (S.left source.new)) }
 
         ensures end { TellsEnd self.old (S.left source.old) →
             TellsEnd self.new (S.left source.new) }
@@ -209,6 +229,10 @@ impl Lines {
         ensures stop { (cause : _) → result ≡ Some (Said.Fails cause) → self.new.stop ≡ Some cause }
         ensures still { (cause : _) → result ≡ Some (Said.Fails cause) →
             place_of self.new ≡ place_of self.old }
+        ensures kept { (cause : _) → result ≡ Some (Said.Fails cause) →
+            self.new.buffer ≡ self.old.buffer }
+        ensures shown { (cause : _) → result ≡ Some (Said.Fails cause) →
+            ShowsBad (place_of self.old) self.old.buffer self.old.ended }
         ensures going { IfSome result (λ said. Continues said → self.new.stop ≡ None) }
 
         ensures ended { self.new.ended ≡ self.old.ended }
@@ -280,6 +304,8 @@ fn gather<S: Source>(
     ensures waiting { OnErr result (IsUnbroken buffer.new × (ended.new ≡ false)) }
     ensures end { TellsEndOf ended.old (S.left source.old) →
         TellsEndOf ended.new (S.left source.new) }
+    ensures sparing { IfSome (S.left source.old)
+        (λ bytes. RefillsOnly buffer.old ended.old bytes (S.left source.new)) }
     ensures again { ended.old ≡ true →
         IsOk result × (source.new ≡ source.old) × (buffer.new ≡ buffer.old) × (ended.new ≡ true) }
 {

@@ -2,7 +2,7 @@
 use Rattle.std.proofs.Common.{◌≡◌, ℕ, ◌<◌, inl, inr, arith}
 use Rattle.std.specs.Prelude.{Some}
 use Rattle.tele_run.specs.Causes.{IsAnswer, IsCutShort}
-use Rattle.tele_run.specs.declared.outcomes.TheConstants.{ANSWERED, READ_FAILED, WRITE_FAILED}
+use Rattle.tele_run.specs.declared.outcomes.TheConstants.{ANSWERED, BAD_LINE, READ_FAILED, WRITE_FAILED}
 
 -- a run that was cut short wasn't answered
 pub cut_unanswered : {P : Type 0} (status : ℕ) → IsCutShort status → IsAnswer status → P
@@ -30,3 +30,8 @@ uncut status low (inr wanting) = absurd (omega arith)
 -- no status equals a higher one
 pub no_other : {P : Type 0} (status other : ℕ) → status < other → Some status ≡ Some other → P
 no_other status other low is = let same : status ≡ other = cc is in absurd (omega arith)
+
+-- a status of a cut isn't the status of a bad line
+pub cut_unbad : {P : Type 0} (status : ℕ) → IsCutShort status → Some status ≡ Some BAD_LINE → P
+cut_unbad status (inl failed) is = let same : status ≡ BAD_LINE = cc is in absurd (omega arith)
+cut_unbad status (inr wanting) is = let same : status ≡ BAD_LINE = cc is in absurd (omega arith)

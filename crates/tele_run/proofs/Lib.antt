@@ -16,3 +16,4 @@ pub mod OpenLemmas
 pub mod TakenLemmas
 pub mod DueRoundLemmas
 pub mod MadeRoundLemmas
+pub mod ReadingLemmas

@@ -1,7 +1,8 @@
 -- Which statuses a run ends with, and what was written then.
-use Rattle.std.specs.Prelude.{◌≡◌, ℕ, ◌⊎◌, List, ◌++◌, Option, Some}
+use Rattle.std.specs.Prelude.{◌≡◌, ℕ, ◌≤◌, ◌⊎◌, List, [], ◌∷◌, ◌++◌, length, Option, Some}
 use Rattle.tele_io.specs.Bytes.{Appends}
-use Rattle.tele_lines.specs.Lines.{whole_lines}
+use Rattle.tele_lines.specs.Lines.{newline, whole_lines}
+use Rattle.tele_lines.specs.Buffers.{piece_limit}
 use Rattle.tele_lines.specs.Answer.{input_lines, status_of}
 use Rattle.tele_lines.specs.Rounds.{done}
 use Rattle.tele_run.specs.declared.jobs.Job.{Job}
@@ -37,3 +38,23 @@ pub record Stops (bytes : List ℕ) (left before written : Option (List ℕ)) : 
   pub leaves : left ≡ Some rest
   pub writes : Appends before written (done taken)
   pub good : status_of (input_lines (whole_lines taken)) ≡ ANSWERED
+
+-- what a run has read of its source: of the bytes, those before the rest were taken, the last of them
+-- by one read; and before this read no line whose newline had been taken was bad
+pub record ReadsSparingly (bytes : List ℕ) (left : Option (List ℕ)) : Type 0 where
+  pub before : List ℕ
+  pub piece : List ℕ
+  pub rest : List ℕ
+  pub same : bytes ≡ before ++ (piece ++ rest)
+  pub leaves : left ≡ Some rest
+  pub few : length piece ≤ piece_limit
+  pub good : status_of (input_lines (whole_lines before)) ≡ ANSWERED
+
+-- what a bad line leaves: of the bytes, those before the rest were taken; the source is at its end, or
+-- the lines taken have a bad one, if a newline comes after them
+pub record ReachesBad (bytes : List ℕ) (left : Option (List ℕ)) : Type 0 where
+  pub taken : List ℕ
+  pub rest : List ℕ
+  pub same : bytes ≡ taken ++ rest
+  pub leaves : left ≡ Some rest
+  pub shown : (rest ≡ []) ⊎ (status_of (input_lines (whole_lines (taken ++ newline ∷ []))) ≡ BAD_LINE)

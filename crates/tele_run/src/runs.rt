@@ -5,7 +5,7 @@ ghost use Rattle.tele_lines.specs.Answer.{answer, usage_text};
 ghost use Rattle.tele_made.specs.Summaries.{summary_of, summary_text};
 ghost use Rattle.tele_run.specs.Jobs.{job_of};
 ghost use Rattle.tele_command.specs.CommandLine.{options_in};
-ghost use Rattle.tele_run.specs.Causes.{IsAnswer, IsCutShort, IsStatus, IsWhole, Stops};
+ghost use Rattle.tele_run.specs.Causes.{IsAnswer, IsCutShort, IsStatus, IsWhole, Stops, ReachesBad, ReadsSparingly};
 ghost use Rattle.tele_run.specs.Rounds.{RanRounds, team_of, input_rounds, made_rounds};
 ghost use Rattle.tele_run.specs.Endings.{EndsOn, HasNoTable};
 ghost use Rattle.tele_run.specs.Open.{fresh_round};
@@ -13,7 +13,7 @@ ghost use Rattle.tele_run.specs.Open.{fresh_round};
 use crate::jobs::{Job, LINE_LIMIT, Plan, read_plan};
 use crate::made::make_all;
 use crate::outcomes::{
-    ANSWERED, NO_MEMORY, Outcome, READ_FAILED, USAGE, WRITE_FAILED, ended, without_table,
+    ANSWERED, BAD_LINE, NO_MEMORY, Outcome, READ_FAILED, USAGE, WRITE_FAILED, ended, without_table,
 };
 use crate::rounds::Round;
 use crate::steps::{refused, step};
@@ -52,6 +52,7 @@ use tele_trees::TreeTables;
 /// when the next round begins; with status 0 or 3 the last tree of the last round is returned.
 /// `gate` is notified of each call on a tree. A run waits for its workers, and no clause says that
 /// this waiting ends.
+#[tactic(auto, using(crate::proofs::ReadingLemmas::reads_none))]
 pub fn run<R: Threads + Wait + Sync, S: Source, O: Sink, G: Gate + Sync, H: Shelf<Closed>>(
     rt: &R,
     alloc: Global,
@@ -78,6 +79,13 @@ pub fn run<R: Threads + Wait + Sync, S: Source, O: Sink, G: Gate + Sync, H: Shel
         Appends (O.written out.old) (O.written out.new) (summary_text (summary_of count seed)) }
     ensures unread { ¬ (job_of (map string_bytes words.now) ≡ Job.Read) →
         source.new ≡ source.old }
+
+    // The bad line was read to its newline, or until it was too long, or to the end of the source. And
+    // the source is read only while no line whose newline was taken is bad.
+    ensures reached { job_of (map string_bytes words.now) ≡ Job.Read → result.status ≡ BAD_LINE →
+        IfSome (S.left source.old) (λ bytes. ReachesBad bytes (S.left source.new)) }
+    ensures sparing { IfSome (S.left source.old)
+        (λ bytes. ReadsSparingly bytes (S.left source.new)) }
 
     // After a failed read, the replies to the whole rounds of the lines that had come are written.
     ensures stops { result.status ≡ READ_FAILED → IfSome (S.left source.old) (λ bytes.
@@ -135,6 +143,7 @@ pub fn run<R: Threads + Wait + Sync, S: Source, O: Sink, G: Gate + Sync, H: Shel
 }
 
 /// Does what the plan says.
+#[tactic(auto, using(crate::proofs::ReadingLemmas::reads_none))]
 fn work<R: Threads + Wait + Sync, S: Source, O: Sink, G: Gate + Sync, H: Shelf<Closed>>(
     rt: &R,
     alloc: Global,
@@ -165,6 +174,10 @@ fn work<R: Threads + Wait + Sync, S: Source, O: Sink, G: Gate + Sync, H: Shelf<C
         result.status ≡ ANSWERED →
         Appends (O.written out.old) (O.written out.new) (summary_text (summary_of count seed)) }
     ensures unread { ¬ (plan.job ≡ Job.Read) → source.new ≡ source.old }
+    ensures reached { plan.job ≡ Job.Read → result.status ≡ BAD_LINE →
+        IfSome (S.left source.old) (λ bytes. ReachesBad bytes (S.left source.new)) }
+    ensures sparing { IfSome (S.left source.old)
+        (λ bytes. ReadsSparingly bytes (S.left source.new)) }
 
     ensures stops { result.status ≡ READ_FAILED → IfSome (S.left source.old) (λ bytes.
         Stops bytes (S.left source.new) (O.written out.old) (O.written out.new)) }
@@ -259,6 +272,10 @@ fn answer_all<R: Threads + Wait + Sync, G: Gate + Sync, H: Shelf<Closed>, S: Sou
         IfSome (S.left source.old) (λ bytes. result.status ≡ (answer bytes).status) }
     ensures whole { result.status ≡ ANSWERED →
         IfSome (S.left source.old) (λ _. S.left source.new ≡ Some []) }
+    ensures reached { result.status ≡ BAD_LINE →
+        IfSome (S.left source.old) (λ bytes. ReachesBad bytes (S.left source.new)) }
+    ensures sparing { IfSome (S.left source.old)
+        (λ bytes. ReadsSparingly bytes (S.left source.new)) }
 
     ensures stops { result.status ≡ READ_FAILED → IfSome (S.left source.old) (λ bytes.
         Stops bytes (S.left source.new) (O.written out.old) (O.written out.new)) }

@@ -7,7 +7,7 @@ ghost use Rattle.tele_lanes.specs.Lines.{commands_of, task_lines};
 ghost use Rattle.tele_lines.specs.Lines.{line_limit};
 ghost use Rattle.tele_lines.specs.Rounds.{round_limit};
 ghost use Rattle.tele_lines.specs.Answer.{Good, Bad, text_of};
-ghost use Rattle.tele_lines.specs.Progress.{limit_of, count_of, stop_of, mode_of, has_ended, unread, TellsEnd, Waits};
+ghost use Rattle.tele_lines.specs.Progress.{place_of, limit_of, count_of, stop_of, mode_of, kept_of, has_ended, unread, GoesTo, TellsEnd, Waits, TakesAsNeeded, ShowsBad};
 ghost use Rattle.tele_run.specs.declared.jobs.Job.TheVariants as job;
 ghost use Rattle.tele_run.specs.Causes.{IsAnswer, IsCutShort, IsStatus};
 ghost use Rattle.tele_run.specs.Open.{IsOpenBefore, RunsOn, asked, map_in, round_for};
@@ -100,6 +100,17 @@ pub(crate) fn step<R: Threads + Wait + Sync, G: Gate + Sync, H: Shelf<Closed>, S
     ensures waits { result ≡ Some READ_FAILED → Waits lines.new }
     ensures kept { result ≡ Some READ_FAILED → round.new ≡ round.old }
 
+    // Lines before a bad one were skipped, and it stays unread.
+    ensures skipped { result ≡ Some BAD_LINE →
+        IfSome (unread lines.old (S.left source.old)) (λ bytes.
+        GoesTo (place_of lines.old) (place_of lines.new) (has_ended lines.new) [] bytes
+        (unread lines.new (S.left source.new))) }
+    ensures shown { result ≡ Some BAD_LINE →
+        ShowsBad (place_of lines.new) (kept_of lines.new) (has_ended lines.new) }
+
+    ensures sparing { IfSome (S.left source.old) (λ bytes.
+        TakesAsNeeded (place_of lines.old) (kept_of lines.old) (has_ended lines.old) bytes
+        (S.left source.new)) }
     ensures end { TellsEnd lines.old (S.left source.old) →
         TellsEnd lines.new (S.left source.new) }
     ensures whole { result ≡ Some ANSWERED → has_ended lines.new ≡ true }

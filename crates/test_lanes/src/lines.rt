@@ -190,7 +190,13 @@ fn a_reader_goes_on_after_a_failed_read(rt: HostRuntime) -> Result<(), Fail> {
 
 #[test]
 fn each_reply_has_its_line(rt: HostRuntime) {
-    let pairs = [Pair { key: 1, value: 2 }, Pair { key: 1 << 63, value: 0 }];
+    let pairs = [
+        Pair { key: 1, value: 2 },
+        Pair {
+            key: 1 << 63,
+            value: 0,
+        },
+    ];
     let mut out = MemorySink::new(rt.alloc(), Vec::new(rt.alloc()));
     let printed = [
         print_answer(&mut out, Version::One, 17, Some(1200)),
@@ -250,13 +256,19 @@ fn a_map_of_one_thread_replies_with_the_value_before(rt: HostRuntime) -> Result<
 fn a_map_of_one_thread_lists_from_one_key_to_another(rt: HostRuntime) -> Result<(), Fail> {
     let mut map = Plain::new(rt.alloc());
     for key in [9u64, 1, 5, u64::MAX] {
-        map.apply(Command::Put { key, value: key / 2 })?;
+        map.apply(Command::Put {
+            key,
+            value: key / 2,
+        })?;
     }
     let all = [
         Pair { key: 1, value: 0 },
         Pair { key: 5, value: 2 },
         Pair { key: 9, value: 4 },
-        Pair { key: u64::MAX, value: u64::MAX / 2 },
+        Pair {
+            key: u64::MAX,
+            value: u64::MAX / 2,
+        },
     ];
     // the first key, the last, the part of all pairs that is listed
     let rows: [(u64, u64, usize, usize); 6] = [

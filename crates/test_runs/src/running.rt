@@ -19,7 +19,7 @@ pub(crate) struct Ran {
 }
 
 /// Makes the command line of these arguments after the program's name.
-pub(crate) fn command_words(alloc: Global, more: &[&str]) -> Result<Vec<String>, AllocError> {
+fn command_words(alloc: Global, more: &[&str]) -> Result<Vec<String>, AllocError> {
     let mut words = Vec::new(alloc);
     words.push("tele".to_string(alloc)?)?;
     for word in more {

@@ -1,7 +1,6 @@
 //! A run of each status that bytes, arguments, reads and writes can lead to.
 ghost use Rattle.std.specs.Prelude.{None};
 
-use crate::running::command_words;
 use ist_rest::Closed;
 use std::alloc::{AllocError, Global};
 use std::sync::Wait;
@@ -23,8 +22,33 @@ impl Shelf<Closed> for NoShelf {
 }
 
 // What a run is made of: the arguments after the program's name, the input, which comes in one
-// piece, and the numbers of the reads and of the writes that fail.
-type Plan<'a> = (&'a [&'a str], &'a [u8], &'a [u64], &'a [u64]);
+// piece, and the numbers of a read and of a write that fail, if one is to.
+#[derive(Clone, Copy, Drop)]
+struct Plan<'a> {
+    more: &'a str,
+    input: &'a [u8],
+    read: Option<u64>,
+    write: Option<u64>,
+}
+
+// The command line of these arguments after the program's name.
+fn words_of(alloc: Global, more: &str) -> Result<Vec<String>, AllocError> {
+    let mut words = Vec::new(alloc);
+    words.push("tele".to_string(alloc)?)?;
+    for word in more.split_whitespace() {
+        words.push(word.to_string(alloc)?)?;
+    }
+    Ok(words)
+}
+
+// The number as a list, or none.
+fn listed(alloc: Global, number: Option<u64>) -> Result<Vec<u64>, AllocError> {
+    let mut list = Vec::new(alloc);
+    if let Some(number) = number {
+        list.push(number)?;
+    }
+    Ok(list)
+}
 
 // Runs the plan. Returns whether it wrote this text, and its status.
 fn run_plan<R: Threads + Wait + Sync>(
@@ -33,10 +57,10 @@ fn run_plan<R: Threads + Wait + Sync>(
     plan: Plan<'_>,
     text: &[u8],
 ) -> Result<(bool, u8), AllocError> {
-    let (more, input, reads, writes) = plan;
-    let words = command_words(alloc, more)?;
-    let mut source = MemorySource::new(input.to_vec(alloc)?, 1_000, reads.to_vec(alloc)?);
-    let mut out = MemorySink::new(alloc, writes.to_vec(alloc)?);
+    let words = words_of(alloc, plan.more)?;
+    let fails = listed(alloc, plan.read)?;
+    let mut source = MemorySource::new(plan.input.to_vec(alloc)?, 1_000, fails);
+    let mut out = MemorySink::new(alloc, listed(alloc, plan.write)?);
     let outcome = run(
         rt,
         alloc,
@@ -49,32 +73,44 @@ fn run_plan<R: Threads + Wait + Sync>(
     Ok((out.bytes() == text, outcome.status))
 }
 
+// A plan in which this read and this write fail.
+fn planned<'a>(more: &'a str, input: &'a [u8], read: Option<u64>, write: Option<u64>) -> Plan<'a> {
+    Plan {
+        more,
+        input,
+        read,
+        write,
+    }
+}
+
 #[test]
 fn each_status_has_its_cause(rt: HostRuntime) -> Result<(), Fail> {
+    let five: &[u8] = b"P 5 7\nP 5 9\nG 5\nR 5\nG 5";
+    let cut: &[u8] = b"P 1 1\nP 2";
     // the plan, the text that is written, the status
     let rows: [(Plan<'_>, &[u8], u8); 10] = [
-        ((&[], b"", &[], &[]), b"", 0),
+        (planned("", b"", None, None), b"", 0),
         (
-            (&[], b"P 5 7\nP 5 9\nG 5\nR 5\nG 5", &[], &[]),
+            planned("", five, None, None),
             b"1 -\n2 7\n3 9\n4 9\n5 -\n",
             0,
         ),
         (
-            (&["--generate", "2", "--seed", "0"], b"X", &[0], &[]),
+            planned("--generate 2 --seed 0", b"X", Some(0), None),
             b"made 2 keys 2 found 0 sum 74222\n",
             0,
         ),
-        ((&["--workers", "0"], b"P 5 7", &[0], &[]), b"! usage\n", 2),
-        ((&["x"], b"P 5 7", &[0], &[]), b"! usage\n", 2),
+        (planned("--workers 0", five, Some(0), None), b"! usage\n", 2),
+        (planned("x", five, Some(0), None), b"! usage\n", 2),
         (
-            (&[], b"P 1 1\nX 2\nP 3 3\n", &[], &[]),
+            planned("", b"P 1 1\nX 2\nP 3 3\n", None, None),
             b"1 -\n! 2 letter\n",
             3,
         ),
-        ((&[], b"P 1 1\nP 2", &[1], &[]), b"", 4),
-        ((&[], b"P 1 1\nP 2", &[0], &[]), b"", 4),
-        ((&[], b"P 1 1\nP 2 2\n", &[], &[1]), b"1 -\n", 5),
-        ((&["--workers", "0"], b"", &[], &[0]), b"", 5),
+        (planned("", cut, Some(1), None), b"", 4),
+        (planned("", cut, Some(0), None), b"", 4),
+        (planned("", b"P 1 1\nP 2 2\n", None, Some(1)), b"1 -\n", 5),
+        (planned("--workers 0", b"", None, Some(0)), b"", 5),
     ];
     for (plan, text, status) in rows {
         let seen = run_plan(&rt, rt.alloc(), plan, text)?;

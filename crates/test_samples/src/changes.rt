@@ -46,11 +46,7 @@ pub fn install_put(
         &[UNDECIDED, PUT_KIND, 2, 0, from, to, owner, 1, value],
     );
     know(&who.seat);
-    begin_call(
-        table,
-        &mut who.seat,
-        Some(Command::Put { key: 1, value }),
-    );
+    begin_call(table, &mut who.seat, Some(Command::Put { key: 1, value }));
     install(table, &mut who.seat, change)
 }
 

@@ -38,12 +38,7 @@ struct Found {
 }
 
 // What a tree of so many keys is like where so many puts of one key were made in it.
-fn used_by(
-    alloc: Global,
-    keys: u64,
-    key: u64,
-    puts: u64,
-) -> Result<Found, OpenFault>
+fn used_by(alloc: Global, keys: u64, key: u64, puts: u64) -> Result<Found, OpenFault>
     requires few { (keys ≤ 100000) × (puts ≤ 100000) }
 {
     let mut plain = numbered(alloc, 1, keys + 1, 0)?;

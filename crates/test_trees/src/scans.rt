@@ -3,10 +3,11 @@ ghost use Rattle.std.specs.Prelude.{◌≡◌};
 ghost use Rattle.ist_tree.specs.Freezing.{IsFrozenFor};
 
 use crate::shots::{
-    first_wrong, put_beside, rebuild_beside, remove_beside, shot_of, sum_and_first_wrong,
+    first_wrong, part_of, put_all, put_beside, rebuild_beside, remove_beside, shot_of,
+    sum_and_first_wrong,
 };
 use ist_core::{Full, Pair, Reply};
-use ist_scan::{Shot, Total};
+use ist_scan::{Shot, Total, list_by_both};
 use ist_tree::{Pass, Tree};
 use std::alloc::Global;
 use std::test::Fail;
@@ -171,5 +172,38 @@ fn rebuild_of_ten(alloc: Global) -> Result<(Result<u64, Full>, Wrong, Total), Fa
 fn a_shot_is_read_as_it_was_after_ten_further_rebuilds(rt: HostRuntime) -> Result<(), Fail> {
     let found = rebuild_of_ten(rt.alloc())?;
     assert_eq!(rt; found, (Ok(10), None, total(1, 109, 109, 109)));
+    Ok(())
+}
+
+// What two passes list of a shot from key 20 to key 40. One of them put the ten pairs and takes it,
+// and the other learns of both by a note.
+fn list_by_two(
+    alloc: Global,
+    tree: &Tree,
+    taker: &mut Pass,
+    other: &mut Pass,
+) -> Result<(Vec<Pair>, Vec<Pair>), Fail>
+    requires same_tree { taker.old.tree ≡ tree.now }
+    requires other_tree { other.old.tree ≡ tree.now }
+{
+    put_all(tree, taker, &TEN)?;
+    let lists = list_by_both(alloc, tree, taker, other, 20, 40)?;
+    Ok(lists)
+}
+
+// The same in a new tree.
+fn list_in_new_tree(alloc: Global) -> Result<(Vec<Pair>, Vec<Pair>), Fail> {
+    let (tree, mut maker) = Tree::open(alloc, 20_000, &[])?;
+    let mut taker = tree.pass(&mut maker);
+    let mut other = tree.pass(&mut maker);
+    list_by_two(alloc, &tree, &mut taker, &mut other)
+}
+
+#[test]
+fn two_passes_list_one_shot_alike(rt: HostRuntime) -> Result<(), Fail> {
+    let (taken, learnt) = list_in_new_tree(rt.alloc())?;
+    let part = part_of(rt.alloc(), &TEN, 2, 5)?;
+    assert_eq!(rt; taken, part);
+    assert_eq!(rt; learnt, part);
     Ok(())
 }

@@ -1,3 +1,4 @@
 -- what the contracts of the example say
 pub mod Turns
 pub mod Raises
+pub mod Pieces

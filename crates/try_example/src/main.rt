@@ -1,15 +1,18 @@
 //! Two threads share a tree. Each puts a pair, tells the other by a note, and finds the other's pair. Then two
-//! threads raise one counter.
+//! threads raise one counter, and some workers put a key each.
 //!
 //! `exchange::exchange` is the part to read: its contract says what both threads find. `counting::raise` shows
-//! a conditional put.
+//! a conditional put, and `many::close_if_back` how a tree is closed after any number of workers.
 #![tactic(auto)]
 
 mod counting;
 mod exchange;
+mod many;
+mod paging;
 
 use crate::counting::count_in_two;
 use crate::exchange::exchange;
+use crate::many::put_by_many;
 use ist_core::Pair;
 use std::io;
 
@@ -18,6 +21,8 @@ const LEFT: Pair = Pair { key: 1, value: 10 };
 const RIGHT: Pair = Pair { key: 2, value: 20 };
 
 const TIMES: u64 = 1000;
+
+const WORKERS: u32 = 7;
 
 fn main(rt: HostRuntime) -> io::Result<()> {
     match exchange(&rt, rt.alloc(), LEFT, RIGHT) {
@@ -37,6 +42,12 @@ fn main(rt: HostRuntime) -> io::Result<()> {
         Ok(count) => println!(rt;
             "after {} raises the counter has {:?}",
             count.raises, count.number
+        )?,
+        Err(fault) => println!(rt; "refused: {fault:?}")?,
+    }
+    match put_by_many(&rt, rt.alloc(), WORKERS) {
+        Ok(keys) => println!(rt;
+            "{WORKERS} workers put a key each, and the tree has {keys:?} keys"
         ),
         Err(fault) => println!(rt; "refused: {fault:?}"),
     }

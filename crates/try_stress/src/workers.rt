@@ -4,16 +4,21 @@ ghost use Rattle.ist_tree.specs.Freezing.{IsFrozenFor};
 
 use crate::plans::Plan;
 use ist_core::{Full, Pair, Reply};
+use ist_live::{at_least, list_live};
 use ist_tree::{Frozen, Pass, Tree};
 use std::alloc::{AllocError, Global};
 use test_tales::{Asked, Told};
 use try_draws::{Draws, Kind};
+
+/// How many keys a list reads at most.
+const LISTED: u64 = 64;
 
 /// How many calls were answered and refused.
 #[derive(Clone, Copy, Debug, PartialEq, Eq, Drop)]
 pub(crate) struct Tally {
     pub puts: u64,
     pub removes: u64,
+    /// How many finds and ordered reads.
     pub finds: u64,
     pub freezes: u64,
     /// How many puts and removes were refused since too few words were left.
@@ -127,19 +132,25 @@ fn tell_none(told: &mut Vec<Told>, first: u64, end: u64) -> Result<(), AllocErro
     Ok(())
 }
 
-// Adds what a find of each key below `span` would have returned if the map has these pairs.
-fn tell_pairs(told: &mut Vec<Told>, pairs: &[Pair], span: u64) -> Result<(), AllocError> {
-    let mut next = 0;
+// Adds what a find of each key from `first` to before `end` would have returned if the map has these pairs of
+// them.
+fn tell_pairs(
+    told: &mut Vec<Told>,
+    pairs: &[Pair],
+    first: u64,
+    end: u64,
+) -> Result<(), AllocError> {
+    let mut next = first;
     for pair in pairs {
         let Pair { key, value } = *pair;
-        tell_none(told, next, key.min(span))?;
+        tell_none(told, next, key.min(end))?;
         told.push(Told {
             asked: Asked::Find(key),
             reply: Some(value),
         })?;
         next = key.saturating_add(1);
     }
-    tell_none(told, next, span)
+    tell_none(told, next, end)
 }
 
 impl Worker {
@@ -235,11 +246,60 @@ impl Worker {
             Ok(frozen) => {
                 let pairs = frozen_pairs(alloc, tree, &mut self.pass, &frozen)?;
                 self.tally.freezes = self.tally.freezes.wrapping_add(1);
-                tell_pairs(&mut self.told, pairs.as_slice(), self.plan.span)?;
+                tell_pairs(&mut self.told, pairs.as_slice(), 0, self.plan.span)?;
             }
             Err(_) => self.tally.unfrozen = self.tally.unfrozen.wrapping_add(1),
         }
         Ok(())
+    }
+
+    // Lists the pairs of some keys from this one on, and keeps what finds of these keys would have been told, in
+    // their order.
+    fn list(&mut self, alloc: Global, tree: &Tree, key: u64) -> Result<(), AllocError>
+        requires same_tree { self.old.pass.tree ≡ tree.now }
+        ensures same_tree { self.new.pass.tree ≡ tree.now }
+        ensures plan { self.new.plan ≡ self.old.plan }
+    {
+        let drawn = self.draws.below(LISTED);
+        let end = key
+            .saturating_add(drawn)
+            .saturating_add(1)
+            .min(self.plan.span);
+        let last = end.saturating_sub(1);
+        let pairs = list_live(alloc, tree, &mut self.pass, key, last)?;
+        self.tally.finds = self.tally.finds.wrapping_add(1);
+        tell_pairs(&mut self.told, pairs.as_slice(), key, end)
+    }
+
+    // Reads the next pair from this key on, and keeps what finds of the keys up to it would have been told.
+    fn next(&mut self, tree: &Tree, key: u64) -> Result<(), AllocError>
+        requires same_tree { self.old.pass.tree ≡ tree.now }
+        ensures same_tree { self.new.pass.tree ≡ tree.now }
+        ensures plan { self.new.plan ≡ self.old.plan }
+    {
+        let pair = at_least(tree, &mut self.pass, key);
+        self.tally.finds = self.tally.finds.wrapping_add(1);
+        match pair {
+            Some(pair) => {
+                let end = pair.key.saturating_add(1);
+                tell_pairs(&mut self.told, &[pair], key, end)
+            }
+            None => tell_none(&mut self.told, key, self.plan.span),
+        }
+    }
+
+    // Reads the key: each eighth time as a list from it on, and each eighth time as the next pair, as the draws
+    // fall.
+    fn read(&mut self, alloc: Global, tree: &Tree, key: u64) -> Result<(), AllocError>
+        requires same_tree { self.old.pass.tree ≡ tree.now }
+        ensures same_tree { self.new.pass.tree ≡ tree.now }
+        ensures plan { self.new.plan ≡ self.old.plan }
+    {
+        match self.draws.below(8) {
+            0 => self.list(alloc, tree, key),
+            1 => self.next(tree, key),
+            _ => self.ask(tree, Asked::Find(key)),
+        }
     }
 
     // Makes the next call.
@@ -258,7 +318,7 @@ impl Worker {
                 self.update(tree, Asked::Put(key, value))
             }
             Kind::Remove => self.update(tree, Asked::Remove(key)),
-            Kind::Find => self.ask(tree, Asked::Find(key)),
+            Kind::Find => self.read(alloc, tree, key),
             Kind::Freeze => self.freeze(alloc, tree),
         }
     }

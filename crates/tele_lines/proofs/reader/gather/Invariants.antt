@@ -1,7 +1,8 @@
 use Rattle.std.proofs.Common.{◌≡◌, ◌+◌, ◌-◌, ◌≤◌, length, true}
-use Rattle.std.specs.Prelude.{if◌then◌else◌}
+use Rattle.std.specs.Prelude.{IfSome, if◌then◌else◌}
 use Rattle.tele_io.specs.Bytes.{Keeps}
-use Rattle.tele_lines.specs.Buffers.{unread_of, TellsEndOf}
+use Rattle.tele_lines.specs.Buffers.{unread_of, TellsEndOf, RefillsOnly}
+use Rattle.tele_lines.proofs.SparingLemmas.{Took}
 use Rattle.tele_lines.proofs.reader.gather.Given as goal
 
 -- no byte is lost, and after the end nothing is read
@@ -13,6 +14,9 @@ invariant-loop-bytes g l =
           (unread_of l.buffer l.ended (left l.source));
       counted : g.S.Source.faults l.fn.source ≤ g.S.Source.faults l.source;
       end : TellsEndOf l.fn.ended (left l.fn.source) → TellsEndOf l.ended (left l.source);
+      took : IfSome (left l.fn.source) (λ bytes. Took l.fn.buffer bytes (left l.source) l.buffer);
+      sparing : IfSome (left l.fn.source)
+          (λ bytes. RefillsOnly l.fn.buffer l.fn.ended bytes (left l.source));
       again : l.fn.ended ≡ true
           → (l.source ≡ l.fn.source) × (l.buffer ≡ l.fn.buffer) × (l.ended ≡ true);
     }

@@ -11,6 +11,7 @@ use Rattle.tele_run.specs.Open.{Open, IsOpenBefore}
 use Rattle.tele_run.proofs.OpenLemmas.{open_first}
 use Rattle.tele_run.proofs.DueRoundLemmas.{rounds_first, rounds_on_if, rounds_end_if}
 use Rattle.tele_run.proofs.ToldLemmas.{first_moment, at_first, all_due, on_and_on_if, on_and_end_if, on_and_part_if, stops_if}
+use Rattle.tele_run.proofs.ReadingLemmas.{reads_none, reads_on_if, reached_if}
 use Rattle.tele_run.proofs.RanLemmas.{words_here}
 use Rattle.tele_run.proofs.runs.answer_all.Goals as goal
 
@@ -43,6 +44,7 @@ loop-status-init g c =
     record {
       due = all_due _ _ _ _ _ new.fresh new.unended first;
       ran = rounds_first words_here o.team o.words _ _ _ _ _ o new.fresh new.unended first fresh;
+      sparing = reads_none _;
       lines = subst (λ n. IsOpenBefore (n + 1) o) (sym (ap (λ (p : Place). p.count) new.place))
           (open_first o.team o.words o fresh);
       end = λ told. record { told = told; none = λ at_end. absurd (cc (at_end, new.unended)) };
@@ -63,6 +65,8 @@ loop-status-preserved g c =
       due = on_and_on_if _ _ _ _ _ _ _ _ _ _ next.ended c.loop-status.invariant.due next.goes_on;
       ran = rounds_on_if words_here c.args.round.team c.args.round.words _ c.loop-status.round _ _ _ _ _ _ _ _
           c.loop-status.invariant.ran next.ran;
+      sparing = reads_on_if _ _ _ c.loop-status.round c.loop-status.lines _ _ c.loop-status.invariant.due
+          c.loop-status.invariant.sparing next.sparing;
       lines = next.before;
       end = λ told. next.end (c.loop-status.invariant.end told);
       limit = next.limit;
@@ -83,6 +87,20 @@ returns-in-Some-clause-stops g c is =
     (on_and_on_if _ _ _ _ _ _ _ _ _ _ last.ended c.loop-status.invariant.due (last.passed failed))
     (last.waits failed)
     (subst (λ (o : Open _). length o.tasks < round_limit) (sym (last.kept failed)) c.loop-status.invariant.few)
+
+-- the source was read only while no line that was taken was bad
+pub returns-in-Some-clause-sparing : goal.returns-in-Some-clause-sparing
+returns-in-Some-clause-sparing g c =
+    reads_on_if _ _ _ c.loop-status.round c.loop-status.lines _ _ c.loop-status.invariant.due
+    c.loop-status.invariant.sparing c.in-Some.ensures.sparing
+
+-- a bad line was read to where it shows
+pub returns-in-Some-clause-reached : goal.returns-in-Some-clause-reached
+returns-in-Some-clause-reached g c is =
+    let bad = ap Some (sym c.ended.ensures.status ∙ is) in
+    reached_if _ _ _ c.loop-status.round c.loop-status.lines c.step.new.lines _ _ c.step.new.lines.ended
+    c.loop-status.invariant.due c.in-Some.ensures.ended (c.in-Some.ensures.skipped bad)
+    (c.in-Some.ensures.shown bad) (λ told. c.in-Some.ensures.end (c.loop-status.invariant.end told))
 
 -- the text was cut short
 pub returns-in-Some-clause-part : goal.returns-in-Some-clause-part

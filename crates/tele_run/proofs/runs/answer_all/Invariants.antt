@@ -3,6 +3,7 @@ use Rattle.std.specs.Prelude.{IfSome, IsSome, None}
 use Rattle.tele_lines.specs.Lines.{line_limit}
 use Rattle.tele_lines.specs.Rounds.{round_limit}
 use Rattle.tele_lines.specs.Progress.{limit_of, count_of, stop_of, mode_of, has_ended, unread, TellsEnd}
+use Rattle.tele_run.specs.Causes.{ReadsSparingly}
 use Rattle.tele_run.specs.Due.{RunsTo, moment_of}
 use Rattle.tele_run.specs.Open.{IsOpenBefore}
 use Rattle.tele_run.proofs.ToldLemmas.{first_moment}
@@ -22,6 +23,7 @@ invariant-loop-status g l =
       ran : IfSome (left l.fn.source) (λ bytes. HasRounds words_here l.fn.round.team
           l.fn.round.words (g.H.Shelf.kept l.fn.shelf) (g.H.Shelf.kept l.shelf) l.round bytes
           (unread l.lines (left l.source)) (moment_of l.lines l.round));
+      sparing : IfSome (left l.fn.source) (λ bytes. ReadsSparingly bytes (left l.source));
       lines : IsOpenBefore (count_of l.lines + 1) l.round;
       end : IsSome (left l.fn.source) → TellsEnd l.lines (left l.source);
       limit : limit_of l.lines ≡ line_limit;

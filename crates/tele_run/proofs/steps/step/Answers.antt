@@ -6,7 +6,7 @@ use Rattle.tele_lines.specs.Progress.{version_of, unread}
 use Rattle.tele_run.specs.Open.{asked, map_in, round_for}
 use Rattle.tele_run.specs.Due.{due, moment_of, TakesRounds}
 use Rattle.tele_run.proofs.AnswerLemmas.{status-asked}
-use Rattle.tele_run.proofs.CauseLemmas.{cut_unanswered, cut_unfailed, cut_unended, uncut, no_other}
+use Rattle.tele_run.proofs.CauseLemmas.{cut_unanswered, cut_unbad, cut_unfailed, cut_unended, uncut, no_other}
 use Rattle.tele_run.proofs.TakeLemmas.{stay_kept, takes_same}
 use Rattle.tele_run.proofs.StepLemmas.{same_lines, status-taken, at_end}
 use Rattle.tele_run.proofs.ToldLemmas.{went_on_if, part_if, none_if, ended_if, ended_part_if}
@@ -249,3 +249,35 @@ returns-clause-whole g c is = cut_unended _ c.refused.ensures.other is
 
 pub returns-clause-statuses : goal.returns-clause-statuses
 returns-clause-statuses g c = inr (inr c.refused.ensures.other)
+
+pub returns-in-Ok-name-clause-skipped : goal.returns-in-Ok-name-clause-skipped
+returns-in-Ok-name-clause-skipped g c _ =
+    c.in-Err-Bad.ensures.skipped c.in-Err-Bad.line c.in-Err-Bad.cause (ap Err c.in-Err-Bad.field-0-is) c.requires.going
+
+pub returns-in-Ok-clause-skipped : goal.returns-in-Ok-clause-skipped
+returns-in-Ok-clause-skipped g c is = absurd (cc is)
+
+pub returns-in-Ok-end_round-clause-skipped : goal.returns-in-Ok-end_round-clause-skipped
+returns-in-Ok-end_round-clause-skipped g c is = no_other _ _ (lit< tt) is
+
+pub returns-in-Ok-pass_on-clause-skipped : goal.returns-in-Ok-pass_on-clause-skipped
+returns-in-Ok-pass_on-clause-skipped g c is = no_other _ _ (lit< tt) (sym is)
+
+pub returns-clause-skipped : goal.returns-clause-skipped
+returns-clause-skipped g c is = cut_unbad _ c.refused.ensures.other is
+
+pub returns-in-Ok-name-clause-shown : goal.returns-in-Ok-name-clause-shown
+returns-in-Ok-name-clause-shown g c _ =
+    c.in-Err-Bad.ensures.shown c.in-Err-Bad.line c.in-Err-Bad.cause (ap Err c.in-Err-Bad.field-0-is) c.requires.going
+
+pub returns-in-Ok-clause-shown : goal.returns-in-Ok-clause-shown
+returns-in-Ok-clause-shown g c is = absurd (cc is)
+
+pub returns-in-Ok-end_round-clause-shown : goal.returns-in-Ok-end_round-clause-shown
+returns-in-Ok-end_round-clause-shown g c is = no_other _ _ (lit< tt) is
+
+pub returns-in-Ok-pass_on-clause-shown : goal.returns-in-Ok-pass_on-clause-shown
+returns-in-Ok-pass_on-clause-shown g c is = no_other _ _ (lit< tt) (sym is)
+
+pub returns-clause-shown : goal.returns-clause-shown
+returns-clause-shown g c is = cut_unbad _ c.refused.ensures.other is

@@ -1,6 +1,7 @@
 use Rattle.std.specs.Prelude.{Option, Some, None, IfSome}
 use Rattle.tele_lines.proofs.CutLemmas.{no_whole}
 use Rattle.tele_lines.proofs.PlaceLemmas.{one_behind}
+use Rattle.tele_lines.proofs.SparingLemmas.{needed_if}
 use Rattle.tele_lines.proofs.reader.Lines.advance.Goals as goal
 
 -- what follows from two facts of a value, if there is one
@@ -22,3 +23,10 @@ returns-in-Err-clause-waiting g c = record {
   open_end = c.in-Err.ensures.waiting.1;
   no_line = no_whole c.gather.new.buffer c.in-Err.ensures.waiting.0;
 }
+
+-- the source was read while no newline was in the buffer
+pub returns-in-Ok-clause-sparing : goal.returns-in-Ok-clause-sparing
+returns-in-Ok-clause-sparing g c = needed_if _ _ _ _ _ c.gather.ensures.sparing
+
+pub returns-in-Err-clause-sparing : goal.returns-in-Err-clause-sparing
+returns-in-Err-clause-sparing g c = needed_if _ _ _ _ _ c.gather.ensures.sparing

@@ -1,6 +1,8 @@
 use Rattle.std.proofs.Common.{ap, length, subst}
 use Rattle.tele_lines.specs.Buffers.{EndsAt}
 use Rattle.tele_lines.proofs.CutterLemmas.{line_at, line_last, first_at, first_last}
+use Rattle.tele_lines.specs.Progress.{place_of}
+use Rattle.tele_lines.proofs.ShownLemmas.{shown_at, shown_last}
 use Rattle.tele_lines.proofs.reader.Lines.cut.Goals as goal
 
 -- the line ends at the newline
@@ -27,3 +29,17 @@ returns-else-len-eq0-clause-first c left =
     let there = subst (EndsAt c.args.self.now.buffer c.args.self.now.ended) c.in-None.is c.requires.there in
     first_last c.args.self.now _ c.read-else-len-eq0.result left (ap length c.bytes-len.ensures.value) c.if-len-eq0.false there
     c.read-else-len-eq0.ensures.value
+
+-- it shows that it is bad
+pub returns-in-Some-clause-shown : goal.returns-in-Some-clause-shown
+returns-in-Some-clause-shown c cause is =
+    let self = c.args.self.now in
+    let there = subst (EndsAt self.buffer self.ended) c.in-Some.is c.requires.there in
+    shown_at (place_of self) cause c.read.result self.buffer self.ended c.in-Some.place there c.read.ensures.value (cc is)
+
+pub returns-else-len-eq0-clause-shown : goal.returns-else-len-eq0-clause-shown
+returns-else-len-eq0-clause-shown c cause is =
+    let self = c.args.self.now in
+    let there = subst (EndsAt self.buffer self.ended) c.in-None.is c.requires.there in
+    shown_last (place_of self) cause c.read-else-len-eq0.result self.buffer self.ended _ (ap length c.bytes-len.ensures.value)
+    there c.read-else-len-eq0.ensures.value (cc is)

@@ -3,6 +3,8 @@ use Rattle.std.specs.Prelude.{Some, Ok}
 use Rattle.tele_lines.specs.Progress.{Place, place_of}
 use Rattle.tele_lines.proofs.ModeLemmas.{steady_twice}
 use Rattle.tele_lines.proofs.PlaceLemmas.{goes_on_if, reads_if, item_if, bad_if}
+use Rattle.tele_lines.proofs.ShownLemmas.{skipped_if}
+use Rattle.tele_lines.proofs.SparingLemmas.{none_needed, on_needed_if}
 use Rattle.tele_lines.proofs.reader.Lines.next.Goals as goal
 
 -- a line that says nothing was skipped
@@ -22,6 +24,7 @@ loop-item-preserved-in-Ok-Some-Skips g c =
       end = λ told. met.end (before.end told);
       ended = λ was. met.ended (before.ended was);
       steady = steady_twice _ _ _ before.steady met.steady;
+      sparing = on_needed_if _ _ _ _ _ _ _ _ _ before.ended before.passed before.sparing met.sparing;
       again = λ done. absurd (cc (met.again (before.again done).0).0);
       counted = omega (arith, before.counted, met.counted);
     }
@@ -43,6 +46,7 @@ loop-item-preserved g c =
       end = λ told. met.end (before.end told);
       ended = λ was. met.ended (before.ended was);
       steady = steady_twice _ _ _ before.steady met.steady;
+      sparing = on_needed_if _ _ _ _ _ _ _ _ _ before.ended before.passed before.sparing met.sparing;
       again = λ done. absurd (cc (met.again (before.again done).0).0);
       counted = omega (arith, before.counted, met.counted);
     }
@@ -64,3 +68,36 @@ returns-in-Ok-Some-Fails-clause-bad g c number cause is going =
     let before = c.loop-item.invariant in
     bad_if _ _ _ number _ cause _ (ap (λ (p : Place). p.count) (met.stop c.in-Ok-Some-Fails.cause told).1) (cc is) (cc is)
     (reads_if _ _ _ _ _ _ before.passed (met.bad c.in-Ok-Some-Fails.cause told))
+
+pub returns-in-Ok-Some-Asks-clause-sparing : goal.returns-in-Ok-Some-Asks-clause-sparing
+returns-in-Ok-Some-Asks-clause-sparing g c =
+    let before = c.loop-item.invariant in
+    on_needed_if _ _ _ _ _ _ _ _ _ before.ended before.passed before.sparing c.in-Ok-Some-Asks.ensures.sparing
+
+pub returns-in-Ok-Some-Fails-clause-sparing : goal.returns-in-Ok-Some-Fails-clause-sparing
+returns-in-Ok-Some-Fails-clause-sparing g c =
+    let before = c.loop-item.invariant in
+    on_needed_if _ _ _ _ _ _ _ _ _ before.ended before.passed before.sparing c.in-Ok-Some-Fails.ensures.sparing
+
+pub returns-in-Ok-None-clause-sparing : goal.returns-in-Ok-None-clause-sparing
+returns-in-Ok-None-clause-sparing g c =
+    let before = c.loop-item.invariant in
+    on_needed_if _ _ _ _ _ _ _ _ _ before.ended before.passed before.sparing c.in-Ok-None.ensures.sparing
+
+pub returns-in-Err-clause-sparing : goal.returns-in-Err-clause-sparing
+returns-in-Err-clause-sparing g c =
+    let before = c.loop-item.invariant in
+    on_needed_if _ _ _ _ _ _ _ _ _ before.ended before.passed before.sparing c.in-Err.ensures.sparing
+
+-- lines before a bad one were skipped
+pub returns-in-Ok-Some-Fails-clause-skipped : goal.returns-in-Ok-Some-Fails-clause-skipped
+returns-in-Ok-Some-Fails-clause-skipped g c number cause is going =
+    let met = c.in-Ok-Some-Fails.ensures in
+    let told = ap Ok (c.in-Ok-Some-Fails.field-0-is ∙ ap Some c.in-Ok-Some-Fails.field-0-0-is) in
+    skipped_if _ _ _ _ _ _ _ _ (met.stop c.in-Ok-Some-Fails.cause told).1 met.ended (met.left c.in-Ok-Some-Fails.cause told)
+    c.loop-item.invariant.passed
+
+pub returns-in-Ok-Some-Fails-clause-shown : goal.returns-in-Ok-Some-Fails-clause-shown
+returns-in-Ok-Some-Fails-clause-shown g c number cause is going =
+    c.in-Ok-Some-Fails.ensures.shown c.in-Ok-Some-Fails.cause
+    (ap Ok (c.in-Ok-Some-Fails.field-0-is ∙ ap Some c.in-Ok-Some-Fails.field-0-0-is))
