@@ -5,3 +5,4 @@ pub mod CutLemmas
 pub mod TotalLemmas
 pub mod WalkLemmas
 pub mod CallerLemmas
+pub mod RoomLemmas

@@ -56,7 +56,8 @@ module _ (p q : PassFace) (on : GoesOnWell p q) where
       ∙ ap (λ es. map_behind (map_of p.tree.start) (take position es)) front.1
       ∙ ap (map_behind (map_of p.tree.start)) (take-append-le position (changes_seen p) front.0 within)
 
-  more_on : (position : ℕ) → position ≤ length (changes_seen p) → position ≤ length (changes_seen q)
+  -- its positions are among the changes that the pass has seen then
+  pub more_on : (position : ℕ) → position ≤ length (changes_seen p) → position ≤ length (changes_seen q)
   more_on position within =
       let front = changes_on (start p.tree.start p.tree.words) p.seen q.seen on.seen in
       let same : length (changes_seen q) ≡ length (changes_seen p ++ front.0)
@@ -166,7 +167,8 @@ looked_not p =
       pairs = λ shot pairs h. h;
     }
 
-further : (a b c : Log) → GoesOn a b → GoesOn b c → GoesOn a c
+-- a log that goes on twice goes on
+pub further : (a b c : Log) → GoesOn a b → GoesOn b c → GoesOn a c
 further a b _ g same_log = g
 further a b _ g (one_event event h) = one_event event (further a b _ g h)
 

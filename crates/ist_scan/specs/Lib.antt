@@ -1,5 +1,6 @@
 -- what the public contracts rest on, in the order to read them
 pub mod Shots
+pub mod Room
 pub mod Totals
 pub mod Walks
 pub mod Callers

@@ -95,6 +95,8 @@ fn bin_at(tree: &Tree, pass: &mut Pass, shot: Frozen, first: u64, width: u64, j:
 
 impl Shot {
     /// Takes a shot of the map: freezes the tree at one moment of the call, and rebuilds it.
+    /// `shot_words` says how many words that takes. If they run out during the rebuild, the shot is
+    /// taken, but all updates are refused from then on: see `take_if_room`.
     ///
     /// Its position isn't before what the pass had seen. The calls of the pass are as before.
     /// Returns `Full` if the tree had too few words left for a row of the rebuild's start; then no

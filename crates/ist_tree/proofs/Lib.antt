@@ -48,3 +48,4 @@ pub mod RoundLemmas
 pub mod FewChangesLemmas
 pub mod LookedLemmas
 mod SweepLemmas
+mod RoomLemmas

@@ -4,6 +4,7 @@ pub mod Opening
 pub mod Calls
 pub mod Spans
 pub mod Sweeps
+pub mod Room
 pub mod Refusals
 pub mod DueRows
 pub mod Closing

@@ -11,6 +11,7 @@ pub mod laws;
 mod passes;
 mod ports;
 mod rebuilding;
+mod room;
 mod sweeping;
 mod trees;
 mod updating;

@@ -1,0 +1,150 @@
+-- A pass that looked for room, and then took a shot or was refused one. Serves `look_for` and
+-- `take_if_room`.
+use Rattle.std.proofs.Common.{◌≡◌, ℕ, ◌+◌, ◌<◌, ◌≤◌, length, Result, Ok, Err, IfOk, IfErr, OnOk, inl, inr, ⊎_elim, ap, ◌∙◌, sym, subst, le_refl, arith}
+use Rattle.ist_core.specs.declared.ports.Full.{Full}
+use Rattle.ist_core.specs.Lawful.{state_of}
+use Rattle.ist_core.specs.Links.{IsChild}
+use Rattle.ist_core.specs.Logs.{same_log}
+use Rattle.ist_core.specs.RowLayout.{anchor}
+use Rattle.ist_core.specs.Slots.{SlotHolds}
+use Rattle.ist_core.specs.References.{InnerAt, word_of}
+use Rattle.ist_core.specs.Spending.{spent}
+use Rattle.ist_tree.specs.declared.freezing.Frozen.{Frozen}
+use Rattle.ist_tree.specs.Calls.{HasSeenMore}
+use Rattle.ist_tree.specs.Faces.{TreeFace, PassFace, changes_seen}
+use Rattle.ist_tree.specs.Freezing.{IsFreezeRefused}
+use Rattle.ist_tree.specs.Refusals.{HadTooFew, IsTopRefused, KeepsRefusal}
+use Rattle.ist_tree.specs.Room.{HasLeft, HasMadeNone}
+use Rattle.ist_scan.specs.Room.{HadRoom, HadNoRoom, IsShotRefused, for_start}
+use Rattle.ist_scan.specs.Shots.{HasTaken}
+use Rattle.ist_scan.proofs.ShotLemmas.{GoesOnWell, further, more_on}
+
+-- ---- the look
+
+-- enough words were left
+pub had_room : (p q : PassFace) (left words : ℕ) → HasSeenMore p q → HasLeft q left → words ≤ left
+    → HadRoom p q words
+had_room p q left words seen has enough =
+    let sum : spent p.tree.start q.seen + left ≡ p.tree.words
+    = subst (λ (t : TreeFace). spent t.start q.seen + left ≡ t.words) seen.tree has in
+    record { at = q.seen; since = seen.seen; until = same_log; enough = omega arith }
+
+-- too few were left
+pub had_no_room : (p q : PassFace) (left words : ℕ) (full : Full) → HasSeenMore p q
+    → HasLeft q left → HasMadeNone p q → left < words → full.next + left ≡ p.tree.words
+    → full.asked ≡ words → full.words ≡ p.tree.words → HadNoRoom p q words full
+had_no_room p q left words full seen has none few next asked all =
+    let sum : spent p.tree.start q.seen + left ≡ p.tree.words
+    = subst (λ (t : TreeFace). spent t.start q.seen + left ≡ t.words) seen.tree has in
+    record {
+      had = record {
+        at = q.seen;
+        since = seen.seen;
+        until = same_log;
+        few = record { next_is = omega arith; words_is = all; small = omega arith };
+      };
+      asked = asked;
+      none = none;
+    }
+
+-- ---- the shot after it
+
+module _ (p m q : PassFace) (look : HasSeenMore p m) (after : HasSeenMore m q) where
+  -- both together have seen more
+  pub seen_both : HasSeenMore p q
+  seen_both =
+      let low = look.stamp in
+      let high = after.stamp in
+      record {
+        tree = after.tree ∙ look.tree;
+        number = after.number ∙ look.number;
+        seen = further p.seen m.seen q.seen look.seen after.seen;
+        stamp = omega arith;
+      }
+
+  -- the room that was found was there in the call
+  room_both : (words : ℕ) → HadRoom p m words → HadRoom p q words
+  room_both words h =
+      record {
+        at = h.at;
+        since = h.since;
+        until = further h.at m.seen q.seen h.until after.seen;
+        enough = h.enough;
+      }
+
+  -- the shot isn't before what the pass had seen before the look
+  taken_both : GoesOnWell p m → (shot : Frozen) → HasTaken m q shot → HasTaken p q shot
+  taken_both on shot h =
+      let more = more_on p m on (length (changes_seen p)) (le_refl _) in
+      let fresh = h.fresh in
+      record { position = h.position; fresh = omega arith; is_of = h.is_of }
+
+  -- too few words after the look were too few in the call
+  short_both : (full : Full) → HadTooFew m q full → HadTooFew p q full
+  short_both full h =
+      record {
+        at = h.at;
+        since = further p.seen m.seen h.at look.seen h.since;
+        until = h.until;
+        few = record {
+          next_is = h.few.next_is ∙ ap (λ (t : TreeFace). spent t.start h.at) look.tree;
+          words_is = h.few.words_is ∙ ap (λ (t : TreeFace). t.words) look.tree;
+          small = subst (λ (t : TreeFace). t.words < full.next + full.asked) look.tree h.few.small;
+        };
+      }
+
+  -- a freeze that was refused after the look was refused in the call
+  refused_both : (full : Full) → IsFreezeRefused m q full → IsFreezeRefused p q full
+  refused_both full h =
+      record {
+        had = short_both full h.had;
+        asked = h.asked;
+        held = record {
+          at = h.held.at;
+          since = further p.seen m.seen h.held.at look.seen h.held.since;
+          until = h.held.until;
+          row = h.held.row;
+          holds = subst (λ (t : TreeFace). SlotHolds (state_of t.start t.words h.held.at) anchor 0
+              (word_of (InnerAt h.held.row))) look.tree h.held.holds;
+        };
+      }
+
+  top_both : (full : Full) → IsTopRefused m q full → IsTopRefused p q full
+  top_both full h =
+      record {
+        row = h.row;
+        at = h.at;
+        since = further p.seen m.seen h.at look.seen h.since;
+        until = h.until;
+        child = subst (λ (t : TreeFace). IsChild (state_of t.start t.words h.at) anchor 0 h.row)
+            look.tree h.child;
+        had = short_both full h.had;
+        asked = h.asked;
+      }
+
+  -- the refusal that the pass keeps has its cause in the call
+  pub keeps_both : m.refused ≡ p.refused → KeepsRefusal m q → KeepsRefusal p q
+  keeps_both same k =
+      record {
+        stays = λ full e. k.stays full (same ∙ e);
+        cause = λ full e.
+            ⊎_elim (λ kept. inl (sym same ∙ kept)) (λ top. inr (top_both full top)) (k.cause full e);
+      }
+
+  -- what the shot after the look returned, it returned in the call
+  pub ok_both : GoesOnWell p m → (r : Result Frozen Full) → IfOk r (HasTaken m q)
+      → IfOk r (HasTaken p q)
+  ok_both on (Ok shot) h = taken_both on shot h
+  ok_both on (Err full) h = tt
+
+  -- if it was taken, there was room
+  pub room_if_ok : (words : ℕ) → HadRoom p m words → (r : Result Frozen Full)
+      → OnOk r (HadRoom p q words)
+  room_if_ok words room (Ok shot) = room_both words room
+  room_if_ok words room (Err full) = tt
+
+  -- if it was refused, there was room before
+  pub err_both : (words : ℕ) → HadRoom p m words → (r : Result Frozen Full)
+      → IfErr r (IsFreezeRefused m q) → IfErr r (IsShotRefused p q words)
+  err_both words room (Ok shot) h = tt
+  err_both words room (Err full) h = for_start (room_both words room) (refused_both full h)

@@ -1,0 +1,36 @@
+-- How many words a shot takes, and what a pass that asks for room first concludes.
+use Rattle.std.specs.Prelude.{◌≡◌, ℕ, ◌+◌, ◌*◌, ◌≤◌}
+use Rattle.std.specs.List.{sum}
+use Rattle.ist_core.specs.declared.ports.Full.{Full}
+use Rattle.ist_core.specs.Logs.{Log, GoesOn}
+use Rattle.ist_core.specs.RowLayout.{change_words, rebuild_words}
+use Rattle.ist_core.specs.Shapes.{shape}
+use Rattle.ist_core.specs.Spending.{spent}
+use Rattle.ist_tree.specs.Faces.{PassFace}
+use Rattle.ist_tree.specs.Freezing.{IsFreezeRefused}
+use Rattle.ist_tree.specs.Refusals.{HadTooFew}
+use Rattle.ist_tree.specs.Room.{HasMadeNone}
+
+-- the words of the rows that one pass takes for a shot of this many keys: the inner rows of the
+-- ideal tree of them, the row of the rebuild, and the changes of its start and its finish
+abbrev pub words_of_shot : ℕ → ℕ
+words_of_shot keys = sum (shape keys) + rebuild_words + 2 * change_words
+
+-- after a log that the pass has seen in the call, at least this many words were left
+pub record HadRoom (p q : PassFace) (words : ℕ) : Type 0 where
+  pub at : Log
+  pub since : GoesOn p.seen at
+  pub until : GoesOn at q.seen
+  pub enough : spent p.tree.start at + words ≤ p.tree.words
+
+-- fewer words than these were left after such a log; the pass made no event in the call, so that
+-- nothing was frozen by it
+pub record HadNoRoom (p q : PassFace) (words : ℕ) (full : Full) : Type 0 where
+  pub had : HadTooFew p q full
+  pub asked : full.asked ≡ words
+  pub none : HasMadeNone p q
+
+-- no shot was taken: there was no room; or there was, and the freeze was refused after that
+pub data IsShotRefused (p q : PassFace) (words : ℕ) (full : Full) : Type 0 where
+  for_room : HadNoRoom p q words full → IsShotRefused p q words full
+  for_start : HadRoom p q words → IsFreezeRefused p q full → IsShotRefused p q words full

@@ -1,0 +1,93 @@
+-- A pass whose seat loaded the first free word, in no call of its own. Serves `room`.
+use Rattle.std.proofs.Common.{◌≡◌, ℕ, ◌+◌, ◌≤◌, Option, refl, ap, ap₂, ◌∙◌, subst, arith}
+use Rattle.ist_core.specs.declared.ports.Full.{Full}
+use Rattle.ist_core.specs.RowLayout.{next_place}
+use Rattle.ist_core.specs.Shown.{shown_next}
+use Rattle.ist_core.specs.Authors.{Later}
+use Rattle.ist_core.proofs.RoomLemmas.{next_within, words_same}
+use Rattle.ist_core.proofs.SpendingLemmas.{words_are_spent}
+use Rattle.ist_rule.specs.declared.view.View.{View}
+use Rattle.ist_rule.specs.Faces.{SeatFace}
+use Rattle.ist_rule.specs.Learning.{Looked, now}
+use Rattle.ist_rule.specs.Rule.{IsSound}
+use Rattle.ist_rule.proofs.GoingOnLemmas.{looked_goes_on}
+use Rattle.ist_rule.proofs.LaterLemmas.{later-goes_on}
+use Rattle.ist_rows.specs.declared.callers.Caller.{Caller}
+use Rattle.ist_tree.specs.Calls.{HasSeenMore}
+use Rattle.ist_tree.specs.Faces.{PassFace}
+use Rattle.ist_tree.specs.Freezing.{HasStartedNone}
+use Rattle.ist_tree.specs.Insides.{IsPassWith, face_as, pass_face}
+use Rattle.ist_tree.specs.Room.{HasLeft, HasMadeNone}
+use Rattle.ist_tree.proofs.BetweenLemmas.{between_calls}
+use Rattle.ist_tree.proofs.GoingLemmas.{IsLaterView, pass_with_later}
+use Rattle.ist_tree.proofs.StartLemmas.{starts_none_later}
+
+-- the first free word that was loaded isn't beyond the table
+pub next_fits : (v : View) (next : ℕ) (w : View) → Looked v next_place next w → next ≤ w.words
+next_fits v next w l =
+    let is = l.stood (now w).next shown_next in
+    let low = next_within w.start w.words l.sound.lawful.opens w.log l.sound.lawful.enabled in
+    let all = words_same w.start w.words l.sound.lawful.opens w.log in
+    omega arith
+
+-- what it results in, for a pass with this face
+pub record RoomEnds (old : PassFace) (who : Caller) (refused : Option Full) (seat : SeatFace)
+    (left : ℕ) : Type 0 where
+  pub pass : IsPassWith (record who { seat = seat }) refused
+  pub seen : HasSeenMore old (face_as seat who.number refused)
+  pub left_is : HasLeft (face_as seat who.number refused) left
+  pub none : HasMadeNone old (face_as seat who.number refused)
+  pub unstarted : HasStartedNone old (face_as seat who.number refused)
+  pub loads : seat.view.loaded ≡ old.loaded + 1
+  pub calls : seat.view.calls ≡ old.calls
+  pub stamp : seat.view.stamp ≡ old.stamp
+
+-- a load of the first free word ends so
+pub room_ends : (who : Caller) (refused : Option Full) (seat : SeatFace) → IsPassWith who refused
+    → IsSound who.seat.view → (next left : ℕ) → Looked who.seat.view next_place next seat.view
+    → seat.table ≡ who.seat.table → next + left ≡ seat.view.words → (old : PassFace)
+    → pass_face who refused ≡ old → RoomEnds old who refused seat left
+room_ends who refused seat all sound next left l table sum old view =
+    subst (λ (o : PassFace). RoomEnds o who refused seat left) view from
+  where
+    v : View
+    v = who.seat.view
+
+    w : View
+    w = seat.view
+
+    later : IsLaterView v w
+    later =
+        let g = looked_goes_on v next_place next w l in
+        record {
+          who_is = ap (λ (y : View). y.who) g.same;
+          start_is = ap (λ (y : View). y.start) g.same;
+          words_is = ap (λ (y : View). y.words) g.same;
+          later = g.later;
+          sound = g.sound;
+        }
+
+    from : RoomEnds (pass_face who refused) who refused seat left
+    from =
+        let g = looked_goes_on v next_place next w l in
+        let stamps = ap (λ (y : View). y.stamp) g.same in
+        let is = l.stood (now w).next shown_next in
+        let used = words_are_spent w.start w.words w.log l.sound.lawful in
+        record {
+          pass = pass_with_later who seat refused all later
+              (ap (λ (y : View). y.pending) g.same ∙ all.pass.in_none);
+          seen = record {
+            tree = ap₂ (λ t (y : View). record { table = t; start = y.start; words = y.words })
+                table g.same;
+            number = refl;
+            seen = later-goes_on g.later;
+            stamp = omega arith;
+          };
+          left_is = omega arith;
+          none = subst (λ x. Later x v.log w.log) all.pass.caller.mine g.later;
+          unstarted = starts_none_later v w later who.number all.pass.caller.mine
+              (between_calls v who.number sound all.pass.caller.mine all.pass.in_none).resolved;
+          loads = ap (λ (y : View). y.loaded) l.view;
+          calls = ap (λ (y : View). y.calls) g.same;
+          stamp = stamps;
+        }
