@@ -21,7 +21,7 @@ from pathlib import Path
 
 SPAN = re.compile(r"`([^`]+)`")
 WORD = re.compile(r"[a-z_]\w*\Z")
-ITEM = re.compile(r"^\s*(?:pub(?:\([^)]*\))? )?(?:ghost )?(?:const )?(?:unsafe )?(fn|struct|enum|trait|type|const|static|mod) (\w+)")
+ITEM = re.compile(r"^\s*(?:pub(?:\([^)]*\))? )?(?:ghost )?(?:const )?(?:unsafe )?(?:extern .C. )?(fn|struct|enum|trait|type|const|static|mod) (\w+)")
 CITING = ("clause", "law", "decision", "stays enabled", "comes", "made by")
 # some names in a file, which may be named without its folders and its ending
 LEMMA = re.compile(r"((?:`[^`\s]+`(?:, | and )?)+) in `(?:[^`]*/)?(\w+)(?:\.(antt|rt))?`")

@@ -1,0 +1,174 @@
+/* Threads put, find and remove keys of one tree. Then the passes go back, and the tree is closed and listed.
+ *
+ *     bash tools/library.sh
+ *     cc -O2 -Icrates/ist_c/include bindings/c/threads.c -Lout -lluskadorv -lpthread -o out/threads
+ *     out/threads [KEYS]
+ *
+ * KEYS is how many keys each thread has, an even number: 10000 if none is named. The status is 0, or the number of the
+ * first check that failed. */
+#include "ist.h"
+#include <pthread.h>
+#include <stdio.h>
+#include <stdlib.h>
+
+enum { THREADS = 4, WORDS = 16000000 };
+
+/* How many keys each thread has. */
+static uint64_t keys = 10000;
+
+struct worker {
+    ist_pass pass;
+    uint64_t number;
+};
+
+static void check(bool holds, int number) {
+    if (holds) return;
+    fprintf(stderr, "check %d failed\n", number);
+    exit(number);
+}
+
+/* Each thread has keys of its own, `number` modulo THREADS: it puts them all, replaces them, and removes every other. */
+static void *work(void *argument) {
+    struct worker *worker = argument;
+    ist_shortage why;
+    for (uint64_t i = 0; i < keys; i++) {
+        uint64_t key = i * THREADS + worker->number;
+        ist_result put = ist_put(&worker->pass, key, i, &why);
+        check(put.status == IST_DONE && !put.some, 10);
+        put = ist_put(&worker->pass, key, i + 1, &why);
+        check(put.status == IST_DONE && put.some && put.value == i, 11);
+    }
+    for (uint64_t i = 0; i < keys; i += 2) {
+        ist_result removed = ist_remove(&worker->pass, i * THREADS + worker->number, &why);
+        check(removed.status == IST_DONE && removed.some && removed.value == i + 1, 12);
+    }
+    for (uint64_t i = 0; i < keys; i++) {
+        ist_result found = ist_find(&worker->pass, i * THREADS + worker->number);
+        check(found.status == IST_DONE && found.some == (i % 2 == 1), 13);
+        check(!found.some || found.value == i + 1, 14);
+    }
+    return NULL;
+}
+
+static void share(void) {
+    ist_owner owner = {0};
+    check(ist_open(WORDS, (ist_entry[1]){{0}}, 0, &owner) == IST_DONE, 1);
+    struct worker workers[THREADS] = {0};
+    pthread_t threads[THREADS];
+    for (int i = 0; i < THREADS; i++) {
+        workers[i].number = (uint64_t)i;
+        check(ist_new_pass(&owner, &workers[i].pass) == IST_DONE, 2);
+    }
+    for (int i = 0; i < THREADS; i++) check(pthread_create(&threads[i], NULL, work, &workers[i]) == 0, 3);
+    for (int i = 0; i < THREADS; i++) check(pthread_join(threads[i], NULL) == 0, 4);
+    for (int i = 0; i < THREADS; i++) check(ist_give_back(&owner, &workers[i].pass) == IST_DONE, 5);
+    check(ist_close(&owner) == IST_DONE, 6);
+
+    uint64_t left = THREADS * keys / 2, count = 0, read = 0;
+    ist_entry room[64];
+    for (;;) {
+        check(ist_list(&owner, read, room, 64, &count) == IST_DONE && count == left, 7);
+        if (read >= count) break;
+        for (int i = 0; i < 64 && read < count; i++, read++) {
+            uint64_t turn = 2 * (read / THREADS) + 1;
+            check(room[i].key == turn * THREADS + read % THREADS && room[i].value == turn + 1, 8);
+        }
+    }
+    ist_free(&owner);
+    printf("%d threads left %llu pairs\n", THREADS, (unsigned long long)count);
+}
+
+/* One counter that all threads raise, by compare-and-set. */
+static void *count_up(void *argument) {
+    struct worker *worker = argument;
+    ist_shortage why;
+    ist_result had = ist_put_new(&worker->pass, 7, 0, &why);
+    check(had.status == IST_DONE, 15);
+    for (uint64_t done = 0; done < keys; done++) {
+        uint64_t value = ist_find(&worker->pass, 7).value;
+        while ((had = ist_put_if(&worker->pass, 7, value, value + 1, &why)).value != value) value = had.value;
+        check(had.status == IST_DONE && had.some, 16);
+    }
+    return NULL;
+}
+
+static void raise_one(void) {
+    ist_owner owner = {0};
+    ist_shortage why;
+    check(ist_open(WORDS, (ist_entry[1]){{0}}, 0, &owner) == IST_DONE, 30);
+    struct worker workers[THREADS] = {0};
+    pthread_t threads[THREADS];
+    for (int i = 0; i < THREADS; i++) {
+        check(ist_new_pass(&owner, &workers[i].pass) == IST_DONE, 31);
+        check(pthread_create(&threads[i], NULL, count_up, &workers[i]) == 0, 32);
+    }
+    for (int i = 0; i < THREADS; i++) check(pthread_join(threads[i], NULL) == 0, 33);
+    ist_result last = ist_remove_if(&workers[0].pass, 7, THREADS * keys, &why);
+    check(last.status == IST_DONE && last.some && last.value == THREADS * keys, 34);
+    check(!ist_find(&workers[0].pass, 7).some, 35);
+    for (int i = 0; i < THREADS; i++) ist_free(&workers[i].pass);
+    ist_free(&owner);
+    printf("%d threads raised a counter to %llu\n", THREADS, (unsigned long long)last.value);
+}
+
+/* A tree that runs full: the refused put didn't happen, and finds go on. */
+static void run_full(void) {
+    ist_entry entries[3] = {{2, 20}, {1, 10}, {2, 21}};
+    ist_owner owner = {0};
+    ist_pass pass = {0};
+    ist_shortage why = {0};
+    check(ist_open(4, entries, 3, &owner) == IST_SMALL && !owner.full, 20);
+    check(ist_open(200, entries, 3, &owner) == IST_DONE, 21);
+    check(ist_new_pass(&owner, &pass) == IST_DONE, 22);
+    uint64_t key = 10;
+    ist_result put;
+    while ((put = ist_put(&pass, key, key, &why)).status == IST_DONE) key++;
+    check(put.status == IST_FULL && why.words == 200 && why.next + why.asked > why.words, 23);
+    check(ist_find(&pass, key).status == IST_DONE && !ist_find(&pass, key).some, 24);
+    check(ist_find(&pass, key - 1).value == key - 1 && ist_find(&pass, 2).value == 21, 25);
+    check(ist_give_back(&owner, &pass) == IST_DONE && ist_close(&owner) == IST_DONE, 26);
+    uint64_t count = 0;
+    check(ist_list(&owner, 0, entries, 3, &count) == IST_DONE && count == key - 8, 27);
+    check(entries[0].key == 1 && entries[1].value == 21 && entries[2].key == 10, 28);
+    ist_free(&owner);
+}
+
+/* Calls by wrong or empty handles, and at a wrong time. */
+static void misuse(void) {
+    ist_entry entries[1] = {{5, 50}};
+    ist_owner owner = {0};
+    ist_pass one = {0}, two = {0};
+    ist_note note = {0};
+    ist_shortage why = {1, 2, 3};
+    check(ist_open(0x20000000, entries, 1, &owner) == IST_MISUSE, 40);
+    check(ist_open(1000, entries, 1, &owner) == IST_DONE, 41);
+    check(ist_open(1000, entries, 1, &owner) == IST_MISUSE && owner.full, 42);
+    check(ist_find(&one, 5).status == IST_MISUSE && !one.full, 43);
+    check(ist_put(&one, 5, 5, &why).status == IST_MISUSE && why.words == 3, 44);
+    check(ist_new_pass(&owner, &one) == IST_DONE && ist_new_pass(&owner, &one) == IST_MISUSE, 45);
+    check(ist_new_pass(&owner, &two) == IST_DONE, 46);
+    check(ist_find((ist_pass *)&owner, 5).status == IST_MISUSE && owner.full, 47);
+    check(ist_write_note(&one, &note) == IST_DONE, 48);
+    check(ist_close(&owner) == IST_BUSY && owner.full, 49);
+    check(ist_meet(&two, &note) == IST_DONE && !note.full, 50);
+    check(ist_meet(&two, &note) == IST_MISUSE, 51);
+    check(ist_give_back(&owner, &one) == IST_DONE && !one.full, 52);
+    check(ist_give_back(&owner, &one) == IST_MISUSE, 53);
+    check(ist_close(&owner) == IST_BUSY, 54);
+    check(ist_put(&two, 5, 51, &why).value == 50, 55);
+    /* a pass keeps the memory of its tree */
+    ist_free(&owner);
+    check(!owner.full && ist_find(&two, 5).value == 51, 56);
+    ist_free(&two);
+    ist_free(&two);
+    check(ist_words_for(0) == 4 && ist_words_for(UINT64_MAX) == 0, 57);
+}
+
+int main(int count, char **words) {
+    if (count > 1) keys = strtoull(words[1], NULL, 10);
+    share();
+    raise_one();
+    run_full();
+    misuse();
+    return 0;
+}

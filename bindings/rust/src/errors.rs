@@ -1,0 +1,46 @@
+//! Why calls fail.
+
+use std::fmt::{Display, Formatter, Result};
+
+/// Why a tree isn't opened or closed, or a pass or a note isn't made.
+#[derive(Clone, Copy, Debug, PartialEq, Eq)]
+#[non_exhaustive]
+pub enum Error {
+    /// Out of memory.
+    Memory,
+    /// The words are too few for the pairs, or more than 2^28.
+    Words,
+    /// A pass or a note was leaked, so the tree can't be closed.
+    Leaked,
+}
+
+impl Display for Error {
+    fn fmt(&self, out: &mut Formatter<'_>) -> Result {
+        out.write_str(match self {
+            Error::Memory => "out of memory",
+            Error::Words => "the words are too few for the pairs, or more than 2^28",
+            Error::Leaked => "a pass or a note of the tree was leaked",
+        })
+    }
+}
+
+impl std::error::Error for Error {}
+
+/// The tree has too few words left for the update, which didn't happen.
+#[derive(Clone, Copy, Debug, PartialEq, Eq)]
+pub struct Full {
+    /// The number of the first free word.
+    pub next: u64,
+    /// How many more words were needed.
+    pub asked: u64,
+    /// How many words the tree has.
+    pub words: u64,
+}
+
+impl Display for Full {
+    fn fmt(&self, out: &mut Formatter<'_>) -> Result {
+        write!(out, "{} of {} words are used, and {} more were needed", self.next, self.words, self.asked)
+    }
+}
+
+impl std::error::Error for Full {}

@@ -1,0 +1,96 @@
+/* An ordered map from 64-bit keys to 64-bit values that threads share without locks.
+ *
+ * A handle starts as zeros:   ist_owner owner = {0};
+ * It holds something while `full` is set. Its fields belong to the library: a caller never writes or copies a handle,
+ * and never gives one handle to two calls at a time, nor one handle twice to one call. It may go from thread to thread,
+ * ordered by a lock, by the start or the join of a thread, or by a sequentially consistent atomic. Each thread calls the
+ * tree by a pass of its own, at the same time as others.
+ *
+ * Pointers are never null. A call whose comment says `same tree` doesn't test that both handles are of one tree: the
+ * caller sees to it. No call may be made in a signal handler, or in a process forked by one that has threads. */
+#ifndef IST_H
+#define IST_H
+
+#ifndef __cplusplus
+#include <stdbool.h>
+#endif
+#include <stddef.h>
+#include <stdint.h>
+
+#ifdef __cplusplus
+extern "C" {
+#endif
+
+/* What a call returns. */
+enum ist_status {
+    IST_DONE = 0,
+    IST_MEMORY = 1, /* out of memory */
+    IST_SMALL = 2,  /* the tree of the pairs takes more words */
+    IST_BUSY = 3,   /* a pass or a note is out */
+    IST_MISUSE = 4, /* a handle holds something else or nothing, `out` is full, or a number is too large */
+    IST_FULL = 5    /* too few words of the tree are left: the call didn't happen */
+};
+
+typedef struct ist_owner { bool full; void *at; } ist_owner; /* a tree with its maker; after ist_close its pairs */
+typedef struct ist_pass { bool full; void *at; } ist_pass;   /* what one thread calls the tree by */
+typedef struct ist_note { bool full; void *at; } ist_note;   /* what a pass had seen */
+
+/* A key with its value. */
+typedef struct ist_entry { uint64_t key, value; } ist_entry;
+
+/* What a call on a key returns: an ist_status, whether the key had a value, and the value. */
+typedef struct ist_result { uint32_t status; bool some; uint64_t value; } ist_result;
+
+/* The numbers of a refusal: `asked` more words were needed, and the first free one of `words` words was `next`. */
+typedef struct ist_shortage { uint64_t next, asked, words; } ist_shortage;
+
+/* How many words a tree of this many pairs takes at least; 0 for 2^32 pairs or more. Updates take further words: some 60
+ * each. */
+uint64_t ist_words_for(uint64_t pairs);
+
+/* Opens a tree of these pairs (of two with one key the later), with this many words of 8 bytes, at most 2^28. All its
+ * memory is allocated here. */
+uint32_t ist_open(uint32_t words, const ist_entry *entries, size_t count, ist_owner *out);
+
+/* Makes a new pass. The status is IST_MEMORY also if 2^32 - 1 were made. */
+uint32_t ist_new_pass(ist_owner *owner, ist_pass *out);
+
+/* Finds the key. Like all calls on keys it never blocks, allocates nothing, and always returns. */
+ist_result ist_find(ist_pass *pass, uint64_t key);
+
+/* Puts the value at the key, or removes the key, and returns what the key had. `why` is written if the status is
+ * IST_FULL, and else left as it is. */
+ist_result ist_put(ist_pass *pass, uint64_t key, uint64_t value, ist_shortage *why);
+ist_result ist_remove(ist_pass *pass, uint64_t key, ist_shortage *why);
+
+/* Puts the value at the key only if the key has no value (ist_put_new), or the expected one (ist_put_if); removes the key
+ * only if it has the expected value. Each returns what the key had: if that isn't what was expected, the call was a find.
+ * `why` is as above. */
+ist_result ist_put_new(ist_pass *pass, uint64_t key, uint64_t value, ist_shortage *why);
+ist_result ist_put_if(ist_pass *pass, uint64_t key, uint64_t expected, uint64_t value, ist_shortage *why);
+ist_result ist_remove_if(ist_pass *pass, uint64_t key, uint64_t expected, ist_shortage *why);
+
+/* Makes a note of what the pass has seen (ist_write_note), and lets a pass learn it, which uses the note up (ist_meet,
+ * same tree). The calls of the second pass then come after those that the first had made. */
+uint32_t ist_write_note(ist_pass *pass, ist_note *out);
+uint32_t ist_meet(ist_pass *pass, ist_note *note);
+
+/* Gives the pass back, which uses it up (same tree). */
+uint32_t ist_give_back(ist_owner *owner, ist_pass *pass);
+
+/* Closes the tree, once all passes are back and all notes are used up or freed. The handle then holds the pairs that are
+ * left. If there is no memory for them the status is IST_MEMORY: the tree is closed, and its pairs are lost. */
+uint32_t ist_close(ist_owner *owner);
+
+/* Writes the pairs of a closed tree from number `from` on, in increasing order of keys: as many as there is room for,
+ * and into `count` how many there are in all. */
+uint32_t ist_list(ist_owner *closed, uint64_t from, ist_entry *room, size_t rooms, uint64_t *count);
+
+/* Drops what a handle of any kind holds. The memory of a tree is freed with the last handle of it. A pass that is freed
+ * is never back, so its tree can't be closed any more. */
+void ist_free(void *handle);
+
+#ifdef __cplusplus
+}
+#endif
+#endif

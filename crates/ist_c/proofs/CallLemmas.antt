@@ -1,0 +1,107 @@
+-- What a pass behind a handle found, what its updates did, and what closing left.
+use Rattle.std.proofs.Common.{◌≡◌, ℕ, Option, Some, Result, Ok, Err, IfSome, IfOk, IfErr, OnErr, sym, subst}
+use Rattle.std.specs.Global.{Vec}
+use Rattle.std.specs.Arc.{arc_value}
+use Rattle.ist_core.specs.declared.commands.Command.TheVariants.{Get}
+use Rattle.ist_core.specs.declared.pairs.Pair.{Pair}
+use Rattle.ist_core.specs.declared.ports.Full.{Full}
+use Rattle.ist_updates.specs.Asking.{command_for}
+use Rattle.ist_tree.specs.Calls.{HasSeenMore, AddsCall}
+use Rattle.ist_tree.specs.Refusals.{IsRefused}
+use Rattle.ist_c.specs.declared.results.CallResult.{CallResult}
+use Rattle.ist_c.specs.declared.results.Shortage.{Shortage}
+use Rattle.ist_c.specs.declared.held.Held.{Held}
+use Rattle.ist_c.specs.declared.held.Held.TheVariants as of
+use Rattle.ist_c.specs.declared.owners.TreeOwner.{TreeOwner}
+use Rattle.ist_c.specs.declared.passes.TreePass.{TreePass}
+use Rattle.ist_c.specs.Results.{done, memory, busy, misuse, full, reply_of, full_of}
+use Rattle.ist_c.specs.Calls.{HasNotCalled, Finds, Updates, pass_finds, pass_updates, pass_refused}
+use Rattle.ist_c.specs.Leaving.{AreLeft}
+use Rattle.ist_c.specs.Closing.{Closes, listed, lost, is_busy, no_owner}
+
+-- ---- one call of a pass
+
+pub found : (held : Held) (p q : TreePass) (key : ℕ) (reply : Option ℕ) (said : CallResult)
+    → held ≡ of.Pass p → arc_value q.tree ≡ arc_value p.tree → HasSeenMore p.pass q.pass
+    → AddsCall p.pass q.pass (Get key) reply → said.status ≡ done
+    → reply_of said.some said.value ≡ reply → Finds held (of.Pass q) key said
+found held p q key reply said is tree seen added status says =
+    subst (λ (h : Held). Finds h (of.Pass q) key said) (sym is)
+    (pass_finds p q key said status (record {
+      same_tree = tree;
+      seen = seen;
+      added = subst (λ (r : Option ℕ). AddsCall p.pass q.pass (Get key) r) (sym says) added;
+    }))
+
+pub updated : (held : Held) (p q : TreePass) (key : ℕ) (value : Option ℕ)
+    (result : Result (Option ℕ) Full) (reply : Option ℕ) (said : CallResult) (short : Shortage)
+    → held ≡ of.Pass p → result ≡ Ok reply → arc_value q.tree ≡ arc_value p.tree
+    → HasSeenMore p.pass q.pass
+    → IfOk result (λ r. AddsCall p.pass q.pass (command_for key value) r) → said.status ≡ done
+    → reply_of said.some said.value ≡ reply
+    → Updates held (of.Pass q) key value said short short
+updated held p q key value result reply said short is ok tree seen added status says =
+    let command = command_for key value in
+    let it : AddsCall p.pass q.pass command reply =
+    subst (λ (r : Result (Option ℕ) Full). IfOk r (λ r. AddsCall p.pass q.pass command r)) ok added in
+    subst (λ (h : Held). Updates h (of.Pass q) key value said short short) (sym is)
+    (pass_updates p q key value said short status (record {
+      same_tree = tree;
+      seen = seen;
+      added = subst (λ (r : Option ℕ). AddsCall p.pass q.pass command r) (sym says) it;
+    }))
+
+pub not_called : (p q : TreePass) (key : ℕ) (value : Option ℕ) (result : Result (Option ℕ) Full)
+    (numbers : Full) (short : Shortage) → result ≡ Err numbers → arc_value q.tree ≡ arc_value p.tree
+    → HasSeenMore p.pass q.pass → IfErr result (λ f. IsRefused p.pass q.pass key value f)
+    → OnErr result (q.pass.calls ≡ p.pass.calls) → full_of short ≡ numbers
+    → HasNotCalled p q key value (full_of short)
+not_called p q key value result numbers short err tree seen cause calls says =
+    let why : IsRefused p.pass q.pass key value numbers =
+    subst (λ (r : Result (Option ℕ) Full). IfErr r (λ f. IsRefused p.pass q.pass key value f)) err cause in
+    record {
+      same_tree = tree;
+      seen = seen;
+      calls = subst (λ (r : Result (Option ℕ) Full). OnErr r (q.pass.calls ≡ p.pass.calls)) err calls;
+      cause = subst (λ (f : Full). IsRefused p.pass q.pass key value f) (sym says) why;
+    }
+
+pub was_refused : (held : Held) (p q : TreePass) (key : ℕ) (value : Option ℕ)
+    (result : Result (Option ℕ) Full) (numbers : Full) (said : CallResult) (before short : Shortage)
+    → held ≡ of.Pass p → result ≡ Err numbers → arc_value q.tree ≡ arc_value p.tree
+    → HasSeenMore p.pass q.pass → IfErr result (λ f. IsRefused p.pass q.pass key value f)
+    → OnErr result (q.pass.calls ≡ p.pass.calls) → said.status ≡ full → full_of short ≡ numbers
+    → Updates held (of.Pass q) key value said before short
+was_refused held p q key value result numbers said before short is err tree seen cause calls status says =
+    subst (λ (h : Held). Updates h (of.Pass q) key value said before short) (sym is)
+    (pass_refused p q key value said before short status
+    (not_called p q key value result numbers short err tree seen cause calls says))
+
+-- ---- closing
+
+pub closed_listed : (held : Held) (owner : TreeOwner) (result : Result (Option (Vec Pair)) TreeOwner)
+    (list : Option (Vec Pair)) (pairs : Vec Pair) → held ≡ of.Owner owner → result ≡ Ok list
+    → list ≡ Some pairs → IfOk result (λ l. IfSome l (λ p. AreLeft owner.maker p.items))
+    → Closes held (of.Pairs pairs) done
+closed_listed held owner result list pairs is ok some left =
+    let listed_left : IfSome list (λ p. AreLeft owner.maker p.items) =
+    subst (λ (r : Result (Option (Vec Pair)) TreeOwner). IfOk r (λ l. IfSome l (λ p. AreLeft owner.maker p.items))) ok left in
+    let it : AreLeft owner.maker pairs.items =
+    subst (λ (l : Option (Vec Pair)). IfSome l (λ p. AreLeft owner.maker p.items)) some listed_left in
+    subst (λ (h : Held). Closes h (of.Pairs pairs) done) (sym is) (listed owner pairs it)
+
+pub closed_lost : (held left : Held) (owner : TreeOwner) → held ≡ of.Owner owner → left ≡ of.Nothing
+    → Closes held left memory
+closed_lost held left owner is none =
+    subst (λ (l : Held). Closes held l memory) (sym none)
+    (subst (λ (h : Held). Closes h of.Nothing memory) (sym is) (lost owner))
+
+pub closed_busy : (held : Held) (owner kept : TreeOwner) (result : Result (Option (Vec Pair)) TreeOwner)
+    → held ≡ of.Owner owner → result ≡ Err kept
+    → IfErr result (λ o. o.maker ≡ owner.maker) → Closes held (of.Owner kept) busy
+closed_busy held owner kept result is err same =
+    subst (λ (h : Held). Closes h (of.Owner kept) busy) (sym is) (is_busy owner kept
+    (subst (λ (r : Result (Option (Vec Pair)) TreeOwner). IfErr r (λ o. o.maker ≡ owner.maker)) err same))
+
+pub closed_other : (held other : Held) → other ≡ held → Closes held other misuse
+closed_other held other is = subst (λ (h : Held). Closes held h misuse) (sym is) (no_owner held)

@@ -1,0 +1,3 @@
+pub mod CallLemmas
+pub mod ConditionLemmas
+pub mod ValueLemmas

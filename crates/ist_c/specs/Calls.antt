@@ -1,0 +1,70 @@
+-- What a call by a handle does to the pass that the handle holds.
+use Rattle.std.specs.Prelude.{◌≡◌, ℕ, Option}
+use Rattle.std.specs.Arc.{arc_value}
+use Rattle.ist_core.specs.declared.commands.Command.{Command}
+use Rattle.ist_core.specs.declared.commands.Command.TheVariants.{Get}
+use Rattle.ist_core.specs.declared.ports.Full.{Full}
+use Rattle.ist_updates.specs.Asking.{command_for}
+use Rattle.ist_tree.specs.Calls.{HasSeenMore, AddsCall}
+use Rattle.ist_tree.specs.Refusals.{IsRefused}
+use Rattle.ist_c.specs.declared.results.CallResult.{CallResult}
+use Rattle.ist_c.specs.declared.results.Shortage.{Shortage}
+use Rattle.ist_c.specs.declared.held.Held.{Held}
+use Rattle.ist_c.specs.declared.held.Held.TheVariants as of
+use Rattle.ist_c.specs.declared.owners.TreeOwner.{TreeOwner}
+use Rattle.ist_c.specs.declared.passes.TreePass.{TreePass}
+use Rattle.ist_c.specs.declared.passes.TreeNote.{TreeNote}
+use Rattle.ist_c.specs.Results.{done, full, misuse, reply_of, full_of}
+
+-- ---- one call of a pass
+
+-- the pass is of the same tree, and made one call more, with this command and this reply
+pub record HasCalled (p q : TreePass) (command : Command) (reply : Option ℕ) : Type 0 where
+  pub same_tree : arc_value q.tree ≡ arc_value p.tree
+  pub seen : HasSeenMore p.pass q.pass
+  pub added : AddsCall p.pass q.pass command reply
+
+-- the pass is of the same tree, and made no call: an update of the key was refused with these numbers
+pub record HasNotCalled (p q : TreePass) (key : ℕ) (value : Option ℕ) (numbers : Full) : Type 0 where
+  pub same_tree : arc_value q.tree ≡ arc_value p.tree
+  pub seen : HasSeenMore p.pass q.pass
+  pub calls : q.pass.calls ≡ p.pass.calls
+  pub cause : IsRefused p.pass q.pass key value numbers
+
+-- ---- by a handle
+
+-- a handle of a pass holds this pass still, which made a get with the reply in the result; a handle of
+-- something else is as before
+pub data Finds : Held → Held → ℕ → CallResult → Type 0 where
+  pass_finds : (p q : TreePass) (key : ℕ) (said : CallResult) → said.status ≡ done
+      → HasCalled p q (Get key) (reply_of said.some said.value)
+      → Finds (of.Pass p) (of.Pass q) key said
+  none_finds : (held : Held) (key : ℕ) (said : CallResult) → said.status ≡ misuse
+      → Finds held held key said
+
+-- a handle of a pass holds this pass still, which made a put of the value, or a remove if there is none,
+-- with the reply in the result, or was refused, and then the numbers are there; a handle of something
+-- else is as before
+pub data Updates : Held → Held → ℕ → Option ℕ → CallResult → Shortage → Shortage → Type 0 where
+  pass_updates : (p q : TreePass) (key : ℕ) (value : Option ℕ) (said : CallResult) (short : Shortage)
+      → said.status ≡ done → HasCalled p q (command_for key value) (reply_of said.some said.value)
+      → Updates (of.Pass p) (of.Pass q) key value said short short
+  pass_refused : (p q : TreePass) (key : ℕ) (value : Option ℕ) (said : CallResult) (before short : Shortage)
+      → said.status ≡ full → HasNotCalled p q key value (full_of short)
+      → Updates (of.Pass p) (of.Pass q) key value said before short
+  none_updates : (held : Held) (key : ℕ) (value : Option ℕ) (said : CallResult) (short : Shortage)
+      → said.status ≡ misuse → Updates held held key value said short short
+
+-- ---- two handles of one tree
+
+-- if the one is an owner and the other a pass, it is of the owner's tree
+abbrev pub MayGiveBack : Held → Held → Type 0
+MayGiveBack owner pass =
+    (o : TreeOwner) (p : TreePass) → owner ≡ of.Owner o → pass ≡ of.Pass p
+    → arc_value p.tree ≡ arc_value o.tree
+
+-- if the one is a pass and the other a note, both are of one tree
+abbrev pub MayMeet : Held → Held → Type 0
+MayMeet pass note =
+    (p : TreePass) (n : TreeNote) → pass ≡ of.Pass p → note ≡ of.Note n
+    → arc_value n.tree ≡ arc_value p.tree

@@ -1,0 +1,8 @@
+-- what the exports promise, in the order to read
+pub mod Results
+pub mod Calls
+pub mod Conditions
+pub mod Leaving
+pub mod Closing
+-- what a handle owns
+pub mod Owning

@@ -1,0 +1,40 @@
+//! The pairs that a caller in C passes in, and that it gets.
+ghost use Rattle.std.specs.Prelude.{◌≡◌, IfOk};
+ghost use Rattle.plain_map.specs.Rising.{IsRising};
+
+use ist_core::{Command, Pair};
+use plain_map::Plain;
+use std::alloc::{AllocError, Global};
+
+/// A key with its value.
+#[repr(C)]
+#[derive(Clone, Copy, Drop)]
+pub struct Entry {
+    pub key: u64,
+    pub value: u64,
+}
+
+/// Returns the pairs of the entries, in increasing order of keys: of entries with one key the last.
+/// Fails only if memory runs out.
+pub fn pairs_of_entries(alloc: Global, entries: &[Entry]) -> Result<Vec<Pair>, AllocError>
+    ensures rising { IfOk result (λ pairs. IsRising pairs.items) }
+{
+    let mut map = Plain::new(alloc);
+    for entry in entries {
+        let _had = map.apply(Command::Put {
+            key: entry.key,
+            value: entry.value,
+        })?;
+    }
+    Ok(map.into_pairs())
+}
+
+/// Writes as many of the pairs as there is room for.
+pub fn write_entries(pairs: &[Pair], room: &mut [Entry]) {
+    for (entry, pair) in room.iter_mut().zip(pairs.iter()) {
+        *entry = Entry {
+            key: pair.key,
+            value: pair.value,
+        };
+    }
+}

@@ -1,0 +1,67 @@
+//! The exports by which one pass learns what another has seen.
+ghost use Rattle.ist_c.specs.Calls.{MayMeet};
+
+use crate::handles::Handle;
+use crate::held::Held;
+use crate::results::{DONE, MEMORY, MISUSE};
+use crate::tree_calls::keep;
+use std::alloc::Global;
+
+// Makes `out` a note of the pass.
+fn note_in(alloc: Global, held: &mut Held, out: &mut Handle) -> u32 {
+    match held {
+        Held::Pass(pass) => match pass.note() {
+            Ok(note) => keep(alloc, Held::Note(note), out),
+            Err(_) => MEMORY,
+        },
+        _ => MISUSE,
+    }
+}
+
+/// Makes `out` a note of the pass.
+#[unsafe(no_mangle)]
+pub extern "C" fn ist_write_note(alloc: Global, pass: &mut Handle, out: &mut Handle) -> u32 {
+    if out.full {
+        return MISUSE;
+    }
+    match pass.open(alloc) {
+        Some(mut held) => {
+            let status = note_in(alloc, &mut held, out);
+            *pass = Handle::of(held);
+            status
+        }
+        None => MISUSE,
+    }
+}
+
+// Lets the pass learn what the note holds.
+fn meet_in(held: &mut Held, told: Held) -> u32
+    requires same_tree { MayMeet held.old told }
+{
+    match told {
+        Held::Note(note) => match held {
+            Held::Pass(pass) => {
+                pass.meet(note);
+                DONE
+            }
+            _ => MISUSE,
+        },
+        _ => MISUSE,
+    }
+}
+
+/// Lets the pass learn what the note holds, which is of its tree. The note is used up.
+#[unsafe(no_mangle)]
+pub extern "C" fn ist_meet(alloc: Global, pass: &mut Handle, note: &mut Handle) -> u32
+    requires same_tree { MayMeet pass.old.opaque.value note.old.opaque.value }
+{
+    let Some(mut held) = pass.open(alloc) else {
+        return MISUSE;
+    };
+    let status = match note.open(alloc) {
+        Some(told) => meet_in(&mut held, Box::into_inner(told)),
+        None => MISUSE,
+    };
+    *pass = Handle::of(held);
+    status
+}

@@ -1,0 +1,86 @@
+//! The owner of a tree: it makes passes, takes them back, and closes the tree.
+ghost use Rattle.std.specs.Prelude.{◌≡◌, ◌<◌, ◌≤◌, ◌^◌, [], ◌∷◌, length, map, IfOk, IfErr, IfSome};
+ghost use Rattle.std.specs.Arc.{arc_value};
+ghost use Rattle.std.specs.List.Sorted.{IsStrictlyIncreasing};
+ghost use Rattle.ist_core.specs.RowLayout.{place_limit};
+ghost use Rattle.ist_tree.specs.Faces.{calls_in};
+ghost use Rattle.ist_c.specs.Leaving.{AreLeft};
+
+use crate::passes::TreePass;
+use ist_core::Pair;
+use ist_tree::{Maker, OpenFault, Tree};
+use std::alloc::{AllocError, Global};
+use std::sync::Arc;
+
+/// How many passes a tree has at most.
+const PASSES_LIMIT: u64 = 0xffff_ffff;
+
+/// A tree with its maker.
+#[derive(Drop)]
+pub struct TreeOwner {
+    pub tree: Arc<Tree, Global>,
+    pub maker: Maker,
+    pub ghost same_tree: { maker.tree ≡ arc_value tree },
+}
+
+impl TreeOwner {
+    /// Opens a tree of the pairs, with this many words, and returns its owner.
+    pub fn open(alloc: Global, words: u32, pairs: &[Pair]) -> Result<TreeOwner, OpenFault>
+        requires rising { IsStrictlyIncreasing (map (λ pair. pair.key) pairs.now) }
+        requires few { length pairs.now < 2 ^ 32 }
+        requires within { words ≤ place_limit }
+        ensures start { IfOk result (λ owner. owner.maker.tree.start ≡ pairs.now) }
+        ensures words { IfOk result (λ owner. owner.maker.tree.words ≡ words) }
+        ensures made { IfOk result (λ owner. owner.maker.made ≡ 0) }
+    {
+        let (tree, maker) = Tree::open(alloc, words, pairs)?;
+        match Arc::new(alloc, tree) {
+            Ok(tree) => Ok(TreeOwner { tree, maker }),
+            Err(_) => Err(OpenFault::Memory),
+        }
+    }
+
+    /// Makes the next pass. Fails only if memory runs out, or if as many were made as there can be.
+    pub fn pass(&mut self) -> Result<TreePass, AllocError>
+        ensures tree { arc_value self.new.tree ≡ arc_value self.old.tree }
+        ensures its_tree { IfOk result (λ made. arc_value made.tree ≡ arc_value self.old.tree) }
+        ensures no_calls { IfOk result (λ made. made.pass.calls ≡ []) }
+    {
+        if self.maker.made() >= PASSES_LIMIT {
+            return Err(AllocError);
+        }
+        let tree = Arc::try_clone(&self.tree)?;
+        let pass = self.tree.pass(&mut self.maker);
+        Ok(TreePass { tree, pass })
+    }
+
+    /// Takes a pass of the tree back.
+    pub fn take_back(&mut self, given: TreePass)
+        requires same_tree { arc_value given.tree ≡ arc_value self.old.tree }
+        ensures tree { arc_value self.new.tree ≡ arc_value self.old.tree }
+        ensures taken { self.new.maker.taken ≡ calls_in given.pass ∷ self.old.maker.taken }
+        ensures made { self.new.maker.made ≡ self.old.maker.made }
+    {
+        let TreePass { tree: _, pass } = given;
+        self.tree.take_back(&mut self.maker, pass);
+    }
+
+    /// Closes the tree and returns its pairs, in increasing order of keys. If a pass or a note is out it
+    /// returns the owner. If there is no memory for the pairs, the tree is closed and they are lost.
+    pub fn close(self, alloc: Global) -> Result<Option<Vec<Pair>>, TreeOwner>
+        ensures left { IfOk result (λ list. IfSome list (λ pairs. AreLeft self.maker pairs.items)) }
+        ensures same { IfErr result (λ owner. owner.maker ≡ self.maker) }
+    {
+        if self.maker.made() != self.maker.taken_back() {
+            return Err(self);
+        }
+        let TreeOwner { tree, maker } = self;
+        match Arc::try_unwrap(tree) {
+            Ok(tree) => {
+                let closed = tree.close(maker);
+                Ok(closed.pairs(alloc).ok())
+            }
+            Err(tree) => Err(TreeOwner { tree, maker }),
+        }
+    }
+}

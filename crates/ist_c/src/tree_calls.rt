@@ -1,0 +1,212 @@
+//! The exports that open a tree, make its passes and take them back, close it and list what is left.
+ghost use Rattle.std.specs.Prelude.{◌≡◌, true};
+ghost use Rattle.plain_map.specs.Rising.{IsRising};
+ghost use Rattle.ist_c.specs.Calls.{MayGiveBack};
+ghost use Rattle.ist_c.specs.Closing.{Closes};
+
+use crate::entries::{Entry, pairs_of_entries, write_entries};
+use crate::handles::Handle;
+use crate::held::Held;
+use crate::owners::TreeOwner;
+use crate::results::{BUSY, DONE, MEMORY, MISUSE, SMALL};
+use ist_core::Pair;
+use ist_image::needed_words;
+use ist_tree::OpenFault;
+use std::alloc::Global;
+use std::mem;
+
+/// How many words a tree has at most.
+const WORDS_LIMIT: u32 = 0x1000_0000;
+
+/// How many pairs a tree is opened with at most.
+const PAIRS_LIMIT: u64 = 0xffff_ffff;
+
+/// Makes a handle of what is held. If there is no memory for it, what is held is dropped.
+pub(crate) fn keep(alloc: Global, held: Held, out: &mut Handle) -> u32 {
+    match Box::new(alloc, held) {
+        Ok(held) => {
+            *out = Handle::of(held);
+            DONE
+        }
+        Err(_) => MEMORY,
+    }
+}
+
+/// Returns how many words a tree of this many pairs takes at least, or 0 if they are too many.
+#[unsafe(no_mangle)]
+pub extern "C" fn ist_words_for(pairs: u64) -> u64 {
+    if pairs > PAIRS_LIMIT {
+        return 0;
+    }
+    needed_words(pairs)
+}
+
+// Makes `out` the owner of a new tree.
+fn open_owner(alloc: Global, words: u32, pairs: &[Pair], out: &mut Handle) -> u32
+    requires rising { IsRising pairs.now }
+{
+    if words > WORDS_LIMIT || pairs.len() as u64 > PAIRS_LIMIT {
+        return MISUSE;
+    }
+    match TreeOwner::open(alloc, words, pairs) {
+        Ok(owner) => keep(alloc, Held::Owner(owner), out),
+        Err(
+            OpenFault::Small {
+                needed: _,
+                words: _,
+            },
+        ) => SMALL,
+        Err(OpenFault::Memory) => MEMORY,
+    }
+}
+
+/// Opens a tree of these pairs, with this many words, and makes `out` its owner.
+#[unsafe(no_mangle)]
+pub extern "C" fn ist_open(alloc: Global, words: u32, entries: &[Entry], out: &mut Handle) -> u32 {
+    if out.full {
+        return MISUSE;
+    }
+    match pairs_of_entries(alloc, entries) {
+        Ok(pairs) => open_owner(alloc, words, pairs.as_slice(), out),
+        Err(_) => MEMORY,
+    }
+}
+
+// Makes `out` the next pass of the owner.
+fn pass_in(alloc: Global, held: &mut Held, out: &mut Handle) -> u32 {
+    match held {
+        Held::Owner(owner) => match owner.pass() {
+            Ok(pass) => keep(alloc, Held::Pass(pass), out),
+            Err(_) => MEMORY,
+        },
+        _ => MISUSE,
+    }
+}
+
+/// Makes `out` a new pass of the owner's tree.
+#[unsafe(no_mangle)]
+pub extern "C" fn ist_new_pass(alloc: Global, owner: &mut Handle, out: &mut Handle) -> u32 {
+    if out.full {
+        return MISUSE;
+    }
+    match owner.open(alloc) {
+        Some(mut held) => {
+            let status = pass_in(alloc, &mut held, out);
+            *owner = Handle::of(held);
+            status
+        }
+        None => MISUSE,
+    }
+}
+
+// Takes a pass back.
+fn take_in(held: &mut Held, pass: Held) -> u32
+    requires same_tree { MayGiveBack held.old pass }
+{
+    match pass {
+        Held::Pass(pass) => match held {
+            Held::Owner(owner) => {
+                owner.take_back(pass);
+                DONE
+            }
+            _ => MISUSE,
+        },
+        _ => MISUSE,
+    }
+}
+
+/// Gives the pass back to the owner of its tree. The pass is used up.
+#[unsafe(no_mangle)]
+pub extern "C" fn ist_give_back(alloc: Global, owner: &mut Handle, pass: &mut Handle) -> u32
+    requires same_tree { MayGiveBack owner.old.opaque.value pass.old.opaque.value }
+{
+    let Some(mut held) = owner.open(alloc) else {
+        return MISUSE;
+    };
+    let status = match pass.open(alloc) {
+        Some(pass) => take_in(&mut held, Box::into_inner(pass)),
+        None => MISUSE,
+    };
+    *owner = Handle::of(held);
+    status
+}
+
+// Closes the owner's tree.
+fn close_in(alloc: Global, held: &mut Held) -> u32
+    ensures closes { Closes held.old held.new result }
+{
+    match mem::replace(held, Held::Nothing) {
+        Held::Owner(owner) => match owner.close(alloc) {
+            Ok(Some(pairs)) => {
+                *held = Held::Pairs(pairs);
+                DONE
+            }
+            Ok(None) => MEMORY,
+            Err(owner) => {
+                *held = Held::Owner(owner);
+                BUSY
+            }
+        },
+        other => {
+            *held = other;
+            MISUSE
+        }
+    }
+}
+
+/// Closes the owner's tree. The handle then holds the pairs that are left.
+#[unsafe(no_mangle)]
+pub extern "C" fn ist_close(alloc: Global, owner: &mut Handle) -> u32
+    ensures full { owner.new.full ≡ owner.old.full }
+    ensures closes { owner.old.full ≡ true
+        → Closes owner.old.opaque.value owner.new.opaque.value result }
+{
+    match owner.open(alloc) {
+        Some(mut held) => {
+            let status = close_in(alloc, &mut held);
+            *owner = Handle::of(held);
+            status
+        }
+        None => MISUSE,
+    }
+}
+
+// Writes the pairs from this number on.
+fn list_in(held: &Held, from: u64, room: &mut [Entry], count: &mut u64) -> u32 {
+    match held {
+        Held::Pairs(pairs) => {
+            *count = pairs.len() as u64;
+            if from < pairs.len() as u64 {
+                write_entries(&pairs[from as usize..], room);
+            }
+            DONE
+        }
+        _ => MISUSE,
+    }
+}
+
+/// Writes the pairs of a closed tree from this number on, as many as there is room for, and how many there
+/// are in all.
+#[unsafe(no_mangle)]
+pub extern "C" fn ist_list(
+    alloc: Global,
+    closed: &mut Handle,
+    from: u64,
+    room: &mut [Entry],
+    count: &mut u64,
+) -> u32 {
+    match closed.open(alloc) {
+        Some(held) => {
+            let status = list_in(&held, from, room, count);
+            *closed = Handle::of(held);
+            status
+        }
+        None => MISUSE,
+    }
+}
+
+/// Drops what the handle holds, and leaves it empty.
+#[unsafe(no_mangle)]
+pub extern "C" fn ist_free(alloc: Global, handle: &mut Handle) {
+    drop(handle.open(alloc));
+}

@@ -1,0 +1,89 @@
+-- Closed trees are generations, and the calls on trees that follow one another are one legal
+-- history. Serves the laws.
+use Rattle.std.proofs.Common.{◌≡◌, ℕ, zero, suc, ◌+◌, ◌<◌, List, [], ◌∷◌, length, map, refl, sym, ap, subst, ◌∙◌}
+use Rattle.std.specs.FinMap as fin
+use Rattle.std.specs.FinMap.{same_map, nat_cmp-IsAntisymmetric}
+use Rattle.std.specs.Ordering.{nat_cmp}
+use Rattle.std.specs.Cmp.{nat_cmp_total}
+use Rattle.ist_core.specs.declared.pairs.Pair.{Pair}
+use Rattle.ist_core.specs.Map.{Map, map_of, pairs_of}
+use Rattle.ist_core.specs.Elements.{Each}
+use Rattle.ist_core.specs.Histories.{PassCalls, IsLegal}
+use Rattle.ist_core.specs.Resting.{AllStandIn}
+use Rattle.laws_histories.specs.Telling.{map_now}
+use Rattle.laws_histories.specs.Weaving.{numbered}
+use Rattle.laws_histories.proofs.ContentLemmas.{told_at}
+use Rattle.laws_histories.proofs.MapLemmas.{legal_append}
+use Rattle.laws_histories.proofs.WovenLemmas.{taken_legal}
+use Rattle.ist_tree.specs.Faces.{MakerFace}
+use Rattle.ist_tree.specs.Closing.{ClosesWith, calls_from}
+use Rattle.ist_map.specs.Generations.{Generation, generation_of, IsGeneration, FollowOn, history}
+use Rattle.ist_map.specs.Generations.{changes_in, history_in, pairs_left, map_told}
+use Rattle.ist_map.proofs.HistoryLemmas.{told-append, woven_leads}
+
+-- there is a list of calls for each number
+calls_long : (number count : ℕ) (taken : List PassCalls)
+    → length (calls_from number count taken) ≡ count
+calls_long number zero taken = refl
+calls_long number (suc count) taken = ap suc (calls_long (number + 1) count taken)
+
+-- a tree that was closed is a generation
+pub closed_is : (m : MakerFace) (closed : List ℕ) (c : ClosesWith m closed)
+    → IsGeneration (generation_of m closed c)
+closed_is m closed c = record {
+  lawful = c.stands.lawful;
+  stand = subst (λ calls. AllStandIn m.tree.start (length closed) c.stands.log 0 calls) c.calls_are
+      c.stands.stand;
+  owners = subst (λ n. Each (λ entry. entry.owner < n) (changes_in (generation_of m closed c)))
+      (sym (calls_long 0 m.made m.taken)) c.owners;
+}
+
+-- the pairs of a map make the map
+pairs_are_map : (n : Map) → map_of (pairs_of n) ≡ n
+pairs_are_map n = same_map nat_cmp_total nat_cmp-IsAntisymmetric _ _
+    (λ q. fin.get-from_entries nat_cmp_total _ q
+    ∙ ap (fin.find nat_cmp q) (same_entries (fin.entries n))
+    ∙ sym (fin.get-entries n q))
+  where
+    same_entries : (es : List (ℕ × ℕ))
+        → map {A = Pair} (λ p. (p.key, p.value)) (map (λ e. record { key = e.0; value = e.1 }) es)
+        ≡ es
+    same_entries [] = refl
+    same_entries (e ∷ es) = ap (λ xs. e ∷ xs) (same_entries es)
+
+-- the history of one tree is legal
+pub one_legal : (g : Generation) → IsGeneration g → IsLegal (map_of g.start) (history_in g)
+one_legal g h = taken_legal g.start g.words g.log g.calls
+    (told_at g.start g.words h.lawful.opens g.log h.lawful.enabled).legal h.stand
+
+-- and leads to the pairs that it left
+pub one_leads : (g : Generation) → IsGeneration g
+    → map_told (map_of g.start) (history_in g) ≡ map_of (pairs_left g)
+one_leads g h =
+    woven_leads (map_of g.start) (changes_in g) (numbered 0 g.calls) (one_legal g h)
+    ∙ sym (pairs_are_map (map_now g.start g.words g.log))
+
+-- the same from the pairs that the tree was opened with
+from_first : (first : List Pair) (g : Generation) → g.start ≡ first → IsGeneration g
+    → map_told (map_of first) (history_in g) ≡ map_of (pairs_left g)
+from_first first g same h =
+    ap (λ ps. map_told (map_of ps) (history_in g)) (sym same) ∙ one_leads g h
+
+-- the histories of trees that follow one another are legal together
+pub history_legal : (first last : List Pair) (gs : List Generation) → FollowOn first gs last
+    → IsLegal (map_of first) (history gs)
+history_legal first last [] h = refl
+history_legal first last (g ∷ gs) h =
+    legal_append (map_of first) (history_in g) (history gs)
+    (subst (λ ps. IsLegal (map_of ps) (history_in g)) h.0 (one_legal g h.1))
+    (subst (λ m. IsLegal m (history gs)) (sym (from_first first g h.0 h.1))
+    (history_legal (pairs_left g) last gs h.2))
+
+-- and lead to the last pairs
+pub history_leads : (first last : List Pair) (gs : List Generation) → FollowOn first gs last
+    → map_told (map_of first) (history gs) ≡ map_of last
+history_leads first last [] h = ap map_of (sym h)
+history_leads first last (g ∷ gs) h =
+    told-append (map_of first) (history_in g) (history gs)
+    ∙ ap (λ m. map_told m (history gs)) (from_first first g h.0 h.1)
+    ∙ history_leads (pairs_left g) last gs h.2

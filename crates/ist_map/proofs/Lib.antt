@@ -1,0 +1,4 @@
+pub mod FewLemmas
+pub mod ReopenLemmas
+pub mod HistoryLemmas
+pub mod GenerationLemmas

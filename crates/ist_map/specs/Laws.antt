@@ -1,0 +1,27 @@
+-- The laws on trees that follow one another. `src/laws.rt` lists them.
+use Rattle.std.specs.Prelude.{◌≡◌, ℕ, List}
+use Rattle.ist_core.specs.declared.pairs.Pair.{Pair}
+use Rattle.ist_core.specs.Map.{map_of}
+use Rattle.ist_core.specs.Histories.{IsLegal}
+use Rattle.ist_tree.specs.Faces.{MakerFace}
+use Rattle.ist_tree.specs.Closing.{ClosesWith}
+use Rattle.ist_map.specs.Generations.{Generation, generation_of, IsGeneration, FollowOn, history}
+use Rattle.ist_map.specs.Generations.{map_told}
+
+-- a tree that was closed is a generation
+abbrev pub ClosedTreesAreGenerations : Type 0
+ClosedTreesAreGenerations =
+    (m : MakerFace) (closed : List ℕ) (c : ClosesWith m closed)
+    → IsGeneration (generation_of m closed c)
+
+-- the calls on all trees form one legal history from the first pairs on
+abbrev pub HistoriesAreOne : Type 0
+HistoriesAreOne =
+    (first last : List Pair) (gs : List Generation) → FollowOn first gs last
+    → IsLegal (map_of first) (history gs)
+
+-- and this history leads to the last pairs, with no pair lost or made between two trees
+abbrev pub HistoriesLeadOn : Type 0
+HistoriesLeadOn =
+    (first last : List Pair) (gs : List Generation) → FollowOn first gs last
+    → map_told (map_of first) (history gs) ≡ map_of last

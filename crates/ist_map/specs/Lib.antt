@@ -1,0 +1,4 @@
+-- what the public contracts rest on, in the order to read them
+pub mod Generations
+pub mod Reopening
+pub mod Laws
