@@ -2,6 +2,7 @@
 pub mod Results
 pub mod Calls
 pub mod Conditions
+pub mod Passes
 pub mod Leaving
 pub mod Closing
 -- what a handle owns

@@ -1,5 +1,5 @@
 //! The owner of a tree: it makes passes, takes them back, and closes the tree.
-ghost use Rattle.std.specs.Prelude.{◌≡◌, ◌<◌, ◌≤◌, ◌^◌, [], ◌∷◌, length, map, IfOk, IfErr, IfSome};
+ghost use Rattle.std.specs.Prelude.{◌≡◌, ◌+◌, ◌<◌, ◌≤◌, ◌^◌, [], ◌∷◌, length, map, IfOk, IfErr, IfSome, OnOk, OnErr};
 ghost use Rattle.std.specs.Arc.{arc_value};
 ghost use Rattle.std.specs.List.Sorted.{IsStrictlyIncreasing};
 ghost use Rattle.ist_core.specs.RowLayout.{place_limit};
@@ -44,7 +44,11 @@ impl TreeOwner {
     pub fn pass(&mut self) -> Result<TreePass, AllocError>
         ensures tree { arc_value self.new.tree ≡ arc_value self.old.tree }
         ensures its_tree { IfOk result (λ made. arc_value made.tree ≡ arc_value self.old.tree) }
+        ensures number { IfOk result (λ made. made.pass.number ≡ self.old.maker.made) }
         ensures no_calls { IfOk result (λ made. made.pass.calls ≡ []) }
+        ensures made { OnOk result (self.new.maker.made ≡ self.old.maker.made + 1) }
+        ensures taken { OnOk result (self.new.maker.taken ≡ self.old.maker.taken) }
+        ensures unmade { OnErr result (self.new.maker ≡ self.old.maker) }
     {
         if self.maker.made() >= PASSES_LIMIT {
             return Err(AllocError);

@@ -1,8 +1,9 @@
 //! The exports that open a tree, make its passes and take them back, close it and list what is left.
-ghost use Rattle.std.specs.Prelude.{◌≡◌, true};
+ghost use Rattle.std.specs.Prelude.{◌≡◌, true, false};
 ghost use Rattle.plain_map.specs.Rising.{IsRising};
 ghost use Rattle.ist_c.specs.Calls.{MayGiveBack};
 ghost use Rattle.ist_c.specs.Closing.{Closes};
+ghost use Rattle.ist_c.specs.Passes.{Makes, TakesBack};
 
 use crate::entries::{Entry, pairs_of_entries, write_entries};
 use crate::handles::Handle;
@@ -72,11 +73,20 @@ pub extern "C" fn ist_open(alloc: Global, words: u32, entries: &[Entry], out: &m
     }
 }
 
-// Makes `out` the next pass of the owner.
-fn pass_in(alloc: Global, held: &mut Held, out: &mut Handle) -> u32 {
+// Makes `out` the next pass of the owner. No pass is made before there is memory to hold it.
+fn pass_in(alloc: Global, held: &mut Held, out: &mut Handle) -> u32
+    ensures makes { Makes held.old held.new out.old out.new result }
+{
     match held {
-        Held::Owner(owner) => match owner.pass() {
-            Ok(pass) => keep(alloc, Held::Pass(pass), out),
+        Held::Owner(owner) => match Box::new(alloc, Held::Nothing) {
+            Ok(mut room) => match owner.pass() {
+                Ok(pass) => {
+                    *room = Held::Pass(pass);
+                    *out = Handle::of(room);
+                    DONE
+                }
+                Err(_) => MEMORY,
+            },
             Err(_) => MEMORY,
         },
         _ => MISUSE,
@@ -85,7 +95,11 @@ fn pass_in(alloc: Global, held: &mut Held, out: &mut Handle) -> u32 {
 
 /// Makes `out` a new pass of the owner's tree.
 #[unsafe(no_mangle)]
-pub extern "C" fn ist_new_pass(alloc: Global, owner: &mut Handle, out: &mut Handle) -> u32 {
+pub extern "C" fn ist_new_pass(alloc: Global, owner: &mut Handle, out: &mut Handle) -> u32
+    ensures full { owner.new.full ≡ owner.old.full }
+    ensures makes { owner.old.full ≡ true → out.old.full ≡ false
+        → Makes owner.old.opaque.value owner.new.opaque.value out.old out.new result }
+{
     if out.full {
         return MISUSE;
     }
@@ -102,6 +116,7 @@ pub extern "C" fn ist_new_pass(alloc: Global, owner: &mut Handle, out: &mut Hand
 // Takes a pass back.
 fn take_in(held: &mut Held, pass: Held) -> u32
     requires same_tree { MayGiveBack held.old pass }
+    ensures takes { TakesBack held.old held.new pass result }
 {
     match pass {
         Held::Pass(pass) => match held {
@@ -119,6 +134,9 @@ fn take_in(held: &mut Held, pass: Held) -> u32
 #[unsafe(no_mangle)]
 pub extern "C" fn ist_give_back(alloc: Global, owner: &mut Handle, pass: &mut Handle) -> u32
     requires same_tree { MayGiveBack owner.old.opaque.value pass.old.opaque.value }
+    ensures full { owner.new.full ≡ owner.old.full }
+    ensures takes { owner.old.full ≡ true → pass.old.full ≡ true
+        → TakesBack owner.old.opaque.value owner.new.opaque.value pass.old.opaque.value result }
 {
     let Some(mut held) = owner.open(alloc) else {
         return MISUSE;

@@ -2,3 +2,8 @@ pub mod FewLemmas
 pub mod ReopenLemmas
 pub mod HistoryLemmas
 pub mod GenerationLemmas
+pub mod OwnedLemmas
+pub mod SplitLemmas
+pub mod CountLemmas
+pub mod LaidLemmas
+pub mod PassLemmas

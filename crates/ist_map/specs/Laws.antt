@@ -7,6 +7,7 @@ use Rattle.ist_tree.specs.Faces.{MakerFace}
 use Rattle.ist_tree.specs.Closing.{ClosesWith}
 use Rattle.ist_map.specs.Generations.{Generation, generation_of, IsGeneration, FollowOn, history}
 use Rattle.ist_map.specs.Generations.{map_told}
+use Rattle.ist_map.specs.Interleaving.{IsMadeOf, told_over}
 
 -- a tree that was closed is a generation
 abbrev pub ClosedTreesAreGenerations : Type 0
@@ -25,3 +26,10 @@ abbrev pub HistoriesLeadOn : Type 0
 HistoriesLeadOn =
     (first last : List Pair) (gs : List Generation) → FollowOn first gs last
     → map_told (map_of first) (history gs) ≡ map_of last
+
+-- and it is made of what the passes of each number were told, one tree after another: each answered
+-- call once, in the order of its number's calls, and no others
+abbrev pub HistoriesAreMadeOfCalls : Type 0
+HistoriesAreMadeOfCalls =
+    (first last : List Pair) (gs : List Generation) → FollowOn first gs last
+    → IsMadeOf (told_over gs) (history gs)

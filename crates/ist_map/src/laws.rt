@@ -1,7 +1,7 @@
 //! Laws on trees that follow one another. The functions do nothing and return nothing: contracts are
 //! laws.
 ghost use Rattle.ist_map.specs.Laws.{ClosedTreesAreGenerations, HistoriesAreOne};
-ghost use Rattle.ist_map.specs.Laws.{HistoriesLeadOn};
+ghost use Rattle.ist_map.specs.Laws.{HistoriesLeadOn, HistoriesAreMadeOfCalls};
 
 /// What `Tree::close` ensures makes the closed tree a generation: its calls are placed in one lawful
 /// log, and all changes of the map are calls of its passes.
@@ -15,4 +15,10 @@ pub fn closed_trees_are_generations()
 pub fn histories_are_one()
     ensures legal { HistoriesAreOne }
     ensures leads { HistoriesLeadOn }
+{}
+
+/// This history is made of what the passes of each number were told on the trees, one tree after
+/// another: each answered call once, in the order of its number's calls, and no others.
+pub fn histories_are_made_of_calls()
+    ensures made { HistoriesAreMadeOfCalls }
 {}

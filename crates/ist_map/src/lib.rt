@@ -1,8 +1,9 @@
 //! A map that lives on: one tree after another, each of which begins with exactly the pairs that the
 //! calls of the tree before it left.
 //!
-//! Read `specs/Reopening.antt` and `reopening.rt`, then `specs/Generations.antt` and `laws.rt`. Stands
-//! on `ist_tree`, `ist_rest` and `ist_image`, and on the laws of `laws_histories`.
+//! Read `specs/Reopening.antt` and `reopening.rt`, then `specs/Generations.antt`,
+//! `specs/Interleaving.antt` and `laws.rt`. Uses `ist_tree`, `ist_rest` and `ist_image`, and the laws
+//! of `laws_histories`.
 #![tactic(auto)]
 
 mod faults;

@@ -1,0 +1,42 @@
+-- What making a pass and taking it back do to what handles hold.
+use Rattle.std.specs.Prelude.{◌≡◌, ℕ, ◌+◌, [], ◌∷◌, true}
+use Rattle.std.specs.Arc.{arc_value}
+use Rattle.ist_tree.specs.Faces.{calls_in}
+use Rattle.ist_c.specs.declared.handles.Handle.{Handle}
+use Rattle.ist_c.specs.declared.held.Held.{Held}
+use Rattle.ist_c.specs.declared.held.Held.TheVariants as of
+use Rattle.ist_c.specs.declared.owners.TreeOwner.{TreeOwner}
+use Rattle.ist_c.specs.declared.passes.TreePass.{TreePass}
+use Rattle.ist_c.specs.Results.{done, memory, misuse}
+
+-- the owner is of the same tree, and made one pass more: this one, which has made no call
+pub record HasMade (o q : TreeOwner) (p : TreePass) : Type 0 where
+  pub same_tree : arc_value q.tree ≡ arc_value o.tree
+  pub its_tree : arc_value p.tree ≡ arc_value o.tree
+  pub number : p.pass.number ≡ o.maker.made
+  pub no_calls : p.pass.calls ≡ []
+  pub made : q.maker.made ≡ o.maker.made + 1
+  pub taken : q.maker.taken ≡ o.maker.taken
+
+-- the owner is of the same tree, and took this pass back with its calls
+pub record HasTaken (o q : TreeOwner) (p : TreePass) : Type 0 where
+  pub same_tree : arc_value q.tree ≡ arc_value o.tree
+  pub made : q.maker.made ≡ o.maker.made
+  pub taken : q.maker.taken ≡ calls_in p.pass ∷ o.maker.taken
+
+-- a handle of an owner holds it still, and the other handle holds the pass that it made; without memory
+-- no pass is made. A handle of something else is as before
+pub data Makes : Held → Held → Handle → Handle → ℕ → Type 0 where
+  makes_pass : (o q : TreeOwner) (p : TreePass) (before out : Handle) → HasMade o q p
+      → out.full ≡ true → out.opaque.value ≡ of.Pass p
+      → Makes (of.Owner o) (of.Owner q) before out done
+  makes_none : (o q : TreeOwner) (out : Handle) → arc_value q.tree ≡ arc_value o.tree
+      → q.maker ≡ o.maker → Makes (of.Owner o) (of.Owner q) out out memory
+  no_maker : (held : Held) (out : Handle) → Makes held held out out misuse
+
+-- a handle of an owner holds it still, and it took the pass back, if that is one; a handle of something
+-- else is as before
+pub data TakesBack : Held → Held → Held → ℕ → Type 0 where
+  takes_pass : (o q : TreeOwner) (p : TreePass) → HasTaken o q p
+      → TakesBack (of.Owner o) (of.Owner q) (of.Pass p) done
+  takes_none : (held given : Held) → TakesBack held held given misuse

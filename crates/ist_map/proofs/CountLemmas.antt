@@ -1,0 +1,167 @@
+-- There are at least as many entries of a pass as changes among its calls. Serves
+-- `laws.histories_are_made_of_calls`.
+use Rattle.std.proofs.Common.{◌≡◌, ℕ, zero, suc, ◌+◌, ◌≤◌, ◌==◌, if◌then◌else◌, Bool, true, false, List, [], ◌∷◌, filter, length, slice_get, Some, refl, ap, arith}
+use Rattle.std.proofs.lemmas.Bool.Decides.{nat_tests}
+use Rattle.ist_core.specs.declared.calls.Call.{Call}
+use Rattle.ist_core.specs.Elements.{Each}
+use Rattle.ist_core.specs.Changes.{Entry}
+use Rattle.ist_core.specs.Standing.{is_change, entry_by, entries_by, position_behind, Follows, AllFollow}
+
+module _ (number : ℕ) where
+  -- the call is the entry at its position, where the entries begin at this position
+  pub record MadeAt (first : ℕ) (entries : List Entry) (call : Call) : Type 0 where
+    pub step : ℕ
+    pub position_is : call.position ≡ first + step
+    pub entry_is : slice_get entries step ≡ Some (entry_by number call)
+
+  -- ---- there is no entry of the pass without a call
+
+  -- each changes at a higher position than those before it
+  Climbs : List Call → Type 0
+  Climbs [] = Unit {0}
+  Climbs (call ∷ calls) = Each (λ other. call.position + 1 ≤ other.position) calls × Climbs calls
+
+  -- placed among the later entries
+  pub shift_made : (first : ℕ) (entry : Entry) (entries : List Entry) (call : Call)
+      → first + 1 ≤ call.position → MadeAt first (entry ∷ entries) call
+      → MadeAt (first + 1) entries call
+  shift_made first entry entries call low m = at m.step m.position_is m.entry_is
+    where
+      at : (step : ℕ) → call.position ≡ first + step
+          → slice_get (entry ∷ entries) step ≡ Some (entry_by number call)
+          → MadeAt (first + 1) entries call
+      at zero same is = absurd (omega arith)
+      at (suc step) same is =
+          record { step = step; position_is = omega arith; entry_is = is }
+
+  -- what holds of calls holds of each in a weaker form
+  pub each_map : (P Q : Call → Type 0) → ((call : Call) → P call → Q call) → (calls : List Call)
+      → Each P calls → Each Q calls
+  each_map P Q f [] h = tt
+  each_map P Q f (call ∷ calls) h = (f call h.0, each_map P Q f calls h.1)
+
+  -- calls above a call that is at a position or later are later
+  above : (first : ℕ) (call : Call) → first ≤ call.position → (calls : List Call)
+      → Each (λ other. call.position + 1 ≤ other.position) calls
+      → Each (λ other. first + 1 ≤ other.position) calls
+  above first call low calls h =
+      each_map (λ other. call.position + 1 ≤ other.position) (λ other. first + 1 ≤ other.position)
+      (λ other k. omega arith) calls h
+
+  -- all of them are
+  shift_all : (first : ℕ) (entry : Entry) (entries : List Entry) (calls : List Call)
+      → Each (λ call. first + 1 ≤ call.position) calls
+      → Each (MadeAt first (entry ∷ entries)) calls → Each (MadeAt (first + 1) entries) calls
+  shift_all first entry entries [] low made = tt
+  shift_all first entry entries (call ∷ calls) low made = (
+    shift_made first entry entries call low.0 made.0,
+    shift_all first entry entries calls low.1 made.1,
+  )
+
+  -- one entry more is no fewer of the pass
+  one_entry : (entry : Entry) (entries : List Entry)
+      → length (entries_by number entries) ≤ length (entries_by number (entry ∷ entries))
+  one_entry entry entries =
+      elim (entry.owner == number) as (λ v. length (entries_by number entries)
+      ≤ length (if v then entry ∷ entries_by number entries else entries_by number entries)) [
+        | true ↦ omega arith
+        | false ↦ omega arith
+      ]
+
+  -- no entries
+  abbrev no_entries : List Entry
+  no_entries = []
+
+  -- there are at least as many entries of the pass as changes
+  count_changes : (first : ℕ) (entries : List Entry) (calls : List Call) → Climbs calls
+      → Each (λ call. first ≤ call.position) calls → Each (MadeAt first entries) calls
+      → length calls ≤ length (entries_by number entries)
+  unfolding Climbs
+  count_changes first entries [] climb low made = omega arith
+  count_changes first [] (call ∷ calls) climb low made = absurd (none made.0.step made.0.entry_is)
+    where
+      none : (step : ℕ) → slice_get (no_entries) step ≡ Some (entry_by number call) → ⊥
+      none zero e = cc
+      none (suc step) e = cc
+  count_changes first (entry ∷ entries) (call ∷ calls) climb low made =
+      at made.0.step made.0.position_is made.0.entry_is
+      (λ k m. count_changes (first + 1) entries calls climb.1 k m)
+      (λ k m. count_changes (first + 1) entries (call ∷ calls) climb k m)
+    where
+      at : (step : ℕ) → call.position ≡ first + step
+          → slice_get (entry ∷ entries) step ≡ Some (entry_by number call)
+          → (Each (λ other. first + 1 ≤ other.position) calls
+          → Each (MadeAt (first + 1) entries) calls
+          → length calls ≤ length (entries_by number entries))
+          → (Each (λ other. first + 1 ≤ other.position) (call ∷ calls)
+          → Each (MadeAt (first + 1) entries) (call ∷ calls)
+          → length (call ∷ calls) ≤ length (entries_by number entries))
+          → length (call ∷ calls) ≤ length (entries_by number (entry ∷ entries))
+      at zero same is one both =
+          let here : entry ≡ entry_by number call = cc in
+          let owner : entry.owner ≡ number = ap (λ (e : Entry). e.owner) here in
+          let mineis : (entry.owner == number) ≡ true = grind (arith, nat_tests) in
+          let low = above first call (omega arith) calls climb.0 in
+          let less = one low (shift_all first entry entries calls low made.1) in
+          rw mineis (omega arith)
+      at (suc step) same is one both =
+          let high : first + 1 ≤ call.position = omega arith in
+          let low : Each (λ other. first + 1 ≤ other.position) (call ∷ calls)
+          = (high, above first call (omega arith) calls climb.0) in
+          let less = both low (shift_all first entry entries (call ∷ calls) low made) in
+          let more = one_entry entry entries in
+          omega arith
+
+  -- ---- the changes among the calls, as such
+
+  -- what holds of all calls holds of those that pass a test
+  each_kept : (P : Call → Type 0) (p : Call → Bool) (calls : List Call) → Each P calls
+      → Each P (filter p calls)
+  each_kept P p [] h = tt
+  each_kept P p (call ∷ calls) h = at (each_kept P p calls h.1) (p call)
+    where
+      at : Each P (filter p calls) → (v : Bool)
+          → Each P (if v then call ∷ filter p calls else filter p calls)
+      at rest true = (h.0, rest)
+      at rest false = rest
+
+  -- changes climb
+  changes_climb : (calls : List Call) → AllFollow calls → Climbs (filter is_change calls)
+  unfolding Climbs
+  changes_climb [] order = tt
+  changes_climb (call ∷ calls) order = at (changes_climb calls order.1) (is_change call) refl
+    where
+      at : Climbs (filter is_change calls) → (v : Bool) → is_change call ≡ v
+          → Climbs (filter is_change (call ∷ calls))
+      at rest false e = rw e rest
+      at rest true e =
+          let past : position_behind call ≡ call.position + 1 = rw e refl in
+          rw e (
+            each_map (Follows call) (λ other. call.position + 1 ≤ other.position)
+                (λ other k. let low = k.position in omega arith) (filter is_change calls)
+                (each_kept (Follows call) is_change calls order.0),
+            rest,
+          )
+
+  -- the changes among the calls are entries
+  changes_made : (first : ℕ) (entries : List Entry) (calls : List Call)
+      → Each (λ call. is_change call ≡ true → MadeAt first entries call) calls
+      → Each (MadeAt first entries) (filter is_change calls)
+  changes_made first entries [] h = tt
+  changes_made first entries (call ∷ calls) h =
+      at (changes_made first entries calls h.1) (is_change call) refl
+    where
+      at : Each (MadeAt first entries) (filter is_change calls) → (v : Bool) → is_change call ≡ v
+          → Each (MadeAt first entries) (filter is_change (call ∷ calls))
+      at rest true e = rw e (h.0 e, rest)
+      at rest false e = rw e rest
+
+  -- there are at least as many entries of the pass as changes among its calls
+  pub changes_few : (first : ℕ) (entries : List Entry) (calls : List Call) → AllFollow calls
+      → Each (λ call. first ≤ call.position) calls
+      → Each (λ call. is_change call ≡ true → MadeAt first entries call) calls
+      → length (filter is_change calls) ≤ length (entries_by number entries)
+  changes_few first entries calls order low made =
+      count_changes first entries (filter is_change calls) (changes_climb calls order)
+      (each_kept (λ call. first ≤ call.position) is_change calls low)
+      (changes_made first entries calls made)
