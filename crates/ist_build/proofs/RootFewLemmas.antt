@@ -35,7 +35,7 @@ use Rattle.ist_build.specs.Laying.{BuiltOn, IsRootLaid, IsTarget, IsLeaf, IsShor
 use Rattle.ist_build.specs.Naming.{rooting_few}
 use Rattle.ist_build.specs.Calls.{IsTold}
 use Rattle.ist_build.specs.Putting.{PutOn, IsStopped}
-use Rattle.ist_mark.specs.Passing.{IsRebuildRow}
+use Rattle.ist_dcss.specs.Reading.{IsRebuildRow}
 use Rattle.ist_build.proofs.PutOnLemmas.{short_stopped}
 use Rattle.ist_build.proofs.BuiltLemmas.{built_grow, loads_built, leaf_goes_on}
 use Rattle.ist_build.proofs.ReadingLemmas.{leaves_number}

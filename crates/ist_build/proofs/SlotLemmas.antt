@@ -29,7 +29,7 @@ use Rattle.ist_dcss.proofs.SlotPlaceLemmas.{has_degree}
 use Rattle.ist_rule.proofs.WentOnLemmas.{goes_on_went, goes_on_grow}
 use Rattle.ist_mark.proofs.KeepingLemmas.{happened_went}
 use Rattle.ist_build.specs.Laying.{Reserves}
-use Rattle.ist_mark.specs.Passing.{IsNoChange}
+use Rattle.ist_dcss.specs.Reading.{IsNoChange}
 use Rattle.ist_build.specs.Reading.{HasSlots, SlotReads}
 
 -- ---- the node

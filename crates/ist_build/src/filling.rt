@@ -17,8 +17,9 @@ ghost use Rattle.ist_build.specs.Calls.{IsTold, IsBuildable, IsRooted, IsBuiltOu
 ghost use Rattle.ist_build.specs.Putting.{PutOn, IsShared, HasDegree, IsSlotSet, IsStopped};
 
 use crate::parts::build_share;
-use crate::reading::{keys_of, target_of};
+use crate::reading::keys_of;
 use ist_core::Full;
+use ist_dcss::target_of;
 use ist_layout::{REBUILD_DRAW_OFFSET, REBUILD_ROOT_OFFSET, Ref, slot_place};
 use ist_math::{SHARE_FROM, degree, part};
 use ist_rows::Caller;

@@ -1,20 +1,17 @@
 //! Reading the leaves of a finished target, in the order of their keys.
-ghost use Rattle.std.specs.Prelude.{◌≡◌, ◌+◌, ◌<◌, ◌≤◌, ℕ, None, Some, List, [], ◌∷◌, length};
+ghost use Rattle.std.specs.Prelude.{◌≡◌, ◌+◌, ◌<◌, ◌≤◌, ℕ, Some, List, [], ◌∷◌, length};
 ghost use Rattle.ist_core.specs.Leaves.{PlacedLeaf, HasLeaves};
-ghost use Rattle.ist_core.specs.Marking.{HasTarget, IsFrozen};
+ghost use Rattle.ist_core.specs.Marking.{IsFrozen};
 ghost use Rattle.ist_core.specs.Rebuilding.{IsFinishedWith};
-ghost use Rattle.ist_core.specs.References.{ref_of, ChangeAt, InnerAt};
+ghost use Rattle.ist_core.specs.References.{InnerAt};
 ghost use Rattle.ist_core.specs.Slots.{SlotHolds, logical};
 ghost use Rattle.laws_links.specs.Linking.{IsFinished};
 ghost use Rattle.ist_rule.specs.Learning.{now, GoesOnTo};
-ghost use Rattle.ist_mark.specs.Passing.{IsNoChange, IsRebuildRow};
 ghost use Rattle.ist_build.specs.Reading.{HasSlots, IsUnder, HasRead};
 
 use crate::below::Below;
-use ist_layout::{
-    CHANGE_FROM_OFFSET, INNER_DEGREE_OFFSET, INNER_STATUS_OFFSET, REBUILD_TARGET_OFFSET, Ref,
-    slot_place,
-};
+use ist_dcss::{change_in, target_of};
+use ist_layout::{CHANGE_FROM_OFFSET, INNER_DEGREE_OFFSET, INNER_STATUS_OFFSET, Ref, slot_place};
 use ist_rule::{TreeSeat, TreeTable, know, load};
 
 // How far the reading is: how many leaves must still be skipped, and how many were written.
@@ -22,17 +19,6 @@ use ist_rule::{TreeSeat, TreeTable, know, load};
 pub(crate) struct Cursor {
     pub(crate) skip: u64,
     pub(crate) count: usize,
-}
-
-// Returns the change that the word names, if it names one.
-fn change_in(word: u64) -> Option<u32>
-    ensures change { (change : ℕ) → result ≡ Some change → ref_of word ≡ Some (ChangeAt change) }
-    ensures no_change { result ≡ None → IsNoChange word }
-{
-    match Ref::from_word(word) {
-        Some(Ref::Change { base }) => Some(base),
-        _ => None,
-    }
 }
 
 // Returns the word with which the slot was passed, and how many loads it took. If a change is in the
@@ -75,19 +61,6 @@ pub(crate) fn keys_of(table: &TreeTable, seat: &mut TreeSeat, node: u32) -> u64
     know(seat);
     // A finished status is 4 * keys + 3.
     load(table, seat, u64::from(node) + INNER_STATUS_OFFSET) / 4
-}
-
-// Returns the node that is rebuilt.
-pub(crate) fn target_of(table: &TreeTable, seat: &mut TreeSeat, rebuild: u32) -> u32
-    requires same_table { seat.old.table ≡ table.now.table }
-    requires published { IsRebuildRow (now seat.old.view) rebuild }
-    ensures same_table { seat.new.table ≡ seat.old.table }
-    ensures seen { GoesOnTo seat.old.view seat.new.view }
-    ensures target { HasTarget (now seat.new.view) rebuild result }
-    ensures counted { seat.new.view.loaded ≡ seat.old.view.loaded + 1 }
-{
-    know(seat);
-    load(table, seat, u64::from(rebuild) + REBUILD_TARGET_OFFSET) as u32
 }
 
 // Returns what hangs below a slot of the finished node, and how many loads it took to find out. Inlined

@@ -14,13 +14,14 @@ ghost use Rattle.laws_coming.specs.Builds.{WasUnset};
 ghost use Rattle.ist_build.specs.Laying.{BuiltOn, IsRootLaid, IsTarget, IsShort};
 ghost use Rattle.ist_build.specs.Calls.{IsTold, IsBuildable};
 ghost use Rattle.ist_build.specs.Putting.{PutOn, HasRoot, IsStopped};
-ghost use Rattle.ist_mark.specs.Passing.{IsRebuildRow};
+ghost use Rattle.ist_dcss.specs.Reading.{IsRebuildRow};
 
 use crate::descent::leaf_base;
 use crate::parts::build_share;
-use crate::reading::{keys_of, target_of};
+use crate::reading::keys_of;
 use crate::top::build_top;
 use ist_core::Full;
+use ist_dcss::target_of;
 use ist_layout::{REBUILD_ROOT_OFFSET, Ref};
 use ist_math::SHARE_FROM;
 use ist_rows::Caller;

@@ -12,3 +12,4 @@ pub mod InstalledLemmas
 pub mod CallingLemmas
 pub mod OpeningLemmas
 pub mod ResolvedLemmas
+pub mod TargetLemmas

@@ -2,5 +2,6 @@
 pub mod Helping
 pub mod Installing
 pub mod Opening
+pub mod Reading
 -- what the functions inside this crate promise each other
 pub mod Naming

@@ -10,6 +10,7 @@ ghost use Rattle.ist_dcss.specs.Naming.{outcome_offset_of};
 ghost use Rattle.ist_find.specs.Reads.{TellsSide, TellsTarget, TellsValue};
 
 use crate::answers::Counted;
+use ist_dcss::change_in;
 use ist_layout::{
     CHANGE_DECISION_OFFSET, CHANGE_FROM_OFFSET, CHANGE_TO_OFFSET, DECIDED_YES, LEAF_KEY_OFFSET,
     LEAF_VALUE_OFFSET, REBUILD_TARGET_OFFSET, Ref,
@@ -25,17 +26,6 @@ fn side_offset(decision: u64) -> u64
         CHANGE_TO_OFFSET
     } else {
         CHANGE_FROM_OFFSET
-    }
-}
-
-// The base of the change that the word names, if it names one.
-fn change_in(word: u64) -> Option<u32>
-    ensures some { IfSome result (λ base. ref_of word ≡ Some (ChangeAt base)) }
-    ensures none { result ≡ None → IsPlain (ref_of word) }
-{
-    match Ref::from_word(word) {
-        Some(Ref::Change { base }) => Some(base),
-        _ => None,
     }
 }
 

@@ -1,62 +1,22 @@
--- What hangs below a slot that was passed. Serves `target_of` and `pass_slot`.
-use Rattle.std.proofs.Common.{◌≡◌, ◌≢◌, ℕ, ◌+◌, ◌^◌, ◌<◌, Option, Some, None, option_map, refl, sym, ap, ◌∙◌, subst, arith}
+-- What hangs below a slot that was passed. Serves `pass_slot`.
+use Rattle.std.proofs.Common.{◌≡◌, ◌≢◌, ℕ, Option, Some, None, option_map, sym, ap, ◌∙◌, subst, arith}
 use Rattle.ist_core.specs.declared.events.Event.{Event}
-use Rattle.ist_core.specs.declared.states.RebuildRow.{RebuildRow}
 use Rattle.ist_core.specs.References.{Empty, Unset, LeafAt, InnerAt, ChangeAt, RebuildAt, ref_of}
-use Rattle.ist_core.specs.Pieces.{Inner, Rebuild}
 use Rattle.ist_core.specs.Logs.{Passes}
 use Rattle.ist_core.specs.Marking.{HasTarget, as_child, behind_rebuild, IsFrozen, CountsFor, no_key, one_key}
-use Rattle.ist_core.proofs.GrowingLemmas.{rebuild_there}
 use Rattle.ist_core.proofs.NamingLemmas.{SideNames, IsRebuildFor}
 use Rattle.laws_links.proofs.ClosedLemmas.{same_rebuild}
 use Rattle.ist_rule.specs.declared.view.View.{View}
 use Rattle.ist_rule.specs.Rule.{IsSound}
-use Rattle.ist_rule.specs.Learning.{now, Looked}
-use Rattle.ist_dcss.proofs.FieldLemmas.{row_low, looked_row}
+use Rattle.ist_rule.specs.Learning.{now}
 use Rattle.ist_rule.specs.Going.{WentOn}
-use Rattle.ist_rule.proofs.GoingOnLemmas.{looked_goes_on}
-use Rattle.ist_rule.proofs.WentOnLemmas.{goes_on_grow}
 use Rattle.ist_layout.specs.declared.references.Ref as layout
 use Rattle.ist_layout.specs.Meanings.{ref_meant}
 use Rattle.ist_mark.specs.declared.below.Below.TheVariants.{Keys, Node}
 use Rattle.ist_mark.specs.Marking.{to_row, to_target}
-use Rattle.ist_mark.specs.Passing.{IsRebuildRow, HangsBelow, PassedWith}
+use Rattle.ist_mark.specs.Passing.{HangsBelow, PassedWith}
 use Rattle.ist_mark.proofs.KeepingLemmas.{happened_went}
 use Rattle.ist_mark.proofs.NodeLemmas.{frozen_names, target_inner}
-
--- ---- the target of a rebuild
-
--- the rebuild after a load of its target
-rebuild_behind : (v : View) (place word : ℕ) (w : View) → Looked v place word w → (rebuild : ℕ)
-    → IsRebuildRow (now v) rebuild → place ≡ rebuild + 0
-    → (r : RebuildRow) × ((now w).pieces rebuild ≡ Some (Rebuild r)) × (word ≡ r.target)
-rebuild_behind v place word w l rebuild b at =
-    let it = rebuild_there (now v).pieces (now w).pieces
-    (goes_on_grow v w (looked_goes_on v place word w l)) rebuild b.row b.published in (
-      it.0,
-      it.1,
-      looked_row v place word w l rebuild (Rebuild it.0) 0 it.0.target it.1 refl at,
-    )
-
--- the load gives the target
-pub target_told : (v : View) (place word : ℕ) (w : View) → Looked v place word w → (rebuild : ℕ)
-    → IsRebuildRow (now v) rebuild → place ≡ rebuild + 0 → HasTarget (now w) rebuild word
-target_told v place word w l rebuild b at =
-    let it = rebuild_behind v place word w l rebuild b at in
-    record { row = it.0; published = it.1; target_is = sym it.2 }
-
--- which is a place of the table
-pub target_low : (v : View) (place word : ℕ) (w : View) → Looked v place word w → (rebuild : ℕ)
-    → IsRebuildRow (now v) rebuild → place ≡ rebuild + 0 → word < 2 ^ 32
-target_low v place word w l rebuild b at =
-    let it = rebuild_behind v place word w l rebuild b at in
-    let inner = (target_inner w.start w.words l.sound.lawful.opens w.log l.sound.lawful.enabled
-    rebuild it.0 it.1).1 in
-    let low = row_low w l.sound it.0.target (Inner inner.0) inner.1 0 (omega arith) in
-    let place_low = low.0 in
-    let all = low.1 in
-    let same = it.2 in
-    omega arith
 
 -- ---- words
 

@@ -37,7 +37,8 @@ use Rattle.ist_dcss.proofs.SlotPlaceLemmas.{slot_shown, no_anchor}
 use Rattle.ist_rule.specs.Going.{WentOn}
 use Rattle.ist_rule.proofs.WentOnLemmas.{logged_load_went, looked_went}
 use Rattle.ist_mark.specs.Marking.{the_node, Marks}
-use Rattle.ist_mark.specs.Passing.{MayPass, IsMetAt, IsNoChange}
+use Rattle.ist_dcss.specs.Reading.{IsNoChange}
+use Rattle.ist_mark.specs.Passing.{MayPass, IsMetAt}
 use Rattle.ist_mark.proofs.KeepingLemmas.{may_pass_went}
 use Rattle.ist_mark.proofs.NodeLemmas.{closed_status}
 use Rattle.laws_links.proofs.ClosedLemmas.{closed_was_linked}

@@ -1,10 +1,9 @@
 -- What the parts of marking know of a node that isn't open, and of its slots.
 use Rattle.std.specs.Prelude.{◌≡◌, ◌≢◌, ℕ, ◌+◌, ◌<◌, Some}
 use Rattle.ist_core.specs.declared.states.InnerRow.{InnerRow}
-use Rattle.ist_core.specs.declared.states.RebuildRow.{RebuildRow}
-use Rattle.ist_core.specs.References.{ChangeAt, ref_of}
+use Rattle.ist_core.specs.References.{ref_of}
 use Rattle.ist_core.specs.Statuses.{open_word}
-use Rattle.ist_core.specs.Pieces.{Inner, Rebuild}
+use Rattle.ist_core.specs.Pieces.{Inner}
 use Rattle.ist_core.specs.Snapshots.{Snapshot}
 use Rattle.ist_core.specs.Logs.{Happened, Log, Resolves}
 use Rattle.ist_core.specs.Marking.{IsCalled, IsFrozen, CountsFor}
@@ -30,15 +29,6 @@ pub record MayPass (v : View) (node degree : ℕ) : Type 0 where
   pub published : (now v).pieces node ≡ Some (Inner row)
   pub closed : row.status ≢ open_word
   pub degree_is : row.degree ≡ degree
-
--- the word names no change
-abbrev pub IsNoChange : ℕ → Type 0
-IsNoChange word = (change : ℕ) → ref_of word ≢ Some (ChangeAt change)
-
--- a rebuild is published at the base
-pub record IsRebuildRow (t : Snapshot) (base : ℕ) : Type 0 where
-  pub row : RebuildRow
-  pub published : t.pieces base ≡ Some (Rebuild row)
 
 -- a caller may help a change, which is on a slot of the node and isn't resolved
 pub record IsMetAt (v : View) (node change : ℕ) : Type 0 where

@@ -1,27 +1,16 @@
 //! Passing the slots of a node that isn't open, after helping the changes in them.
-ghost use Rattle.std.specs.Prelude.{◌≡◌, ℕ, ◌<◌, None, Some};
+ghost use Rattle.std.specs.Prelude.{◌≡◌, ℕ, ◌<◌, Some};
 ghost use Rattle.ist_core.specs.References.{ref_of, ChangeAt};
-ghost use Rattle.ist_core.specs.Marking.{HasTarget, IsFrozen};
-ghost use Rattle.ist_rule.specs.Learning.{now, GoesOnTo};
+ghost use Rattle.ist_core.specs.Marking.{IsFrozen};
 ghost use Rattle.ist_rule.specs.Going.{WentOn, KeepsSearch};
 ghost use Rattle.ist_mark.specs.Marking.{Marks};
-ghost use Rattle.ist_mark.specs.Passing.{IsNoChange, MayPass, IsMetAt, IsRebuildRow, PassedWith};
+ghost use Rattle.ist_dcss.specs.Reading.{IsNoChange};
+ghost use Rattle.ist_mark.specs.Passing.{MayPass, IsMetAt, PassedWith};
 
 use crate::below::Below;
-use ist_dcss::help;
-use ist_layout::{REBUILD_TARGET_OFFSET, Ref, slot_place};
-use ist_rule::{TreeSeat, TreeTable, know, load, load_pass};
-
-// Returns the change that the word names, if it names one.
-fn change_in(word: u64) -> Option<u32>
-    ensures change { (change : ℕ) → result ≡ Some change → ref_of word ≡ Some (ChangeAt change) }
-    ensures no_change { result ≡ None → IsNoChange word }
-{
-    match Ref::from_word(word) {
-        Some(Ref::Change { base }) => Some(base),
-        _ => None,
-    }
-}
+use ist_dcss::{change_in, help, target_of};
+use ist_layout::{Ref, slot_place};
+use ist_rule::{TreeSeat, TreeTable, know, load_pass};
 
 // Loads a slot of the node and returns its word. The slot is then passed, unless the word is a
 // change's.
@@ -62,18 +51,6 @@ fn pass(table: &TreeTable, seat: &mut TreeSeat, node: u32, degree: u64, index: u
             None => return word,
         };
     }
-}
-
-// Returns the node that is rebuilt.
-fn target_of(table: &TreeTable, seat: &mut TreeSeat, rebuild: u32) -> u32
-    requires same_table { seat.old.table ≡ table.now.table }
-    requires published { IsRebuildRow (now seat.old.view) rebuild }
-    ensures same_table { seat.new.table ≡ seat.old.table }
-    ensures seen { GoesOnTo seat.old.view seat.new.view }
-    ensures target { HasTarget (now seat.new.view) rebuild result }
-{
-    know(seat);
-    load(table, seat, u64::from(rebuild) + REBUILD_TARGET_OFFSET) as u32
 }
 
 /// Passes a slot of the node, and returns what hangs below it.

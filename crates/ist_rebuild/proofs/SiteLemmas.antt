@@ -1,6 +1,5 @@
--- What the row of a started rebuild says, and what becomes of it. Serves `field`, `target_of` and
--- `plan_of`.
-use Rattle.std.proofs.Common.{◌≡◌, ℕ, ◌+◌, ◌^◌, ◌<◌, [], slice_get, Some, refl, sym, ap, ◌∙◌, subst, arith}
+-- What the row of a started rebuild says, and what becomes of it. Serves `field` and `plan_of`.
+use Rattle.std.proofs.Common.{◌≡◌, ℕ, ◌+◌, ◌^◌, ◌<◌, [], slice_get, Some, refl, sym, ap, ◌∙◌, subst}
 use Rattle.std.proofs.lemmas.Option.{slice_get-get_or}
 use Rattle.std.specs.Prelude.{get_or}
 use Rattle.ist_core.specs.declared.events.Event.{Event}
@@ -8,8 +7,7 @@ use Rattle.ist_core.specs.declared.states.RebuildRow.{RebuildRow}
 use Rattle.ist_core.specs.Growing.{RebuildGrows}
 use Rattle.ist_core.specs.Installing.{FitsKind, a_finish}
 use Rattle.ist_core.specs.Links.{WasLinked}
-use Rattle.ist_core.specs.Marking.{HasTarget}
-use Rattle.ist_core.specs.Pieces.{Change, Inner, Rebuild, words_of}
+use Rattle.ist_core.specs.Pieces.{Rebuild, words_of}
 use Rattle.ist_core.specs.Rebuilding.{IsStarted, IsBuilt}
 use Rattle.ist_core.specs.References.{RebuildAt, IsGoodBase}
 use Rattle.ist_core.specs.RowLayout.{rebuild_words}
@@ -17,8 +15,7 @@ use Rattle.ist_core.specs.Slots.{SlotHolds}
 use Rattle.ist_core.specs.StartLayout.{start}
 use Rattle.ist_core.proofs.DrawLemmas.{same_rebuild}
 use Rattle.ist_core.proofs.GrowingLemmas.{rebuild_there}
-use Rattle.ist_core.proofs.NamingLemmas.{IsRebuildFor, SideNames}
-use Rattle.ist_core.proofs.OrderLemmas.{names}
+use Rattle.ist_core.proofs.NamingLemmas.{IsRebuildFor}
 use Rattle.ist_core.proofs.ReferenceLemmas.{ref_of-word_of}
 use Rattle.ist_core.proofs.RoomLemmas.{published_good}
 use Rattle.laws_links.proofs.ChangeLemmas.{node_was_linked}
@@ -31,53 +28,24 @@ use Rattle.ist_rule.proofs.GoingOnLemmas.{goes_on_more, looked_goes_on}
 use Rattle.ist_rule.proofs.WatchLemmas.{change_node}
 use Rattle.ist_rule.proofs.WentOnLemmas.{goes_on_grow, goes_on_went, later_by-goes_on, went_grow, went_lawful}
 use Rattle.ist_dcss.specs.Naming.{IsSlot}
+use Rattle.ist_dcss.specs.Reading.{IsRebuildRow}
 use Rattle.ist_dcss.proofs.FieldLemmas.{looked_row}
 use Rattle.ist_dcss.proofs.FitsLemmas.{fits_later}
 use Rattle.ist_dcss.proofs.SlotPlaceLemmas.{change_slot}
+use Rattle.ist_dcss.proofs.TargetLemmas.{started_row, started_rebuild, fields_low}
 use Rattle.ist_build.specs.Calls.{IsBuiltOut}
 use Rattle.ist_rebuild.specs.declared.sites.Plan.{Plan}
-use Rattle.ist_rebuild.specs.Finishing.{IsRebuild, IsWordOf, IsPlan, finish_row}
+use Rattle.ist_rebuild.specs.Finishing.{IsWordOf, IsPlan, finish_row}
 use Rattle.ist_rebuild.proofs.AbleLemmas.{started_went}
 
--- ---- a started rebuild
-
--- a started rebuild is published, in the slot of its start
-pub started_row : (v : View) → IsSound v → (rebuild : ℕ) → (s : IsStarted (now v) rebuild)
-    → IsRebuildFor (now v).pieces s.change.node s.change.index rebuild
-started_row v s rebuild h =
-    subst (SideNames (now v).pieces h.change.node h.change.index) h.to
-    ((names v.start v.words s.lawful.opens v.log s.lawful.enabled).rows h.base (Change h.change)
-    h.published).1
-
--- a started rebuild is published
-pub started_rebuild : (v : View) → IsSound v → (rebuild : ℕ) → IsStarted (now v) rebuild
-    → IsRebuild (now v) rebuild
-started_rebuild v s rebuild h =
-    let it = started_row v s rebuild h in record { row = it.row; published = it.published }
+-- ---- a published rebuild
 
 -- the base of a rebuild is good
-pub rebuild_good : (v : View) → IsSound v → (rebuild : ℕ) → IsRebuild (now v) rebuild
+pub rebuild_good : (v : View) → IsSound v → (rebuild : ℕ) → IsRebuildRow (now v) rebuild
     → IsGoodBase rebuild
 rebuild_good v s rebuild h =
     published_good v.start v.words s.lawful.opens v.log rebuild (Rebuild h.row) s.lawful.enabled
     h.published
-
--- the target and the parent of a rebuild fit in 32 bits
-pub record AreLow (row : RebuildRow) : Type 0 where
-  pub target : row.target < 2 ^ 32
-  pub parent : row.parent < 2 ^ 32
-
--- the target and the parent of a published rebuild fit in 32 bits
-pub fields_low : (v : View) → IsSound v → (rebuild : ℕ) (row : RebuildRow)
-    → (now v).pieces rebuild ≡ Some (Rebuild row) → AreLow row
-fields_low v s rebuild row e =
-    let it = (names v.start v.words s.lawful.opens v.log s.lawful.enabled).rows rebuild
-    (Rebuild row) e in
-    let less = it.0 in
-    let good = published_good v.start v.words s.lawful.opens v.log row.target (Inner it.1.0)
-    s.lawful.enabled it.1.1 in
-    let low = good.below_limit in
-    record { target = omega arith; parent = omega arith }
 
 -- ---- words of its row
 
@@ -90,7 +58,7 @@ rebuild_on v w g rebuild row e =
 
 -- a load of one gives it
 pub looked_word : (v : View) (place word : ℕ) (w : View) → Looked v place word w
-    → (rebuild offset : ℕ) → IsRebuild (now v) rebuild → offset < rebuild_words
+    → (rebuild offset : ℕ) → IsRebuildRow (now v) rebuild → offset < rebuild_words
     → place ≡ rebuild + offset → IsWordOf (now w) rebuild offset word
 looked_word v place word w l rebuild offset h less at =
     let on = rebuild_on v w (looked_goes_on v place word w l) rebuild h.row h.published in
@@ -103,19 +71,6 @@ looked_word v place word w l rebuild offset h less at =
 
 one : (a b : ℕ) → Some a ≡ Some b → a ≡ b
 one a b e = cc
-
--- the target
-pub told_target : (v : View) (rebuild word : ℕ) → IsWordOf (now v) rebuild 0 word
-    → HasTarget (now v) rebuild word
-told_target v rebuild word h =
-    record { row = h.row; published = h.published; target_is = one h.row.target word h.is }
-
--- the target's word of a rebuild fits in 32 bits
-pub target_small : (v : View) → IsSound v → (rebuild word : ℕ) → IsWordOf (now v) rebuild 0 word
-    → word < 2 ^ 32
-target_small v s rebuild word h =
-    subst (λ n. n < 2 ^ 32) (one h.row.target word h.is)
-    (fields_low v s rebuild h.row h.published).target
 
 -- the parent's word of a rebuild fits in 32 bits
 pub parent_small : (v : View) → IsSound v → (rebuild word : ℕ) → IsWordOf (now v) rebuild 1 word

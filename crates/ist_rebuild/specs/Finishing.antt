@@ -38,11 +38,6 @@ pub record HasHelped (old new : Caller) : Type 0 where
 
 -- ---- the rebuild
 
--- a rebuild is published at the base
-pub record IsRebuild (t : Snapshot) (base : ℕ) : Type 0 where
-  pub row : RebuildRow
-  pub published : t.pieces base ≡ Some (Rebuild row)
-
 -- the word is at this offset from the base of a published rebuild
 pub record IsWordOf (t : Snapshot) (rebuild offset word : ℕ) : Type 0 where
   pub row : RebuildRow

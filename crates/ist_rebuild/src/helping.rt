@@ -14,11 +14,12 @@ ghost use Rattle.ist_rebuild.specs.Helping.{IsLeftToParent, IsHelpRefused};
 
 use crate::answers::Helped;
 use crate::finishing::{build_out, finish};
-use crate::sites::{plan_of, target_of};
+use crate::sites::plan_of;
 use ist_core::Full;
+use ist_dcss::target_of;
 use ist_mark::mark_and_count_from;
 use ist_rows::Caller;
-use ist_rule::TreeTable;
+use ist_rule::{TreeTable, know};
 
 // Marks the target of a started rebuild, and counts its keys; then the rebuild may be built.
 fn mark_target(table: &TreeTable, who: &mut Caller, rebuild: u32)
@@ -29,6 +30,7 @@ fn mark_target(table: &TreeTable, who: &mut Caller, rebuild: u32)
     ensures helped { HasHelped who.old who.new }
     ensures buildable { IsBuildable (now who.new.seat.view) rebuild }
 {
+    know(&who.seat);
     let target = target_of(table, &mut who.seat, rebuild);
     mark_and_count_from(table, &mut who.seat, target, who.number);
 }

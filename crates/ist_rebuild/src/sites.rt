@@ -1,6 +1,5 @@
 //! What a rebuild's row and its slot say.
 ghost use Rattle.std.specs.Prelude.{◌≡◌, ◌≢◌, ℕ, ◌<◌, Some};
-ghost use Rattle.ist_core.specs.Marking.{HasTarget};
 ghost use Rattle.ist_core.specs.Rebuilding.{IsStarted, IsReplaced};
 ghost use Rattle.ist_core.specs.References.{ChangeAt, RebuildAt, ref_of};
 ghost use Rattle.ist_core.specs.RowLayout.{rebuild_words};
@@ -9,14 +8,13 @@ ghost use Rattle.ist_rule.specs.Learning.{now, GoesOnTo};
 ghost use Rattle.ist_build.specs.Calls.{IsBuiltOut};
 ghost use Rattle.ist_rebuild.specs.declared.answers.Helped.TheVariants.{Replaced, ParentMarked};
 ghost use Rattle.ist_rebuild.specs.declared.sites.Met.TheVariants.{Change, Itself, Another};
-ghost use Rattle.ist_rebuild.specs.Finishing.{IsAble, HasHelped, IsRebuild, IsWordOf, IsPlan};
+ghost use Rattle.ist_dcss.specs.Reading.{IsRebuildRow};
+ghost use Rattle.ist_rebuild.specs.Finishing.{IsAble, HasHelped, IsWordOf, IsPlan};
 ghost use Rattle.ist_rebuild.specs.Helping.{IsLeftToParent};
 
 use crate::answers::Helped;
 use ist_dcss::{help, slot_at};
-use ist_layout::{
-    REBUILD_INDEX_OFFSET, REBUILD_PARENT_OFFSET, REBUILD_ROOT_OFFSET, REBUILD_TARGET_OFFSET, Ref,
-};
+use ist_layout::{REBUILD_INDEX_OFFSET, REBUILD_PARENT_OFFSET, REBUILD_ROOT_OFFSET, Ref};
 use ist_rows::Caller;
 use ist_rule::{TreeSeat, TreeTable, know, load};
 
@@ -43,7 +41,7 @@ pub(crate) enum Met {
 // Loads a word of the rebuild's row.
 fn field(table: &TreeTable, seat: &mut TreeSeat, rebuild: u32, offset: u64) -> u64
     requires same_table { seat.old.table ≡ table.now.table }
-    requires published { IsRebuild (now seat.old.view) rebuild }
+    requires published { IsRebuildRow (now seat.old.view) rebuild }
     requires within { offset < rebuild_words }
     ensures same_table { seat.new.table ≡ seat.old.table }
     ensures seen { GoesOnTo seat.old.view seat.new.view }
@@ -51,20 +49,6 @@ fn field(table: &TreeTable, seat: &mut TreeSeat, rebuild: u32, offset: u64) -> u
 {
     know(seat);
     load(table, seat, u64::from(rebuild) + offset)
-}
-
-/// Returns the node that a started rebuild replaces.
-pub(crate) fn target_of(table: &TreeTable, seat: &mut TreeSeat, rebuild: u32) -> u32
-    requires same_table { seat.old.table ≡ table.now.table }
-    requires started { IsStarted (now seat.old.view) rebuild }
-    ensures same_table { seat.new.table ≡ seat.old.table }
-    ensures seen { GoesOnTo seat.old.view seat.new.view }
-    ensures target { HasTarget (now seat.new.view) rebuild result }
-{
-    know(seat);
-    let target = field(table, seat, rebuild, REBUILD_TARGET_OFFSET);
-    know(seat);
-    target as u32
 }
 
 /// Returns what the finish of a started rebuild will do, once its root is built.

@@ -20,7 +20,7 @@ use Rattle.ist_find.specs.Searches.{SeesChange}
 use Rattle.ist_layout.specs.Meanings.{ref_meant}
 use Rattle.laws_links.proofs.FormLemmas.{started_grows}
 use Rattle.ist_rebuild.specs.Starting.{MayStart}
-use Rattle.ist_rebuild.proofs.SiteLemmas.{started_rebuild}
+use Rattle.ist_dcss.proofs.TargetLemmas.{started_rebuild}
 use Rattle.laws_settling.proofs.ReadLemmas.{read_started}
 use Rattle.ist_rule.specs.declared.view.View.{View}
 use Rattle.ist_rule.specs.Faces.{SeatFace}

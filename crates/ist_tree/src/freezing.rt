@@ -27,10 +27,8 @@ use crate::passes::Pass;
 use crate::trees::Tree;
 use ist_build::leaf_and_loads;
 use ist_core::{Full, Pair};
-use ist_dcss::help;
-use ist_layout::{
-    ANCHOR, ANCHOR_SLOT_PLACE, LEAF_KEY_OFFSET, LEAF_VALUE_OFFSET, REBUILD_TARGET_OFFSET, Ref,
-};
+use ist_dcss::{help, target_of};
+use ist_layout::{ANCHOR, ANCHOR_SLOT_PLACE, LEAF_KEY_OFFSET, LEAF_VALUE_OFFSET, Ref};
 use ist_mark::mark_and_count;
 use ist_rebuild::{Started, help_rebuild, start};
 use ist_rows::Caller;
@@ -71,20 +69,6 @@ pub(crate) fn anchor_word(table: &TreeTable, seat: &mut TreeSeat) -> u64
     know(seat);
     // A load. Meets an install in the slot, and what a helper leaves there.
     load(table, seat, ANCHOR_SLOT_PLACE)
-}
-
-// The node that a started rebuild will replace.
-fn target_of(table: &TreeTable, seat: &mut TreeSeat, rebuild: u32) -> u32
-    requires same_table { seat.old.table ≡ table.now.table }
-    requires started { IsStarted (now seat.old.view) rebuild }
-    ensures same_table { seat.new.table ≡ seat.old.table }
-    ensures seen { GoesOnTo seat.old.view seat.new.view }
-    ensures target { HasTarget (now seat.new.view) rebuild result }
-{
-    know(seat);
-    let target = load(table, seat, u64::from(rebuild) + REBUILD_TARGET_OFFSET);
-    know(seat);
-    target as u32
 }
 
 // Starts a rebuild of the row below the anchor, or finds that something else got there meanwhile.

@@ -2,7 +2,6 @@
 ghost use Rattle.std.specs.Prelude.{◌≡◌, ◌+◌, ◌<◌, ℕ, Ok, IfOk, IfSome};
 ghost use Rattle.ist_build.specs.Calls.{IsBuildable, IsRooted};
 ghost use Rattle.ist_core.specs.Enabled.{caller_limit};
-ghost use Rattle.ist_core.specs.Marking.{HasTarget};
 ghost use Rattle.ist_core.specs.Rebuilding.{IsStarted};
 ghost use Rattle.ist_core.specs.RowLayout.{anchor};
 ghost use Rattle.ist_core.specs.Slots.{SlotHolds};
@@ -11,11 +10,12 @@ ghost use Rattle.ist_rebuild.specs.declared.answers.Started.TheVariants.{Yes};
 ghost use Rattle.ist_rebuild.specs.Finishing.{IsAble};
 ghost use Rattle.ist_rebuild.specs.Starting.{MayStart};
 ghost use Rattle.ist_core.specs.declared.events.Who.TheVariants.{Maker};
-ghost use Rattle.ist_rule.specs.Learning.{now, GoesOnTo};
+ghost use Rattle.ist_rule.specs.Learning.{now};
 
 use ist_build::{fill_parts, set_root};
 use ist_core::Full;
-use ist_layout::{ANCHOR, ANCHOR_SLOT_PLACE, REBUILD_TARGET_OFFSET, Ref};
+use ist_dcss::target_of;
+use ist_layout::{ANCHOR, ANCHOR_SLOT_PLACE, Ref};
 use ist_mark::mark_and_count;
 use ist_rebuild::{Helped, Started, help_rebuild, start};
 use ist_rows::{Caller, enter};
@@ -56,20 +56,6 @@ fn slot_word(table: &TreeTable, who: &mut Caller) -> u64
 {
     know(&who.seat);
     load(table, &mut who.seat, ANCHOR_SLOT_PLACE)
-}
-
-// Returns the row that the rebuild will replace.
-fn target_of(table: &TreeTable, seat: &mut TreeSeat, rebuild: u32) -> u32
-    requires same_table { seat.old.table ≡ table.now.table }
-    requires started { IsStarted (now seat.old.view) rebuild }
-    ensures same_table { seat.new.table ≡ seat.old.table }
-    ensures seen { GoesOnTo seat.old.view seat.new.view }
-    ensures target { HasTarget (now seat.new.view) rebuild result }
-{
-    know(seat);
-    let target = load(table, seat, u64::from(rebuild) + REBUILD_TARGET_OFFSET);
-    know(seat);
-    target as u32
 }
 
 /// Returns the inner row below the anchor, if there is one: a rebuild of it may be started.
@@ -128,6 +114,7 @@ pub(crate) fn mark(table: &TreeTable, who: &mut Caller, rebuild: u32) -> Marked
     ensures started { IsStarted (now who.new.seat.view) rebuild }
     ensures buildable { IsBuildable (now who.new.seat.view) rebuild }
 {
+    know(&who.seat);
     let target = target_of(table, &mut who.seat, rebuild);
     let keys = mark_and_count(table, &mut who.seat, target);
     Marked { target, keys }

@@ -6,4 +6,4 @@ use Rattle.ist_find.proofs.reading.past_change.Goals as goal
 pub returns-in-None-clause-side : goal.returns-in-None-clause-side
 returns-in-None-clause-side c =
     no_change_told _ c.know.ensures.sound c.args.word c.requires.names
-    (c.in-None.ensures.none refl)
+    (c.in-None.ensures.no_change refl)

@@ -25,7 +25,7 @@ look-word-requires c =
 -- the change that was met may be helped
 pub help-requires-clause-may_help : goal.help-requires-clause-may_help
 help-requires-clause-may_help c =
-    (c.look-word.ensures.change _ (c.in-Some.ensures.change _ refl)).may_help
+    (c.look-word.ensures.change _ c.in-Some.ensures.change).may_help
 
 -- a turn helps a change
 pub turns-preserved : goal.turns-preserved
@@ -33,7 +33,7 @@ turns-preserved c = (
   c.help.ensures.same_table ∙ c.look-word.ensures.same_table ∙ c.turns.invariant.0,
   marked_help c.args.node _ _ _ _
       (marked_more c.args.node _ _ _ c.turns.invariant.1 c.look-word.ensures.went)
-      (c.look-word.ensures.change _ (c.in-Some.ensures.change _ refl))
+      (c.look-word.ensures.change _ c.in-Some.ensures.change)
       c.help.ensures.went,
   keeps_more _ _ _ (keeps_more _ _ _ c.turns.invariant.2 c.look-word.ensures.search)
       c.help.ensures.search,
@@ -52,7 +52,7 @@ returns-in-None-clause-search c =
 pub turns-smaller : goal.turns-smaller
 turns-smaller c =
     let word = c.look-word.ensures in
-    let met = word.change _ (c.in-Some.ensures.change _ refl) in
+    let met = word.change _ c.in-Some.ensures.change in
     fewer_left _ _ c.help.ensures.went.sound
     (no_less (Marks c.look-word.new.seat.view c.args.node) _ _ _ word.went
     (resolved_further (Serves c.in-Some.change) _ _ c.help.ensures.went c.in-Some.change

@@ -1,7 +1,13 @@
+use Rattle.ist_dcss.proofs.TargetLemmas.{started_rebuild}
 use Rattle.ist_rebuild.proofs.BuiltOutLemmas.{has_marked, may_mark}
 use Rattle.ist_rebuild.proofs.helping.mark_target.Goals as goal
 
--- the target of a started rebuild may be marked
+-- a started rebuild is published
+pub target_of-target-requires-clause-published : goal.target_of-target-requires-clause-published
+target_of-target-requires-clause-published c =
+    started_rebuild _ c.know.ensures.sound c.args.rebuild c.requires.started
+
+-- its target may be marked
 pub mark_and_count_from-requires-clause-may_mark : goal.mark_and_count_from-requires-clause-may_mark
 mark_and_count_from-requires-clause-may_mark c =
     may_mark c.args.who.now c.target_of-target.new.seat c.args.rebuild _ c.requires.able

@@ -1,5 +1,6 @@
 use Rattle.ist_rule.proofs.GoingOnLemmas.{goes_on_more}
-use Rattle.ist_rebuild.proofs.SiteLemmas.{started_rebuild, parent_small, planned}
+use Rattle.ist_dcss.proofs.TargetLemmas.{started_rebuild}
+use Rattle.ist_rebuild.proofs.SiteLemmas.{parent_small, planned}
 use Rattle.ist_rebuild.proofs.sites.plan_of.Goals as goal
 
 -- a started rebuild is published

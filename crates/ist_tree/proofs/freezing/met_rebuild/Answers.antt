@@ -1,5 +1,11 @@
+use Rattle.ist_dcss.proofs.TargetLemmas.{started_rebuild}
 use Rattle.ist_tree.proofs.FreezeLookLemmas.{stood_met}
 use Rattle.ist_tree.proofs.freezing.met_rebuild.Goals as goal
+
+-- a started rebuild is published
+pub target_of-target-requires-clause-published : goal.target_of-target-requires-clause-published
+target_of-target-requires-clause-published c =
+    started_rebuild _ c.know.ensures.sound c.args.rebuild c.requires.started
 
 -- the rebuild that stood there is met, by its target
 pub returns-clause-met : goal.returns-clause-met

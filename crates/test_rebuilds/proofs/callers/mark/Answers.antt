@@ -1,6 +1,12 @@
+use Rattle.ist_dcss.proofs.TargetLemmas.{started_rebuild}
 use Rattle.test_rebuilds.proofs.AbleLemmas.{is_marked}
 use Rattle.ist_rebuild.proofs.BuiltOutLemmas.{has_marked, may_mark}
 use Rattle.test_rebuilds.proofs.callers.mark.Goals as goal
+
+-- a started rebuild is published
+pub target_of-target-requires-clause-published : goal.target_of-target-requires-clause-published
+target_of-target-requires-clause-published c =
+    started_rebuild _ c.know.ensures.sound c.args.rebuild c.requires.started
 
 -- the target of a started rebuild may be marked
 pub mark_and_count-keys-requires-clause-may_mark : goal.mark_and_count-keys-requires-clause-may_mark

@@ -1,9 +1,9 @@
-use Rattle.std.proofs.Common.{◌^◌, ◌<◌, ap, arith}
+use Rattle.std.proofs.Common.{ap, arith}
 use Rattle.ist_core.specs.Pieces.{Rebuild}
 use Rattle.ist_rule.proofs.GoingOnLemmas.{looked_goes_on}
 use Rattle.ist_dcss.proofs.FieldLemmas.{row_low}
-use Rattle.ist_mark.proofs.BelowLemmas.{target_told, target_low}
-use Rattle.ist_build.proofs.reading.target_of.Goals as goal
+use Rattle.ist_dcss.proofs.TargetLemmas.{target_told, target_low}
+use Rattle.ist_dcss.proofs.reading.target_of.Goals as goal
 
 -- the row lies within the table
 pub load-requires-clause-within : goal.load-requires-clause-within
@@ -20,11 +20,10 @@ load-requires-clause-within c =
 pub overflow_cast-result : goal.overflow_cast-result
 overflow_cast-result c =
     let from = c.from.ensures in
-    let h : c.load.result < 2 ^ 32 =
-    target_low _ _ _ _ c.load.ensures.looked c.args.rebuild
-    (record { row = c.requires.published.row; published = c.requires.published.published })
-    (omega arith) in
-    record { fits = h }
+    record {
+      fits = target_low _ _ _ _ c.load.ensures.looked c.args.rebuild c.requires.published
+          (omega arith);
+    }
 
 pub returns-clause-seen : goal.returns-clause-seen
 returns-clause-seen c = looked_goes_on _ _ _ _ c.load.ensures.looked
@@ -33,6 +32,4 @@ returns-clause-seen c = looked_goes_on _ _ _ _ c.load.ensures.looked
 pub returns-clause-target : goal.returns-clause-target
 returns-clause-target c =
     let from = c.from.ensures in
-    target_told _ _ _ _ c.load.ensures.looked c.args.rebuild
-    (record { row = c.requires.published.row; published = c.requires.published.published })
-    (omega arith)
+    target_told _ _ _ _ c.load.ensures.looked c.args.rebuild c.requires.published (omega arith)
