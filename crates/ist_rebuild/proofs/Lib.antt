@@ -1,4 +1,3 @@
-pub mod StartWordLemmas
 pub mod StartGoingLemmas
 pub mod StartReserveLemmas
 pub mod StartPutLemmas

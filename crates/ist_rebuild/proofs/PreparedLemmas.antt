@@ -12,16 +12,18 @@ use Rattle.ist_rule.proofs.WentOnLemmas.{went_all}
 use Rattle.ist_rows.specs.declared.callers.Caller.{Caller}
 use Rattle.ist_rows.specs.declared.kinds.Kind.TheVariants.{Change as ChangeKind}
 use Rattle.ist_rows.specs.CallerLaws.{InstallsNone}
+use Rattle.ist_rows.specs.Filling.{filled_with}
+use Rattle.ist_rows.proofs.FillingLemmas.{stored_at}
 use Rattle.ist_dcss.specs.Installing.{IsInstallable}
 use Rattle.ist_build.specs.Calls.{Builds}
 use Rattle.ist_rebuild.specs.declared.sites.Plan.{Plan}
-use Rattle.ist_rebuild.specs.Finishing.{IsAble, HasHelped, IsPlan, IsPrepared, filling_at, finish_row, storing_words}
+use Rattle.ist_rebuild.specs.Finishing.{IsAble, HasHelped, IsPlan, IsPrepared, filling_at, finish_row}
 use Rattle.ist_rebuild.specs.Going.{Serves}
 use Rattle.ist_rebuild.proofs.AbleLemmas.{HasRow, own_helped, helped_more, took_row}
 use Rattle.ist_rebuild.proofs.EventLemmas.{builds_install_none}
 use Rattle.ist_rebuild.proofs.OwnChangeLemmas.{unrefused_went}
 use Rattle.ist_rebuild.proofs.SiteLemmas.{parent_linked, parent_slot, plan_went}
-use Rattle.ist_rebuild.proofs.StoredLemmas.{read_back, stored_at, storing_words-same}
+use Rattle.ist_rebuild.proofs.StoredLemmas.{read_back}
 
 no_update : IsUpdate finish_kind → ⊥
 no_update u = ⊎_elim (λ e. let four : ◌≡◌ {A = ℕ} 4 1 = e in omega arith)
@@ -31,20 +33,17 @@ no_update u = ⊎_elim (λ e. let four : ◌≡◌ {A = ℕ} 4 1 = e in omega ar
 module _ (mid : Caller) (plan : Plan) (change : ℕ) (row : mid.change ≡ Some change)
     (words : List ℕ) (words_are : words ≡ words_of (Change (finish_row plan mid.number))) where
   abbrev w : View
-  w = storing_words mid.seat.view change words
+  w = (filled_with mid change words).seat.view
 
   abbrev new : Caller
-  new = record mid { seat = record mid.seat { view = w } }
+  new = filled_with mid change words
 
   -- has helped
   pub filled_helped : IsAble mid → IsSound w → HasHelped mid new
-  filled_helped able s =
-      let same = storing_words-same mid.seat.view change words in
-      subst (λ (x : View). HasHelped mid (record mid { seat = record mid.seat { view = x } }))
-      (sym same) (own_helped mid w.own able (subst IsSound same s))
+  filled_helped able s = own_helped mid w.own able s
 
   is : (filling_at w change).change ≡ finish_row plan mid.number
-  is = subst (λ ws. (filling_at (storing_words mid.seat.view change ws) change).change
+  is = subst (λ ws. (filling_at (filled_with mid change ws).seat.view change).change
       ≡ finish_row plan mid.number) (sym words_are)
       (read_back mid.seat.view change (finish_row plan mid.number))
 
@@ -53,7 +52,7 @@ module _ (mid : Caller) (plan : Plan) (change : ℕ) (row : mid.change ≡ Some 
       ≡ Some (own_at w.own (change + k))
   stored k less =
       subst (λ ws. slice_get ws k ≡ Some (own_at w.own (change + k))) words_are
-      (stored_at mid.seat.view change words k
+      (stored_at mid.seat.view.own change words k
       (subst (λ ws. k < length ws) (sym words_are) less))
 
   -- the finish may be installed
@@ -107,20 +106,14 @@ pub has_prepared : (old mid who : Caller) (plan : Plan) (change : ℕ) (words : 
     → IsSound old.seat.view → IsPlan old.seat.view plan
     → IsUnrefused (now old.seat.view) old.number plan.parent → HasRow old mid (Ok change)
     → words ≡ words_of (Change (finish_row plan mid.number))
-    → who ≡ record mid {
-      seat = record mid.seat {
-        view = storing_words mid.seat.view change words;
-      };
-    }
-    → IsSound who.seat.view → HasPrepared old who plan change
+    → who ≡ filled_with mid change words → IsSound who.seat.view → HasPrepared old who plan change
 has_prepared old mid who plan change words able s p unrefused row words_are stored sound =
     let t = took_row old mid change able s row in
-    let w = storing_words mid.seat.view change words in
-    let new = record mid { seat = record mid.seat { view = w } } in
+    let new = filled_with mid change words in
+    let w = new.seat.view in
     let here = subst (λ (x : Caller). IsSound x.seat.view) stored sound in
     let filled = filled_helped mid plan change t.row words words_are t.helped.able here in
     let all = helped_more old mid new t.helped filled in
-    let same = storing_words-same mid.seat.view change words in
     let none = unrefused_went old.seat.view mid.seat.view old.number able.caller.mine
     (went_all Builds InstallsNone builds_install_none old.seat.view mid.seat.view t.by)
     able.quiet.resolved plan.parent unrefused in
@@ -128,6 +121,5 @@ has_prepared old mid who plan change words able s p unrefused row words_are stor
       helped = all;
       prepared = filled_prepared mid plan change t.row words words_are filled.able here
           (plan_went Serves old.seat.view w all.went plan p)
-          (subst (λ (x : View). IsUnrefused (now x) mid.number plan.parent) (sym same)
-          (subst (λ n. IsUnrefused (now mid.seat.view) n plan.parent) (sym row.number) none));
+          (subst (λ n. IsUnrefused (now mid.seat.view) n plan.parent) (sym row.number) none);
     }

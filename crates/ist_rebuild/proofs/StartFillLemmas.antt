@@ -1,6 +1,6 @@
--- The rows of a start that a caller holds, and what filling them leaves. Serves `fill_start` and
+-- The rows of a start that a caller holds, and what filling them leaves. Serves `fill_rows` and
 -- `start`.
-use Rattle.std.proofs.Common.{◌≡◌, ◌≢◌, ℕ, ap, ◌∙◌, ⊎_elim, arith}
+use Rattle.std.proofs.Common.{◌≢◌, ℕ, ⊎_elim, arith}
 use Rattle.ist_core.specs.declared.lists.HeldRow.{HeldRow}
 use Rattle.ist_core.specs.Elements.{Among}
 use Rattle.ist_core.specs.Installing.{new_rebuild}
@@ -17,10 +17,11 @@ use Rattle.ist_rule.specs.Learning.{now}
 use Rattle.ist_rule.specs.Rule.{IsSound}
 use Rattle.ist_rows.specs.declared.callers.Caller.{Caller}
 use Rattle.ist_rows.specs.declared.kinds.Kind.TheVariants.{Change as ChangeKind, Rebuild as RebuildKind}
+use Rattle.ist_rows.specs.Filling.{storing_all}
 use Rattle.ist_rows.specs.Rows.{IsCaller}
+use Rattle.ist_rows.proofs.FillingLemmas.{stored_at, stored_first}
 use Rattle.ist_dcss.specs.Installing.{rows_of}
-use Rattle.ist_rebuild.specs.StartSteps.{HasStartRows, storing_all, filled_start, start_change, start_filling}
-use Rattle.ist_rebuild.proofs.StartWordLemmas.{stored_at, stored_first, storing_all-same}
+use Rattle.ist_rebuild.specs.StartSteps.{HasStartRows, filled_start, start_change, start_filling}
 
 -- a held row lies at a good base
 pub held_good : (v : View) → IsSound v → (h : HeldRow) → Among h (now v).held → IsGoodBase h.base
@@ -43,21 +44,6 @@ held_apart v s g h i j differ =
     ⊎_elim (λ same. absurd (differ same.1)) (λ a. a.1)
     (claimed_apart v.start v.words v.log g.base g.size h.base h.size s.lawful.enabled
     (place.held g i) (place.held h j))
-
--- filling the rows changes only the own words of the view
-pub start_same : (who : Caller) (rebuild change parent index target : ℕ)
-    → (filled_start who rebuild change parent index target).seat.view
-    ≡ record who.seat.view {
-      own = (filled_start who rebuild change parent index target).seat.view.own;
-    }
-start_same who rebuild change parent index target =
-    let row = start_change who.number parent index target rebuild in
-    let v = who.seat.view in
-    let first = storing_all v rebuild (words_of (new_rebuild row target)) in
-    storing_all-same first change (words_of (Change row))
-    ∙ ap {B = View} (λ (x : View). record x {
-      own = (filled_start who rebuild change parent index target).seat.view.own;
-    }) (storing_all-same v rebuild (words_of (new_rebuild row target)))
 
 module _ (who : Caller) (rebuild change : ℕ) (rows : HasStartRows who rebuild change)
     (c : IsCaller who) where
@@ -92,11 +78,12 @@ module _ (who : Caller) (rebuild change : ℕ) (rows : HasStartRows who rebuild 
         (rows_of (start_filling who.number parent index target rebuild) change)
     start_stored =
         let row = start_change who.number parent index target rebuild in
-        let first = storing_all who.seat.view rebuild (words_of (new_rebuild row target)) in (
-          λ k less. stored_at first change (words_of (Change row)) k less,
+        let words = words_of (new_rebuild row target) in
+        let first = storing_all who.seat.view.own rebuild words in (
+          stored_at first change (words_of (Change row)),
           (
-            λ k less. stored_first who.seat.view rebuild (words_of (new_rebuild row target)) change
-                (words_of (Change row)) (rows_apart s) k less,
+            stored_first who.seat.view.own rebuild words change (words_of (Change row))
+                (rows_apart s),
             tt,
           ),
         )

@@ -22,7 +22,7 @@ use Rattle.ist_core.proofs.PlaceLemmas.{placed, claimed_within}
 use Rattle.ist_core.proofs.ReferenceLemmas.{ref_of-word_of}
 use Rattle.ist_core.proofs.RoomLemmas.{next_within, words_same}
 use Rattle.ist_rule.specs.declared.view.View.{View}
-use Rattle.ist_rule.specs.Conditions.{IsResolved, StoredAll}
+use Rattle.ist_rule.specs.Conditions.{IsResolved}
 use Rattle.ist_rule.specs.Going.{WentOn}
 use Rattle.ist_rule.specs.Learning.{now, GoesOnTo}
 use Rattle.ist_rule.specs.Rule.{IsSound}
@@ -33,13 +33,13 @@ use Rattle.ist_rows.specs.declared.callers.Caller.{Caller}
 use Rattle.ist_rows.specs.CallerLaws.{InstallsNone}
 use Rattle.ist_rows.specs.Rows.{IsCaller}
 use Rattle.ist_rows.proofs.CallerLawLemmas.{resolved_went}
-use Rattle.ist_dcss.specs.Installing.{IsInstallable, rows_of}
+use Rattle.ist_dcss.specs.Installing.{IsInstallable}
 use Rattle.ist_dcss.proofs.FitsLemmas.{ever_later}
 use Rattle.ist_dcss.proofs.SlotPlaceLemmas.{slot_later}
 use Rattle.ist_rebuild.specs.Going.{IsQuiet}
 use Rattle.ist_rebuild.specs.Starting.{MayStart}
 use Rattle.ist_rebuild.specs.StartSteps.{HasStartRows, IsReady, filled_start, start_change, start_filling}
-use Rattle.ist_rebuild.proofs.StartFillLemmas.{rebuild_good, start_held, start_same, start_stored}
+use Rattle.ist_rebuild.proofs.StartFillLemmas.{rebuild_good, start_held, start_stored}
 
 -- ---- the slot and the target
 
@@ -129,9 +129,7 @@ pub filled_quiet : (mid who : Caller) (rebuild change parent index target : ℕ)
     → who ≡ filled_start mid rebuild change parent index target → IsQuiet mid → IsQuiet who
 filled_quiet mid who rebuild change parent index target is q =
     subst IsQuiet (sym is)
-    (subst (λ (x : View). IsQuiet (record mid { seat = record mid.seat { view = x } }))
-    (sym (start_same mid rebuild change parent index target))
-    record { pending = q.pending; in_call = q.in_call; resolved = q.resolved })
+    record { pending = q.pending; in_call = q.in_call; resolved = q.resolved }
 
 -- ---- the install
 
@@ -187,16 +185,11 @@ module _ (v : View) (parent index target : ℕ) (m : MayStart v parent index tar
   installable sv =
       let slot = start_slot v sv parent index target m in
       let here = slot_later (now v) (now u) (went_grow Reserves v u g) parent index slot.0 slot.1 in
-      let w = record u { own = full.seat.view.own } in
-      let at : IsInstallable w change (start_filling mid.number parent index target rebuild) =
       record {
         number = mid.number;
         mine = c.mine;
         held = start_held mid rebuild change rows c s parent index target;
-        stored = subst (λ (x : View). StoredAll x
-            (rows_of (start_filling mid.number parent index target rebuild) change))
-            (start_same mid rebuild change parent index target)
-            (start_stored mid rebuild change rows c s parent index target);
+        stored = start_stored mid rebuild change rows c s parent index target;
         owned = refl;
         unset = refl;
         word = here.0;
@@ -211,10 +204,7 @@ module _ (v : View) (parent index target : ℕ) (m : MayStart v parent index tar
           command = λ up. absurd (no_update up);
           none_yet = λ up. absurd (no_update up);
         };
-      } in
-      subst (λ (x : View). IsInstallable x change
-      (start_filling mid.number parent index target rebuild))
-      (sym (start_same mid rebuild change parent index target)) at
+      }
 
   -- the caller that has filled the rows is ready
   pub start_ready : IsSound v → IsReady who rebuild change

@@ -1,6 +1,6 @@
 -- What the parts of a help promise each other: the caller while it helps, the words of a rebuild,
 -- and the change that will finish it.
-use Rattle.std.specs.Prelude.{◌≡◌, ℕ, ◌+◌, List, [], ◌∷◌, slice_get, Some}
+use Rattle.std.specs.Prelude.{◌≡◌, ℕ, ◌+◌, [], slice_get, Some}
 use Rattle.ist_core.specs.declared.states.ChangeRow.{ChangeRow}
 use Rattle.ist_core.specs.declared.states.RebuildRow.{RebuildRow}
 use Rattle.ist_core.specs.Installing.{FitsKind}
@@ -12,7 +12,7 @@ use Rattle.ist_core.specs.StartLayout.{start}
 use Rattle.ist_core.specs.Statuses.{undecided, finish_kind}
 use Rattle.ist_rule.specs.declared.view.View.{View}
 use Rattle.ist_rule.specs.Going.{WentOn}
-use Rattle.ist_rule.specs.Learning.{now, storing}
+use Rattle.ist_rule.specs.Learning.{now}
 use Rattle.ist_rule.specs.Rule.{own_at}
 use Rattle.ist_rows.specs.declared.callers.Caller.{Caller}
 use Rattle.ist_rows.specs.Building.{HasRefused}
@@ -70,11 +70,6 @@ pub record IsPlan (v : View) (plan : Plan) : Type 0 where
   pub index_is : row.index ≡ plan.index
   pub started : IsStarted (now v) plan.rebuild
   pub fits : (owner : ℕ) → FitsKind (start v.start v.words) v.log (finish_row plan owner) []
-
--- the view that has stored the words one after another, from the place on
-abbrev pub storing_words : View → ℕ → List ℕ → View
-storing_words v place [] = v
-storing_words v place (word ∷ words) = storing_words (storing v place word) (place + 1) words
 
 -- the change that the seat has stored at the base, without fresh rows
 abbrev pub filling_at : View → ℕ → Filling

@@ -1,14 +1,13 @@
 -- What the functions inside this crate promise each other of a start: its rows, how they are
 -- filled, and that it may be installed.
-use Rattle.std.specs.Prelude.{◌≡◌, ℕ, ◌+◌, List, [], ◌∷◌, Some}
+use Rattle.std.specs.Prelude.{◌≡◌, ℕ, [], ◌∷◌, Some}
 use Rattle.ist_core.specs.declared.states.ChangeRow.{ChangeRow}
 use Rattle.ist_core.specs.Installing.{new_rebuild}
 use Rattle.ist_core.specs.Pieces.{Change, row_at, words_of}
 use Rattle.ist_core.specs.References.{InnerAt, RebuildAt, word_of}
 use Rattle.ist_core.specs.Statuses.{undecided, start_kind}
-use Rattle.ist_rule.specs.declared.view.View.{View}
-use Rattle.ist_rule.specs.Learning.{storing}
 use Rattle.ist_rows.specs.declared.callers.Caller.{Caller}
+use Rattle.ist_rows.specs.Filling.{filled_with}
 use Rattle.ist_rows.specs.Rows.{IsCaller}
 use Rattle.ist_dcss.specs.Installing.{Filling, IsInstallable}
 use Rattle.ist_rebuild.specs.Going.{IsQuiet}
@@ -42,16 +41,6 @@ start_filling number parent index target rebuild =
     record { change = change; fresh = row_at rebuild (new_rebuild change target) ∷ [] }
 
 -- ---- filling
-
--- the view that has stored the words one after another, from the place on
-abbrev pub storing_all : View → ℕ → List ℕ → View
-storing_all v place [] = v
-storing_all v place (word ∷ words) = storing_all (storing v place word) (place + 1) words
-
--- the caller that has stored the words one after another, from the place on
-abbrev pub filled_with : Caller → ℕ → List ℕ → Caller
-filled_with who place words =
-    record who { seat = record who.seat { view = storing_all who.seat.view place words } }
 
 -- the caller that has filled the rows of a start
 abbrev pub filled_start : Caller → ℕ → ℕ → ℕ → ℕ → ℕ → Caller

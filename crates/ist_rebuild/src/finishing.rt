@@ -1,19 +1,17 @@
 //! Putting the root of a rebuild in its place, by a change.
-ghost use Rattle.std.specs.Prelude.{◌≡◌, ◌≢◌, ℕ, ◌≤◌, List, length, Ok, None, Some, IfOk, IfErr};
+ghost use Rattle.std.specs.Prelude.{◌≡◌, ◌≢◌, ℕ, Ok, None, Some, IfOk, IfErr};
 ghost use Rattle.ist_core.specs.Installing.{IsUnrefused};
 ghost use Rattle.ist_core.specs.Pieces.{Change as ChangeRowOf, words_of};
-ghost use Rattle.ist_core.specs.Rebuilding.{IsStarted, IsReplaced};
-ghost use Rattle.ist_core.specs.RowLayout.{change_words};
+ghost use Rattle.ist_core.specs.Rebuilding.{IsReplaced};
 ghost use Rattle.ist_core.specs.References.{IsGoodBase, RebuildAt, word_of};
 ghost use Rattle.ist_core.specs.Slots.{SlotHolds, IsOpen};
 ghost use Rattle.ist_rule.specs.Faces.{word_count_of};
 ghost use Rattle.ist_rule.specs.Learning.{now};
-ghost use Rattle.ist_rows.specs.Rows.{IsCaller};
 ghost use Rattle.ist_build.specs.Calls.{IsBuildable, IsBuiltOut};
 ghost use Rattle.ist_rebuild.specs.declared.answers.Helped.TheVariants.{Replaced, ParentMarked};
 ghost use Rattle.ist_rebuild.specs.declared.finishing.Tried.TheVariants.{Yes, No, Other};
 ghost use Rattle.ist_rebuild.specs.Finishing.{IsAble, HasHelped, IsPlan, IsPrepared};
-ghost use Rattle.ist_rebuild.specs.Finishing.{finish_row, storing_words};
+ghost use Rattle.ist_rebuild.specs.Finishing.{finish_row};
 ghost use Rattle.ist_rebuild.specs.Helping.{IsLeftToParent, IsHelpRefused};
 ghost use Rattle.laws_coming.specs.Further.{CameFurther};
 
@@ -23,7 +21,7 @@ use ist_build::{fill_parts, set_root};
 use ist_core::Full;
 use ist_dcss::{Decision, Installed, help, install, is_open};
 use ist_layout::{FINISH_KIND, Ref, UNDECIDED};
-use ist_rows::{Caller, Kind, fill, reserve};
+use ist_rows::{Caller, Kind, fill_row, reserve};
 use ist_rule::{TreeTable, know};
 
 // The result of trying to install a finish.
@@ -73,24 +71,6 @@ fn finish_words(plan: Plan, owner: u32) -> [u64; 9]
     ]
 }
 
-// Stores the words into the change row that the caller holds.
-fn fill_change(table: &TreeTable, who: &mut Caller, change: u32, words: &[u64])
-    requires same_table { who.old.seat.table ≡ table.now.table }
-    requires caller { IsCaller who.old }
-    requires row { who.old.change ≡ Some change }
-    requires within { length words.now ≤ change_words }
-    ensures same_table { who.new.seat.table ≡ table.now.table }
-    ensures caller { IsCaller who.new }
-    ensures stored { let view = storing_words who.old.seat.view change words.now in
-        who.new ≡ record who.old { seat = record who.old.seat { view = view } } }
-{
-    let mut at = 0;
-    for word in words {
-        fill(table, who, change, at, *word);
-        at += 1;
-    }
-}
-
 // Fills the caller's change row as the finish of the plan, and returns it.
 fn prepare(table: &TreeTable, who: &mut Caller, plan: Plan) -> Result<u32, Full>
     requires same_table { who.old.seat.table ≡ table.now.table }
@@ -108,7 +88,7 @@ fn prepare(table: &TreeTable, who: &mut Caller, plan: Plan) -> Result<u32, Full>
     let change = reserve(table, who, Kind::Change)?;
     know(&who.seat);
     let words = finish_words(plan, who.number);
-    fill_change(table, who, change, &words);
+    fill_row(table, who, Kind::Change, change, &words);
     know(&who.seat);
     Ok(change)
 }

@@ -1,5 +1,5 @@
 //! The rows of a start: reserving them, and filling them.
-ghost use Rattle.std.specs.Prelude.{◌≡◌, ◌≤◌, length, Some, IfOk, IfErr};
+ghost use Rattle.std.specs.Prelude.{◌≡◌, IfOk, IfErr};
 ghost use Rattle.ist_build.specs.Laying.{Reserves};
 ghost use Rattle.ist_core.specs.Installing.{IsUnrefused};
 ghost use Rattle.ist_core.specs.References.{IsGoodBase};
@@ -7,15 +7,14 @@ ghost use Rattle.ist_rule.specs.Faces.{word_count_of};
 ghost use Rattle.ist_rule.specs.Going.{WentOn};
 ghost use Rattle.ist_rule.specs.Learning.{now};
 ghost use Rattle.ist_rows.specs.Building.{HasRefused};
-ghost use Rattle.ist_rows.specs.Kinds.{kind_words};
-ghost use Rattle.ist_rows.specs.Rows.{IsCaller, row_of, spares_of};
+ghost use Rattle.ist_rows.specs.Rows.{IsCaller};
 ghost use Rattle.ist_rebuild.specs.Going.{IsQuiet, KeepsFresh};
 ghost use Rattle.ist_rebuild.specs.Starting.{MayStart, IsStartRefused};
-ghost use Rattle.ist_rebuild.specs.StartSteps.{HasStartRows, IsReady, filled_with, filled_start, start_filling};
+ghost use Rattle.ist_rebuild.specs.StartSteps.{HasStartRows, IsReady, filled_start, start_filling};
 
 use ist_core::Full;
 use ist_layout::{Ref, START_KIND, UNDECIDED};
-use ist_rows::{Caller, Kind, fill, reserve};
+use ist_rows::{Caller, Kind, fill_row, reserve};
 use ist_rule::{TreeTable, know};
 
 /// The rows of a start: the rebuild's and the change's, by their bases.
@@ -45,23 +44,6 @@ fn reserve_rows(table: &TreeTable, who: &mut Caller) -> Result<StartRows, Full>
     // Reserve. Meets another caller's.
     let change = reserve(table, who, Kind::Change)?;
     Ok(StartRows { rebuild, change })
-}
-
-// Stores the words into the row of this kind that the caller holds, from its base on.
-fn fill_row(table: &TreeTable, who: &mut Caller, kind: Kind, base: u32, words: &[u64])
-    requires same_table { who.old.seat.table ≡ table.now.table }
-    requires caller { IsCaller who.old }
-    requires row { row_of kind (spares_of who.old) ≡ Some base }
-    requires within { length words.now ≤ kind_words kind }
-    ensures same_table { who.new.seat.table ≡ table.now.table }
-    ensures caller { IsCaller who.new }
-    ensures stored { who.new ≡ filled_with who.old base words.now }
-{
-    let mut at = 0;
-    for word in words {
-        fill(table, who, base, at, *word);
-        at += 1;
-    }
 }
 
 // Fills the rows of a start. It writes each word again, since rows that stayed held are used again.

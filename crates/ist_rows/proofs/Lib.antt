@@ -12,3 +12,4 @@ pub mod HeldBehindLemmas
 pub mod GivenRowsLemmas
 pub mod CallerLawLemmas
 pub mod DropLemmas
+pub mod FillingLemmas

@@ -1,11 +1,9 @@
-//! Reserving a row for a caller, and filling it.
-ghost use Rattle.std.specs.Prelude.{◌≡◌, ◌+◌, ◌<◌, ◌≤◌, ◌^◌, [], ◌∷◌, IfSome, IfOk, IfErr, Ok};
+//! Reserving a row for a caller.
+ghost use Rattle.std.specs.Prelude.{◌≡◌, ◌+◌, ◌<◌, ◌^◌, [], ◌∷◌, IfSome, IfOk, IfErr, Ok};
 ghost use Rattle.ist_core.specs.RowLayout.{inner_words, place_limit};
 ghost use Rattle.ist_core.specs.declared.events.Who.TheVariants.{Caller as CallerOf};
 ghost use Rattle.ist_rule.specs.Faces.{word_count_of};
-ghost use Rattle.ist_rule.specs.Learning.{storing};
-ghost use Rattle.ist_rows.specs.Kinds.{kind_words};
-ghost use Rattle.ist_rows.specs.Rows.{spares_of, row_of, IsCaller, Reserved, IsFull, IsFresh, IsRefused, HoldsPlace};
+ghost use Rattle.ist_rows.specs.Rows.{spares_of, row_of, IsCaller, Reserved, IsFull, IsFresh, IsRefused};
 ghost use Rattle.ist_rows.specs.Building.{IsNext, HasTaken, HasRefused};
 ghost use Rattle.ist_rows.specs.Fairly.{MayTake};
 
@@ -13,7 +11,7 @@ use crate::callers::Caller;
 use crate::kinds::Kind;
 use ist_core::Full;
 use ist_layout::{NEXT_PLACE, inner_words};
-use ist_rule::{TreeSeat, TreeTable, exchange, know, load, store, word_count};
+use ist_rule::{TreeSeat, TreeTable, exchange, know, load, word_count};
 
 // Takes a fresh row from the front of the free words. Each further turn met another caller's
 // Reserve, so fewer words are free than before.
@@ -98,19 +96,4 @@ pub fn reserve_inner(table: &TreeTable, who: &mut Caller, degree: u64) -> Result
 {
     know(&who.seat);
     take(table, &mut who.seat, who.number, inner_words(degree))
-}
-
-/// Stores a word into a row that the caller holds, `at` places after its base.
-pub fn fill(table: &TreeTable, who: &mut Caller, base: u32, at: u64, word: u64)
-    requires same_table { who.old.seat.table ≡ table.now.table }
-    requires caller { IsCaller who.old }
-    requires held { HoldsPlace who.old base at }
-    ensures same_table { who.new.seat.table ≡ table.now.table }
-    ensures caller { IsCaller who.new }
-    ensures stored { let view = storing who.old.seat.view (base + at) word in
-        who.new ≡ record who.old { seat = record who.old.seat { view = view } } }
-{
-    know(&who.seat);
-    // No event. Meets no other's step: only the row's caller uses it.
-    store(table, &mut who.seat, u64::from(base) + at, word);
 }

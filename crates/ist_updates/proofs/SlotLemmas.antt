@@ -42,7 +42,7 @@ use Rattle.ist_updates.specs.declared.plans.Plan.{Plan}
 use Rattle.ist_updates.specs.declared.plans.Way.{Way}
 use Rattle.ist_updates.specs.Asking.{IsAsked}
 use Rattle.ist_updates.specs.Changing.{WasAtSlot, HasGone, Prepares, HasRows, IsPlanFor, IsPlanned, IsWay, command_by, filling_of, fresh_rows}
-use Rattle.ist_updates.specs.Filling.{with_own}
+use Rattle.ist_rows.specs.Filling.{with_own}
 use Rattle.ist_updates.specs.Trying.{HasTaken}
 use Rattle.ist_updates.proofs.AskedLemmas.{asked_gone}
 use Rattle.ist_updates.proofs.StepLemmas.{prepares_none}

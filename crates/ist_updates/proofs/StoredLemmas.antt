@@ -1,6 +1,5 @@
--- Words that a caller has stored one after another into a row. Serves `filling`.
-use Rattle.std.proofs.Common.{◌≡◌, ◌≢◌, ℕ, zero, suc, ◌+◌, ◌<◌, ◌≤◌, List, [], ◌∷◌, ◌++◌, nat_lt, true, false, if◌then◌else◌, length, take, get_or, Some, refl, sym, ap, ◌∙◌, subst, ⊎_elim, arith}
-use Rattle.std.proofs.lemmas.List.{take_more, length-take-le}
+-- Rows that a caller has filled, one after another. Serves `filling`.
+use Rattle.std.proofs.Common.{◌≡◌, ◌≢◌, ℕ, ◌+◌, ◌<◌, ◌≤◌, List, nat_lt, true, false, if◌then◌else◌, length, Some, refl, sym, ap, ◌∙◌, subst, ⊎_elim, arith}
 use Rattle.ist_core.specs.declared.lists.HeldRow.{HeldRow}
 use Rattle.ist_core.specs.declared.states.ChangeRow.{ChangeRow}
 use Rattle.ist_core.specs.Elements.{Among}
@@ -8,90 +7,23 @@ use Rattle.ist_core.specs.Installing.{new_leaf, pair_row, pair_over}
 use Rattle.ist_core.specs.Pieces.{words_of}
 use Rattle.ist_core.specs.Snapshots.{bases_of}
 use Rattle.ist_core.proofs.PlaceLemmas.{placed, claimed_apart}
-use Rattle.ist_rule.specs.declared.view.OwnWord.{OwnWord}
 use Rattle.ist_rule.specs.declared.view.View.{View}
-use Rattle.ist_rule.specs.Learning.{now, storing}
+use Rattle.ist_rule.specs.Learning.{now}
 use Rattle.ist_rule.specs.Rule.{IsSound, own_at}
-use Rattle.ist_rule.proofs.StoreLemmas.{own_here, own_else}
 use Rattle.ist_rows.specs.declared.callers.Caller.{Caller}
 use Rattle.ist_rows.specs.declared.kinds.Kind.{Kind}
 use Rattle.ist_rows.specs.declared.kinds.Kind.TheVariants.{Leaf, Pair, Change}
 use Rattle.ist_rows.specs.CallerLaws.{AreBasesOf}
+use Rattle.ist_rows.specs.Filling.{storing_all, with_own, filled_with, StandAt}
 use Rattle.ist_rows.specs.Kinds.{kind_words}
 use Rattle.ist_rows.specs.Rows.{IsCaller, row_of, spares_of}
+use Rattle.ist_rows.proofs.FillingLemmas.{stored_at, stored_else}
 use Rattle.ist_rule.specs.Conditions.{StoredAll}
 use Rattle.ist_updates.specs.declared.plans.Fresh.{Fresh}
 use Rattle.ist_updates.specs.declared.plans.Fresh.TheVariants.{Nothing, Leaf as LeafRow, Pair as PairRow}
 use Rattle.ist_updates.specs.Changing.{fresh_rows, kinds_of}
-use Rattle.ist_updates.specs.Filling.{storing_all, with_own, filled_with, StandAt, KeepsOthers}
+use Rattle.ist_updates.specs.Filling.{KeepsOthers}
 use Rattle.ist_updates.proofs.PairLemmas.{sound_now}
-
--- storing one word more, after the others
-storing_all-more : (own : List OwnWord) (place : ℕ) (words : List ℕ) (word : ℕ)
-    → storing_all own place (words ++ word ∷ [])
-    ≡ record { place = place + length words; word = word } ∷ storing_all own place words
-storing_all-more own place [] word =
-    ap {B = List OwnWord} (λ p. record { place = p; word = word } ∷ own)
-    (let same : place ≡ place + 0 = omega arith in same)
-storing_all-more own place (x ∷ xs) word =
-    storing_all-more (record { place = place; word = x } ∷ own) (place + 1) xs word
-    ∙ ap {B = List OwnWord}
-    (λ p. record { place = p; word = word }
-    ∷ storing_all (record { place = place; word = x } ∷ own) (place + 1) xs)
-    (let same : place + 1 + length xs ≡ place + length (x ∷ xs) = omega arith in same)
-
--- a word elsewhere is as it was
-pub stored_else : (own : List OwnWord) (place : ℕ) (words : List ℕ) (other : ℕ)
-    → ((k : ℕ) → k < length words → place + k ≢ other)
-    → own_at (storing_all own place words) other ≡ own_at own other
-stored_else own place [] other out = refl
-stored_else own place (word ∷ words) other out =
-    stored_else (record { place = place; word = word } ∷ own) (place + 1) words other
-    (λ k less e. out (suc k) (omega arith)
-    (let same : place + suc k ≡ place + 1 + k = omega arith in same ∙ e))
-    ∙ own_else own place word other
-    (λ e. out 0 (omega arith) (let same : place + 0 ≡ place = omega arith in same ∙ e))
-
--- the words that were stored are there
-pub stored_at : (own : List OwnWord) (place : ℕ) (words : List ℕ)
-    → StandAt (storing_all own place words) place words
-stored_at own place [] k less = absurd (omega arith)
-stored_at own place (word ∷ words) zero less =
-    ap Some (sym (stored_else (record { place = place; word = word } ∷ own) (place + 1) words
-    (place + 0) (λ k low e. let far : place + 1 + k ≢ place + 0 = omega arith in far e)
-    ∙ ap (own_at (record { place = place; word = word } ∷ own))
-    (let same : place + 0 ≡ place = omega arith in same)
-    ∙ own_here own place word))
-stored_at own place (word ∷ words) (suc k) less =
-    stored_at (record { place = place; word = word } ∷ own) (place + 1) words k (omega arith)
-    ∙ ap (λ p. Some (own_at (storing_all (record { place = place; word = word } ∷ own) (place + 1)
-    words) p))
-    (let same : place + 1 + k ≡ place + suc k = omega arith in same)
-
--- a caller that has stored the first words, and then the next, has stored one more
-pub stored_step : (old who new : Caller) (base at i : ℕ) (words : List ℕ) → i < length words
-    → at ≡ i → who ≡ filled_with old base (take i words)
-    → new ≡ record who {
-      seat = record who.seat { view = storing who.seat.view (base + at) (get_or words i 0) };
-    }
-    → new ≡ filled_with old base (take (i + 1) words)
-stored_step old who new base at i words less at_is was is =
-    let x : ℕ = get_or words i 0 in
-    let before : List OwnWord = storing_all old.seat.view.own base (take i words) in
-    let place : base + at ≡ base + length (take i words) =
-    let all : length (take i words) ≡ i = length-take-le i words (omega arith) in omega arith in
-    let owns : record { place = base + at; word = x } ∷ before
-    ≡ storing_all old.seat.view.own base (take (i + 1) words) =
-    ap {B = List OwnWord} (λ p. record { place = p; word = x } ∷ before) place
-    ∙ sym (storing_all-more old.seat.view.own base (take i words) x)
-    ∙ ap (storing_all old.seat.view.own base) (sym (take_more words i 0 less)) in
-    is
-    ∙ ap {B = Caller} (λ (c : Caller). record c {
-      seat = record c.seat { view = storing c.seat.view (base + at) x };
-    }) was
-    ∙ ap {B = Caller} (with_own old) owns
-
--- ---- rows
 
 -- rows of kinds of other sizes lie at other bases
 pub kinds_apart : (who : Caller) → IsSound who.seat.view → IsCaller who → (k j : Kind) (a b : ℕ)

@@ -1,39 +1,22 @@
 //! Filling the rows of a plan.
-ghost use Rattle.std.specs.Prelude.{◌≡◌, ◌≤◌, length, Some};
+ghost use Rattle.std.specs.Prelude.{◌≡◌, Some};
 ghost use Rattle.ist_core.specs.Pieces.{words_of, Leaf, Change};
 ghost use Rattle.ist_core.specs.References.{IsGoodBase};
 ghost use Rattle.ist_core.specs.Snapshots.{bases_of};
 ghost use Rattle.ist_core.specs.Installing.{new_leaf, pair_row};
 ghost use Rattle.ist_rule.specs.Conditions.{StoredAll};
 ghost use Rattle.ist_rows.specs.CallerLaws.{AreBasesOf};
-ghost use Rattle.ist_rows.specs.Kinds.{kind_words};
-ghost use Rattle.ist_rows.specs.Rows.{IsCaller, row_of, spares_of};
+ghost use Rattle.ist_rows.specs.Filling.{with_own, StandAt};
+ghost use Rattle.ist_rows.specs.Rows.{IsCaller, spares_of};
 ghost use Rattle.ist_dcss.specs.Installing.{rows_of};
 ghost use Rattle.ist_updates.specs.Changing.{HasRows, AreGood, filling_of, fresh_rows, kinds_of};
-ghost use Rattle.ist_updates.specs.Filling.{filled_with, with_own, StandAt, KeepsOthers};
+ghost use Rattle.ist_updates.specs.Filling.{KeepsOthers};
 
 use crate::plans::{Fresh, Plan};
 use ist_core::ChangeRow;
 use ist_layout::{OPEN_WORD, Ref};
-use ist_rows::{Caller, Kind, fill};
+use ist_rows::{Caller, Kind, fill_row};
 use ist_rule::{TreeTable, know};
-
-// Stores the words into the row of this kind that the caller holds, from its base on.
-fn fill_row(table: &TreeTable, who: &mut Caller, kind: Kind, base: u32, words: &[u64])
-    requires same_table { who.old.seat.table ≡ table.now.table }
-    requires caller { IsCaller who.old }
-    requires row { row_of kind (spares_of who.old) ≡ Some base }
-    requires within { length words.now ≤ kind_words kind }
-    ensures same_table { who.new.seat.table ≡ table.now.table }
-    ensures caller { IsCaller who.new }
-    ensures stored { who.new ≡ filled_with who.old base words.now }
-{
-    let mut at = 0;
-    for word in words {
-        fill(table, who, base, at, *word);
-        at += 1;
-    }
-}
 
 // Fills the row of a leaf, which no other caller knows yet.
 fn fill_leaf(table: &TreeTable, who: &mut Caller, base: u32, row: ChangeRow)

@@ -34,8 +34,8 @@ use Rattle.laws_coming.proofs.RootLemmas.{root_comes_or_loses}
 use Rattle.ist_mark.specs.Marking.{MayMark}
 use Rattle.ist_rows.specs.CallerLaws.{KeepsRows}
 use Rattle.ist_rows.specs.declared.callers.Caller.{Caller}
-use Rattle.test_samples.specs.Samples.{storing_all}
-use Rattle.test_samples.proofs.StoredLemmas.{stored_at, filled_with}
+use Rattle.ist_rows.specs.Filling.{filled_with, storing_all}
+use Rattle.ist_rows.proofs.FillingLemmas.{stored_at}
 use Rattle.test_parts.specs.Racing.{root_rows, root_word, racing, HasPrepared, IsUnderway, HasBoth, HasBuilt}
 use Rattle.test_parts.proofs.KeptLemmas.{underway_went}
 use Rattle.test_parts.proofs.LeafLemmas.{good}
@@ -53,8 +53,8 @@ pair_stored old who base low high low_is high_is is =
     ap₂ (λ a b. 0 ∷ 0 ∷ 2 ∷ 2 ∷ 9 ∷ a ∷ b ∷ []) low_is high_is in
     subst (λ (x : Caller). StoredAll x.seat.view (root_rows base)) (sym is) (
       λ k less. subst (λ (ws : List ℕ). slice_get ws k
-          ≡ Some (own_at (storing_all old.seat.view base words).own (base + k))) same
-          (stored_at old.seat.view base words k less),
+          ≡ Some (own_at (storing_all old.seat.view.own base words) (base + k))) same
+          (stored_at old.seat.view.own base words k less),
       tt,
     )
 

@@ -18,11 +18,11 @@ use ist_core::Full;
 use ist_dcss::{Decision, help};
 use ist_layout::{ANCHOR_SLOT_PLACE, Ref};
 use ist_mark::mark_and_count;
-use ist_rows::{Caller, Kind, drop_pair, enter, reserve};
+use ist_rows::{Caller, Kind, drop_pair, enter, fill_row, reserve};
 use ist_rule::{TreeSeat, TreeTable, exchange_or_lose, know, load, word_count};
 use std::alloc::{AllocError, Global};
 use std::test::Fail;
-use test_samples::{fill_row, table_of_two};
+use test_samples::table_of_two;
 
 // Reserves a pair row, and fills it as a root over the leaves at 11 and 13, if it lies at `base`.
 fn prepare(table: &TreeTable, who: &mut Caller, base: u32) -> bool

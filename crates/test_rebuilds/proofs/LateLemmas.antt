@@ -1,8 +1,7 @@
 -- A put that is filled before its node is marked: its rows, what its install asks, and what comes
 -- of it. Serves the steps of `late`.
-use Rattle.std.proofs.Common.{◌≡◌, ℕ, ◌+◌, [], ◌∷◌, List, Some, sym, ap, ◌∙◌, subst, refl, arith}
+use Rattle.std.proofs.Common.{◌≡◌, ℕ, [], ◌∷◌, List, Some, sym, ap, ◌∙◌, subst, refl, arith}
 use Rattle.ist_core.specs.declared.commands.Command.TheVariants.{Put}
-use Rattle.ist_core.specs.declared.events.Event.TheVariants.{Install}
 use Rattle.ist_core.specs.declared.events.Who.TheVariants.{Caller as CallerOf}
 use Rattle.ist_core.specs.declared.states.ChangeRow.{ChangeRow}
 use Rattle.ist_core.specs.Growing.{AllGrow}
@@ -16,17 +15,16 @@ use Rattle.ist_dcss.specs.Helping.{MayHelp}
 use Rattle.ist_dcss.specs.Installing.{IsInstallable, IsInstalled, rows_of}
 use Rattle.ist_rule.specs.declared.view.View.{View}
 use Rattle.ist_rule.specs.Conditions.{StoredAll}
-use Rattle.ist_rule.specs.Learning.{now, storing}
+use Rattle.ist_rule.specs.Learning.{now}
 use Rattle.ist_rule.specs.Rule.{IsSound}
 use Rattle.ist_rule.proofs.GoingOnLemmas.{goes_on_who}
 use Rattle.ist_rows.specs.declared.callers.Caller.{Caller}
 use Rattle.ist_rows.specs.declared.kinds.Kind.TheVariants.{Leaf, Change}
+use Rattle.ist_rows.specs.Filling.{filled_with, with_own}
 use Rattle.ist_rows.specs.Kinds.{kind_words}
 use Rattle.ist_rows.specs.Rows.{IsCaller}
-use Rattle.test_samples.specs.Samples as samples
 use Rattle.ist_updates.specs.Asking.{IsAsked}
 use Rattle.ist_updates.specs.Changing.{HasGone, Prepares}
-use Rattle.ist_updates.specs.Filling.{filled_with, storing_all, with_own}
 use Rattle.ist_updates.proofs.PlanLemmas.{leaf_planned}
 use Rattle.ist_updates.proofs.PublishLemmas.{installed_row}
 use Rattle.ist_updates.proofs.SlotLemmas.{prepared}
@@ -34,22 +32,6 @@ use Rattle.ist_updates.proofs.StoredLemmas.{kinds_apart, own_twice, row_filled, 
 use Rattle.test_rebuilds.specs.Late.{HasBoth, WasAt, put_of, row_of_put}
 
 -- ---- both rows
-
--- words that a seat stores one after another are its own words with these
-storing_own : (v : View) (place : ℕ) (words : List ℕ)
-    → samples.storing_all v place words ≡ record v { own = storing_all v.own place words }
-storing_own v place [] = refl
-storing_own v place (word ∷ words) = storing_own (storing v place word) (place + 1) words
-
--- so a caller that filled a row has filled it
-filled_so : (old new : Caller) (base : ℕ) (words : List ℕ)
-    → new ≡ record old {
-      seat = record old.seat { view = samples.storing_all old.seat.view base words };
-    }
-    → new ≡ filled_with old base words
-filled_so old new base words is =
-    is ∙ ap {B = Caller} (λ view. record old { seat = record old.seat { view = view } })
-    (storing_own old.seat.view base words)
 
 -- the result of filling both rows
 pub record HasFilledBoth (old new : Caller) (change leaf : ℕ) (row : ChangeRow) : Type 0 where
@@ -59,25 +41,16 @@ pub record HasFilledBoth (old new : Caller) (change leaf : ℕ) (row : ChangeRow
 -- filling the leaf and then the change fills both rows
 pub both_filled : (old mid new : Caller) (change leaf : ℕ) (row : ChangeRow) → IsSound old.seat.view
     → IsSound mid.seat.view → IsCaller old → IsCaller mid → HasBoth old change leaf
-    → mid ≡ record old {
-      seat = record old.seat {
-        view = samples.storing_all old.seat.view leaf (row.key ∷ row.value ∷ []);
-      };
-    }
-    → new ≡ record mid {
-      seat = record mid.seat {
-        view = samples.storing_all mid.seat.view change (words_of (ChangePiece row));
-      };
-    }
+    → mid ≡ filled_with old leaf (row.key ∷ row.value ∷ [])
+    → new ≡ filled_with mid change (words_of (ChangePiece row))
     → HasFilledBoth old new change leaf row
 both_filled old mid new change leaf row s t c d has first second =
     let words : List ℕ = row.key ∷ row.value ∷ [] in
-    let a = row_filled old mid Leaf leaf words s c has.leaf_is (omega arith)
-    (filled_so old mid leaf words first) in
+    let a = row_filled old mid Leaf leaf words s c has.leaf_is (omega arith) first in
     let change_there = ap (λ (x : Caller). x.change) first ∙ has.change_is in
     let leaf_there = ap (λ (x : Caller). x.leaf) first ∙ has.leaf_is in
     let b = row_filled mid new Change change (words_of (ChangePiece row)) t d change_there
-    (omega arith) (filled_so mid new change (words_of (ChangePiece row)) second) in
+    (omega arith) second in
     record {
       same = own_twice old mid new a.same b.same;
       stored = (

@@ -16,7 +16,7 @@ ghost use Rattle.ist_rule.specs.Learning.{now, GoesOnTo};
 ghost use Rattle.ist_tree.specs.Insides.{IsPass};
 ghost use Rattle.ist_updates.specs.Asking.{IsAsked};
 ghost use Rattle.ist_updates.specs.Changing.{HasGone, Prepares};
-ghost use Rattle.ist_updates.specs.Filling.{with_own};
+ghost use Rattle.ist_rows.specs.Filling.{with_own};
 ghost use Rattle.ist_updates.specs.Trying.{IsAtSlot};
 
 use crate::updates::ask;
@@ -24,9 +24,8 @@ use ist_core::{ChangeRow, Full};
 use ist_dcss::{Installed, install, is_open};
 use ist_find::step_down;
 use ist_layout::{ANCHOR, LEAF_KEY_OFFSET, PUT_KIND, Ref, UNDECIDED};
-use ist_rows::{Caller, Kind, reserve};
+use ist_rows::{Caller, Kind, fill_row, reserve};
 use ist_rule::{TreeSeat, TreeTable, begin_search, know, load};
-use test_samples::fill_row;
 
 /// A slot of a row below the anchor, and the word that it held.
 #[derive(Clone, Copy, Drop)]

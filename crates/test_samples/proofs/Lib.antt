@@ -1,4 +1,3 @@
-pub mod StoredLemmas
 pub mod TableLemmas
 pub mod PutLemmas
 pub mod StartLemmas

@@ -1,5 +1,5 @@
 -- A caller's put of a value at the key 1 into the anchor's empty slot. Serves `install_put`.
-use Rattle.std.proofs.Common.{◌≡◌, ℕ, ◌+◌, ◌<◌, ◌≤◌, List, [], ◌∷◌, length, slice_get, Some, None, refl, sym, ap, ap₂, ◌∙◌, subst, arith}
+use Rattle.std.proofs.Common.{◌≡◌, ℕ, ◌+◌, ◌<◌, ◌≤◌, List, [], ◌∷◌, length, slice_get, Some, None, refl, sym, ap, ap₂, ◌∙◌, subst, inl, arith}
 use Rattle.ist_core.specs.declared.commands.Command.TheVariants.{Put}
 use Rattle.ist_core.specs.declared.lists.HeldRow.{HeldRow}
 use Rattle.ist_core.specs.RowLayout.{place_limit}
@@ -23,29 +23,31 @@ use Rattle.ist_rule.proofs.GoingOnLemmas.{goes_on_who}
 use Rattle.ist_rule.proofs.HeldLemmas.{held_later}
 use Rattle.ist_rows.specs.declared.callers.Caller.{Caller}
 use Rattle.ist_rows.specs.declared.kinds.Kind.TheVariants.{Leaf, Change as ChangeKind}
+use Rattle.ist_rows.specs.Filling.{filled_with, storing_all}
 use Rattle.ist_rows.specs.Rows.{IsCaller}
+use Rattle.ist_rows.proofs.FillingLemmas.{filled_twice, stored_at, stored_first}
 use Rattle.ist_dcss.specs.Helping.{MayHelp}
 use Rattle.ist_dcss.specs.Installing.{rows_of, IsInstallable, IsInstalled}
 use Rattle.ist_dcss.proofs.CallingLemmas.{ever_now, open_unrefused, met_change, begun_allows}
-use Rattle.test_samples.specs.Samples.{storing_all, sample_put}
-use Rattle.test_samples.proofs.StoredLemmas.{stored_at, stored_first, filled_with, filled_twice, storing_all-who, storing_all-pending}
+use Rattle.test_samples.specs.Samples.{sample_put}
 
 -- ---- the words
 
 -- the words for the leaf and for the change are stored
 pub put_stored : (v : View) (n a b value : ℕ) (leaf change : List ℕ) → a + 2 ≤ b
     → leaf ≡ 1 ∷ value ∷ [] → change ≡ words_of (Change (sample_put n a value).change)
-    → StoredAll (storing_all (storing_all v a leaf) b change) (rows_of (sample_put n a value) b)
+    → StoredAll (record v { own = storing_all (storing_all v.own a leaf) b change })
+    (rows_of (sample_put n a value) b)
 put_stored v n a b value leaf change apart l c = (
   λ k less. subst (λ (ws : List ℕ). slice_get ws k
-      ≡ Some (own_at (storing_all (storing_all v a leaf) b change).own (b + k))) c
-      (stored_at (storing_all v a leaf) b change k
+      ≡ Some (own_at (storing_all (storing_all v.own a leaf) b change) (b + k))) c
+      (stored_at (storing_all v.own a leaf) b change k
       (subst (λ (ws : List ℕ). k < length ws) (sym c) less)),
   (
     λ k less. subst (λ (ws : List ℕ). slice_get ws k
-        ≡ Some (own_at (storing_all (storing_all v a leaf) b change).own (a + k))) l
-        (stored_first v a leaf b change
-        (subst (λ (ws : List ℕ). a + length ws ≤ b) (sym l) (omega arith)) k
+        ≡ Some (own_at (storing_all (storing_all v.own a leaf) b change) (a + k))) l
+        (stored_first v.own a leaf b change
+        (inl (subst (λ (ws : List ℕ). a + length ws ≤ b) (sym l) (omega arith))) k
         (subst (λ (ws : List ℕ). k < length ws) (sym l) less)),
     tt,
   ),
@@ -117,8 +119,7 @@ put_filled old mid who a b value from to owner apart low high from_is to_is owne
     let number_is : who.number ≡ n = ap (λ (x : Caller). x.number) is in
     let mine : who.seat.view.who ≡ CallerOf n = caller.mine ∙ ap CallerOf number_is in
     let pending : who.seat.view.pending ≡ None =
-    ap (λ (x : Caller). x.seat.view.pending) is
-    ∙ storing_all-pending (storing_all V a leaf) b change ∙ none in
+    ap (λ (x : Caller). x.seat.view.pending) is ∙ none in
     let words : change ≡ words_of (Change put.change) =
     ap₂ (λ x y. 0 ∷ 1 ∷ 2 ∷ 0 ∷ x ∷ y ∷ owner ∷ 1 ∷ value ∷ []) from_is to_is
     ∙ ap (λ o. 0 ∷ 1 ∷ 2 ∷ 0 ∷ word_of Empty ∷ word_of (LeafAt a) ∷ o ∷ 1 ∷ value ∷ []) owner_is in

@@ -28,13 +28,14 @@ use Rattle.ist_rule.proofs.HeldLemmas.{held_later}
 use Rattle.ist_rule.proofs.LaterLemmas.{later-goes_on}
 use Rattle.ist_rows.specs.declared.callers.Caller.{Caller}
 use Rattle.ist_rows.specs.declared.kinds.Kind.TheVariants.{Change as ChangeKind, Rebuild as RebuildKind}
+use Rattle.ist_rows.specs.Filling.{filled_with, storing_all}
 use Rattle.ist_rows.specs.Rows.{IsCaller}
+use Rattle.ist_rows.proofs.FillingLemmas.{filled_twice, stored_at, stored_first}
 use Rattle.ist_dcss.specs.Helping.{MayHelp}
 use Rattle.ist_dcss.specs.Installing.{rows_of, IsInstallable, IsInstalled}
 use Rattle.ist_dcss.proofs.CallingLemmas.{ever_now, open_unrefused, met_change, begun_allows}
 use Rattle.ist_dcss.proofs.InstallLemmas.{held_on}
-use Rattle.test_samples.specs.Samples.{storing_all, sample_start}
-use Rattle.test_samples.proofs.StoredLemmas.{stored_at, stored_first, filled_with, filled_twice, storing_all-pending}
+use Rattle.test_samples.specs.Samples.{sample_start}
 
 -- a base from 4 on and below 100 is good
 pub good : (base : ℕ) → 4 ≤ base → base < 100 → IsGoodBase base
@@ -45,17 +46,18 @@ good base low high = record { behind_fixed = low; below_limit = omega arith }
 -- the words for the rebuild and for the change are stored
 pub start_stored : (v : View) (rebuild change : List ℕ) → rebuild ≡ 4 ∷ 2 ∷ 0 ∷ unset_word ∷ 0 ∷ []
     → change ≡ words_of (Change sample_start.change)
-    → StoredAll (storing_all (storing_all v 15 rebuild) 20 change) (rows_of sample_start 20)
+    → StoredAll (record v { own = storing_all (storing_all v.own 15 rebuild) 20 change })
+    (rows_of sample_start 20)
 start_stored v rebuild change r c = (
   λ k less. subst (λ (ws : List ℕ). slice_get ws k
-      ≡ Some (own_at (storing_all (storing_all v 15 rebuild) 20 change).own (20 + k))) c
-      (stored_at (storing_all v 15 rebuild) 20 change k
+      ≡ Some (own_at (storing_all (storing_all v.own 15 rebuild) 20 change) (20 + k))) c
+      (stored_at (storing_all v.own 15 rebuild) 20 change k
       (subst (λ (ws : List ℕ). k < length ws) (sym c) less)),
   (
     λ k less. subst (λ (ws : List ℕ). slice_get ws k
-        ≡ Some (own_at (storing_all (storing_all v 15 rebuild) 20 change).own (15 + k))) r
-        (stored_first v 15 rebuild 20 change
-        (subst (λ (ws : List ℕ). 15 + length ws ≤ 20) (sym r) (omega arith)) k
+        ≡ Some (own_at (storing_all (storing_all v.own 15 rebuild) 20 change) (15 + k))) r
+        (stored_first v.own 15 rebuild 20 change
+        (inl (subst (λ (ws : List ℕ). 15 + length ws ≤ 20) (sym r) (omega arith))) k
         (subst (λ (ws : List ℕ). k < length ws) (sym r) less)),
     tt,
   ),
@@ -171,9 +173,7 @@ start_filled old mid who from to unset from_is to_is unset_is rows number none f
     ap₂ (λ a b. 0 ∷ 3 ∷ 2 ∷ 0 ∷ a ∷ b ∷ 0 ∷ 0 ∷ 0 ∷ []) from_is to_is in
     record {
       mine = caller.mine ∙ ap CallerOf number_is;
-      none = ap (λ (x : Caller). x.seat.view.pending) is
-          ∙ storing_all-pending (storing_all V 15 rebuild) 20 change
-          ∙ storing_all-pending V 15 rebuild ∙ none;
+      none = ap (λ (x : Caller). x.seat.view.pending) is ∙ none;
       stored = subst (λ (x : Caller). StoredAll x.seat.view (rows_of sample_start 20)) (sym is)
           (start_stored V rebuild change (ap (λ u. 4 ∷ 2 ∷ 0 ∷ u ∷ 0 ∷ []) unset_is) words);
       change = subst (λ n. HoldsRow (now who.seat.view) n 20 9) number_is

@@ -1,17 +1,10 @@
--- Words that a seat has stored one after another, and the changes that the samples install.
-use Rattle.std.specs.Prelude.{ℕ, ◌+◌, List, [], ◌∷◌}
+-- The changes that the samples install.
+use Rattle.std.specs.Prelude.{ℕ, [], ◌∷◌}
 use Rattle.ist_core.specs.Pieces.{Leaf, Rebuild, row_at}
 use Rattle.ist_core.specs.References.{Empty, LeafAt, InnerAt, RebuildAt, word_of, unset_word}
 use Rattle.ist_core.specs.RowLayout.{anchor}
 use Rattle.ist_core.specs.Statuses.{undecided, put_kind, start_kind}
-use Rattle.ist_rule.specs.declared.view.View.{View}
-use Rattle.ist_rule.specs.Learning.{storing}
 use Rattle.ist_dcss.specs.Installing.{Filling}
-
--- the view that has stored the words one after another, from the place on
-abbrev pub storing_all : View → ℕ → List ℕ → View
-storing_all v place [] = v
-storing_all v place (word ∷ words) = storing_all (storing v place word) (place + 1) words
 
 -- a caller's put of a value at the key 1 into the anchor's empty slot, with its leaf at a base
 abbrev pub sample_put : (owner leaf value : ℕ) → Filling

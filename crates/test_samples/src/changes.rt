@@ -7,11 +7,10 @@ ghost use Rattle.ist_dcss.specs.Helping.{MayHelp};
 ghost use Rattle.ist_dcss.specs.Installing.{Filling};
 ghost use Rattle.test_samples.specs.Samples.{sample_put};
 
-use crate::filling::fill_row;
 use ist_core::Command;
 use ist_dcss::{Installed, install};
 use ist_layout::{ANCHOR_SLOT_PLACE, PUT_KIND, Ref, START_KIND, UNDECIDED};
-use ist_rows::{Caller, Kind};
+use ist_rows::{Caller, Kind, fill_row};
 use ist_rule::{TreeTable, begin_call, know, load};
 
 /// Fills a put of the value at the key 1 into both rows, and installs it in the anchor's slot, if that slot

@@ -27,13 +27,13 @@ finish_words-words-requires c =
 
 -- the row was filled
 prepares : (c : goal.After-know-3)
-    → HasPrepared c.args.who.now c.fill_change.new.who c.args.plan c.in_ok-change.change
+    → HasPrepared c.args.who.now c.fill_row.new.who c.args.plan c.in_ok-change.change
 prepares c =
     let e = c.in_ok-change.ensures in
     has_prepared c.args.who.now c.reserve.new.who _ c.args.plan c.in_ok-change.change _
     c.requires.able c.know.ensures.sound c.requires.plan c.requires.unrefused
     record { caller = e.caller; number = e.number; held = e.held; fresh = e.reserved }
-    c.finish_words-words.ensures.value c.fill_change.ensures.stored c.know-3.ensures.sound
+    c.finish_words-words.ensures.value c.fill_row.ensures.stored c.know-3.ensures.sound
 
 pub returns-clause-helped : goal.returns-clause-helped
 returns-clause-helped c = (prepares c).helped

@@ -1,7 +1,7 @@
 use Rattle.std.proofs.Common.{◌+◌, ◌<◌, ◌^◌, sym, ap, subst, arith}
 use Rattle.ist_rule.specs.Conditions.{IsOwn}
 use Rattle.ist_rows.proofs.CallerGoingLemmas.{place_low, words_low}
-use Rattle.ist_rows.proofs.reserving.fill.Goals as goal
+use Rattle.ist_rows.proofs.filling.fill.Goals as goal
 
 -- the place lies within the table, so that the sum is small
 pub overflow_add-from : goal.overflow_add-from

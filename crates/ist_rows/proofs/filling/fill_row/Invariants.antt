@@ -1,7 +1,7 @@
 use Rattle.std.proofs.Common.{◌≡◌, take}
 use Rattle.ist_rows.specs.Rows.{IsCaller}
-use Rattle.ist_updates.specs.Filling.{filled_with}
-use Rattle.ist_updates.proofs.filling.fill_row.Given as goal
+use Rattle.ist_rows.specs.Filling.{filled_with}
+use Rattle.ist_rows.proofs.filling.fill_row.Given as goal
 
 -- the words so far were stored, and nothing else was done
 abbrev pub invariant-loop-word : goal.invariant-loop-word
