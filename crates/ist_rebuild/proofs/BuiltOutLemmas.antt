@@ -16,9 +16,11 @@ use Rattle.ist_rows.specs.declared.callers.Caller.{Caller}
 use Rattle.ist_mark.specs.Marking.{MayMark, Marks}
 use Rattle.ist_build.specs.Calls.{IsBuildable}
 use Rattle.ist_core.specs.Snapshots.{Snapshot}
-use Rattle.ist_rebuild.specs.Finishing.{IsAble, HasHelped}
+use Rattle.ist_rebuild.specs.Helping.{HasHelped}
+use Rattle.ist_rows.specs.Going.{IsReady}
 use Rattle.ist_rebuild.specs.Going.{Serves}
-use Rattle.ist_rebuild.proofs.AbleLemmas.{helped_more, loads_helped, marks_helped, started_went}
+use Rattle.ist_rebuild.proofs.HelpedLemmas.{helped_more, loads_helped, marks_helped, started_went}
+use Rattle.ist_rows.proofs.GoneLemmas.{still_ready}
 
 -- a rebuild that may be built may be still
 pub buildable_went : (P : Event → Type 0) (v w : View) → WentOn P v w → (rebuild : ℕ)
@@ -71,26 +73,26 @@ pub record HasMarked (who : Caller) (seat : SeatFace) (rebuild : ℕ) : Type 0 w
   pub buildable : IsBuildable (now seat.view) rebuild
 
 -- a caller that loaded the target and marked it may build the rebuild
-pub has_marked : (who : Caller) (mid seat : SeatFace) (rebuild target keys : ℕ) → IsAble who
+pub has_marked : (who : Caller) (mid seat : SeatFace) (rebuild target keys : ℕ) → IsReady who
     → IsStarted (now who.seat.view) rebuild → GoesOnTo who.seat.view mid.view
     → HasTarget (now mid.view) rebuild target → WentOn (Marks seat.view target) mid.view seat.view
     → IsFinishedWith (now seat.view) target keys → HasMarked who seat rebuild
-has_marked who mid seat rebuild target keys able started seen h marks finished =
-    let first = loads_helped who mid able seen in
+has_marked who mid seat rebuild target keys ready started seen h marks finished =
+    let first = loads_helped who mid ready seen in
     let all = helped_more who (record who { seat = mid }) (record who { seat = seat }) first
-    (marks_helped (record who { seat = mid }) seat seat.view target first.able marks) in
+    (marks_helped (record who { seat = mid }) seat seat.view target (still_ready first.on) marks) in
     record {
       helped = all;
       buildable = told_buildable (now seat.view) rebuild target keys
           (target_went (Marks seat.view target) mid.view seat.view marks rebuild target h)
-          (started_went Serves who.seat.view seat.view all.went rebuild started) finished;
+          (started_went Serves who.seat.view seat.view all.on.gone.went rebuild started) finished;
     }
 
 -- the caller might mark the target
-pub may_mark : (who : Caller) (mid : SeatFace) (rebuild target : ℕ) → IsAble who
+pub may_mark : (who : Caller) (mid : SeatFace) (rebuild target : ℕ) → IsReady who
     → IsStarted (now who.seat.view) rebuild → GoesOnTo who.seat.view mid.view
     → HasTarget (now mid.view) rebuild target → MayMark mid.view target
-may_mark who mid rebuild target able started seen h =
-    let first = loads_helped who mid able seen in
-    may_mark_target mid.view who.number rebuild target first.able.caller.mine h
-    (started_went Serves who.seat.view mid.view first.went rebuild started)
+may_mark who mid rebuild target ready started seen h =
+    let first = loads_helped who mid ready seen in
+    may_mark_target mid.view who.number rebuild target first.on.gone.caller.mine h
+    (started_went Serves who.seat.view mid.view first.on.gone.went rebuild started)

@@ -39,7 +39,9 @@ use Rattle.ist_dcss.proofs.OpeningLemmas.{closed_node_stays}
 use Rattle.ist_dcss.proofs.ResolvedLemmas.{resolved_helped}
 use Rattle.ist_rebuild.specs.declared.finishing.Tried.TheVariants.{Other}
 use Rattle.ist_rebuild.specs.declared.sites.Plan.{Plan}
-use Rattle.ist_rebuild.specs.Finishing.{IsAble, HasHelped, IsPlan, IsPrepared, filling_at, finish_row}
+use Rattle.ist_rebuild.specs.Finishing.{IsPlan, IsPrepared, filling_at, finish_row}
+use Rattle.ist_rebuild.specs.Helping.{HasHelped}
+use Rattle.ist_rows.specs.Going.{IsReady}
 use Rattle.ist_rebuild.specs.Going.{Serves}
 use Rattle.ist_rebuild.proofs.EventLemmas.{change_serves}
 use Rattle.ist_rebuild.proofs.SiteLemmas.{rebuild_good}
@@ -73,7 +75,7 @@ pub record HasInstalled (who : Caller) (plan : Plan) (change : ℕ) (seat : Seat
   pub published : (now seat.view).pieces change ≡ Some (Change (finish_row plan who.number))
   pub may_help : MayHelp seat.view change
 
-module _ (who : Caller) (plan : Plan) (change : ℕ) (able : IsAble who)
+module _ (who : Caller) (plan : Plan) (change : ℕ) (ready : IsReady who)
     (p : IsPrepared who plan change) (seat : SeatFace)
     (i : IsInstalled who.seat.view change (filling_at who.seat.view change) seat.view) where
   abbrev event : Event
@@ -86,7 +88,7 @@ module _ (who : Caller) (plan : Plan) (change : ℕ) (able : IsAble who)
   behind = record who { seat = seat; change = None }
 
   number_is : i.number ≡ who.number
-  number_is = ap number_of (sym i.mine ∙ able.caller.mine)
+  number_is = ap number_of (sym i.mine ∙ ready.caller.mine)
 
   serves : Serves event
   serves r e = ap (λ c. c.kind) (sym (one_change (filling_at who.seat.view change).change r e))
@@ -94,17 +96,17 @@ module _ (who : Caller) (plan : Plan) (change : ℕ) (able : IsAble who)
 
   refused_before : HasRefused before
   refused_before =
-      refused_went who (record who.seat { view = i.before }) able.caller able.refused
+      refused_went who (record who.seat { view = i.before }) ready.caller ready.refused
       (goes_on_went KeepsRows who.seat.view i.before i.seen)
 
   caller_before : IsCaller before
-  caller_before = caller_goes_on who (record who.seat { view = i.before }) able.caller i.seen
+  caller_before = caller_goes_on who (record who.seat { view = i.before }) ready.caller i.seen
 
   -- the caller after its Install
   pub has_installed : HasInstalled who plan change seat
   has_installed =
       let made = logged_made i.before event seat.view i.logged in
-      let mine = ap (λ x. x.who) i.logged.view ∙ goes_on_who i.seen ∙ able.caller.mine in
+      let mine = ap (λ x. x.who) i.logged.view ∙ goes_on_who i.seen ∙ ready.caller.mine in
       let published : (now seat.view).pieces change
       ≡ Some (Change (filling_at who.seat.view change).change) =
       ap (λ t. t.pieces change) (ap now i.logged.view)
@@ -142,21 +144,23 @@ module _ (who : Caller) (plan : Plan) (change : ℕ) (able : IsAble who)
         let kept = went_all (HelpsWith change) KeepsRows (serves_keep change) seat.view last.view g
         in
         record {
-          able = record {
-            caller = caller_went behind last h.caller kept;
-            refused = refused_went behind last h.caller h.refused kept;
+          on = record {
+            gone = record {
+              caller = caller_went behind last h.caller kept;
+              number = refl;
+              refused = refused_went behind last h.caller h.refused kept;
+              went = went_more Serves who.seat.view seat.view last.view h.went
+                  (went_all (HelpsWith change) Serves (change_serves change) seat.view last.view g);
+            };
             quiet = record {
-              pending = able.quiet.pending;
+              pending = ready.quiet.pending;
               in_call = ap (λ x. x.pending) g.same ∙ ap (λ x. x.pending) h.went.same
-                  ∙ able.quiet.in_call;
+                  ∙ ready.quiet.in_call;
               resolved = resolved_helped who.seat.view seat.view last.view who.number change
-                  (filling_at who.seat.view change) able.caller.mine able.quiet.resolved i g out;
+                  (filling_at who.seat.view change) ready.caller.mine ready.quiet.resolved i g out;
             };
           };
-          number = refl;
           fresh = (refl, refl);
-          went = went_more Serves who.seat.view seat.view last.view h.went
-              (went_all (HelpsWith change) Serves (change_serves change) seat.view last.view g);
         }
 
     -- the change is what was installed, except for its decision

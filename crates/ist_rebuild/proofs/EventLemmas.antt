@@ -4,7 +4,7 @@ use Rattle.std.proofs.Common.{ℕ}
 use Rattle.ist_core.specs.declared.events.Event.{Event}
 use Rattle.ist_core.specs.declared.events.Event.TheVariants.{Enter, Reserve, Install, Okay, Decide, Resolve, Count, Mark, Pass, Finish, Root, Draw, Place, Lose}
 use Rattle.ist_rule.specs.declared.view.View.{View}
-use Rattle.ist_rows.specs.CallerLaws.{KeepsRows, InstallsNone}
+use Rattle.ist_rows.specs.CallerLaws.{InstallsNone}
 use Rattle.ist_dcss.specs.Helping.{Serves as HelpsWith}
 use Rattle.ist_mark.specs.Marking.{Marks}
 use Rattle.ist_build.specs.Calls.{Builds}
@@ -77,20 +77,3 @@ builds_install_none (Root caller rebuild word rows) is = tt
 builds_install_none (Draw caller rebuild part) is = tt
 builds_install_none (Place caller rebuild i word rows) is = tt
 builds_install_none (Lose caller bases) is = tt
-
--- an event that changes nothing of what its caller holds installs nothing
-pub keeping_installs_none : (event : Event) → KeepsRows event → InstallsNone event
-keeping_installs_none (Install caller base rows) is = absurd is
-keeping_installs_none (Enter caller) is = tt
-keeping_installs_none (Reserve caller base size) is = tt
-keeping_installs_none (Okay caller base) is = tt
-keeping_installs_none (Decide caller base said) is = tt
-keeping_installs_none (Resolve caller base) is = tt
-keeping_installs_none (Count caller node) is = tt
-keeping_installs_none (Mark caller node) is = tt
-keeping_installs_none (Pass caller node i word) is = tt
-keeping_installs_none (Finish caller node keys) is = tt
-keeping_installs_none (Root caller rebuild word rows) is = tt
-keeping_installs_none (Draw caller rebuild part) is = tt
-keeping_installs_none (Place caller rebuild i word rows) is = tt
-keeping_installs_none (Lose caller bases) is = tt

@@ -9,7 +9,7 @@ pub mod StartAnswerLemmas
 pub mod EventLemmas
 pub mod OwnChangeLemmas
 pub mod ReservedLemmas
-pub mod AbleLemmas
+pub mod HelpedLemmas
 pub mod StoredLemmas
 pub mod SiteLemmas
 pub mod SlotLemmas

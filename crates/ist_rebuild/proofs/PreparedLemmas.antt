@@ -17,13 +17,16 @@ use Rattle.ist_rows.proofs.FillingLemmas.{stored_at}
 use Rattle.ist_dcss.specs.Installing.{IsInstallable}
 use Rattle.ist_build.specs.Calls.{Builds}
 use Rattle.ist_rebuild.specs.declared.sites.Plan.{Plan}
-use Rattle.ist_rebuild.specs.Finishing.{IsAble, HasHelped, IsPlan, IsPrepared, filling_at, finish_row}
+use Rattle.ist_rebuild.specs.Finishing.{IsPlan, IsPrepared, filling_at, finish_row}
+use Rattle.ist_rebuild.specs.Helping.{HasHelped}
+use Rattle.ist_rows.specs.Going.{IsReady}
 use Rattle.ist_rebuild.specs.Going.{Serves}
-use Rattle.ist_rebuild.proofs.AbleLemmas.{HasRow, own_helped, helped_more, took_row}
+use Rattle.ist_rebuild.proofs.HelpedLemmas.{HasRow, own_helped, helped_more, took_row}
 use Rattle.ist_rebuild.proofs.EventLemmas.{builds_install_none}
 use Rattle.ist_rebuild.proofs.OwnChangeLemmas.{unrefused_went}
 use Rattle.ist_rebuild.proofs.SiteLemmas.{parent_linked, parent_slot, plan_went}
 use Rattle.ist_rebuild.proofs.StoredLemmas.{read_back}
+use Rattle.ist_rows.proofs.GoneLemmas.{still_ready}
 
 no_update : IsUpdate finish_kind → ⊥
 no_update u = ⊎_elim (λ e. let four : ◌≡◌ {A = ℕ} 4 1 = e in omega arith)
@@ -39,8 +42,8 @@ module _ (mid : Caller) (plan : Plan) (change : ℕ) (row : mid.change ≡ Some 
   new = filled_with mid change words
 
   -- has helped
-  pub filled_helped : IsAble mid → IsSound w → HasHelped mid new
-  filled_helped able s = own_helped mid w.own able s
+  pub filled_helped : IsReady mid → IsSound w → HasHelped mid new
+  filled_helped ready s = own_helped mid w.own ready s
 
   is : (filling_at w change).change ≡ finish_row plan mid.number
   is = subst (λ ws. (filling_at (filled_with mid change ws).seat.view change).change
@@ -56,14 +59,14 @@ module _ (mid : Caller) (plan : Plan) (change : ℕ) (row : mid.change ≡ Some 
       (subst (λ ws. k < length ws) (sym words_are) less))
 
   -- the finish may be installed
-  installable : IsAble new → IsSound w → IsPlan w plan → IsUnrefused (now w) mid.number plan.parent
+  installable : IsReady new → IsSound w → IsPlan w plan → IsUnrefused (now w) mid.number plan.parent
       → IsInstallable w change record { change = finish_row plan mid.number; fresh = [] }
-  installable able s p unrefused =
+  installable ready s p unrefused =
       let slot = parent_slot w s plan p in
       record {
         number = mid.number;
-        mine = able.caller.mine;
-        held = (able.caller.rows ChangeKind change row, tt);
+        mine = ready.caller.mine;
+        held = (ready.caller.rows ChangeKind change row, tt);
         stored = (stored, tt);
         owned = refl;
         unset = refl;
@@ -73,25 +76,25 @@ module _ (mid : Caller) (plan : Plan) (change : ℕ) (row : mid.change ≡ Some 
         unrefused = unrefused;
         fits = p.fits mid.number;
         allowed = record {
-          pending = able.quiet.pending;
-          in_call = able.quiet.in_call;
-          resolved = able.quiet.resolved;
+          pending = ready.quiet.pending;
+          in_call = ready.quiet.in_call;
+          resolved = ready.quiet.resolved;
           command = λ u. absurd (no_update u);
           none_yet = λ u. absurd (no_update u);
         };
       }
 
   -- a caller that filled its change row may install the finish
-  pub filled_prepared : IsAble new → IsSound w → IsPlan w plan
+  pub filled_prepared : IsReady new → IsSound w → IsPlan w plan
       → IsUnrefused (now w) mid.number plan.parent → IsPrepared new plan change
-  filled_prepared able s p unrefused =
+  filled_prepared ready s p unrefused =
       record {
         row = row;
         is = is;
         may_install = subst (λ (r : ChangeRow). IsInstallable w change record {
           change = r;
           fresh = [];
-        }) (sym is) (installable able s p unrefused);
+        }) (sym is) (installable ready s p unrefused);
       }
 
 -- ---- from the reserving on
@@ -102,24 +105,24 @@ pub record HasPrepared (old who : Caller) (plan : Plan) (change : ℕ) : Type 0 
   pub prepared : IsPrepared who plan change
 
 -- a caller that reserved and filled its change row has helped and prepared it
-pub has_prepared : (old mid who : Caller) (plan : Plan) (change : ℕ) (words : List ℕ) → IsAble old
+pub has_prepared : (old mid who : Caller) (plan : Plan) (change : ℕ) (words : List ℕ) → IsReady old
     → IsSound old.seat.view → IsPlan old.seat.view plan
     → IsUnrefused (now old.seat.view) old.number plan.parent → HasRow old mid (Ok change)
     → words ≡ words_of (Change (finish_row plan mid.number))
     → who ≡ filled_with mid change words → IsSound who.seat.view → HasPrepared old who plan change
-has_prepared old mid who plan change words able s p unrefused row words_are stored sound =
-    let t = took_row old mid change able s row in
+has_prepared old mid who plan change words ready s p unrefused row words_are stored sound =
+    let t = took_row old mid change ready s row in
     let new = filled_with mid change words in
     let w = new.seat.view in
     let here = subst (λ (x : Caller). IsSound x.seat.view) stored sound in
-    let filled = filled_helped mid plan change t.row words words_are t.helped.able here in
+    let filled = filled_helped mid plan change t.row words words_are (still_ready t.helped.on) here in
     let all = helped_more old mid new t.helped filled in
-    let none = unrefused_went old.seat.view mid.seat.view old.number able.caller.mine
+    let none = unrefused_went old.seat.view mid.seat.view old.number ready.caller.mine
     (went_all Builds InstallsNone builds_install_none old.seat.view mid.seat.view t.by)
-    able.quiet.resolved plan.parent unrefused in
+    ready.quiet.resolved plan.parent unrefused in
     subst (λ x. HasPrepared old x plan change) (sym stored) record {
       helped = all;
-      prepared = filled_prepared mid plan change t.row words words_are filled.able here
-          (plan_went Serves old.seat.view w all.went plan p)
+      prepared = filled_prepared mid plan change t.row words words_are (still_ready filled.on) here
+          (plan_went Serves old.seat.view w all.on.gone.went plan p)
           (subst (λ n. IsUnrefused (now mid.seat.view) n plan.parent) (sym row.number) none);
     }

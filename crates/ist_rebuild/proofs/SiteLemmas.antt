@@ -36,7 +36,7 @@ use Rattle.ist_dcss.proofs.TargetLemmas.{started_row, started_rebuild, fields_lo
 use Rattle.ist_build.specs.Calls.{IsBuiltOut}
 use Rattle.ist_rebuild.specs.declared.sites.Plan.{Plan}
 use Rattle.ist_rebuild.specs.Finishing.{IsWordOf, IsPlan, finish_row}
-use Rattle.ist_rebuild.proofs.AbleLemmas.{started_went}
+use Rattle.ist_rebuild.proofs.HelpedLemmas.{started_went}
 
 -- ---- a published rebuild
 

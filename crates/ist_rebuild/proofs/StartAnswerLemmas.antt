@@ -27,7 +27,7 @@ use Rattle.ist_rebuild.specs.declared.answers.Started.TheVariants.{Yes, Other, M
 use Rattle.ist_rebuild.specs.Going.{Begins, StartsAt}
 use Rattle.ist_rebuild.specs.Starting.{IsStartedAt, LeavesDone, IsStartRefused, StartsAreDoneBut}
 use Rattle.ist_rebuild.specs.Starting.{LeavesUninstalled, LeavesUnstarted, StartsNone}
-use Rattle.ist_rebuild.specs.StartSteps.{IsReady, start_filling}
+use Rattle.ist_rebuild.specs.StartSteps.{IsStartReady, start_filling}
 use Rattle.ist_rebuild.proofs.StartFillLemmas.{rebuild_good, rows_apart}
 use Rattle.ist_rebuild.proofs.StartGoingLemmas.{HasPutIn, begins_installing, begins_serving, put_went, aims_installing, aims_serving}
 use Rattle.ist_rebuild.proofs.StartOwnLemmas.{InstallsBut, own_was, starts_but, starts_none_reserving, starts_reserving}
@@ -75,7 +75,7 @@ serving_but number change (Resolve c other) is = tt
 serving_but number change _ is = absurd is
 
 module _ (who : Caller) (parent index target rebuild change : ℕ) (f : Filling)
-    (ready : IsReady who rebuild change f) (s : IsSound who.seat.view) (w : View) where
+    (ready : IsStartReady who rebuild change f) (s : IsSound who.seat.view) (w : View) where
   abbrev v : View
   v = who.seat.view
 

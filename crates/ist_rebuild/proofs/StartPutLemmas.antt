@@ -19,7 +19,7 @@ use Rattle.ist_rows.proofs.CallerLawLemmas.{caller_went, refused_went, resolved_
 use Rattle.ist_dcss.specs.Helping.{Serves, IsOut}
 use Rattle.ist_dcss.specs.Installing.{Filling, rows_of, IsInstalled}
 use Rattle.ist_dcss.proofs.ResolvedLemmas.{resolved_helped}
-use Rattle.ist_rebuild.specs.Going.{IsQuiet}
+use Rattle.ist_rows.specs.Going.{IsQuiet}
 use Rattle.ist_rebuild.specs.StartSteps.{HasStartRows, start_filling}
 
 -- a step of help changes nothing of what is held

@@ -36,9 +36,9 @@ use Rattle.ist_rows.proofs.CallerLawLemmas.{resolved_went}
 use Rattle.ist_dcss.specs.Installing.{IsInstallable}
 use Rattle.ist_dcss.proofs.FitsLemmas.{ever_later}
 use Rattle.ist_dcss.proofs.SlotPlaceLemmas.{slot_later}
-use Rattle.ist_rebuild.specs.Going.{IsQuiet}
+use Rattle.ist_rows.specs.Going.{IsQuiet}
 use Rattle.ist_rebuild.specs.Starting.{MayStart}
-use Rattle.ist_rebuild.specs.StartSteps.{HasStartRows, IsReady, filled_start, start_change, start_filling}
+use Rattle.ist_rebuild.specs.StartSteps.{HasStartRows, IsStartReady, filled_start, start_change, start_filling}
 use Rattle.ist_rebuild.proofs.StartFillLemmas.{rebuild_good, start_held, start_stored}
 
 -- ---- the slot and the target
@@ -207,10 +207,10 @@ module _ (v : View) (parent index target : ℕ) (m : MayStart v parent index tar
       }
 
   -- the caller that has filled the rows is ready
-  pub start_ready : IsSound v → IsReady who rebuild change
+  pub start_ready : IsSound v → IsStartReady who rebuild change
       (start_filling who.number parent index target rebuild)
   start_ready sv =
-      subst (λ (x : Caller). IsReady x rebuild change
+      subst (λ (x : Caller). IsStartReady x rebuild change
       (start_filling x.number parent index target rebuild)) (sym is)
       record {
         caller = subst IsCaller is cw;

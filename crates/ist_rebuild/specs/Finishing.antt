@@ -1,5 +1,5 @@
--- What the parts of a help promise each other: the caller while it helps, the words of a rebuild,
--- and the change that will finish it.
+-- What the parts of a help promise each other: the words of a rebuild, and the change that will finish
+-- it.
 use Rattle.std.specs.Prelude.{◌≡◌, ℕ, ◌+◌, [], slice_get, Some}
 use Rattle.ist_core.specs.declared.states.ChangeRow.{ChangeRow}
 use Rattle.ist_core.specs.declared.states.RebuildRow.{RebuildRow}
@@ -11,30 +11,11 @@ use Rattle.ist_core.specs.Snapshots.{Snapshot}
 use Rattle.ist_core.specs.StartLayout.{start}
 use Rattle.ist_core.specs.Statuses.{undecided, finish_kind}
 use Rattle.ist_rule.specs.declared.view.View.{View}
-use Rattle.ist_rule.specs.Going.{WentOn}
 use Rattle.ist_rule.specs.Learning.{now}
 use Rattle.ist_rule.specs.Rule.{own_at}
 use Rattle.ist_rows.specs.declared.callers.Caller.{Caller}
-use Rattle.ist_rows.specs.Building.{HasRefused}
-use Rattle.ist_rows.specs.Rows.{IsCaller}
 use Rattle.ist_dcss.specs.Installing.{Filling, IsInstallable}
 use Rattle.ist_rebuild.specs.declared.sites.Plan.{Plan}
-use Rattle.ist_rebuild.specs.Going.{IsQuiet, Serves, KeepsFresh}
-
--- ---- the caller
-
--- the caller may help: it is in a call, its refused builds are refused, and its changes resolved
-pub record IsAble (who : Caller) : Type 0 where
-  pub caller : IsCaller who
-  pub refused : HasRefused who
-  pub quiet : IsQuiet who
-
--- the caller has only made steps of help, and may still help
-pub record HasHelped (old new : Caller) : Type 0 where
-  pub able : IsAble new
-  pub number : new.number ≡ old.number
-  pub fresh : KeepsFresh old new
-  pub went : WentOn Serves old.seat.view new.seat.view
 
 -- ---- the rebuild
 

@@ -1,5 +1,4 @@
--- When a caller may start or help a rebuild, how its seat goes on meanwhile, and when it is refused
--- words.
+-- How the seat of a caller goes on while it starts or helps a rebuild, and when it is refused words.
 use Rattle.std.specs.Prelude.{◌≡◌, ℕ, ◌+◌, ◌<◌, List, Some}
 use Rattle.ist_core.specs.declared.events.Event.{Event}
 use Rattle.ist_core.specs.declared.events.Event.TheVariants.{Enter, Reserve, Install, Okay, Count, Decide, Resolve}
@@ -10,20 +9,10 @@ use Rattle.ist_core.specs.References.{InnerAt, word_of}
 use Rattle.ist_core.specs.RowLayout.{next_place}
 use Rattle.ist_core.specs.Statuses.{start_kind, finish_kind}
 use Rattle.ist_core.specs.Writing.{first_change}
-use Rattle.ist_rule.specs.declared.view.Pending.{Pending}
 use Rattle.ist_rule.specs.declared.view.View.{View}
-use Rattle.ist_rule.specs.Conditions.{IsResolved}
 use Rattle.ist_rule.specs.Going.{WentOn}
 use Rattle.ist_rule.specs.Learning.{Looked}
 use Rattle.ist_rows.specs.declared.callers.Caller.{Caller}
-
--- ---- when
-
--- the caller is in a call, in which each change that it installed is resolved
-pub record IsQuiet (who : Caller) : Type 0 where
-  pub pending : Pending
-  pub in_call : who.seat.view.pending ≡ Some pending
-  pub resolved : IsResolved who.seat.view who.number
 
 -- ---- how the seat goes on
 

@@ -1,4 +1,4 @@
--- Helping a rebuild: what becomes of it.
+-- Helping a rebuild: how the caller goes on, and what becomes of the rebuild.
 use Rattle.std.specs.Prelude.{◌≡◌, ℕ, ◌≤◌, Some}
 use Rattle.ist_core.specs.declared.ports.Full.{Full}
 use Rattle.ist_core.specs.declared.states.RebuildRow.{RebuildRow}
@@ -10,7 +10,14 @@ use Rattle.ist_core.specs.Slots.{IsOpen}
 use Rattle.ist_core.specs.Snapshots.{Snapshot}
 use Rattle.ist_rule.specs.declared.view.View.{View}
 use Rattle.ist_rule.specs.Learning.{now}
-use Rattle.ist_rebuild.specs.Going.{IsShortOf, Serves}
+use Rattle.ist_rows.specs.declared.callers.Caller.{Caller}
+use Rattle.ist_rows.specs.Going.{StaysReady}
+use Rattle.ist_rebuild.specs.Going.{IsShortOf, KeepsFresh, Serves}
+
+-- the caller has only made steps of help and is ready, and holds the leaf and the pair row that it held
+pub record HasHelped (old new : Caller) : Type 0 where
+  pub on : StaysReady Serves old new
+  pub fresh : KeepsFresh old new
 
 -- the rebuild is still in its slot, in a parent that isn't open
 pub record IsLeftToParent (t : Snapshot) (rebuild : ℕ) : Type 0 where

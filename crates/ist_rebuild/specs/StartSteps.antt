@@ -10,7 +10,7 @@ use Rattle.ist_rows.specs.declared.callers.Caller.{Caller}
 use Rattle.ist_rows.specs.Filling.{filled_with}
 use Rattle.ist_rows.specs.Rows.{IsCaller}
 use Rattle.ist_dcss.specs.Installing.{Filling, IsInstallable}
-use Rattle.ist_rebuild.specs.Going.{IsQuiet}
+use Rattle.ist_rows.specs.Going.{IsQuiet}
 
 -- ---- the rows
 
@@ -53,7 +53,7 @@ filled_start who rebuild change parent index target =
 
 -- the caller may install the change and help it: it holds the two rows that are installed, and all
 -- of its changes are resolved
-pub record IsReady (who : Caller) (rebuild change : ℕ) (f : Filling) : Type 0 where
+pub record IsStartReady (who : Caller) (rebuild change : ℕ) (f : Filling) : Type 0 where
   pub caller : IsCaller who
   pub rows : HasStartRows who rebuild change
   pub quiet : IsQuiet who

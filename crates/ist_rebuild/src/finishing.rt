@@ -10,9 +10,10 @@ ghost use Rattle.ist_rule.specs.Learning.{now};
 ghost use Rattle.ist_build.specs.Calls.{IsBuildable, IsBuiltOut};
 ghost use Rattle.ist_rebuild.specs.declared.answers.Helped.TheVariants.{Replaced, ParentMarked};
 ghost use Rattle.ist_rebuild.specs.declared.finishing.Tried.TheVariants.{Yes, No, Other};
-ghost use Rattle.ist_rebuild.specs.Finishing.{IsAble, HasHelped, IsPlan, IsPrepared};
+ghost use Rattle.ist_rebuild.specs.Finishing.{IsPlan, IsPrepared};
+ghost use Rattle.ist_rows.specs.Going.{IsReady};
 ghost use Rattle.ist_rebuild.specs.Finishing.{finish_row};
-ghost use Rattle.ist_rebuild.specs.Helping.{IsLeftToParent, IsHelpRefused};
+ghost use Rattle.ist_rebuild.specs.Helping.{IsLeftToParent, IsHelpRefused, HasHelped};
 ghost use Rattle.laws_coming.specs.Further.{CameFurther};
 
 use crate::answers::Helped;
@@ -38,7 +39,7 @@ enum Tried {
 /// Gives the rebuild its root, and fills the root's parts.
 pub(crate) fn build_out(table: &TreeTable, who: &mut Caller, rebuild: u32) -> Result<(), Full>
     requires same_table { who.old.seat.table ≡ table.now.table }
-    requires able { IsAble who.old }
+    requires ready { IsReady who.old }
     requires buildable { IsBuildable (now who.old.seat.view) rebuild }
     ensures same_table { who.new.seat.table ≡ table.now.table }
     ensures helped { HasHelped who.old who.new }
@@ -74,7 +75,7 @@ fn finish_words(plan: Plan, owner: u32) -> [u64; 9]
 // Fills the caller's change row as the finish of the plan, and returns it.
 fn prepare(table: &TreeTable, who: &mut Caller, plan: Plan) -> Result<u32, Full>
     requires same_table { who.old.seat.table ≡ table.now.table }
-    requires able { IsAble who.old }
+    requires ready { IsReady who.old }
     requires plan { IsPlan who.old.seat.view plan }
     requires unrefused { IsUnrefused (now who.old.seat.view) who.old.number plan.parent }
     ensures same_table { who.new.seat.table ≡ table.now.table }
@@ -96,7 +97,7 @@ fn prepare(table: &TreeTable, who: &mut Caller, plan: Plan) -> Result<u32, Full>
 // Installs the prepared finish and helps it, if the slot holds the rebuild.
 fn carry(table: &TreeTable, who: &mut Caller, plan: Plan, change: u32) -> Tried
     requires same_table { who.old.seat.table ≡ table.now.table }
-    requires able { IsAble who.old }
+    requires ready { IsReady who.old }
     requires plan { IsPlan who.old.seat.view plan }
     requires prepared { IsPrepared who.old plan change }
     ensures same_table { who.new.seat.table ≡ table.now.table }
@@ -126,7 +127,7 @@ fn carry(table: &TreeTable, who: &mut Caller, plan: Plan, change: u32) -> Tried
 // Returns what a try says of the rebuild, if anything; helps a change that was met in its slot.
 fn conclude(table: &TreeTable, who: &mut Caller, plan: Plan, tried: Tried) -> Option<Helped>
     requires same_table { who.old.seat.table ≡ table.now.table }
-    requires able { IsAble who.old }
+    requires ready { IsReady who.old }
     requires plan { IsPlan who.old.seat.view plan }
     requires yes { tried ≡ Yes → IsReplaced (now who.old.seat.view) plan.rebuild }
     requires no { tried ≡ No → ¬ (IsOpen (now who.old.seat.view) plan.parent) }
@@ -159,7 +160,7 @@ fn conclude(table: &TreeTable, who: &mut Caller, plan: Plan, tried: Tried) -> Op
 // Tries once to put the root of the rebuild in its place.
 fn try_finish(table: &TreeTable, who: &mut Caller, plan: Plan) -> Result<Option<Helped>, Full>
     requires same_table { who.old.seat.table ≡ table.now.table }
-    requires able { IsAble who.old }
+    requires ready { IsReady who.old }
     requires plan { IsPlan who.old.seat.view plan }
     ensures same_table { who.new.seat.table ≡ table.now.table }
     ensures helped { HasHelped who.old who.new }
@@ -185,7 +186,7 @@ fn try_finish(table: &TreeTable, who: &mut Caller, plan: Plan) -> Result<Option<
 /// in its slot and its parent isn't open.
 pub(crate) fn finish(table: &TreeTable, who: &mut Caller, plan: Plan) -> Result<Helped, Full>
     requires same_table { who.old.seat.table ≡ table.now.table }
-    requires able { IsAble who.old }
+    requires ready { IsReady who.old }
     requires plan { IsPlan who.old.seat.view plan }
     ensures same_table { who.new.seat.table ≡ table.now.table }
     ensures helped { HasHelped who.old who.new }

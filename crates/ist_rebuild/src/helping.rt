@@ -3,14 +3,10 @@ ghost use Rattle.std.specs.Prelude.{◌≡◌, Ok, IfErr};
 ghost use Rattle.ist_core.specs.Rebuilding.{IsStarted, IsReplaced};
 ghost use Rattle.ist_rebuild.specs.declared.answers.Helped.TheVariants.{Replaced, ParentMarked};
 ghost use Rattle.ist_rule.specs.Faces.{word_count_of};
-ghost use Rattle.ist_rule.specs.Going.{WentOn};
 ghost use Rattle.ist_rule.specs.Learning.{now};
-ghost use Rattle.ist_rows.specs.Building.{HasRefused};
-ghost use Rattle.ist_rows.specs.Rows.{IsCaller};
 ghost use Rattle.ist_build.specs.Calls.{IsBuildable};
-ghost use Rattle.ist_rebuild.specs.Finishing.{IsAble, HasHelped};
-ghost use Rattle.ist_rebuild.specs.Going.{IsQuiet, Serves, KeepsFresh};
-ghost use Rattle.ist_rebuild.specs.Helping.{IsLeftToParent, IsHelpRefused};
+ghost use Rattle.ist_rows.specs.Going.{IsReady};
+ghost use Rattle.ist_rebuild.specs.Helping.{IsLeftToParent, IsHelpRefused, HasHelped};
 
 use crate::answers::Helped;
 use crate::finishing::{build_out, finish};
@@ -24,7 +20,7 @@ use ist_rule::{TreeTable, know};
 // Marks the target of a started rebuild, and counts its keys; then the rebuild may be built.
 fn mark_target(table: &TreeTable, who: &mut Caller, rebuild: u32)
     requires same_table { who.old.seat.table ≡ table.now.table }
-    requires able { IsAble who.old }
+    requires ready { IsReady who.old }
     requires started { IsStarted (now who.old.seat.view) rebuild }
     ensures same_table { who.new.seat.table ≡ table.now.table }
     ensures helped { HasHelped who.old who.new }
@@ -50,17 +46,10 @@ fn mark_target(table: &TreeTable, who: &mut Caller, rebuild: u32)
 /// Doubly-Logarithmic Running Time", PPoPP 2020.
 pub fn help_rebuild(table: &TreeTable, who: &mut Caller, rebuild: u32) -> Result<Helped, Full>
     requires same_table { who.old.seat.table ≡ table.now.table }
-    requires caller { IsCaller who.old }
-    requires refused { HasRefused who.old }
-    requires quiet { IsQuiet who.old }
+    requires ready { IsReady who.old }
     requires started { IsStarted (now who.old.seat.view) rebuild }
     ensures same_table { who.new.seat.table ≡ table.now.table }
-    ensures caller { IsCaller who.new }
-    ensures number { who.new.number ≡ who.old.number }
-    ensures fresh { KeepsFresh who.old who.new }
-    ensures refused { HasRefused who.new }
-    ensures went { WentOn Serves who.old.seat.view who.new.seat.view }
-    ensures quiet { IsQuiet who.new }
+    ensures helped { HasHelped who.old who.new }
     ensures finished { IsBuildable (now who.new.seat.view) rebuild }
     ensures replaced { result ≡ Ok Replaced → IsReplaced (now who.new.seat.view) rebuild }
     ensures parent_marked { result ≡ Ok ParentMarked

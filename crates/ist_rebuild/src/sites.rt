@@ -9,8 +9,9 @@ ghost use Rattle.ist_build.specs.Calls.{IsBuiltOut};
 ghost use Rattle.ist_rebuild.specs.declared.answers.Helped.TheVariants.{Replaced, ParentMarked};
 ghost use Rattle.ist_rebuild.specs.declared.sites.Met.TheVariants.{Change, Itself, Another};
 ghost use Rattle.ist_dcss.specs.Reading.{IsRebuildRow};
-ghost use Rattle.ist_rebuild.specs.Finishing.{IsAble, HasHelped, IsWordOf, IsPlan};
-ghost use Rattle.ist_rebuild.specs.Helping.{IsLeftToParent};
+ghost use Rattle.ist_rebuild.specs.Finishing.{IsWordOf, IsPlan};
+ghost use Rattle.ist_rows.specs.Going.{IsReady};
+ghost use Rattle.ist_rebuild.specs.Helping.{IsLeftToParent, HasHelped};
 
 use crate::answers::Helped;
 use ist_dcss::{help, slot_at};
@@ -118,7 +119,7 @@ fn slot_word(table: &TreeTable, seat: &mut TreeSeat, plan: Plan) -> u64
 /// helping the changes that are there. Each help resolves one, so that there are few.
 pub(crate) fn settle(table: &TreeTable, who: &mut Caller, plan: Plan) -> Helped
     requires same_table { who.old.seat.table ≡ table.now.table }
-    requires able { IsAble who.old }
+    requires ready { IsReady who.old }
     requires plan { IsPlan who.old.seat.view plan }
     requires closed { ¬ (IsOpen (now who.old.seat.view) plan.parent) }
     ensures same_table { who.new.seat.table ≡ table.now.table }

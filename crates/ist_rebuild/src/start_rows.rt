@@ -8,9 +8,10 @@ ghost use Rattle.ist_rule.specs.Going.{WentOn};
 ghost use Rattle.ist_rule.specs.Learning.{now};
 ghost use Rattle.ist_rows.specs.Building.{HasRefused};
 ghost use Rattle.ist_rows.specs.Rows.{IsCaller};
-ghost use Rattle.ist_rebuild.specs.Going.{IsQuiet, KeepsFresh};
+ghost use Rattle.ist_rebuild.specs.Going.{KeepsFresh};
+ghost use Rattle.ist_rows.specs.Going.{IsQuiet};
 ghost use Rattle.ist_rebuild.specs.Starting.{MayStart, IsStartRefused};
-ghost use Rattle.ist_rebuild.specs.StartSteps.{HasStartRows, IsReady, filled_start, start_filling};
+ghost use Rattle.ist_rebuild.specs.StartSteps.{HasStartRows, IsStartReady, filled_start, start_filling};
 
 use ist_core::Full;
 use ist_layout::{Ref, START_KIND, UNDECIDED};
@@ -97,7 +98,7 @@ pub(crate) fn prepare(
     ensures refused { HasRefused who.old → HasRefused who.new }
     ensures went { WentOn Reserves who.old.seat.view who.new.seat.view }
     ensures ready { let number = who.new.number in
-        IfOk result (λ rows. IsReady who.new rows.rebuild rows.change
+        IfOk result (λ rows. IsStartReady who.new rows.rebuild rows.change
         (start_filling number parent index target rows.rebuild)) }
     ensures full { IfErr result (λ full.
         IsStartRefused who.old.seat.view (word_count_of table.now) full who.new.seat.view) }

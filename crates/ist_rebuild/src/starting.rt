@@ -9,10 +9,11 @@ ghost use Rattle.ist_rule.specs.Learning.{now};
 ghost use Rattle.ist_rows.specs.Building.{HasRefused};
 ghost use Rattle.ist_rows.specs.Rows.{IsCaller};
 ghost use Rattle.laws_settling.specs.Settling.{StartsAreDone};
-ghost use Rattle.ist_rebuild.specs.Going.{IsQuiet, Begins, KeepsFresh, StartsAt};
+ghost use Rattle.ist_rebuild.specs.Going.{Begins, KeepsFresh, StartsAt};
+ghost use Rattle.ist_rows.specs.Going.{IsQuiet};
 ghost use Rattle.ist_rebuild.specs.Starting.{MayStart, IsStartedAt, StoodInstead, LeavesDone};
 ghost use Rattle.ist_rebuild.specs.Starting.{IsStartRefused, LeavesUninstalled, LeavesUnstarted};
-ghost use Rattle.ist_rebuild.specs.StartSteps.{IsReady, start_filling};
+ghost use Rattle.ist_rebuild.specs.StartSteps.{IsStartReady, start_filling};
 
 use crate::answers::Started;
 use crate::start_rows::{StartRows, prepare};
@@ -34,7 +35,7 @@ struct Plan {
 fn put_in(table: &TreeTable, who: &mut Caller, plan: Plan) -> Started
     ghost filling: { Filling }
     requires same_table { who.old.seat.table ≡ table.now.table }
-    requires ready { IsReady who.old plan.rows.rebuild plan.rows.change filling }
+    requires ready { IsStartReady who.old plan.rows.rebuild plan.rows.change filling }
     requires filled { let number = who.old.number in filling
         ≡ start_filling number plan.parent plan.index plan.target plan.rows.rebuild }
     ensures same_table { who.new.seat.table ≡ table.now.table }

@@ -13,3 +13,4 @@ pub mod GivenRowsLemmas
 pub mod CallerLawLemmas
 pub mod DropLemmas
 pub mod FillingLemmas
+pub mod GoneLemmas

@@ -33,20 +33,21 @@ use Rattle.ist_rule.proofs.WentOnLemmas.{later_by-goes_on, went_all, went_grow, 
 use Rattle.ist_rows.specs.declared.callers.Caller.{Caller}
 use Rattle.ist_rows.specs.Building.{HasRefused}
 use Rattle.ist_rows.specs.Rows.{IsCaller}
-use Rattle.ist_rebuild.specs.Going.{IsQuiet}
+use Rattle.ist_rows.specs.Going.{IsQuiet, StaysReady}
 use Rattle.std.specs.Prelude.{IfSome}
 use Rattle.ist_updates.specs.declared.updates.Applied.{Applied}
 use Rattle.ist_updates.specs.declared.updates.Due.{Due}
 use Rattle.ist_updates.specs.Asking.{MayEnd, Updates}
 use Rattle.ist_updates.specs.Counting.{CameToLimit, CountedNowhere, IsCounted, LeavesDue}
 use Rattle.laws_settling.proofs.DoneLemmas.{others_count_nothing}
-use Rattle.ist_tree.specs.Working.{CarriesOut, IsDueRefused, IsLetGo, IsShut, IsTopCame, IsTopShut, KeepsDone, LeavesShut, Rebuilds, RebuildsOn, Works, is_shut, none_came, was_refused}
+use Rattle.ist_tree.specs.Working.{CarriesOut, IsDueRefused, IsLetGo, IsShut, IsTopCame, IsTopShut, KeepsDone, LeavesShut, Rebuilds, Works, is_shut, none_came, was_refused}
 use Rattle.ist_tree.proofs.CameLemmas.{came_inside, came_within, closed_above, due_since, ever_here}
 use Rattle.ist_tree.proofs.CarryLemmas.{counted_on, may_end_on}
 use Rattle.ist_tree.proofs.DueLemmas.{done_more}
 use Rattle.ist_tree.proofs.EventLemmas.{rebuilds_count_none, rebuilds_work, updates_start_none, updates_work}
 use Rattle.ist_tree.proofs.RebuildLemmas.{starts_went}
 use Rattle.ist_tree.proofs.ShortLemmas.{due_refused_more}
+use Rattle.ist_rows.proofs.GoneLemmas.{still_ready}
 
 -- ---- what `apply` ensures
 
@@ -175,7 +176,7 @@ stood_child pairs words m log longer l on to parent index target row e holds =
 -- the rebuild of the row that was made due was tried
 module _ (old mid new : Caller) (words : ℕ) (command : Command) (reply : Option ℕ) (due : Due)
     (mine : old.seat.view.who ≡ CallerOf old.number) (resolved : IsResolved old.seat.view old.number)
-    (a : Applies old mid command reply (Some due)) (on : RebuildsOn mid new) where
+    (a : Applies old mid command reply (Some due)) (on : StaysReady Rebuilds mid new) where
   abbrev w : View
   w = mid.seat.view
 
@@ -189,13 +190,13 @@ module _ (old mid new : Caller) (words : ℕ) (command : Command) (reply : Optio
   all_went : WentOn Works v x
   all_went =
       went_more Works v w x (went_all Updates Works updates_work v w a.went.went)
-      (went_all Rebuilds Works rebuilds_work w x on.went)
+      (went_all Rebuilds Works rebuilds_work w x on.gone.went)
 
   lawful : Lawful v.start v.words x.log
   lawful = went_lawful Works v x all_went
 
   longer : GoesOn w.log x.log
-  longer = later_by-goes_on on.went.later
+  longer = later_by-goes_on on.gone.went.later
 
   -- a row that reached its limit did so before the rebuild
   came_before : (row : ℕ) → CameToLimit v.start v.words v.log x.log old.number row
@@ -208,7 +209,7 @@ module _ (old mid new : Caller) (words : ℕ) (command : Command) (reply : Optio
       (rebuilds_count_none old.number event))
       v.log v.log w.log x.log no_more (later_by-goes_on a.went.went.later)
       (subst (λ n. LaterBy (CallerOf n) Rebuilds w.log x.log) a.number
-      (subst (λ who. LaterBy who Rebuilds w.log x.log) a.caller.mine on.went.later)) row
+      (subst (λ who. LaterBy who Rebuilds w.log x.log) a.caller.mine on.gone.went.later)) row
 
   -- the row is the topmost that reached its limit
   top_came : IsTopCame old.seat.view x old.number due.target
@@ -258,11 +259,11 @@ module _ (old mid new : Caller) (words : ℕ) (command : Command) (reply : Optio
       → CarriesOut old new words command reply refused
   carried_some answer refused is shut done full =
       record {
-        ready = on.ready;
-        number = on.number ∙ a.number;
+        ready = still_ready on;
+        number = on.gone.number ∙ a.number;
         went = searched_more Works old.seat.view w x (searched_all Updates Works updates_work old.seat.view w a.went)
-            (went_searched Works w x (went_all Rebuilds Works rebuilds_work w x on.went));
-        few_walks = few_with old.seat.view w x a.few_walks on.went;
+            (went_searched Works w x (went_all Rebuilds Works rebuilds_work w x on.gone.went));
+        few_walks = few_with old.seat.view w x a.few_walks on.gone.went;
         may = may_end_on mid new command reply a.caller.mine on a.may;
         counted = λ entry.
             counted_on v.start v.words v.log v.log w.log x.log same_log longer lawful old.number command

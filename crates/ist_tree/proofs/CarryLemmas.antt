@@ -37,7 +37,8 @@ use Rattle.ist_rows.specs.declared.callers.Caller.{Caller}
 use Rattle.laws_walks.specs.Walking.{IsChainOf}
 use Rattle.ist_updates.specs.Asking.{MayEnd}
 use Rattle.ist_updates.specs.Counting.{IsCounted}
-use Rattle.ist_tree.specs.Working.{Rebuilds, RebuildsOn}
+use Rattle.ist_tree.specs.Working.{Rebuilds}
+use Rattle.ist_rows.specs.Going.{StaysReady}
 use Rattle.ist_tree.proofs.LoadingLemmas.{chain_on}
 
 -- ---- no entries
@@ -148,7 +149,7 @@ can_end_on v w number call mine went resolved c =
 
 -- a command that may end with a reply may do so after steps of rebuilding too
 pub may_end_on : (old new : Caller) (command : Command) (reply : Option ℕ)
-    → old.seat.view.who ≡ CallerOf old.number → RebuildsOn old new → MayEnd old command reply
+    → old.seat.view.who ≡ CallerOf old.number → StaysReady Rebuilds old new → MayEnd old command reply
     → MayEnd new command reply
 may_end_on old new command reply mine on m =
     record {
@@ -156,8 +157,8 @@ may_end_on old new command reply mine on m =
       command_is = m.command_is;
       reply_is = m.reply_is;
       can =
-          can_end_on old.seat.view new.seat.view old.number m.call mine on.went
-          (subst (IsResolved new.seat.view) on.number on.ready.quiet.resolved) m.can;
+          can_end_on old.seat.view new.seat.view old.number m.call mine on.gone.went
+          (subst (IsResolved new.seat.view) on.gone.number on.quiet.resolved) m.can;
     }
 
 -- ---- a change that was counted

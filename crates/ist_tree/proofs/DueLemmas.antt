@@ -16,30 +16,30 @@ use Rattle.ist_rebuild.specs.declared.answers.Helped.{Helped}
 use Rattle.ist_rebuild.specs.declared.answers.Helped.TheVariants.{Replaced, ParentMarked}
 use Rattle.ist_rebuild.specs.declared.answers.Started.{Started}
 use Rattle.ist_rebuild.specs.declared.answers.Started.TheVariants.{Yes, Other, Marked}
-use Rattle.ist_rebuild.specs.Going.{Begins, IsQuiet, Serves}
-use Rattle.ist_rebuild.specs.Helping.{IsLeftToParent}
+use Rattle.ist_rebuild.specs.Going.{Begins, Serves}
+use Rattle.ist_rows.specs.Going.{IsQuiet, IsReady, StaysReady}
+use Rattle.ist_rebuild.specs.Helping.{HasHelped, IsLeftToParent}
 use Rattle.ist_rebuild.specs.Starting.{IsStartedAt, LeavesDone, StartsAreDoneBut}
-use Rattle.ist_tree.specs.Working.{IsReady, IsShut, KeepsDone, RebuildsOn}
+use Rattle.ist_tree.specs.Working.{Rebuilds, IsShut, KeepsDone}
 use Rattle.ist_tree.proofs.EventLemmas.{begins_rebuild, serves_rebuild}
-use Rattle.ist_tree.proofs.RebuildLemmas.{rebuilds_by}
 use Rattle.ist_tree.proofs.ShutLemmas.{all_done, left_is_shut, replaced_is_shut}
+use Rattle.ist_rows.proofs.GoneLemmas.{ready_all}
 
 -- ---- going on
 
 -- a caller that began a rebuild went on
 pub begins_on : (old new : Caller) → IsReady old → IsCaller new → (HasRefused old → HasRefused new)
     → IsQuiet new → WentOn Begins old.seat.view new.seat.view → new.number ≡ old.number
-    → RebuildsOn old new
+    → StaysReady Rebuilds old new
 begins_on old new r c refused quiet went number =
-    rebuilds_by Begins begins_rebuild old new went
-    record { caller = c; refused = refused r.refused; quiet = quiet } number
+    ready_all Begins Rebuilds begins_rebuild old new record {
+      gone = record { caller = c; number = number; refused = refused r.refused; went = went };
+      quiet = quiet;
+    }
 
 -- so did one that helped one
-pub serves_on : (old new : Caller) → IsCaller new → HasRefused new → IsQuiet new
-    → WentOn Serves old.seat.view new.seat.view → new.number ≡ old.number → RebuildsOn old new
-serves_on old new c refused quiet went number =
-    rebuilds_by Serves serves_rebuild old new went
-    record { caller = c; refused = refused; quiet = quiet } number
+pub serves_on : (old new : Caller) → HasHelped old new → StaysReady Rebuilds old new
+serves_on old new h = ready_all Serves Rebuilds serves_rebuild old new h.on
 
 -- ---- what starting left done
 
@@ -81,15 +81,15 @@ helped_shut v w went rebuild parent index target s either =
     (left_is_shut Serves v w went rebuild parent index target s) either
 
 -- and all starts of the caller are done
-pub helped_done : (old mid new : Caller) → RebuildsOn old mid
+pub helped_done : (old mid new : Caller) → StaysReady Rebuilds old mid
     → WentOn Serves mid.seat.view new.seat.view → (rebuild : ℕ)
     → StartsAreDoneBut (now mid.seat.view) old.number rebuild
     → IsReplaced (now new.seat.view) rebuild ⊎ IsLeftToParent (now new.seat.view) rebuild
     → StartsAreDone (now new.seat.view) old.number
 helped_done old mid new on went rebuild but either =
     all_done old.number mid.seat.view new.seat.view
-    (on.ready.caller.mine ∙ ap CallerOf on.number)
-    (subst (IsResolved mid.seat.view) on.number on.ready.quiet.resolved) went rebuild but either
+    (on.gone.caller.mine ∙ ap CallerOf on.gone.number)
+    (subst (IsResolved mid.seat.view) on.gone.number on.quiet.resolved) went rebuild but either
 
 -- ---- starts done, twice
 

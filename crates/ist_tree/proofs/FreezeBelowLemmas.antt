@@ -18,10 +18,11 @@ use Rattle.ist_tree.specs.declared.freezing.Frozen.{Frozen}
 use Rattle.ist_tree.specs.declared.freezing.Outcome.{Outcome}
 use Rattle.ist_tree.specs.declared.freezing.Site.TheVariants.{Rebuilt, Still}
 use Rattle.ist_tree.specs.FreezeSteps.{Freezes, FreezesTarget, HasMet, IsHelpShort, IsRebuiltIn, IsTopShort}
-use Rattle.ist_tree.specs.Working.{Rebuilds, RebuildsOn}
+use Rattle.ist_tree.specs.Working.{Rebuilds}
+use Rattle.ist_rows.specs.Going.{StaysReady}
 use Rattle.ist_tree.proofs.FreezingLemmas.{row_was_frozen, was_frozen_on}
-use Rattle.ist_tree.proofs.RebuildLemmas.{rebuilds_more}
 use Rattle.ist_tree.proofs.FreezeGoingLemmas.{rebuild_on}
+use Rattle.ist_rows.proofs.GoneLemmas.{ready_more}
 
 -- what was met as it is
 pub still_frozen : (a c : Caller) (words : ℕ) (frozen : Frozen) → HasMet a c (Still frozen)
@@ -48,20 +49,20 @@ target_frozen a b c words rebuild target outcome m f =
       frozen = was_frozen_on v.start v.words v.log m.is.1.at w.log w.log lawful m.is.1.since same_log
           outcome.frozen
           (row_was_frozen v.start v.words m.is.1.at w.log lawful
-          (goes_on_more m.is.1.until (later_by-goes_on f.on.went.later)) outcome.frozen target
+          (goes_on_more m.is.1.until (later_by-goes_on f.on.gone.went.later)) outcome.frozen target
           m.is.1.child f.root_is
-          (subst (λ t. IsFinishedWith t target outcome.frozen.keys) (went_now Rebuilds v w all.went)
+          (subst (λ t. IsFinishedWith t target outcome.frozen.keys) (went_now Rebuilds v w all.gone.went)
           f.finished));
       done = λ unrefused done.
-          subst (StartsAreDone (now w)) m.on.number
+          subst (StartsAreDone (now w)) m.on.gone.number
           (f.done unrefused
-          (subst (λ n. StartsAreDoneBut (now b.seat.view) n rebuild) (sym m.on.number) (m.done done)));
+          (subst (λ n. StartsAreDoneBut (now b.seat.view) n rebuild) (sym m.on.gone.number) (m.done done)));
       rebuilt = λ row e.
           subst (λ n. IsRebuiltIn (now w) n outcome.refused)
           (one_inner target row (sym (ap ref_meant f.root_is) ∙ e))
           record {
             rebuild = rebuild;
-            of = rebuild_on Rebuilds b.seat.view c.seat.view f.on.went rebuild target m.is.0;
+            of = rebuild_on Rebuilds b.seat.view c.seat.view f.on.gone.went rebuild target m.is.0;
             replaced = f.replaced;
           };
       refused = cause outcome.refused f.refused;
@@ -74,11 +75,11 @@ target_frozen a b c words rebuild target outcome m f =
         record {
           rebuild = rebuild;
           target = target;
-          of = rebuild_on Rebuilds b.seat.view c.seat.view f.on.went rebuild target m.is.0;
+          of = rebuild_on Rebuilds b.seat.view c.seat.view f.on.gone.went rebuild target m.is.0;
           top = record {
             at = m.is.1.at;
             since = m.is.1.since;
-            until = goes_on_more m.is.1.until (later_by-goes_on f.on.went.later);
+            until = goes_on_more m.is.1.until (later_by-goes_on f.on.gone.went.later);
             child = m.is.1.child;
           };
           help = h;
@@ -90,8 +91,8 @@ target_frozen a b c words rebuild target outcome m f =
     w : View
     w = c.seat.view
 
-    all : RebuildsOn a c
-    all = rebuilds_more a b c m.on f.on
+    all : StaysReady Rebuilds a c
+    all = ready_more Rebuilds a b c m.on f.on
 
     lawful : Lawful v.start v.words w.log
-    lawful = went_lawful Rebuilds v w all.went
+    lawful = went_lawful Rebuilds v w all.gone.went

@@ -20,7 +20,8 @@ use Rattle.ist_rows.specs.declared.callers.Caller.{Caller}
 use Rattle.laws_settling.specs.Settling.{DueRowsAreClosed}
 use Rattle.ist_tree.specs.Calls.{HasSeenMore}
 use Rattle.ist_tree.specs.Insides.{HasSettled, IsPass, IsPassWith, face_as, pass_face}
-use Rattle.ist_tree.specs.Working.{IsReady, KeepsDone, Rebuilds, RebuildsOn}
+use Rattle.ist_tree.specs.Working.{KeepsDone, Rebuilds}
+use Rattle.ist_rows.specs.Going.{IsReady, StaysReady}
 use Rattle.ist_tree.proofs.BetweenLemmas.{between_behind}
 use Rattle.ist_tree.proofs.CarryLemmas.{rebuilt_no_entry}
 use Rattle.ist_tree.proofs.EventLemmas.{rebuilds_count_none}
@@ -80,31 +81,31 @@ pub record IsWay (who began new : Caller) (seat : SeatFace) : Type 0 where
   pub began_number : began.number ≡ who.number
   pub begun : Turned who.seat.view (beginning who.seat.view None) began.seat.view
   pub ready : IsReady began
-  pub on : RebuildsOn began new
+  pub on : StaysReady Rebuilds began new
   pub given : Turned new.seat.view (giving_up new.seat.view) seat.view
 
 -- its call may be given up: nothing of it is an entry
 pub may_give_up : (who began new : Caller) → IsSound who.seat.view → IsPass who
     → began.number ≡ who.number
     → Turned who.seat.view (beginning who.seat.view None) began.seat.view → IsReady began
-    → RebuildsOn began new → CanGiveUp new.seat.view
+    → StaysReady Rebuilds began new → CanGiveUp new.seat.view
 may_give_up who began new s p number begun ready on =
     let b = began.seat.view in
     let w = new.seat.view in
     let mine_b = ready.caller.mine in
-    let none = rebuilt_no_entry b w began.number mine_b ready.quiet.resolved on.went in
+    let none = rebuilt_no_entry b w began.number mine_b ready.quiet.resolved on.gone.went in
     let made = subst (λ n. HasMade b.start b.words b.log n b.calls) (sym number)
     (begun_made who began.seat s p begun) in
     record {
       number = new.number;
-      mine = on.ready.caller.mine;
-      pending = on.ready.quiet.pending;
-      in_call = on.ready.quiet.in_call;
-      resolved = on.ready.quiet.resolved;
+      mine = on.gone.caller.mine;
+      pending = on.quiet.pending;
+      in_call = on.quiet.in_call;
+      resolved = on.quiet.resolved;
       none =
-          subst (λ n. HasMade w.start w.words w.log n w.calls) (sym on.number)
+          subst (λ n. HasMade w.start w.words w.log n w.calls) (sym on.gone.number)
           (subst (λ (y : View). HasMade y.start y.words w.log began.number y.calls)
-          (sym on.went.same) (none ∙ made));
+          (sym on.gone.went.same) (none ∙ made));
     }
 
 module _ (who began new : Caller) (seat : SeatFace) (it : IsWay who began new seat) where
@@ -141,11 +142,11 @@ module _ (who began new : Caller) (seat : SeatFace) (it : IsWay who began new se
 
   -- the start pairs are the same after the work
   pub w_start : w.start ≡ v.start
-  w_start = ap (λ (y : View). y.start) it.on.went.same ∙ b_view.start_is
+  w_start = ap (λ (y : View). y.start) it.on.gone.went.same ∙ b_view.start_is
 
   -- the number of words is the same after the work
   pub w_words : w.words ≡ v.words
-  w_words = ap (λ (y : View). y.words) it.on.went.same ∙ b_view.words_is
+  w_words = ap (λ (y : View). y.words) it.on.gone.went.same ∙ b_view.words_is
 
   -- the start pairs are the same after the call
   pub x_start : x.start ≡ v.start
@@ -161,7 +162,7 @@ module _ (who began new : Caller) (seat : SeatFace) (it : IsWay who began new se
 
   -- the log goes on during the work
   pub b_to_w : GoesOn b.log w.log
-  b_to_w = later_by-goes_on it.on.went.later
+  b_to_w = later_by-goes_on it.on.gone.went.later
 
   -- the log goes on while the call ends
   pub w_to_x : GoesOn w.log x.log
@@ -177,7 +178,7 @@ module _ (who began new : Caller) (seat : SeatFace) (it : IsWay who began new se
 
   -- the log after the work is lawful
   pub lawful_w : Lawful v.start v.words w.log
-  lawful_w = by_middle (λ pairs words. Lawful pairs words w.log) it.on.went.sound.lawful
+  lawful_w = by_middle (λ pairs words. Lawful pairs words w.log) it.on.gone.went.sound.lawful
 
   -- the log after the call is lawful
   pub lawful_x : Lawful v.start v.words x.log
@@ -185,14 +186,14 @@ module _ (who began new : Caller) (seat : SeatFace) (it : IsWay who began new se
 
   -- the caller keeps its number
   pub number_is : new.number ≡ who.number
-  number_is = it.on.number ∙ it.began_number
+  number_is = it.on.gone.number ∙ it.began_number
 
   -- ---- the pass after it
 
   -- the caller is a pass again
   pub ended_pass : IsPass (record new { seat = seat })
   ended_pass =
-      let c = caller_on new seat it.on.ready.caller it.on.ready.refused x_view in
+      let c = caller_on new seat it.on.gone.caller it.on.gone.refused x_view in
       record {
         caller = c.caller;
         refused = c.refused;
@@ -210,14 +211,14 @@ module _ (who began new : Caller) (seat : SeatFace) (it : IsWay who began new se
       subst (λ n. HasSettled b.start b.words b.log n) (sym it.began_number)
       (subst (λ pairs. HasSettled pairs b.words b.log who.number) (sym b_view.start_is)
       (subst (λ words. HasSettled v.start words b.log who.number) (sym b_view.words_is) first)) in
-      subst (λ n. HasSettled w.start w.words w.log n) (sym it.on.number)
+      subst (λ n. HasSettled w.start w.words w.log n) (sym it.on.gone.number)
       record {
-        resolved = subst (IsResolved w) it.on.number it.on.ready.quiet.resolved;
+        resolved = subst (IsResolved w) it.on.gone.number it.on.quiet.resolved;
         starts = done at_b.starts;
         due =
             subst (λ (y : View). DueRowsAreClosed (start y.start y.words) w.log began.number)
-            (sym it.on.went.same)
-            (due_went Rebuilds began.number b w it.ready.caller.mine it.on.went
+            (sym it.on.gone.went.same)
+            (due_went Rebuilds began.number b w it.ready.caller.mine it.on.gone.went
             (rebuilds_count_none began.number) at_b.due);
       }
 
@@ -231,7 +232,7 @@ module _ (who began new : Caller) (seat : SeatFace) (it : IsWay who began new se
             subst (λ pairs. HasSettled pairs x.words x.log new.number) (sym x_view.start_is)
             (subst (λ words. HasSettled w.start words x.log new.number) (sym x_view.words_is)
             (settled_later w.start w.words w.log x.log (lawful_behind w x x_view) new.number
-            (subst (λ y. Later y w.log x.log) it.on.ready.caller.mine it.given.later)
+            (subst (λ y. Later y w.log x.log) it.on.gone.caller.mine it.given.later)
             (settled_w (done unrefused) (all.settled (old unrefused)))));
       }
 
@@ -240,7 +241,7 @@ module _ (who began new : Caller) (seat : SeatFace) (it : IsWay who began new se
       → HasSeenMore (pass_face who r) (face_as seat new.number q)
   has_seen_more r q same =
       let stamps = ap (λ (y : View). y.stamp) it.given.view
-      ∙ ap (λ (y : View). y.stamp) it.on.went.same ∙ ap (λ (y : View). y.stamp) it.begun.view in
+      ∙ ap (λ (y : View). y.stamp) it.on.gone.went.same ∙ ap (λ (y : View). y.stamp) it.begun.view in
       record {
         tree = trees same;
         number = number_is;
@@ -257,5 +258,5 @@ module _ (who began new : Caller) (seat : SeatFace) (it : IsWay who began new se
   -- with the same calls
   pub calls_are : x.calls ≡ v.calls
   calls_are =
-      ap (λ (y : View). y.calls) it.given.view ∙ ap (λ (y : View). y.calls) it.on.went.same
+      ap (λ (y : View). y.calls) it.given.view ∙ ap (λ (y : View). y.calls) it.on.gone.went.same
       ∙ ap (λ (y : View). y.calls) it.begun.view

@@ -132,7 +132,7 @@ module _ (who began new : Caller) (seat : SeatFace) (it : IsWay who began new se
       (subst (StartsNone (now b) (now w)) it.began_number none)
       (subst (StartsNone (now w) (now x)) (way.number_is who began new seat it)
       (starts_none_later w x (way.x_view who began new seat it) new.number
-      it.on.ready.caller.mine it.on.ready.quiet.resolved)))
+      it.on.gone.caller.mine it.on.quiet.resolved)))
 
   -- what helping a rebuild took
   asked_for_rebuild : (r q : Option Full) (rebuild asked : ℕ) → IsAskedFor (now w) rebuild asked

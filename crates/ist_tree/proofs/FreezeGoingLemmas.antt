@@ -31,14 +31,16 @@ use Rattle.ist_tree.specs.declared.freezing.Site.{Site}
 use Rattle.ist_tree.specs.declared.freezing.Site.TheVariants.{Rebuilt, Still}
 use Rattle.ist_tree.specs.Freezing.{HeldInnerRow, WasFrozen}
 use Rattle.ist_tree.specs.FreezeSteps.{GoesIdle, HasMet, IsBelowAnchor, IsRebuildOf, IsSite, IsStopped, KeepsDoneBut, MayHaveMet, WasTop, rebuild_in}
-use Rattle.ist_tree.specs.Working.{IsReady, KeepsDone, Rebuilds, RebuildsOn}
+use Rattle.ist_tree.specs.Working.{KeepsDone, Rebuilds}
+use Rattle.ist_rows.specs.Going.{IsReady, StaysReady}
 use Rattle.ist_tree.proofs.AskedLemmas.{held_on}
 use Rattle.ist_tree.proofs.DueLemmas.{done_more}
 use Rattle.ist_tree.proofs.FreezingLemmas.{was_frozen_on}
 use Rattle.ist_tree.proofs.EventLemmas.{IsPlainHelp, none_starts_none}
-use Rattle.ist_tree.proofs.RebuildLemmas.{plain_done, plain_on, rebuilds_more, rebuilds_same}
+use Rattle.ist_tree.proofs.RebuildLemmas.{plain_done, plain_on}
 use Rattle.ist_tree.proofs.ShortLemmas.{short_now}
 use Rattle.ist_tree.proofs.StartLemmas.{starts_none_more, starts_none_went}
+use Rattle.ist_rows.proofs.GoneLemmas.{ready_more, ready_same}
 
 -- ---- one table
 
@@ -91,7 +93,7 @@ all_but a c rebuild done =
 pub idle_same : (who : Caller) → IsSound who.seat.view → IsReady who → GoesIdle who who
 idle_same who s r =
     record {
-      on = rebuilds_same who s r;
+      on = ready_same Rebuilds who s r;
       done = λ done. done;
       none = λ base change e own kind said. e;
     }
@@ -100,11 +102,11 @@ idle_same who s r =
 pub idle_more : (a b c : Caller) → GoesIdle a b → GoesIdle b c → GoesIdle a c
 idle_more a b c one two =
     record {
-      on = rebuilds_more a b c one.on two.on;
-      done = done_more a b c one.on.number one.done two.done;
+      on = ready_more Rebuilds a b c one.on two.on;
+      done = done_more a b c one.on.gone.number one.done two.done;
       none =
           starts_none_more (now a.seat.view) (now b.seat.view) (now c.seat.view) a.number one.none
-          (subst (StartsNone (now b.seat.view) (now c.seat.view)) one.on.number two.none);
+          (subst (StartsNone (now b.seat.view) (now c.seat.view)) one.on.gone.number two.none);
     }
 
 -- steps that install nothing are such
@@ -122,7 +124,7 @@ plain_idle P all who seat r went =
     }
 
 -- a start that started none is idle
-pub begins_idle : (old new : Caller) → RebuildsOn old new → KeepsDone old new
+pub begins_idle : (old new : Caller) → StaysReady Rebuilds old new → KeepsDone old new
     → StartsNone (now old.seat.view) (now new.seat.view) old.number → GoesIdle old new
 begins_idle old new on done none = record { on = on; done = done; none = none }
 
@@ -142,23 +144,23 @@ marked_unstarted v w number answer is left =
 -- ---- what was met, over further steps
 
 -- what is met after further steps is met from the beginning
-pub met_more : (a b c : Caller) (site : Site) → RebuildsOn a b → KeepsDone a b → HasMet b c site
+pub met_more : (a b c : Caller) (site : Site) → StaysReady Rebuilds a b → KeepsDone a b → HasMet b c site
     → HasMet a c site
 met_more a b c site on done m =
     record {
-      on = rebuilds_more a b c on m.on;
+      on = ready_more Rebuilds a b c on m.on;
       is = here site m.is;
-      done = but_more a b c (rebuild_in site) on.number done m.done;
+      done = but_more a b c (rebuild_in site) on.gone.number done m.done;
     }
   where
     lawful : Lawful b.seat.view.start b.seat.view.words c.seat.view.log
-    lawful = went_lawful Rebuilds b.seat.view c.seat.view m.on.went
+    lawful = went_lawful Rebuilds b.seat.view c.seat.view m.on.gone.went
 
     here : (s : Site) → IsSite b.seat.view c.seat.view s → IsSite a.seat.view c.seat.view s
     here (Still frozen) w =
-        (frozen_more Rebuilds a.seat.view b.seat.view c.seat.view.log on.went frozen lawful w.0, w.1)
+        (frozen_more Rebuilds a.seat.view b.seat.view c.seat.view.log on.gone.went frozen lawful w.0, w.1)
     here (Rebuilt rebuild target) w =
-        (w.0, top_more Rebuilds a.seat.view b.seat.view c.seat.view.log on.went target w.1)
+        (w.0, top_more Rebuilds a.seat.view b.seat.view c.seat.view.log on.gone.went target w.1)
 
 -- what may be met after idle steps may be met from the beginning
 pub may_have_met_more : (a b c : Caller) (o : Option Site) → GoesIdle a b → MayHaveMet b c o
@@ -176,10 +178,10 @@ stopped_more a b c words full g s =
       idle = idle_more a b c g s.idle;
       short = s.short;
       asked = s.asked;
-      held = by_table Rebuilds a.seat.view b.seat.view g.on.went
+      held = by_table Rebuilds a.seat.view b.seat.view g.on.gone.went
           (λ pairs words. HeldInnerRow pairs words a.seat.view.log c.seat.view.log)
           (held_on b.seat.view.start b.seat.view.words a.seat.view.log b.seat.view.log
-          c.seat.view.log c.seat.view.log (later_by-goes_on g.on.went.later) same_log s.held);
+          c.seat.view.log c.seat.view.log (later_by-goes_on g.on.gone.went.later) same_log s.held);
     }
 
 -- a start was refused
@@ -192,7 +194,7 @@ start_stopped old new words full g held r =
       short = short_now Begins old.seat.view words full new.seat.view r.short;
       asked = r.asked;
       held = held_on old.seat.view.start old.seat.view.words old.seat.view.log old.seat.view.log
-          old.seat.view.log new.seat.view.log same_log (later_by-goes_on g.on.went.later) held;
+          old.seat.view.log new.seat.view.log same_log (later_by-goes_on g.on.gone.went.later) held;
     }
 
 -- ---- a rebuild

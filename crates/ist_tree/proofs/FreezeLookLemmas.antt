@@ -34,7 +34,7 @@ use Rattle.ist_tree.specs.declared.freezing.Frozen.{Frozen}
 use Rattle.ist_tree.specs.declared.freezing.Site.TheVariants.{Rebuilt, Still}
 use Rattle.ist_tree.specs.Freezing.{HeldInnerRow, IsStill, WasFrozen, all_keys, no_key, one_key}
 use Rattle.ist_tree.specs.FreezeSteps.{GoesIdle, HasBegun, HasMet, HasNoRow, IsBelowAnchor, WasTop}
-use Rattle.ist_tree.specs.Working.{IsReady}
+use Rattle.ist_rows.specs.Going.{IsReady}
 use Rattle.ist_tree.proofs.CameLemmas.{ever_here}
 use Rattle.ist_tree.proofs.FreezeGoingLemmas.{all_but, below_grows, frozen_more, plain_idle}
 use Rattle.ist_tree.proofs.FreezingLemmas.{top_was_frozen}
@@ -212,7 +212,7 @@ begun_met old new target rebuild top b =
         record {
           at = top.at;
           since = top.since;
-          until = goes_on_more top.until (later_by-goes_on b.0.went.later);
+          until = goes_on_more top.until (later_by-goes_on b.0.gone.went.later);
           child = top.child;
         },
       );

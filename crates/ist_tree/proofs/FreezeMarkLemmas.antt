@@ -15,7 +15,8 @@ use Rattle.ist_rebuild.specs.declared.answers.Helped.{Helped}
 use Rattle.ist_rebuild.specs.declared.answers.Helped.TheVariants.{ParentMarked, Replaced}
 use Rattle.ist_rebuild.specs.Going.{Serves}
 use Rattle.ist_rebuild.specs.Helping.{IsHelpRefused, IsLeftToParent}
-use Rattle.ist_rebuild.proofs.EventLemmas.{keeping_installs_none, marks_serve}
+use Rattle.ist_rows.proofs.GoneLemmas.{keeping_installs_none, ready_more}
+use Rattle.ist_rebuild.proofs.EventLemmas.{marks_serve}
 use Rattle.ist_rule.specs.declared.view.View.{View}
 use Rattle.ist_rule.specs.Faces.{SeatFace}
 use Rattle.ist_rule.specs.Going.{WentOn}
@@ -23,14 +24,15 @@ use Rattle.ist_rule.specs.Learning.{now}
 use Rattle.ist_rule.proofs.WentOnLemmas.{went_all, went_grow, went_more}
 use Rattle.ist_rows.specs.declared.callers.Caller.{Caller}
 use Rattle.ist_tree.specs.FreezeSteps.{FreezesTarget, IsBelowAnchor, IsHelpShort, IsRebuildOf}
-use Rattle.ist_tree.specs.Working.{IsReady, RebuildsOn}
+use Rattle.ist_rows.specs.Going.{IsReady, StaysReady}
 use Rattle.ist_tree.proofs.DueLemmas.{helped_either}
 use Rattle.ist_tree.proofs.FreezeGoingLemmas.{below_grows}
 use Rattle.ist_tree.proofs.EventLemmas.{IsPlainHelp, serves_rebuild}
-use Rattle.ist_tree.proofs.RebuildLemmas.{plain_on, rebuilds_more}
+use Rattle.ist_tree.proofs.RebuildLemmas.{plain_on}
 use Rattle.ist_tree.proofs.ShortLemmas.{short_now}
 use Rattle.ist_tree.proofs.ShutLemmas.{all_done}
 use Rattle.ist_layout.specs.declared.references.Ref.TheVariants as layout
+use Rattle.ist_tree.specs.Working.{Rebuilds}
 
 -- a step of marking installs nothing and leaves all rows
 pub marks_plain : (v : View) (node : ℕ) (event : Event) → Marks v node event → IsPlainHelp event
@@ -55,7 +57,7 @@ target_may_mark who rebuild target ready r =
 -- a caller that marked it goes on
 pub marked : (old : Caller) (seat : SeatFace) (target : ℕ) → IsReady old
     → WentOn (Marks seat.view target) old.seat.view seat.view
-    → RebuildsOn old (record old { seat = seat })
+    → StaysReady Rebuilds old (record old { seat = seat })
 marked old seat target ready went =
     plain_on (Marks seat.view target) (marks_plain seat.view target) old seat ready went
 
@@ -63,7 +65,7 @@ marked old seat target ready went =
 pub target_froze : (old : Caller) (seat : SeatFace) (new : Caller) (words rebuild target keys : ℕ)
     → IsReady old → IsBelowAnchor (now old.seat.view) rebuild
     → WentOn (Marks seat.view target) old.seat.view seat.view
-    → IsFinishedWith (now seat.view) target keys → RebuildsOn (record old { seat = seat }) new
+    → IsFinishedWith (now seat.view) target keys → StaysReady Rebuilds (record old { seat = seat }) new
     → WentOn Serves seat.view new.seat.view → (answer : Result Helped Full)
     → (refused : Option Full) → refused ≡ result_err answer
     → (answer ≡ Ok Replaced → IsReplaced (now new.seat.view) rebuild)
@@ -74,7 +76,7 @@ pub target_froze : (old : Caller) (seat : SeatFace) (new : Caller) (words rebuil
 target_froze old seat new words rebuild target keys ready below went f on serves answer refused is replaced
     left full =
     record {
-      on = rebuilds_more old (record old { seat = seat }) new (marked old seat target ready went) on;
+      on = ready_more Rebuilds old (record old { seat = seat }) new (marked old seat target ready went) on;
       root_is = refl;
       finished = finished_with_grows (now seat.view) (now new.seat.view)
           (went_grow Serves seat.view new.seat.view serves) target keys f;

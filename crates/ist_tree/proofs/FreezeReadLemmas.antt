@@ -36,7 +36,7 @@ use Rattle.ist_tree.specs.Freezing.{IsFrozenFor, IsPairAt, IsStill, all_keys, no
 use Rattle.ist_tree.specs.FreezeSteps.{IsLeafNumber, IsPairOf}
 use Rattle.ist_tree.specs.Insides.{IsPassWith, face_as, pass_face}
 use Rattle.ist_tree.proofs.FreezingLemmas.{pairs_rise, still_leaves, still_stays}
-use Rattle.ist_tree.proofs.GoingLemmas.{IsLaterView, pass_with_later}
+use Rattle.ist_tree.proofs.GoingLemmas.{IsLaterView, goes_later, pass_with_later}
 
 -- ---- the leaf
 
@@ -195,14 +195,7 @@ read_ends who refused seat all g table frozen old view =
     w = seat.view
 
     later : IsLaterView v w
-    later =
-        record {
-          who_is = ap (λ (y : View). y.who) g.same;
-          start_is = ap (λ (y : View). y.start) g.same;
-          words_is = ap (λ (y : View). y.words) g.same;
-          later = g.later;
-          sound = g.sound;
-        }
+    later = goes_later v w g
 
     from : IsFrozenFor (pass_face who refused) frozen
         → ReadEnds (pass_face who refused) who refused seat frozen

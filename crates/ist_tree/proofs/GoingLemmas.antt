@@ -9,7 +9,7 @@ use Rattle.ist_core.specs.declared.events.Who.TheVariants.{Caller as CallerOf}
 use Rattle.ist_core.specs.Authors.{Later}
 use Rattle.ist_rule.specs.Faces.{SeatFace}
 use Rattle.ist_rule.specs.Rule.{IsSound}
-use Rattle.ist_rule.specs.Learning.{now}
+use Rattle.ist_rule.specs.Learning.{now, GoesOnTo}
 use Rattle.ist_rows.specs.declared.callers.Caller.{Caller}
 use Rattle.ist_rows.specs.Rows.{spares_of, is_spare, IsCaller}
 use Rattle.ist_rows.specs.Building.{AreStuck, HasRefused}
@@ -27,6 +27,17 @@ pub record IsLaterView (v w : View) : Type 0 where
   pub words_is : w.words ≡ v.words
   pub later : Later v.who v.log w.log
   pub sound : IsSound w
+
+-- it is one once the seat made loads
+pub goes_later : (v w : View) → GoesOnTo v w → IsLaterView v w
+goes_later v w g =
+    record {
+      who_is = ap (λ (y : View). y.who) g.same;
+      start_is = ap (λ (y : View). y.start) g.same;
+      words_is = ap (λ (y : View). y.words) g.same;
+      later = g.later;
+      sound = g.sound;
+    }
 
 -- its log is lawful by the table of the first
 pub lawful_behind : (v w : View) → IsLaterView v w → Lawful v.start v.words w.log

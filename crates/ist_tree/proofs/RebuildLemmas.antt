@@ -1,5 +1,5 @@
 -- A caller that starts and helps rebuilds, over steps. Serves `rebuild_due` and `freeze`.
-use Rattle.std.proofs.Common.{◌≡◌, ◌≢◌, ℕ, ◌≤◌, ◌⊎◌, refl, sym, ap, ◌∙◌, subst, inl, inr, ⊎_elim}
+use Rattle.std.proofs.Common.{◌≡◌, ◌≢◌, ℕ, ◌≤◌, ◌⊎◌, sym, ap, subst, inl, inr, ⊎_elim}
 use Rattle.ist_core.specs.declared.events.Event.{Event}
 use Rattle.ist_core.specs.declared.states.InnerRow.{InnerRow}
 use Rattle.ist_core.specs.Arithmetic.{limit}
@@ -21,43 +21,15 @@ use Rattle.ist_core.specs.Authors.{whose, LaterBy}
 use Rattle.ist_rule.specs.Conditions.{IsResolved}
 use Rattle.ist_rule.specs.Going.{WentOn}
 use Rattle.ist_rule.specs.Learning.{now}
-use Rattle.ist_rule.specs.Rule.{IsSound}
 use Rattle.ist_rule.proofs.LaterLemmas.{goes_on_more}
-use Rattle.ist_rule.proofs.WentOnLemmas.{later_by-goes_on, went_all, went_grow, went_lawful, went_more, went_now, went_same}
+use Rattle.ist_rule.proofs.WentOnLemmas.{later_by-goes_on, went_grow, went_lawful, went_now}
 use Rattle.ist_rule.specs.Faces.{SeatFace}
 use Rattle.ist_rows.specs.declared.callers.Caller.{Caller}
-use Rattle.ist_rows.specs.CallerLaws.{KeepsRows, InstallsNone}
-use Rattle.ist_rows.proofs.CallerLawLemmas.{caller_went, refused_went, resolved_went}
 use Rattle.ist_rebuild.specs.Starting.{MayStart}
-use Rattle.ist_tree.specs.Working.{IsReady, Rebuilds, RebuildsOn, KeepsDone}
+use Rattle.ist_tree.specs.Working.{Rebuilds, KeepsDone}
+use Rattle.ist_rows.specs.Going.{IsReady, StaysReady}
 use Rattle.ist_tree.proofs.EventLemmas.{IsPlainHelp, none_starts_none}
-
--- ---- going on
-
--- a ready caller goes on to itself
-pub rebuilds_same : (who : Caller) → IsSound who.seat.view → IsReady who → RebuildsOn who who
-rebuilds_same who s r =
-    record { ready = r; number = refl; went = went_same Rebuilds who.seat.view s }
-
--- two parts of rebuilding, one after the other, are one
-pub rebuilds_more : (a b c : Caller) → RebuildsOn a b → RebuildsOn b c → RebuildsOn a c
-rebuilds_more a b c one two =
-    record {
-      ready = two.ready;
-      number = two.number ∙ one.number;
-      went = went_more Rebuilds a.seat.view b.seat.view c.seat.view one.went two.went;
-    }
-
--- by steps of which each is one of rebuilding
-pub rebuilds_by : (P : Event → Type 0) → ((event : Event) → P event → Rebuilds event)
-    → (old new : Caller) → WentOn P old.seat.view new.seat.view → IsReady new
-    → new.number ≡ old.number → RebuildsOn old new
-rebuilds_by P all old new w r number =
-    record {
-      ready = r;
-      number = number;
-      went = went_all P Rebuilds all old.seat.view new.seat.view w;
-    }
+use Rattle.ist_rows.proofs.GoneLemmas.{kept_ready, ready_all}
 
 -- ---- starts and due rows along a view that went on
 
@@ -126,25 +98,10 @@ may_start_went P v w went parent index target m =
 module _ (P : Event → Type 0) (all : (event : Event) → P event → IsPlainHelp event) (who : Caller)
     (seat : SeatFace) (r : IsReady who) (went : WentOn P who.seat.view seat.view) where
   -- the caller goes on
-  pub plain_on : RebuildsOn who (record who { seat = seat })
+  pub plain_on : StaysReady Rebuilds who (record who { seat = seat })
   plain_on =
-      let v = who.seat.view in
-      let keeps = went_all P KeepsRows (λ event p. (all event p).keeps) v seat.view went in
-      record {
-        ready = record {
-          caller = caller_went who seat r.caller keeps;
-          refused = refused_went who seat r.caller r.refused keeps;
-          quiet = record {
-            pending = r.quiet.pending;
-            in_call = ap (λ (x : View). x.pending) went.same ∙ r.quiet.in_call;
-            resolved =
-                resolved_went v seat.view who.number r.caller.mine r.quiet.resolved
-                (went_all P InstallsNone (λ event p. (all event p).installs) v seat.view went);
-          };
-        };
-        number = refl;
-        went = went_all P Rebuilds (λ event p. (all event p).rebuilds) v seat.view went;
-      }
+      ready_all P Rebuilds (λ event p. (all event p).rebuilds) who (record who { seat = seat })
+      (kept_ready P (λ event p. (all event p).keeps) who seat r went)
 
   -- and its starts stay done
   pub plain_done : KeepsDone who (record who { seat = seat })

@@ -19,7 +19,7 @@ use Rattle.ist_tree.specs.Freezing.{HasStartedNone}
 use Rattle.ist_tree.specs.Insides.{IsPassWith, face_as, pass_face}
 use Rattle.ist_tree.specs.Room.{HasLeft, HasMadeNone}
 use Rattle.ist_tree.proofs.BetweenLemmas.{between_calls}
-use Rattle.ist_tree.proofs.GoingLemmas.{IsLaterView, pass_with_later}
+use Rattle.ist_tree.proofs.GoingLemmas.{IsLaterView, goes_later, pass_with_later}
 use Rattle.ist_tree.proofs.StartLemmas.{starts_none_later}
 
 -- the first free word that was loaded isn't beyond the table
@@ -57,15 +57,7 @@ room_ends who refused seat all sound next left l table sum old view =
     w = seat.view
 
     later : IsLaterView v w
-    later =
-        let g = looked_goes_on v next_place next w l in
-        record {
-          who_is = ap (λ (y : View). y.who) g.same;
-          start_is = ap (λ (y : View). y.start) g.same;
-          words_is = ap (λ (y : View). y.words) g.same;
-          later = g.later;
-          sound = g.sound;
-        }
+    later = goes_later v w (looked_goes_on v next_place next w l)
 
     from : RoomEnds (pass_face who refused) who refused seat left
     from =

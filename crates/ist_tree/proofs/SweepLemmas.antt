@@ -1,5 +1,5 @@
 -- A pass whose seat swept a range of keys, in no call of its own. Serves `sweeping`.
-use Rattle.std.proofs.Common.{◌≡◌, ℕ, ◌+◌, List, Option, Result, Ok, Err, refl, sym, ap, ap₂, ◌∙◌, subst, arith}
+use Rattle.std.proofs.Common.{◌≡◌, ℕ, ◌+◌, List, Option, Result, Ok, Err, refl, ap, ap₂, ◌∙◌, subst, arith}
 use Rattle.std.specs.Prelude.{OnOk}
 use Rattle.ist_core.specs.declared.pairs.Pair.{Pair}
 use Rattle.ist_core.specs.declared.ports.Full.{Full}
@@ -14,7 +14,7 @@ use Rattle.ist_tree.specs.Calls.{HasSeenMore}
 use Rattle.ist_tree.specs.Faces.{PassFace}
 use Rattle.ist_tree.specs.Insides.{IsPassWith, face_as, pass_face}
 use Rattle.ist_tree.specs.Sweeps.{HasSweptOver}
-use Rattle.ist_tree.proofs.GoingLemmas.{IsLaterView, pass_with_later}
+use Rattle.ist_tree.proofs.GoingLemmas.{IsLaterView, goes_later, pass_with_later}
 
 -- what it results in, for a pass with this face
 pub record SweepEnds {A E : Type 0} (old : PassFace) (who : Caller) (refused : Option Full)
@@ -42,14 +42,7 @@ sweep_ends {A} {E} who refused seat all g table first last before after r swept 
     w = seat.view
 
     later : IsLaterView v w
-    later =
-        record {
-          who_is = ap (λ (y : View). y.who) g.same;
-          start_is = ap (λ (y : View). y.start) g.same;
-          words_is = ap (λ (y : View). y.words) g.same;
-          later = g.later;
-          sound = g.sound;
-        }
+    later = goes_later v w g
 
     over : (s : Result A E) → OnOk s (SweptBetween v w first last before after)
         → OnOk s (HasSweptOver (pass_face who refused) (face_as seat who.number refused) first last

@@ -28,7 +28,8 @@ use Rattle.ist_tree.specs.declared.freezing.Outcome.{Outcome}
 use Rattle.ist_tree.specs.declared.freezing.Site.{Site}
 use Rattle.ist_tree.specs.declared.freezing.Site.TheVariants.{Still, Rebuilt}
 use Rattle.ist_tree.specs.Freezing.{HeldInnerRow, WasFrozen}
-use Rattle.ist_tree.specs.Working.{IsShort, KeepsDone, RebuildsOn}
+use Rattle.ist_tree.specs.Working.{Rebuilds, IsShort, KeepsDone}
+use Rattle.ist_rows.specs.Going.{StaysReady}
 
 -- ---- what is below the anchor
 
@@ -69,7 +70,7 @@ KeepsDoneBut old new (Some rebuild) = StartsAreDone (now old.seat.view) old.numb
 
 -- the caller went on by steps of rebuilding, kept its starts done, and started no rebuild
 pub record GoesIdle (old new : Caller) : Type 0 where
-  pub on : RebuildsOn old new
+  pub on : StaysReady Rebuilds old new
   pub done : KeepsDone old new
   pub none : StartsNone (now old.seat.view) (now new.seat.view) old.number
 
@@ -80,7 +81,7 @@ rebuild_in (Rebuilt rebuild target) = Some rebuild
 
 -- the caller has met this below the anchor
 pub record HasMet (old new : Caller) (site : Site) : Type 0 where
-  pub on : RebuildsOn old new
+  pub on : StaysReady Rebuilds old new
   pub is : IsSite old.seat.view new.seat.view site
   pub done : KeepsDoneBut old new (rebuild_in site)
 
@@ -91,7 +92,7 @@ MayHaveMet old new None = GoesIdle old new
 
 -- the caller has started this rebuild of the target, or none
 abbrev pub HasBegun : Caller → Caller → ℕ → Option ℕ → Type 0
-HasBegun old new target (Some rebuild) = RebuildsOn old new
+HasBegun old new target (Some rebuild) = StaysReady Rebuilds old new
     × IsRebuildOf (now new.seat.view) rebuild target × KeepsDoneBut old new (Some rebuild)
 HasBegun old new target None = GoesIdle old new
 
@@ -121,7 +122,7 @@ pub record IsTopShort (v w : View) (words : ℕ) (full : Full) : Type 0 where
 -- the caller has finished the target; if it wasn't refused, the rebuild is done too
 pub record FreezesTarget (old new : Caller) (words rebuild target : ℕ) (outcome : Outcome)
     : Type 0 where
-  pub on : RebuildsOn old new
+  pub on : StaysReady Rebuilds old new
   pub root_is : outcome.frozen.root ≡ Inner target
   pub finished : IsFinishedWith (now new.seat.view) target outcome.frozen.keys
   pub done : outcome.refused ≡ None → StartsAreDoneBut (now old.seat.view) old.number rebuild
@@ -137,7 +138,7 @@ pub record IsRebuiltIn (t : Snapshot) (row : ℕ) (refused : Option Full) : Type
 
 -- the caller has frozen the tree; if it wasn't refused, all that it started is done
 pub record Freezes (old new : Caller) (words : ℕ) (outcome : Outcome) : Type 0 where
-  pub on : RebuildsOn old new
+  pub on : StaysReady Rebuilds old new
   pub frozen : let v = old.seat.view in
       WasFrozen v.start v.words v.log new.seat.view.log outcome.frozen
   pub done : outcome.refused ≡ None → KeepsDone old new

@@ -21,14 +21,14 @@ use Rattle.ist_core.specs.StartLayout.{start}
 use Rattle.ist_core.specs.Writing.{first_change}
 use Rattle.ist_rule.specs.declared.view.View.{View}
 use Rattle.ist_rule.specs.Conditions.{CanGiveUp}
-use Rattle.ist_rule.specs.Going.{SearchedOn, WentOn}
+use Rattle.ist_rule.specs.Going.{SearchedOn}
 use Rattle.ist_rule.specs.Learning.{now}
 use Rattle.ist_rows.specs.declared.callers.Caller.{Caller}
 use Rattle.ist_rows.specs.Building.{HasRefused}
 use Rattle.ist_rows.specs.Rows.{IsCaller}
 use Rattle.laws_settling.specs.Settling.{StartsAreDone, DueRowsAreClosed}
 use Rattle.ist_build.specs.Calls.{IsBuildable}
-use Rattle.ist_rebuild.specs.Going.{IsQuiet}
+use Rattle.ist_rows.specs.Going.{IsReady}
 use Rattle.ist_rebuild.specs.Helping.{IsAskedFor}
 use Rattle.ist_updates.specs.Asking.{MayEnd}
 use Rattle.ist_updates.specs.Counting.{CountedNowhere, IsCounted, CameToLimit, LeavesDue}
@@ -38,14 +38,7 @@ use Rattle.ist_tree.specs.declared.rebuilding.Instead.{Instead}
 use Rattle.ist_tree.specs.declared.rebuilding.Instead.TheVariants.{Rebuild, Change, Other}
 use Rattle.ist_tree.specs.DueRows.{InstallsDue}
 
--- ---- a caller in its call
-
--- the caller is in a call in which each change that it installed is resolved, and each build that
--- it holds rows of was refused
-pub record IsReady (who : Caller) : Type 0 where
-  pub caller : IsCaller who
-  pub refused : HasRefused who
-  pub quiet : IsQuiet who
+-- ---- how a caller goes on
 
 -- the event is a step of starting or helping a rebuild: no Enter, no Count, and no put or remove is
 -- installed
@@ -60,12 +53,6 @@ Rebuilds _ = Unit {0}
 abbrev pub Works : Event → Type 0
 Works (Enter caller) = ⊥
 Works _ = Unit {0}
-
--- the caller went on by steps of rebuilding
-pub record RebuildsOn (old new : Caller) : Type 0 where
-  pub ready : IsReady new
-  pub number : new.number ≡ old.number
-  pub went : WentOn Rebuilds old.seat.view new.seat.view
 
 -- if all starts of the caller were done, they still are
 abbrev pub KeepsDone : Caller → Caller → Type 0

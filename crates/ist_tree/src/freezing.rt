@@ -21,7 +21,7 @@ ghost use Rattle.ist_tree.specs.Freezing.{IsStill, IsFrozenFor, HasFrozen, IsPai
 ghost use Rattle.ist_tree.specs.Freezing.{HasStartedNone, HeldInnerRow, IsFreezeRefused, IsFrozenPair, LeavesRebuilt};
 ghost use Rattle.ist_tree.specs.Insides.{IsPass};
 ghost use Rattle.ist_tree.specs.Refusals.{HasStartsDone, KeepsRefusal};
-ghost use Rattle.ist_tree.specs.Working.{IsReady};
+ghost use Rattle.ist_rows.specs.Going.{IsReady};
 
 use crate::passes::Pass;
 use crate::trees::Tree;

@@ -7,7 +7,8 @@ ghost use Rattle.ist_rule.specs.Learning.{now};
 ghost use Rattle.laws_coming.specs.Further.{CameFurther};
 ghost use Rattle.ist_rebuild.specs.Going.{StartsAt};
 ghost use Rattle.ist_rebuild.specs.Starting.{MayStart, StoodInstead};
-ghost use Rattle.ist_tree.specs.Working.{IsReady, RebuildsOn, KeepsDone, IsShut, IsLastFor, IsHelpedWord, IsDueRefused, instead_of};
+ghost use Rattle.ist_tree.specs.Working.{Rebuilds, KeepsDone, IsShut, IsLastFor, IsHelpedWord, IsDueRefused, instead_of};
+ghost use Rattle.ist_rows.specs.Going.{IsReady, StaysReady};
 
 use ist_core::Full;
 use ist_dcss::{help, is_open};
@@ -49,7 +50,7 @@ fn help_other(table: &TreeTable, who: &mut Caller, due: Due, word: u64) -> Resul
     requires ready { IsReady who.old }
     requires stood { StoodInstead who.old.seat.view due.parent due.index due.target word }
     ensures same_table { who.new.seat.table ≡ table.now.table }
-    ensures on { RebuildsOn who.old who.new }
+    ensures on { StaysReady Rebuilds who.old who.new }
     ensures aims { WentOn (StartsAt due.target) who.old.seat.view who.new.seat.view }
     ensures done { OnOk result (KeepsDone who.old who.new) }
     ensures settled { OnOk result (IsHelpedWord who.new.seat.view word) }
@@ -78,7 +79,7 @@ fn try_due(table: &TreeTable, who: &mut Caller, due: Due) -> Result<bool, Full>
     requires ready { IsReady who.old }
     requires may_start { MayStart who.old.seat.view due.parent due.index due.target }
     ensures same_table { who.new.seat.table ≡ table.now.table }
-    ensures on { RebuildsOn who.old who.new }
+    ensures on { StaysReady Rebuilds who.old who.new }
     ensures aims { WentOn (StartsAt due.target) who.old.seat.view who.new.seat.view }
     ensures last { IfOk result (λ last.
         IsLastFor last (now who.new.seat.view) due.parent due.target) }
@@ -108,7 +109,7 @@ pub(crate) fn rebuild_due(table: &TreeTable, who: &mut Caller, due: Due) -> Resu
     requires ready { IsReady who.old }
     requires may_start { MayStart who.old.seat.view due.parent due.index due.target }
     ensures same_table { who.new.seat.table ≡ table.now.table }
-    ensures on { RebuildsOn who.old who.new }
+    ensures on { StaysReady Rebuilds who.old who.new }
     ensures aims { WentOn (StartsAt due.target) who.old.seat.view who.new.seat.view }
     ensures shut { OnOk result (IsShut (now who.new.seat.view) due.parent due.target) }
     ensures done { OnOk result (KeepsDone who.old who.new) }

@@ -19,7 +19,7 @@ use Rattle.ist_rule.proofs.WentOnLemmas.{went_all, went_now, went_lawful, went_m
 use Rattle.laws_walks.proofs.WalkLemmas.{met_chain}
 use Rattle.ist_rows.specs.declared.callers.Caller.{Caller}
 use Rattle.ist_rows.specs.Rows.{IsCaller}
-use Rattle.ist_rebuild.specs.Going.{IsQuiet}
+use Rattle.ist_rows.specs.Going.{IsQuiet}
 use Rattle.ist_find.specs.Searches.{HasCome}
 use Rattle.ist_find.proofs.SearchLemmas.{begun_comes}
 use Rattle.ist_updates.specs.declared.updates.Applied.{Applied}

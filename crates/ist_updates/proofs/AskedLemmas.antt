@@ -27,9 +27,9 @@ use Rattle.ist_rows.proofs.CallerLawLemmas.{resolved_went}
 use Rattle.laws_histories.specs.Calls.{HasCalls, MadeNoEntry}
 use Rattle.laws_walks.specs.Accepting.{InstallsNoYes}
 use Rattle.laws_walks.proofs.InstalledLemmas.{installed_no_entry}
-use Rattle.ist_rebuild.specs.Going.{IsQuiet, Serves}
+use Rattle.ist_rebuild.specs.Going.{Serves}
+use Rattle.ist_rows.specs.Going.{IsQuiet, HasGone}
 use Rattle.ist_updates.specs.Asking.{IsAsked}
-use Rattle.ist_updates.specs.Changing.{HasGone}
 use Rattle.ist_updates.proofs.PublishLemmas.{installed_row}
 
 -- ---- events that make no entry

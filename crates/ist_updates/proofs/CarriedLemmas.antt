@@ -38,13 +38,13 @@ use Rattle.ist_dcss.specs.Installing.{rows_of, IsInstallable, IsInstalled}
 use Rattle.ist_dcss.proofs.ResolvedLemmas.{resolved_helped}
 use Rattle.laws_walks.specs.Accepting.{InstallsNoYes}
 use Rattle.laws_walks.proofs.InstalledLemmas.{installed_no_entry}
-use Rattle.ist_rebuild.specs.Going.{IsQuiet}
+use Rattle.ist_rows.specs.Going.{IsQuiet, HasGone}
 use Rattle.ist_updates.specs.declared.plans.Plan.{Plan}
 use Rattle.ist_updates.specs.Asking.{IsAsked}
-use Rattle.ist_updates.specs.Changing.{HasGone, HasRows, filling_of}
+use Rattle.ist_updates.specs.Changing.{HasRows, filling_of}
 use Rattle.ist_updates.specs.Trying.{Tries, HasTaken}
 use Rattle.ist_updates.proofs.AskedLemmas.{none_no_yes, no_yes_by, asked_still, asked_gone}
-use Rattle.ist_updates.proofs.GoneLemmas.{caller_gone}
+use Rattle.ist_rows.proofs.GoneLemmas.{caller_gone}
 use Rattle.ist_updates.proofs.StepLemmas.{help_keeps, help_tries, help_installs_none}
 use Rattle.ist_updates.proofs.StandingLemmas.{no_start, fits_stands, reply_stays}
 use Rattle.ist_updates.proofs.PairLemmas.{sound_now}

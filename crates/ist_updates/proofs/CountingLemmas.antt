@@ -18,7 +18,7 @@ use Rattle.ist_rows.specs.Building.{HasRefused}
 use Rattle.ist_rows.specs.CallerLaws.{KeepsRows, InstallsNone}
 use Rattle.ist_rows.specs.Rows.{IsCaller}
 use Rattle.ist_rows.proofs.CallerLawLemmas.{caller_went, refused_went, resolved_went}
-use Rattle.ist_rebuild.specs.Going.{IsQuiet}
+use Rattle.ist_rows.specs.Going.{IsQuiet}
 use Rattle.ist_updates.specs.declared.updates.Applied.{Applied}
 use Rattle.ist_updates.specs.Asking.{Updates}
 use Rattle.ist_updates.specs.Walking.{MayCount, IsCountAt, HasCountedAt, HasStood, HasCounted}

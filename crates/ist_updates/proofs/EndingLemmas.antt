@@ -30,7 +30,7 @@ use Rattle.ist_rule.proofs.LaterLemmas.{goes_on_more}
 use Rattle.ist_rule.proofs.WentOnLemmas.{went_lawful, later_by-goes_on}
 use Rattle.ist_rows.specs.declared.callers.Caller.{Caller}
 use Rattle.ist_rows.specs.Rows.{IsCaller}
-use Rattle.ist_rebuild.specs.Going.{IsQuiet}
+use Rattle.ist_rows.specs.Going.{IsQuiet}
 use Rattle.ist_updates.specs.declared.updates.Applied.{Applied}
 use Rattle.ist_updates.specs.Asking.{Updates, IsAsked, MayEnd}
 use Rattle.ist_updates.specs.Trying.{Tries, HasFoundNone}

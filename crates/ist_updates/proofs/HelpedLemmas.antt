@@ -24,7 +24,7 @@ use Rattle.ist_updates.specs.Asking.{command_for, IsAsked, Updates}
 use Rattle.ist_updates.specs.Refusals.{IsUpdateRefused, for_rebuild}
 use Rattle.ist_updates.specs.Trying.{BeganSince, IsAtSlot}
 use Rattle.ist_updates.proofs.StepLemmas.{tries_updates, serves_tries}
-use Rattle.ist_updates.proofs.GoneLemmas.{short_behind, short_all}
+use Rattle.ist_updates.proofs.ShortLemmas.{short_behind, short_all}
 
 -- ---- rebuilds
 

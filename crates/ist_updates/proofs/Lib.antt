@@ -10,7 +10,7 @@ pub mod WalkingLemmas
 pub mod EndingLemmas
 pub mod ApplyingLemmas
 pub mod StepLemmas
-pub mod GoneLemmas
+pub mod ShortLemmas
 pub mod SpareLemmas
 pub mod TakeLemmas
 pub mod PairLemmas

@@ -30,7 +30,8 @@ use Rattle.ist_rows.specs.Dropping.{HasPairBelow, HasLost}
 use Rattle.ist_rows.specs.Kinds.{kind_words}
 use Rattle.ist_rows.specs.Rows.{IsCaller, row_of, spares_of}
 use Rattle.ist_rows.proofs.CallerLawLemmas.{loaded_made, refused_made}
-use Rattle.ist_updates.specs.Changing.{HasGone, Prepares}
+use Rattle.ist_updates.specs.Changing.{Prepares}
+use Rattle.ist_rows.specs.Going.{HasGone}
 
 -- ---- where rows lie
 

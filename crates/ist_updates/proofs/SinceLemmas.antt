@@ -13,7 +13,8 @@ use Rattle.ist_rule.specs.Learning.{now}
 use Rattle.ist_rule.proofs.WentOnLemmas.{went_grow}
 use Rattle.ist_rows.specs.declared.callers.Caller.{Caller}
 use Rattle.ist_updates.specs.Asking.{IsAsked}
-use Rattle.ist_updates.specs.Changing.{HasGone, Prepares}
+use Rattle.ist_updates.specs.Changing.{Prepares}
+use Rattle.ist_rows.specs.Going.{HasGone}
 use Rattle.ist_updates.specs.Trying.{HasTaken}
 
 -- an update that took effect since a later view took effect since an earlier one

@@ -41,14 +41,15 @@ use Rattle.ist_updates.specs.declared.plans.Fresh.TheVariants.{Nothing, Leaf, Pa
 use Rattle.ist_updates.specs.declared.plans.Plan.{Plan}
 use Rattle.ist_updates.specs.declared.plans.Way.{Way}
 use Rattle.ist_updates.specs.Asking.{IsAsked}
-use Rattle.ist_updates.specs.Changing.{WasAtSlot, HasGone, Prepares, HasRows, IsPlanFor, IsPlanned, IsWay, command_by, filling_of, fresh_rows}
+use Rattle.ist_updates.specs.Changing.{WasAtSlot, Prepares, HasRows, IsPlanFor, IsPlanned, IsWay, command_by, filling_of, fresh_rows}
+use Rattle.ist_rows.specs.Going.{HasGone}
 use Rattle.ist_rows.specs.Filling.{with_own}
 use Rattle.ist_updates.specs.Trying.{HasTaken}
 use Rattle.ist_updates.proofs.AskedLemmas.{asked_gone}
 use Rattle.ist_updates.proofs.StepLemmas.{prepares_none}
 use Rattle.ist_updates.proofs.SinceLemmas.{taken_since}
 use Rattle.ist_updates.proofs.StandingLemmas.{planned_reply}
-use Rattle.ist_updates.proofs.GoneLemmas.{own_went, gone_more}
+use Rattle.ist_rows.proofs.GoneLemmas.{own_went, gone_more}
 use Rattle.ist_updates.proofs.PlanLemmas.{slot_met, slot_holds, fits_went}
 
 -- a caller that filled its rows has gone on so

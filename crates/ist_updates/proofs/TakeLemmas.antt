@@ -25,9 +25,10 @@ use Rattle.ist_rows.proofs.HeldBehindLemmas.{behind_between}
 use Rattle.ist_rows.proofs.HeldListLemmas.{held_by_later}
 use Rattle.ist_rule.specs.Going.{WentOn}
 use Rattle.ist_rebuild.specs.Going.{IsShortOf}
-use Rattle.ist_updates.specs.Changing.{HasGone, Prepares}
+use Rattle.ist_updates.specs.Changing.{Prepares}
+use Rattle.ist_rows.specs.Going.{HasGone}
 use Rattle.ist_updates.proofs.SpareLemmas.{sizes_taken}
-use Rattle.ist_updates.proofs.GoneLemmas.{loads_gone}
+use Rattle.ist_rows.proofs.GoneLemmas.{loads_gone}
 
 -- ---- a caller that reserved a row
 

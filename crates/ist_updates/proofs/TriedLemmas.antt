@@ -39,7 +39,8 @@ use Rattle.ist_updates.specs.Changing.{WasAtSlot, Prepares}
 use Rattle.ist_updates.specs.Refusals.{IsUpdateRefused, for_leaf, for_pair, for_put, for_remove}
 use Rattle.ist_updates.specs.Trying.{BeganSince, HasTaken, HasFoundNone}
 use Rattle.ist_updates.proofs.AskedLemmas.{asked_gone}
-use Rattle.ist_updates.proofs.GoneLemmas.{short_behind, short_all, loads_gone}
+use Rattle.ist_updates.proofs.ShortLemmas.{short_behind, short_all}
+use Rattle.ist_rows.proofs.GoneLemmas.{loads_gone}
 use Rattle.ist_updates.proofs.StepLemmas.{prepares_none, prepares_updates}
 use Rattle.ist_updates.proofs.SinceLemmas.{taken_since}
 

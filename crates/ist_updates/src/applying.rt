@@ -6,7 +6,7 @@ ghost use Rattle.ist_rule.specs.Faces.{word_count_of};
 ghost use Rattle.ist_rule.specs.Going.{SearchedOn};
 ghost use Rattle.ist_rows.specs.Building.{HasRefused};
 ghost use Rattle.ist_rows.specs.Rows.{IsCaller};
-ghost use Rattle.ist_rebuild.specs.Going.{IsQuiet};
+ghost use Rattle.ist_rows.specs.Going.{IsQuiet};
 ghost use Rattle.ist_updates.specs.Asking.{command_for, IsAsked, Updates, MayEnd};
 ghost use Rattle.ist_updates.specs.Counting.{CountedNowhere, IsCounted, LeavesDue};
 ghost use Rattle.ist_updates.specs.Further.{HasWalkedFew};

@@ -8,7 +8,7 @@ ghost use Rattle.ist_rule.specs.Going.{WentOn};
 ghost use Rattle.ist_rule.specs.Watching.{number_of};
 ghost use Rattle.ist_rows.specs.Building.{HasRefused};
 ghost use Rattle.ist_rows.specs.Rows.{IsCaller};
-ghost use Rattle.ist_rebuild.specs.Going.{IsQuiet};
+ghost use Rattle.ist_rows.specs.Going.{IsQuiet};
 ghost use Rattle.ist_updates.specs.Asking.{Updates};
 ghost use Rattle.ist_updates.specs.Walking.{MayCount, IsCountAt, HasCountedAt, HasStood, HasCounted};
 

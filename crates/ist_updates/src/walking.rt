@@ -6,7 +6,7 @@ ghost use Rattle.ist_rule.specs.Going.{WentOn};
 ghost use Rattle.ist_rows.specs.Building.{HasRefused};
 ghost use Rattle.ist_rows.specs.Rows.{IsCaller};
 ghost use Rattle.ist_find.specs.Searches.{Came};
-ghost use Rattle.ist_rebuild.specs.Going.{IsQuiet};
+ghost use Rattle.ist_rows.specs.Going.{IsQuiet};
 ghost use Rattle.ist_updates.specs.Asking.{command_for, IsAsked, Updates};
 ghost use Rattle.ist_updates.specs.Trying.{IsAtSlot};
 ghost use Rattle.ist_updates.specs.Meeting.{IsWalkMet, HasMissed};

@@ -24,7 +24,8 @@ use Rattle.ist_rows.specs.Filling.{filled_with, with_own}
 use Rattle.ist_rows.specs.Kinds.{kind_words}
 use Rattle.ist_rows.specs.Rows.{IsCaller}
 use Rattle.ist_updates.specs.Asking.{IsAsked}
-use Rattle.ist_updates.specs.Changing.{HasGone, Prepares}
+use Rattle.ist_updates.specs.Changing.{Prepares}
+use Rattle.ist_rows.specs.Going.{HasGone}
 use Rattle.ist_updates.proofs.PlanLemmas.{leaf_planned}
 use Rattle.ist_updates.proofs.PublishLemmas.{installed_row}
 use Rattle.ist_updates.proofs.SlotLemmas.{prepared}

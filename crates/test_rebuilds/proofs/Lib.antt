@@ -1,4 +1,4 @@
-pub mod AbleLemmas
+pub mod ReadyLemmas
 pub mod DroppedLemmas
 pub mod LateLemmas
 pub mod RaceLemmas

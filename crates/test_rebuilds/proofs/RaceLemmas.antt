@@ -30,7 +30,7 @@ use Rattle.laws_coming.proofs.SizeLemmas.{IsRootSizes, of_whole, of_top, root_si
 use Rattle.laws_links.proofs.FinishedLemmas.{target_grows}
 use Rattle.laws_links.proofs.FormLemmas.{finished_with_grows}
 use Rattle.laws_rebuilds.proofs.FinishedLeafLemmas.{finished_leaves}
-use Rattle.ist_rebuild.proofs.AbleLemmas.{started_went}
+use Rattle.ist_rebuild.proofs.HelpedLemmas.{started_went}
 use Rattle.ist_rule.specs.declared.view.View.{View}
 use Rattle.ist_rule.specs.declared.view.OwnWord.{OwnWord}
 use Rattle.ist_rule.specs.Conditions.{CanExchangeOrLose, StoredAll}

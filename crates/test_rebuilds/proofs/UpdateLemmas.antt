@@ -12,7 +12,7 @@ use Rattle.ist_rule.proofs.SearchedOnLemmas.{searched_all}
 use Rattle.ist_rows.specs.declared.callers.Caller.{Caller}
 use Rattle.ist_rows.specs.Building.{HasRefused}
 use Rattle.ist_rows.specs.Rows.{IsCaller}
-use Rattle.ist_rebuild.specs.Going.{IsQuiet}
+use Rattle.ist_rows.specs.Going.{IsQuiet}
 use Rattle.ist_tree.specs.Insides.{IsPass}
 use Rattle.ist_tree.specs.Working.{Works}
 use Rattle.ist_tree.proofs.EndingLemmas.{ended_call}

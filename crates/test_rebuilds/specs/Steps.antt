@@ -3,7 +3,7 @@ use Rattle.std.specs.Prelude.{ℕ}
 use Rattle.ist_core.specs.Marking.{HasTarget}
 use Rattle.ist_core.specs.Rebuilding.{IsFinishedWith, IsStarted}
 use Rattle.ist_core.specs.Snapshots.{Snapshot}
-use Rattle.ist_rebuild.specs.Going.{IsQuiet}
+use Rattle.ist_rows.specs.Going.{IsQuiet}
 use Rattle.ist_rebuild.specs.Starting.{MayStart}
 use Rattle.ist_rows.specs.declared.callers.Caller.{Caller}
 use Rattle.ist_rows.specs.Building.{HasRefused}

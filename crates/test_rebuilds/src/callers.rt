@@ -7,7 +7,7 @@ ghost use Rattle.ist_core.specs.RowLayout.{anchor};
 ghost use Rattle.ist_core.specs.Slots.{SlotHolds};
 ghost use Rattle.test_rebuilds.specs.Steps.{IsMarked};
 ghost use Rattle.ist_rebuild.specs.declared.answers.Started.TheVariants.{Yes};
-ghost use Rattle.ist_rebuild.specs.Finishing.{IsAble};
+ghost use Rattle.ist_rows.specs.Going.{IsReady};
 ghost use Rattle.ist_rebuild.specs.Starting.{MayStart};
 ghost use Rattle.ist_core.specs.declared.events.Who.TheVariants.{Maker};
 ghost use Rattle.ist_rule.specs.Learning.{now};
@@ -34,7 +34,7 @@ pub(crate) fn enter_call(table: &TreeTable, maker: &mut TreeSeat) -> Caller
     requires maker { maker.old.view.who ≡ Maker }
     requires given { maker.old.view.given ≡ maker.old.view.made }
     requires few { maker.old.view.made < caller_limit }
-    ensures able { IsAble result }
+    ensures ready { IsReady result }
     ensures same_table { result.seat.table ≡ table.now.table }
     ensures maker_table { maker.new.table ≡ table.now.table }
     ensures made { (maker.new.view.who ≡ Maker) × (maker.new.view.made ≡ maker.old.view.made + 1) }
@@ -49,9 +49,9 @@ pub(crate) fn enter_call(table: &TreeTable, maker: &mut TreeSeat) -> Caller
 // Returns the word in the anchor's slot.
 fn slot_word(table: &TreeTable, who: &mut Caller) -> u64
     requires same_table { who.old.seat.table ≡ table.now.table }
-    requires able { IsAble who.old }
+    requires ready { IsReady who.old }
     ensures same_table { who.new.seat.table ≡ table.now.table }
-    ensures able { IsAble who.new }
+    ensures ready { IsReady who.new }
     ensures holds { SlotHolds (now who.new.seat.view) anchor 0 result }
 {
     know(&who.seat);
@@ -61,9 +61,9 @@ fn slot_word(table: &TreeTable, who: &mut Caller) -> u64
 /// Returns the inner row below the anchor, if there is one: a rebuild of it may be started.
 pub(crate) fn see_row(table: &TreeTable, who: &mut Caller) -> Option<u32>
     requires same_table { who.old.seat.table ≡ table.now.table }
-    requires able { IsAble who.old }
+    requires ready { IsReady who.old }
     ensures same_table { who.new.seat.table ≡ table.now.table }
-    ensures able { IsAble who.new }
+    ensures ready { IsReady who.new }
     ensures may_start { IfSome result (MayStart who.new.seat.view anchor 0) }
 {
     let word = slot_word(table, who);
@@ -77,10 +77,10 @@ pub(crate) fn see_row(table: &TreeTable, who: &mut Caller) -> Option<u32>
 /// Starts a rebuild of the row that the caller has seen below the anchor.
 pub(crate) fn begin(table: &TreeTable, who: &mut Caller, target: u32) -> Result<Started, Full>
     requires same_table { who.old.seat.table ≡ table.now.table }
-    requires able { IsAble who.old }
+    requires ready { IsReady who.old }
     requires may_start { MayStart who.old.seat.view anchor 0 target }
     ensures same_table { who.new.seat.table ≡ table.now.table }
-    ensures able { IsAble who.new }
+    ensures ready { IsReady who.new }
     ensures started { (rebuild : ℕ) → result ≡ Ok (Yes rebuild)
         → IsStarted (now who.new.seat.view) rebuild }
 {
@@ -90,9 +90,9 @@ pub(crate) fn begin(table: &TreeTable, who: &mut Caller, target: u32) -> Result<
 /// Returns the rebuild below the anchor, if there is one.
 pub(crate) fn see_rebuild(table: &TreeTable, who: &mut Caller) -> Option<u32>
     requires same_table { who.old.seat.table ≡ table.now.table }
-    requires able { IsAble who.old }
+    requires ready { IsReady who.old }
     ensures same_table { who.new.seat.table ≡ table.now.table }
-    ensures able { IsAble who.new }
+    ensures ready { IsReady who.new }
     ensures started { IfSome result (IsStarted (now who.new.seat.view)) }
 {
     let word = slot_word(table, who);
@@ -106,10 +106,10 @@ pub(crate) fn see_rebuild(table: &TreeTable, who: &mut Caller) -> Option<u32>
 /// Marks the target of the rebuild, and counts its keys.
 pub(crate) fn mark(table: &TreeTable, who: &mut Caller, rebuild: u32) -> Marked
     requires same_table { who.old.seat.table ≡ table.now.table }
-    requires able { IsAble who.old }
+    requires ready { IsReady who.old }
     requires started { IsStarted (now who.old.seat.view) rebuild }
     ensures same_table { who.new.seat.table ≡ table.now.table }
-    ensures able { IsAble who.new }
+    ensures ready { IsReady who.new }
     ensures marked { IsMarked (now who.new.seat.view) rebuild result.target result.keys }
     ensures started { IsStarted (now who.new.seat.view) rebuild }
     ensures buildable { IsBuildable (now who.new.seat.view) rebuild }
@@ -123,10 +123,10 @@ pub(crate) fn mark(table: &TreeTable, who: &mut Caller, rebuild: u32) -> Marked
 /// Gives the rebuild its root.
 pub(crate) fn set(table: &TreeTable, who: &mut Caller, rebuild: u32) -> Result<Ref, Full>
     requires same_table { who.old.seat.table ≡ table.now.table }
-    requires able { IsAble who.old }
+    requires ready { IsReady who.old }
     requires buildable { IsBuildable (now who.old.seat.view) rebuild }
     ensures same_table { who.new.seat.table ≡ table.now.table }
-    ensures able { IsAble who.new }
+    ensures ready { IsReady who.new }
     ensures buildable { IsBuildable (now who.new.seat.view) rebuild }
     ensures started { IsStarted (now who.new.seat.view) rebuild }
     ensures rooted { IfOk result (λ root. IsRooted (now who.new.seat.view) rebuild) }
@@ -138,11 +138,11 @@ pub(crate) fn set(table: &TreeTable, who: &mut Caller, rebuild: u32) -> Result<R
 /// Fills the parts of the rebuild's root.
 pub(crate) fn fill_all(table: &TreeTable, who: &mut Caller, rebuild: u32) -> Result<(), Full>
     requires same_table { who.old.seat.table ≡ table.now.table }
-    requires able { IsAble who.old }
+    requires ready { IsReady who.old }
     requires buildable { IsBuildable (now who.old.seat.view) rebuild }
     requires rooted { IsRooted (now who.old.seat.view) rebuild }
     ensures same_table { who.new.seat.table ≡ table.now.table }
-    ensures able { IsAble who.new }
+    ensures ready { IsReady who.new }
 {
     know(&who.seat);
     fill_parts(table, who, rebuild)
@@ -151,10 +151,10 @@ pub(crate) fn fill_all(table: &TreeTable, who: &mut Caller, rebuild: u32) -> Res
 /// Helps the rebuild until it is done.
 pub(crate) fn help_on(table: &TreeTable, who: &mut Caller, rebuild: u32) -> Result<Helped, Full>
     requires same_table { who.old.seat.table ≡ table.now.table }
-    requires able { IsAble who.old }
+    requires ready { IsReady who.old }
     requires started { IsStarted (now who.old.seat.view) rebuild }
     ensures same_table { who.new.seat.table ≡ table.now.table }
-    ensures able { IsAble who.new }
+    ensures ready { IsReady who.new }
     ensures started { IsStarted (now who.new.seat.view) rebuild }
 {
     know(&who.seat);

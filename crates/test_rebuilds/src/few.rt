@@ -1,6 +1,6 @@
 //! Rebuilds of a row that holds two leaves, one, or none.
 ghost use Rattle.std.specs.Prelude.{◌≡◌};
-ghost use Rattle.ist_rebuild.specs.Finishing.{IsAble};
+ghost use Rattle.ist_rows.specs.Going.{IsReady};
 ghost use Rattle.ist_tree.specs.Insides.{IsPass};
 
 use crate::callers::{begin, enter_call, help_on, mark, see_row};
@@ -35,7 +35,7 @@ fn see_in(
     requires most_table { most.old.seat.table ≡ table.now.table }
     requires most_pass { IsPass most.old }
     requires same_table { who.old.seat.table ≡ table.now.table }
-    requires able { IsAble who.old }
+    requires ready { IsReady who.old }
 {
     if !update_all(table, most, removes) {
         return None;

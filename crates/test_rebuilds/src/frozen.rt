@@ -4,7 +4,7 @@ ghost use Rattle.test_rebuilds.specs.Late.{IsFilled};
 ghost use Rattle.ist_core.specs.Rebuilding.{IsStarted};
 ghost use Rattle.ist_dcss.specs.declared.decisions.Installed.TheVariants.{Yes};
 ghost use Rattle.ist_dcss.specs.Helping.{MayHelp};
-ghost use Rattle.ist_rebuild.specs.Finishing.{IsAble};
+ghost use Rattle.ist_rows.specs.Going.{IsReady};
 ghost use Rattle.ist_rule.specs.Learning.{now};
 ghost use Rattle.ist_tree.specs.Insides.{IsPass};
 
@@ -69,7 +69,7 @@ fn build_over(
 ) -> Result<(bool, bool), AllocError>
     requires maker_table { maker.old.table ≡ table.now.table }
     requires same_table { builder.old.seat.table ≡ table.now.table }
-    requires able { IsAble builder.old }
+    requires ready { IsReady builder.old }
     ensures maker_table { maker.new.table ≡ table.now.table }
 {
     let Some(rebuild) = see_rebuild(table, builder) else {
@@ -117,10 +117,10 @@ fn rebuild_over(
 ) -> Result<Rebuilt, OpenFault>
     requires maker_table { maker.old.table ≡ table.now.table }
     requires helper_table { helper.old.seat.table ≡ table.now.table }
-    requires helper { IsAble helper.old }
+    requires helper { IsReady helper.old }
     requires started { IsStarted (now helper.old.seat.view) rebuild }
     requires builder_table { builder.old.seat.table ≡ table.now.table }
-    requires builder { IsAble builder.old }
+    requires builder { IsReady builder.old }
 {
     let pairs = map.pairs();
     let image = open(alloc, pairs, 20_000)?.image;
@@ -163,9 +163,9 @@ fn see_in(
     requires last_table { last.old.seat.table ≡ table.now.table }
     requires last_pass { IsPass last.old }
     requires helper_table { helper.old.seat.table ≡ table.now.table }
-    requires helper_able { IsAble helper.old }
+    requires helper_ready { IsReady helper.old }
     requires builder_table { builder.old.seat.table ≡ table.now.table }
-    requires builder_able { IsAble builder.old }
+    requires builder_ready { IsReady builder.old }
 {
     let Some(put) = prepare(table, last, 31, 9) else {
         return Ok(None);

@@ -15,7 +15,8 @@ ghost use Rattle.ist_rule.specs.Conditions.{StoredAll};
 ghost use Rattle.ist_rule.specs.Learning.{now, GoesOnTo};
 ghost use Rattle.ist_tree.specs.Insides.{IsPass};
 ghost use Rattle.ist_updates.specs.Asking.{IsAsked};
-ghost use Rattle.ist_updates.specs.Changing.{HasGone, Prepares};
+ghost use Rattle.ist_updates.specs.Changing.{Prepares};
+ghost use Rattle.ist_rows.specs.Going.{HasGone};
 ghost use Rattle.ist_rows.specs.Filling.{with_own};
 ghost use Rattle.ist_updates.specs.Trying.{IsAtSlot};
 

@@ -2,7 +2,7 @@
 ghost use Rattle.std.specs.Prelude.{◌≡◌, ◌≤◌, ◌<◌, IsTrue};
 ghost use Rattle.test_rebuilds.specs.Steps.{IsMarked};
 ghost use Rattle.ist_core.specs.Shapes.{share_from};
-ghost use Rattle.ist_rebuild.specs.Finishing.{IsAble};
+ghost use Rattle.ist_rows.specs.Going.{IsReady};
 ghost use Rattle.ist_rule.specs.Learning.{now};
 
 use crate::callers::{Marked, begin, enter_call, mark, see_row};
@@ -30,11 +30,11 @@ fn base_of(reference: Ref) -> u32 {
 // Returns the base of the leaf number `i` of the finished target.
 fn leaf_base(table: &TreeTable, who: &mut Caller, rebuild: u32, marked: Marked, i: u64) -> u32
     requires same_table { who.old.seat.table ≡ table.now.table }
-    requires able { IsAble who.old }
+    requires ready { IsReady who.old }
     requires marked { IsMarked (now who.old.seat.view) rebuild marked.target marked.keys }
     requires within { i < marked.keys }
     ensures same_table { who.new.seat.table ≡ table.now.table }
-    ensures able { IsAble who.new }
+    ensures ready { IsReady who.new }
     ensures marked { IsMarked (now who.new.seat.view) rebuild marked.target marked.keys }
 {
     know(&who.seat);
@@ -53,11 +53,11 @@ pub(crate) fn are_pairs(
 ) -> bool
     requires maker_table { maker.old.table ≡ table.now.table }
     requires same_table { who.old.seat.table ≡ table.now.table }
-    requires able { IsAble who.old }
+    requires ready { IsReady who.old }
     requires marked { IsMarked (now who.old.seat.view) rebuild marked.target marked.keys }
     ensures maker_table { maker.new.table ≡ table.now.table }
     ensures same_table { who.new.seat.table ≡ table.now.table }
-    ensures able { IsAble who.new }
+    ensures ready { IsReady who.new }
     ensures marked { IsMarked (now who.new.seat.view) rebuild marked.target marked.keys }
 {
     let mut right = pairs.len() as u64 == marked.keys;
@@ -78,7 +78,7 @@ pub(crate) fn part(
     marked: Marked,
 ) -> Result<Ref, Full>
     requires same_table { who.old.seat.table ≡ table.now.table }
-    requires able { IsAble who.old }
+    requires ready { IsReady who.old }
     requires marked { IsMarked (now who.old.seat.view) rebuild marked.target marked.keys }
     requires few { marked.keys < share_from }
     ensures same_table { who.new.seat.table ≡ table.now.table }
@@ -105,7 +105,7 @@ fn agree_in(
 ) -> Result<(bool, bool), OpenFault>
     requires maker_table { maker.old.table ≡ table.now.table }
     requires same_table { who.old.seat.table ≡ table.now.table }
-    requires able { IsAble who.old }
+    requires ready { IsReady who.old }
     requires few { last ≤ 100000 }
 {
     let Some(target) = see_row(table, who) else {

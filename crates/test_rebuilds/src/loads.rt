@@ -1,7 +1,7 @@
 //! How many words are loaded on the way to a leaf of a large finished row.
 ghost use Rattle.std.specs.Prelude.{◌≡◌, ◌<◌};
 ghost use Rattle.test_rebuilds.specs.Steps.{IsMarked};
-ghost use Rattle.ist_rebuild.specs.Finishing.{IsAble};
+ghost use Rattle.ist_rows.specs.Going.{IsReady};
 ghost use Rattle.ist_rule.specs.Learning.{now};
 
 use crate::callers::{Marked, enter_call, mark};
@@ -17,11 +17,11 @@ use std::test::Fail;
 // How many words are loaded on the way to the leaf number `i` of the finished target.
 fn loads_to(table: &TreeTable, who: &mut Caller, rebuild: u32, marked: Marked, i: u64) -> u64
     requires same_table { who.old.seat.table ≡ table.now.table }
-    requires able { IsAble who.old }
+    requires ready { IsReady who.old }
     requires marked { IsMarked (now who.old.seat.view) rebuild marked.target marked.keys }
     requires within { i < marked.keys }
     ensures same_table { who.new.seat.table ≡ table.now.table }
-    ensures able { IsAble who.new }
+    ensures ready { IsReady who.new }
     ensures marked { IsMarked (now who.new.seat.view) rebuild marked.target marked.keys }
 {
     know(&who.seat);
@@ -38,7 +38,7 @@ fn first_other(
     cases: &[(u64, u64)],
 ) -> Option<u64>
     requires same_table { who.old.seat.table ≡ table.now.table }
-    requires able { IsAble who.old }
+    requires ready { IsReady who.old }
     requires marked { IsMarked (now who.old.seat.view) rebuild marked.target marked.keys }
 {
     for (i, loads) in cases {
@@ -56,7 +56,7 @@ fn first_other(
 // different number of words is loaded, in a rebuild of what is below the anchor.
 fn see_in(table: &TreeTable, who: &mut Caller, cases: &[(u64, u64)]) -> Option<(u64, Option<u64>)>
     requires same_table { who.old.seat.table ≡ table.now.table }
-    requires able { IsAble who.old }
+    requires ready { IsReady who.old }
 {
     let rebuild = begin_top(table, who)?;
     let marked = mark(table, who, rebuild);

@@ -2,7 +2,7 @@
 ghost use Rattle.std.specs.Prelude.{◌≡◌};
 ghost use Rattle.test_rebuilds.specs.Late.{IsFilled};
 ghost use Rattle.ist_tree.specs.Insides.{IsPass};
-ghost use Rattle.ist_rebuild.specs.Finishing.{IsAble};
+ghost use Rattle.ist_rows.specs.Going.{IsReady};
 
 use crate::callers::{begin, enter_call, help_on, mark, see_rebuild, see_row};
 use crate::late::{LatePut, install_late, prepare};
@@ -113,8 +113,8 @@ fn see_in(
     requires third_table { third.old.seat.table ≡ table.now.table }
     requires fourth_table { fourth.old.seat.table ≡ table.now.table }
     requires first_pass { IsPass first.old }
-    requires second_able { IsAble second.old }
-    requires third_able { IsAble third.old }
+    requires second_ready { IsReady second.old }
+    requires third_ready { IsReady third.old }
     requires fourth_pass { IsPass fourth.old }
 {
     let target = see_row(table, second)?;

@@ -6,7 +6,7 @@ ghost use Rattle.test_rebuilds.specs.Steps.{IsMarked};
 ghost use Rattle.ist_core.specs.Rebuilding.{IsStarted};
 ghost use Rattle.ist_core.specs.References.{unset_word};
 ghost use Rattle.ist_core.specs.RowLayout.{rebuild_root_offset};
-ghost use Rattle.ist_rebuild.specs.Finishing.{IsAble};
+ghost use Rattle.ist_rows.specs.Going.{IsReady};
 ghost use Rattle.ist_rule.specs.Learning.{now, ExchangedOrLost};
 
 use crate::callers::{Marked, enter_call, help_on, mark, see_rebuild, set};
@@ -25,7 +25,7 @@ use std::test::Fail;
 // has a root. If it has none yet, returns the word of what was built.
 fn build(table: &TreeTable, who: &mut Caller, rebuild: u32, marked: Marked) -> Option<u64>
     requires same_table { who.old.seat.table ≡ table.now.table }
-    requires able { IsAble who.old }
+    requires ready { IsReady who.old }
     requires marked { IsMarked (now who.old.seat.view) rebuild marked.target marked.keys }
     ensures same_table { who.new.seat.table ≡ table.now.table }
     ensures built { IfSome result (HasBuilt who.new.seat.view who.new.number rebuild) }
@@ -85,8 +85,8 @@ fn race(
 ) -> Option<Raced>
     requires first_table { first.old.seat.table ≡ table.now.table }
     requires second_table { second.old.seat.table ≡ table.now.table }
-    requires first_able { IsAble first.old }
-    requires second_able { IsAble second.old }
+    requires first_ready { IsReady first.old }
+    requires second_ready { IsReady second.old }
     requires first_started { IsStarted (now first.old.seat.view) rebuild }
     requires second_started { IsStarted (now second.old.seat.view) again }
 {
@@ -109,7 +109,7 @@ fn race(
 // Returns the root that the rebuild has, and whether the root then replaces the target.
 fn end(table: &TreeTable, who: &mut Caller, rebuild: u32) -> (Option<Ref>, bool)
     requires same_table { who.old.seat.table ≡ table.now.table }
-    requires able { IsAble who.old }
+    requires ready { IsReady who.old }
     requires started { IsStarted (now who.old.seat.view) rebuild }
 {
     mark(table, who, rebuild);
@@ -144,11 +144,11 @@ fn see_in(
 ) -> Result<Option<Seen>, OpenFault>
     requires maker_table { maker.old.table ≡ table.now.table }
     requires starter_table { starter.old.seat.table ≡ table.now.table }
-    requires starter_able { IsAble starter.old }
+    requires starter_ready { IsReady starter.old }
     requires first_table { first.old.seat.table ≡ table.now.table }
-    requires first_able { IsAble first.old }
+    requires first_ready { IsReady first.old }
     requires second_table { second.old.seat.table ≡ table.now.table }
-    requires second_able { IsAble second.old }
+    requires second_ready { IsReady second.old }
 {
     let Some(rebuild) = begin_top(table, starter) else {
         return Ok(None);

@@ -2,7 +2,7 @@
 //! and on threads.
 ghost use Rattle.std.specs.Prelude.{◌≡◌, IfSome};
 ghost use Rattle.ist_core.specs.Rebuilding.{IsStarted};
-ghost use Rattle.ist_rebuild.specs.Finishing.{IsAble};
+ghost use Rattle.ist_rows.specs.Going.{IsReady};
 ghost use Rattle.ist_rule.specs.Learning.{now};
 
 use crate::callers::{begin, enter_call, fill_all, help_on, mark, see_rebuild, see_row, set};
@@ -19,9 +19,9 @@ use std::thread::{Threads, join};
 /// Starts a rebuild of what is below the anchor.
 pub(crate) fn begin_top(table: &TreeTable, who: &mut Caller) -> Option<u32>
     requires same_table { who.old.seat.table ≡ table.now.table }
-    requires able { IsAble who.old }
+    requires ready { IsReady who.old }
     ensures same_table { who.new.seat.table ≡ table.now.table }
-    ensures able { IsAble who.new }
+    ensures ready { IsReady who.new }
     ensures started { IfSome result (IsStarted (now who.new.seat.view)) }
 {
     let Some(target) = see_row(table, who) else {
@@ -74,9 +74,9 @@ fn share_in(
 ) -> Result<Option<Shared>, OpenFault>
     requires maker_table { maker.old.table ≡ table.now.table }
     requires first_table { first.old.seat.table ≡ table.now.table }
-    requires first_able { IsAble first.old }
+    requires first_ready { IsReady first.old }
     requires second_table { second.old.seat.table ≡ table.now.table }
-    requires second_able { IsAble second.old }
+    requires second_ready { IsReady second.old }
 {
     let Some(rebuild) = begin_top(table, first) else {
         return Ok(None);
@@ -165,7 +165,7 @@ struct Beside {
 // Helps a rebuild by a caller that has no more to do. Returns whether it was replaced.
 fn help_moved(table: &TreeTable, who: Caller, rebuild: u32) -> bool
     requires same_table { who.seat.table ≡ table.now.table }
-    requires able { IsAble who }
+    requires ready { IsReady who }
     requires started { IsStarted (now who.seat.view) rebuild }
 {
     let mut who = who;
@@ -181,10 +181,10 @@ fn help_beside<R: Threads + Sync>(
     rebuilds: (u32, u32),
 ) -> (bool, bool)
     requires first_table { first.seat.table ≡ table.now.table }
-    requires first_able { IsAble first }
+    requires first_ready { IsReady first }
     requires first_started { IsStarted (now first.seat.view) rebuilds.0 }
     requires second_table { second.seat.table ≡ table.now.table }
-    requires second_able { IsAble second }
+    requires second_ready { IsReady second }
     requires second_started { IsStarted (now second.seat.view) rebuilds.1 }
 {
     let (one, two) = rebuilds;
@@ -192,12 +192,12 @@ fn help_beside<R: Threads + Sync>(
         rt,
         ||
             requires same_table { first.seat.table ≡ table.now.table }
-            requires able { IsAble first }
+            requires ready { IsReady first }
             requires started { IsStarted (now first.seat.view) one }
         { help_moved(table, first, one) },
         ||
             requires same_table { second.seat.table ≡ table.now.table }
-            requires able { IsAble second }
+            requires ready { IsReady second }
             requires started { IsStarted (now second.seat.view) two }
         { help_moved(table, second, two) },
     )

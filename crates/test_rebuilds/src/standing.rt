@@ -1,7 +1,7 @@
 //! Rebuilds that nobody helps while others put and remove, or while the row above is rebuilt.
 ghost use Rattle.std.specs.Prelude.{◌≡◌};
 ghost use Rattle.ist_core.specs.Rebuilding.{IsStarted};
-ghost use Rattle.ist_rebuild.specs.Finishing.{IsAble};
+ghost use Rattle.ist_rows.specs.Going.{IsReady};
 ghost use Rattle.ist_rule.specs.Learning.{now};
 ghost use Rattle.ist_tree.specs.Insides.{IsPass};
 
@@ -95,10 +95,10 @@ fn help_where(
     at_once: bool,
 ) -> Option<Result<Helped, Full>>
     requires same_table { who.old.seat.table ≡ table.now.table }
-    requires able { IsAble who.old }
+    requires ready { IsReady who.old }
     requires started { IsStarted (now who.old.seat.view) rebuild }
     ensures same_table { who.new.seat.table ≡ table.now.table }
-    ensures able { IsAble who.new }
+    ensures ready { IsReady who.new }
     ensures started { IsStarted (now who.new.seat.view) rebuild }
 {
     if at_once {
@@ -136,7 +136,7 @@ fn rebuild_both(
     requires low_table { low.old.seat.table ≡ table.now.table }
     requires low_pass { IsPass low.old }
     requires high_table { high.old.seat.table ≡ table.now.table }
-    requires high_able { IsAble high.old }
+    requires high_ready { IsReady high.old }
 {
     if !update_all(table, most, &SEVEN) {
         return Ok(None);

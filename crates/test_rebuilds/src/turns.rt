@@ -1,6 +1,6 @@
 //! Two callers that start one rebuild, of which the other ends it.
 ghost use Rattle.std.specs.Prelude.{◌≡◌};
-ghost use Rattle.ist_rebuild.specs.Finishing.{IsAble};
+ghost use Rattle.ist_rows.specs.Going.{IsReady};
 
 use crate::callers::{begin, enter_call, help_on, mark, see_rebuild, see_row};
 use crate::tables::{Opened, all_words, are_alike, open, word_at};
@@ -44,9 +44,9 @@ fn see_in(
 ) -> Result<Option<Seen>, OpenFault>
     requires maker_table { maker.old.table ≡ table.now.table }
     requires starter_table { starter.old.seat.table ≡ table.now.table }
-    requires starter_able { IsAble starter.old }
+    requires starter_ready { IsReady starter.old }
     requires helper_table { helper.old.seat.table ≡ table.now.table }
-    requires helper_able { IsAble helper.old }
+    requires helper_ready { IsReady helper.old }
 {
     let (Some(one), Some(two)) = (see_row(table, starter), see_row(table, helper)) else {
         return Ok(None);

@@ -6,7 +6,7 @@ ghost use Rattle.ist_core.specs.Enabled.{caller_limit};
 ghost use Rattle.ist_core.specs.Rebuilding.{IsStarted};
 ghost use Rattle.ist_core.specs.declared.events.Who.TheVariants.{Maker};
 ghost use Rattle.ist_rebuild.specs.declared.answers.Started.TheVariants.{Yes};
-ghost use Rattle.ist_rebuild.specs.Finishing.{IsAble};
+ghost use Rattle.ist_rows.specs.Going.{IsReady};
 ghost use Rattle.ist_rule.specs.Learning.{now, Turned, beginning};
 ghost use Rattle.ist_rule.specs.Rule.{IsSound};
 ghost use Rattle.ist_tree.specs.Insides.{IsPass};
@@ -121,7 +121,7 @@ pub(crate) fn start_due(table: &TreeTable, who: &mut Caller, due: Due) -> Result
     requires same_table { who.old.seat.table ≡ table.now.table }
     requires due { HasDue who.old due }
     ensures same_table { who.new.seat.table ≡ table.now.table }
-    ensures able { IsAble who.new }
+    ensures ready { IsReady who.new }
     ensures started { (rebuild : ℕ) → result ≡ Ok (Yes rebuild)
         → IsStarted (now who.new.seat.view) rebuild }
 {

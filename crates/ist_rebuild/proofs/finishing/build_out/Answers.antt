@@ -1,14 +1,15 @@
 use Rattle.ist_build.specs.Calls.{Builds}
 use Rattle.ist_build.proofs.ShareLemmas.{err_map}
-use Rattle.ist_rebuild.proofs.AbleLemmas.{built_helped, helped_more}
+use Rattle.ist_rebuild.proofs.HelpedLemmas.{built_helped, helped_more}
 use Rattle.ist_rebuild.proofs.BuiltOutLemmas.{buildable_went}
 use Rattle.ist_rebuild.proofs.RefusalLemmas.{passed_on, short_refused, refused_more}
+use Rattle.ist_rows.proofs.GoneLemmas.{still_ready}
 use Rattle.ist_rebuild.proofs.finishing.build_out.Goals as goal
 
 -- a root that was refused
 pub returns-in_err-set_root-clause-helped : goal.returns-in_err-set_root-clause-helped
 returns-in_err-set_root-clause-helped c =
-    built_helped c.args.who.now c.set_root.new.who c.requires.able c.set_root.ensures.caller
+    built_helped c.args.who.now c.set_root.new.who c.requires.ready c.set_root.ensures.caller
     c.set_root.ensures.refused c.set_root.ensures.number c.set_root.ensures.rows
     c.set_root.ensures.went
 
@@ -25,19 +26,19 @@ fill_parts-requires-clause-buildable c =
 -- both halves built
 pub returns-clause-helped : goal.returns-clause-helped
 returns-clause-helped c =
-    let first = built_helped c.args.who.now c.set_root.new.who c.requires.able
+    let first = built_helped c.args.who.now c.set_root.new.who c.requires.ready
     c.set_root.ensures.caller c.set_root.ensures.refused c.set_root.ensures.number
     c.set_root.ensures.rows c.set_root.ensures.went in
     helped_more c.args.who.now c.set_root.new.who c.fill_parts.new.who first
-    (built_helped c.set_root.new.who c.fill_parts.new.who first.able c.fill_parts.ensures.caller
+    (built_helped c.set_root.new.who c.fill_parts.new.who (still_ready first.on) c.fill_parts.ensures.caller
     c.fill_parts.ensures.refused c.fill_parts.ensures.number c.fill_parts.ensures.rows
     c.fill_parts.ensures.went)
 
 pub returns-clause-full : goal.returns-clause-full
 returns-clause-full c =
-    let first = built_helped c.args.who.now c.set_root.new.who c.requires.able
+    let first = built_helped c.args.who.now c.set_root.new.who c.requires.ready
     c.set_root.ensures.caller c.set_root.ensures.refused c.set_root.ensures.number
     c.set_root.ensures.rows c.set_root.ensures.went in
     err_map _ _ c.fill_parts.result
-    (λ full h. refused_more _ _ _ c.args.rebuild _ full first.went
+    (λ full h. refused_more _ _ _ c.args.rebuild _ full first.on.gone.went
     (short_refused _ _ c.args.rebuild _ full h)) c.fill_parts.ensures.full

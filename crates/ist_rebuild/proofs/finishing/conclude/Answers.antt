@@ -3,25 +3,25 @@ use Rattle.ist_core.specs.References.{RebuildAt}
 use Rattle.ist_core.proofs.ReferenceLemmas.{word_of-ref_of}
 use Rattle.ist_dcss.specs.Helping.{Serves as HelpsWith}
 use Rattle.ist_dcss.proofs.CallingLemmas.{met_change}
-use Rattle.ist_rebuild.proofs.AbleLemmas.{helped_same, help_helped}
+use Rattle.ist_rebuild.proofs.HelpedLemmas.{helped_same, help_helped}
 use Rattle.laws_coming.proofs.FurtherLemmas.{helped_further}
 use Rattle.ist_rebuild.proofs.SlotLemmas.{tells_replaced}
 use Rattle.ist_rebuild.proofs.finishing.conclude.Goals as goal
 
 -- it was decided yes
 pub returns-in-Yes-clause-helped : goal.returns-in-Yes-clause-helped
-returns-in-Yes-clause-helped c = helped_same c.args.who.now c.requires.able c.know.ensures.sound
+returns-in-Yes-clause-helped c = helped_same c.args.who.now c.requires.ready c.know.ensures.sound
 
 -- the slot held a change, which may be helped
 pub help-requires-clause-may_help : goal.help-requires-clause-may_help
 help-requires-clause-may_help c =
-    met_change _ c.know.ensures.sound c.args.who.now.number c.requires.able.caller.mine
+    met_change _ c.know.ensures.sound c.args.who.now.number c.requires.ready.caller.mine
     c.args.plan.parent c.args.plan.index _ _ (c.requires.other c.in-Other.word c.in-Other.is)
     (c.in-Change.ensures.change _ refl)
 
 pub returns-in-Change-clause-helped : goal.returns-in-Change-clause-helped
 returns-in-Change-clause-helped c =
-    help_helped c.args.who.now c.help.new.seat c.in-Change.change c.requires.able
+    help_helped c.args.who.now c.help.new.seat c.in-Change.change c.requires.ready
     c.help.ensures.went
 
 pub returns-in-Change-clause-further : goal.returns-in-Change-clause-further
@@ -41,7 +41,7 @@ unreachable-requires c =
 -- the slot held another word
 pub returns-in-Another-clause-helped : goal.returns-in-Another-clause-helped
 returns-in-Another-clause-helped c =
-    helped_same c.args.who.now c.requires.able c.know.ensures.sound
+    helped_same c.args.who.now c.requires.ready c.know.ensures.sound
 
 pub returns-in-Another-clause-replaced : goal.returns-in-Another-clause-replaced
 returns-in-Another-clause-replaced c _ =

@@ -1,6 +1,6 @@
 use Rattle.std.proofs.Common.{Ok, ap, ◌∙◌}
 use Rattle.ist_rebuild.specs.Going.{Serves}
-use Rattle.ist_rebuild.proofs.AbleLemmas.{helped_same, helped_more}
+use Rattle.ist_rebuild.proofs.HelpedLemmas.{helped_same, helped_more}
 use Rattle.laws_coming.proofs.FurtherLemmas.{fewer_left}
 use Rattle.ist_rebuild.proofs.RefusalLemmas.{passed_on, refused_more}
 use Rattle.ist_rebuild.proofs.SiteLemmas.{plan_went}
@@ -9,12 +9,12 @@ use Rattle.ist_rebuild.proofs.finishing.finish.Goals as goal
 -- before the first turn nothing was done
 pub turns-init : goal.turns-init
 turns-init c =
-    (c.requires.same_table, helped_same c.args.who.now c.requires.able c.know.ensures.sound)
+    (c.requires.same_table, helped_same c.args.who.now c.requires.ready c.know.ensures.sound)
 
 -- the plan is still a plan
 pub try_finish-requires-clause-plan : goal.try_finish-requires-clause-plan
 try_finish-requires-clause-plan c =
-    plan_went Serves _ _ c.turns.invariant.1.went c.args.plan c.requires.plan
+    plan_went Serves _ _ c.turns.invariant.1.on.gone.went c.args.plan c.requires.plan
 
 -- each turn only made steps of help
 pub turns-preserved : goal.turns-preserved
@@ -38,10 +38,10 @@ returns-in_err-helped-clause-helped c =
 pub returns-in_err-helped-clause-full : goal.returns-in_err-helped-clause-full
 returns-in_err-helped-clause-full c =
     passed_on c.from_residual.result _ _ c.from_residual.ensures.1
-    (refused_more _ _ _ c.args.plan.rebuild _ _ c.turns.invariant.1.went
+    (refused_more _ _ _ c.args.plan.rebuild _ _ c.turns.invariant.1.on.gone.went
     c.in_err-helped.ensures.full)
 
 pub turns-smaller : goal.turns-smaller
 turns-smaller c =
-    fewer_left _ _ c.try_finish.ensures.helped.went.sound
+    fewer_left _ _ c.try_finish.ensures.helped.on.gone.went.sound
     (c.try_finish.ensures.further (c.in_ok-helped.was ∙ ap Ok c.in_default.is))

@@ -1,6 +1,6 @@
 use Rattle.std.proofs.Common.{◌≡◌, ◌-◌}
 use Rattle.laws_progress.specs.Progress.{most_progress, progress}
-use Rattle.ist_rebuild.specs.Finishing.{HasHelped}
+use Rattle.ist_rebuild.specs.Helping.{HasHelped}
 use Rattle.ist_rebuild.proofs.finishing.finish.Given as goal
 
 -- each turn only made steps of help

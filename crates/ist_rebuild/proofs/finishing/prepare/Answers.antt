@@ -1,4 +1,4 @@
-use Rattle.ist_rebuild.proofs.AbleLemmas.{refused_row}
+use Rattle.ist_rebuild.proofs.HelpedLemmas.{refused_row}
 use Rattle.ist_rebuild.proofs.PreparedLemmas.{HasPrepared, has_prepared}
 use Rattle.ist_rebuild.proofs.RefusalLemmas.{passed_on, row_refused}
 use Rattle.ist_rebuild.proofs.SiteLemmas.{rebuild_good}
@@ -7,7 +7,7 @@ use Rattle.ist_rebuild.proofs.finishing.prepare.Goals as goal
 -- a change row that was refused
 pub returns-in_err-change-clause-helped : goal.returns-in_err-change-clause-helped
 returns-in_err-change-clause-helped c =
-    refused_row c.args.who.now c.reserve.new.who _ _ c.requires.able c.reserve.ensures.caller
+    refused_row c.args.who.now c.reserve.new.who _ _ c.requires.ready c.reserve.ensures.caller
     c.reserve.ensures.number c.in_err-change.ensures.full
 
 pub returns-in_err-change-clause-full : goal.returns-in_err-change-clause-full
@@ -31,7 +31,7 @@ prepares : (c : goal.After-know-3)
 prepares c =
     let e = c.in_ok-change.ensures in
     has_prepared c.args.who.now c.reserve.new.who _ c.args.plan c.in_ok-change.change _
-    c.requires.able c.know.ensures.sound c.requires.plan c.requires.unrefused
+    c.requires.ready c.know.ensures.sound c.requires.plan c.requires.unrefused
     record { caller = e.caller; number = e.number; held = e.held; fresh = e.reserved }
     c.finish_words-words.ensures.value c.fill_row.ensures.stored c.know-3.ensures.sound
 

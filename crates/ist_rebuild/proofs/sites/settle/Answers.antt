@@ -3,28 +3,29 @@ use Rattle.ist_dcss.proofs.CallingLemmas.{met_change}
 use Rattle.ist_dcss.specs.Helping.{Serves as HelpsWith}
 use Rattle.ist_rule.proofs.WentOnLemmas.{goes_on_went}
 use Rattle.ist_rebuild.specs.Going.{Serves}
-use Rattle.ist_rebuild.proofs.AbleLemmas.{helped_same, helped_more, loads_helped, help_helped}
+use Rattle.ist_rebuild.proofs.HelpedLemmas.{helped_same, helped_more, loads_helped, help_helped}
 use Rattle.laws_coming.proofs.FurtherLemmas.{fewer_left, helped_further, no_less}
 use Rattle.ist_rebuild.proofs.SiteLemmas.{plan_went}
 use Rattle.ist_rebuild.proofs.SlotLemmas.{tells_replaced, tells_left, closed_went}
+use Rattle.ist_rows.proofs.GoneLemmas.{still_ready}
 use Rattle.ist_rebuild.proofs.sites.settle.Goals as goal
 
 -- before the first turn nothing was done
 pub turns-init : goal.turns-init
 turns-init c =
-    (c.requires.same_table, helped_same c.args.who.now c.requires.able c.know.ensures.sound)
+    (c.requires.same_table, helped_same c.args.who.now c.requires.ready c.know.ensures.sound)
 
 -- the plan is still a plan
 pub slot_word-word-requires-clause-plan : goal.slot_word-word-requires-clause-plan
 slot_word-word-requires-clause-plan c =
-    plan_went Serves _ _ c.turns.invariant.1.went c.args.plan c.requires.plan
+    plan_went Serves _ _ c.turns.invariant.1.on.gone.went c.args.plan c.requires.plan
 
 -- the change that was met may be helped
 pub help-requires-clause-may_help : goal.help-requires-clause-may_help
 help-requires-clause-may_help c =
-    let l = loads_helped c.turns.who c.slot_word-word.new.seat c.turns.invariant.1.able
+    let l = loads_helped c.turns.who c.slot_word-word.new.seat (still_ready c.turns.invariant.1.on)
     c.slot_word-word.ensures.seen in
-    met_change _ c.slot_word-word.ensures.seen.sound c.turns.who.number l.able.caller.mine
+    met_change _ c.slot_word-word.ensures.seen.sound c.turns.who.number l.on.gone.caller.mine
     c.args.plan.parent c.args.plan.index _ _ c.slot_word-word.ensures.holds
     (c.in-Change.ensures.change _ refl)
 
@@ -32,12 +33,12 @@ help-requires-clause-may_help c =
 pub turns-preserved : goal.turns-preserved
 turns-preserved c =
     let mid = record c.turns.who { seat = c.slot_word-word.new.seat } in
-    let l = loads_helped c.turns.who c.slot_word-word.new.seat c.turns.invariant.1.able
+    let l = loads_helped c.turns.who c.slot_word-word.new.seat (still_ready c.turns.invariant.1.on)
     c.slot_word-word.ensures.seen in (
       c.help.ensures.same_table ∙ c.slot_word-word.ensures.same_table ∙ c.turns.invariant.0,
       helped_more c.args.who.now mid _
           (helped_more c.args.who.now c.turns.who mid c.turns.invariant.1 l)
-          (help_helped mid c.help.new.seat c.in-Change.change l.able c.help.ensures.went),
+          (help_helped mid c.help.new.seat c.in-Change.change (still_ready l.on) c.help.ensures.went),
     )
 
 -- the help resolves the change, which wasn't resolved before
@@ -53,32 +54,32 @@ turns-smaller c =
 pub returns-in-Itself-clause-helped : goal.returns-in-Itself-clause-helped
 returns-in-Itself-clause-helped c =
     helped_more c.args.who.now c.turns.who _ c.turns.invariant.1
-    (loads_helped c.turns.who c.slot_word-word.new.seat c.turns.invariant.1.able
+    (loads_helped c.turns.who c.slot_word-word.new.seat (still_ready c.turns.invariant.1.on)
     c.slot_word-word.ensures.seen)
 
 pub returns-in-Itself-clause-left : goal.returns-in-Itself-clause-left
 returns-in-Itself-clause-left c _ =
     let l = helped_more c.args.who.now c.turns.who _ c.turns.invariant.1
-    (loads_helped c.turns.who c.slot_word-word.new.seat c.turns.invariant.1.able
+    (loads_helped c.turns.who c.slot_word-word.new.seat (still_ready c.turns.invariant.1.on)
     c.slot_word-word.ensures.seen) in
-    tells_left _ l.went.sound c.args.plan
-    (plan_went Serves _ _ l.went c.args.plan c.requires.plan) _ c.slot_word-word.ensures.holds
+    tells_left _ l.on.gone.went.sound c.args.plan
+    (plan_went Serves _ _ l.on.gone.went c.args.plan c.requires.plan) _ c.slot_word-word.ensures.holds
     (c.in-Itself.ensures.itself refl)
-    (closed_went Serves _ _ l.went c.know.ensures.sound c.args.plan c.requires.plan
+    (closed_went Serves _ _ l.on.gone.went c.know.ensures.sound c.args.plan c.requires.plan
     c.requires.closed)
 
 -- the last turn loads another word, which is no change's
 pub returns-in-Another-clause-helped : goal.returns-in-Another-clause-helped
 returns-in-Another-clause-helped c =
     helped_more c.args.who.now c.turns.who _ c.turns.invariant.1
-    (loads_helped c.turns.who c.slot_word-word.new.seat c.turns.invariant.1.able
+    (loads_helped c.turns.who c.slot_word-word.new.seat (still_ready c.turns.invariant.1.on)
     c.slot_word-word.ensures.seen)
 
 pub returns-in-Another-clause-replaced : goal.returns-in-Another-clause-replaced
 returns-in-Another-clause-replaced c _ =
     let l = helped_more c.args.who.now c.turns.who _ c.turns.invariant.1
-    (loads_helped c.turns.who c.slot_word-word.new.seat c.turns.invariant.1.able
+    (loads_helped c.turns.who c.slot_word-word.new.seat (still_ready c.turns.invariant.1.on)
     c.slot_word-word.ensures.seen) in
-    tells_replaced _ l.went.sound c.args.plan
-    (plan_went Serves _ _ l.went c.args.plan c.requires.plan) _ c.slot_word-word.ensures.holds
+    tells_replaced _ l.on.gone.went.sound c.args.plan
+    (plan_went Serves _ _ l.on.gone.went c.args.plan c.requires.plan) _ c.slot_word-word.ensures.holds
     (c.in-Another.ensures.no_change refl) (c.in-Another.ensures.another refl)

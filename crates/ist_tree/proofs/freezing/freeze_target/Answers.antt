@@ -3,6 +3,7 @@ use Rattle.ist_mark.specs.Marking.{Marks}
 use Rattle.ist_tree.proofs.DueLemmas.{serves_on}
 use Rattle.ist_tree.proofs.FreezeGoingLemmas.{rebuild_on}
 use Rattle.ist_tree.proofs.FreezeMarkLemmas.{marked, target_froze, target_may_mark}
+use Rattle.ist_rows.proofs.GoneLemmas.{still_ready}
 use Rattle.ist_tree.proofs.freezing.freeze_target.Goals as goal
 
 pub mark_and_count-keys-requires-clause-may_mark : goal.mark_and_count-keys-requires-clause-may_mark
@@ -11,20 +12,10 @@ mark_and_count-keys-requires-clause-may_mark c =
 
 -- ---- the caller may help still
 
-pub help_rebuild-requires-clause-caller : goal.help_rebuild-requires-clause-caller
-help_rebuild-requires-clause-caller c =
-    (marked c.args.who.now c.mark_and_count-keys.new.seat c.args.target c.requires.ready
-    c.mark_and_count-keys.ensures.went).ready.caller
-
-pub help_rebuild-requires-clause-refused : goal.help_rebuild-requires-clause-refused
-help_rebuild-requires-clause-refused c =
-    (marked c.args.who.now c.mark_and_count-keys.new.seat c.args.target c.requires.ready
-    c.mark_and_count-keys.ensures.went).ready.refused
-
-pub help_rebuild-requires-clause-quiet : goal.help_rebuild-requires-clause-quiet
-help_rebuild-requires-clause-quiet c =
-    (marked c.args.who.now c.mark_and_count-keys.new.seat c.args.target c.requires.ready
-    c.mark_and_count-keys.ensures.went).ready.quiet
+pub help_rebuild-requires-clause-ready : goal.help_rebuild-requires-clause-ready
+help_rebuild-requires-clause-ready c =
+    still_ready (marked c.args.who.now c.mark_and_count-keys.new.seat c.args.target c.requires.ready
+    c.mark_and_count-keys.ensures.went)
 
 pub help_rebuild-requires-clause-started : goal.help_rebuild-requires-clause-started
 help_rebuild-requires-clause-started c =
@@ -38,8 +29,7 @@ returns-clause-froze c =
     target_froze c.args.who.now c.mark_and_count-keys.new.seat c.help_rebuild.new.who _
     c.args.rebuild c.args.target c.mark_and_count-keys.result c.requires.ready c.requires.of.below
     c.mark_and_count-keys.ensures.went c.mark_and_count-keys.ensures.finished
-    (serves_on _ _ c.help_rebuild.ensures.caller c.help_rebuild.ensures.refused
-    c.help_rebuild.ensures.quiet c.help_rebuild.ensures.went c.help_rebuild.ensures.number)
-    c.help_rebuild.ensures.went c.help_rebuild.result c.err-refused.result
+    (serves_on _ _ c.help_rebuild.ensures.helped)
+    c.help_rebuild.ensures.helped.on.gone.went c.help_rebuild.result c.err-refused.result
     c.err-refused.ensures.value c.help_rebuild.ensures.replaced c.help_rebuild.ensures.parent_marked
     c.help_rebuild.ensures.full

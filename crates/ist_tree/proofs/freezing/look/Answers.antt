@@ -8,14 +8,15 @@ use Rattle.ist_mark.proofs.BelowLemmas.{read_none}
 use Rattle.ist_tree.specs.Working.{Rebuilds}
 use Rattle.laws_coming.proofs.FurtherLemmas.{behind_load, helped_further}
 use Rattle.ist_tree.proofs.FurtherLemmas.{anchor_names, anchor_set}
+use Rattle.ist_rows.proofs.GoneLemmas.{still_ready}
 use Rattle.ist_tree.proofs.freezing.look.Goals as goal
 
 -- ---- an inner row
 
 pub met_row-requires-clause-ready : goal.met_row-requires-clause-ready
 met_row-requires-clause-ready c =
-    (looked_idle c.args.who.now c.anchor_word-word.new.seat c.requires.ready
-    c.anchor_word-word.ensures.seen).on.ready
+    still_ready (looked_idle c.args.who.now c.anchor_word-word.new.seat c.requires.ready
+    c.anchor_word-word.ensures.seen).on
 
 pub met_row-requires-clause-top : goal.met_row-requires-clause-top
 met_row-requires-clause-top c =
@@ -52,8 +53,8 @@ returns-in-Some-Inner-clause-full c =
 
 pub met_rebuild-requires-clause-ready : goal.met_rebuild-requires-clause-ready
 met_rebuild-requires-clause-ready c =
-    (looked_idle c.args.who.now c.anchor_word-word.new.seat c.requires.ready
-    c.anchor_word-word.ensures.seen).on.ready
+    still_ready (looked_idle c.args.who.now c.anchor_word-word.new.seat c.requires.ready
+    c.anchor_word-word.ensures.seen).on
 
 pub met_rebuild-requires-clause-started : goal.met_rebuild-requires-clause-started
 met_rebuild-requires-clause-started c =
@@ -83,8 +84,8 @@ returns-in-Some-Rebuild-clause-met c =
 
 pub met_change-requires-clause-ready : goal.met_change-requires-clause-ready
 met_change-requires-clause-ready c =
-    (looked_idle c.args.who.now c.anchor_word-word.new.seat c.requires.ready
-    c.anchor_word-word.ensures.seen).on.ready
+    still_ready (looked_idle c.args.who.now c.anchor_word-word.new.seat c.requires.ready
+    c.anchor_word-word.ensures.seen).on
 
 pub met_change-requires-clause-row : goal.met_change-requires-clause-row
 met_change-requires-clause-row c =
@@ -142,7 +143,7 @@ returns-in-Some-Inner-clause-further c is =
 pub returns-in-Some-Change-clause-further : goal.returns-in-Some-Change-clause-further
 returns-in-Some-Change-clause-further c _ =
     behind_load _ _ _ c.anchor_word-word.ensures.seen
-    (helped_further Rebuilds _ _ c.know-2.ensures.sound c.met_change.ensures.idle.on.went anchor 0 _ _
+    (helped_further Rebuilds _ _ c.know-2.ensures.sound c.met_change.ensures.idle.on.gone.went anchor 0 _ _
     c.anchor_word-word.ensures.holds
     (read_as _ _ _ _ c.from_word.ensures.value c.in-Some-Change.is c.in-Some-Change.field-0-is)
     c.met_change.ensures.out.resolved)

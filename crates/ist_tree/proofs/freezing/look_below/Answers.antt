@@ -38,5 +38,5 @@ pub turns-smaller : goal.turns-smaller
 turns-smaller c =
     fewer_left _ _
     (none_met c.turns.who c.look.new.who c.in_ok-site.field-0 c.in_default.not-Some
-    c.in_ok-site.ensures.met).on.went.sound
+    c.in_ok-site.ensures.met).on.gone.went.sound
     (c.look.ensures.further (c.in_ok-site.was ∙ ap Ok c.in_default.is))

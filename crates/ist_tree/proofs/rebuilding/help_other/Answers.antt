@@ -3,11 +3,14 @@ use Rattle.std.proofs.Common.{sym, ◌∙◌}
 use Rattle.ist_rebuild.specs.Going.{Serves, StartsAt}
 use Rattle.ist_dcss.specs.Helping as dcss
 use Rattle.ist_rule.proofs.WentOnLemmas.{went_all, went_same}
-use Rattle.ist_tree.proofs.EventLemmas.{help_aims, help_plain, serves_aims, serves_rebuild, serves_start_none}
+use Rattle.ist_tree.proofs.EventLemmas.{help_aims, help_plain, serves_aims, serves_start_none}
 use Rattle.ist_tree.proofs.InsteadLemmas.{change_helped, names_change, names_rebuild, none_helped, rebuild_helped}
-use Rattle.ist_tree.proofs.RebuildLemmas.{plain_done, plain_on, rebuilds_by, rebuilds_same, starts_went}
+use Rattle.ist_tree.proofs.RebuildLemmas.{plain_done, plain_on, starts_went}
 use Rattle.ist_tree.proofs.ShortLemmas.{other_refused, passed_on}
 use Rattle.ist_tree.proofs.ShutLemmas.{other_helped, other_started}
+use Rattle.ist_rows.proofs.GoneLemmas.{ready_same}
+use Rattle.ist_tree.specs.Working.{Rebuilds}
+use Rattle.ist_tree.proofs.DueLemmas.{serves_on}
 use Rattle.ist_tree.proofs.rebuilding.help_other.Goals as goal
 
 -- a rebuild is started
@@ -19,19 +22,13 @@ help_rebuild-requires-clause-started c =
 pub returns-in_err-help_rebuild-in-Rebuild-clause-on :
     goal.returns-in_err-help_rebuild-in-Rebuild-clause-on
 returns-in_err-help_rebuild-in-Rebuild-clause-on c =
-    rebuilds_by Serves serves_rebuild _ _ c.help_rebuild.ensures.went
-    record {
-      caller = c.help_rebuild.ensures.caller;
-      refused = c.help_rebuild.ensures.refused;
-      quiet = c.help_rebuild.ensures.quiet;
-    }
-    c.help_rebuild.ensures.number
+    serves_on _ _ c.help_rebuild.ensures.helped
 
 pub returns-in_err-help_rebuild-in-Rebuild-clause-aims :
     goal.returns-in_err-help_rebuild-in-Rebuild-clause-aims
 returns-in_err-help_rebuild-in-Rebuild-clause-aims c =
     went_all Serves (StartsAt c.args.due.target) (serves_aims c.args.due.target) _ _
-    c.help_rebuild.ensures.went
+    c.help_rebuild.ensures.helped.on.gone.went
 
 pub returns-in_err-help_rebuild-in-Rebuild-clause-full :
     goal.returns-in_err-help_rebuild-in-Rebuild-clause-full
@@ -41,29 +38,23 @@ returns-in_err-help_rebuild-in-Rebuild-clause-full c =
     c.requires.stood (names_rebuild _ _ (sym c.instead_in.ensures.value ∙ c.in-Rebuild.is))
     (other_started _ c.know.ensures.sound _ _ _ _ _ c.requires.stood
     (names_rebuild _ _ (sym c.instead_in.ensures.value ∙ c.in-Rebuild.is)))
-    c.help_rebuild.ensures.went c.in_err-help_rebuild-in-Rebuild.ensures.full)
+    c.help_rebuild.ensures.helped.on.gone.went c.in_err-help_rebuild-in-Rebuild.ensures.full)
 
 pub returns-in_ok-help_rebuild-in-Rebuild-clause-on :
     goal.returns-in_ok-help_rebuild-in-Rebuild-clause-on
 returns-in_ok-help_rebuild-in-Rebuild-clause-on c =
-    rebuilds_by Serves serves_rebuild _ _ c.help_rebuild.ensures.went
-    record {
-      caller = c.help_rebuild.ensures.caller;
-      refused = c.help_rebuild.ensures.refused;
-      quiet = c.help_rebuild.ensures.quiet;
-    }
-    c.help_rebuild.ensures.number
+    serves_on _ _ c.help_rebuild.ensures.helped
 
 pub returns-in_ok-help_rebuild-in-Rebuild-clause-aims :
     goal.returns-in_ok-help_rebuild-in-Rebuild-clause-aims
 returns-in_ok-help_rebuild-in-Rebuild-clause-aims c =
     went_all Serves (StartsAt c.args.due.target) (serves_aims c.args.due.target) _ _
-    c.help_rebuild.ensures.went
+    c.help_rebuild.ensures.helped.on.gone.went
 
 pub returns-in_ok-help_rebuild-in-Rebuild-clause-done :
     goal.returns-in_ok-help_rebuild-in-Rebuild-clause-done
 returns-in_ok-help_rebuild-in-Rebuild-clause-done c =
-    starts_went Serves _ _ _ c.requires.ready.caller.mine c.help_rebuild.ensures.went
+    starts_went Serves _ _ _ c.requires.ready.caller.mine c.help_rebuild.ensures.helped.on.gone.went
     (serves_start_none _) c.requires.ready.quiet.resolved
 
 pub returns-in_ok-help_rebuild-in-Rebuild-clause-settled :
@@ -103,7 +94,7 @@ pub returns-in-Other : goal.returns-in-Other
 returns-in-Other c =
     record {
       same_table = c.requires.same_table;
-      on = rebuilds_same _ c.know.ensures.sound c.requires.ready;
+      on = ready_same Rebuilds _ c.know.ensures.sound c.requires.ready;
       aims = went_same (StartsAt c.args.due.target) _ c.know.ensures.sound;
       done = λ done. done;
       settled = none_helped _ _ (sym c.instead_in.ensures.value ∙ c.in-Other.is);

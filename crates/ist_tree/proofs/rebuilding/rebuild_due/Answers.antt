@@ -5,15 +5,16 @@ use Rattle.ist_rebuild.specs.Going.{StartsAt}
 use Rattle.ist_rule.proofs.WentOnLemmas.{went_grow, went_more, went_same}
 use Rattle.ist_tree.specs.Working.{Rebuilds}
 use Rattle.ist_tree.proofs.DueLemmas.{done_more}
-use Rattle.ist_tree.proofs.RebuildLemmas.{may_start_went, rebuilds_more, rebuilds_same}
+use Rattle.ist_tree.proofs.RebuildLemmas.{may_start_went}
 use Rattle.ist_tree.proofs.ShortLemmas.{due_refused_more, passed_on}
+use Rattle.ist_rows.proofs.GoneLemmas.{ready_more, ready_same}
 use Rattle.ist_tree.proofs.rebuilding.rebuild_due.Goals as goal
 
 -- before the first attempt nothing was done
 pub turns-init : goal.turns-init
 turns-init c = (
   c.requires.same_table,
-  rebuilds_same c.args.who.now c.know.ensures.sound c.requires.ready,
+  ready_same Rebuilds c.args.who.now c.know.ensures.sound c.requires.ready,
   λ done. done,
   went_same (StartsAt c.args.due.target) _ c.know.ensures.sound,
 )
@@ -21,11 +22,11 @@ turns-init c = (
 -- the row may be rebuilt still
 pub try_due-requires-clause-may_start : goal.try_due-requires-clause-may_start
 try_due-requires-clause-may_start c =
-    may_start_went Rebuilds _ _ c.turns.invariant.1.went _ _ _ c.requires.may_start
+    may_start_went Rebuilds _ _ c.turns.invariant.1.gone.went _ _ _ c.requires.may_start
 
 pub returns-in_err-try_due-clause-on : goal.returns-in_err-try_due-clause-on
 returns-in_err-try_due-clause-on c =
-    rebuilds_more _ _ _ c.turns.invariant.1 c.try_due.ensures.on
+    ready_more Rebuilds _ _ _ c.turns.invariant.1 c.try_due.ensures.on
 
 pub returns-in_err-try_due-clause-aims : goal.returns-in_err-try_due-clause-aims
 returns-in_err-try_due-clause-aims c =
@@ -35,13 +36,13 @@ pub returns-in_err-try_due-clause-full : goal.returns-in_err-try_due-clause-full
 returns-in_err-try_due-clause-full c =
     passed_on c.from_residual.result _ _ c.from_residual.ensures.1
     (due_refused_more _ _
-    (went_grow Rebuilds c.args.who.now.seat.view c.turns.who.seat.view c.turns.invariant.1.went)
+    (went_grow Rebuilds c.args.who.now.seat.view c.turns.who.seat.view c.turns.invariant.1.gone.went)
     _ _ _ _ c.in_err-try_due.ensures.full)
 
 -- the last attempt found it shut
 pub returns-then-branch-clause-on : goal.returns-then-branch-clause-on
 returns-then-branch-clause-on c =
-    rebuilds_more _ _ _ c.turns.invariant.1 c.try_due.ensures.on
+    ready_more Rebuilds _ _ _ c.turns.invariant.1 c.try_due.ensures.on
 
 pub returns-then-branch-clause-aims : goal.returns-then-branch-clause-aims
 returns-then-branch-clause-aims c =
@@ -52,14 +53,14 @@ returns-then-branch-clause-shut c = c.in_ok-try_due.ensures.last c.if-branch.tru
 
 pub returns-then-branch-clause-done : goal.returns-then-branch-clause-done
 returns-then-branch-clause-done c =
-    done_more c.args.who.now c.turns.who c.try_due.new.who c.turns.invariant.1.number
+    done_more c.args.who.now c.turns.who c.try_due.new.who c.turns.invariant.1.gone.number
     c.turns.invariant.2 c.in_ok-try_due.ensures.done
 
 pub turns-preserved : goal.turns-preserved
 turns-preserved c = (
   c.try_due.ensures.same_table,
-  rebuilds_more _ _ _ c.turns.invariant.1 c.try_due.ensures.on,
-  done_more c.args.who.now c.turns.who c.try_due.new.who c.turns.invariant.1.number
+  ready_more Rebuilds _ _ _ c.turns.invariant.1 c.try_due.ensures.on,
+  done_more c.args.who.now c.turns.who c.try_due.new.who c.turns.invariant.1.gone.number
       c.turns.invariant.2 c.in_ok-try_due.ensures.done,
   went_more (StartsAt c.args.due.target) _ _ _ c.turns.invariant.3 c.try_due.ensures.aims,
 )
@@ -67,5 +68,5 @@ turns-preserved c = (
 -- each attempt but the last saw the table make progress
 pub turns-smaller : goal.turns-smaller
 turns-smaller c =
-    fewer_left _ _ c.try_due.ensures.on.went.sound
+    fewer_left _ _ c.try_due.ensures.on.gone.went.sound
     (c.try_due.ensures.further (c.in_ok-try_due.was ∙ ap Ok c.if-branch.false))

@@ -7,10 +7,11 @@ use Rattle.ist_tree.proofs.EventLemmas.{serves_aims}
 use Rattle.ist_rebuild.specs.Going.{Begins}
 use Rattle.ist_tree.proofs.DueFurtherLemmas.{due_further}
 use Rattle.ist_tree.proofs.DueLemmas.{begins_on, done_behind, done_more, helped_done, helped_either, helped_shut, marked_leaves, other_leaves, serves_on, yes_leaves}
-use Rattle.ist_tree.proofs.RebuildLemmas.{load_plain, may_start_went, plain_done, plain_on, rebuilds_more}
+use Rattle.ist_tree.proofs.RebuildLemmas.{load_plain, may_start_went, plain_done, plain_on}
 use Rattle.ist_tree.proofs.ShortLemmas.{due_refused_more, own_refused, passed_on, start_refused}
 use Rattle.ist_tree.proofs.ShutLemmas.{not_open_shut, not_shut_open, same_ok}
 use Rattle.ist_tree.specs.Working.{Rebuilds}
+use Rattle.ist_rows.proofs.GoneLemmas.{ready_more, still_ready}
 use Rattle.ist_tree.proofs.rebuilding.try_due.Goals as goal
 
 -- ---- the start is refused
@@ -33,18 +34,17 @@ help_rebuild-requires-clause-started c =
 
 pub returns-in_err-help_rebuild-in-Yes-clause-on : goal.returns-in_err-help_rebuild-in-Yes-clause-on
 returns-in_err-help_rebuild-in-Yes-clause-on c =
-    rebuilds_more _ _ _
+    ready_more Rebuilds _ _ _
     (begins_on _ _ c.requires.ready c.start.ensures.caller c.start.ensures.refused
     c.start.ensures.quiet c.start.ensures.went c.start.ensures.number)
-    (serves_on _ _ c.help_rebuild.ensures.caller c.help_rebuild.ensures.refused
-    c.help_rebuild.ensures.quiet c.help_rebuild.ensures.went c.help_rebuild.ensures.number)
+    (serves_on _ _ c.help_rebuild.ensures.helped)
 
 pub returns-in_err-help_rebuild-in-Yes-clause-aims :
     goal.returns-in_err-help_rebuild-in-Yes-clause-aims
 returns-in_err-help_rebuild-in-Yes-clause-aims c =
     went_more (StartsAt c.args.due.target) _ _ _ c.start.ensures.aims
     (went_all Serves (StartsAt c.args.due.target) (serves_aims c.args.due.target) _ _
-    c.help_rebuild.ensures.went)
+    c.help_rebuild.ensures.helped.on.gone.went)
 
 pub returns-in_err-help_rebuild-in-Yes-clause-full :
     goal.returns-in_err-help_rebuild-in-Yes-clause-full
@@ -52,28 +52,27 @@ returns-in_err-help_rebuild-in-Yes-clause-full c =
     passed_on c.from_residual-in_err-help_rebuild-in-Yes.result _ _
     c.from_residual-in_err-help_rebuild-in-Yes.ensures.1
     (own_refused _ c.start.new.who.seat.view c.help_rebuild.new.who.seat.view _ _ _ _ _ _
-    (c.in_ok-rebuild.ensures.yes _ (ap Ok c.in-Yes.is)) c.help_rebuild.ensures.went
+    (c.in_ok-rebuild.ensures.yes _ (ap Ok c.in-Yes.is)) c.help_rebuild.ensures.helped.on.gone.went
     c.in_err-help_rebuild-in-Yes.ensures.full)
 
 pub returns-in_ok-help_rebuild-in-Yes-clause-on : goal.returns-in_ok-help_rebuild-in-Yes-clause-on
 returns-in_ok-help_rebuild-in-Yes-clause-on c =
-    rebuilds_more _ _ _
+    ready_more Rebuilds _ _ _
     (begins_on _ _ c.requires.ready c.start.ensures.caller c.start.ensures.refused
     c.start.ensures.quiet c.start.ensures.went c.start.ensures.number)
-    (serves_on _ _ c.help_rebuild.ensures.caller c.help_rebuild.ensures.refused
-    c.help_rebuild.ensures.quiet c.help_rebuild.ensures.went c.help_rebuild.ensures.number)
+    (serves_on _ _ c.help_rebuild.ensures.helped)
 
 pub returns-in_ok-help_rebuild-in-Yes-clause-aims :
     goal.returns-in_ok-help_rebuild-in-Yes-clause-aims
 returns-in_ok-help_rebuild-in-Yes-clause-aims c =
     went_more (StartsAt c.args.due.target) _ _ _ c.start.ensures.aims
     (went_all Serves (StartsAt c.args.due.target) (serves_aims c.args.due.target) _ _
-    c.help_rebuild.ensures.went)
+    c.help_rebuild.ensures.helped.on.gone.went)
 
 pub returns-in_ok-help_rebuild-in-Yes-clause-last :
     goal.returns-in_ok-help_rebuild-in-Yes-clause-last
 returns-in_ok-help_rebuild-in-Yes-clause-last c is =
-    helped_shut _ _ c.help_rebuild.ensures.went _ _ _ _
+    helped_shut _ _ c.help_rebuild.ensures.helped.on.gone.went _ _ _ _
     (c.in_ok-rebuild.ensures.yes _ (ap Ok c.in-Yes.is))
     (helped_either c.in_ok-help_rebuild-in-Yes.field-0 _ _
     c.in_ok-help_rebuild-in-Yes.ensures.replaced c.in_ok-help_rebuild-in-Yes.ensures.parent_marked)
@@ -84,7 +83,7 @@ returns-in_ok-help_rebuild-in-Yes-clause-done c done =
     helped_done c.args.who.now c.start.new.who c.help_rebuild.new.who
     (begins_on _ _ c.requires.ready c.start.ensures.caller c.start.ensures.refused
     c.start.ensures.quiet c.start.ensures.went c.start.ensures.number)
-    c.help_rebuild.ensures.went _
+    c.help_rebuild.ensures.helped.on.gone.went _
     (yes_leaves _ _ _ _ c.in-Yes.is (c.in_ok-rebuild.ensures.done done))
     (helped_either c.in_ok-help_rebuild-in-Yes.field-0 _ _
     c.in_ok-help_rebuild-in-Yes.ensures.replaced c.in_ok-help_rebuild-in-Yes.ensures.parent_marked)
@@ -107,7 +106,7 @@ returns-in-Marked-clause-done c done =
 
 pub returns-in_err-help_other-in-Other-clause-on : goal.returns-in_err-help_other-in-Other-clause-on
 returns-in_err-help_other-in-Other-clause-on c =
-    rebuilds_more _ _ _
+    ready_more Rebuilds _ _ _
     (begins_on _ _ c.requires.ready c.start.ensures.caller c.start.ensures.refused
     c.start.ensures.quiet c.start.ensures.went c.start.ensures.number) c.help_other.ensures.on
 
@@ -127,19 +126,19 @@ returns-in_err-help_other-in-Other-clause-full c =
 
 pub is_open-requires-clause-node : goal.is_open-requires-clause-node
 is_open-requires-clause-node c =
-    let on = rebuilds_more _ _ _
+    let on = ready_more Rebuilds _ _ _
     (begins_on _ _ c.requires.ready c.start.ensures.caller c.start.ensures.refused
     c.start.ensures.quiet c.start.ensures.went c.start.ensures.number) c.help_other.ensures.on in
-    let m = may_start_went Rebuilds _ _ on.went _ _ _ c.requires.may_start in
+    let m = may_start_went Rebuilds _ _ on.gone.went _ _ _ c.requires.may_start in
     is_inner m.row m.published
 
 pub returns-in_ok-help_other-in-Other-clause-on : goal.returns-in_ok-help_other-in-Other-clause-on
 returns-in_ok-help_other-in-Other-clause-on c =
-    let on = rebuilds_more _ _ _
+    let on = ready_more Rebuilds _ _ _
     (begins_on _ _ c.requires.ready c.start.ensures.caller c.start.ensures.refused
     c.start.ensures.quiet c.start.ensures.went c.start.ensures.number) c.help_other.ensures.on in
-    rebuilds_more _ _ _ on
-    (plain_on _ load_plain c.help_other.new.who c.is_open.new.seat on.ready
+    ready_more Rebuilds _ _ _ on
+    (plain_on _ load_plain c.help_other.new.who c.is_open.new.seat (still_ready on)
     (goes_on_went _ _ _ c.is_open.ensures.seen))
 
 pub returns-in_ok-help_other-in-Other-clause-aims :
@@ -160,9 +159,9 @@ returns-in_ok-help_other-in-Other-clause-done c done =
     let last = record c.help_other.new.who { seat = c.is_open.new.seat } in
     done_behind c.args.who.now c.start.new.who last c.start.ensures.number
     (other_leaves _ _ _ _ c.in-Other.is (c.in_ok-rebuild.ensures.done done))
-    (done_more c.start.new.who c.help_other.new.who last c.help_other.ensures.on.number
+    (done_more c.start.new.who c.help_other.new.who last c.help_other.ensures.on.gone.number
     c.in_ok-help_other-in-Other.ensures.done
-    (plain_done _ load_plain c.help_other.new.who c.is_open.new.seat c.help_other.ensures.on.ready
+    (plain_done _ load_plain c.help_other.new.who c.is_open.new.seat (still_ready c.help_other.ensures.on)
     (goes_on_went _ _ _ c.is_open.ensures.seen)))
 
 -- if the row is still open, a change of another was helped
@@ -170,6 +169,6 @@ pub returns-in_ok-help_other-in-Other-clause-further :
     goal.returns-in_ok-help_other-in-Other-clause-further
 returns-in_ok-help_other-in-Other-clause-further c is =
     due_further Begins Rebuilds _ _ _ _ _ _ _ _ c.requires.may_start c.start.ensures.went
-    (c.in_ok-rebuild.ensures.other _ (ap Ok c.in-Other.is)) c.help_other.ensures.on.went
+    (c.in_ok-rebuild.ensures.other _ (ap Ok c.in-Other.is)) c.help_other.ensures.on.gone.went
     c.in_ok-help_other-in-Other.ensures.settled c.is_open.ensures.seen
     (not_shut_open c.is_open.result _ c.is_open.ensures.open (same_ok _ _ is))

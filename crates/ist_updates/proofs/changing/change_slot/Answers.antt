@@ -5,7 +5,8 @@ use Rattle.ist_updates.specs.Changing.{Prepares}
 use Rattle.ist_updates.specs.Trying.{Tries}
 use Rattle.ist_rule.proofs.WentOnLemmas.{goes_on_grow}
 use Rattle.ist_updates.proofs.AskedLemmas.{asked_gone, asked_quiet}
-use Rattle.ist_updates.proofs.GoneLemmas.{loads_gone, gone_more, gone_all, refused_behind}
+use Rattle.ist_updates.proofs.ShortLemmas.{refused_behind}
+use Rattle.ist_rows.proofs.GoneLemmas.{loads_gone, gone_more, gone_all}
 use Rattle.ist_updates.proofs.PlanLemmas.{slot_node, slot_loads}
 use Rattle.ist_updates.proofs.SlotLemmas.{prepared, prepared_taken}
 use Rattle.ist_updates.proofs.StandingLemmas.{way_on}

@@ -1,6 +1,6 @@
 use Rattle.ist_rule.proofs.GoingOnLemmas.{goes_on_same}
 use Rattle.ist_updates.specs.Changing.{Prepares}
-use Rattle.ist_updates.proofs.GoneLemmas.{loads_gone}
+use Rattle.ist_rows.proofs.GoneLemmas.{loads_gone}
 use Rattle.ist_updates.proofs.PairLemmas.{pair_below, pair_above, dropped}
 use Rattle.ist_updates.proofs.changing.drop_below.Goals as goal
 

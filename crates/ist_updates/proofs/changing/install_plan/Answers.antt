@@ -2,7 +2,7 @@ use Rattle.std.proofs.Common.{sym, subst}
 use Rattle.ist_rule.specs.Faces.{SeatFace}
 use Rattle.ist_dcss.specs.Installing.{Filling, IsInstalled}
 use Rattle.ist_updates.proofs.GivenLemmas.{given_caller, given_refused}
-use Rattle.ist_updates.proofs.GoneLemmas.{loads_gone}
+use Rattle.ist_rows.proofs.GoneLemmas.{loads_gone}
 use Rattle.ist_rule.specs.Learning.{now}
 use Rattle.ist_updates.specs.Further.{HoldsElse}
 use Rattle.ist_updates.proofs.changing.install_plan.Goals as goal

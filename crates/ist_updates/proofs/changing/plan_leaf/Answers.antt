@@ -3,7 +3,8 @@ use Rattle.ist_rows.specs.declared.kinds.Kind.TheVariants as kind
 use Rattle.ist_rows.specs.Rows.{Spares}
 use Rattle.ist_updates.specs.Changing.{Prepares}
 use Rattle.ist_updates.specs.declared.plans.Way.TheVariants as way
-use Rattle.ist_updates.proofs.GoneLemmas.{gone_more, way_refused}
+use Rattle.ist_updates.proofs.ShortLemmas.{way_refused}
+use Rattle.ist_rows.proofs.GoneLemmas.{gone_more}
 use Rattle.ist_updates.proofs.PairLemmas.{row_good}
 use Rattle.ist_updates.proofs.PlanLemmas.{leaf_planned}
 use Rattle.ist_updates.proofs.changing.plan_leaf.Goals as goal

@@ -6,7 +6,8 @@ use Rattle.ist_rule.proofs.WentOnLemmas.{went_grow}
 use Rattle.ist_dcss.proofs.FieldLemmas.{good_base}
 use Rattle.ist_updates.specs.Changing.{Prepares}
 use Rattle.ist_updates.specs.declared.plans.Way.TheVariants as way
-use Rattle.ist_updates.proofs.GoneLemmas.{gone_more, way_refused}
+use Rattle.ist_updates.proofs.ShortLemmas.{way_refused}
+use Rattle.ist_rows.proofs.GoneLemmas.{gone_more}
 use Rattle.ist_updates.proofs.PairLemmas.{row_good, node_on}
 use Rattle.ist_updates.proofs.PlanLemmas.{slot_node, pair_planned}
 use Rattle.ist_updates.proofs.changing.plan_pair.Goals as goal

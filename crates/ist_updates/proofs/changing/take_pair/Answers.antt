@@ -3,7 +3,8 @@ use Rattle.ist_rows.specs.declared.kinds.Kind.TheVariants.{Pair}
 use Rattle.ist_rows.specs.Rows.{Spares}
 use Rattle.ist_rule.proofs.WentOnLemmas.{went_grow}
 use Rattle.ist_updates.specs.Changing.{Prepares}
-use Rattle.ist_updates.proofs.GoneLemmas.{gone_more, asked_behind}
+use Rattle.ist_updates.proofs.ShortLemmas.{asked_behind}
+use Rattle.ist_rows.proofs.GoneLemmas.{gone_more}
 use Rattle.ist_updates.proofs.PairLemmas.{row_good, node_on, fresh_above}
 use Rattle.ist_updates.proofs.changing.take_pair.Goals as goal
 

@@ -1,5 +1,5 @@
 use Rattle.std.proofs.Common.{rules, Ok, ap, ◌∙◌}
-use Rattle.ist_rule.proofs.WentOnLemmas.{went_all}
+use Rattle.ist_rows.proofs.GoneLemmas.{gone_all}
 use Rattle.ist_rebuild.specs.Going.{Serves}
 use Rattle.ist_updates.specs.Trying.{Tries}
 use Rattle.ist_updates.proofs.AskedLemmas.{asked_served}
@@ -17,45 +17,24 @@ help_rebuild-requires-clause-started c =
 
 pub returns-in_err-help_rebuild-clause-gone : goal.returns-in_err-help_rebuild-clause-gone
 returns-in_err-help_rebuild-clause-gone c =
-    let h = c.in_err-help_rebuild.ensures in
-    record {
-      caller = h.caller;
-      number = h.number;
-      refused = h.refused;
-      went = went_all Serves Tries serves_tries _ _ h.went;
-    }
+    gone_all Serves Tries serves_tries _ _ c.help_rebuild.ensures.helped.on.gone
 
 pub returns-clause-gone : goal.returns-clause-gone
 returns-clause-gone c =
-    let h = c.help_rebuild.ensures in
-    record {
-      caller = h.caller;
-      number = h.number;
-      refused = h.refused;
-      went = went_all Serves Tries serves_tries _ _ h.went;
-    }
+    gone_all Serves Tries serves_tries _ _ c.help_rebuild.ensures.helped.on.gone
 
 -- the caller is asked still
 pub returns-clause-tried : goal.returns-clause-tried
 returns-clause-tried c =
-    let h = c.help_rebuild.ensures in
-    asked_served _ _ _ c.requires.asked record {
-      caller = h.caller;
-      number = h.number;
-      refused = h.refused;
-      went = h.went;
-    } h.quiet.resolved
+    let on = c.help_rebuild.ensures.helped.on in
+    asked_served _ _ _ c.requires.asked on.gone on.quiet.resolved
 
 pub returns-in_err-help_rebuild-clause-full : goal.returns-in_err-help_rebuild-clause-full
 returns-in_err-help_rebuild-clause-full c =
     let h = c.in_err-help_rebuild.ensures in
+    let on = c.help_rebuild.ensures.helped.on in
     let full = refused_still c.args.who.now c.help_rebuild.new.who c.args.aim.key c.args.value _ _
-    (asked_served c.args.who.now c.help_rebuild.new.who _ c.requires.asked record {
-      caller = h.caller;
-      number = h.number;
-      refused = h.refused;
-      went = h.went;
-    } h.quiet.resolved)
+    (asked_served c.args.who.now c.help_rebuild.new.who _ c.requires.asked on.gone on.quiet.resolved)
     (help_refused _ c.know.ensures.sound c.args.aim.key c.args.aim.node c.args.aim.index
     c.args.aim.word c.args.base c.requires.at_slot c.requires.rebuild c.args.value _ _ _ h.full) in
     search rules
@@ -63,9 +42,10 @@ returns-in_err-help_rebuild-clause-full c =
 pub returns-clause-further : goal.returns-clause-further
 returns-clause-further c _ first aimed =
     let h = c.help_rebuild.ensures in
-    let b = behind_went Serves _ _ h.went in
+    let went = h.helped.on.gone.went in
+    let b = behind_went Serves _ _ went in
     by_helped c.in_ok-help_rebuild.field-0
-    (λ e. replaced_further first _ _ _ _ _ aimed b h.went.sound c.args.base c.requires.rebuild
+    (λ e. replaced_further first _ _ _ _ _ aimed b went.sound c.args.base c.requires.rebuild
     (h.replaced (c.in_ok-help_rebuild.was ∙ ap Ok e)))
-    (λ e. left_further first _ _ _ _ _ aimed b h.went.sound c.args.base c.requires.rebuild
+    (λ e. left_further first _ _ _ _ _ aimed b went.sound c.args.base c.requires.rebuild
     (h.parent_marked (c.in_ok-help_rebuild.was ∙ ap Ok e)))

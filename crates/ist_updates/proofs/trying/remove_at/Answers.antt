@@ -3,7 +3,7 @@ use Rattle.std.specs.Prelude.{Ok}
 use Rattle.ist_rule.specs.Learning.{now}
 use Rattle.ist_rule.proofs.GoingOnLemmas.{goes_on_same}
 use Rattle.ist_updates.specs.Trying.{Tries}
-use Rattle.ist_updates.proofs.GoneLemmas.{loads_gone}
+use Rattle.ist_rows.proofs.GoneLemmas.{loads_gone}
 use Rattle.ist_updates.proofs.HelpedLemmas.{refused_still}
 use Rattle.ist_updates.proofs.LeafLemmas.{own_value}
 use Rattle.ist_updates.proofs.TriedLemmas.{found_other, found_key, remove_refused, answered}

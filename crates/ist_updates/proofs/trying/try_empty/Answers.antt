@@ -3,7 +3,7 @@ use Rattle.ist_rule.specs.Faces.{word_count_of}
 use Rattle.ist_rule.proofs.GoingOnLemmas.{goes_on_same}
 use Rattle.ist_updates.specs.Answering.{IsTryRefused}
 use Rattle.ist_updates.specs.Trying.{Tries}
-use Rattle.ist_updates.proofs.GoneLemmas.{loads_gone}
+use Rattle.ist_rows.proofs.GoneLemmas.{loads_gone}
 use Rattle.ist_updates.proofs.HelpedLemmas.{refused_still}
 use Rattle.ist_updates.proofs.TriedLemmas.{found_nothing, put_refused}
 use Rattle.ist_updates.proofs.FurtherLemmas.{ok_again}

@@ -4,7 +4,7 @@ use Rattle.ist_rule.specs.Faces.{word_count_of}
 use Rattle.ist_updates.specs.Answering.{IsTried, IsTryRefused}
 use Rattle.ist_updates.specs.Asking.{command_for, IsAsked}
 use Rattle.ist_updates.specs.Trying.{Tries}
-use Rattle.ist_updates.proofs.GoneLemmas.{loads_gone, gone_more}
+use Rattle.ist_rows.proofs.GoneLemmas.{loads_gone, gone_more}
 use Rattle.ist_updates.proofs.PlanLemmas.{slot_loads}
 use Rattle.ist_updates.proofs.TriedLemmas.{slot_leaf, loads_asked, ok_behind, err_behind}
 use Rattle.ist_updates.proofs.BehindLemmas.{behind_loads}

@@ -1,8 +1,9 @@
-use Rattle.test_rebuilds.proofs.AbleLemmas.{entered_able}
+use Rattle.ist_tree.proofs.FreezeCallLemmas.{begun_ready}
+use Rattle.ist_tree.proofs.TokenLemmas.{new_pass}
 use Rattle.test_rebuilds.proofs.callers.enter_call.Goals as goal
 
-pub returns-clause-able : goal.returns-clause-able
-returns-clause-able c =
-    entered_able c.enter-who.result c.begin_call.new.seat c.enter-who.ensures.caller
-    c.enter-who.ensures.holds_none c.enter-who.ensures.in_none c.know.ensures.sound
-    c.begin_call.ensures.begun
+pub returns-clause-ready : goal.returns-clause-ready
+returns-clause-ready c =
+    begun_ready c.enter-who.result c.begin_call.new.seat c.know.ensures.sound
+    (new_pass c.enter-who.result c.enter-who.ensures.caller c.enter-who.ensures.holds_none
+    c.enter-who.ensures.in_none) c.begin_call.ensures.begun

@@ -1,7 +1,7 @@
 use Rattle.ist_rebuild.specs.Going.{Serves}
-use Rattle.ist_rebuild.proofs.AbleLemmas.{started_went}
+use Rattle.ist_rebuild.proofs.HelpedLemmas.{started_went}
 use Rattle.test_rebuilds.proofs.callers.help_on.Goals as goal
 
 pub returns-clause-started : goal.returns-clause-started
 returns-clause-started c =
-    started_went Serves _ _ c.help_rebuild.ensures.went c.args.rebuild c.requires.started
+    started_went Serves _ _ c.help_rebuild.ensures.helped.on.gone.went c.args.rebuild c.requires.started

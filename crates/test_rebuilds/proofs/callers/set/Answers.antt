@@ -1,13 +1,14 @@
 use Rattle.ist_build.specs.Calls.{Builds}
-use Rattle.ist_rebuild.proofs.AbleLemmas.{built_helped}
+use Rattle.ist_rebuild.proofs.HelpedLemmas.{built_helped}
 use Rattle.ist_rebuild.proofs.BuiltOutLemmas.{buildable_went}
+use Rattle.ist_rows.proofs.GoneLemmas.{still_ready}
 use Rattle.test_rebuilds.proofs.callers.set.Goals as goal
 
-pub returns-clause-able : goal.returns-clause-able
-returns-clause-able c =
-    (built_helped c.args.who.now c.set_root.new.who c.requires.able c.set_root.ensures.caller
+pub returns-clause-ready : goal.returns-clause-ready
+returns-clause-ready c =
+    still_ready (built_helped c.args.who.now c.set_root.new.who c.requires.ready c.set_root.ensures.caller
     c.set_root.ensures.refused c.set_root.ensures.number c.set_root.ensures.rows
-    c.set_root.ensures.went).able
+    c.set_root.ensures.went).on
 
 pub returns-clause-buildable : goal.returns-clause-buildable
 returns-clause-buildable c =

@@ -1,6 +1,6 @@
 use Rattle.ist_rule.proofs.WentOnLemmas.{goes_on_grow}
 use Rattle.ist_updates.specs.Changing.{Prepares}
-use Rattle.ist_updates.proofs.GoneLemmas.{loads_gone}
+use Rattle.ist_rows.proofs.GoneLemmas.{loads_gone}
 use Rattle.ist_updates.proofs.PlanLemmas.{slot_loads, slot_node}
 use Rattle.test_rebuilds.proofs.LateLemmas.{put_filled, room_later}
 use Rattle.test_rebuilds.proofs.late.fill_for.Goals as goal

@@ -1,7 +1,7 @@
 use Rattle.std.proofs.Common.{arith}
 use Rattle.ist_rows.specs.declared.kinds.Kind.TheVariants as kind
 use Rattle.ist_updates.specs.Changing.{Prepares}
-use Rattle.ist_updates.proofs.GoneLemmas.{gone_more}
+use Rattle.ist_rows.proofs.GoneLemmas.{gone_more}
 use Rattle.ist_updates.proofs.PairLemmas.{row_good}
 use Rattle.test_rebuilds.proofs.late.plan.Goals as goal
 

@@ -1,6 +1,6 @@
 use Rattle.std.proofs.Common.{◌≡◌}
 use Rattle.test_rebuilds.specs.Steps.{IsMarked}
-use Rattle.ist_rebuild.specs.Finishing.{IsAble}
+use Rattle.ist_rows.specs.Going.{IsReady}
 use Rattle.ist_rule.specs.Learning.{now}
 use Rattle.test_rebuilds.proofs.leaves.are_pairs.Given as goal
 
@@ -9,5 +9,5 @@ abbrev pub invariant-loop-i : goal.invariant-loop-i
 invariant-loop-i l =
     (l.maker.table ≡ l.table.table)
     × (l.who.seat.table ≡ l.table.table)
-    × IsAble l.who
+    × IsReady l.who
     × IsMarked (now l.who.seat.view) l.rebuild l.marked.target l.marked.keys

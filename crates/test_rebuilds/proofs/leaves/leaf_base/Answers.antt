@@ -1,11 +1,12 @@
-use Rattle.test_rebuilds.proofs.AbleLemmas.{marked_loads}
-use Rattle.ist_rebuild.proofs.AbleLemmas.{loads_helped}
+use Rattle.test_rebuilds.proofs.ReadyLemmas.{marked_loads}
+use Rattle.ist_rebuild.proofs.HelpedLemmas.{loads_helped}
+use Rattle.ist_rows.proofs.GoneLemmas.{still_ready}
 use Rattle.test_rebuilds.proofs.leaves.leaf_base.Goals as goal
 
-pub returns-clause-able : goal.returns-clause-able
-returns-clause-able c =
-    (loads_helped c.args.who.now c.leaf_at-leaf.new.seat c.requires.able
-    c.leaf_at-leaf.ensures.seen).able
+pub returns-clause-ready : goal.returns-clause-ready
+returns-clause-ready c =
+    still_ready (loads_helped c.args.who.now c.leaf_at-leaf.new.seat c.requires.ready
+    c.leaf_at-leaf.ensures.seen).on
 
 pub returns-clause-marked : goal.returns-clause-marked
 returns-clause-marked c =

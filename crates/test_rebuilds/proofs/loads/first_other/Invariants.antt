@@ -1,6 +1,6 @@
 use Rattle.std.proofs.Common.{◌≡◌}
 use Rattle.test_rebuilds.specs.Steps.{IsMarked}
-use Rattle.ist_rebuild.specs.Finishing.{IsAble}
+use Rattle.ist_rows.specs.Going.{IsReady}
 use Rattle.ist_rule.specs.Learning.{now}
 use Rattle.test_rebuilds.proofs.loads.first_other.Given as goal
 
@@ -8,5 +8,5 @@ use Rattle.test_rebuilds.proofs.loads.first_other.Given as goal
 abbrev pub invariant-loop-i : goal.invariant-loop-i
 invariant-loop-i l =
     (l.who.seat.table ≡ l.table.table)
-    × IsAble l.who
+    × IsReady l.who
     × IsMarked (now l.who.seat.view) l.rebuild l.marked.target l.marked.keys

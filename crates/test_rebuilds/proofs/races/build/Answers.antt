@@ -19,7 +19,7 @@ pub load-stood-requires-clause-within : goal.load-stood-requires-clause-within
 load-stood-requires-clause-within c =
     let laid = has_laid c.args.who.now c.build_part.new.who c.args.rebuild c.args.marked.target
     c.args.marked.keys c.to_word-word.result (ref_meant c.in-Ok.root) c.if-marked-ne2.false
-    c.know.ensures.sound c.requires.marked c.requires.able.caller.mine c.build_part.ensures.number
+    c.know.ensures.sound c.requires.marked c.requires.ready.caller.mine c.build_part.ensures.number
     c.build_part.ensures.went c.in-Ok.ensures.laid
     (ap ref_of c.to_word-word.ensures.value ∙ ref_of-word_of (ref_meant c.in-Ok.root)
     c.in-Ok.ensures.good) in
@@ -35,7 +35,7 @@ pub returns-clause-built : goal.returns-clause-built
 returns-clause-built c =
     let laid = has_laid c.args.who.now c.build_part.new.who c.args.rebuild c.args.marked.target
     c.args.marked.keys c.to_word-word.result (ref_meant c.in-Ok.root) c.if-marked-ne2.false
-    c.know.ensures.sound c.requires.marked c.requires.able.caller.mine c.build_part.ensures.number
+    c.know.ensures.sound c.requires.marked c.requires.ready.caller.mine c.build_part.ensures.number
     c.build_part.ensures.went c.in-Ok.ensures.laid
     (ap ref_of c.to_word-word.ensures.value ∙ ref_of-word_of (ref_meant c.in-Ok.root)
     c.in-Ok.ensures.good) in

@@ -1,8 +1,8 @@
 use Rattle.test_rebuilds.proofs.updates.start_due.Goals as goal
 
 -- the caller may help
-pub returns-clause-able : goal.returns-clause-able
-returns-clause-able c =
+pub returns-clause-ready : goal.returns-clause-ready
+returns-clause-ready c =
     let it = c.start.ensures in
     record {
       caller = it.caller;

@@ -1,45 +1,31 @@
--- A caller that begins its call, and what it knows of a rebuild over further steps. Serves the steps
--- of the tests.
-use Rattle.std.proofs.Common.{◌≡◌, ℕ, [], None}
+-- What a caller knows of a rebuild over further steps. Serves the steps of the tests.
+use Rattle.std.proofs.Common.{ℕ}
 use Rattle.ist_core.specs.Marking.{HasTarget}
 use Rattle.ist_core.specs.Rebuilding.{IsFinishedWith, IsStarted}
 use Rattle.laws_links.proofs.FinishedLemmas.{target_grows}
 use Rattle.laws_links.proofs.FormLemmas.{finished_with_grows}
 use Rattle.test_rebuilds.specs.Steps.{IsMarked}
 use Rattle.ist_mark.specs.Marking.{Marks}
-use Rattle.ist_rebuild.specs.Finishing.{IsAble}
+use Rattle.ist_rows.specs.Going.{IsReady}
 use Rattle.ist_rebuild.specs.Going.{Serves}
-use Rattle.ist_rebuild.proofs.AbleLemmas.{started_went}
+use Rattle.ist_rebuild.proofs.HelpedLemmas.{started_went}
 use Rattle.ist_rebuild.proofs.BuiltOutLemmas.{has_marked}
 use Rattle.ist_rule.specs.declared.view.View.{View}
 use Rattle.ist_rule.specs.Faces.{SeatFace}
 use Rattle.ist_rule.specs.Going.{WentOn}
-use Rattle.ist_rule.specs.Learning.{GoesOnTo, Turned, beginning, now}
-use Rattle.ist_rule.specs.Rule.{IsSound}
+use Rattle.ist_rule.specs.Learning.{GoesOnTo, now}
 use Rattle.ist_rule.proofs.WentOnLemmas.{goes_on_went, went_grow}
 use Rattle.ist_rows.specs.declared.callers.Caller.{Caller}
-use Rattle.ist_rows.specs.Rows.{IsCaller, held_by}
-use Rattle.ist_tree.proofs.FreezeCallLemmas.{begun_ready}
-use Rattle.ist_tree.proofs.TokenLemmas.{new_pass}
-
--- a caller that entered and began a call may help
-pub entered_able : (who : Caller) (seat : SeatFace) → IsCaller who
-    → held_by (now who.seat.view) who.number ≡ [] → who.seat.view.pending ≡ None
-    → IsSound who.seat.view → Turned who.seat.view (beginning who.seat.view None) seat.view
-    → IsAble (record who { seat = seat })
-entered_able who seat c holds none s begun =
-    let r = begun_ready who seat s (new_pass who c holds none) begun in
-    record { caller = r.caller; refused = r.refused; quiet = r.quiet }
 
 -- the target that it marked is finished
-pub is_marked : (who : Caller) (mid seat : SeatFace) (rebuild target keys : ℕ) → IsAble who
+pub is_marked : (who : Caller) (mid seat : SeatFace) (rebuild target keys : ℕ) → IsReady who
     → IsStarted (now who.seat.view) rebuild → GoesOnTo who.seat.view mid.view
     → HasTarget (now mid.view) rebuild target → WentOn (Marks seat.view target) mid.view seat.view
     → IsFinishedWith (now seat.view) target keys → IsMarked (now seat.view) rebuild target keys
-is_marked who mid seat rebuild target keys able started seen h marks finished =
-    let m = has_marked who mid seat rebuild target keys able started seen h marks finished in
+is_marked who mid seat rebuild target keys ready started seen h marks finished =
+    let m = has_marked who mid seat rebuild target keys ready started seen h marks finished in
     record {
-      started = started_went Serves who.seat.view seat.view m.helped.went rebuild started;
+      started = started_went Serves who.seat.view seat.view m.helped.on.gone.went rebuild started;
       target_is = target_grows (now mid.view) (now seat.view)
           (went_grow (Marks seat.view target) mid.view seat.view marks) rebuild target h;
       finished = finished;

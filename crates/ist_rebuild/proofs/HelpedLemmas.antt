@@ -1,9 +1,8 @@
--- A caller that may help, after each kind of step that it makes. Serves each function.
-use Rattle.std.proofs.Common.{◌≡◌, ℕ, List, Option, Some, None, Result, Ok, IfSome, refl, sym, ap, ◌∙◌, subst, le_refl}
+-- A caller that helps a rebuild, after each kind of step that it makes. Serves each function.
+use Rattle.std.proofs.Common.{◌≡◌, ℕ, List, Option, Some, None, Result, Ok, IfSome, refl, sym, ap, ◌∙◌, subst}
 use Rattle.ist_core.specs.declared.events.Event.{Event}
 use Rattle.ist_core.specs.declared.events.Event.TheVariants.{Reserve}
 use Rattle.ist_core.specs.declared.ports.Full.{Full}
-use Rattle.ist_core.specs.Authors.{no_more}
 use Rattle.ist_core.specs.Rebuilding.{IsStarted}
 use Rattle.laws_links.proofs.FormLemmas.{started_grows}
 use Rattle.ist_rule.specs.declared.view.View.{View}
@@ -21,37 +20,33 @@ use Rattle.ist_rows.specs.Building.{HasRefused}
 use Rattle.ist_rows.specs.CallerLaws.{KeepsRows, InstallsNone}
 use Rattle.ist_rows.specs.Kinds.{kind_words}
 use Rattle.ist_rows.specs.Rows.{spares_of, with_row, IsCaller, IsFresh, IsRefused, Reserved}
-use Rattle.ist_rows.proofs.CallerLawLemmas.{caller_went, refused_went, resolved_went}
+use Rattle.ist_rows.specs.Filling.{with_own}
+use Rattle.ist_rows.proofs.CallerLawLemmas.{resolved_went}
+use Rattle.ist_rows.proofs.GoneLemmas.{kept_ready, loads_ready, own_ready, ready_all, ready_more, ready_same, still_ready}
 use Rattle.ist_dcss.specs.Helping.{Serves as HelpsWith}
 use Rattle.ist_dcss.proofs.HelperLemmas.{serves_keep}
 use Rattle.ist_mark.specs.Marking.{Marks}
 use Rattle.ist_mark.proofs.SubtreeLemmas.{marks_keep}
 use Rattle.ist_build.specs.Calls.{Builds}
-use Rattle.ist_rebuild.specs.Finishing.{IsAble, HasHelped}
+use Rattle.ist_rebuild.specs.Helping.{HasHelped}
+use Rattle.ist_rows.specs.Going.{IsReady}
 use Rattle.ist_rebuild.specs.Going.{Serves}
-use Rattle.ist_rebuild.proofs.EventLemmas.{change_serves, marks_serve, builds_serve, builds_install_none, keeping_installs_none}
+use Rattle.ist_rebuild.proofs.EventLemmas.{change_serves, marks_serve, builds_serve, builds_install_none}
 use Rattle.ist_rebuild.proofs.ReservedLemmas.{refused_reserved}
 
 -- ---- together
 
 -- who does nothing has helped
-pub helped_same : (who : Caller) → IsAble who → IsSound who.seat.view → HasHelped who who
-helped_same who able s =
-    record {
-      able = able;
-      number = refl;
-      fresh = (refl, refl);
-      went = went_same Serves who.seat.view s;
-    }
+pub helped_same : (who : Caller) → IsReady who → IsSound who.seat.view → HasHelped who who
+helped_same who ready s =
+    record { on = ready_same Serves who s ready; fresh = (refl, refl) }
 
 -- helping twice
 pub helped_more : (a b c : Caller) → HasHelped a b → HasHelped b c → HasHelped a c
 helped_more a b c h k =
     record {
-      able = k.able;
-      number = k.number ∙ h.number;
+      on = ready_more Serves a b c h.on k.on;
       fresh = (k.fresh.0 ∙ h.fresh.0, k.fresh.1 ∙ h.fresh.1);
-      went = went_more Serves a.seat.view b.seat.view c.seat.view h.went k.went;
     }
 
 -- a started rebuild is started still
@@ -61,84 +56,68 @@ started_went P v w g rebuild s = started_grows (now v) (now w) (went_grow P v w 
 
 -- ---- events that keep the caller's rows
 
-module _ (who : Caller) (seat : SeatFace) (able : IsAble who) (P : Event → Type 0)
-    (keeps : (event : Event) → P event → KeepsRows event)
-    (serves : (event : Event) → P event → Serves event)
-    (g : WentOn P who.seat.view seat.view) where
-  abbrev kept : WentOn KeepsRows who.seat.view seat.view
-  kept = went_all P KeepsRows keeps who.seat.view seat.view g
-
-  -- a caller whose seat went on by such events has helped
-  pub kept_helped : HasHelped who (record who { seat = seat })
-  kept_helped =
-      record {
-        able = record {
-          caller = caller_went who seat able.caller kept;
-          refused = refused_went who seat able.caller able.refused kept;
-          quiet = record {
-            pending = able.quiet.pending;
-            in_call = ap (λ x. x.pending) g.same ∙ able.quiet.in_call;
-            resolved = resolved_went who.seat.view seat.view who.number able.caller.mine
-                able.quiet.resolved
-                (went_all KeepsRows InstallsNone keeping_installs_none who.seat.view seat.view
-                kept);
-          };
-        };
-        number = refl;
-        fresh = (refl, refl);
-        went = went_all P Serves serves who.seat.view seat.view g;
-      }
+-- a caller whose seat went on by such events has helped
+kept_helped : (who : Caller) (seat : SeatFace) → IsReady who → (P : Event → Type 0)
+    → ((event : Event) → P event → KeepsRows event) → ((event : Event) → P event → Serves event)
+    → WentOn P who.seat.view seat.view → HasHelped who (record who { seat = seat })
+kept_helped who seat ready P keeps serves g =
+    record {
+      on = ready_all P Serves serves who (record who { seat = seat })
+          (kept_ready P keeps who seat ready g);
+      fresh = (refl, refl);
+    }
 
 -- loads
-pub loads_helped : (who : Caller) (seat : SeatFace) → IsAble who → GoesOnTo who.seat.view seat.view
+pub loads_helped : (who : Caller) (seat : SeatFace) → IsReady who → GoesOnTo who.seat.view seat.view
     → HasHelped who (record who { seat = seat })
-loads_helped who seat able g =
-    kept_helped who seat able (λ event. ⊥) (λ event is. absurd is) (λ event is. absurd is)
-    (goes_on_went (λ event. ⊥) who.seat.view seat.view g)
+loads_helped who seat ready g =
+    record { on = loads_ready Serves who seat ready g; fresh = (refl, refl) }
 
 -- help for a change
-pub help_helped : (who : Caller) (seat : SeatFace) (change : ℕ) → IsAble who
+pub help_helped : (who : Caller) (seat : SeatFace) (change : ℕ) → IsReady who
     → WentOn (HelpsWith change) who.seat.view seat.view → HasHelped who (record who { seat = seat })
-help_helped who seat change able g =
-    kept_helped who seat able (HelpsWith change) (serves_keep change) (change_serves change) g
+help_helped who seat change ready g =
+    kept_helped who seat ready (HelpsWith change) (serves_keep change) (change_serves change) g
 
 -- marking
-pub marks_helped : (who : Caller) (seat : SeatFace) (v : View) (node : ℕ) → IsAble who
+pub marks_helped : (who : Caller) (seat : SeatFace) (v : View) (node : ℕ) → IsReady who
     → WentOn (Marks v node) who.seat.view seat.view → HasHelped who (record who { seat = seat })
-marks_helped who seat v node able g =
-    kept_helped who seat able (Marks v node) (marks_keep v node) (marks_serve v node) g
+marks_helped who seat v node ready g =
+    kept_helped who seat ready (Marks v node) (marks_keep v node) (marks_serve v node) g
 
 -- ---- events of builds
 
 -- a caller that made steps of building, and is still a caller, has helped
-pub builds_helped : (old new : Caller) → IsAble old → IsCaller new → HasRefused new
+pub builds_helped : (old new : Caller) → IsReady old → IsCaller new → HasRefused new
     → new.number ≡ old.number → new.leaf ≡ old.leaf → new.pair ≡ old.pair
     → WentOn Builds old.seat.view new.seat.view → HasHelped old new
-builds_helped old new able c refused number leaf pair g =
+builds_helped old new ready c refused number leaf pair g =
     record {
-      able = record {
-        caller = c;
-        refused = refused;
+      on = record {
+        gone = record {
+          caller = c;
+          number = number;
+          refused = refused;
+          went = went_all Builds Serves builds_serve old.seat.view new.seat.view g;
+        };
         quiet = record {
-          pending = able.quiet.pending;
-          in_call = ap (λ x. x.pending) g.same ∙ able.quiet.in_call;
+          pending = ready.quiet.pending;
+          in_call = ap (λ x. x.pending) g.same ∙ ready.quiet.in_call;
           resolved = subst (IsResolved new.seat.view) (sym number)
-              (resolved_went old.seat.view new.seat.view old.number able.caller.mine
-              able.quiet.resolved
+              (resolved_went old.seat.view new.seat.view old.number ready.caller.mine
+              ready.quiet.resolved
               (went_all Builds InstallsNone builds_install_none old.seat.view new.seat.view g));
         };
       };
-      number = number;
       fresh = (leaf, pair);
-      went = went_all Builds Serves builds_serve old.seat.view new.seat.view g;
     }
 
 -- building
-pub built_helped : (old new : Caller) → IsAble old → IsCaller new → HasRefused new
+pub built_helped : (old new : Caller) → IsReady old → IsCaller new → HasRefused new
     → new.number ≡ old.number → spares_of new ≡ spares_of old
     → WentOn Builds old.seat.view new.seat.view → HasHelped old new
-built_helped old new able c refused number rows g =
-    builds_helped old new able c refused number (ap (λ own. own.leaf) rows)
+built_helped old new ready c refused number rows g =
+    builds_helped old new ready c refused number (ap (λ own. own.leaf) rows)
     (ap (λ own. own.pair) rows) g
 
 -- ---- a change row
@@ -151,20 +130,20 @@ pub record HasRow (old new : Caller) (answer : Result ℕ Full) : Type 0 where
   pub fresh : IsFresh Change old new answer
 
 -- a row was reserved
-reserved_helped : (old new : Caller) (base : ℕ) → IsAble old → IsCaller new
+reserved_helped : (old new : Caller) (base : ℕ) → IsReady old → IsCaller new
     → new.number ≡ old.number → old.change ≡ None
     → Reserved old.seat.view old.number base (kind_words Change) new.seat.view
     → spares_of new ≡ with_row Change base (spares_of old)
     → HasHelped old new × WentOn Builds old.seat.view new.seat.view
-reserved_helped old new base able c number none r rows =
+reserved_helped old new base ready c number none r rows =
     let v = old.seat.view in
     let w = new.seat.view in
     let went : WentOn Builds v w =
     went_more Builds v r.before w (goes_on_went Builds v r.before r.seen)
     (logged_went Builds r.before (Reserve old.number base (kind_words Change)) w r.reserved tt
     refl) in (
-      builds_helped old new able c
-          (refused_reserved old new base able.caller none r number rows able.refused) number
+      builds_helped old new ready c
+          (refused_reserved old new base ready.caller none r number rows ready.refused) number
           (ap (λ own. own.leaf) rows) (ap (λ own. own.pair) rows) went,
       went,
     )
@@ -176,9 +155,9 @@ pub record HasTakenRow (old new : Caller) (base : ℕ) : Type 0 where
   pub row : new.change ≡ Some base
 
 -- a caller that may help and reserved a change row has it
-pub took_row : (old new : Caller) (base : ℕ) → IsAble old → IsSound old.seat.view
+pub took_row : (old new : Caller) (base : ℕ) → IsReady old → IsSound old.seat.view
     → HasRow old new (Ok base) → HasTakenRow old new base
-took_row old new base able s h = at old.change refl h.held
+took_row old new base ready s h = at old.change refl h.held
   where
     one : (a b : ℕ) → ◌≡◌ {A = Result ℕ Full} (Ok a) (Ok b) → a ≡ b
     one a b e = cc
@@ -188,27 +167,27 @@ took_row old new base able s h = at old.change refl h.held
         → HasTakenRow old new base
     at (Some held) is k =
         subst (λ x. HasTakenRow old x base) (sym k.1) record {
-          helped = helped_same old able s;
+          helped = helped_same old ready s;
           by = went_same Builds old.seat.view s;
           row = is ∙ ap (λ n. Some n) (sym (one base held k.0));
         }
     at None is k =
         let f = h.fresh is in
-        let it = reserved_helped old new base able h.caller h.number is f.0 f.1 in
+        let it = reserved_helped old new base ready h.caller h.number is f.0 f.1 in
         record { helped = it.0; by = it.1; row = ap (λ own. own.change) f.1 }
 
 -- a caller that was refused the row has helped
-pub refused_row : (old new : Caller) (words : ℕ) (full : Full) → IsAble old
+pub refused_row : (old new : Caller) (words : ℕ) (full : Full) → IsReady old
     → IsCaller new → new.number ≡ old.number → IsRefused words Change old new full
     → HasHelped old new
-refused_row old new words full able c number h =
+refused_row old new words full ready c number h =
     let v = old.seat.view in
     let w = new.seat.view in
     let g : GoesOnTo v w =
     goes_on_more v h.cause.before w h.cause.seen
     (looked_goes_on h.cause.before _ full.next w h.cause.looked) in
-    let it = (loads_helped old new.seat able g).able in
-    builds_helped old new able c
+    let it = still_ready (loads_ready Serves old new.seat ready g) in
+    builds_helped old new ready c
     (subst (HasRefused) (same new.number new.leaf new.pair new.change new.rebuild number
     (ap (λ own. own.leaf) h.same) (ap (λ own. own.pair) h.same) (ap (λ own. own.change) h.same)
     (ap (λ own. own.rebuild) h.same)) it.refused)
@@ -223,40 +202,14 @@ refused_row old new words full able c number h =
 -- ---- own words
 
 -- a caller that stored words
-pub own_helped : (old : Caller) (own : List OwnWord) → IsAble old
-    → IsSound (record old.seat.view { own = own })
-    → HasHelped old (record old {
-      seat = record old.seat {
-        view = record old.seat.view { own = own };
-      };
-    })
-own_helped old own able s =
-    record {
-      able = record {
-        caller = record {
-          mine = able.caller.mine;
-          rows = able.caller.rows;
-          builds = able.caller.builds;
-        };
-        refused = able.refused;
-        quiet = record {
-          pending = able.quiet.pending;
-          in_call = able.quiet.in_call;
-          resolved = able.quiet.resolved;
-        };
-      };
-      number = refl;
-      fresh = (refl, refl);
-      went = record {
-        later = no_more;
-        sound = s;
-        same = refl;
-        loaded = le_refl old.seat.view.loaded;
-      };
-    }
+pub own_helped : (old : Caller) (own : List OwnWord) → IsReady old
+    → IsSound (with_own old own).seat.view → HasHelped old (with_own old own)
+own_helped old own ready s =
+    record { on = own_ready Serves old own ready s; fresh = (refl, refl) }
 
 -- loads after other steps of help
 pub helped_loads : (old mid : Caller) (seat : SeatFace) → HasHelped old mid
     → GoesOnTo mid.seat.view seat.view → HasHelped old (record mid { seat = seat })
 helped_loads old mid seat h g =
-    helped_more old mid (record mid { seat = seat }) h (loads_helped mid seat h.able g)
+    helped_more old mid (record mid { seat = seat }) h
+    (loads_helped mid seat (still_ready h.on) g)

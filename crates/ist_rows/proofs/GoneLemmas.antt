@@ -1,0 +1,180 @@
+-- Callers whose seats went on. Serves the functions of the crates above.
+use Rattle.std.proofs.Common.{◌≡◌, ◌≤◌, List, refl, sym, ap, ◌∙◌, subst, le_refl}
+use Rattle.ist_core.specs.declared.events.Event.{Event}
+use Rattle.ist_core.specs.declared.events.Event.TheVariants.{Enter, Reserve, Install, Okay, Decide, Resolve, Count, Mark, Pass, Finish, Root, Draw, Place, Lose}
+use Rattle.ist_core.specs.Authors.{no_more, LaterBy}
+use Rattle.ist_rule.specs.declared.view.OwnWord.{OwnWord}
+use Rattle.ist_rule.specs.declared.view.View.{View}
+use Rattle.ist_rule.specs.Faces.{SeatFace}
+use Rattle.ist_rule.specs.Going.{WentOn}
+use Rattle.ist_rule.specs.Learning.{GoesOnTo}
+use Rattle.ist_rule.specs.Rule.{IsSound}
+use Rattle.ist_rule.proofs.WentOnLemmas.{went_all, went_more, went_same, goes_on_went}
+use Rattle.ist_rows.specs.declared.callers.Caller.{Caller}
+use Rattle.ist_rows.specs.Building.{HasRefused}
+use Rattle.ist_rows.specs.CallerLaws.{KeepsRows, InstallsNone}
+use Rattle.ist_rows.specs.Filling.{with_own}
+use Rattle.ist_rows.specs.Going.{IsReady, HasGone, StaysReady}
+use Rattle.ist_rows.specs.Rows.{IsCaller}
+use Rattle.ist_rows.proofs.CallerLawLemmas.{caller_went, refused_went, resolved_went}
+
+-- ---- going on
+
+-- a seat that stored words of its own went on
+pub own_went : (P : Event → Type 0) (v w : View) → IsSound w → w ≡ record v { own = w.own }
+    → WentOn P v w
+own_went P v w s e =
+    record {
+      later = subst (λ l. LaterBy v.who P v.log l) (sym (ap (λ x. x.log) e)) no_more;
+      sound = s;
+      same = e ∙ sym (ap {B = View} (λ (x : View). record v {
+        log = x.log;
+        own = w.own;
+        loads = x.loads;
+        loaded = x.loaded;
+      }) e);
+      loaded = subst (λ n. v.loaded ≤ n) (sym (ap (λ x. x.loaded) e)) (le_refl v.loaded);
+    }
+
+-- a caller whose seat went on by events that change nothing of what it holds has gone so
+pub caller_gone : (P : Event → Type 0) → ((event : Event) → P event → KeepsRows event)
+    → (who : Caller) (seat : SeatFace) → IsCaller who → HasRefused who
+    → WentOn P who.seat.view seat.view → HasGone P who (record who { seat = seat })
+caller_gone P all who seat c r g =
+    let kept = went_all P KeepsRows all who.seat.view seat.view g in
+    record {
+      caller = caller_went who seat c kept;
+      number = refl;
+      refused = refused_went who seat c r kept;
+      went = g;
+    }
+
+-- so has one whose seat made loads
+pub loads_gone : (P : Event → Type 0) → (who : Caller) (seat : SeatFace) → IsCaller who
+    → HasRefused who → GoesOnTo who.seat.view seat.view → HasGone P who (record who { seat = seat })
+loads_gone P who seat c r g =
+    let it = caller_gone (λ event. ⊥) (λ event none. absurd none) who seat c r
+    (goes_on_went (λ event. ⊥) who.seat.view seat.view g) in
+    record {
+      caller = it.caller;
+      number = refl;
+      refused = it.refused;
+      went = goes_on_went P who.seat.view seat.view g;
+    }
+
+-- having gone twice
+pub gone_more : (P : Event → Type 0) (old mid new : Caller) → HasGone P old mid → HasGone P mid new
+    → HasGone P old new
+gone_more P old mid new a b =
+    record {
+      caller = b.caller;
+      number = b.number ∙ a.number;
+      refused = b.refused;
+      went = went_more P old.seat.view mid.seat.view new.seat.view a.went b.went;
+    }
+
+-- having gone by events of which more may be said
+pub gone_all : (P Q : Event → Type 0) → ((event : Event) → P event → Q event) → (old new : Caller)
+    → HasGone P old new → HasGone Q old new
+gone_all P Q all old new a =
+    record {
+      caller = a.caller;
+      number = a.number;
+      refused = a.refused;
+      went = went_all P Q all old.seat.view new.seat.view a.went;
+    }
+
+-- ---- staying ready
+
+-- a caller that stays ready is ready
+pub still_ready : {P : Event → Type 0} {old new : Caller} → StaysReady P old new → IsReady new
+still_ready on = record { caller = on.gone.caller; refused = on.gone.refused; quiet = on.quiet }
+
+-- a ready caller that does nothing stays ready
+pub ready_same : (P : Event → Type 0) (who : Caller) → IsSound who.seat.view → IsReady who
+    → StaysReady P who who
+ready_same P who s ready =
+    record {
+      gone = record {
+        caller = ready.caller;
+        number = refl;
+        refused = ready.refused;
+        went = went_same P who.seat.view s;
+      };
+      quiet = ready.quiet;
+    }
+
+-- staying ready twice
+pub ready_more : (P : Event → Type 0) (old mid new : Caller) → StaysReady P old mid
+    → StaysReady P mid new → StaysReady P old new
+ready_more P old mid new a b =
+    record { gone = gone_more P old mid new a.gone b.gone; quiet = b.quiet }
+
+-- staying ready by events of which more may be said
+pub ready_all : (P Q : Event → Type 0) → ((event : Event) → P event → Q event) → (old new : Caller)
+    → StaysReady P old new → StaysReady Q old new
+ready_all P Q all old new a = record { gone = gone_all P Q all old new a.gone; quiet = a.quiet }
+
+-- an event that changes nothing of what its caller holds installs nothing
+pub keeping_installs_none : (event : Event) → KeepsRows event → InstallsNone event
+keeping_installs_none (Install caller base rows) is = absurd is
+keeping_installs_none (Enter caller) is = tt
+keeping_installs_none (Reserve caller base size) is = tt
+keeping_installs_none (Okay caller base) is = tt
+keeping_installs_none (Decide caller base said) is = tt
+keeping_installs_none (Resolve caller base) is = tt
+keeping_installs_none (Count caller node) is = tt
+keeping_installs_none (Mark caller node) is = tt
+keeping_installs_none (Pass caller node i word) is = tt
+keeping_installs_none (Finish caller node keys) is = tt
+keeping_installs_none (Root caller rebuild word rows) is = tt
+keeping_installs_none (Draw caller rebuild part) is = tt
+keeping_installs_none (Place caller rebuild i word rows) is = tt
+keeping_installs_none (Lose caller bases) is = tt
+
+-- a ready caller whose seat went on by events that change nothing of what it holds stays ready
+pub kept_ready : (P : Event → Type 0) → ((event : Event) → P event → KeepsRows event)
+    → (who : Caller) (seat : SeatFace) → IsReady who → WentOn P who.seat.view seat.view
+    → StaysReady P who (record who { seat = seat })
+kept_ready P all who seat ready g =
+    let kept = went_all P KeepsRows all who.seat.view seat.view g in
+    record {
+      gone = caller_gone P all who seat ready.caller ready.refused g;
+      quiet = record {
+        pending = ready.quiet.pending;
+        in_call = ap (λ (x : View). x.pending) g.same ∙ ready.quiet.in_call;
+        resolved = resolved_went who.seat.view seat.view who.number ready.caller.mine
+            ready.quiet.resolved
+            (went_all KeepsRows InstallsNone keeping_installs_none who.seat.view seat.view kept);
+      };
+    }
+
+-- so does one whose seat made loads
+pub loads_ready : (P : Event → Type 0) (who : Caller) (seat : SeatFace) → IsReady who
+    → GoesOnTo who.seat.view seat.view → StaysReady P who (record who { seat = seat })
+loads_ready P who seat ready g =
+    ready_all (λ event. ⊥) P (λ event none. absurd none) who (record who { seat = seat })
+    (kept_ready (λ event. ⊥) (λ event none. absurd none) who seat ready
+    (goes_on_went (λ event. ⊥) who.seat.view seat.view g))
+
+-- so does one that stored words
+pub own_ready : (P : Event → Type 0) (who : Caller) (own : List OwnWord) → IsReady who
+    → IsSound (with_own who own).seat.view → StaysReady P who (with_own who own)
+own_ready P who own ready s =
+    record {
+      gone = record {
+        caller = record {
+          mine = ready.caller.mine;
+          rows = ready.caller.rows;
+          builds = ready.caller.builds;
+        };
+        number = refl;
+        refused = ready.refused;
+        went = own_went P who.seat.view (with_own who own).seat.view s refl;
+      };
+      quiet = record {
+        pending = ready.quiet.pending;
+        in_call = ready.quiet.in_call;
+        resolved = ready.quiet.resolved;
+      };
+    }
