@@ -1,6 +1,6 @@
 -- What the calls of this crate return, in terms of references and of the one relation between a
 -- seat's views. Serves `calls`.
-use Rattle.std.proofs.Common.{◌≡◌, ◌≢◌, ℕ, zero, suc, List, [], ◌∷◌, map, take, drop, Option, None, Some, refl, ap, sym, subst, ◌∙◌}
+use Rattle.std.proofs.Common.{le_refl, ◌≡◌, ◌≢◌, ℕ, zero, suc, List, [], ◌∷◌, map, take, drop, Option, None, Some, refl, ap, sym, subst, ◌∙◌}
 use Rattle.ist_core.specs.declared.ports.Full.{Full}
 use Rattle.ist_core.specs.Ideals.{IsIdeal}
 use Rattle.ist_core.specs.Leaves.{PlacedLeaf, HasLeaves}
@@ -20,6 +20,7 @@ use Rattle.ist_build.specs.Calls.{Builds, MayBuild, IsLeafOf, IsPartLaid, HasRoo
 use Rattle.ist_build.specs.Putting.{PutOn, HasRoot, IsStopped}
 use Rattle.ist_build.proofs.LaidOnLemmas.{laid_went}
 use Rattle.ist_build.proofs.PutOnLemmas.{built_put}
+use Rattle.ist_build.proofs.ShortLemmas.{short_for_more}
 
 -- ---- leaves
 
@@ -86,17 +87,9 @@ root_as t rebuild word ref h is =
 pub short_out : (v w : View) (words keys : ℕ) (full : Full) → IsShort v words keys full w
     → IsOutOfWords v words keys full w
 short_out v w words keys full h =
-    record {
-      before = h.before;
-      seen = built_went v h.before h.seen;
-      looked = h.looked;
-      some = h.some;
-      several = h.several;
-      few = h.few;
-      asked = h.asked;
-      words_is = h.words_is;
-      small = h.small;
-    }
+    short_for_more BuiltOn (WentOn Builds) v v (λ x. built_went v x) words keys keys full w
+    (le_refl keys)
+    h
 
 -- a call that was stopped is short of words for the rebuild
 pub stopped_out : (v w : View) (rebuild words : ℕ) (full : Full)
@@ -105,17 +98,9 @@ stopped_out v w rebuild words full h =
     record {
       k = h.k;
       told = h.told;
-      out = record {
-        before = h.before;
-        seen = put_went v h.before h.seen;
-        looked = h.looked;
-        some = h.some;
-        several = h.several;
-        few = h.few;
-        asked = h.asked;
-        words_is = h.words_is;
-        small = h.small;
-      };
+      out = short_for_more PutOn (WentOn Builds) v v (λ x. put_went v x) words h.k h.k full w
+          (le_refl h.k)
+          h.out;
     }
 
 -- ---- words that name something

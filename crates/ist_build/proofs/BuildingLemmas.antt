@@ -21,7 +21,7 @@ use Rattle.laws_rows.specs.Dividing.{lens_to, parts_to, share_of}
 use Rattle.laws_rows.proofs.PartLemmas.{parts_all, lens_all}
 use Rattle.ist_rule.specs.declared.view.View.{View}
 use Rattle.ist_rule.specs.Rule.{IsSound}
-use Rattle.ist_rule.specs.Learning.{now}
+use Rattle.ist_rule.specs.Learning.{now, GoesOnTo}
 use Rattle.ist_rule.proofs.GoingOnLemmas.{goes_on_more, looked_goes_on}
 use Rattle.ist_dcss.proofs.FieldLemmas.{good_base}
 use Rattle.ist_rows.specs.declared.callers.Caller.{Caller}
@@ -33,6 +33,8 @@ use Rattle.ist_build.proofs.BuiltLemmas.{built_more, loads_built}
 use Rattle.ist_build.proofs.TogetherLemmas.{laid_none, laid_leaf, laid_top}
 use Rattle.ist_build.proofs.MidwayLemmas.{part_placed, length-share_of}
 use Rattle.ist_build.proofs.PartsLemmas.{lens_first, lens_last, sizes_left}
+use Rattle.ist_rows.proofs.ShortLemmas.{short_from}
+use Rattle.ist_build.proofs.ShortLemmas.{short_for_more}
 
 -- ---- few leaves
 
@@ -117,25 +119,19 @@ next_row who n two h =
 pub row_short : (v : View) (words n d : ℕ) (full : Full) (w : View) → 2 ≤ n → d ≡ degree n
     → IsFull v words (inner_words d) full w → IsShort v words n full w
 row_short v words n d full w two same f =
-    let asked = f.asked in
-    let small = f.small in
     record {
-      before = f.before;
-      seen = loads_built v f.before f.seen;
-      looked = f.looked;
+      short = short_from GoesOnTo BuiltOn v v (λ x. loads_built v x) words full w f.short;
       some = n;
       several = two;
       few = omega arith;
       asked = f.asked ∙ ap inner_words same;
-      words_is = f.words_is;
-      small = omega arith;
     }
 
 -- a refused reservation only made loads, and so built on
 pub full_built : (v : View) (words size : ℕ) (full : Full) (w : View) → IsFull v words size full w
     → BuiltOn v w
 full_built v words size full w f =
-    loads_built v w (goes_on_more _ _ _ f.seen (looked_goes_on _ _ _ _ f.looked))
+    loads_built v w (goes_on_more _ _ _ f.short.seen (looked_goes_on _ _ _ _ f.short.looked))
 
 -- a held row lies at a good base
 pub held_good : (v : View) → IsSound v → (number base size : ℕ) → HoldsRow (now v) number base size
@@ -197,18 +193,8 @@ module _ (old who : Caller) (leaves : List ℕ) (base d j : ℕ) (m : IsMidway o
   pub part_short : (words : ℕ) (full : Full) (w : View) → length own ≤ n
       → IsShort who.seat.view words (length own) full w → IsShort old.seat.view words n full w
   part_short words full w le h =
-      let few = h.few in
-      record {
-        before = h.before;
-        seen = built_more old.seat.view who.seat.view h.before m.built h.seen;
-        looked = h.looked;
-        some = h.some;
-        several = h.several;
-        few = omega arith;
-        asked = h.asked;
-        words_is = h.words_is;
-        small = h.small;
-      }
+      short_for_more BuiltOn BuiltOn old.seat.view who.seat.view
+      (λ x. built_more old.seat.view who.seat.view x m.built) words (length own) n full w le h
 
 -- ---- all parts
 

@@ -1,3 +1,4 @@
+pub mod ShortLemmas
 pub mod LaidOnLemmas
 pub mod OwnWordLemmas
 pub mod BuiltLemmas

@@ -45,6 +45,7 @@ use Rattle.ist_build.proofs.RootPutLemmas.{rows_of_topped}
 use Rattle.ist_build.proofs.TopBegunLemmas.{leaves_on}
 use Rattle.ist_build.proofs.UnsetLemmas.{unset_built}
 use Rattle.ist_build.proofs.PartSlotLemmas.{IsFilledAt, degree_low, degree_on, part_lost, part_put, part_two, shared_on, slot_is_place}
+use Rattle.ist_build.proofs.ShortLemmas.{short_for_more}
 
 -- ---- what was built
 
@@ -208,18 +209,8 @@ shared_now v w g rebuild target root k h =
 pub err_shorter : (u v : View) → GoesOnTo u v → (words len k : ℕ) (full : Full) (w : View) → len ≤ k
     → IsShort v words len full w → IsShort u words k full w
 err_shorter u v g words len k full w le h =
-    let few = h.few in
-    record {
-      before = h.before;
-      seen = built_more u v h.before (loads_built u v g) h.seen;
-      looked = h.looked;
-      some = h.some;
-      several = h.several;
-      few = omega arith;
-      asked = h.asked;
-      words_is = h.words_is;
-      small = h.small;
-    }
+    short_for_more BuiltOn BuiltOn u v (λ x. built_more u v x (loads_built u v g)) words len k full w
+    le h
 
 -- the exchange may be made, and what is known after it
 pub record MayPut (old mid : Caller) (rebuild root i place word : ℕ) : Type 0 where

@@ -1,5 +1,5 @@
 -- What a seat does while its caller builds and puts in place. Serves `root`.
-use Rattle.std.proofs.Common.{◌≡◌, ℕ, ◌≤◌}
+use Rattle.std.proofs.Common.{le_refl, ◌≡◌, ℕ, ◌≤◌}
 use Rattle.ist_core.specs.declared.events.Event.{Event}
 use Rattle.ist_core.specs.declared.events.Event.TheVariants.{Reserve}
 use Rattle.ist_core.specs.declared.ports.Full.{Full}
@@ -11,6 +11,7 @@ use Rattle.ist_build.proofs.LaidOnLemmas.{laid_now, laid_lawful, laid_who, laid_
 use Rattle.ist_build.specs.Laying.{Reserves, BuiltOn, IsShort}
 use Rattle.ist_build.specs.Calls.{Builds, IsTold}
 use Rattle.ist_build.specs.Putting.{PutOn, IsStopped}
+use Rattle.ist_build.proofs.ShortLemmas.{short_for_more}
 
 -- the state after the log, by the first view's table
 pub put_now : (v w : View) → PutOn v w → now w ≡ state_of v.start v.words w.log
@@ -58,13 +59,6 @@ short_stopped u v w rebuild words k full told a h =
     record {
       k = k;
       told = told;
-      before = h.before;
-      seen = put_more u v h.before a (built_put v h.before h.seen);
-      looked = h.looked;
-      some = h.some;
-      several = h.several;
-      few = h.few;
-      asked = h.asked;
-      words_is = h.words_is;
-      small = h.small;
+      out = short_for_more BuiltOn PutOn u v (λ x s. put_more u v x a (built_put v x s)) words k k
+          full w (le_refl k) h;
     }

@@ -1,5 +1,5 @@
 -- A share of a target, read and then built. Serves `parts`.
-use Rattle.std.proofs.Common.{◌≡◌, ℕ, ◌+◌, ◌-◌, ◌≤◌, List, [], ◌∷◌, ◌++◌, length, map, take, drop, Some, Result, Ok, Err, IfOk, IfErr, slice_index_or, sym, ap, ◌∙◌, subst, append-nil, arith}
+use Rattle.std.proofs.Common.{le_refl, ◌≡◌, ℕ, ◌+◌, ◌-◌, ◌≤◌, List, [], ◌∷◌, ◌++◌, length, map, take, drop, Some, Result, Ok, Err, IfOk, IfErr, slice_index_or, sym, ap, ◌∙◌, subst, append-nil, arith}
 use Rattle.std.proofs.lemmas.List.{take_all, length-take-le, length-drop, length-map, take-map}
 use Rattle.ist_core.specs.declared.ports.Full.{Full}
 use Rattle.ist_core.specs.Fairness.{IsBuild, build_whole, build_part}
@@ -22,13 +22,14 @@ use Rattle.ist_rows.specs.Building.{IsInBuild, HasTaken, HasRefused, sizes_built
 use Rattle.ist_rows.proofs.BuildingCallLemmas.{at_goes_on}
 use Rattle.ist_build.specs.declared.reading.Cursor.{Cursor}
 use Rattle.ist_build.specs.Calls.{IsShare, share_whole, share_part, MayBuild, HasKeys}
-use Rattle.ist_build.specs.Laying.{ArePlaced, IsLaid, IsDue, IsShort}
+use Rattle.ist_build.specs.Laying.{ArePlaced, IsLaid, IsDue, IsShort, BuiltOn}
 use Rattle.ist_build.specs.Reading.{HasRead, read_all}
 use Rattle.ist_build.proofs.BuiltLemmas.{loads_built, built_more}
 use Rattle.ist_build.proofs.TogetherLemmas.{high_more}
 use Rattle.ist_build.proofs.MidwayLemmas.{each_take, each_drop, published_on}
 use Rattle.ist_build.proofs.ReadLemmas.{read_is}
 use Rattle.ist_build.proofs.ReadingLemmas.{leaves_number}
+use Rattle.ist_build.proofs.ShortLemmas.{short_for_more}
 
 -- ---- what was read
 
@@ -132,17 +133,8 @@ taken_on who seat sizes new c g t stuck done rest h =
 pub short_on : (v w : View) → GoesOnTo v w → (words keys : ℕ) (full : Full) (x : View)
     → IsShort w words keys full x → IsShort v words keys full x
 short_on v w g words keys full x h =
-    record {
-      before = h.before;
-      seen = built_more v w h.before (loads_built v w g) h.seen;
-      looked = h.looked;
-      some = h.some;
-      several = h.several;
-      few = h.few;
-      asked = h.asked;
-      words_is = h.words_is;
-      small = h.small;
-    }
+    short_for_more BuiltOn BuiltOn v w (λ y. built_more v w y (loads_built v w g)) words keys keys
+    full x (le_refl keys) h
 
 -- ---- shares
 

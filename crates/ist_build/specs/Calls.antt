@@ -1,5 +1,5 @@
 -- What the calls of this crate require, and what they promise.
-use Rattle.std.specs.Prelude.{◌≡◌, ◌≢◌, ℕ, ◌<◌, ◌≤◌, ◌+◌, List, slice_get, Some}
+use Rattle.std.specs.Prelude.{◌≡◌, ◌≢◌, ℕ, ◌<◌, ◌≤◌, List, slice_get, Some}
 use Rattle.ist_core.specs.declared.events.Event.{Event}
 use Rattle.ist_core.specs.declared.events.Event.TheVariants.{Reserve, Root, Draw, Place, Lose}
 use Rattle.ist_core.specs.declared.lists.Row.{Row}
@@ -11,14 +11,13 @@ use Rattle.ist_core.specs.Leaves.{PlacedLeaf}
 use Rattle.ist_core.specs.Pieces.{Rebuild, with_inners}
 use Rattle.ist_core.specs.Rebuilding.{IsStarted, IsFinishedWith, IsBuilt}
 use Rattle.ist_core.specs.References.{Ref, LeafAt, ref_of, unset_word}
-use Rattle.ist_core.specs.RowLayout.{next_place, inner_words}
 use Rattle.ist_core.specs.Shapes.{share_from}
 use Rattle.ist_core.specs.Snapshots.{Snapshot, bases_of}
 use Rattle.ist_rule.specs.declared.view.View.{View}
 use Rattle.ist_rule.specs.Going.{WentOn}
-use Rattle.ist_rule.specs.Learning.{now, Looked}
+use Rattle.ist_rule.specs.Learning.{now}
 use Rattle.ist_rows.specs.declared.callers.Caller.{Caller}
-use Rattle.ist_build.specs.Laying.{OwnsRows}
+use Rattle.ist_build.specs.Laying.{OwnsRows, IsShortFor}
 
 -- ---- what is required
 
@@ -103,18 +102,10 @@ pub record IsBuiltOut (t : Snapshot) (rebuild : ℕ) : Type 0 where
   pub published : t.pieces rebuild ≡ Some (Rebuild row)
   pub built : IsBuilt t row.root
 
--- a load of the first word gave the number of words used, and too few are left for a row over no more
--- than `keys` keys
-pub record IsOutOfWords (v : View) (words keys : ℕ) (full : Full) (w : View) : Type 0 where
-  pub before : View
-  pub seen : WentOn Builds v before
-  pub looked : Looked before next_place full.next w
-  pub some : ℕ
-  pub several : 2 ≤ some
-  pub few : some ≤ keys
-  pub asked : full.asked ≡ inner_words (degree some)
-  pub words_is : full.words ≡ words
-  pub small : words < full.next + full.asked
+-- too few words are left for a row over at least two keys and no more than `keys`; until then the
+-- seat made only steps of building
+abbrev pub IsOutOfWords : View → ℕ → ℕ → Full → View → Type 0
+IsOutOfWords v words keys full w = IsShortFor (WentOn Builds) v words keys full w
 
 -- the same, for a row over no more keys than the finished target of the rebuild has
 pub record RebuildIsShort (v : View) (rebuild words : ℕ) (full : Full) (w : View) : Type 0 where

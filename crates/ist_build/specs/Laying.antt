@@ -14,15 +14,15 @@ use Rattle.ist_core.specs.Ideals.{IsIdeal, IsTop}
 use Rattle.ist_core.specs.Leaves.{PlacedLeaf}
 use Rattle.ist_core.specs.Pieces.{Leaf, Rebuild, with_inners}
 use Rattle.ist_core.specs.References.{Ref, InnerAt, ref_of, unset_word}
-use Rattle.ist_core.specs.RowLayout.{next_place, inner_words}
+use Rattle.ist_core.specs.RowLayout.{inner_words}
 use Rattle.ist_core.specs.Shapes.{shape}
 use Rattle.ist_core.specs.Rebuilding.{IsStarted, IsFinishedWith}
 use Rattle.ist_core.specs.Snapshots.{Snapshot, bases_of, sizes_of, HoldsRows}
 use Rattle.ist_rule.specs.declared.view.View.{View}
 use Rattle.ist_rule.specs.Rule.{IsSound, own_at}
-use Rattle.ist_rule.specs.Learning.{now, Looked}
+use Rattle.ist_rule.specs.Learning.{now}
 use Rattle.ist_rule.specs.Conditions.{StoredAll}
-use Rattle.ist_rows.specs.Rows.{IsCaller}
+use Rattle.ist_rows.specs.Rows.{IsCaller, RanShort}
 use Rattle.ist_rows.specs.declared.callers.Caller.{Caller}
 use Rattle.ist_rows.specs.Building.{IsInBuild, sizes_built}
 use Rattle.ist_core.specs.Authors.{LaterBy}
@@ -129,18 +129,19 @@ pub record IsDue (who : Caller) (keys : ℕ) : Type 0 where
   pub rest : List ℕ
   pub at : IsInBuild who stuck done (shape keys ++ rest)
 
--- a load of the first word gave the number of words used, and too few are left for a row over no more
--- than `keys` keys
-pub record IsShort (v : View) (words keys : ℕ) (full : Full) (w : View) : Type 0 where
-  pub before : View
-  pub seen : BuiltOn v before
-  pub looked : Looked before next_place full.next w
+-- too few words are left for a row over at least two keys and no more than `keys`; until then the
+-- seat went on as `Seen` says
+pub record IsShortFor (Seen : View → View → Type 0) (v : View) (words keys : ℕ) (full : Full)
+    (w : View) : Type 0 where
+  pub short : RanShort Seen v words full w
   pub some : ℕ
   pub several : 2 ≤ some
   pub few : some ≤ keys
   pub asked : full.asked ≡ inner_words (degree some)
-  pub words_is : full.words ≡ words
-  pub small : words < full.next + full.asked
+
+-- the same for a seat that built until then
+abbrev pub IsShort : View → ℕ → ℕ → Full → View → Type 0
+IsShort v words keys full w = IsShortFor BuiltOn v words keys full w
 
 -- ---- in rows that are held already
 

@@ -1,5 +1,5 @@
 -- What a caller's seat does while it builds, and puts in place what it has built.
-use Rattle.std.specs.Prelude.{◌≡◌, ◌≢◌, ℕ, ◌+◌, ◌<◌, ◌≤◌, Some}
+use Rattle.std.specs.Prelude.{◌≡◌, ◌≢◌, ℕ, ◌<◌, ◌≤◌, Some}
 use Rattle.ist_core.specs.declared.ports.Full.{Full}
 use Rattle.ist_core.specs.declared.states.InnerRow.{InnerRow}
 use Rattle.ist_core.specs.declared.states.RebuildRow.{RebuildRow}
@@ -7,17 +7,16 @@ use Rattle.ist_core.specs.Arithmetic.{degree}
 use Rattle.ist_core.specs.Pieces.{Inner, Rebuild}
 use Rattle.ist_core.specs.Rebuilding.{IsStarted, IsFinishedWith}
 use Rattle.ist_core.specs.References.{InnerAt, ref_of, unset_word}
-use Rattle.ist_core.specs.RowLayout.{next_place, inner_words}
 use Rattle.ist_core.specs.Shapes.{share_from}
 use Rattle.ist_core.specs.Slots.{SlotHolds}
 use Rattle.ist_core.specs.Snapshots.{Snapshot}
 use Rattle.ist_rule.specs.declared.view.View.{View}
-use Rattle.ist_rule.specs.Learning.{now, Looked}
+use Rattle.ist_rule.specs.Learning.{now}
 use Rattle.ist_rows.specs.declared.callers.Caller.{Caller}
 use Rattle.ist_rows.specs.Rows.{IsCaller, spares_of}
 use Rattle.ist_rows.specs.Building.{HasRefused}
 use Rattle.ist_build.specs.Calls.{Builds, IsTold}
-use Rattle.ist_build.specs.Laying.{LaidOn}
+use Rattle.ist_build.specs.Laying.{LaidOn, IsShortFor}
 
 -- ---- what the seat does
 
@@ -73,17 +72,9 @@ pub record IsFilling (old : Caller) (rebuild target root k i : ℕ) (who : Calle
 
 -- ---- refusals
 
--- a load of the first word gave the number of words used, and too few are left for a row over no more
--- keys than the target of the rebuild has
+-- too few words are left for a row over no more keys than the target of the rebuild has; until then
+-- the seat put on
 pub record IsStopped (v : View) (rebuild words : ℕ) (full : Full) (w : View) : Type 0 where
   pub k : ℕ
   pub told : IsTold (now v) rebuild k
-  pub before : View
-  pub seen : PutOn v before
-  pub looked : Looked before next_place full.next w
-  pub some : ℕ
-  pub several : 2 ≤ some
-  pub few : some ≤ k
-  pub asked : full.asked ≡ inner_words (degree some)
-  pub words_is : full.words ≡ words
-  pub small : words < full.next + full.asked
+  pub out : IsShortFor PutOn v words k full w

@@ -184,8 +184,8 @@ refused_row old new words full ready c number h =
     let v = old.seat.view in
     let w = new.seat.view in
     let g : GoesOnTo v w =
-    goes_on_more v h.cause.before w h.cause.seen
-    (looked_goes_on h.cause.before _ full.next w h.cause.looked) in
+    goes_on_more v h.cause.short.before w h.cause.short.seen
+    (looked_goes_on h.cause.short.before _ full.next w h.cause.short.looked) in
     let it = still_ready (loads_ready Serves old new.seat ready g) in
     builds_helped old new ready c
     (subst (HasRefused) (same new.number new.leaf new.pair new.change new.rebuild number

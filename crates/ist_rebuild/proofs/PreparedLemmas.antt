@@ -115,7 +115,8 @@ has_prepared old mid who plan change words ready s p unrefused row words_are sto
     let new = filled_with mid change words in
     let w = new.seat.view in
     let here = subst (λ (x : Caller). IsSound x.seat.view) stored sound in
-    let filled = filled_helped mid plan change t.row words words_are (still_ready t.helped.on) here in
+    let filled = filled_helped mid plan change t.row words words_are
+    (still_ready t.helped.on) here in
     let all = helped_more old mid new t.helped filled in
     let none = unrefused_went old.seat.view mid.seat.view old.number ready.caller.mine
     (went_all Builds InstallsNone builds_install_none old.seat.view mid.seat.view t.by)

@@ -1,5 +1,5 @@
 -- What a refused caller was refused for. Serves `build_out`, `prepare` and their callers.
-use Rattle.std.proofs.Common.{◌≡◌, ℕ, ◌+◌, ◌<◌, Result, Ok, Err, IfErr, sym, subst}
+use Rattle.std.proofs.Common.{◌≡◌, ℕ, Result, Ok, Err, IfErr, sym, subst}
 use Rattle.std.specs.Result.{IsErrAnd}
 use Rattle.ist_core.specs.declared.ports.Full.{Full}
 use Rattle.ist_core.specs.Rebuilding.{IsFinishedWith}
@@ -7,11 +7,12 @@ use Rattle.ist_core.proofs.GrowingLemmas.{rebuild_there}
 use Rattle.laws_links.proofs.FormLemmas.{finished_with_grows}
 use Rattle.ist_rule.specs.declared.view.View.{View}
 use Rattle.ist_rule.specs.Going.{WentOn}
-use Rattle.ist_rule.specs.Learning.{now}
+use Rattle.ist_rule.specs.Learning.{now, GoesOnTo}
 use Rattle.ist_rule.proofs.WentOnLemmas.{goes_on_went, looked_went, went_all, went_grow, went_more}
 use Rattle.ist_rows.specs.declared.callers.Caller.{Caller}
 use Rattle.ist_rows.specs.declared.kinds.Kind.TheVariants.{Change}
 use Rattle.ist_rows.specs.Rows.{IsRefused}
+use Rattle.ist_rows.proofs.ShortLemmas.{short_from}
 use Rattle.ist_build.specs.Calls.{Builds, RebuildIsShort}
 use Rattle.ist_rebuild.specs.Going.{Serves}
 use Rattle.ist_rebuild.specs.Helping.{IsHelpRefused, for_change, for_row}
@@ -22,19 +23,15 @@ pub short_refused : (v w : View) (rebuild words : ℕ) (full : Full)
     → RebuildIsShort v rebuild words full w → IsHelpRefused v rebuild words full w
 short_refused v w rebuild words full h =
     let o = h.out in
-    let seen : WentOn Serves v o.before =
-    went_all Builds Serves builds_serve v o.before o.seen in
+    let short = short_from (WentOn Builds) (WentOn Serves) v v
+    (λ x. went_all Builds Serves builds_serve v x)
+    words full w o.short in
     let grow = went_grow Serves v w
-    (went_more Serves v o.before w seen (looked_went Serves o.before _ full.next w o.looked)) in
+    (went_more Serves v short.before w short.seen
+    (looked_went Serves short.before _ full.next w short.looked)) in
     let it = rebuild_there (now v).pieces (now w).pieces grow rebuild h.told.row h.told.published in
     record {
-      short = record {
-        before = o.before;
-        seen = seen;
-        looked = o.looked;
-        words_is = o.words_is;
-        small = o.small;
-      };
+      short = short;
       asked = for_row it.0 h.k o.some it.1
           (subst (λ n. IsFinishedWith (now w) n h.k) (sym it.2.target)
           (finished_with_grows (now v) (now w) grow h.told.row.target h.k h.told.finished))
@@ -46,16 +43,10 @@ pub row_refused : (old new : Caller) (rebuild words : ℕ) (full : Full)
     → IsRefused words Change old new full
     → IsHelpRefused old.seat.view rebuild words full new.seat.view
 row_refused old new rebuild words full h =
-    let f = h.cause in
     record {
-      short = record {
-        before = f.before;
-        seen = goes_on_went Serves old.seat.view f.before f.seen;
-        looked = f.looked;
-        words_is = f.words_is;
-        small = subst (λ n. words < full.next + n) (sym f.asked) f.small;
-      };
-      asked = for_change f.asked;
+      short = short_from GoesOnTo (WentOn Serves) old.seat.view old.seat.view
+          (λ x. goes_on_went Serves old.seat.view x) words full new.seat.view h.cause.short;
+      asked = for_change h.cause.asked;
     }
 
 -- the refusal of a call holds from an earlier view too, if the seat helped in between
@@ -63,13 +54,9 @@ pub refused_more : (u v w : View) (rebuild words : ℕ) (full : Full) → WentOn
     → IsHelpRefused v rebuild words full w → IsHelpRefused u rebuild words full w
 refused_more u v w rebuild words full g h =
     record {
-      short = record {
-        before = h.short.before;
-        seen = went_more Serves u v h.short.before g h.short.seen;
-        looked = h.short.looked;
-        words_is = h.short.words_is;
-        small = h.short.small;
-      };
+      short = short_from (WentOn Serves) (WentOn Serves) u v
+          (λ x. went_more Serves u v x g) words full w
+          h.short;
       asked = h.asked;
     }
 

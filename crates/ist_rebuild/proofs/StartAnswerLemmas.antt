@@ -32,6 +32,7 @@ use Rattle.ist_rebuild.proofs.StartFillLemmas.{rebuild_good, rows_apart}
 use Rattle.ist_rebuild.proofs.StartGoingLemmas.{HasPutIn, begins_installing, begins_serving, put_went, aims_installing, aims_serving}
 use Rattle.ist_rebuild.proofs.StartOwnLemmas.{InstallsBut, own_was, starts_but, starts_none_reserving, starts_reserving}
 use Rattle.ist_rebuild.proofs.StartResultLemmas.{put_closed, put_said, put_started, put_to}
+use Rattle.ist_rows.proofs.ShortLemmas.{short_from}
 
 -- ---- answers
 
@@ -166,13 +167,8 @@ pub refused_behind : (u v w : View) (words : ℕ) (full : Full) → GoesOnTo u v
     → IsStartRefused v words full w → IsStartRefused u words full w
 refused_behind u v w words full g r =
     record {
-      short = record {
-        before = r.short.before;
-        seen = went_more Begins u v r.short.before (goes_on_went Begins u v g) r.short.seen;
-        looked = r.short.looked;
-        words_is = r.short.words_is;
-        small = r.short.small;
-      };
+      short = short_from (WentOn Begins) (WentOn Begins) u v
+          (λ x. went_more Begins u v x (goes_on_went Begins u v g)) words full w r.short;
       asked = r.asked;
     }
 

@@ -18,7 +18,7 @@ use Rattle.ist_rule.specs.declared.view.View.{View}
 use Rattle.ist_core.specs.declared.events.Who.TheVariants.{Caller as CallerOf}
 use Rattle.ist_core.specs.Authors.{Later}
 use Rattle.ist_rule.specs.Going.{WentOn}
-use Rattle.ist_rule.specs.Learning.{now}
+use Rattle.ist_rule.specs.Learning.{now, GoesOnTo}
 use Rattle.ist_rule.specs.Rule.{IsSound}
 use Rattle.ist_rule.proofs.GoingOnLemmas.{goes_on_more, looked_goes_on}
 use Rattle.ist_rule.proofs.LaterLemmas.{later-goes_on}
@@ -39,6 +39,7 @@ use Rattle.ist_rows.proofs.HeldListLemmas.{held_by_later}
 use Rattle.ist_rebuild.specs.Going.{Begins}
 use Rattle.ist_rebuild.specs.Starting.{IsStartRefused}
 use Rattle.ist_rebuild.proofs.StartGoingLemmas.{begins_reserving}
+use Rattle.ist_rows.proofs.ShortLemmas.{short_from}
 
 -- ---- spare rows
 
@@ -208,7 +209,7 @@ module _ (words : ℕ) (kind : Kind) (old new : Caller) (answer : Result ℕ Ful
           reserved_went old.seat.view old.number base (kind_words kind) new.seat.view (f e).0
       at None e h (Err x) is f r =
           goes_on_went Reserves old.seat.view new.seat.view
-          (goes_on_more _ _ _ r.cause.seen (looked_goes_on _ _ _ _ r.cause.looked))
+          (goes_on_more _ _ _ r.cause.short.seen (looked_goes_on _ _ _ _ r.cause.short.looked))
 
   -- the refused builds of the caller stay refused
   pub reserve_refused : IsCaller old → new.number ≡ old.number → HasRefused old → HasRefused new
@@ -226,7 +227,7 @@ module _ (words : ℕ) (kind : Kind) (old new : Caller) (answer : Result ℕ Ful
           refused_as (record old { seat = new.seat }) new refl number_is r.same
           (refused_went old new.seat c was
           (goes_on_went KeepsRows old.seat.view new.seat.view
-          (goes_on_more _ _ _ r.cause.seen (looked_goes_on _ _ _ _ r.cause.looked))))
+          (goes_on_more _ _ _ r.cause.short.seen (looked_goes_on _ _ _ _ r.cause.short.looked))))
 
 -- ---- too few words
 
@@ -234,16 +235,9 @@ module _ (words : ℕ) (kind : Kind) (old new : Caller) (answer : Result ℕ Ful
 pub rebuild_short : (v : View) (words : ℕ) (full : Full) (w : View)
     → IsFull v words rebuild_words full w → IsStartRefused v words full w
 rebuild_short v words full w f =
-    let asked = f.asked in
-    let small = f.small in
     record {
-      short = record {
-        before = f.before;
-        seen = goes_on_went Begins v f.before f.seen;
-        looked = f.looked;
-        words_is = f.words_is;
-        small = omega arith;
-      };
+      short = short_from GoesOnTo (WentOn Begins) v v (λ x. goes_on_went Begins v x) words full w
+          f.short;
       asked = inl f.asked;
     }
 
@@ -251,16 +245,9 @@ rebuild_short v words full w f =
 pub change_short : (u v : View) (words : ℕ) (full : Full) (w : View) → WentOn Reserves u v
     → IsFull v words change_words full w → IsStartRefused u words full w
 change_short u v words full w g f =
-    let asked = f.asked in
-    let small = f.small in
     record {
-      short = record {
-        before = f.before;
-        seen = went_more Begins u v f.before (went_all Reserves Begins begins_reserving u v g)
-            (goes_on_went Begins v f.before f.seen);
-        looked = f.looked;
-        words_is = f.words_is;
-        small = omega arith;
-      };
+      short = short_from GoesOnTo (WentOn Begins) u v
+          (λ x s. went_more Begins u v x (went_all Reserves Begins begins_reserving u v g)
+          (goes_on_went Begins v x s)) words full w f.short;
       asked = inr f.asked;
     }

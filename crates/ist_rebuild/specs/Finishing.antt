@@ -1,5 +1,5 @@
--- What the parts of a help promise each other: the words of a rebuild, and the change that will finish
--- it.
+-- What the parts of a help promise each other: the words of a rebuild, and the change that will
+-- finish it.
 use Rattle.std.specs.Prelude.{◌≡◌, ℕ, ◌+◌, [], slice_get, Some}
 use Rattle.ist_core.specs.declared.states.ChangeRow.{ChangeRow}
 use Rattle.ist_core.specs.declared.states.RebuildRow.{RebuildRow}

@@ -1,17 +1,12 @@
--- How the seat of a caller goes on while it starts or helps a rebuild, and when it is refused words.
-use Rattle.std.specs.Prelude.{◌≡◌, ℕ, ◌+◌, ◌<◌, List, Some}
+-- How the seat of a caller goes on while it starts or helps a rebuild.
+use Rattle.std.specs.Prelude.{◌≡◌, ℕ, List, Some}
 use Rattle.ist_core.specs.declared.events.Event.{Event}
 use Rattle.ist_core.specs.declared.events.Event.TheVariants.{Enter, Reserve, Install, Okay, Count, Decide, Resolve}
 use Rattle.ist_core.specs.declared.lists.Row.{Row}
-use Rattle.ist_core.specs.declared.ports.Full.{Full}
 use Rattle.ist_core.specs.declared.states.ChangeRow.{ChangeRow}
 use Rattle.ist_core.specs.References.{InnerAt, word_of}
-use Rattle.ist_core.specs.RowLayout.{next_place}
 use Rattle.ist_core.specs.Statuses.{start_kind, finish_kind}
 use Rattle.ist_core.specs.Writing.{first_change}
-use Rattle.ist_rule.specs.declared.view.View.{View}
-use Rattle.ist_rule.specs.Going.{WentOn}
-use Rattle.ist_rule.specs.Learning.{Looked}
 use Rattle.ist_rows.specs.declared.callers.Caller.{Caller}
 
 -- ---- how the seat goes on
@@ -48,14 +43,3 @@ Serves _ = Unit {0}
 -- the caller holds the leaf and the pair row that it held
 abbrev pub KeepsFresh : Caller → Caller → Type 0
 KeepsFresh old new = (new.leaf ≡ old.leaf) × (new.pair ≡ old.pair)
-
--- ---- too few words
-
--- a load of the first word, the last step of the call, gave how many words are used, and fewer are
--- left than were asked for; before it the seat went on by events that P is true of
-pub record IsShortOf (P : Event → Type 0) (v : View) (words : ℕ) (full : Full) (w : View) : Type 0 where
-  pub before : View
-  pub seen : WentOn P v before
-  pub looked : Looked before next_place full.next w
-  pub words_is : full.words ≡ words
-  pub small : words < full.next + full.asked

@@ -22,7 +22,8 @@ use Rattle.ist_rule.specs.Learning.{now}
 use Rattle.laws_settling.specs.Settling.{IsDoneStart, StartsAreDone}
 use Rattle.ist_rebuild.specs.declared.answers.Started.{Started}
 use Rattle.ist_rebuild.specs.declared.answers.Started.TheVariants.{Yes, Other, Marked}
-use Rattle.ist_rebuild.specs.Going.{IsShortOf, Begins}
+use Rattle.ist_rebuild.specs.Going.{Begins}
+use Rattle.ist_rows.specs.Rows.{RanShort}
 
 -- ---- when
 
@@ -96,5 +97,5 @@ LeavesUninstalled v w (Err full) = WentOn Reserves v w
 
 -- the caller was refused a row for the rebuild, or for the change
 pub record IsStartRefused (v : View) (words : ℕ) (full : Full) (w : View) : Type 0 where
-  pub short : IsShortOf Begins v words full w
+  pub short : RanShort (WentOn Begins) v words full w
   pub asked : (full.asked ≡ rebuild_words) ⊎ (full.asked ≡ change_words)

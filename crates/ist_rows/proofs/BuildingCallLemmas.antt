@@ -134,12 +134,14 @@ pub refused : (who : Caller) (seat : SeatFace) (words size : ℕ) (full : Full) 
 refused who seat words size full c words_is n f =
     let v = who.seat.view in
     let w = seat.view in
-    let g = goes_on_more _ _ _ f.seen (looked_goes_on _ _ _ _ f.looked) in
+    let s = f.short in
+    let g = goes_on_more _ _ _ s.seen (looked_goes_on _ _ _ _ s.looked) in
     let h = at_goes_on who seat n.stuck n.done (size ∷ n.rest) c g n.at in
-    let next = looked_next f.before full.next w f.looked in
+    let next = looked_next s.before full.next w s.looked in
     let all = words_same w.start w.words g.sound.lawful.opens w.log in
     let same = ap (λ (x : View). x.words) g.same in
-    let small = f.small in
+    let small = s.small in
+    let asked = f.asked in
     subst (AreStuck (now w)) (sym h.sizes)
     (stuck_last (now w) n.stuck n.done h.all_stuck record {
       next_size = size;

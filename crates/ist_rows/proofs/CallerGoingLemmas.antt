@@ -293,4 +293,5 @@ pub caller_refused : (who : Caller) (seat : SeatFace) (words size : ℕ) (full :
     → IsFull who.seat.view words size full seat.view
     → IsCaller (record who { seat = seat })
 caller_refused who seat words size full c f =
-    caller_goes_on who seat c (goes_on_more _ _ _ f.seen (looked_goes_on _ _ _ _ f.looked))
+    caller_goes_on who seat c
+    (goes_on_more _ _ _ f.short.seen (looked_goes_on _ _ _ _ f.short.looked))

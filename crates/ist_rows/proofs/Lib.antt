@@ -14,3 +14,4 @@ pub mod CallerLawLemmas
 pub mod DropLemmas
 pub mod FillingLemmas
 pub mod GoneLemmas
+pub mod ShortLemmas

@@ -90,14 +90,20 @@ pub record HasReadNext (v : View) (next : ℕ) (w : View) : Type 0 where
   pub seen : GoesOnTo v before
   pub looked : Looked before next_place next w
 
--- a load of the first word gave how many words are used, and too few are left; nothing was reserved
-pub record IsFull (v : View) (words size : ℕ) (full : Full) (w : View) : Type 0 where
+-- a load of the first word, the last step of the call, gave how many words are used, and fewer are
+-- left than were asked for; until then the seat went on as `Seen` says
+pub record RanShort (Seen : View → View → Type 0) (v : View) (words : ℕ) (full : Full) (w : View)
+    : Type 0 where
   pub before : View
-  pub seen : GoesOnTo v before
+  pub seen : Seen v before
   pub looked : Looked before next_place full.next w
-  pub asked : full.asked ≡ size
   pub words_is : full.words ≡ words
-  pub small : words < full.next + size
+  pub small : words < full.next + full.asked
+
+-- too few words are left for a row of this size; nothing was reserved
+pub record IsFull (v : View) (words size : ℕ) (full : Full) (w : View) : Type 0 where
+  pub short : RanShort GoesOnTo v words full w
+  pub asked : full.asked ≡ size
 
 -- if the caller had no row of this kind and a row is returned, it was reserved in this call and is
 -- the caller's

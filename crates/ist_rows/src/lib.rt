@@ -1,7 +1,7 @@
 //! Callers of a table, and the rows that belong to one of them: entering, reserving, filling.
 //!
-//! Read `specs/Rows.antt`, then `callers.rt`, `reserving.rt` and `filling.rt`. Builds on `ist_core`,
-//! `ist_layout` and `ist_rule`.
+//! Read `specs/Rows.antt`, then `callers.rt`, `reserving.rt` and `filling.rt`. Builds on
+//! `ist_core`, `ist_layout` and `ist_rule`.
 #![tactic(auto)]
 
 mod block;

@@ -149,7 +149,8 @@ can_end_on v w number call mine went resolved c =
 
 -- a command that may end with a reply may do so after steps of rebuilding too
 pub may_end_on : (old new : Caller) (command : Command) (reply : Option ℕ)
-    → old.seat.view.who ≡ CallerOf old.number → StaysReady Rebuilds old new → MayEnd old command reply
+    → old.seat.view.who ≡ CallerOf old.number → StaysReady Rebuilds old new
+    → MayEnd old command reply
     → MayEnd new command reply
 may_end_on old new command reply mine on m =
     record {

@@ -51,12 +51,14 @@ target_frozen a b c words rebuild target outcome m f =
           (row_was_frozen v.start v.words m.is.1.at w.log lawful
           (goes_on_more m.is.1.until (later_by-goes_on f.on.gone.went.later)) outcome.frozen target
           m.is.1.child f.root_is
-          (subst (λ t. IsFinishedWith t target outcome.frozen.keys) (went_now Rebuilds v w all.gone.went)
+          (subst (λ t. IsFinishedWith t target outcome.frozen.keys)
+          (went_now Rebuilds v w all.gone.went)
           f.finished));
       done = λ unrefused done.
           subst (StartsAreDone (now w)) m.on.gone.number
           (f.done unrefused
-          (subst (λ n. StartsAreDoneBut (now b.seat.view) n rebuild) (sym m.on.gone.number) (m.done done)));
+          (subst (λ n. StartsAreDoneBut (now b.seat.view) n rebuild) (sym m.on.gone.number)
+          (m.done done)));
       rebuilt = λ row e.
           subst (λ n. IsRebuiltIn (now w) n outcome.refused)
           (one_inner target row (sym (ap ref_meant f.root_is) ∙ e))

@@ -241,7 +241,8 @@ module _ (who began new : Caller) (seat : SeatFace) (it : IsWay who began new se
       → HasSeenMore (pass_face who r) (face_as seat new.number q)
   has_seen_more r q same =
       let stamps = ap (λ (y : View). y.stamp) it.given.view
-      ∙ ap (λ (y : View). y.stamp) it.on.gone.went.same ∙ ap (λ (y : View). y.stamp) it.begun.view in
+      ∙ ap (λ (y : View). y.stamp) it.on.gone.went.same
+      ∙ ap (λ (y : View). y.stamp) it.begun.view in
       record {
         tree = trees same;
         number = number_is;

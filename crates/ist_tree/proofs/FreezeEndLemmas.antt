@@ -33,8 +33,7 @@ use Rattle.ist_tree.specs.Calls.{HasSeenMore}
 use Rattle.ist_tree.specs.Faces.{PassFace}
 use Rattle.ist_tree.specs.Freezing.{HasFrozen, HasStartedNone, HeldInnerRow, IsFreezeRefused, LeavesRebuilt, IsFrozen, IsFrozenFor, WasFrozen}
 use Rattle.ist_tree.specs.Insides.{IsPassWith, face_as, pass_face}
-use Rattle.ist_tree.specs.Refusals.{HadTooFew, IsForRebuild, IsTopRefused, KeepsRefusal}
-use Rattle.ist_tree.specs.Working.{IsShort}
+use Rattle.ist_tree.specs.Refusals.{HadTooFew, IsForRebuild, IsTopRefused, KeepsRefusal, LeavesTooFew}
 use Rattle.ist_tree.proofs.AskedLemmas.{asked_grows, held_on}
 use Rattle.ist_tree.proofs.FreezingLemmas.{was_frozen_on}
 use Rattle.ist_tree.proofs.FreezeCallLemmas.{IsWay}
@@ -83,7 +82,8 @@ module _ (who began new : Caller) (seat : SeatFace) (it : IsWay who began new se
   -- ---- refusals
 
   abbrev had_too_few : (r q : Option Full) (words : ℕ) (full : Full) → words ≡ v.words
-      → IsShort w words full → HadTooFew (pass_face who r) (face_as seat new.number q) full
+      → LeavesTooFew w.start words w.log full
+      → HadTooFew (pass_face who r) (face_as seat new.number q) full
   had_too_few r q words full same s =
       record {
         at = w.log;
@@ -98,7 +98,8 @@ module _ (who began new : Caller) (seat : SeatFace) (it : IsWay who began new se
 
   -- a start that was refused in the work was refused in the call
   pub freeze_refused : (r q : Option Full) (words : ℕ) (full : Full) → words ≡ v.words
-      → IsShort w words full → (full.asked ≡ rebuild_words) ⊎ (full.asked ≡ change_words)
+      → LeavesTooFew w.start words w.log full
+      → (full.asked ≡ rebuild_words) ⊎ (full.asked ≡ change_words)
       → HeldInnerRow b.start b.words b.log w.log
       → IsFreezeRefused (pass_face who r) (face_as seat new.number q) full
   freeze_refused r q words full same s asked held =

@@ -144,7 +144,8 @@ marked_unstarted v w number answer is left =
 -- ---- what was met, over further steps
 
 -- what is met after further steps is met from the beginning
-pub met_more : (a b c : Caller) (site : Site) → StaysReady Rebuilds a b → KeepsDone a b → HasMet b c site
+pub met_more : (a b c : Caller) (site : Site) → StaysReady Rebuilds a b → KeepsDone a b
+    → HasMet b c site
     → HasMet a c site
 met_more a b c site on done m =
     record {
@@ -158,7 +159,8 @@ met_more a b c site on done m =
 
     here : (s : Site) → IsSite b.seat.view c.seat.view s → IsSite a.seat.view c.seat.view s
     here (Still frozen) w =
-        (frozen_more Rebuilds a.seat.view b.seat.view c.seat.view.log on.gone.went frozen lawful w.0, w.1)
+        (frozen_more Rebuilds a.seat.view b.seat.view c.seat.view.log on.gone.went frozen
+        lawful w.0, w.1)
     here (Rebuilt rebuild target) w =
         (w.0, top_more Rebuilds a.seat.view b.seat.view c.seat.view.log on.gone.went target w.1)
 

@@ -65,7 +65,8 @@ marked old seat target ready went =
 pub target_froze : (old : Caller) (seat : SeatFace) (new : Caller) (words rebuild target keys : ℕ)
     → IsReady old → IsBelowAnchor (now old.seat.view) rebuild
     → WentOn (Marks seat.view target) old.seat.view seat.view
-    → IsFinishedWith (now seat.view) target keys → StaysReady Rebuilds (record old { seat = seat }) new
+    → IsFinishedWith (now seat.view) target keys
+    → StaysReady Rebuilds (record old { seat = seat }) new
     → WentOn Serves seat.view new.seat.view → (answer : Result Helped Full)
     → (refused : Option Full) → refused ≡ result_err answer
     → (answer ≡ Ok Replaced → IsReplaced (now new.seat.view) rebuild)
@@ -76,7 +77,8 @@ pub target_froze : (old : Caller) (seat : SeatFace) (new : Caller) (words rebuil
 target_froze old seat new words rebuild target keys ready below went f on serves answer refused is replaced
     left full =
     record {
-      on = ready_more Rebuilds old (record old { seat = seat }) new (marked old seat target ready went) on;
+      on = ready_more Rebuilds old (record old { seat = seat }) new
+          (marked old seat target ready went) on;
       root_is = refl;
       finished = finished_with_grows (now seat.view) (now new.seat.view)
           (went_grow Serves seat.view new.seat.view serves) target keys f;

@@ -38,12 +38,8 @@ refused_more p q said m r =
       update = r.update;
       at = r.at;
       until = goes_on_more r.until m.seen;
-      few = subst (λ (t : TreeFace). LeavesTooFew (record q { tree = t }) r.at said.full)
-          (sym m.tree) record {
-            next_is = r.few.next_is;
-            words_is = r.few.words_is;
-            small = r.few.small;
-          };
+      few = subst (λ (t : TreeFace). LeavesTooFew t.start t.words r.at said.full)
+          (sym m.tree) r.few;
       asked =
           ⊎_elim (λ a. inl a)
           (λ b. inr (⊎_elim (λ a. inl a)
@@ -80,12 +76,8 @@ refused_now p q key value command full m update is r =
       update = update;
       at = r.had.at;
       until = r.had.until;
-      few = subst (λ (t : TreeFace). LeavesTooFew (record q { tree = t }) r.had.at full) (sym m.tree)
-          record {
-            next_is = r.had.few.next_is;
-            words_is = r.had.few.words_is;
-            small = r.had.few.small;
-          };
+      few = subst (λ (t : TreeFace). LeavesTooFew t.start t.words r.had.at full)
+          (sym m.tree) r.had.few;
       asked = asked_then p q key value full.asked r.asked;
       began = p;
       ended = q;

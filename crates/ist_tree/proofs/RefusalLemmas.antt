@@ -32,7 +32,7 @@ use Rattle.ist_updates.specs.Counting.{CameToLimit}
 use Rattle.ist_updates.specs.Refusals as updates
 use Rattle.ist_tree.specs.Faces.{PassFace}
 use Rattle.ist_tree.specs.Insides.{face_as, pass_face}
-use Rattle.ist_tree.specs.Refusals.{HadTooFew, IsAskedForRow, IsAskedIn, IsForHelp, IsForRebuild, IsRefused, IsRowRefused, KeepsRowRefusal, for_leaf, for_other, for_own, for_pair, for_put, for_remove, for_rebuild, for_start}
+use Rattle.ist_tree.specs.Refusals.{HadTooFew, IsAskedForRow, IsAskedIn, IsForHelp, IsForRebuild, IsRefused, IsRowRefused, KeepsRowRefusal, for_leaf, for_other, for_own, for_pair, for_put, for_remove, for_rebuild, for_start, LeavesTooFew}
 use Rattle.ist_tree.specs.Working as working
 use Rattle.laws_histories.proofs.PositionOnLemmas.{position_on}
 use Rattle.ist_tree.proofs.AskedLemmas.{asked_grows}
@@ -74,8 +74,8 @@ module _ (who began new : Caller) (seat : SeatFace) (command : Command)
   x = seat.view
 
   -- there were too few words at the end of the work
-  abbrev had_too_few : (words : ℕ) (full : Full) → words ≡ v.words → working.IsShort w words full
-      → HadTooFew before behind full
+  abbrev had_too_few : (words : ℕ) (full : Full) → words ≡ v.words
+      → LeavesTooFew w.start words w.log full → HadTooFew before behind full
   had_too_few words full same s =
       record {
         at = w.log;

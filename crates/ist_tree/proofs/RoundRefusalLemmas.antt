@@ -31,11 +31,7 @@ module _ (p : PassFace) (seen : Log) (loaded searches : ℕ) (g : GoesOn p.seen 
         at = h.at;
         since = goes_on_more g h.since;
         until = h.until;
-        few = record {
-          next_is = h.few.next_is;
-          words_is = h.few.words_is;
-          small = h.few.small;
-        };
+        few = h.few;
       }
 
   -- what wasn't replaced between the parts wasn't before
@@ -65,11 +61,7 @@ module _ (p : PassFace) (seen : Log) (loaded searches : ℕ) (g : GoesOn p.seen 
           at = r.had.at;
           since = goes_on_more g r.had.since;
           until = r.had.until;
-          few = record {
-            next_is = r.had.few.next_is;
-            words_is = r.had.few.words_is;
-            small = r.had.few.small;
-          };
+          few = r.had.few;
         };
         after = r.after;
         asked = here r.asked;

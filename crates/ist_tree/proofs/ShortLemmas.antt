@@ -20,16 +20,18 @@ use Rattle.ist_core.proofs.SpendingLemmas.{words_are_spent}
 use Rattle.ist_rule.specs.declared.view.View.{View}
 use Rattle.ist_rule.specs.Learning.{now}
 use Rattle.ist_rule.specs.Rule.{IsSound}
-use Rattle.ist_rebuild.specs.Going.{Begins, Serves, IsShortOf}
+use Rattle.ist_rebuild.specs.Going.{Begins, Serves}
+use Rattle.ist_rows.specs.Rows.{RanShort}
 use Rattle.ist_rebuild.specs.Helping.{IsHelpRefused}
 use Rattle.ist_rebuild.specs.Starting.{IsStartRefused, IsStartedAt, StoodInstead}
-use Rattle.ist_tree.specs.Working.{IsAskedToRebuild, IsDueRefused, IsShort, for_other, for_own, for_start}
+use Rattle.ist_tree.specs.Working.{IsAskedToRebuild, IsDueRefused, for_other, for_own, for_start}
+use Rattle.ist_tree.specs.Refusals.{LeavesTooFew}
 
 -- ---- too few words
 
 -- fewer words are left than were asked for
 pub short_now : (P : Event → Type 0) (v : View) (words : ℕ) (full : Full) (w : View)
-    → IsShortOf P v words full w → IsShort w words full
+    → RanShort (WentOn P) v words full w → LeavesTooFew w.start words w.log full
 short_now P v words full w s =
     record {
       next_is = s.looked.stood (now w).next shown_next

@@ -28,8 +28,9 @@ use Rattle.ist_tree.specs.declared.freezing.Outcome.{Outcome}
 use Rattle.ist_tree.specs.declared.freezing.Site.{Site}
 use Rattle.ist_tree.specs.declared.freezing.Site.TheVariants.{Still, Rebuilt}
 use Rattle.ist_tree.specs.Freezing.{HeldInnerRow, WasFrozen}
-use Rattle.ist_tree.specs.Working.{Rebuilds, IsShort, KeepsDone}
+use Rattle.ist_tree.specs.Working.{Rebuilds, KeepsDone}
 use Rattle.ist_rows.specs.Going.{StaysReady}
+use Rattle.ist_tree.specs.Refusals.{LeavesTooFew}
 
 -- ---- what is below the anchor
 
@@ -102,13 +103,13 @@ HasBegun old new target None = GoesIdle old new
 -- held, and has started no rebuild
 pub record IsStopped (old new : Caller) (words : ℕ) (full : Full) : Type 0 where
   pub idle : GoesIdle old new
-  pub short : IsShort new.seat.view words full
+  pub short : LeavesTooFew new.seat.view.start words new.seat.view.log full
   pub asked : (full.asked ≡ rebuild_words) ⊎ (full.asked ≡ change_words)
   pub held : let v = old.seat.view in HeldInnerRow v.start v.words v.log new.seat.view.log
 
 -- too few words were left to help the rebuild
 pub record IsHelpShort (w : View) (rebuild words : ℕ) (full : Full) : Type 0 where
-  pub short : IsShort w words full
+  pub short : LeavesTooFew w.start words w.log full
   pub asked : IsAskedFor (now w) rebuild full.asked
 
 -- too few words were left to help a rebuild of a row that was the anchor's child since

@@ -1,8 +1,9 @@
 -- Why a put or a remove is refused, and why the rebuild after one is refused.
-use Rattle.std.specs.Prelude.{◌≡◌, ◌≢◌, ℕ, ◌+◌, ◌*◌, ◌<◌, ◌≤◌, ◌⊎◌, ◌∷◌, length, Option, Some, None}
+use Rattle.std.specs.Prelude.{◌≡◌, ◌≢◌, ℕ, ◌+◌, ◌*◌, ◌<◌, ◌≤◌, ◌⊎◌, List, ◌∷◌, length, Option, Some, None}
 use Rattle.ist_core.specs.declared.commands.Command.{Command}
 use Rattle.ist_core.specs.declared.commands.Command.TheVariants.{Get}
 use Rattle.ist_core.specs.declared.events.Event.TheVariants.{Count}
+use Rattle.ist_core.specs.declared.pairs.Pair.{Pair}
 use Rattle.ist_core.specs.declared.ports.Full.{Full}
 use Rattle.ist_core.specs.Arithmetic.{degree}
 use Rattle.ist_core.specs.Lawful.{state_of}
@@ -24,11 +25,11 @@ use Rattle.ist_tree.specs.Faces.{PassFace, changes_seen}
 
 -- ---- how many words there were
 
--- after this log `next` of the tree's words were spent, and fewer were left than were asked for
-pub record LeavesTooFew (p : PassFace) (at : Log) (full : Full) : Type 0 where
-  pub next_is : full.next ≡ spent p.tree.start at
-  pub words_is : full.words ≡ p.tree.words
-  pub small : p.tree.words < full.next + full.asked
+-- after this log `next` of a table's words were spent, and fewer were left than were asked for
+pub record LeavesTooFew (pairs : List Pair) (words : ℕ) (at : Log) (full : Full) : Type 0 where
+  pub next_is : full.next ≡ spent pairs at
+  pub words_is : full.words ≡ words
+  pub small : words < full.next + full.asked
 
 -- too few words were left after some log, which goes on from what the pass had seen before a call,
 -- and which it had seen by the end of the call
@@ -36,7 +37,7 @@ pub record HadTooFew (p q : PassFace) (full : Full) : Type 0 where
   pub at : Log
   pub since : GoesOn p.seen at
   pub until : GoesOn at q.seen
-  pub few : LeavesTooFew p at full
+  pub few : LeavesTooFew p.tree.start p.tree.words at full
 
 -- ---- how many were asked for
 
@@ -162,7 +163,7 @@ pub record WasRefused (p : PassFace) (said : Refused) : Type 0 where
   pub update : (key : ℕ) → said.command ≢ Get key
   pub at : Log
   pub until : GoesOn at p.seen
-  pub few : LeavesTooFew p at said.full
+  pub few : LeavesTooFew p.tree.start p.tree.words at said.full
   pub asked : MayBeAsked p said.full.asked
   pub began : PassFace
   pub ended : PassFace

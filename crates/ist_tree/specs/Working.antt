@@ -1,6 +1,6 @@
 -- What the functions inside this crate promise each other: a caller in its call, the rebuild of a
 -- row that reached its limit, and an update from its beginning to its end.
-use Rattle.std.specs.Prelude.{◌≡◌, ◌⊎◌, ℕ, ◌+◌, ◌<◌, Bool, true, Option, Some, None}
+use Rattle.std.specs.Prelude.{◌≡◌, ◌⊎◌, ℕ, Bool, true, Option, Some, None}
 use Rattle.ist_core.specs.declared.commands.Command.{Command}
 use Rattle.ist_core.specs.declared.events.Event.{Event}
 use Rattle.ist_core.specs.declared.events.Event.TheVariants.{Enter, Install, Count}
@@ -15,7 +15,6 @@ use Rattle.ist_core.specs.References.{ChangeAt, RebuildAt, Ref, ref_of}
 use Rattle.ist_core.specs.RowLayout.{change_words, rebuild_words}
 use Rattle.ist_core.specs.Slots.{IsOpen}
 use Rattle.ist_core.specs.Snapshots.{Snapshot}
-use Rattle.ist_core.specs.Spending.{spent}
 use Rattle.ist_core.specs.Standing.{makes_entry}
 use Rattle.ist_core.specs.StartLayout.{start}
 use Rattle.ist_core.specs.Writing.{first_change}
@@ -37,6 +36,7 @@ use Rattle.ist_updates.specs.Refusals.{WasRefused}
 use Rattle.ist_tree.specs.declared.rebuilding.Instead.{Instead}
 use Rattle.ist_tree.specs.declared.rebuilding.Instead.TheVariants.{Rebuild, Change, Other}
 use Rattle.ist_tree.specs.DueRows.{InstallsDue}
+use Rattle.ist_tree.specs.Refusals.{LeavesTooFew}
 
 -- ---- how a caller goes on
 
@@ -87,12 +87,6 @@ pub record IsHelpedWord (w : View) (word : ℕ) : Type 0 where
   pub change : (base : ℕ) → ref_of word ≡ Some (ChangeAt base) → Happened (Resolves base) w.log
   pub rebuild : (base : ℕ) → ref_of word ≡ Some (RebuildAt base) → IsBuildable (now w) base
 
--- `next` words of the table are used, and fewer are left than were asked for
-pub record IsShort (w : View) (words : ℕ) (full : Full) : Type 0 where
-  pub next_is : full.next ≡ spent w.start w.log
-  pub words_is : full.words ≡ words
-  pub small : words < full.next + full.asked
-
 -- this many words were asked for to rebuild the target: for its start; for helping a rebuild of it;
 -- or for helping another rebuild, which hadn't been replaced in the earlier state
 pub data IsAskedToRebuild (s t : Snapshot) (target asked : ℕ) : Type 0 where
@@ -104,7 +98,7 @@ pub data IsAskedToRebuild (s t : Snapshot) (target asked : ℕ) : Type 0 where
 
 -- the rebuild of the target was refused because too few words were left
 pub record IsDueRefused (s : Snapshot) (w : View) (target words : ℕ) (full : Full) : Type 0 where
-  pub short : IsShort w words full
+  pub short : LeavesTooFew w.start words w.log full
   pub asked : IsAskedToRebuild s (now w) target full.asked
 
 -- ---- an update

@@ -5,43 +5,33 @@ use Rattle.ist_core.specs.declared.ports.Full.{Full}
 use Rattle.ist_rule.specs.declared.view.View.{View}
 use Rattle.ist_rule.specs.Going.{WentOn}
 use Rattle.ist_rule.proofs.WentOnLemmas.{went_all, went_more}
-use Rattle.ist_rebuild.specs.Going.{IsShortOf}
+use Rattle.ist_rows.specs.Rows.{RanShort}
 use Rattle.ist_updates.specs.declared.plans.Way.{Way}
 use Rattle.ist_updates.specs.Changing.{Prepares, MayAskFor, IsWayRefused}
+use Rattle.ist_rows.proofs.ShortLemmas.{short_from}
 
 -- if too few words were left since a later view, too few were left since the earlier view
 pub short_behind : (P : Event → Type 0) (u v : View) (words : ℕ) (full : Full) (w : View)
-    → WentOn P u v → IsShortOf P v words full w → IsShortOf P u words full w
+    → WentOn P u v → RanShort (WentOn P) v words full w → RanShort (WentOn P) u words full w
 short_behind P u v words full w a s =
-    record {
-      before = s.before;
-      seen = went_more P u v s.before a s.seen;
-      looked = s.looked;
-      words_is = s.words_is;
-      small = s.small;
-    }
+    short_from (WentOn P) (WentOn P) u v (λ x. went_more P u v x a) words full w s
 
 -- and also for a wider class of events
 pub short_all : (P Q : Event → Type 0) → ((event : Event) → P event → Q event) → (v : View)
-    (words : ℕ) (full : Full) (w : View) → IsShortOf P v words full w → IsShortOf Q v words full w
+    (words : ℕ) (full : Full) (w : View) → RanShort (WentOn P) v words full w
+    → RanShort (WentOn Q) v words full w
 short_all P Q all v words full w s =
-    record {
-      before = s.before;
-      seen = went_all P Q all v s.before s.seen;
-      looked = s.looked;
-      words_is = s.words_is;
-      small = s.small;
-    }
+    short_from (WentOn P) (WentOn Q) v v (λ x. went_all P Q all v x) words full w s
 
 -- the same with what was asked for
 pub asked_behind : {size : ℕ} (P : Event → Type 0) (u v : View) (words : ℕ) (full : Full) (w : View)
-    → WentOn P u v → (full.asked ≡ size) × IsShortOf P v words full w
-    → (full.asked ≡ size) × IsShortOf P u words full w
+    → WentOn P u v → (full.asked ≡ size) × RanShort (WentOn P) v words full w
+    → (full.asked ≡ size) × RanShort (WentOn P) u words full w
 asked_behind P u v words full w a s = (s.0, short_behind P u v words full w a s.1)
 
 -- so a change of the slot is refused
 pub way_refused : {size : ℕ} (u v : View) (words : ℕ) (full : Full) (w : View) (x : Way)
-    → WentOn Prepares u v → (full.asked ≡ size) × IsShortOf Prepares v words full w
+    → WentOn Prepares u v → (full.asked ≡ size) × RanShort (WentOn Prepares) v words full w
     → (full.asked ≡ size → MayAskFor x full.asked) → IsWayRefused u x words full w
 way_refused u v words full w x a s may =
     record { short = short_behind Prepares u v words full w a s.1; asked = may s.0 }

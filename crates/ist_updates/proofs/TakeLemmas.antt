@@ -1,5 +1,5 @@
 -- A caller that takes a row of a kind. Serves `take`.
-use Rattle.std.proofs.Common.{◌≡◌, ℕ, ◌+◌, ◌<◌, ◌≤◌, ◌⊎◌, not, ◌∷◌, map, filter, Option, Some, None, Result, Ok, Err, IfSome, IfOk, IfErr, refl, sym, ap, ap₂, ◌∙◌, subst, inl, inr, arith}
+use Rattle.std.proofs.Common.{◌≡◌, ℕ, ◌≤◌, ◌⊎◌, not, ◌∷◌, map, filter, Option, Some, None, Result, Ok, Err, IfSome, IfOk, IfErr, refl, sym, ap, ap₂, ◌∙◌, subst, inl, inr, arith}
 use Rattle.ist_core.specs.declared.events.Event.{Event}
 use Rattle.ist_core.specs.declared.events.Event.TheVariants.{Reserve}
 use Rattle.ist_core.specs.declared.lists.HeldRow.{HeldRow}
@@ -9,7 +9,7 @@ use Rattle.ist_core.specs.Logs.{one_event}
 use Rattle.ist_rule.specs.declared.view.View.{View}
 use Rattle.ist_core.specs.declared.events.Who.TheVariants.{Caller as CallerOf}
 use Rattle.ist_core.specs.Authors.{Later}
-use Rattle.ist_rule.specs.Learning.{now}
+use Rattle.ist_rule.specs.Learning.{now, GoesOnTo}
 use Rattle.ist_rule.specs.Rule.{IsSound}
 use Rattle.ist_rule.proofs.GoingOnLemmas.{goes_on_same, goes_on_who, goes_on_more, looked_goes_on}
 use Rattle.ist_rule.proofs.LaterLemmas.{later_more, later-goes_on}
@@ -19,16 +19,16 @@ use Rattle.ist_rows.specs.declared.kinds.Kind.{Kind}
 use Rattle.ist_rows.specs.declared.kinds.Kind.TheVariants.{Leaf, Pair as PairKind, Change, Rebuild}
 use Rattle.ist_rows.specs.Building.{AreStuck, HasRefused, sizes_built}
 use Rattle.ist_rows.specs.Kinds.{kind_words}
-use Rattle.ist_rows.specs.Rows.{Spares, spares_of, row_of, with_row, is_spare, build_sizes, IsCaller, Reserved, IsFresh, IsRefused}
+use Rattle.ist_rows.specs.Rows.{Spares, spares_of, row_of, with_row, is_spare, build_sizes, IsCaller, Reserved, IsFresh, IsRefused, RanShort}
 use Rattle.ist_rows.proofs.BuildingLemmas.{all_stuck_on}
 use Rattle.ist_rows.proofs.HeldBehindLemmas.{behind_between}
 use Rattle.ist_rows.proofs.HeldListLemmas.{held_by_later}
 use Rattle.ist_rule.specs.Going.{WentOn}
-use Rattle.ist_rebuild.specs.Going.{IsShortOf}
 use Rattle.ist_updates.specs.Changing.{Prepares}
 use Rattle.ist_rows.specs.Going.{HasGone}
 use Rattle.ist_updates.proofs.SpareLemmas.{sizes_taken}
 use Rattle.ist_rows.proofs.GoneLemmas.{loads_gone}
+use Rattle.ist_rows.proofs.ShortLemmas.{short_from}
 
 -- ---- a caller that reserved a row
 
@@ -117,7 +117,7 @@ pub record HasTaken (old new : Caller) (kind : Kind) (words : ℕ) (answer : Res
   pub high : IfOk answer (λ base. (row_of kind (spares_of old) ≡ Some base)
       ⊎ ((now old.seat.view).next ≤ base))
   pub full : IfErr answer (λ full. (full.asked ≡ kind_words kind)
-      × IsShortOf Prepares old.seat.view words full new.seat.view)
+      × RanShort (WentOn Prepares) old.seat.view words full new.seat.view)
 
 -- a row that was there is the row of its kind
 with_same : (own : Spares) (kind : Kind) (base : ℕ) → row_of kind own ≡ Some base
@@ -140,8 +140,8 @@ module _ (old new : Caller) (kind : Kind) (words : ℕ) (c : IsCaller old) (refu
       → IsRefused words kind old new full → HasGone Prepares old new
   gone_refused caller number full f =
       let v = old.seat.view in
-      let g = goes_on_more v f.cause.before new.seat.view f.cause.seen
-      (looked_goes_on f.cause.before _ _ new.seat.view f.cause.looked) in
+      let g = goes_on_more v f.cause.short.before new.seat.view f.cause.short.seen
+      (looked_goes_on f.cause.short.before _ _ new.seat.view f.cause.short.looked) in
       let it = loads_gone Prepares old new.seat c refused g in
       record {
         caller = caller;
@@ -195,13 +195,8 @@ module _ (old new : Caller) (kind : Kind) (words : ℕ) (c : IsCaller old) (refu
         high = tt;
         full = (
           f.cause.asked,
-          record {
-            before = f.cause.before;
-            seen = goes_on_went Prepares old.seat.view f.cause.before f.cause.seen;
-            looked = f.cause.looked;
-            words_is = f.cause.words_is;
-            small = subst (λ n. words < full.next + n) (sym f.cause.asked) f.cause.small;
-          },
+          short_from GoesOnTo (WentOn Prepares) old.seat.view old.seat.view
+              (λ x. goes_on_went Prepares old.seat.view x) words full new.seat.view f.cause.short,
         );
       }
 

@@ -27,7 +27,7 @@ use Rattle.ist_find.specs.Reads.{HasLooked, TellsValue}
 use Rattle.ist_find.proofs.LoadLemmas.{goes_length, shown_load}
 use Rattle.ist_find.proofs.LookLemmas.{word_looked}
 use Rattle.ist_find.proofs.SearchLemmas.{has_found}
-use Rattle.ist_rebuild.specs.Going.{IsShortOf}
+use Rattle.ist_rows.specs.Rows.{RanShort}
 use Rattle.ist_updates.specs.declared.plans.Aim.{Aim}
 use Rattle.ist_rule.specs.Faces.{SeatFace}
 use Rattle.ist_rows.specs.declared.callers.Caller.{Caller}
@@ -43,6 +43,7 @@ use Rattle.ist_updates.proofs.ShortLemmas.{short_behind, short_all}
 use Rattle.ist_rows.proofs.GoneLemmas.{loads_gone}
 use Rattle.ist_updates.proofs.StepLemmas.{prepares_none, prepares_updates}
 use Rattle.ist_updates.proofs.SinceLemmas.{taken_since}
+use Rattle.ist_rule.specs.Going.{WentOn}
 
 -- ---- what a leaf shows
 
@@ -123,8 +124,8 @@ module _ (v : View) (aim : Aim) (at : WasAtSlot v aim) where
 -- ---- too few words
 
 module _ (first v w : View) (words : ℕ) (full : Full) (began : BeganSince first v)
-    (short : IsShortOf Prepares v words full w) where
-  short_since : IsShortOf Updates first words full w
+    (short : RanShort (WentOn Prepares) v words full w) where
+  short_since : RanShort (WentOn Updates) first words full w
   short_since =
       short_behind Updates first v words full w began.went
       (short_all Prepares Updates prepares_updates v words full w short)

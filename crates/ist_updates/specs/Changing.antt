@@ -25,9 +25,8 @@ use Rattle.ist_rows.specs.declared.kinds.Kind.{Kind}
 use Rattle.ist_rows.specs.declared.kinds.Kind.TheVariants as kind
 use Rattle.ist_rows.specs.CallerLaws.{AreBasesOf}
 use Rattle.ist_rows.specs.Building.{HasRefused}
-use Rattle.ist_rows.specs.Rows.{spares_of, IsCaller}
+use Rattle.ist_rows.specs.Rows.{spares_of, IsCaller, RanShort}
 use Rattle.ist_dcss.specs.Installing.{Filling, rows_of}
-use Rattle.ist_rebuild.specs.Going.{IsShortOf}
 use Rattle.ist_updates.specs.Trying.{IsAtSlot}
 use Rattle.ist_updates.specs.declared.plans.Aim.{Aim}
 use Rattle.ist_updates.specs.declared.plans.Fresh.{Fresh}
@@ -84,7 +83,7 @@ MayAskFor _ asked = (asked ≡ leaf_words) ⊎ ((asked ≡ pair_words) ⊎ (aske
 
 -- the table had too few words for one of the rows
 pub record IsWayRefused (v : View) (w : Way) (words : ℕ) (full : Full) (x : View) : Type 0 where
-  pub short : IsShortOf Prepares v words full x
+  pub short : RanShort (WentOn Prepares) v words full x
   pub asked : MayAskFor w full.asked
 
 -- ---- plans

@@ -6,9 +6,10 @@ use Rattle.ist_core.specs.RowLayout.{leaf_words, pair_words, change_words}
 use Rattle.laws_histories.specs.Searching.{HasPosition}
 use Rattle.ist_rule.specs.declared.view.View.{View}
 use Rattle.ist_rule.specs.Learning.{now}
-use Rattle.ist_rebuild.specs.Going.{IsShortOf}
+use Rattle.ist_rows.specs.Rows.{RanShort}
 use Rattle.ist_rebuild.specs.Helping.{IsAskedFor}
 use Rattle.ist_updates.specs.Asking.{Updates}
+use Rattle.ist_rule.specs.Going.{WentOn}
 
 -- this number of words may be asked for between the views: a put asks for a leaf, a pair row or a
 -- change; a remove asks for a change, if the map had the key since the first view; both ask for what a
@@ -26,7 +27,7 @@ pub data IsAskedBy (v w : View) (key : ℕ) : Option ℕ → ℕ → Type 0 wher
 -- a load of the first word, the last step of the call, left too few words for what was asked for
 pub record IsUpdateRefused (v : View) (key : ℕ) (value : Option ℕ) (words : ℕ) (full : Full) (w : View)
     : Type 0 where
-  pub short : IsShortOf Updates v words full w
+  pub short : RanShort (WentOn Updates) v words full w
   pub asked : IsAskedBy v w key value full.asked
 
 -- the same for a call that may have begun searches meanwhile

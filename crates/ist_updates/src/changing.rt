@@ -5,6 +5,7 @@ ghost use Rattle.ist_core.specs.Changes.{command_of, reply_of, value_at};
 ghost use Rattle.ist_core.specs.Rebuilding.{IsUpdate};
 ghost use Rattle.ist_core.specs.References.{ref_of};
 ghost use Rattle.ist_rule.specs.Faces.{word_count_of};
+ghost use Rattle.ist_rule.specs.Going.{WentOn};
 ghost use Rattle.ist_rule.specs.Learning.{now, GoesOnTo};
 ghost use Rattle.ist_rule.specs.Watching.{IsNode};
 ghost use Rattle.laws_coming.specs.Further.{CameFurther};
@@ -14,9 +15,8 @@ ghost use Rattle.ist_rows.specs.Building.{HasRefused};
 ghost use Rattle.ist_rows.specs.CallerLaws.{without_rows};
 ghost use Rattle.ist_rows.specs.declared.kinds.Kind.TheVariants as kind;
 ghost use Rattle.ist_rows.specs.Kinds.{kind_words};
-ghost use Rattle.ist_rows.specs.Rows.{IsCaller, spares_of, row_of, with_row};
+ghost use Rattle.ist_rows.specs.Rows.{IsCaller, spares_of, row_of, with_row, RanShort};
 ghost use Rattle.ist_dcss.specs.Installing.{Filling, IsInstallable, IsInstalled};
-ghost use Rattle.ist_rebuild.specs.Going.{IsShortOf};
 ghost use Rattle.ist_rows.specs.Going.{IsQuiet, HasGone};
 ghost use Rattle.ist_updates.specs.Asking.{IsAsked};
 ghost use Rattle.ist_updates.specs.Changing.{WasAtSlot, Prepares, HasRows};
@@ -47,8 +47,8 @@ fn take(table: &TreeTable, who: &mut Caller, kind: Kind) -> Result<u32, Full>
         spares_of who.new ≡ with_row kind base (spares_of who.old)) }
     ensures high { IfOk result (λ base. (row_of kind (spares_of who.old) ≡ Some base)
         ⊎ ((now who.old.seat.view).next ≤ base)) }
-    ensures full { IfErr result (λ full. (full.asked ≡ kind_words kind)
-        × IsShortOf Prepares who.old.seat.view (word_count_of table.now) full who.new.seat.view) }
+    ensures full { let v = who.old.seat.view in IfErr result (λ full. (full.asked ≡ kind_words kind)
+        × RanShort (WentOn Prepares) v (word_count_of table.now) full who.new.seat.view) }
 {
     know(&who.seat);
     // Reserve, if the caller holds none. Meets another caller's.
@@ -99,8 +99,9 @@ fn take_pair(table: &TreeTable, who: &mut Caller, node: u32) -> Result<u32, Full
     ensures others { IfOk result (λ base.
         (who.new.leaf ≡ who.old.leaf) × (who.new.change ≡ who.old.change)) }
     ensures above { IfOk result (λ base. node < base) }
-    ensures full { IfErr result (λ full. (full.asked ≡ kind_words kind.Pair)
-        × IsShortOf Prepares who.old.seat.view (word_count_of table.now) full who.new.seat.view) }
+    ensures full { let v = who.old.seat.view in IfErr result (λ full.
+        (full.asked ≡ kind_words kind.Pair)
+        × RanShort (WentOn Prepares) v (word_count_of table.now) full who.new.seat.view) }
 {
     know(&who.seat);
     drop_below(table, who, node);

@@ -1,7 +1,7 @@
 //! Small tables and installed changes for the tests of the crates about callers.
 //!
-//! Read `specs/Samples.antt`, then `tables.rt` and `changes.rt`. Builds on `ist_dcss` and on the crates
-//! below it.
+//! Read `specs/Samples.antt`, then `tables.rt` and `changes.rt`. Builds on `ist_dcss` and on the
+//! crates below it.
 #![tactic(auto)]
 
 mod changes;

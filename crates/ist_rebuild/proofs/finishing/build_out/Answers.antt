@@ -30,7 +30,8 @@ returns-clause-helped c =
     c.set_root.ensures.caller c.set_root.ensures.refused c.set_root.ensures.number
     c.set_root.ensures.rows c.set_root.ensures.went in
     helped_more c.args.who.now c.set_root.new.who c.fill_parts.new.who first
-    (built_helped c.set_root.new.who c.fill_parts.new.who (still_ready first.on) c.fill_parts.ensures.caller
+    (built_helped c.set_root.new.who c.fill_parts.new.who (still_ready first.on)
+    c.fill_parts.ensures.caller
     c.fill_parts.ensures.refused c.fill_parts.ensures.number c.fill_parts.ensures.rows
     c.fill_parts.ensures.went)
 

@@ -65,5 +65,6 @@ returns-clause-finished c =
     let built = helped_loads c.mark_target.new.who c.build_out.new.who c.plan_of-plan.new.seat
     c.build_out.ensures.helped c.plan_of-plan.ensures.seen in
     buildable_went Serves _ _
-    (helped_more c.mark_target.new.who _ c.finish.new.who built c.finish.ensures.helped).on.gone.went
+    (helped_more c.mark_target.new.who _ c.finish.new.who built
+    c.finish.ensures.helped).on.gone.went
     c.args.rebuild c.mark_target.ensures.buildable

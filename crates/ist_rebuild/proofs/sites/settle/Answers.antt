@@ -38,7 +38,8 @@ turns-preserved c =
       c.help.ensures.same_table ∙ c.slot_word-word.ensures.same_table ∙ c.turns.invariant.0,
       helped_more c.args.who.now mid _
           (helped_more c.args.who.now c.turns.who mid c.turns.invariant.1 l)
-          (help_helped mid c.help.new.seat c.in-Change.change (still_ready l.on) c.help.ensures.went),
+          (help_helped mid c.help.new.seat c.in-Change.change (still_ready l.on)
+          c.help.ensures.went),
     )
 
 -- the help resolves the change, which wasn't resolved before
@@ -63,7 +64,8 @@ returns-in-Itself-clause-left c _ =
     (loads_helped c.turns.who c.slot_word-word.new.seat (still_ready c.turns.invariant.1.on)
     c.slot_word-word.ensures.seen) in
     tells_left _ l.on.gone.went.sound c.args.plan
-    (plan_went Serves _ _ l.on.gone.went c.args.plan c.requires.plan) _ c.slot_word-word.ensures.holds
+    (plan_went Serves _ _ l.on.gone.went c.args.plan c.requires.plan) _
+    c.slot_word-word.ensures.holds
     (c.in-Itself.ensures.itself refl)
     (closed_went Serves _ _ l.on.gone.went c.know.ensures.sound c.args.plan c.requires.plan
     c.requires.closed)
@@ -81,5 +83,6 @@ returns-in-Another-clause-replaced c _ =
     (loads_helped c.turns.who c.slot_word-word.new.seat (still_ready c.turns.invariant.1.on)
     c.slot_word-word.ensures.seen) in
     tells_replaced _ l.on.gone.went.sound c.args.plan
-    (plan_went Serves _ _ l.on.gone.went c.args.plan c.requires.plan) _ c.slot_word-word.ensures.holds
+    (plan_went Serves _ _ l.on.gone.went c.args.plan c.requires.plan) _
+    c.slot_word-word.ensures.holds
     (c.in-Another.ensures.no_change refl) (c.in-Another.ensures.another refl)

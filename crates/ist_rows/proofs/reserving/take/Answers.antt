@@ -59,12 +59,14 @@ pub returns-then-next-size-clause-full : goal.returns-then-next-size-clause-full
 returns-then-next-size-clause-full c =
     let read = c.turns.invariant.2 _ (read_first _ _ _ c.know.ensures.sound c.load-next.ensures.looked) in
     record {
-      before = read.before;
-      seen = read.seen;
-      looked = read.looked;
+      short = record {
+        before = read.before;
+        seen = read.seen;
+        looked = read.looked;
+        words_is = c.word_count-words.ensures.value;
+        small = omega arith;
+      };
       asked = refl;
-      words_is = c.word_count-words.ensures.value;
-      small = omega arith;
     }
 
 -- if the first free word was found, the row was reserved

@@ -143,7 +143,8 @@ returns-in-Some-Inner-clause-further c is =
 pub returns-in-Some-Change-clause-further : goal.returns-in-Some-Change-clause-further
 returns-in-Some-Change-clause-further c _ =
     behind_load _ _ _ c.anchor_word-word.ensures.seen
-    (helped_further Rebuilds _ _ c.know-2.ensures.sound c.met_change.ensures.idle.on.gone.went anchor 0 _ _
+    (helped_further Rebuilds _ _ c.know-2.ensures.sound c.met_change.ensures.idle.on.gone.went
+    anchor 0 _ _
     c.anchor_word-word.ensures.holds
     (read_as _ _ _ _ c.from_word.ensures.value c.in-Some-Change.is c.in-Some-Change.field-0-is)
     c.met_change.ensures.out.resolved)

@@ -36,7 +36,8 @@ pub returns-in_err-try_due-clause-full : goal.returns-in_err-try_due-clause-full
 returns-in_err-try_due-clause-full c =
     passed_on c.from_residual.result _ _ c.from_residual.ensures.1
     (due_refused_more _ _
-    (went_grow Rebuilds c.args.who.now.seat.view c.turns.who.seat.view c.turns.invariant.1.gone.went)
+    (went_grow Rebuilds c.args.who.now.seat.view c.turns.who.seat.view
+    c.turns.invariant.1.gone.went)
     _ _ _ _ c.in_err-try_due.ensures.full)
 
 -- the last attempt found it shut

@@ -161,7 +161,8 @@ returns-in_ok-help_other-in-Other-clause-done c done =
     (other_leaves _ _ _ _ c.in-Other.is (c.in_ok-rebuild.ensures.done done))
     (done_more c.start.new.who c.help_other.new.who last c.help_other.ensures.on.gone.number
     c.in_ok-help_other-in-Other.ensures.done
-    (plain_done _ load_plain c.help_other.new.who c.is_open.new.seat (still_ready c.help_other.ensures.on)
+    (plain_done _ load_plain c.help_other.new.who c.is_open.new.seat
+    (still_ready c.help_other.ensures.on)
     (goes_on_went _ _ _ c.is_open.ensures.seen)))
 
 -- if the row is still open, a change of another was helped

@@ -34,7 +34,8 @@ returns-in_err-help_rebuild-clause-full c =
     let h = c.in_err-help_rebuild.ensures in
     let on = c.help_rebuild.ensures.helped.on in
     let full = refused_still c.args.who.now c.help_rebuild.new.who c.args.aim.key c.args.value _ _
-    (asked_served c.args.who.now c.help_rebuild.new.who _ c.requires.asked on.gone on.quiet.resolved)
+    (asked_served c.args.who.now c.help_rebuild.new.who _ c.requires.asked on.gone
+    on.quiet.resolved)
     (help_refused _ c.know.ensures.sound c.args.aim.key c.args.aim.node c.args.aim.index
     c.args.aim.word c.args.base c.requires.at_slot c.requires.rebuild c.args.value _ _ _ h.full) in
     search rules

@@ -4,6 +4,7 @@ use Rattle.test_rebuilds.proofs.callers.fill_all.Goals as goal
 
 pub returns-clause-ready : goal.returns-clause-ready
 returns-clause-ready c =
-    still_ready (built_helped c.args.who.now c.fill_parts.new.who c.requires.ready c.fill_parts.ensures.caller
+    still_ready (built_helped c.args.who.now c.fill_parts.new.who c.requires.ready
+    c.fill_parts.ensures.caller
     c.fill_parts.ensures.refused c.fill_parts.ensures.number c.fill_parts.ensures.rows
     c.fill_parts.ensures.went).on

@@ -4,4 +4,5 @@ use Rattle.test_rebuilds.proofs.callers.help_on.Goals as goal
 
 pub returns-clause-started : goal.returns-clause-started
 returns-clause-started c =
-    started_went Serves _ _ c.help_rebuild.ensures.helped.on.gone.went c.args.rebuild c.requires.started
+    started_went Serves _ _ c.help_rebuild.ensures.helped.on.gone.went c.args.rebuild
+    c.requires.started

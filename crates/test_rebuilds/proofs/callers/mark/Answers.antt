@@ -18,7 +18,8 @@ mark_and_count-keys-requires-clause-may_mark c =
 -- and is finished then
 pub returns-clause-ready : goal.returns-clause-ready
 returns-clause-ready c =
-    still_ready (has_marked c.args.who.now c.target_of-target.new.seat c.mark_and_count-keys.new.seat
+    still_ready (has_marked c.args.who.now c.target_of-target.new.seat
+    c.mark_and_count-keys.new.seat
     c.args.rebuild _ _ c.requires.ready c.requires.started c.target_of-target.ensures.seen
     c.target_of-target.ensures.target c.mark_and_count-keys.ensures.went
     c.mark_and_count-keys.ensures.finished).helped.on

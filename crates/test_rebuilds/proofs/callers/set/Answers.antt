@@ -6,7 +6,8 @@ use Rattle.test_rebuilds.proofs.callers.set.Goals as goal
 
 pub returns-clause-ready : goal.returns-clause-ready
 returns-clause-ready c =
-    still_ready (built_helped c.args.who.now c.set_root.new.who c.requires.ready c.set_root.ensures.caller
+    still_ready (built_helped c.args.who.now c.set_root.new.who c.requires.ready
+    c.set_root.ensures.caller
     c.set_root.ensures.refused c.set_root.ensures.number c.set_root.ensures.rows
     c.set_root.ensures.went).on
 
