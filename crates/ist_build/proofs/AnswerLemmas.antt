@@ -16,7 +16,7 @@ use Rattle.ist_rule.specs.Rule.{IsSound}
 use Rattle.ist_rule.specs.Learning.{now}
 use Rattle.ist_rows.specs.declared.callers.Caller.{Caller}
 use Rattle.ist_build.specs.Laying.{BuiltOn, IsLaid, IsShort}
-use Rattle.ist_build.specs.Calls.{Builds, MayBuild, IsLeafOf, IsPartLaid, HasRootAs, IsOutOfWords, RebuildIsShort}
+use Rattle.ist_build.specs.Calls.{Builds, MayBuild, IsPartLaid, HasRootAs, IsOutOfWords, RebuildIsShort, IsLeafAmong}
 use Rattle.ist_build.specs.Putting.{PutOn, HasRoot, IsStopped}
 use Rattle.ist_build.proofs.LaidOnLemmas.{laid_went}
 use Rattle.ist_build.proofs.PutOnLemmas.{built_put}
@@ -33,7 +33,7 @@ nothing_is_something y e = cc
 -- the leaf that was read is the one with this number
 pub leaf_number : (leaves : List PlacedLeaf) (i base : ℕ)
     → map (λ leaf. leaf.base) (take 1 (drop i leaves)) ≡ base ∷ []
-    → IsLeafOf leaves i (LeafAt base)
+    → IsLeafAmong leaves i (LeafAt base)
 leaf_number [] zero base e = absurd (nothing_is_something base e)
 leaf_number [] (suc i) base e = absurd (nothing_is_something base e)
 leaf_number (leaf ∷ leaves) zero base e =

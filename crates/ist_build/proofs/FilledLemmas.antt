@@ -1,5 +1,5 @@
 -- A root whose slots are all set is filled. Serves `filling`.
-use Rattle.std.proofs.Common.{◌≡◌, ◌≢◌, ℕ, ◌+◌, ◌/◌, ◌^◌, ◌<◌, ◌≤◌, slice_get, Some, None, refl, Result, Ok, Err, IfOk, sym, ap, ◌∙◌, subst, arith}
+use Rattle.std.proofs.Common.{le_refl, ◌≡◌, ◌≢◌, ℕ, ◌+◌, ◌/◌, ◌^◌, ◌<◌, ◌≤◌, slice_get, Some, None, refl, Result, Ok, Err, IfOk, sym, ap, ◌∙◌, subst, arith}
 use Rattle.ist_core.specs.declared.ports.Full.{Full}
 use Rattle.ist_core.specs.declared.states.InnerRow.{InnerRow}
 use Rattle.ist_core.specs.declared.states.RebuildRow.{RebuildRow}
@@ -34,6 +34,7 @@ use Rattle.ist_build.proofs.PartSlotLemmas.{shared_on}
 use Rattle.ist_build.proofs.PutOnLemmas.{put_grow, put_more}
 use Rattle.ist_build.proofs.RootFormLemmas.{HasForm, IsRowSet, root_form}
 use Rattle.ist_build.proofs.RootReadyLemmas.{told_on, told_target}
+use Rattle.ist_build.proofs.ShortLemmas.{short_for_more}
 
 -- a root stays
 pub rooted_on : (t u : Snapshot) → AllGrow t.pieces u.pieces → (rebuild : ℕ) → IsRooted t rebuild
@@ -203,13 +204,6 @@ err_stopped_on u v w rebuild words k told a full h =
     record {
       k = h.k;
       told = subst (IsTold (now u) rebuild) same told;
-      before = h.before;
-      seen = put_more u v h.before a h.seen;
-      looked = h.looked;
-      some = h.some;
-      several = h.several;
-      few = h.few;
-      asked = h.asked;
-      words_is = h.words_is;
-      small = h.small;
+      out = short_for_more PutOn PutOn u v (λ x. put_more u v x a) words h.k h.k full w (le_refl h.k)
+          h.out;
     }

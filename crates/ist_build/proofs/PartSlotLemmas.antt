@@ -46,7 +46,7 @@ use Rattle.laws_coming.specs.Builds.{WasUnset}
 use Rattle.laws_coming.proofs.KnownLemmas.{IsFast, fast_known, in_piece}
 use Rattle.laws_coming.proofs.SeenLemmas.{unset_seen}
 use Rattle.ist_build.specs.Calls.{MayBuild, share_part}
-use Rattle.ist_build.specs.Putting.{HasDegree, IsSlotSet, IsShared}
+use Rattle.ist_build.specs.Putting.{IsSlotSet, IsShared, IsRowOfDegree}
 use Rattle.ist_build.proofs.BackLemmas.{IsBack}
 use Rattle.ist_build.proofs.BuiltLemmas.{built_grow, loads_built}
 use Rattle.ist_core.proofs.DrawLemmas.{same_rebuild}
@@ -55,7 +55,7 @@ use Rattle.ist_build.proofs.TopLeafLemmas.{degree_small}
 -- ---- slots
 
 -- a node's slots lie within the table, and there are few
-pub degree_low : (v : View) → IsSound v → (node d : ℕ) → HasDegree (now v) node d
+pub degree_low : (v : View) → IsSound v → (node d : ℕ) → IsRowOfDegree (now v) node d
     → (d < place_limit) × (node + 3 + d + d ≤ v.words)
 degree_low v s node d h =
     let it = has_degree v.start v.words v.log s.lawful.enabled node h.row h.published in
@@ -70,15 +70,15 @@ degree_low v s node d h =
     (omega arith, omega arith)
 
 -- a row keeps its number of slots as pieces grow
-pub degree_on : (t u : Snapshot) → AllGrow t.pieces u.pieces → (node d : ℕ) → HasDegree t node d
-    → HasDegree u node d
+pub degree_on : (t u : Snapshot) → AllGrow t.pieces u.pieces → (node d : ℕ) → IsRowOfDegree t node d
+    → IsRowOfDegree u node d
 degree_on t u g node d h =
     let it = inner_there t.pieces u.pieces g node h.row h.published in
     record { row = it.0; published = it.1; degree_is = it.2.degree ∙ h.degree_is }
 
 -- where a slot lies
 module _ (pairs : List Pair) (words : ℕ) (log : Log) (enabled : EachEnabled (start pairs words) log)
-    (node d i : ℕ) (h : HasDegree (state_of pairs words log) node d) (less : i < d) where
+    (node d i : ℕ) (h : IsRowOfDegree (state_of pairs words log) node d) (less : i < d) where
   abbrev t : Snapshot
   t = state_of pairs words log
 
@@ -122,7 +122,7 @@ module _ (pairs : List Pair) (words : ℕ) (log : Log) (enabled : EachEnabled (s
       ∙ sym (place_of_row t node i h.row (anchor_free pairs words log enabled) h.published)
 
 -- a load of it gives what it holds
-pub slot_looked : (v w : View) (node d i place word : ℕ) → HasDegree (now v) node d → i < d
+pub slot_looked : (v w : View) (node d i place word : ℕ) → IsRowOfDegree (now v) node d → i < d
     → place ≡ slot_place node d i → Looked v place word w → word ≢ unset_word
     → IsSlotSet (now w) node i
 slot_looked v w node d i place word h less at l set =
@@ -139,7 +139,7 @@ slot_looked v w node d i place word h less at l set =
 
 -- a slot that a load found Unset was seen Unset
 pub slot_unset : (v w : View) → IsSound v → (node d i place word number : ℕ)
-    → HasDegree (now v) node d → i < d → place ≡ slot_place node d i → Looked v place word w
+    → IsRowOfDegree (now v) node d → i < d → place ≡ slot_place node d i → Looked v place word w
     → word ≡ unset_word → WasUnset w number (slot_place node d i)
 slot_unset v w s node d i place word number h less at l is =
     unset_seen v w number (slot_place node d i)
@@ -234,7 +234,7 @@ part_put v w number rebuild i word rows root row e root_is set l =
 
 -- and after a Lose too
 pub part_lost : (v w : View) (number place found : ℕ) (bases : List ℕ) (root d i : ℕ)
-    → HasDegree (now v) root d → i < d → place ≡ slot_place root d i → found ≢ unset_word
+    → IsRowOfDegree (now v) root d → i < d → place ≡ slot_place root d i → found ≢ unset_word
     → LoggedLoad v (Lose number bases) place found w → IsSlotSet (now w) root i
 part_lost v w number place found bases root d i h less at set l =
     let b = state_of v.start v.words l.before in

@@ -76,7 +76,7 @@ Builds _ = ⊥
 -- ---- what is promised
 
 -- the reference names the leaf number i
-pub record IsLeafOf (leaves : List PlacedLeaf) (i : ℕ) (ref : Ref) : Type 0 where
+pub record IsLeafAmong (leaves : List PlacedLeaf) (i : ℕ) (ref : Ref) : Type 0 where
   pub leaf : PlacedLeaf
   pub there : slice_get leaves i ≡ Some leaf
   pub ref_is : ref ≡ LeafAt leaf.base

@@ -37,7 +37,7 @@ pub record HasRoot (t : Snapshot) (rebuild root : ℕ) : Type 0 where
 -- ---- parts
 
 -- the inner row at the base has `degree` slots
-pub record HasDegree (t : Snapshot) (node degree : ℕ) : Type 0 where
+pub record IsRowOfDegree (t : Snapshot) (node degree : ℕ) : Type 0 where
   pub row : InnerRow
   pub published : t.pieces node ≡ Some (Inner row)
   pub degree_is : row.degree ≡ degree
@@ -58,7 +58,7 @@ pub record IsShared (t : Snapshot) (rebuild target root k : ℕ) : Type 0 where
   pub finished : IsFinishedWith t target k
   pub shared : share_from ≤ k
   pub root_is : ref_of row.root ≡ Some (InnerAt root)
-  pub node : HasDegree t root (degree k)
+  pub node : IsRowOfDegree t root (degree k)
 
 -- the caller is filling the slots of a shared root: the first i are set
 pub record IsFilling (old : Caller) (rebuild target root k i : ℕ) (who : Caller) : Type 0 where

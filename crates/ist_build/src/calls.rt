@@ -9,7 +9,7 @@ ghost use Rattle.ist_rule.specs.Going.{WentOn, KeepsWords};
 ghost use Rattle.ist_rule.specs.Learning.{now, GoesOnTo};
 ghost use Rattle.ist_rows.specs.Rows.{IsCaller, spares_of};
 ghost use Rattle.ist_rows.specs.Building.{HasRefused, IsInBuild, sizes_built};
-ghost use Rattle.ist_build.specs.Calls.{HasKeys, MayBuild, IsBuildable, IsLeafOf, IsPartLaid};
+ghost use Rattle.ist_build.specs.Calls.{HasKeys, MayBuild, IsBuildable, IsPartLaid, IsLeafAmong};
 ghost use Rattle.ist_build.specs.Calls.{Builds, HasRootAs, IsRooted, IsBuiltOut, IsOutOfWords, RebuildIsShort};
 
 use crate::descent::leaf_base;
@@ -45,7 +45,7 @@ pub fn leaf_at(table: &TreeTable, seat: &mut TreeSeat, target: u32, i: u64) -> R
     ensures seen { GoesOnTo seat.old.view seat.new.view }
     ensures leaf { (leaves : List PlacedLeaf)
         → HasLeaves (now seat.old.view).pieces (Some (InnerAt target)) leaves
-        → IsLeafOf leaves i (ref_meant result) }
+        → IsLeafAmong leaves i (ref_meant result) }
     ensures good { IsGoodRef (ref_meant result) }
 {
     leaf_and_loads(table, seat, target, i).0
@@ -62,7 +62,7 @@ pub fn leaf_and_loads(table: &TreeTable, seat: &mut TreeSeat, target: u32, i: u6
     ensures seen { GoesOnTo seat.old.view seat.new.view }
     ensures leaf { (leaves : List PlacedLeaf)
         → HasLeaves (now seat.old.view).pieces (Some (InnerAt target)) leaves
-        → IsLeafOf leaves i (ref_meant result.0) }
+        → IsLeafAmong leaves i (ref_meant result.0) }
     ensures good { IsGoodRef (ref_meant result.0) }
     ensures counted { seat.new.view.loaded ≡ seat.old.view.loaded + result.1 }
     ensures fits { result.1 ≤ 2 ^ 59 }

@@ -14,7 +14,7 @@ ghost use Rattle.laws_coming.specs.Builds.{WasUnset};
 ghost use Rattle.ist_build.specs.Laying.{IsShort};
 ghost use Rattle.ist_build.specs.Naming.{placing, losing};
 ghost use Rattle.ist_build.specs.Calls.{IsTold, IsBuildable, IsRooted, IsBuiltOut};
-ghost use Rattle.ist_build.specs.Putting.{PutOn, IsShared, HasDegree, IsSlotSet, IsStopped};
+ghost use Rattle.ist_build.specs.Putting.{PutOn, IsShared, IsSlotSet, IsStopped, IsRowOfDegree};
 
 use crate::parts::build_share;
 use crate::reading::keys_of;
@@ -28,7 +28,7 @@ use ist_rule::{TreeSeat, TreeTable, add, exchange_or_lose, know, load};
 // Returns the word in a slot of a node.
 fn slot_of(table: &TreeTable, seat: &mut TreeSeat, node: u32, degree: u64, i: u64) -> u64
     requires same_table { seat.old.table ≡ table.now.table }
-    requires published { HasDegree (now seat.old.view) node degree }
+    requires published { IsRowOfDegree (now seat.old.view) node degree }
     requires within { i < degree }
     ensures same_table { seat.new.table ≡ seat.old.table }
     ensures seen { GoesOnTo seat.old.view seat.new.view }

@@ -29,7 +29,7 @@ use Rattle.ist_rule.proofs.LaterLemmas.{later-goes_on}
 use Rattle.ist_rule.proofs.GoingOnLemmas.{callers_later}
 use Rattle.ist_rule.proofs.WatchLemmas.{shown_in_row, change_node, both_true, if_some, status_place_inner, status_place_anchor}
 use Rattle.ist_dcss.specs.Helping.{MayHelp, Serves}
-use Rattle.ist_dcss.specs.Naming.{IsReady, settled, okayed, closed, IsField, deciding}
+use Rattle.ist_dcss.specs.Naming.{settled, okayed, closed, IsField, deciding, IsDecidable}
 use Rattle.ist_rule.specs.Going.{WentOn}
 use Rattle.ist_rule.proofs.WentOnLemmas.{looked_went, logged_load_went, went_now, went_more, went_who}
 use Rattle.ist_dcss.proofs.HelperLemmas.{went_row}
@@ -80,7 +80,7 @@ module _ (v : View) (s : IsSound v) (change number : ℕ) (mine : v.who ≡ Call
       omega arith
 
   -- what was known of the change is enough still
-  outcome : (said : Bool) → IsReady v change row said → (log : Log) (m : MayCome v log)
+  outcome : (said : Bool) → IsDecidable v change row said → (log : Log) (m : MayCome v log)
       → (r : ChangeRow) → ChangeGrows row r → r.decision ≡ undecided
       → MayBe (state_of v.start v.words log) log change r said
   outcome said (settled set) log m r g unset = absurd (set (sym (g.decided set) ∙ unset))
@@ -94,7 +94,7 @@ module _ (v : View) (s : IsSound v) (change number : ℕ) (mine : v.who ≡ Call
       (subst (IsOpen u) (ap (λ x. x.node) g.others) opened))
 
   -- a caller may decide a change by what it knows of it
-  pub can_decide : (said : Bool) → IsReady v change row said → (place new : ℕ)
+  pub can_decide : (said : Bool) → IsDecidable v change row said → (place new : ℕ)
       → place ≡ change + change_decision_offset → new ≡ decision_word said
       → CanExchange v place undecided new (Decide number change said)
   can_decide said ready place new at new_is =
@@ -155,7 +155,7 @@ okay_went v change place word w (as_load l none) = looked_went (Serves change) v
 okay_ready : (v : View) (change place word : ℕ) (w : View) (node : ℕ) (r : ChangeRow)
     → place ≡ place_of_status node → (l : LoadedAs v (okay_of v change) place word w)
     → (now w).pieces change ≡ Some (Change r) → r.node ≡ node
-    → IsReady w change r (word == open_word)
+    → IsDecidable w change r (word == open_word)
 okay_ready v change place word w node r at (as_event event l named) here same =
     let t = state_of v.start v.words l.before in
     let it = if_some ((word == open_word) && waits (as_change (t.pieces change)))
@@ -164,7 +164,7 @@ okay_ready v change place word w node r at (as_event event l named) here same =
     let happened : Happened (Okays change) w.log =
     subst (Happened (Okays change)) (sym (ap (λ x. x.log) l.view))
     (inl (subst (Okays change) it.1 refl)) in
-    subst (IsReady w change r) (sym both.0) (okayed happened)
+    subst (IsDecidable w change r) (sym both.0) (okayed happened)
 okay_ready v change place word w node r at (as_load l none) here same =
     by_word (eqb_tells word open_word)
   where
@@ -176,7 +176,7 @@ okay_ready v change place word w node r at (as_load l none) here same =
 
     by_word : (((word == open_word) ≡ true) × (word ≡ open_word))
         ⊎ (((word == open_word) ≡ false) × (word ≢ open_word))
-        → IsReady w change r (word == open_word)
+        → IsDecidable w change r (word == open_word)
     by_word (inl k) =
         let t = state_of v.start v.words w.log in
         let is = went_now (Serves change) v w (looked_went (Serves change) v place word w l) in
@@ -189,7 +189,7 @@ okay_ready v change place word w node r at (as_load l none) here same =
         ∙ ap (λ b. b && waits (as_change (t.pieces change))) (sym k.0) ∙ off in
         settled (set_when rest)
     by_word (inr k) =
-        subst (IsReady w change r) (sym k.0)
+        subst (IsDecidable w change r) (sym k.0)
         (closed (λ is. k.1 (l.stood open_word
         (subst (λ p. IsShown (now w) p open_word) (ap place_of_status same ∙ sym at)
         (open_shown w l.sound r.node is)))))
@@ -200,7 +200,7 @@ pub record MayDecide (change number : ℕ) (said : Bool) (v w : View) : Type 0 w
   pub mine : w.who ≡ Caller number
   pub row : ChangeRow
   pub published : (now w).pieces change ≡ Some (Change row)
-  pub ready : IsReady w change row said
+  pub ready : IsDecidable w change row said
 
 -- the helper may decide the change by that word
 pub may_decide : (v : View) (change : ℕ) (m : MayHelp v change) (u : View) → WentOn (Serves change) v u

@@ -27,10 +27,10 @@ resolving v change = Resolve (number_of v.who) change
 
 -- what a Decide needs from the seat's log: that the change is decided already, or an Okay for yes,
 -- or for no that the node isn't open
-pub data IsReady (v : View) (change : ℕ) (row : ChangeRow) : Bool → Type 0 where
-  settled : {said : Bool} → row.decision ≢ undecided → IsReady v change row said
-  okayed : Happened (Okays change) v.log → IsReady v change row true
-  closed : ¬ (IsOpen (now v) row.node) → IsReady v change row false
+pub data IsDecidable (v : View) (change : ℕ) (row : ChangeRow) : Bool → Type 0 where
+  settled : {said : Bool} → row.decision ≢ undecided → IsDecidable v change row said
+  okayed : Happened (Okays change) v.log → IsDecidable v change row true
+  closed : ¬ (IsOpen (now v) row.node) → IsDecidable v change row false
 
 -- the node has a slot of this number
 pub record IsSlot (v : View) (node i : ℕ) : Type 0 where

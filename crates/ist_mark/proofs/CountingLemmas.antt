@@ -13,7 +13,7 @@ use Rattle.ist_rule.specs.Going.{WentOn}
 use Rattle.ist_rule.proofs.WentOnLemmas.{went_who}
 use Rattle.ist_mark.specs.declared.below.Below.TheVariants.{Keys, Node}
 use Rattle.ist_mark.specs.Marking.{MayMark, LeadsTo, to_row, to_target, LiesUnder, the_node, one_lower}
-use Rattle.ist_mark.specs.Passing.{MayPass, PassedWith, IsCounted, AreCounted, one_slot_more, MayFinish}
+use Rattle.ist_mark.specs.Passing.{MayPass, PassedWith, AreCounted, one_slot_more, MayFinish, IsSlotCounted}
 use Rattle.ist_mark.proofs.CountLemmas.{count_few, counted_few}
 use Rattle.ist_mark.proofs.KeepingLemmas.{happened_went, may_pass_went, counted_went}
 use Rattle.ist_mark.proofs.PassLemmas.{degree_low}
@@ -44,7 +44,7 @@ below_under v node i child p = one_lower i p.word the_node p.frozen p.is.leads
 
 -- once the row is finished, the slot is counted
 pub row_counted : {P : Event → Type 0} (v w : View) → WentOn P v w → (node i child k : ℕ)
-    → PassedWith v node i (Node child) → IsFinishedWith (now w) child k → IsCounted w node i k
+    → PassedWith v node i (Node child) → IsFinishedWith (now w) child k → IsSlotCounted w node i k
 row_counted {P = P} v w g node i child k p f =
     record {
       word = p.word;
@@ -53,14 +53,14 @@ row_counted {P = P} v w g node i child k p f =
     }
 
 -- a slot without a row is counted
-pub keys_counted : (v : View) (node i k : ℕ) → PassedWith v node i (Keys k) → IsCounted v node i k
+pub keys_counted : (v : View) (node i k : ℕ) → PassedWith v node i (Keys k) → IsSlotCounted v node i k
 keys_counted v node i k p = record { word = p.word; frozen = p.frozen; counts = p.is }
 
 -- ---- all slots
 
 -- one slot more is counted
 pub slot_counted : {P : Event → Type 0} (v w : View) → WentOn P v w → (node i k here : ℕ)
-    → AreCounted (now v) v.log node i k → IsCounted w node i here
+    → AreCounted (now v) v.log node i k → IsSlotCounted w node i here
     → AreCounted (now w) w.log node (i + 1) (k + here)
 slot_counted {P = P} v w g node i k here a c =
     one_slot_more c.word (counted_went P v w g node i k a) c.frozen c.counts
@@ -68,7 +68,7 @@ slot_counted {P = P} v w g node i k here a c =
 -- the sum of slots that were counted, with one more, is no great number
 pub sum_low : (v w : View) → IsSound v → IsSound w → (node degree i k here : ℕ)
     → MayPass v node degree → i < degree → AreCounted (now v) v.log node i k
-    → IsCounted w node i here → k + here < 2 ^ 64
+    → IsSlotCounted w node i here → k + here < 2 ^ 64
 sum_low v w s r node degree i k here m less a c =
     let low = degree_low v s node degree m in
     let few = counted_few v.start v.words s.lawful.opens v.log s.lawful.enabled node i k a in

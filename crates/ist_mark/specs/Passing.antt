@@ -57,7 +57,7 @@ pub record PassedWith (v : View) (node i : ℕ) (below : Below) : Type 0 where
   pub is : IsBelow v node word below
 
 -- slot i of the node was passed, with a word that counts for `keys` keys
-pub record IsCounted (v : View) (node i keys : ℕ) : Type 0 where
+pub record IsSlotCounted (v : View) (node i keys : ℕ) : Type 0 where
   pub word : ℕ
   pub frozen : IsFrozen v.log node i word
   pub counts : CountsFor (now v) (ref_of word) keys

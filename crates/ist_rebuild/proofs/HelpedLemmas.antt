@@ -19,7 +19,7 @@ use Rattle.ist_rows.specs.declared.kinds.Kind.TheVariants.{Change}
 use Rattle.ist_rows.specs.Building.{HasRefused}
 use Rattle.ist_rows.specs.CallerLaws.{KeepsRows, InstallsNone}
 use Rattle.ist_rows.specs.Kinds.{kind_words}
-use Rattle.ist_rows.specs.Rows.{spares_of, with_row, IsCaller, IsFresh, IsRefused, Reserved}
+use Rattle.ist_rows.specs.Rows.{spares_of, with_row, IsCaller, Reserved, IsFreshRow, IsKindRefused}
 use Rattle.ist_rows.specs.Filling.{with_own}
 use Rattle.ist_rows.proofs.CallerLawLemmas.{resolved_went}
 use Rattle.ist_rows.proofs.GoneLemmas.{kept_ready, loads_ready, own_ready, ready_all, ready_more, ready_same, still_ready}
@@ -127,7 +127,7 @@ pub record HasRow (old new : Caller) (answer : Result ℕ Full) : Type 0 where
   pub caller : IsCaller new
   pub number : new.number ≡ old.number
   pub held : IfSome old.change (λ base. (answer ≡ Ok base) × (new ≡ old))
-  pub fresh : IsFresh Change old new answer
+  pub fresh : IsFreshRow Change old new answer
 
 -- a row was reserved
 reserved_helped : (old new : Caller) (base : ℕ) → IsReady old → IsCaller new
@@ -178,7 +178,7 @@ took_row old new base ready s h = at old.change refl h.held
 
 -- a caller that was refused the row has helped
 pub refused_row : (old new : Caller) (words : ℕ) (full : Full) → IsReady old
-    → IsCaller new → new.number ≡ old.number → IsRefused words Change old new full
+    → IsCaller new → new.number ≡ old.number → IsKindRefused words Change old new full
     → HasHelped old new
 refused_row old new words full ready c number h =
     let v = old.seat.view in

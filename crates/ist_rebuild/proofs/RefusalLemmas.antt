@@ -11,7 +11,7 @@ use Rattle.ist_rule.specs.Learning.{now, GoesOnTo}
 use Rattle.ist_rule.proofs.WentOnLemmas.{goes_on_went, looked_went, went_all, went_grow, went_more}
 use Rattle.ist_rows.specs.declared.callers.Caller.{Caller}
 use Rattle.ist_rows.specs.declared.kinds.Kind.TheVariants.{Change}
-use Rattle.ist_rows.specs.Rows.{IsRefused}
+use Rattle.ist_rows.specs.Rows.{IsKindRefused}
 use Rattle.ist_rows.proofs.ShortLemmas.{short_from}
 use Rattle.ist_build.specs.Calls.{Builds, RebuildIsShort}
 use Rattle.ist_rebuild.specs.Going.{Serves}
@@ -40,7 +40,7 @@ short_refused v w rebuild words full h =
 
 -- the refusal of a row for the change
 pub row_refused : (old new : Caller) (rebuild words : ℕ) (full : Full)
-    → IsRefused words Change old new full
+    → IsKindRefused words Change old new full
     → IsHelpRefused old.seat.view rebuild words full new.seat.view
 row_refused old new rebuild words full h =
     record {

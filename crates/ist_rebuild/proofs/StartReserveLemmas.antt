@@ -29,7 +29,7 @@ use Rattle.ist_rows.specs.declared.kinds.Kind.TheVariants.{Leaf, Pair as PairKin
 use Rattle.ist_rows.specs.Building.{AreStuck, HasRefused}
 use Rattle.ist_rows.specs.CallerLaws.{KeepsRows}
 use Rattle.ist_rows.specs.Kinds.{kind_words}
-use Rattle.ist_rows.specs.Rows.{Spares, spares_of, row_of, with_row, is_base, is_spare, held_by, build_sizes, IsCaller, Reserved, IsFull, IsFresh, IsRefused}
+use Rattle.ist_rows.specs.Rows.{Spares, spares_of, row_of, with_row, is_base, is_spare, held_by, build_sizes, IsCaller, Reserved, IsFull, IsFreshRow, IsKindRefused}
 use Rattle.ist_rows.proofs.BuildingCallLemmas.{Took, took}
 use Rattle.ist_rows.proofs.BuildingLemmas.{all_stuck_on}
 use Rattle.ist_rows.proofs.CallerGoingLemmas.{base_same, or_any}
@@ -191,16 +191,16 @@ reserved_went v number base size w r =
 -- what a reserving answers
 module _ (words : ℕ) (kind : Kind) (old new : Caller) (answer : Result ℕ Full)
     (held : IfSome (row_of kind (spares_of old)) (λ base. (answer ≡ Ok base) × (new ≡ old)))
-    (fresh : IsFresh kind old new answer)
-    (full : IfErr answer (λ f. IsRefused words kind old new f)) where
+    (fresh : IsFreshRow kind old new answer)
+    (full : IfErr answer (λ f. IsKindRefused words kind old new f)) where
   -- the seat has reserved at most
   pub reserve_went : IsSound old.seat.view → WentOn Reserves old.seat.view new.seat.view
   reserve_went s = at (row_of kind (spares_of old)) refl held answer refl fresh full
     where
       at : (o : Option ℕ) → row_of kind (spares_of old) ≡ o
           → IfSome o (λ base. (answer ≡ Ok base) × (new ≡ old))
-          → (a : Result ℕ Full) → answer ≡ a → IsFresh kind old new a
-          → IfErr a (λ f. IsRefused words kind old new f)
+          → (a : Result ℕ Full) → answer ≡ a → IsFreshRow kind old new a
+          → IfErr a (λ f. IsKindRefused words kind old new f)
           → WentOn Reserves old.seat.view new.seat.view
       at (Some base) e h a is f r =
           subst (λ (x : Caller). WentOn Reserves old.seat.view x.seat.view) (sym h.1)
@@ -218,8 +218,8 @@ module _ (words : ℕ) (kind : Kind) (old new : Caller) (answer : Result ℕ Ful
     where
       at : (o : Option ℕ) → row_of kind (spares_of old) ≡ o
           → IfSome o (λ base. (answer ≡ Ok base) × (new ≡ old))
-          → (a : Result ℕ Full) → IsFresh kind old new a
-          → IfErr a (λ f. IsRefused words kind old new f) → HasRefused new
+          → (a : Result ℕ Full) → IsFreshRow kind old new a
+          → IfErr a (λ f. IsKindRefused words kind old new f) → HasRefused new
       at (Some base) e h a f r = subst HasRefused (sym h.1) was
       at None e h (Ok base) f r =
           refused_beside old new kind base c e (f e).0 number_is (f e).1 was

@@ -107,14 +107,14 @@ pub record IsFull (v : View) (words size : ℕ) (full : Full) (w : View) : Type 
 
 -- if the caller had no row of this kind and a row is returned, it was reserved in this call and is
 -- the caller's
-abbrev pub IsFresh : Kind → Caller → Caller → Result ℕ Full → Type 0
-IsFresh kind old new answer =
+abbrev pub IsFreshRow : Kind → Caller → Caller → Result ℕ Full → Type 0
+IsFreshRow kind old new answer =
     row_of kind (spares_of old) ≡ None → IfOk answer (λ base.
     Reserved old.seat.view old.number base (kind_words kind) new.seat.view
     × (spares_of new ≡ with_row kind base (spares_of old)))
 
 -- nothing was reserved, because no words are left
-pub record IsRefused (words : ℕ) (kind : Kind) (old new : Caller) (full : Full) : Type 0 where
+pub record IsKindRefused (words : ℕ) (kind : Kind) (old new : Caller) (full : Full) : Type 0 where
   pub none : row_of kind (spares_of old) ≡ None
   pub cause : IsFull old.seat.view words (kind_words kind) full new.seat.view
   pub same : spares_of new ≡ spares_of old

@@ -3,7 +3,7 @@ ghost use Rattle.std.specs.Prelude.{◌≡◌, ◌+◌, ◌<◌, ◌^◌, [], �
 ghost use Rattle.ist_core.specs.RowLayout.{inner_words, place_limit};
 ghost use Rattle.ist_core.specs.declared.events.Who.TheVariants.{Caller as CallerOf};
 ghost use Rattle.ist_rule.specs.Faces.{word_count_of};
-ghost use Rattle.ist_rows.specs.Rows.{spares_of, row_of, IsCaller, Reserved, IsFull, IsFresh, IsRefused};
+ghost use Rattle.ist_rows.specs.Rows.{spares_of, row_of, IsCaller, Reserved, IsFull, IsFreshRow, IsKindRefused};
 ghost use Rattle.ist_rows.specs.Building.{IsNext, HasTaken, HasRefused};
 ghost use Rattle.ist_rows.specs.Fairly.{MayTake};
 
@@ -60,9 +60,9 @@ pub fn reserve(table: &TreeTable, who: &mut Caller, kind: Kind) -> Result<u32, F
     ensures number { who.new.number ≡ who.old.number }
     ensures held { IfSome (row_of kind (spares_of who.old)) (λ base.
         (result ≡ Ok base) × (who.new ≡ who.old)) }
-    ensures reserved { IsFresh kind who.old who.new result }
+    ensures reserved { IsFreshRow kind who.old who.new result }
     ensures full { IfErr result (λ full.
-        IsRefused (word_count_of table.now) kind who.old who.new full) }
+        IsKindRefused (word_count_of table.now) kind who.old who.new full) }
 {
     if let Some(base) = who.row(kind) {
         return Ok(base);

@@ -28,7 +28,7 @@ use Rattle.ist_rule.proofs.LaterLemmas.{goes_on_more}
 use Rattle.ist_rows.specs.declared.callers.Caller.{Caller}
 use Rattle.ist_tree.specs.declared.freezing.Frozen.{Frozen}
 use Rattle.ist_tree.specs.declared.freezing.Outcome.{Outcome}
-use Rattle.ist_tree.specs.FreezeSteps.{Freezes, IsStopped, IsTopShort}
+use Rattle.ist_tree.specs.FreezeSteps.{Freezes, IsTopShort, IsFreezeStopped}
 use Rattle.ist_tree.specs.Calls.{HasSeenMore}
 use Rattle.ist_tree.specs.Faces.{PassFace}
 use Rattle.ist_tree.specs.Freezing.{HasFrozen, HasStartedNone, HeldInnerRow, IsFreezeRefused, LeavesRebuilt, IsFrozen, IsFrozenFor, WasFrozen}
@@ -286,7 +286,7 @@ pub record StopEnds (old : PassFace) (new : Caller) (seat : SeatFace) (r : Optio
 -- a freeze that is refused ends so
 pub stop_ends : (who began new : Caller) (seat : SeatFace) (it : IsWay who began new seat)
     (r : Option Full) → IsPassWith who r → (words : ℕ) → words ≡ who.seat.view.words
-    → seat.table ≡ who.seat.table → (full : Full) → IsStopped began new words full
+    → seat.table ≡ who.seat.table → (full : Full) → IsFreezeStopped began new words full
     → (old : PassFace) → pass_face who r ≡ old → StopEnds old new seat r full
 stop_ends who began new seat it r all words same table full s old view =
     subst (λ (o : PassFace). StopEnds o new seat r full) view record {

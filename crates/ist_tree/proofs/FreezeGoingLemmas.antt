@@ -30,7 +30,7 @@ use Rattle.ist_tree.specs.declared.freezing.Frozen.{Frozen}
 use Rattle.ist_tree.specs.declared.freezing.Site.{Site}
 use Rattle.ist_tree.specs.declared.freezing.Site.TheVariants.{Rebuilt, Still}
 use Rattle.ist_tree.specs.Freezing.{HeldInnerRow, WasFrozen}
-use Rattle.ist_tree.specs.FreezeSteps.{GoesIdle, HasMet, IsBelowAnchor, IsRebuildOf, IsSite, IsStopped, KeepsDoneBut, MayHaveMet, WasTop, rebuild_in}
+use Rattle.ist_tree.specs.FreezeSteps.{GoesIdle, HasMet, IsBelowAnchor, IsRebuildOf, IsSite, KeepsDoneBut, MayHaveMet, WasTop, rebuild_in, IsFreezeStopped}
 use Rattle.ist_tree.specs.Working.{KeepsDone, Rebuilds}
 use Rattle.ist_rows.specs.Going.{IsReady, StaysReady}
 use Rattle.ist_tree.proofs.AskedLemmas.{held_on}
@@ -174,7 +174,7 @@ may_have_met_more a b c None g m = idle_more a b c g m
 
 -- a start that is refused after idle steps is refused from the beginning
 pub stopped_more : (a b c : Caller) (words : ℕ) (full : Full) → GoesIdle a b
-    → IsStopped b c words full → IsStopped a c words full
+    → IsFreezeStopped b c words full → IsFreezeStopped a c words full
 stopped_more a b c words full g s =
     record {
       idle = idle_more a b c g s.idle;
@@ -189,7 +189,7 @@ stopped_more a b c words full g s =
 -- a start was refused
 pub start_stopped : (old new : Caller) (words : ℕ) (full : Full) → GoesIdle old new
     → HeldInnerRow old.seat.view.start old.seat.view.words old.seat.view.log old.seat.view.log
-    → IsStartRefused old.seat.view words full new.seat.view → IsStopped old new words full
+    → IsStartRefused old.seat.view words full new.seat.view → IsFreezeStopped old new words full
 start_stopped old new words full g held r =
     record {
       idle = g;

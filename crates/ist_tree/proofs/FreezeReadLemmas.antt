@@ -13,7 +13,7 @@ use Rattle.ist_core.specs.References.{InnerAt, LeafAt, Ref}
 use Rattle.ist_core.specs.Snapshots.{Snapshot}
 use Rattle.ist_core.proofs.GrowingLemmas.{leaf_there}
 use Rattle.ist_core.proofs.LeafLemmas.{same_leaves}
-use Rattle.ist_build.specs.Calls.{IsLeafOf}
+use Rattle.ist_build.specs.Calls.{IsLeafAmong}
 use Rattle.ist_dcss.proofs.FieldLemmas.{looked_row}
 use Rattle.ist_find.specs.Searches.{SeesLeaf}
 use Rattle.ist_find.proofs.ReadLemmas.{leaf_on}
@@ -44,7 +44,7 @@ use Rattle.ist_tree.proofs.GoingLemmas.{IsLaterView, goes_later, pass_with_later
 pub leaf_numbered : (v : View) → IsSound v → (ref : Ref) (keys target i base : ℕ) (found : Ref)
     → IsStill (now v) ref keys → ref ≡ InnerAt target
     → ((leaves : List PlacedLeaf) → HasLeaves (now v).pieces (Some (InnerAt target)) leaves
-    → IsLeafOf leaves i found)
+    → IsLeafAmong leaves i found)
     → ((b : ℕ) → found ≡ LeafAt b → base ≡ b) → IsLeafNumber (now v) ref i base
 leaf_numbered v s ref keys target i base found still is told based =
     let all = still_leaves v.start v.words v.log s.lawful ref keys still in

@@ -101,7 +101,7 @@ HasBegun old new target None = GoesIdle old new
 
 -- the caller was refused a row for the start of a rebuild of an inner row that the anchor's slot
 -- held, and has started no rebuild
-pub record IsStopped (old new : Caller) (words : ℕ) (full : Full) : Type 0 where
+pub record IsFreezeStopped (old new : Caller) (words : ℕ) (full : Full) : Type 0 where
   pub idle : GoesIdle old new
   pub short : LeavesTooFew new.seat.view.start words new.seat.view.log full
   pub asked : (full.asked ≡ rebuild_words) ⊎ (full.asked ≡ change_words)

@@ -13,8 +13,8 @@ ghost use Rattle.ist_rebuild.specs.Starting.{MayStart};
 ghost use Rattle.ist_rule.specs.Faces.{word_count_of};
 ghost use Rattle.ist_rule.specs.Learning.{now, GoesOnTo, Turned, beginning};
 ghost use Rattle.ist_rule.specs.Rule.{IsSound};
-ghost use Rattle.ist_tree.specs.FreezeSteps.{IsBelowAnchor, IsRebuildOf, WasTop, HasBegun, HasMet, MayHaveMet};
-ghost use Rattle.ist_tree.specs.FreezeSteps.{GoesIdle, IsStopped, FreezesTarget, Freezes};
+ghost use Rattle.ist_tree.specs.FreezeSteps.{IsBelowAnchor, IsRebuildOf, WasTop, HasBegun, HasMet, MayHaveMet, IsFreezeStopped};
+ghost use Rattle.ist_tree.specs.FreezeSteps.{GoesIdle, FreezesTarget, Freezes};
 ghost use Rattle.ist_tree.specs.FreezeSteps.{IsLeafNumber, IsPairOf};
 ghost use Rattle.ist_tree.specs.Calls.{HasSeenMore};
 ghost use Rattle.ist_tree.specs.Freezing.{IsStill, IsFrozenFor, HasFrozen, IsPairAt};
@@ -82,7 +82,7 @@ fn begin_rebuild(table: &TreeTable, who: &mut Caller, target: u32) -> Result<Opt
     ensures further { result ≡ Ok None → (word : ℕ) → ref_of word ≡ Some (InnerAt target)
         → SlotHolds (now who.old.seat.view) anchor 0 word
         → CameFurther who.old.seat.view who.new.seat.view }
-    ensures full { IfErr result (IsStopped who.old who.new (word_count_of table.now)) }
+    ensures full { IfErr result (IsFreezeStopped who.old who.new (word_count_of table.now)) }
 {
     // Install, Okay, Decide and Resolve of a start. Meets whoever changes the anchor's slot.
     match start(table, who, ANCHOR, 0, target)? {
@@ -104,7 +104,7 @@ fn met_row(table: &TreeTable, who: &mut Caller, target: u32) -> Result<Option<Si
     ensures further { result ≡ Ok None → (word : ℕ) → ref_of word ≡ Some (InnerAt target)
         → SlotHolds (now who.old.seat.view) anchor 0 word
         → CameFurther who.old.seat.view who.new.seat.view }
-    ensures full { IfErr result (IsStopped who.old who.new (word_count_of table.now)) }
+    ensures full { IfErr result (IsFreezeStopped who.old who.new (word_count_of table.now)) }
 {
     match begin_rebuild(table, who, target)? {
         Some(rebuild) => Ok(Some(Site::Rebuilt(rebuild, target))),
@@ -148,7 +148,7 @@ fn look(table: &TreeTable, who: &mut Caller) -> Result<Option<Site>, Full>
     ensures same_table { who.new.seat.table ≡ table.now.table }
     ensures met { IfOk result (MayHaveMet who.old who.new) }
     ensures further { result ≡ Ok None → CameFurther who.old.seat.view who.new.seat.view }
-    ensures full { IfErr result (IsStopped who.old who.new (word_count_of table.now)) }
+    ensures full { IfErr result (IsFreezeStopped who.old who.new (word_count_of table.now)) }
 {
     know(&who.seat);
     let word = anchor_word(table, &mut who.seat);
@@ -179,7 +179,7 @@ pub(crate) fn look_below(table: &TreeTable, who: &mut Caller) -> Result<Site, Fu
     requires ready { IsReady who.old }
     ensures same_table { who.new.seat.table ≡ table.now.table }
     ensures met { IfOk result (HasMet who.old who.new) }
-    ensures full { IfErr result (IsStopped who.old who.new (word_count_of table.now)) }
+    ensures full { IfErr result (IsFreezeStopped who.old who.new (word_count_of table.now)) }
 {
     know(&who.seat);
     'turns: loop {
@@ -215,7 +215,7 @@ fn freeze_below(table: &TreeTable, who: &mut Caller) -> Result<Outcome, Full>
     requires ready { IsReady who.old }
     ensures same_table { who.new.seat.table ≡ table.now.table }
     ensures froze { IfOk result (Freezes who.old who.new (word_count_of table.now)) }
-    ensures full { IfErr result (IsStopped who.old who.new (word_count_of table.now)) }
+    ensures full { IfErr result (IsFreezeStopped who.old who.new (word_count_of table.now)) }
 {
     match look_below(table, who)? {
         Site::Still(frozen) => Ok(Outcome {

@@ -42,7 +42,7 @@ use Rattle.ist_rows.specs.Going.{IsQuiet, HasGone}
 use Rattle.ist_updates.specs.declared.plans.Plan.{Plan}
 use Rattle.ist_updates.specs.Asking.{IsAsked}
 use Rattle.ist_updates.specs.Changing.{HasRows, filling_of}
-use Rattle.ist_updates.specs.Trying.{Tries, HasTaken}
+use Rattle.ist_updates.specs.Trying.{Tries, HasTakenEffect}
 use Rattle.ist_updates.proofs.AskedLemmas.{none_no_yes, no_yes_by, asked_still, asked_gone}
 use Rattle.ist_rows.proofs.GoneLemmas.{caller_gone}
 use Rattle.ist_updates.proofs.StepLemmas.{help_keeps, help_tries, help_installs_none}
@@ -252,7 +252,7 @@ module _ (old mid : Caller) (seat : SeatFace) (plan : Plan) (c : IsCaller old)
   -- if the change was decided yes, the command took effect
   pub carried_yes : IsDecided w base true → (command : Command)
       → command_of plan.row ≡ Some command
-      → HasTaken v w old.number command plan.row.node (reply_of (now v).pieces plan.row)
+      → HasTakenEffect v w old.number command plan.row.node (reply_of (now v).pieces plan.row)
   carried_yes d command is =
       let grew = grown d.row d.published in
       record {

@@ -44,19 +44,19 @@ use Rattle.ist_find.specs.Searches.{HasCome}
 use Rattle.laws_histories.proofs.PositionLemmas.{node_met}
 use Rattle.laws_walks.proofs.WalkLemmas.{meeting_comes}
 use Rattle.ist_updates.specs.Trying.{IsAtSlot}
-use Rattle.ist_updates.specs.Further.{HasAimed, IsBehind, IsFresh}
+use Rattle.ist_updates.specs.Further.{HasAimed, IsBehind, IsFreshNode}
 use Rattle.laws_histories.proofs.ChangeLemmas.{on_trans}
 use Rattle.ist_updates.proofs.BehindLemmas.{behind_more, further_behind, further_on, further_or_not, lawful_is, now_is, stands, stays_open}
 
 -- ---- the way down
 
 -- a walk begins at the anchor
-pub anchor_fresh : (first v : View) → IsBehind first v → IsFresh first v anchor
+pub anchor_fresh : (first v : View) → IsBehind first v → IsFreshNode first v anchor
 anchor_fresh first v b = record { behind = b; is = inl (anchor_is refl) }
 
 -- a node that was fresh is still fresh
-pub fresh_on : (first v w : View) (node : ℕ) → IsFresh first v node → IsBehind v w → IsSound w
-    → IsFresh first w node
+pub fresh_on : (first v w : View) (node : ℕ) → IsFreshNode first v node → IsBehind v w → IsSound w
+    → IsFreshNode first w node
 fresh_on first v w node f b s =
     record {
       behind = behind_more first v w f.behind b;
@@ -67,9 +67,9 @@ fresh_on first v w node f b s =
     }
 
 -- and so is a row that one of its slots holds
-pub down_fresh : (first w : View) (node i word child : ℕ) → IsFresh first w node → IsSound w
+pub down_fresh : (first w : View) (node i word child : ℕ) → IsFreshNode first w node → IsSound w
     → WasLinked (start w.start w.words) w.log node → SlotHolds (now w) node i word
-    → ref_of word ≡ Some (InnerAt child) → IsFresh first w child
+    → ref_of word ≡ Some (InnerAt child) → IsFreshNode first w child
 down_fresh first w node i word child f s was here is =
     record {
       behind = f.behind;
@@ -189,7 +189,7 @@ planned_aim first v w aim row a b n i f =
 
 -- a walk that has come to a slot has aimed
 pub slot_aimed : (first v : View) (key node i word : ℕ) → IsSound v → IsAtSlot v key node i word
-    → IsFresh first v node → HasAimed first v node i word
+    → IsFreshNode first v node → HasAimed first v node i word
 slot_aimed first v key node i word s at f =
     record {
       at = v;
@@ -225,7 +225,7 @@ come_linked v s key node rows h =
     (meeting_comes v.start v.words v.log key v.loads.since h.last node rows h.comes)).linked
 
 -- a walk begins
-pub begun_fresh : (v w : View) → Turned v (searching v) w → IsFresh v w anchor
+pub begun_fresh : (v w : View) → Turned v (searching v) w → IsFreshNode v w anchor
 begun_fresh v w t =
     anchor_fresh v w record {
       later = later-goes_on t.later;

@@ -15,13 +15,13 @@ use Rattle.ist_rows.specs.declared.callers.Caller.{Caller}
 use Rattle.ist_updates.specs.Asking.{IsAsked}
 use Rattle.ist_updates.specs.Changing.{Prepares}
 use Rattle.ist_rows.specs.Going.{HasGone}
-use Rattle.ist_updates.specs.Trying.{HasTaken}
+use Rattle.ist_updates.specs.Trying.{HasTakenEffect}
 
 -- an update that took effect since a later view took effect since an earlier one
 pub taken_since : (old mid : Caller) (command : Command) → IsAsked old command → IsAsked mid command
     → HasGone Prepares old mid → (w : View) (node : ℕ) (told reply : Option ℕ) → reply ≡ told
-    → HasTaken mid.seat.view w mid.number command node told
-    → HasTaken old.seat.view w old.number command node reply
+    → HasTakenEffect mid.seat.view w mid.number command node told
+    → HasTakenEffect old.seat.view w old.number command node reply
 taken_since old mid command a b h w node told reply same_reply t =
     let v = old.seat.view in
     let x = mid.seat.view in

@@ -44,7 +44,7 @@ use Rattle.ist_updates.specs.Asking.{IsAsked}
 use Rattle.ist_updates.specs.Changing.{WasAtSlot, Prepares, HasRows, IsPlanFor, IsPlanned, IsWay, command_by, filling_of, fresh_rows}
 use Rattle.ist_rows.specs.Going.{HasGone}
 use Rattle.ist_rows.specs.Filling.{with_own}
-use Rattle.ist_updates.specs.Trying.{HasTaken}
+use Rattle.ist_updates.specs.Trying.{HasTakenEffect}
 use Rattle.ist_updates.proofs.AskedLemmas.{asked_gone}
 use Rattle.ist_updates.proofs.StepLemmas.{prepares_none}
 use Rattle.ist_updates.proofs.SinceLemmas.{taken_since}
@@ -236,9 +236,9 @@ prepared old first mid new aim x plan a o at unrefused h planned c s same stored
 pub prepared_taken : (old new : Caller) (aim : Aim) (x : Way) (plan : Plan)
     → IsAsked old (command_by aim.key x) → IsPrepared old new aim x plan
     → IsWay old.seat.view aim.key aim.word x → (w : View)
-    → HasTaken new.seat.view w new.number (command_by aim.key x) plan.row.node
+    → HasTakenEffect new.seat.view w new.number (command_by aim.key x) plan.row.node
     (reply_of (now new.seat.view).pieces plan.row)
-    → HasTaken old.seat.view w old.number (command_by aim.key x) aim.node
+    → HasTakenEffect old.seat.view w old.number (command_by aim.key x) aim.node
     (value_at (now old.seat.view).pieces (ref_of aim.word) aim.key)
 prepared_taken old new aim x plan a p room w t =
     let told = reply_of (now new.seat.view).pieces plan.row in
@@ -247,4 +247,4 @@ prepared_taken old new aim x plan a p room w t =
     (planned_reply old.seat.view new.seat.view
     (went_grow Prepares old.seat.view new.seat.view p.gone.went) aim.key aim.word x room plan.row
     p.is_for.from p.is_for.key)
-    (subst (λ n. HasTaken new.seat.view w new.number (command_by aim.key x) n told) p.is_for.node t)
+    (subst (λ n. HasTakenEffect new.seat.view w new.number (command_by aim.key x) n told) p.is_for.node t)

@@ -19,7 +19,7 @@ use Rattle.ist_rows.specs.declared.kinds.Kind.{Kind}
 use Rattle.ist_rows.specs.declared.kinds.Kind.TheVariants.{Leaf, Pair as PairKind, Change, Rebuild}
 use Rattle.ist_rows.specs.Building.{AreStuck, HasRefused, sizes_built}
 use Rattle.ist_rows.specs.Kinds.{kind_words}
-use Rattle.ist_rows.specs.Rows.{Spares, spares_of, row_of, with_row, is_spare, build_sizes, IsCaller, Reserved, IsFresh, IsRefused, RanShort}
+use Rattle.ist_rows.specs.Rows.{Spares, spares_of, row_of, with_row, is_spare, build_sizes, IsCaller, Reserved, RanShort, IsFreshRow, IsKindRefused}
 use Rattle.ist_rows.proofs.BuildingLemmas.{all_stuck_on}
 use Rattle.ist_rows.proofs.HeldBehindLemmas.{behind_between}
 use Rattle.ist_rows.proofs.HeldListLemmas.{held_by_later}
@@ -105,8 +105,8 @@ pub record HasReserved (old new : Caller) (kind : Kind) (words : ℕ) (answer : 
   pub caller : IsCaller new
   pub number : new.number ≡ old.number
   pub held : IfSome (row_of kind (spares_of old)) (λ base. (answer ≡ Ok base) × (new ≡ old))
-  pub fresh : IsFresh kind old new answer
-  pub full : IfErr answer (λ full. IsRefused words kind old new full)
+  pub fresh : IsFreshRow kind old new answer
+  pub full : IfErr answer (λ full. IsKindRefused words kind old new full)
 
 -- what a taken row promises
 pub record HasTaken (old new : Caller) (kind : Kind) (words : ℕ) (answer : Result ℕ Full)
@@ -137,7 +137,7 @@ module _ (old new : Caller) (kind : Kind) (words : ℕ) (c : IsCaller old) (refu
     (s : IsSound old.seat.view) where
   -- a refused one left all as it was
   gone_refused : IsCaller new → new.number ≡ old.number → (full : Full)
-      → IsRefused words kind old new full → HasGone Prepares old new
+      → IsKindRefused words kind old new full → HasGone Prepares old new
   gone_refused caller number full f =
       let v = old.seat.view in
       let g = goes_on_more v f.cause.short.before new.seat.view f.cause.short.seen
@@ -155,8 +155,8 @@ module _ (old new : Caller) (kind : Kind) (words : ℕ) (c : IsCaller old) (refu
 
   of_answer : (o : Option ℕ) → row_of kind (spares_of old) ≡ o → (answer : Result ℕ Full)
       → IsCaller new → new.number ≡ old.number
-      → IfSome o (λ base. (answer ≡ Ok base) × (new ≡ old)) → IsFresh kind old new answer
-      → IfErr answer (λ full. IsRefused words kind old new full)
+      → IfSome o (λ base. (answer ≡ Ok base) × (new ≡ old)) → IsFreshRow kind old new answer
+      → IfErr answer (λ full. IsKindRefused words kind old new full)
       → HasTaken old new kind words answer
   of_answer (Some base) e answer caller number held fresh full =
       let same : HasTaken old old kind words (Ok base) = record {

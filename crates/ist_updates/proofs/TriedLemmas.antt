@@ -37,7 +37,7 @@ use Rattle.ist_updates.specs.Answering.{IsTried, IsTryRefused}
 use Rattle.ist_updates.specs.Asking.{command_for, IsAsked, Updates}
 use Rattle.ist_updates.specs.Changing.{WasAtSlot, Prepares}
 use Rattle.ist_updates.specs.Refusals.{IsUpdateRefused, for_leaf, for_pair, for_put, for_remove}
-use Rattle.ist_updates.specs.Trying.{BeganSince, HasTaken, HasFoundNone}
+use Rattle.ist_updates.specs.Trying.{BeganSince, HasFoundNone, HasTakenEffect}
 use Rattle.ist_updates.proofs.AskedLemmas.{asked_gone}
 use Rattle.ist_updates.proofs.ShortLemmas.{short_behind, short_all}
 use Rattle.ist_rows.proofs.GoneLemmas.{loads_gone}
@@ -177,11 +177,11 @@ module _ (first v w : View) (words : ℕ) (full : Full) (began : BeganSince firs
 pub answered : (old new : Caller) (key : ℕ) (value : Option ℕ) (node : ℕ) (told reply : Option ℕ)
     (taken : Bool) (tried : Tried) → (taken ≡ true → tried ≡ Took reply)
     → (taken ≡ false → tried ≡ Again) → told ≡ reply
-    → (taken ≡ true → HasTaken old.seat.view new.seat.view old.number (command_for key value) node told)
+    → (taken ≡ true → HasTakenEffect old.seat.view new.seat.view old.number (command_for key value) node told)
     → (taken ≡ false → IsAsked new (command_for key value)) → IsTried old key value node new tried
 answered old new key value node told reply true tried took again same got lost =
     subst (IsTried old key value node new) (sym (took refl))
-    (subst (HasTaken old.seat.view new.seat.view old.number (command_for key value) node) same
+    (subst (HasTakenEffect old.seat.view new.seat.view old.number (command_for key value) node) same
     (got refl))
 answered old new key value node told reply false tried took again same got lost =
     subst (IsTried old key value node new) (sym (again refl)) (lost refl)
@@ -245,7 +245,7 @@ module _ (old new : Caller) (key : ℕ) (value : Option ℕ) (node : ℕ) (r : R
     (h : IfOk r (λ t. IsTried old key value node new t)) where
   -- the update took effect with this reply
   pub told_took : (reply : Option ℕ) → r ≡ Ok (Took reply)
-      → HasTaken old.seat.view new.seat.view old.number (command_for key value) node reply
+      → HasTakenEffect old.seat.view new.seat.view old.number (command_for key value) node reply
   told_took reply e = subst (λ x. IfOk x (λ t. IsTried old key value node new t)) e h
 
   -- there was nothing to remove

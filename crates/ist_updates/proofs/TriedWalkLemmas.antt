@@ -22,7 +22,7 @@ use Rattle.laws_walks.specs.Counting.{IsOneUpdate}
 use Rattle.ist_rows.specs.declared.callers.Caller.{Caller}
 use Rattle.ist_find.specs.Searches.{HasCome}
 use Rattle.ist_updates.specs.Asking.{Updates, IsAsked}
-use Rattle.ist_updates.specs.Trying.{Tries, HasTaken}
+use Rattle.ist_updates.specs.Trying.{Tries, HasTakenEffect}
 use Rattle.ist_updates.specs.Walking.{HasTriedSince, HasCounted}
 use Rattle.ist_updates.proofs.OwnCountLemmas.{CountsNone, tried_none, from_none, came_none}
 
@@ -74,7 +74,7 @@ module _ (old : Caller) (command : Command) (a : IsAsked old command) (first : V
         tried_none (subst (λ x. LaterBy x Tries first.log w.log) mine_first
         (went_more Tries first v w since.went g).later)
 
-    module _ (node : ℕ) (reply : Option ℕ) (t : HasTaken v w old.number command node reply) where
+    module _ (node : ℕ) (reply : Option ℕ) (t : HasTakenEffect v w old.number command node reply) where
       not_there : (o : Option Piece) (p : Piece) → o ≡ None → o ≡ Some p → ⊥
       not_there o p e f = cc
 

@@ -7,12 +7,12 @@ use Rattle.ist_updates.specs.declared.updates.Tried.{Tried}
 use Rattle.ist_updates.specs.declared.updates.Tried.TheVariants.{Took, Nothing, Again, Unmet}
 use Rattle.ist_updates.specs.Asking.{command_for, IsAsked}
 use Rattle.ist_updates.specs.Refusals.{IsUpdateRefused}
-use Rattle.ist_updates.specs.Trying.{BeganSince, HasTaken, HasFoundNone}
+use Rattle.ist_updates.specs.Trying.{BeganSince, HasFoundNone, HasTakenEffect}
 
 -- the update took effect, or there was nothing to remove, or the caller is still asked
 abbrev pub IsTried : Caller → ℕ → Option ℕ → ℕ → Caller → Tried → Type 0
 IsTried old key value node new (Took reply) =
-    HasTaken old.seat.view new.seat.view old.number (command_for key value) node reply
+    HasTakenEffect old.seat.view new.seat.view old.number (command_for key value) node reply
 IsTried old key value node new Nothing =
     (value ≡ None) × HasFoundNone new.seat.view key × IsAsked new (command_for key value)
     × (new.seat.view.loads.since ≡ old.seat.view.loads.since)

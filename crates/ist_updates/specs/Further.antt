@@ -18,7 +18,7 @@ pub record IsBehind (v w : View) : Type 0 where
   pub words_is : w.words ≡ v.words
 
 -- a walk that began at the first view has come to an open node, unless the table came further since
-pub record IsFresh (first v : View) (node : ℕ) : Type 0 where
+pub record IsFreshNode (first v : View) (node : ℕ) : Type 0 where
   pub behind : IsBehind first v
   pub is : IsOpen (now v) node ⊎ CameFurther first v
 
@@ -26,7 +26,7 @@ pub record IsFresh (first v : View) (node : ℕ) : Type 0 where
 pub record HasAimed (first v : View) (node i word : ℕ) : Type 0 where
   pub at : View
   pub sound : IsSound at
-  pub fresh : IsFresh first at node
+  pub fresh : IsFreshNode first at node
   pub holds : SlotHolds (now at) node i word
   pub set : word ≢ unset_word
   pub behind : IsBehind at v

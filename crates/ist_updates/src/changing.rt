@@ -23,7 +23,7 @@ ghost use Rattle.ist_updates.specs.Changing.{WasAtSlot, Prepares, HasRows};
 ghost use Rattle.ist_updates.specs.Changing.{IsWay, IsWayRefused, IsPlanned, row_for};
 ghost use Rattle.ist_updates.specs.Changing.{command_by, filling_of, kinds_of};
 ghost use Rattle.ist_updates.specs.declared.plans.Way.TheVariants as way;
-ghost use Rattle.ist_updates.specs.Trying.{Tries, HasTaken};
+ghost use Rattle.ist_updates.specs.Trying.{Tries, HasTakenEffect};
 
 use crate::filling::fill_rows;
 use crate::plans::{Aim, Fresh, Plan, Way};
@@ -299,7 +299,7 @@ fn carry_out(table: &TreeTable, who: &mut Caller, plan: Plan) -> bool
     ensures gone { HasGone Tries who.old who.new }
     ensures quiet { IsQuiet who.new }
     ensures took { result ≡ true → (command : Command) → command_of plan.row ≡ Some command
-        → let v = who.old.seat.view in HasTaken v who.new.seat.view who.old.number command
+        → let v = who.old.seat.view in HasTakenEffect v who.new.seat.view who.old.number command
         plan.row.node (reply_of (now v).pieces plan.row) }
     ensures lost { result ≡ false → (command : Command) → IsAsked who.old command
         → IsAsked who.new command }
@@ -337,7 +337,7 @@ pub(crate) fn change_slot(
     ensures quiet { IsQuiet who.new }
     ensures took { result ≡ Ok true → let v = who.old.seat.view in
         let reply = value_at (now v).pieces (ref_of aim.word) aim.key in
-        HasTaken v who.new.seat.view who.old.number (command_by aim.key way) aim.node reply }
+        HasTakenEffect v who.new.seat.view who.old.number (command_by aim.key way) aim.node reply }
     ensures lost { result ≡ Ok false → IsAsked who.new (command_by aim.key way) }
     ensures further { result ≡ Ok false → (first : View)
         → HasAimed first who.old.seat.view aim.node aim.index aim.word

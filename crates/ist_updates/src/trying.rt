@@ -7,7 +7,7 @@ ghost use Rattle.ist_core.specs.Pieces.{Leaf};
 ghost use Rattle.ist_core.specs.References.{Empty, LeafAt, ChangeAt, RebuildAt, ref_of};
 ghost use Rattle.ist_rule.specs.Learning.{now, GoesOnTo};
 ghost use Rattle.laws_coming.specs.Further.{CameFurther};
-ghost use Rattle.ist_updates.specs.Further.{HasAimed, IsFresh};
+ghost use Rattle.ist_updates.specs.Further.{HasAimed, IsFreshNode};
 ghost use Rattle.ist_rule.specs.declared.view.View.{View};
 ghost use Rattle.ist_find.specs.Searches.{SeesLeaf};
 ghost use Rattle.ist_updates.specs.Answering.{IsTried, IsTryRefused};
@@ -20,7 +20,7 @@ ghost use Rattle.ist_rows.specs.Going.{IsQuiet, HasGone};
 ghost use Rattle.ist_updates.specs.Asking.{command_for, IsAsked};
 ghost use Rattle.ist_updates.specs.Meeting.{IsMetBy, IsMissedBy, RepliesWith, IsMetAs, HasMissed};
 ghost use Rattle.ist_updates.specs.Refusals.{IsUpdateRefused};
-ghost use Rattle.ist_updates.specs.Trying.{Tries, BeganSince, IsAtSlot, HasTaken, HasFoundNone};
+ghost use Rattle.ist_updates.specs.Trying.{Tries, BeganSince, IsAtSlot, HasFoundNone, HasTakenEffect};
 
 use crate::changing::change_slot;
 use crate::plans::{Aim, Way};
@@ -353,14 +353,14 @@ pub(crate) fn try_slot(
     ensures quiet { IsQuiet who.new }
     ensures went { WentOn Tries who.old.seat.view who.new.seat.view }
     ensures took { (reply : Option ℕ) → result ≡ Ok (Took reply)
-        → HasTaken who.old.seat.view who.new.seat.view who.old.number (command_for key value) node
+        → HasTakenEffect who.old.seat.view who.new.seat.view who.old.number (command_for key value) node
         reply }
     ensures nothing { result ≡ Ok Nothing
         → (value ≡ None) × HasFoundNone who.new.seat.view key × IsAsked who.new (command_for key value) }
     ensures since { result ≡ Ok Nothing
         → who.new.seat.view.loads.since ≡ who.old.seat.view.loads.since }
     ensures again { result ≡ Ok Again → IsAsked who.new (command_for key value) }
-    ensures further { result ≡ Ok Again → (first : View) → IsFresh first who.old.seat.view node
+    ensures further { result ≡ Ok Again → (first : View) → IsFreshNode first who.old.seat.view node
         → CameFurther first who.new.seat.view }
     ensures unmet { result ≡ Ok Unmet → IsAsked who.new (command_for key value) }
     ensures met { IfOk result (IsMetAs when) }

@@ -13,7 +13,7 @@ ghost use Rattle.ist_updates.specs.Meeting.{IsWalkMet, HasMissed};
 ghost use Rattle.ist_updates.specs.Walking.{HasWalked};
 ghost use Rattle.ist_updates.specs.declared.walking.Walked.TheVariants.{Again, Unmet};
 ghost use Rattle.laws_coming.specs.Further.{CameFurther};
-ghost use Rattle.ist_updates.specs.Further.{IsFresh};
+ghost use Rattle.ist_updates.specs.Further.{IsFreshNode};
 ghost use Rattle.ist_rule.specs.declared.view.View.{View};
 
 use crate::counting::count_update;
@@ -69,7 +69,7 @@ fn try_at(
     ensures quiet { IsQuiet who.new }
     ensures went { WentOn Updates who.old.seat.view who.new.seat.view }
     ensures walked { HasWalked who.old key value node (word_count_of table.now) result who.new }
-    ensures further { result ≡ Ok Again → (first : View) → IsFresh first who.old.seat.view node
+    ensures further { result ≡ Ok Again → (first : View) → IsFreshNode first who.old.seat.view node
         → CameFurther first who.new.seat.view }
     ensures met { IfOk result (IsWalkMet when) }
     ensures missed { result ≡ Ok Unmet → HasMissed who.old.seat.view who.new.seat.view key when }
@@ -104,7 +104,7 @@ pub(crate) fn descend(
     ensures quiet { IsQuiet who.new }
     ensures went { WentOn Updates who.old.seat.view who.new.seat.view }
     ensures walked { HasWalked who.old key value node (word_count_of table.now) result who.new }
-    ensures further { result ≡ Ok Again → (first : View) → IsFresh first who.old.seat.view node
+    ensures further { result ≡ Ok Again → (first : View) → IsFreshNode first who.old.seat.view node
         → CameFurther first who.new.seat.view }
     ensures met { IfOk result (IsWalkMet when) }
     ensures missed { result ≡ Ok Unmet → HasMissed who.old.seat.view who.new.seat.view key when }
