@@ -158,9 +158,11 @@ met_more a b c site on done m =
     lawful = went_lawful Rebuilds b.seat.view c.seat.view m.on.gone.went
 
     here : (s : Site) → IsSite b.seat.view c.seat.view s → IsSite a.seat.view c.seat.view s
-    here (Still frozen) w =
-        (frozen_more Rebuilds a.seat.view b.seat.view c.seat.view.log on.gone.went frozen
-        lawful w.0, w.1)
+    here (Still frozen) w = (
+      frozen_more Rebuilds a.seat.view b.seat.view c.seat.view.log on.gone.went frozen
+          lawful w.0,
+      w.1,
+    )
     here (Rebuilt rebuild target) w =
         (w.0, top_more Rebuilds a.seat.view b.seat.view c.seat.view.log on.gone.went target w.1)
 

@@ -18,7 +18,7 @@ use Rattle.ist_rows.specs.Building.{HasRefused}
 use Rattle.ist_rows.specs.CallerLaws.{KeepsRows, InstallsNone}
 use Rattle.ist_rows.specs.Rows.{IsCaller}
 use Rattle.ist_rows.proofs.CallerLawLemmas.{caller_went, refused_went, resolved_went}
-use Rattle.ist_rows.specs.Going.{IsQuiet}
+use Rattle.ist_rows.specs.Going.{IsQuiet, StaysReady}
 use Rattle.ist_updates.specs.declared.updates.Applied.{Applied}
 use Rattle.ist_updates.specs.Asking.{Updates}
 use Rattle.ist_updates.specs.Walking.{MayCount, IsCountAt, HasCountedAt, HasStood, HasCounted}
@@ -59,6 +59,19 @@ module _ (who : Caller) (row : ℕ) (c : IsCaller who) (q : IsQuiet who) where
           in_call = ap (λ x. x.pending) g.same ∙ q.in_call;
           resolved = resolved_went v seat.view who.number c.mine q.resolved
               (by_count InstallsNone tt);
+        }
+
+    -- so a ready caller stays ready
+    pub counted_on : HasRefused who → StaysReady Updates who (record who { seat = seat })
+    counted_on r =
+        record {
+          gone = record {
+            caller = counted_caller;
+            number = refl;
+            refused = counted_refused r;
+            went = counted_went;
+          };
+          quiet = counted_quiet;
         }
 
     module _ (reached : Bool)

@@ -247,4 +247,5 @@ prepared_taken old new aim x plan a p room w t =
     (planned_reply old.seat.view new.seat.view
     (went_grow Prepares old.seat.view new.seat.view p.gone.went) aim.key aim.word x room plan.row
     p.is_for.from p.is_for.key)
-    (subst (λ n. HasTakenEffect new.seat.view w new.number (command_by aim.key x) n told) p.is_for.node t)
+    (subst (λ n. HasTakenEffect new.seat.view w new.number (command_by aim.key x) n told)
+    p.is_for.node t)

@@ -177,7 +177,8 @@ module _ (first v w : View) (words : ℕ) (full : Full) (began : BeganSince firs
 pub answered : (old new : Caller) (key : ℕ) (value : Option ℕ) (node : ℕ) (told reply : Option ℕ)
     (taken : Bool) (tried : Tried) → (taken ≡ true → tried ≡ Took reply)
     → (taken ≡ false → tried ≡ Again) → told ≡ reply
-    → (taken ≡ true → HasTakenEffect old.seat.view new.seat.view old.number (command_for key value) node told)
+    → (taken ≡ true
+    → HasTakenEffect old.seat.view new.seat.view old.number (command_for key value) node told)
     → (taken ≡ false → IsAsked new (command_for key value)) → IsTried old key value node new tried
 answered old new key value node told reply true tried took again same got lost =
     subst (IsTried old key value node new) (sym (took refl))

@@ -74,7 +74,8 @@ module _ (old : Caller) (command : Command) (a : IsAsked old command) (first : V
         tried_none (subst (λ x. LaterBy x Tries first.log w.log) mine_first
         (went_more Tries first v w since.went g).later)
 
-    module _ (node : ℕ) (reply : Option ℕ) (t : HasTakenEffect v w old.number command node reply) where
+    module _ (node : ℕ) (reply : Option ℕ)
+        (t : HasTakenEffect v w old.number command node reply) where
       not_there : (o : Option Piece) (p : Piece) → o ≡ None → o ≡ Some p → ⊥
       not_there o p e f = cc
 

@@ -30,6 +30,7 @@ use Rattle.ist_updates.specs.Trying.{Tries, BeganSince}
 use Rattle.ist_updates.specs.Walking.{HasStood, HasCounted, HasTriedSince, IsAskedStill, IsNotThere, HasWalked}
 use Rattle.ist_updates.proofs.NextRowLemmas.{may_count_next}
 use Rattle.ist_updates.proofs.TriedWalkLemmas.{went_table}
+use Rattle.ist_rows.specs.Going.{StaysReady}
 
 -- a seat that went down by a load
 module _ (old : Caller) (seat : SeatFace) (g : GoesOnTo old.seat.view seat.view) where
@@ -51,6 +52,20 @@ module _ (old : Caller) (seat : SeatFace) (g : GoesOnTo old.seat.view seat.view)
   -- what it reached from there, it reached from before
   pub went_before : (P : Event → Type 0) (u : View) → WentOn P w u → WentOn P v u
   went_before P u h = went_more P v w u (goes_on_went P v w g) h
+
+  -- a caller that stayed ready after the step down stayed so in the whole walk
+  pub on_before : (P : Event → Type 0) (new : Caller) → StaysReady P there new
+      → StaysReady P old new
+  on_before P new on =
+      record {
+        gone = record {
+          caller = on.gone.caller;
+          number = on.gone.number;
+          refused = on.gone.refused;
+          went = went_before P new.seat.view on.gone.went;
+        };
+        quiet = on.quiet;
+      }
 
   -- a caller that is still asked after the step down is still asked after the whole walk
   pub still_before : (new : Caller) (command : Command) → IsAskedStill there new command

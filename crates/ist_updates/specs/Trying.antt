@@ -35,8 +35,8 @@ pub record IsAtSlot (v : View) (key node index word : ℕ) : Type 0 where
   pub low : (child : ℕ) → ref_of word ≢ Some (InnerAt child)
 
 -- since the first view the caller's command took effect once, by a change on the node, with this reply
-pub record HasTakenEffect (v w : View) (caller : ℕ) (command : Command) (node : ℕ) (reply : Option ℕ)
-    : Type 0 where
+pub record HasTakenEffect (v w : View) (caller : ℕ) (command : Command) (node : ℕ)
+    (reply : Option ℕ) : Type 0 where
   pub base : ℕ
   pub fresh : (now v).pieces base ≡ None
   pub update : IsOneUpdate v.start v.words v.log w.log caller base

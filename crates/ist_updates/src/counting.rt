@@ -8,7 +8,7 @@ ghost use Rattle.ist_rule.specs.Going.{WentOn};
 ghost use Rattle.ist_rule.specs.Watching.{number_of};
 ghost use Rattle.ist_rows.specs.Building.{HasRefused};
 ghost use Rattle.ist_rows.specs.Rows.{IsCaller};
-ghost use Rattle.ist_rows.specs.Going.{IsQuiet};
+ghost use Rattle.ist_rows.specs.Going.{IsQuiet, StaysReady};
 ghost use Rattle.ist_updates.specs.Asking.{Updates};
 ghost use Rattle.ist_updates.specs.Walking.{MayCount, IsCountAt, HasCountedAt, HasStood, HasCounted};
 
@@ -55,11 +55,7 @@ pub(crate) fn count_update(
     requires stood { let v = who.old.seat.view in
         HasStood v.start v.words v.log parent index row }
     ensures same_table { who.new.seat.table ≡ table.now.table }
-    ensures caller { IsCaller who.new }
-    ensures number { who.new.number ≡ who.old.number }
-    ensures refused { HasRefused who.new }
-    ensures quiet { IsQuiet who.new }
-    ensures went { WentOn Updates who.old.seat.view who.new.seat.view }
+    ensures on { StaysReady Updates who.old who.new }
     ensures counted { let v = who.old.seat.view in
         (earlier : Log) (command : Command) (rows : List ℕ)
         → HasCounted v.start v.words earlier v.log who.old.number command (rows ++ row ∷ []) below

@@ -13,10 +13,7 @@ ghost use Rattle.ist_find.specs.Searches.{SeesLeaf};
 ghost use Rattle.ist_updates.specs.Answering.{IsTried, IsTryRefused};
 ghost use Rattle.ist_updates.specs.Changing.{WasAtSlot};
 ghost use Rattle.ist_rule.specs.Faces.{word_count_of};
-ghost use Rattle.ist_rule.specs.Going.{WentOn};
-ghost use Rattle.ist_rows.specs.Building.{HasRefused};
-ghost use Rattle.ist_rows.specs.Rows.{IsCaller};
-ghost use Rattle.ist_rows.specs.Going.{IsQuiet, HasGone};
+ghost use Rattle.ist_rows.specs.Going.{IsQuiet, HasGone, StaysReady};
 ghost use Rattle.ist_updates.specs.Asking.{command_for, IsAsked};
 ghost use Rattle.ist_updates.specs.Meeting.{IsMetBy, IsMissedBy, RepliesWith, IsMetAs, HasMissed};
 ghost use Rattle.ist_updates.specs.Refusals.{IsUpdateRefused};
@@ -347,14 +344,9 @@ pub(crate) fn try_slot(
     requires asked { IsAsked who.old (command_for key value) }
     requires at_slot { IsAtSlot who.old.seat.view key node child.index child.word }
     ensures same_table { who.new.seat.table ≡ table.now.table }
-    ensures caller { IsCaller who.new }
-    ensures number { who.new.number ≡ who.old.number }
-    ensures refused { HasRefused who.new }
-    ensures quiet { IsQuiet who.new }
-    ensures went { WentOn Tries who.old.seat.view who.new.seat.view }
-    ensures took { (reply : Option ℕ) → result ≡ Ok (Took reply)
-        → HasTakenEffect who.old.seat.view who.new.seat.view who.old.number (command_for key value) node
-        reply }
+    ensures on { StaysReady Tries who.old who.new }
+    ensures took { let v = who.old.seat.view in (reply : Option ℕ) → result ≡ Ok (Took reply)
+        → HasTakenEffect v who.new.seat.view who.old.number (command_for key value) node reply }
     ensures nothing { result ≡ Ok Nothing
         → (value ≡ None) × HasFoundNone who.new.seat.view key × IsAsked who.new (command_for key value) }
     ensures since { result ≡ Ok Nothing

@@ -2,11 +2,8 @@
 ghost use Rattle.std.specs.Prelude.{◌≡◌, ◌≢◌, ℕ, None, Some, Ok, IfOk};
 ghost use Rattle.ist_core.specs.References.{InnerAt, ref_of};
 ghost use Rattle.ist_rule.specs.Faces.{word_count_of};
-ghost use Rattle.ist_rule.specs.Going.{WentOn};
-ghost use Rattle.ist_rows.specs.Building.{HasRefused};
-ghost use Rattle.ist_rows.specs.Rows.{IsCaller};
 ghost use Rattle.ist_find.specs.Searches.{Came};
-ghost use Rattle.ist_rows.specs.Going.{IsQuiet};
+ghost use Rattle.ist_rows.specs.Going.{StaysReady};
 ghost use Rattle.ist_updates.specs.Asking.{command_for, IsAsked, Updates};
 ghost use Rattle.ist_updates.specs.Trying.{IsAtSlot};
 ghost use Rattle.ist_updates.specs.Meeting.{IsWalkMet, HasMissed};
@@ -63,11 +60,7 @@ fn try_at(
     requires asked { IsAsked who.old (command_for key value) }
     requires at_slot { IsAtSlot who.old.seat.view key node child.index child.word }
     ensures same_table { who.new.seat.table ≡ table.now.table }
-    ensures caller { IsCaller who.new }
-    ensures number { who.new.number ≡ who.old.number }
-    ensures refused { HasRefused who.new }
-    ensures quiet { IsQuiet who.new }
-    ensures went { WentOn Updates who.old.seat.view who.new.seat.view }
+    ensures on { StaysReady Updates who.old who.new }
     ensures walked { HasWalked who.old key value node (word_count_of table.now) result who.new }
     ensures further { result ≡ Ok Again → (first : View) → IsFreshNode first who.old.seat.view node
         → CameFurther first who.new.seat.view }
@@ -98,11 +91,7 @@ pub(crate) fn descend(
     requires asked { IsAsked who.old (command_for key value) }
     requires came { Came who.old.seat.view key node }
     ensures same_table { who.new.seat.table ≡ table.now.table }
-    ensures caller { IsCaller who.new }
-    ensures number { who.new.number ≡ who.old.number }
-    ensures refused { HasRefused who.new }
-    ensures quiet { IsQuiet who.new }
-    ensures went { WentOn Updates who.old.seat.view who.new.seat.view }
+    ensures on { StaysReady Updates who.old who.new }
     ensures walked { HasWalked who.old key value node (word_count_of table.now) result who.new }
     ensures further { result ≡ Ok Again → (first : View) → IsFreshNode first who.old.seat.view node
         → CameFurther first who.new.seat.view }

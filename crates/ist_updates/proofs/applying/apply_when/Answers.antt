@@ -50,14 +50,14 @@ turns-preserved c =
     c.args.value anchor (word_count_of c.args.table.now) r c.descend.new.who)
     (c.in_ok-done.was ∙ ap Ok c.in-Again.is) c.descend.ensures.walked) in (
       c.descend.ensures.same_table ∙ sym c.requires.same_table,
-      c.descend.ensures.number ∙ c.turns.invariant.1,
+      c.descend.ensures.on.gone.number ∙ c.turns.invariant.1,
       still_on _ _ c.args.key c.args.value c.requires.asked
           (begun_walk c.args.who.now c.turns.who c.begin_search.new.seat _ _ c.turns.invariant.1
           c.turns.invariant.2 c.begin_search.ensures.begun)
           c.descend.new.who h,
       paid_on c.args.who.now.seat.view c.turns.who.seat.view
           c.begin_search.new.seat.view c.descend.new.who.seat.view
-          c.turns.invariant.3 c.begin_search.ensures.begun c.descend.ensures.went
+          c.turns.invariant.3 c.begin_search.ensures.begun c.descend.ensures.on.gone.went
           (c.descend.ensures.further (c.in_ok-done.was ∙ ap Ok c.in-Again.is) c.turns.who.seat.view
           (begun_fresh _ _ c.begin_search.ensures.begun)),
     )
@@ -69,7 +69,7 @@ returns-in_err-done-clause-went c =
     all_searched _ _ c.args.key c.args.value c.requires.asked
     (begun_walk c.args.who.now c.turns.who c.begin_search.new.seat _ _ c.turns.invariant.1
     c.turns.invariant.2 c.begin_search.ensures.begun)
-    c.descend.new.who c.descend.ensures.went
+    c.descend.new.who c.descend.ensures.on.gone.went
 
 pub returns-in_err-done-clause-full : goal.returns-in_err-done-clause-full
 returns-in_err-done-clause-full c =
@@ -81,7 +81,7 @@ returns-in_err-done-clause-full c =
     (word_count_of c.args.table.now) _ c.descend.new.who
     (subst (λ r. HasWalked (record c.turns.who { seat = c.begin_search.new.seat }) c.args.key
     c.args.value anchor (word_count_of c.args.table.now) r c.descend.new.who)
-    (c.in_err-done.was) c.descend.ensures.walked).1 c.descend.ensures.went in
+    (c.in_err-done.was) c.descend.ensures.walked).1 c.descend.ensures.on.gone.went in
     search rules
 
 pub returns-in_err-done-clause-none_due : goal.returns-in_err-done-clause-none_due
@@ -115,25 +115,25 @@ returns-in-Took-clause-went c =
     all_searched _ _ c.args.key c.args.value c.requires.asked
     (begun_walk c.args.who.now c.turns.who c.begin_search.new.seat _ _ c.turns.invariant.1
     c.turns.invariant.2 c.begin_search.ensures.begun)
-    c.descend.new.who c.descend.ensures.went
+    c.descend.new.who c.descend.ensures.on.gone.went
 
 pub returns-in-Took-clause-answered : goal.returns-in-Took-clause-answered
 returns-in-Took-clause-answered c =
     took_ends _ _ c.args.key c.args.value c.requires.asked
     (begun_walk c.args.who.now c.turns.who c.begin_search.new.seat _ _ c.turns.invariant.1
     c.turns.invariant.2 c.begin_search.ensures.begun)
-    c.descend.new.who (word_count_of c.args.table.now) c.in-Took.done c.descend.ensures.went
+    c.descend.new.who (word_count_of c.args.table.now) c.in-Took.done c.descend.ensures.on.gone.went
     (subst (λ r. HasWalked (record c.turns.who { seat = c.begin_search.new.seat }) c.args.key
     c.args.value anchor (word_count_of c.args.table.now) r c.descend.new.who)
     (c.in_ok-done.was ∙ ap Ok c.in-Took.is) c.descend.ensures.walked)
-    c.descend.ensures.caller c.descend.ensures.number c.descend.ensures.quiet
+    c.descend.ensures.on.gone.caller c.descend.ensures.on.gone.number c.descend.ensures.on.quiet
 
 pub returns-in-Took-clause-counted : goal.returns-in-Took-clause-counted
 returns-in-Took-clause-counted c _ =
     took_is_counted _ _ c.args.key c.args.value c.requires.asked
     (begun_walk c.args.who.now c.turns.who c.begin_search.new.seat _ _ c.turns.invariant.1
     c.turns.invariant.2 c.begin_search.ensures.begun)
-    c.descend.new.who (word_count_of c.args.table.now) c.in-Took.done c.descend.ensures.went
+    c.descend.new.who (word_count_of c.args.table.now) c.in-Took.done c.descend.ensures.on.gone.went
     (subst (λ r. HasWalked (record c.turns.who { seat = c.begin_search.new.seat }) c.args.key
     c.args.value anchor (word_count_of c.args.table.now) r c.descend.new.who)
     (c.in_ok-done.was ∙ ap Ok c.in-Took.is) c.descend.ensures.walked)
@@ -143,7 +143,7 @@ returns-in-Took-clause-due c =
     took_due _ _ c.args.key c.args.value c.requires.asked
     (begun_walk c.args.who.now c.turns.who c.begin_search.new.seat _ _ c.turns.invariant.1
     c.turns.invariant.2 c.begin_search.ensures.begun)
-    c.descend.new.who (word_count_of c.args.table.now) c.in-Took.done c.descend.ensures.went
+    c.descend.new.who (word_count_of c.args.table.now) c.in-Took.done c.descend.ensures.on.gone.went
     (subst (λ r. HasWalked (record c.turns.who { seat = c.begin_search.new.seat }) c.args.key
     c.args.value anchor (word_count_of c.args.table.now) r c.descend.new.who)
     (c.in_ok-done.was ∙ ap Ok c.in-Took.is) c.descend.ensures.walked)
@@ -155,7 +155,7 @@ returns-in-Nothing-clause-went c =
     all_searched _ _ c.args.key c.args.value c.requires.asked
     (begun_walk c.args.who.now c.turns.who c.begin_search.new.seat _ _ c.turns.invariant.1
     c.turns.invariant.2 c.begin_search.ensures.begun)
-    c.descend.new.who c.descend.ensures.went
+    c.descend.new.who c.descend.ensures.on.gone.went
 
 pub returns-in-Nothing-clause-answered : goal.returns-in-Nothing-clause-answered
 returns-in-Nothing-clause-answered c =
@@ -170,8 +170,8 @@ returns-in-Nothing-clause-answered c =
     (begun_walk c.args.who.now c.turns.who c.begin_search.new.seat c.args.key
     (command_for c.args.key c.args.value) c.turns.invariant.1 c.turns.invariant.2
     c.begin_search.ensures.begun)
-    c.descend.new.who h.0 h.1 c.descend.ensures.caller c.descend.ensures.number
-    c.descend.ensures.quiet
+    c.descend.new.who h.0 h.1 c.descend.ensures.on.gone.caller c.descend.ensures.on.gone.number
+    c.descend.ensures.on.quiet
 
 pub returns-in-Nothing-clause-due : goal.returns-in-Nothing-clause-due
 returns-in-Nothing-clause-due c =
@@ -188,7 +188,7 @@ returns-in-Nothing-clause-due c =
 -- and has seen the table come further
 pub turns-smaller : goal.turns-smaller
 turns-smaller c =
-    fewer_left _ _ c.descend.ensures.went.sound
+    fewer_left _ _ c.descend.ensures.on.gone.went.sound
     (c.descend.ensures.further (c.in_ok-done.was ∙ ap Ok c.in-Again.is) c.turns.who.seat.view
     (begun_fresh _ _ c.begin_search.ensures.begun))
 
@@ -196,19 +196,19 @@ pub returns-in_err-done-clause-few_walks : goal.returns-in_err-done-clause-few_w
 returns-in_err-done-clause-few_walks c =
     few_on c.args.who.now.seat.view c.turns.who.seat.view
     c.begin_search.new.seat.view c.descend.new.who.seat.view
-    c.turns.invariant.3 c.begin_search.ensures.begun c.descend.ensures.went
+    c.turns.invariant.3 c.begin_search.ensures.begun c.descend.ensures.on.gone.went
 
 pub returns-in-Took-clause-few_walks : goal.returns-in-Took-clause-few_walks
 returns-in-Took-clause-few_walks c =
     few_on c.args.who.now.seat.view c.turns.who.seat.view
     c.begin_search.new.seat.view c.descend.new.who.seat.view
-    c.turns.invariant.3 c.begin_search.ensures.begun c.descend.ensures.went
+    c.turns.invariant.3 c.begin_search.ensures.begun c.descend.ensures.on.gone.went
 
 pub returns-in-Nothing-clause-few_walks : goal.returns-in-Nothing-clause-few_walks
 returns-in-Nothing-clause-few_walks c =
     few_on c.args.who.now.seat.view c.turns.who.seat.view
     c.begin_search.new.seat.view c.descend.new.who.seat.view
-    c.turns.invariant.3 c.begin_search.ensures.begun c.descend.ensures.went
+    c.turns.invariant.3 c.begin_search.ensures.begun c.descend.ensures.on.gone.went
 
 -- ---- if the key had another value
 
@@ -217,7 +217,7 @@ returns-in-Unmet-clause-went c =
     all_searched _ _ c.args.key c.args.value c.requires.asked
     (begun_walk c.args.who.now c.turns.who c.begin_search.new.seat _ _ c.turns.invariant.1
     c.turns.invariant.2 c.begin_search.ensures.begun)
-    c.descend.new.who c.descend.ensures.went
+    c.descend.new.who c.descend.ensures.on.gone.went
 
 pub returns-in-Unmet-clause-none_came : goal.returns-in-Unmet-clause-none_came
 returns-in-Unmet-clause-none_came c e =
@@ -249,10 +249,11 @@ returns-in-Unmet-clause-missed c e =
     (command_for c.args.key c.args.value) c.turns.invariant.1 c.turns.invariant.2
     c.begin_search.ensures.begun in
     missed_since Updates _ _ _ c.args.key c.args.when (later_by-goes_on b.went.went.later) b.since
-    c.descend.ensures.went (c.descend.ensures.missed (c.in_ok-done.was ∙ ap Ok c.in-Unmet.is))
+    c.descend.ensures.on.gone.went (c.descend.ensures.missed (c.in_ok-done.was
+    ∙ ap Ok c.in-Unmet.is))
 
 pub returns-in-Unmet-clause-few_walks : goal.returns-in-Unmet-clause-few_walks
 returns-in-Unmet-clause-few_walks c =
     few_on c.args.who.now.seat.view c.turns.who.seat.view
     c.begin_search.new.seat.view c.descend.new.who.seat.view
-    c.turns.invariant.3 c.begin_search.ensures.begun c.descend.ensures.went
+    c.turns.invariant.3 c.begin_search.ensures.begun c.descend.ensures.on.gone.went

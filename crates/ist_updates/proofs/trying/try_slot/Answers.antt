@@ -9,11 +9,7 @@ returns c =
     let t = c.try_word.ensures in
     record {
       same_table = t.same_table;
-      caller = t.gone.caller;
-      number = t.gone.number;
-      refused = t.gone.refused;
-      quiet = t.quiet;
-      went = t.gone.went;
+      on = record { gone = t.gone; quiet = t.quiet };
       took = told_took c.args.who.now c.try_word.new.who c.args.key c.args.value c.args.node
           c.try_word.result t.tried;
       nothing = λ e. (let it = told_nothing c.args.who.now c.try_word.new.who c.args.key c.args.value

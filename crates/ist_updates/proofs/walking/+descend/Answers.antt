@@ -2,13 +2,14 @@ use borrow.Author.Gap.{counting}
 use borrow.Author.Rules.{rules}
 use Rattle.std.proofs.Common.{Ok, Err, ap, ◌∙◌, subst}
 use Rattle.ist_rule.specs.Faces.{word_count_of}
-use Rattle.ist_rule.proofs.WentOnLemmas.{goes_on_went, went_more}
+use Rattle.ist_rule.proofs.WentOnLemmas.{goes_on_went}
 use Rattle.ist_updates.specs.Asking.{Updates}
 use Rattle.ist_updates.specs.Walking.{HasWalked}
 use Rattle.ist_updates.proofs.AskedStillLemmas.{NoEvent, asked_went}
-use Rattle.ist_updates.proofs.WalkingLemmas.{went_before, walked_here, refused_below, nothing_below, again_below, unmet_below, may_count_there, stood_there, counted_here}
+use Rattle.ist_updates.proofs.WalkingLemmas.{on_before, walked_here, refused_below, nothing_below, again_below, unmet_below, may_count_there, stood_there, counted_here}
 use Rattle.ist_updates.proofs.BehindLemmas.{behind_loads}
 use Rattle.ist_updates.proofs.FurtherLemmas.{come_linked, down_fresh, fresh_on}
+use Rattle.ist_rows.proofs.GoneLemmas.{ready_more}
 use Rattle.ist_updates.proofs.walking.+descend.Goals as goal
 
 -- ---- if the walk ends here
@@ -30,10 +31,10 @@ try_at-requires-clause-at_slot t c =
       low = c.inner_in.ensures.no_inner c.in_default.is;
     }
 
-pub returns-in_default-clause-went : goal.returns-in_default-clause-went
-returns-in_default-clause-went t c =
-    went_before c.args.who.now c.step_down-child.new.seat c.step_down-child.ensures.seen Updates _
-    c.try_at.ensures.went
+pub returns-in_default-clause-on : goal.returns-in_default-clause-on
+returns-in_default-clause-on t c =
+    on_before c.args.who.now c.step_down-child.new.seat c.step_down-child.ensures.seen Updates _
+    c.try_at.ensures.on
 
 pub returns-in_default-clause-walked : goal.returns-in_default-clause-walked
 returns-in_default-clause-walked t c =
@@ -60,10 +61,10 @@ descend-requires t c =
       ),
     )
 
-pub returns-in_err-below-clause-went : goal.returns-in_err-below-clause-went
-returns-in_err-below-clause-went t c =
-    went_before c.args.who.now c.step_down-child.new.seat c.step_down-child.ensures.seen Updates _
-    c.descend.ensures.went
+pub returns-in_err-below-clause-on : goal.returns-in_err-below-clause-on
+returns-in_err-below-clause-on t c =
+    on_before c.args.who.now c.step_down-child.new.seat c.step_down-child.ensures.seen Updates _
+    c.descend.ensures.on
 
 pub returns-in_err-below-clause-walked : goal.returns-in_err-below-clause-walked
 returns-in_err-below-clause-walked t c =
@@ -88,8 +89,9 @@ count_update-done-requires-clause-can t c =
     (c.inner_in.ensures.inner c.in-Some.row c.in-Some.is))
     c.step_down-child.ensures.stays c.step_down-child.ensures.word
     (c.inner_in.ensures.inner c.in-Some.row c.in-Some.is)
-    (word_count_of c.args.table.now) c.in-Took.below c.descend.new.who c.descend.ensures.number
-    c.descend.ensures.went
+    (word_count_of c.args.table.now) c.in-Took.below c.descend.new.who
+    c.descend.ensures.on.gone.number
+    c.descend.ensures.on.gone.went
     (subst (λ r. HasWalked (record c.args.who.now { seat = c.step_down-child.new.seat }) c.args.key
     c.args.value c.in-Some.row (word_count_of c.args.table.now) r c.descend.new.who)
     (c.in_ok-below.was ∙ ap Ok c.in-Took.is) c.descend.ensures.walked)
@@ -106,18 +108,19 @@ count_update-done-requires-clause-stood t c =
     (c.inner_in.ensures.inner c.in-Some.row c.in-Some.is))
     c.step_down-child.ensures.stays c.step_down-child.ensures.word
     (c.inner_in.ensures.inner c.in-Some.row c.in-Some.is)
-    (word_count_of c.args.table.now) c.in-Took.below c.descend.new.who c.descend.ensures.number
-    c.descend.ensures.went
+    (word_count_of c.args.table.now) c.in-Took.below c.descend.new.who
+    c.descend.ensures.on.gone.number
+    c.descend.ensures.on.gone.went
     (subst (λ r. HasWalked (record c.args.who.now { seat = c.step_down-child.new.seat }) c.args.key
     c.args.value c.in-Some.row (word_count_of c.args.table.now) r c.descend.new.who)
     (c.in_ok-below.was ∙ ap Ok c.in-Took.is) c.descend.ensures.walked)
 
-pub returns-in-Took-clause-went : goal.returns-in-Took-clause-went
-returns-in-Took-clause-went t c =
-    went_more Updates _ _ _
-    (went_before c.args.who.now c.step_down-child.new.seat c.step_down-child.ensures.seen Updates _
-    c.descend.ensures.went)
-    c.count_update-done.ensures.went
+pub returns-in-Took-clause-on : goal.returns-in-Took-clause-on
+returns-in-Took-clause-on t c =
+    ready_more Updates _ _ _
+    (on_before c.args.who.now c.step_down-child.new.seat c.step_down-child.ensures.seen Updates _
+    c.descend.ensures.on)
+    c.count_update-done.ensures.on
 
 pub returns-in-Took-clause-walked : goal.returns-in-Took-clause-walked
 returns-in-Took-clause-walked t c =
@@ -131,18 +134,19 @@ returns-in-Took-clause-walked t c =
     (c.inner_in.ensures.inner c.in-Some.row c.in-Some.is))
     c.step_down-child.ensures.stays c.step_down-child.ensures.word
     (c.inner_in.ensures.inner c.in-Some.row c.in-Some.is)
-    (word_count_of c.args.table.now) c.in-Took.below c.descend.new.who c.descend.ensures.number
-    c.descend.ensures.went
+    (word_count_of c.args.table.now) c.in-Took.below c.descend.new.who
+    c.descend.ensures.on.gone.number
+    c.descend.ensures.on.gone.went
     (subst (λ r. HasWalked (record c.args.who.now { seat = c.step_down-child.new.seat }) c.args.key
     c.args.value c.in-Some.row (word_count_of c.args.table.now) r c.descend.new.who)
     (c.in_ok-below.was ∙ ap Ok c.in-Took.is) c.descend.ensures.walked)
     c.count_update-done.result c.count_update-done.new.who.seat.view.log
     c.count_update-done.ensures.counted
 
-pub returns-in-Nothing-clause-went : goal.returns-in-Nothing-clause-went
-returns-in-Nothing-clause-went t c =
-    went_before c.args.who.now c.step_down-child.new.seat c.step_down-child.ensures.seen Updates _
-    c.descend.ensures.went
+pub returns-in-Nothing-clause-on : goal.returns-in-Nothing-clause-on
+returns-in-Nothing-clause-on t c =
+    on_before c.args.who.now c.step_down-child.new.seat c.step_down-child.ensures.seen Updates _
+    c.descend.ensures.on
 
 pub returns-in-Nothing-clause-walked : goal.returns-in-Nothing-clause-walked
 returns-in-Nothing-clause-walked t c =
@@ -152,10 +156,10 @@ returns-in-Nothing-clause-walked t c =
     c.args.value c.in-Some.row (word_count_of c.args.table.now) r c.descend.new.who)
     (c.in_ok-below.was ∙ ap Ok c.in-Nothing.is) c.descend.ensures.walked)
 
-pub returns-in-Again-clause-went : goal.returns-in-Again-clause-went
-returns-in-Again-clause-went t c =
-    went_before c.args.who.now c.step_down-child.new.seat c.step_down-child.ensures.seen Updates _
-    c.descend.ensures.went
+pub returns-in-Again-clause-on : goal.returns-in-Again-clause-on
+returns-in-Again-clause-on t c =
+    on_before c.args.who.now c.step_down-child.new.seat c.step_down-child.ensures.seen Updates _
+    c.descend.ensures.on
 
 pub returns-in-Again-clause-walked : goal.returns-in-Again-clause-walked
 returns-in-Again-clause-walked t c =
@@ -184,10 +188,10 @@ returns-in-Again-clause-further t c _ first fresh =
     (c.step_down-child.ensures.stays came.0 came.1))
     c.step_down-child.ensures.word (c.inner_in.ensures.inner c.in-Some.row c.in-Some.is))
 
-pub returns-in-Unmet-clause-went : goal.returns-in-Unmet-clause-went
-returns-in-Unmet-clause-went t c =
-    went_before c.args.who.now c.step_down-child.new.seat c.step_down-child.ensures.seen Updates _
-    c.descend.ensures.went
+pub returns-in-Unmet-clause-on : goal.returns-in-Unmet-clause-on
+returns-in-Unmet-clause-on t c =
+    on_before c.args.who.now c.step_down-child.new.seat c.step_down-child.ensures.seen Updates _
+    c.descend.ensures.on
 
 pub returns-in-Unmet-clause-walked : goal.returns-in-Unmet-clause-walked
 returns-in-Unmet-clause-walked t c =
