@@ -1,8 +1,8 @@
 -- Which rows are the rows of an ideal subtree: a row first, then the rows of each part. Serves
 -- `ideals.rt`.
-use Rattle.std.proofs.Common.{◌≡◌, ◌≢◌, ◌∙◌, ◌≤◌, ◌<◌, ◌+◌, ℕ, zero, suc, List, [], ◌∷◌, ◌++◌}
+use Rattle.std.proofs.Common.{◌≡◌, ◌≢◌, ◌∙◌, ◌≤◌, ◌+◌, ℕ, zero, suc, List, [], ◌∷◌, ◌++◌}
 use Rattle.std.proofs.Common.{length, take, drop, get_or, Option, Some, None, refl, sym, ap, subst}
-use Rattle.std.proofs.Common.{arith, length-append}
+use Rattle.std.proofs.Common.{arith}
 use Rattle.ist_core.specs.declared.lists.Row.{Row}
 use Rattle.ist_core.specs.declared.states.InnerRow.{InnerRow}
 use Rattle.ist_core.specs.References.{Ref, Empty, LeafAt, InnerAt, ref_of}
@@ -107,13 +107,6 @@ module _ (word : ℕ) (leaves : List PlacedLeaf) (above : ℕ) (rows : List Row)
         (empty_list leaves h)).1,
   )
 
-  -- without leaves a word that isn't empty is no subtree
-  pub counts_no_none : length leaves ≡ 0 → ¬ (ref_of word ≡ Some Empty) → CountsRows BuildsHere rows
-      None
-  counts_no_none h ne used rest is b =
-      ne (b.names ∙ ap (λ x. Some x) (none_inverted b.ref leaves above used b.builds
-      (empty_list leaves h)).0)
-
   -- a word of the one leaf uses no row
   pub counts_one : (leaf : PlacedLeaf) → length leaves ≡ 1 → leaf ≡ get_or leaves 0 leaf
       → ref_of word ≡ Some (LeafAt leaf.base) → CountsRows BuildsHere rows (Some 0)
@@ -128,30 +121,7 @@ module _ (word : ℕ) (leaves : List PlacedLeaf) (above : ℕ) (rows : List Row)
         (one_list leaves leaf h at)).1,
   )
 
-  -- a word of another leaf, or of none, is no subtree over one leaf
-  pub counts_no_one : (leaf : PlacedLeaf) → length leaves ≡ 1 → leaf ≡ get_or leaves 0 leaf
-      → ¬ (ref_of word ≡ Some (LeafAt leaf.base)) → CountsRows BuildsHere rows None
-  counts_no_one leaf h at ne used rest is b =
-      ne (b.names ∙ ap (λ x. Some x) (one_inverted b.ref leaves above used leaf b.builds
-      (one_list leaves leaf h at)).0)
-
   -- ---- two or more
-
-  -- a word that names no inner row is no subtree over two leaves or more
-  pub counts_no_inner : 2 ≤ length leaves → ((base : ℕ) → ¬ (ref_of word ≡ Some (InnerAt base)))
-      → CountsRows BuildsHere rows None
-  counts_no_inner two none used rest is b =
-      let it = many_inverted b.ref leaves above used b.builds two in none it.row.base
-      (b.names ∙ ap (λ x. Some x) it.ref_is)
-
-  -- without rows there is no subtree over two leaves or more
-  pub counts_no_rows : 2 ≤ length leaves → length rows < 1 → CountsRows BuildsHere rows None
-  counts_no_rows two none used rest is b =
-      let it = many_inverted b.ref leaves above used b.builds two in
-      let long = ap length is in
-      let both = length-append used rest in
-      let first = ap length it.rows_are in
-      omega arith
 
   module _ (row : Row) (base : ℕ) (two : 2 ≤ length leaves) (long : 1 ≤ length rows)
       (at : row ≡ get_or rows 0 row) (names : ref_of word ≡ Some (InnerAt base)) where

@@ -1,22 +1,8 @@
 -- What the code tests of a draw is what the condition says. Serves `drawing.rt`.
-use Rattle.std.proofs.Common.{
-  ◌≡◌,
-  ◌↔◌,
-  ◌<◌,
-  ◌≤◌,
-  ◌≢◌,
-  ℕ,
-  IsTrue,
-  true,
-  nat_lt,
-  Some,
-  None,
-  refl,
-  sym,
-  subst,
-  arith,
-}
+use Rattle.std.proofs.Common.{◌≡◌, ◌↔◌, ◌<◌, ◌≤◌, ◌≢◌, ℕ, IsTrue, true, nat_lt, Some, None, refl, sym, subst, arith}
 use Rattle.std.proofs.lemmas.Bool.Decides.{nat_tests}
+use Rattle.std.specs.Ordering.{nat_cmp}
+use Rattle.std.specs.BTreeMap as tree
 use Rattle.ist_core.specs.declared.states.RebuildRow.{RebuildRow}
 use Rattle.ist_core.specs.Arithmetic.{degree}
 use Rattle.ist_core.specs.Shapes.{share_from}
@@ -27,7 +13,9 @@ use Rattle.ist_core.specs.Logs.{Log, Happened, Draws}
 use Rattle.ist_core.specs.Rebuilding.{IsFinishedWith}
 use Rattle.ist_core.specs.Building.{CanDraw}
 use Rattle.check_fairness.specs.Answers.{FindsGreatest}
-use Rattle.check_events.proofs.MirrorLemmas.{one_rebuild}
+use Rattle.check_events.specs.declared.replicas.Replica.{Replica}
+use Rattle.check_events.specs.Mirroring.{Mirrors}
+use Rattle.check_events.proofs.MirrorLemmas.{one_rebuild, rebuild_stands}
 
 -- if nothing has P, everything with P is below the limit
 pub none_below : (P : ℕ → Type 0) (limit : ℕ) → FindsGreatest P None
@@ -43,8 +31,13 @@ most_below P limit most h = (
   (λ all. let low = all most h.0 in grind (arith, nat_tests)),
 )
 
-module _ (t : Snapshot) (log : Log) (caller rebuild part : ℕ) (r : RebuildRow) (e : t.pieces rebuild
-    ≡ Some (Rebuild r)) where
+-- the rebuild that the replica has is published
+module _ (s : Replica) (t : Snapshot) (log : Log) (caller rebuild part : ℕ) (r : RebuildRow)
+    (mirrors : Mirrors s t) (found : Some r ≡ tree.get nat_cmp s.rebuilds rebuild) where
+  -- the row of the rebuild in the state
+  e : t.pieces rebuild ≡ Some (Rebuild r)
+  e = rebuild_stands s t rebuild mirrors r (sym found)
+
   -- the row of a draw is the published one
   same_row : (h : CanDraw t log caller rebuild part) → h.row ≡ r
   same_row h = one_rebuild (t.pieces rebuild) h.row r h.published e

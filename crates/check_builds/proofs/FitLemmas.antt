@@ -144,15 +144,13 @@ pub root_publishes : (t : Snapshot) (caller rebuild word : ℕ) (rows : List Row
     → CanRoot t caller rebuild word rows → MayPublish t caller rows
 root_publishes t caller rebuild word rows c = record { held = c.held; once = c.once }
 
--- the target of a root is finished
-pub root_finished : (t : Snapshot) (caller rebuild word : ℕ) (rows : List Row) (row : RebuildRow)
-    → t.pieces rebuild ≡ Some (Rebuild row) → CanRoot t caller rebuild word rows
-    → (k : ℕ) × IsFinishedWith t row.target k
-root_finished t caller rebuild word rows row published c = (
-  c.k,
-  subst (λ r. IsFinishedWith t r.target c.k) (one_rebuild (t.pieces rebuild) c.row row
-      c.published published) c.finished,
-)
+-- a rebuild whose target isn't finished gets no root
+pub root_unfinished : (t : Snapshot) (caller rebuild word : ℕ) (rows : List Row) (row : RebuildRow)
+    → t.pieces rebuild ≡ Some (Rebuild row) → ((k : ℕ) → ¬ (IsFinishedWith t row.target k))
+    → ¬ (CanRoot t caller rebuild word rows)
+root_unfinished t caller rebuild word rows row published none c =
+    none c.k (subst (λ r. IsFinishedWith t r.target c.k) (one_rebuild (t.pieces rebuild) c.row row
+    c.published published) c.finished)
 
 -- ---- leaves that were gathered
 

@@ -1,36 +1,5 @@
 -- What is gathered below a slot or a list of slots are its leaves. Serves `leaves.rt`.
-use Rattle.std.proofs.Common.{
-  ◌≡◌,
-  ◌∙◌,
-  ◌≤◌,
-  ◌<◌,
-  ◌-◌,
-  ℕ,
-  true,
-  false,
-  Bool,
-  List,
-  [],
-  ◌∷◌,
-  ◌++◌,
-  length,
-  take,
-  get_or,
-  Option,
-  Some,
-  None,
-  Result,
-  Ok,
-  Err,
-  IfOk,
-  sym,
-  ap,
-  subst,
-  append_assoc,
-  arith,
-  reverse,
-  refl,
-}
+use Rattle.std.proofs.Common.{◌≡◌, ◌∙◌, ◌≤◌, ◌-◌, ℕ, true, false, Bool, List, [], ◌∷◌, ◌++◌, length, take, get_or, Option, Some, None, sym, ap, subst, append_assoc, arith, reverse, refl}
 use Rattle.std.proofs.lemmas.List.{append-nil, take_all, reverse-append, reverse-reverse}
 use Rattle.std.specs.Ordering.{nat_cmp}
 use Rattle.std.specs.BTreeMap as tree
@@ -40,27 +9,12 @@ use Rattle.ist_core.specs.References.{Ref, Empty, LeafAt, InnerAt}
 use Rattle.ist_core.specs.Pieces.{Pieces, Piece, Leaf, Inner, Change, Rebuild, as_leaf}
 use Rattle.ist_core.specs.Snapshots.{Snapshot}
 use Rattle.ist_core.specs.Slots.{logical}
-use Rattle.ist_core.specs.Leaves.{
-  PlacedLeaf,
-  HasLeaves,
-  SlotsHaveLeaves,
-  none_here,
-  leaf_here,
-  row_here,
-  no_slot,
-  one_slot,
-}
+use Rattle.ist_core.specs.Leaves.{PlacedLeaf, HasLeaves, SlotsHaveLeaves, none_here, leaf_here, row_here, no_slot, one_slot}
 use Rattle.ist_core.proofs.LeafLemmas.{reached, slots_reached, same_leaves}
 use Rattle.check_events.specs.declared.replicas.Replica.{Replica}
 use Rattle.check_events.specs.Mirroring.{Mirrors}
 use Rattle.check_fairness.proofs.BehindLemmas.{behind}
 use Rattle.check_builds.specs.Reading.{Gathers, LeavesLeft, GathersOn, PutsSlots}
-
--- what a call that succeeded brought says more
-pub if_ok : {X E : Type 0} (r : Result X E) (P Q : X → Type 0) → ((x : X) → P x → Q x) → IfOk r P
-    → IfOk r Q
-if_ok (Ok x) P Q f h = f x h
-if_ok (Err e) P Q f h = tt
 
 -- words are the first and those after it
 pub first_word : (xs : List ℕ) → 1 ≤ length xs → xs ≡ get_or xs 0 0 ∷ behind xs
@@ -81,11 +35,6 @@ pub leaf_stands : (s : Replica) (t : Snapshot) (base : ℕ) → Mirrors s t → 
     → tree.get nat_cmp s.leaves base ≡ Some r → t.pieces base ≡ Some (Leaf r)
 leaf_stands s t base h r e = as_leaf-some (t.pieces base) r (sym (h.leaves base) ∙ e)
 
--- the caller is known to the state
-pub known_caller : (s : Replica) (t : Snapshot) (caller : ℕ) → Mirrors s t → caller < s.callers
-    → caller < t.callers
-known_caller s t caller h less = let same = h.callers in omega arith
-
 module _ (ps : Pieces) where
   -- a published leaf is gathered as itself
   pub gathers_leaf : (base : ℕ) (row : LeafRow) (old new : List PlacedLeaf)
@@ -97,12 +46,6 @@ module _ (ps : Pieces) where
   pub no_row_gathers : (base : ℕ) → ((r : InnerRow) → ¬ (ps base ≡ Some (Inner r)))
       → (ls : List PlacedLeaf) → ¬ (HasLeaves ps (Some (InnerAt base)) ls)
   no_row_gathers base none ls has = let it = reached ps (Some (InnerAt base)) ls has in none it.0
-      it.1
-
-  -- without a published leaf at the base there are no leaves
-  pub no_leaf_gathers : (base : ℕ) → ((r : LeafRow) → ¬ (ps base ≡ Some (Leaf r)))
-      → (ls : List PlacedLeaf) → ¬ (HasLeaves ps (Some (LeafAt base)) ls)
-  no_leaf_gathers base none ls has = let it = reached ps (Some (LeafAt base)) ls has in none it.0
       it.1
 
   -- ---- slots

@@ -1,5 +1,5 @@
 -- What is tested of the rows of a Place is what its condition says. Serves `building.rt`.
-use Rattle.std.proofs.Common.{◌≡◌, ◌↔◌, ◌∙◌, ◌<◌, ℕ, List, [], length, slice_get, Option, Some}
+use Rattle.std.proofs.Common.{◌≡◌, ◌↔◌, ◌<◌, ℕ, Bool, false, List, [], length, slice_get, Option, Some}
 use Rattle.std.proofs.Common.{None, true, refl, sym, ap, subst}
 use Rattle.ist_core.specs.declared.lists.Row.{Row}
 use Rattle.ist_core.specs.declared.states.RebuildRow.{RebuildRow}
@@ -22,25 +22,33 @@ use Rattle.check_builds.proofs.PublishLemmas.{LeafStands, builds_ideal, ideal_bu
 use Rattle.check_builds.proofs.FitLemmas.{rows_there, leaves_there}
 
 module _ (t : Snapshot) (word i target above : ℕ) (rows : List Row) where
-  -- if the target has no leaves, there is no part over them
-  pub no_part : ((ls : List PlacedLeaf) → ¬ (HasLeaves t.pieces (Some (InnerAt target)) ls))
-      → ¬ (HasPart t word i target above rows)
-  no_part none h = none h.leaves h.reached
+  -- the leaves below the target
+  abbrev Below : List PlacedLeaf → Type 0
+  Below ls = HasLeaves t.pieces (Some (InnerAt target)) ls
+
+  -- if no leaves were found below the target, there is no part over them
+  pub no_part_found : (old new : List PlacedLeaf) (found : Bool) → found ≡ false
+      → Gathers Below old found new → ¬ (HasPart t word i target above rows)
+  no_part_found old new found none g h =
+      subst (λ b. Gathers Below old b new) none g h.leaves h.reached
+
+  -- the part over these leaves, which lie below the target, is the part over the target's leaves
+  pub part_over : (leaves : List PlacedLeaf) → Below leaves
+      → IsPartOf word i leaves above rows ↔ HasPart t word i target above rows
+  part_over leaves reached = (
+    (λ r. record { leaves = leaves; reached = reached; part = r }),
+    (λ h. subst (λ ls. IsPartOf word i ls above rows) (same_leaves t.pieces (Some (InnerAt target))
+        h.leaves leaves h.reached reached) h.part),
+  )
 
   -- the part over the leaves that were found is the part over the target's leaves
-  pub part_over : (found : List PlacedLeaf)
-      → Gathers (λ ls. HasLeaves t.pieces (Some (InnerAt target)) ls) [] true found
-      → IsPartOf word i found above rows ↔ HasPart t word i target above rows
-  part_over found g = (
-    (λ r. record {
-      leaves = g.0;
-      reached = g.2;
-      part = subst (λ ls. IsPartOf word i ls above rows)
-          g.1 r;
-    }),
-    (λ h. subst (λ ls. IsPartOf word i ls above rows) (same_leaves t.pieces (Some (InnerAt target))
-        h.leaves g.0 h.reached g.2 ∙ sym g.1) h.part),
-  )
+  pub part_found : (old leaves : List PlacedLeaf) (found : Bool) → found ≡ true → old ≡ []
+      → Gathers Below old found leaves
+      → IsPartOf word i leaves above rows ↔ HasPart t word i target above rows
+  part_found old leaves found some empty g =
+      let all = subst (λ xs. Gathers Below xs true leaves) empty
+      (subst (λ b. Gathers Below old b leaves) some g) in
+      part_over leaves (subst Below (sym all.1) all.2)
 
 module _ (word i above : ℕ) (leaves : List PlacedLeaf) (rows : List Row) where
   -- if there is no part i, nothing is built over it
@@ -132,12 +140,11 @@ module _ (t : Snapshot) (caller rebuild i word : ℕ) (rows : List Row) (c : Can
   place_publishes = record { held = c.held; once = c.once }
 
   module _ (row : RebuildRow) (published : t.pieces rebuild ≡ Some (Rebuild row)) where
-    -- a part that may be placed has an inner row as its root, with the slot Unset
-    pub place_root : (root : ℕ) × (ref_of row.root ≡ Some (InnerAt root)) × RowHolds t root i
-        unset_word
-    place_root = (
-      c.root,
-      subst (λ r. ref_of r.root ≡ Some (InnerAt c.root)) (one_rebuild (t.pieces rebuild) c.row row
-          c.published published) c.root_is,
-      record { row = c.root_row; published = c.root_published; in_slot = c.free },
-    )
+    -- if the rebuild's root is this row, and the slot isn't Unset in it, no part may be placed
+    pub no_free_root : (root : ℕ) → ((n : ℕ) → ref_of row.root ≡ Some (InnerAt n) → n ≡ root)
+        → ¬ (RowHolds t root i unset_word) → ⊥
+    no_free_root root one taken =
+        let is = subst (λ r. ref_of r.root ≡ Some (InnerAt c.root))
+        (one_rebuild (t.pieces rebuild) c.row row c.published published) c.root_is in
+        taken (subst (λ n. RowHolds t n i unset_word) (one c.root is)
+        record { row = c.root_row; published = c.root_published; in_slot = c.free })

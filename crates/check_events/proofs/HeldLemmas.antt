@@ -11,7 +11,7 @@ use Rattle.ist_core.specs.declared.lists.HeldRow.{HeldRow}
 use Rattle.ist_core.specs.Elements.{Among, Each}
 use Rattle.ist_core.specs.Snapshots.{without}
 use Rattle.ist_core.proofs.ElementLemmas.{each-among, each_append}
-use Rattle.check_events.specs.Holding.{by_base, Rises}
+use Rattle.check_events.specs.Holding.{by_base, BasesRise}
 
 -- a look-up at a number finds it, or passes it by
 pub tells : (b k : ℕ) → ((is_at (nat_cmp b) k ≡ true) × (b ≡ k)) ⊎ ((is_at (nat_cmp b) k ≡ false) × (b ≢ k))
@@ -36,7 +36,7 @@ greater_is b k g = at (nat_cmp b k) refl (ranked b k (nat_cmp b k) refl)
 -- ---- by base
 
 -- a held row is found at its base
-pub found_at : (held : List HeldRow) (row : HeldRow) → Rises held → Among row held
+pub found_at : (held : List HeldRow) (row : HeldRow) → BasesRise held → Among row held
     → lookup (is_at (nat_cmp row.base)) (by_base held) ≡ Some row
 found_at [] row r i = absurd i
 found_at (h ∷ hs) row r i = at (found_at hs row r.1) (tells row.base h.base) i
@@ -84,7 +84,7 @@ held_at (h ∷ hs) b row e = at (held_at hs b row) (tells b h.base)
         (inr more.0, more.1)
 
 -- if nothing is found at its base, a row isn't held
-pub none_found : (held : List HeldRow) (row : HeldRow) → Rises held
+pub none_found : (held : List HeldRow) (row : HeldRow) → BasesRise held
     → lookup (is_at (nat_cmp row.base)) (by_base held) ≡ None → ¬ (Among row held)
 none_found held row r none i = clash (sym none ∙ found_at held row r i)
   where
@@ -92,7 +92,7 @@ none_found held row r none i = clash (sym none ∙ found_at held row r i)
     clash e = cc
 
 -- if a row is found at its base, it is held exactly if it is that row
-pub one_found : (held : List HeldRow) (row found : HeldRow) → Rises held
+pub one_found : (held : List HeldRow) (row found : HeldRow) → BasesRise held
     → lookup (is_at (nat_cmp row.base)) (by_base held) ≡ Some found
     → (row ≡ found) ↔ Among row held
 one_found held row found r e = (
@@ -113,8 +113,8 @@ put_last (h ∷ hs) row below =
     ∙ ap (λ xs. (h.base, h) ∷ xs) (put_last hs row below.1)
 
 -- and the rows still increase with it
-pub rises_last : (held : List HeldRow) (row : HeldRow) → Rises held
-    → Each (λ e. e.0 < row.base) (by_base held) → Rises (held ++ row ∷ [])
+pub rises_last : (held : List HeldRow) (row : HeldRow) → BasesRise held
+    → Each (λ e. e.0 < row.base) (by_base held) → BasesRise (held ++ row ∷ [])
 rises_last [] row r below = (tt, tt)
 rises_last (h ∷ hs) row r below =
     (each_append (λ g. h.base < g.base) hs (row ∷ []) r.0 (below.0, tt), rises_last hs row r.1 below.1)
@@ -168,16 +168,16 @@ module _ {A : Type 0} where
           ap (filter p) (kept_no q x xs f) ∙ again ∙ sym (ap (filter q) (kept_no p x xs e))
 
 -- rows kept of increasing rows are increasing
-pub rises_kept : (test : HeldRow → Bool) (held : List HeldRow) → Rises held
-    → Rises (filter test held)
+pub rises_kept : (test : HeldRow → Bool) (held : List HeldRow) → BasesRise held
+    → BasesRise (filter test held)
 rises_kept test [] r = tt
 rises_kept test (h ∷ hs) r = at (rises_kept test hs r.1) (test h)
   where
-    at : Rises (filter test hs) → (b : Bool)
-        → Rises (if b then h ∷ filter test hs else filter test hs)
+    at : BasesRise (filter test hs) → (b : Bool)
+        → BasesRise (if b then h ∷ filter test hs else filter test hs)
     at again true = (each_kept (λ g. h.base < g.base) test hs r.0, again)
     at again false = again
 
 -- increasing rows without the row at a base are increasing
-pub rises_without : (b : ℕ) (held : List HeldRow) → Rises held → Rises (without (b ∷ []) held)
+pub rises_without : (b : ℕ) (held : List HeldRow) → BasesRise held → BasesRise (without (b ∷ []) held)
 rises_without b held r = rises_kept (λ h. not (list_any (λ base. base == h.base) (b ∷ []))) held r

@@ -1,41 +1,15 @@
 -- What the code tests of an Install is what the condition says. Serves `installing.rt`.
-use Rattle.std.proofs.Common.{
-  ◌≡◌,
-  ◌↔◌,
-  ◌∙◌,
-  ◌<◌,
-  ◌≤◌,
-  ℕ,
-  List,
-  [],
-  ◌∷◌,
-  length,
-  get_or,
-  Some,
-  sym,
-  ap,
-  subst,
-}
+use Rattle.std.proofs.Common.{◌≡◌, ◌↔◌, ◌∙◌, ◌<◌, ◌≤◌, ℕ, List, [], ◌∷◌, length, get_or, Option, Some, sym, ap, subst, inl, inr}
 use Rattle.ist_core.specs.declared.states.ChangeRow.{ChangeRow}
 use Rattle.ist_core.specs.declared.lists.Row.{Row}
 use Rattle.ist_core.specs.Pieces.{Change, words_of, change_of, row_at}
 use Rattle.ist_core.specs.Snapshots.{Snapshot, HoldsRows}
 use Rattle.ist_core.specs.Logs.{Log, state}
-use Rattle.ist_core.specs.Installing.{
-  PutsLeaf,
-  PutsPair,
-  Removes,
-  Starts,
-  Finishes,
-  FitsKind,
-  a_put,
-  a_pair,
-  a_remove,
-  a_start,
-  a_finish,
-  CanInstall,
-}
-use Rattle.check_events.specs.Standing.{MayStand}
+use Rattle.ist_core.specs.Slots.{SlotHolds}
+use Rattle.ist_core.specs.Links.{WasLinked}
+use Rattle.ist_core.specs.Statuses.{undecided}
+use Rattle.ist_core.specs.Installing.{IsUnrefused, ComesByKey, PutsLeaf, PutsPair, Removes, Starts, Finishes, FitsKind, a_put, a_pair, a_remove, a_start, a_finish, CanInstall}
+use Rattle.check_events.specs.Standing.{MayStand, FitsByKey}
 use Rattle.check_fairness.proofs.BehindLemmas.{behind, split_first}
 
 -- words that are read as a change are its words
@@ -72,6 +46,11 @@ head_same e = cc
 
 tail_same : {a b : Row} {xs ys : List Row} → a ∷ xs ≡ b ∷ ys → xs ≡ ys
 tail_same e = cc
+
+-- words from which a change is read are those of its row
+pub reads_change : (words slice : List ℕ) (o : Option ChangeRow) (x : ChangeRow) → slice ≡ words
+    → o ≡ change_of slice → o ≡ Some x → change_of words ≡ Some x
+reads_change words slice o x same read is = ap change_of (sym same) ∙ sym read ∙ is
 
 module _ (first : Snapshot) (log : Log) (caller base : ℕ) (rows : List Row) (row : Row)
     (change : ChangeRow)
@@ -127,18 +106,57 @@ module _ (first : Snapshot) (log : Log) (caller base : ℕ) (rows : List Row) (r
         unrefused = h.unrefused;
       }
 
+-- a change of its caller that is undecided and in its slot, at a node that was linked, may stand
+-- exactly if no change of its caller on this node was refused
+pub stands_unrefused : (first : Snapshot) (log : Log) (caller : ℕ) (change : ChangeRow)
+    → change.owner ≡ caller → change.decision ≡ undecided
+    → SlotHolds (state first log) change.node change.index change.from
+    → WasLinked first log change.node
+    → IsUnrefused (state first log) caller change.node ↔ MayStand first log caller change
+stands_unrefused first log caller change owned unset in_slot linked = (
+  (λ none. record {
+    owned = owned;
+    unset = unset;
+    in_slot = in_slot;
+    linked = linked;
+    unrefused = none;
+  }),
+  (λ stand. stand.unrefused),
+)
+
 -- ---- kinds
 
 module _ (first : Snapshot) (log : Log) (change : ChangeRow) (fresh : List Row) where
+  -- a put or a remove has its kind's condition
+  pub fits_key : FitsByKey first log change fresh → FitsKind first log change fresh
+  fits_key (inl h) = a_put h
+  fits_key (inr (inl h)) = a_pair h
+  fits_key (inr (inr h)) = a_remove h
+
+  -- a put or a remove reaches its slot by its key
+  pub key_leads : FitsByKey first log change fresh → ComesByKey first log change
+  key_leads (inl h) = h.by_key
+  key_leads (inr (inl h)) = h.by_key
+  key_leads (inr (inr h)) = h.by_key
+
+  -- a put or remove that puts neither a leaf nor a pair row must be a remove
+  pub fits_remove : ¬ (PutsLeaf first log change fresh) → ¬ (PutsPair first log change fresh)
+      → Removes first log change fresh ↔ FitsByKey first log change fresh
+  fits_remove a b = ((λ r. inr (inr r)), back)
+    where
+      back : FitsByKey first log change fresh → Removes first log change fresh
+      back (inl h) = absurd (a h)
+      back (inr (inl h)) = absurd (b h)
+      back (inr (inr h)) = h
+
   -- a change that is of no other kind must be a finish
-  pub fits_finish : ¬ (PutsLeaf first log change fresh) → ¬ (PutsPair first log change fresh)
-      → ¬ (Removes first log change fresh) → ¬ (Starts (state first log) change fresh)
+  pub fits_finish : ¬ (FitsByKey first log change fresh) → ¬ (Starts (state first log) change fresh)
       → Finishes (state first log) change fresh ↔ FitsKind first log change fresh
-  fits_finish a b c d = ((λ f. a_finish f), back)
+  fits_finish a d = ((λ f. a_finish f), back)
     where
       back : FitsKind first log change fresh → Finishes (state first log) change fresh
-      back (a_put h) = absurd (a h)
-      back (a_pair h) = absurd (b h)
-      back (a_remove h) = absurd (c h)
+      back (a_put h) = absurd (a (inl h))
+      back (a_pair h) = absurd (a (inr (inl h)))
+      back (a_remove h) = absurd (a (inr (inr h)))
       back (a_start h) = absurd (d h)
       back (a_finish h) = h

@@ -13,7 +13,7 @@ use Rattle.ist_core.specs.Elements.{Among, Each}
 use Rattle.ist_core.specs.Snapshots.{without}
 use Rattle.ist_core.proofs.ElementLemmas.{each-among, among-filter}
 use Rattle.check_events.specs.declared.held.HeldTable.{HeldTable}
-use Rattle.check_events.specs.Holding.{by_base, listed, of_caller, Rises, Keeps}
+use Rattle.check_events.specs.Holding.{by_base, listed, of_caller, BasesRise, TableHolds}
 use Rattle.check_events.proofs.HeldLemmas.{tells, found_at, each_from, kept_yes, kept_no, kept_swap}
 
 -- ---- without one base
@@ -46,7 +46,7 @@ module _ (b : ℕ) where
       kept_yes stays h hs (other_stays h e.0) ∙ ap (λ xs. h ∷ xs) (all_stay hs e.1)
 
   -- the entry at the base is taken out
-  pub taken_out : (held : List HeldRow) → Rises held
+  pub taken_out : (held : List HeldRow) → BasesRise held
       → remove_entry (is_at (nat_cmp b)) (by_base held) ≡ by_base (without (b ∷ []) held)
   taken_out [] r = refl
   taken_out (h ∷ hs) r = at (taken_out hs r.1) (tells b h.base)
@@ -70,7 +70,7 @@ module _ (b : ℕ) where
           ∙ sym (ap by_base (kept_yes stays h hs (other_stays h k.1)))
 
   -- if no row is found at the base, all stay
-  pub none_goes : (held : List HeldRow) → Rises held
+  pub none_goes : (held : List HeldRow) → BasesRise held
       → lookup (is_at (nat_cmp b)) (by_base held) ≡ None → without (b ∷ []) held ≡ held
   none_goes held r none = all_stay held (each_from _ held
       (λ h i s. let found = found_at held h r i in
@@ -81,7 +81,7 @@ module _ (b : ℕ) where
       clash e = cc
 
   -- if the row at the base is another caller's, all rows of the caller stay
-  pub others_stay : (held : List HeldRow) (row : HeldRow) → Rises held
+  pub others_stay : (held : List HeldRow) (row : HeldRow) → BasesRise held
       → lookup (is_at (nat_cmp b)) (by_base held) ≡ Some row → (caller : ℕ) → caller ≢ row.caller
       → of_caller caller (without (b ∷ []) held) ≡ of_caller caller held
   others_stay held row r found caller ne =
@@ -137,7 +137,7 @@ listed_last held row old new known here others caller = at (eqb_tells row.caller
         (kept_no (λ h. h.caller == caller) row [] k.0) ∙ append-nil (of_caller caller held))
 
 -- the callers' rows without the row at a base
-pub listed_without : (b : ℕ) (held : List HeldRow) (row : HeldRow) → Rises held
+pub listed_without : (b : ℕ) (held : List HeldRow) (row : HeldRow) → BasesRise held
     → lookup (is_at (nat_cmp b)) (by_base held) ≡ Some row
     → (old new : BTreeMap ℕ (Vec HeldRow))
     → ((caller : ℕ) → listed old caller ≡ of_caller caller held)
@@ -202,14 +202,14 @@ values_by_base [] = refl
 values_by_base (h ∷ hs) = ap (λ xs. h ∷ xs) (values_by_base hs)
 
 -- if no base is named, the table keeps what it has
-pub keeps_none : (table : HeldTable) (held : List HeldRow) → Keeps table held
-    → Keeps table (without [] held)
-keeps_none table held k = subst (Keeps table) (sym (without_none held)) k
+pub keeps_none : (table : HeldTable) (held : List HeldRow) → TableHolds table held
+    → TableHolds table (without [] held)
+keeps_none table held k = subst (TableHolds table) (sym (without_none held)) k
 
 -- removing the rows at the bases so far, and then the row at the last base, removes the rows at all
 -- of them
 pub keeps_last : (table : HeldTable) (held : List HeldRow) (bs all : List ℕ) (b : ℕ)
-    → all ≡ bs ++ b ∷ [] → Keeps table (without (b ∷ []) (without bs held))
-    → Keeps table (without all held)
+    → all ≡ bs ++ b ∷ [] → TableHolds table (without (b ∷ []) (without bs held))
+    → TableHolds table (without all held)
 keeps_last table held bs all b is k =
-    subst (Keeps table) (without_last bs b held ∙ ap (λ xs. without xs held) (sym is)) k
+    subst (TableHolds table) (without_last bs b held ∙ ap (λ xs. without xs held) (sym is)) k

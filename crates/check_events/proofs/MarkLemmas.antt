@@ -1,29 +1,5 @@
 -- What the code tests of a marked node is what the conditions say. Serves `marking.rt`.
-use Rattle.std.proofs.Common.{
-  ◌≡◌,
-  ◌↔◌,
-  ◌∙◌,
-  ◌<◌,
-  ◌≤◌,
-  ◌+◌,
-  ◌-◌,
-  ◌^◌,
-  ℕ,
-  List,
-  [],
-  ◌∷◌,
-  length,
-  take,
-  drop,
-  Option,
-  Some,
-  None,
-  refl,
-  sym,
-  ap,
-  subst,
-  arith,
-}
+use Rattle.std.proofs.Common.{◌≡◌, ◌↔◌, ◌∙◌, ◌<◌, ◌≤◌, ◌+◌, ◌-◌, ◌^◌, ℕ, List, [], ◌∷◌, length, take, drop, Option, Some, None, option_map, refl, sym, ap, subst, arith}
 use Rattle.std.proofs.lemmas.List.{take_all}
 use Rattle.std.specs.Ordering.{nat_cmp}
 use Rattle.std.specs.BTreeMap as tree
@@ -36,21 +12,14 @@ use Rattle.ist_core.specs.Statuses.{finished_word}
 use Rattle.ist_core.specs.Snapshots.{Snapshot}
 use Rattle.ist_core.specs.Logs.{Log}
 use Rattle.ist_core.specs.Rebuilding.{IsFinishedWith}
-use Rattle.ist_core.specs.Marking.{
-  IsCalled,
-  CanMark,
-  CountsFor,
-  no_key,
-  one_key,
-  of_child,
-  of_target,
-  ArePassed,
-  past_end,
-  one_passed,
-}
+use Rattle.ist_core.specs.Marking.{IsCalled, CanMark, CountsFor, no_key, one_key, of_child, of_target, ArePassed, past_end, one_passed}
 use Rattle.check_events.specs.Passing.{PassCounts, TargetFinishedWith}
 use Rattle.check_events.specs.Remembering.{KnowsPasses, pair_key}
 use Rattle.check_events.proofs.MirrorLemmas.{one_inner, one_rebuild}
+use Rattle.ist_layout.specs.declared.references.Ref as layout
+use Rattle.ist_layout.specs.Meanings.{ref_meant}
+use Rattle.check_fairness.specs.Answers.{FindsOne}
+use Rattle.check_fairness.proofs.AnswerLemmas.{finds_one, finds_same}
 
 module _ (t : Snapshot) (caller node : ℕ) (r : InnerRow) (e : t.pieces node ≡ Some (Inner r))
     (known : caller < t.callers) where
@@ -148,6 +117,37 @@ counts_rebuild t ref rebuild k e =
     out _ k i (of_target {rebuild = o} {target = n} h f) =
         let same : o ≡ rebuild = cc in
         subst (λ x. TargetFinishedWith t x k) same record { target = n; of = h; finished = f }
+
+-- a word that is read as a reference names the one that is meant
+pub word_names : (word : ℕ) (o : Option layout.Ref) (x r : layout.Ref)
+    → option_map ref_meant o ≡ ref_of word → o ≡ Some x → x ≡ r → ref_of word ≡ Some (ref_meant r)
+word_names word o x r e is same =
+    sym e ∙ ap (option_map ref_meant) is ∙ ap (λ y. Some (ref_meant y)) same
+
+module _ (t : Snapshot) (ref : Option Ref) where
+  -- an empty reference counts for 0 keys only
+  pub finds_empty : ref ≡ Some Empty → FindsOne (λ k. CountsFor t ref k) (Some 0)
+  finds_empty is = finds_one (λ k. CountsFor t ref k) 0 (λ k. counts_empty t ref k is)
+
+  -- a leaf counts for one key only
+  pub finds_leaf : (leaf : ℕ) → ref ≡ Some (LeafAt leaf)
+      → FindsOne (λ k. CountsFor t ref k) (Some 1)
+  finds_leaf leaf is = finds_one (λ k. CountsFor t ref k) 1 (λ k. counts_leaf t ref leaf k is)
+
+  -- for how many keys an inner row counts is found by its status
+  pub finds_inner : (base at : ℕ) (o : Option ℕ) → ref ≡ Some (InnerAt base) → at ≡ base
+      → FindsOne (λ k. IsFinishedWith t at k) o → FindsOne (λ k. CountsFor t ref k) o
+  finds_inner base at o is same = finds_same (λ k. IsFinishedWith t at k) (λ k. CountsFor t ref k) o
+      (λ k. subst (λ b. IsFinishedWith t b k ↔ CountsFor t ref k) (sym same)
+      (counts_inner t ref base k is))
+
+  -- for how many keys a rebuild counts is found by its target's status
+  pub finds_rebuild : (base at : ℕ) (o : Option ℕ) → ref ≡ Some (RebuildAt base) → at ≡ base
+      → FindsOne (λ k. TargetFinishedWith t at k) o → FindsOne (λ k. CountsFor t ref k) o
+  finds_rebuild base at o is same =
+      finds_same (λ k. TargetFinishedWith t at k) (λ k. CountsFor t ref k) o
+      (λ k. subst (λ b. TargetFinishedWith t b k ↔ CountsFor t ref k) (sym same)
+      (counts_rebuild t ref base k is))
 
 -- ---- passed slots
 

@@ -1,31 +1,12 @@
 -- What the code tests of the rows of an event is what the conditions say. Serves `rows.rt` and
 -- `pairs.rt`.
-use Rattle.std.proofs.Common.{◌≡◌, ◌↔◌, ◌∙◌, ◌<◌, ◌≤◌, ◌+◌, ℕ, List, [], ◌∷◌, length, take, get_or, sym, ap, subst, arith, inl, ⊎_elim}
-use Rattle.std.proofs.lemmas.List.{take_more}
+use Rattle.std.proofs.Common.{◌≡◌, ◌↔◌, ◌∙◌, ◌≤◌, ℕ, List, [], ◌∷◌, length, get_or, sym, ap, subst, arith}
 use Rattle.ist_core.specs.declared.lists.Row.{Row}
-use Rattle.ist_core.specs.Elements.{Among}
 use Rattle.ist_core.specs.References.{LeafAt, word_of}
 use Rattle.ist_core.specs.Pieces.{row_at}
 use Rattle.ist_core.specs.Snapshots.{Snapshot, HoldsRow, HoldsRows}
 use Rattle.ist_core.specs.Installing.{pair_over}
-use Rattle.ist_core.proofs.ElementLemmas.{among-append, among_right}
-use Rattle.check_fairness.proofs.BehindLemmas.{among_first, behind, split_first}
-
-module _ {A : Type 0} where
-  -- an element at a place is among the elements
-  pub among_place : (xs : List A) (i : ℕ) (x d : A) → i < length xs → x ≡ get_or xs i d → Among x xs
-  among_place xs i x d h e =
-      let more : Among x (take (i + 1) xs) = subst (Among x) (sym (take_more xs i d h))
-      (among_right x (take i xs) (get_or xs i d ∷ []) (inl e)) in
-      among_first (i + 1) xs x more
-
-  -- what isn't among the elements so far, nor the next one, isn't among those up to it
-  pub not_among_more : (xs : List A) (i : ℕ) (y d : A) → i < length xs → ¬ (Among y (take i xs))
-      → ¬ (y ≡ get_or xs i d) → ¬ (Among y (take (i + 1) xs))
-  not_among_more xs i y d h none other a =
-      let both = subst (Among y) (take_more xs i d h) a in
-      ⊎_elim none (λ b. ⊎_elim other (λ z. z) b) (among-append y (take i xs) (get_or xs i d ∷ [])
-      both)
+use Rattle.check_fairness.proofs.BehindLemmas.{behind, split_first}
 
 -- the first row and the others are held
 module _ (t : Snapshot) (caller : ℕ) (rows : List Row) (row : Row) (n : 1 ≤ length rows)

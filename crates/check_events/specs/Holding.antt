@@ -22,16 +22,16 @@ abbrev pub listed : BTreeMap ℕ (Vec HeldRow) → ℕ → List HeldRow
 listed of caller = unwrap_or (option_map (λ v. v.items) (tree.get nat_cmp of caller)) []
 
 -- each row has a higher base than those before it
-abbrev pub Rises : List HeldRow → Type 0
-Rises [] = Unit {0}
-Rises (h ∷ hs) = Each (λ g. h.base < g.base) hs × Rises hs
+abbrev pub BasesRise : List HeldRow → Type 0
+BasesRise [] = Unit {0}
+BasesRise (h ∷ hs) = Each (λ g. h.base < g.base) hs × BasesRise hs
 
 -- each row of the table has a lower base than this
 abbrev pub LiesBelow : HeldTable → ℕ → Type 0
 LiesBelow table base = Each (λ e. e.0 < base) table.rows.entries
 
 -- the table has these rows, whose bases increase
-pub record Keeps (table : HeldTable) (held : List HeldRow) : Type 0 where
+pub record TableHolds (table : HeldTable) (held : List HeldRow) : Type 0 where
   pub rows : table.rows.entries ≡ by_base held
-  pub rising : Rises held
+  pub rising : BasesRise held
   pub callers : (caller : ℕ) → listed table.of caller ≡ of_caller caller held

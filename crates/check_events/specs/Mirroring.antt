@@ -7,7 +7,7 @@ use Rattle.ist_core.specs.Arithmetic.{child_count}
 use Rattle.ist_core.specs.Pieces.{Inner, as_leaf, as_inner, as_change, as_rebuild}
 use Rattle.ist_core.specs.Snapshots.{Snapshot}
 use Rattle.check_events.specs.declared.replicas.Replica.{Replica}
-use Rattle.check_events.specs.Holding.{Keeps}
+use Rattle.check_events.specs.Holding.{TableHolds}
 
 -- the replica says the same as the snapshot, with a map of rows for each kind
 pub record Mirrors (r : Replica) (t : Snapshot) : Type 0 where
@@ -19,7 +19,7 @@ pub record Mirrors (r : Replica) (t : Snapshot) : Type 0 where
   pub inners : (base : ℕ) → tree.get nat_cmp r.inners base ≡ as_inner (t.pieces base)
   pub changes : (base : ℕ) → tree.get nat_cmp r.changes base ≡ as_change (t.pieces base)
   pub rebuilds : (base : ℕ) → tree.get nat_cmp r.rebuilds base ≡ as_rebuild (t.pieces base)
-  pub held : Keeps r.held t.held
+  pub held : TableHolds r.held t.held
 
 -- slot i of an inner row at the base holds the word
 pub record RowHolds (t : Snapshot) (base i word : ℕ) : Type 0 where

@@ -38,7 +38,10 @@ pub fn was_on_chain(past: &Past, node: u64, row: u64) -> bool
             Some(next) => at = next,
         }
     }
-    at == row && past.slots.contains_key(&row)
+    if at != row {
+        return false;
+    }
+    past.slots.contains_key(&row)
 }
 
 /// Returns a place further up the way from the node, but not past the row if the row is on that

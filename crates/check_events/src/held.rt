@@ -5,7 +5,7 @@ ghost use Rattle.std.specs.BTreeMap as tree;
 ghost use Rattle.ist_core.specs.declared.lists.HeldRow.{HeldRow as AHeldRow};
 ghost use Rattle.ist_core.specs.Elements.{Among};
 ghost use Rattle.ist_core.specs.Snapshots.{without};
-ghost use Rattle.check_events.specs.Holding.{Keeps, LiesBelow, listed};
+ghost use Rattle.check_events.specs.Holding.{TableHolds, LiesBelow, listed};
 
 use ist_core::HeldRow;
 use std::alloc::{AllocError, Global};
@@ -20,7 +20,7 @@ pub struct HeldTable {
 
 /// Makes the table of no rows.
 pub fn no_rows(alloc: Global) -> HeldTable
-    ensures none { Keeps result [] }
+    ensures none { TableHolds result [] }
 {
     HeldTable {
         rows: BTreeMap::new(alloc),
@@ -30,7 +30,7 @@ pub fn no_rows(alloc: Global) -> HeldTable
 
 /// Returns whether the row is held.
 pub fn has_row(table: &HeldTable, row: HeldRow) -> bool
-    ensures exact { (held : List AHeldRow) → Keeps table.now held
+    ensures exact { (held : List AHeldRow) → TableHolds table.now held
         → (IsTrue result ↔ Among row held) }
 {
     match table.rows.get(&row.base) {
@@ -41,7 +41,7 @@ pub fn has_row(table: &HeldTable, row: HeldRow) -> bool
 
 /// Returns the length of the row that the caller holds at the base, if it holds one.
 pub fn size_held(table: &HeldTable, caller: u64, base: u64) -> Option<u64>
-    ensures exact { (held : List AHeldRow) → Keeps table.now held → (size : ℕ)
+    ensures exact { (held : List AHeldRow) → TableHolds table.now held → (size : ℕ)
         → (result ≡ Some size ↔ Among record { caller = caller; base = base; size = size } held) }
 {
     match table.rows.get(&base) {
@@ -82,8 +82,8 @@ pub fn sizes_held(alloc: Global, table: &HeldTable, caller: u64) -> Result<Vec<u
 /// Adds a row whose base is above all others.
 pub fn hold(alloc: Global, table: &mut HeldTable, row: HeldRow) -> Result<(), AllocError>
     requires above { LiesBelow table.old row.base }
-    ensures exact { OnOk result ((held : List AHeldRow) → Keeps table.old held
-        → Keeps table.new (held ++ row ∷ [])) }
+    ensures exact { OnOk result ((held : List AHeldRow) → TableHolds table.old held
+        → TableHolds table.new (held ++ row ∷ [])) }
 {
     list(alloc, &mut table.of, row)?;
     table.rows.insert(row.base, row)?;
@@ -124,8 +124,8 @@ fn list_first(
 
 /// Removes the rows at these bases.
 pub fn let_go(table: &mut HeldTable, bases: &[u64])
-    ensures exact { (held : List AHeldRow) → Keeps table.old held
-        → Keeps table.new (without bases.now held) }
+    ensures exact { (held : List AHeldRow) → TableHolds table.old held
+        → TableHolds table.new (without bases.now held) }
 {
     for base in bases {
         let_go_one(table, *base);
@@ -134,8 +134,8 @@ pub fn let_go(table: &mut HeldTable, bases: &[u64])
 
 /// Removes the row at the base, if there is one.
 fn let_go_one(table: &mut HeldTable, base: u64)
-    ensures exact { (held : List AHeldRow) → Keeps table.old held
-        → Keeps table.new (without (base ∷ []) held) }
+    ensures exact { (held : List AHeldRow) → TableHolds table.old held
+        → TableHolds table.new (without (base ∷ []) held) }
 {
     if let Some(row) = table.rows.remove(&base) {
         unlist(&mut table.of, row.caller, base);
@@ -156,7 +156,7 @@ fn unlist(of: &mut BTreeMap<u64, Vec<HeldRow>>, caller: u64, base: u64)
 /// Returns the rows, in the order of reserving.
 pub fn rows_held(alloc: Global, table: HeldTable) -> Result<Vec<HeldRow>, AllocError>
     ensures value { IfOk result (λ rows. (held : List AHeldRow)
-        → Keeps table held → rows.items ≡ held) }
+        → TableHolds table held → rows.items ≡ held) }
 {
     rows_in_order(alloc, table.rows)
 }

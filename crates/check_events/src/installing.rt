@@ -5,7 +5,7 @@ ghost use Rattle.ist_core.specs.Logs.{Log, state};
 ghost use Rattle.ist_core.specs.Installing.{CanInstall, FitsKind, IsUnrefused, ComesByKey};
 ghost use Rattle.check_events.specs.Mirroring.{Mirrors};
 ghost use Rattle.check_events.specs.Remembering.{KnowsSlots, KnowsWays, KnowsRefusals, KnowsStarts};
-ghost use Rattle.check_events.specs.Standing.{MayStand};
+ghost use Rattle.check_events.specs.Standing.{MayStand, FitsByKey};
 ghost use Rattle.check_events.specs.Ways.{KeysStay};
 
 use crate::climbing::was_linked;
@@ -86,19 +86,29 @@ fn fits_kind(replica: &Replica, past: &Past, change: &ChangeRow, fresh: &[Row]) 
         → KnowsStarts past.now.started (state first log)
         → KeysStay first log → (IsTrue result ↔ FitsKind first log change.now fresh.now) }
 {
-    if comes_by_key(replica, past, change) {
-        if puts_leaf(replica, change, fresh) {
-            return true;
-        }
-        if puts_pair(replica, change, fresh) {
-            return true;
-        }
-        if removes(replica, change, fresh) {
-            return true;
-        }
+    if fits_by_key(replica, past, change, fresh) {
+        return true;
     }
     if starts(replica, change, fresh) {
         return true;
     }
     finishes(replica, past, change, fresh)
+}
+
+/// Returns whether the change is a put or a remove, and meets its condition.
+fn fits_by_key(replica: &Replica, past: &Past, change: &ChangeRow, fresh: &[Row]) -> bool
+    ensures exact { (first : Snapshot) (log : Log) → Mirrors replica.now (state first log)
+        → KnowsSlots past.now.slots first log → KnowsWays past.now.ways first log
+        → KeysStay first log → (IsTrue result ↔ FitsByKey first log change.now fresh.now) }
+{
+    if !comes_by_key(replica, past, change) {
+        return false;
+    }
+    if puts_leaf(replica, change, fresh) {
+        return true;
+    }
+    if puts_pair(replica, change, fresh) {
+        return true;
+    }
+    removes(replica, change, fresh)
 }

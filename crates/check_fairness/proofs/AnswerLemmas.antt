@@ -18,6 +18,10 @@ pub finds_same : (P Q : ℕ → Type 0) (o : Option ℕ) → ((x : ℕ) → P x 
 finds_same P Q None same h = λ x q. h x ((same x).1 q)
 finds_same P Q (Some x) same h = ((same x).0 h.0, λ y q. h.1 y ((same y).1 q))
 
+-- a number that alone satisfies a fact is the one that is found
+pub finds_one : (P : ℕ → Type 0) (x : ℕ) → ((k : ℕ) → P k ↔ (k ≡ x)) → FindsOne P (Some x)
+finds_one P x is = ((is x).1 refl, λ y p. (is y).0 p)
+
 -- a test that fails exactly if the fact fails
 pub not_so : (b : Bool) (P : Type 0) → (IsTrue b ↔ P) → IsTrue (not b) ↔ (¬ P)
 not_so true P i = ((λ y. absurd (true≢false (sym y))), (λ n. absurd (n (i.0 refl))))
@@ -28,6 +32,10 @@ pub is_not : (b : Bool) (P : Type 0) → (IsTrue b ↔ P) → b ≡ false → ¬
 is_not true P i e = cc
 is_not false P i e = λ p. true≢false (sym (i.1 p))
 
+-- a test has one result
+pub clash : {b found : Bool} → b ≡ found → found ≡ false → ¬ (b ≡ true)
+clash is none some = cc
+
 -- one fact says the same as a second, and that the same as a third
 pub iff_trans : {P Q R : Type 0} → (P ↔ Q) → (Q ↔ R) → P ↔ R
 iff_trans a b = ((λ p. b.0 (a.0 p)), (λ r. a.1 (b.1 r)))
@@ -35,6 +43,10 @@ iff_trans a b = ((λ p. b.0 (a.0 p)), (λ r. a.1 (b.1 r)))
 -- a fact that never holds is decided by `false`
 pub never : {P : Type 0} → ¬ P → IsTrue false ↔ P
 never n = ((λ y. absurd (true≢false (sym y))), (λ p. absurd (n p)))
+
+-- a fact that holds is decided by `true`
+pub always : {P : Type 0} → P → IsTrue true ↔ P
+always p = ((λ _. p), (λ _. refl))
 
 -- the test for equal numbers
 pub is_equal : (x y : ℕ) → IsTrue (nat_eq x y) → x ≡ y

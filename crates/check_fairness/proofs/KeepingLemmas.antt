@@ -1,7 +1,7 @@
 -- What is kept of readings, and one size further. Serves `keeping.rt`.
 use Rattle.std.proofs.Common.{◌≡◌, ◌↔◌, ◌∙◌, ◌⊎◌, ◌+◌, ◌<◌, ◌≤◌, true, ℕ}
 use Rattle.std.proofs.Common.{zero, suc, List, [], ◌∷◌, ◌++◌, length, map, take, Vec, Global, Some, None}
-use Rattle.std.proofs.Common.{refl, sym, ap, subst, inl, inr, ⊎_elim, append_assoc, append-nil, arith}
+use Rattle.std.proofs.Common.{refl, sym, ap, subst, inl, inr, ⊎_elim, append_assoc, arith}
 use Rattle.std.proofs.Common.{length-append}
 use Rattle.std.specs.Prelude.{slice_index_or}
 use Rattle.std.proofs.lemmas.List.{length-take-le, take-append-le, take_all, take-map, length-map}
@@ -105,23 +105,6 @@ first_is xs ys fs m e h value =
 -- ---- the kept readings after each number of sizes
 
 module _ (lists : List (List ℕ)) where
-  -- of none
-  pub kept_none : (kept : KeptReadings) (first : List Reading) → kept.lists ≡ length lists
-      → kept.sizes.items ≡ [] → length kept.left.items ≡ 1 → left_at kept 0 ≡ first
-      → AreReadings lists any_room [] first → IsKept lists kept
-  kept_none kept first many none one is k =
-      record {
-        within = omega arith;
-        long = let e : length kept.sizes.items ≡ 0 = ap length none in omega arith;
-        each = λ n h.
-            let e : length kept.sizes.items ≡ 0 = ap length none in
-            let zero : n ≡ 0 = omega arith in
-            subst (λ i. AreReadings (take kept.lists lists) any_room (take i kept.sizes.items) (left_at kept i))
-            (sym zero)
-            (subst (λ ls. AreReadings ls any_room [] (left_at kept 0)) (sym (take_all kept.lists lists (omega arith)))
-            (subst (AreReadings lists any_room []) (sym is) k));
-      }
-
   -- of the first ones
   pub kept_cut : (old new : KeptReadings) (n : ℕ) → new.lists ≡ old.lists
       → n ≤ length old.sizes.items → new.sizes.items ≡ take n old.sizes.items

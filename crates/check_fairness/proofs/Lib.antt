@@ -4,7 +4,7 @@ pub mod SpareLemmas
 pub mod FairLemmas
 pub mod AddedLemmas
 pub mod ReadingLemmas
-pub mod RestLemmas
+pub mod BuildingListLemmas
 pub mod KeepingLemmas
 pub mod GoingOnLemmas
 pub mod RoomLemmas

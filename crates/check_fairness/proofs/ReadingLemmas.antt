@@ -163,18 +163,6 @@ end_read lists room (r ∷ rs) [] empty n e =
     let some : nat_eq (length (r ∷ rs)) 0 ≡ false = grind (arith, nat_tests) in
     ((λ y. inl all_read), (λ h. ap not (e ∙ some)))
 
--- the first reading leaves everything
-pub first_reading : (lists : List (List ℕ)) (room : ℕ) (sizes : List ℕ) (r : Reading)
-    (rs : List Reading)
-    → rs ≡ r ∷ [] → [] ≡ rest_at lists r.list r.at
-    → SomeGoes lists room rs sizes ↔ Goes (λ l. Among l lists) room r.may [] r.free sizes
-first_reading lists room sizes r rs e i =
-    subst (λ qs. SomeGoes lists room qs sizes ↔ Goes (λ l. Among l lists) room r.may [] r.free
-    sizes) (sym e)
-    (subst (λ ys. (Goes (λ l. Among l lists) room r.may ys r.free sizes ⊎ ⊥)
-    ↔ Goes (λ l. Among l lists) room r.may [] r.free sizes) i
-    ((λ h. ⊎_elim (λ g. g) (λ n. absurd n) h), inl))
-
 -- ---- readings that leave the same
 
 module _ (lists : List (List ℕ)) (r : Reading) where

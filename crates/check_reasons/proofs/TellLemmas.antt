@@ -4,15 +4,15 @@ use Rattle.check_reasons.specs.declared.conditions.Condition.{Condition}
 use Rattle.check_reasons.specs.declared.failing.Tested.{Tested}
 use Rattle.check_reasons.specs.Failing.{Stated, Tells, TellsFirst, Tests}
 
-module _ {x : Tested} {holds : Bool} {name : Condition} (is : x ≡ record { holds = holds; name = name })
-  where
-    -- the test is of the condition that it was made with
-    pub named : x.name ≡ name
-    named = ap (λ y. y.name) is
-
-    -- and returns what it was made with
-    pub holding : {says : Type 0} → (IsTrue holds ↔ says) → IsTrue x.holds ↔ says
-    holding {says} tests = subst (λ b. IsTrue b ↔ says) (sym (ap (λ y. y.holds) is)) tests
+-- one more test in front: it is of the condition that it was made with, and returns what that says
+pub next : (x : Tested) {holds : Bool} {name : Condition} {says others : Type 0}
+    → x ≡ record { holds = holds; name = name } → (IsTrue holds ↔ says) → others
+    → (x.name ≡ name) × (IsTrue x.holds ↔ says) × others
+next x {says = says} is tests rest = (
+  ap (λ y. y.name) is,
+  subst (λ b. IsTrue b ↔ says) (sym (ap (λ y. y.holds) is)) tests,
+  rest,
+)
 
 -- the first test that fails names the first condition that is false
 pub tells : (xs : List Tested) (ss : List Stated) (o : Option Condition) → Tests xs ss

@@ -1,26 +1,18 @@
 -- Rows that hang in or below a slot, as a walk down reaches them. Serves `linking.rt`.
-use Rattle.std.proofs.Common.{◌≡◌, ◌≢◌, ◌↔◌, ◌∙◌, ◌⊎◌, ℕ, zero, suc, List, [], ◌∷◌, slice_get, slice_index_or, length, ◌<◌, Option, Some, None, refl, sym, ap, subst, inl, inr, arith}
-use Rattle.std.specs.Ordering.{nat_cmp}
+use Rattle.std.proofs.Common.{◌≡◌, ◌≢◌, ◌↔◌, ◌∙◌, ◌⊎◌, ℕ, zero, suc, List, [], ◌∷◌, slice_get, slice_index_or, length, ◌<◌, Option, Some, None, refl, sym, subst, inl, inr, arith}
 use Rattle.std.specs.BTreeMap as tree
 use Rattle.ist_core.specs.declared.states.InnerRow.{InnerRow}
 use Rattle.ist_core.specs.RowLayout.{anchor}
 use Rattle.ist_core.specs.References.{Ref, InnerAt}
-use Rattle.ist_core.specs.Pieces.{Pieces, Inner, as_inner}
+use Rattle.ist_core.specs.Pieces.{Pieces, Inner}
 use Rattle.ist_core.specs.Snapshots.{Snapshot}
 use Rattle.ist_core.specs.Slots.{SlotHolds, in_anchor, in_row, logical}
 use Rattle.ist_core.specs.Links.{IsChild, Linked, below}
 use Rattle.ist_core.specs.Leaves.{HasLeaves, row_here, no_slot}
 use Rattle.ist_core.proofs.SlotLemmas.{no_row, slot_once, same_inner}
-use Rattle.check_events.specs.declared.replicas.Replica.{Replica}
-use Rattle.check_events.specs.Mirroring.{Mirrors}
 use Rattle.check_builds.specs.Reading.{IsReadingOf}
 use Rattle.check_builds.specs.declared.readings.Reading.{Reading}
-use Rattle.check_builds.specs.declared.readings.Reading.TheVariants.{
-  Nothing,
-  OneLeaf,
-  OneRow,
-  Other,
-}
+use Rattle.check_builds.specs.declared.readings.Reading.TheVariants.{Nothing, OneLeaf, OneRow, Other}
 use Rattle.check_state.specs.Hanging.{Hangs, hangs_here, hangs_below}
 
 -- two references to inner rows are one
@@ -147,9 +139,3 @@ no_row_read Nothing o child other is e = let k = sym is ∙ e in cc
 no_row_read (OneLeaf base) o child other is e = let k = sym is ∙ e in cc
 no_row_read (OneRow base) o child other is e = absurd (other base refl)
 no_row_read Other o child other is e = other_reading o child is e
-
--- what the replica has no inner row at isn't one
-pub none_there : (s : Replica) (t : Snapshot) (base : ℕ) → Mirrors s t
-    → tree.get nat_cmp s.inners base ≡ None
-    → (row : InnerRow) → t.pieces base ≢ Some (Inner row)
-none_there s t base h none row e = let there = sym none ∙ h.inners base ∙ ap as_inner e in cc

@@ -1,25 +1,6 @@
 -- The table of slots after an event: unchanged, except that after a yes it also has what the change
 -- brings. Serves `linking.rt`.
-use Rattle.std.proofs.Common.{
-  ◌≡◌,
-  ◌≢◌,
-  ◌∙◌,
-  ◌⊎◌,
-  ℕ,
-  true,
-  false,
-  List,
-  ◌∷◌,
-  Some,
-  option_map,
-  refl,
-  sym,
-  ap,
-  subst,
-  inl,
-  inr,
-  ⊎_elim,
-}
+use Rattle.std.proofs.Common.{◌≡◌, ◌≢◌, ◌∙◌, ◌⊎◌, ℕ, true, false, List, ◌∷◌, Some, option_map, refl, sym, ap, subst, inl, inr, ⊎_elim}
 use Rattle.std.specs.BTreeMap.{BTreeMap}
 use Rattle.ist_core.specs.declared.pairs.Pair.{Pair}
 use Rattle.ist_core.specs.declared.states.ChangeRow.{ChangeRow}
@@ -39,15 +20,10 @@ use Rattle.laws_links.proofs.ChildLemmas.{read_child}
 use Rattle.laws_links.proofs.LinkLemmas.{yes_linked_behind}
 use Rattle.laws_links.proofs.ReadEventLemmas.{decide_reads}
 use Rattle.check_events.specs.declared.pasts.Slot.{Slot}
+use Rattle.check_events.specs.declared.replicas.Replica.{Replica}
+use Rattle.check_events.specs.Mirroring.{Mirrors}
 use Rattle.check_events.specs.Remembering.{WasChild, KnowsSlots}
-use Rattle.check_state.specs.Hanging.{
-  Hangs,
-  Brings,
-  BringsInPlace,
-  HasSlot,
-  AddsSlots,
-  HangsOnce,
-}
+use Rattle.check_state.specs.Hanging.{Hangs, Brings, BringsInPlace, HasSlot, AddsSlots, HangsOnce}
 use Rattle.check_state.proofs.HangingLemmas.{hangs_child, hangs_linked}
 use Rattle.check_state.proofs.LinkingLemmas.{HangsNew, linked_child_back}
 use Rattle.check_state.proofs.SlotTableLemmas.{ever_now, hangs_once, knows, of_linked}
@@ -201,3 +177,20 @@ brings_row t base row x e to old new adds node i child = (
       (same_change (t.pieces base) b.change x b.published e) b.hangs))
       h)),
 )
+
+-- the table is right after a yes, with what its change brings
+pub links_by : (pairs : List Pair) (words : ℕ) (opens : CanOpen pairs words) (log : Log)
+    (event : Event) (by base : ℕ) (replica : Replica) (old new : BTreeMap ℕ Slot)
+    → event ≡ Decide by base true → EachEnabled (start pairs words) (event ∷ log)
+    → Mirrors replica (state_of pairs words (event ∷ log)) → KnowsSlots old (start pairs words) log
+    → ((t : Snapshot) → Mirrors replica t → HangsOnce old t → BringsInPlace t base
+    → AddsSlots old new (Brings t base))
+    → KnowsSlots new (start pairs words) (event ∷ log)
+links_by pairs words opens log event by base replica old new is law mirrors known exact =
+    let all = subst (λ e. EachEnabled (start pairs words) (e ∷ log)) is law in
+    let here = subst (λ e. Mirrors replica (state_of pairs words (e ∷ log))) is mirrors in
+    subst (λ e. KnowsSlots new (start pairs words) (e ∷ log)) (sym is)
+    (links_more pairs words opens log by base all old new known
+    (exact (state_of pairs words (Decide by base true ∷ log)) here
+    (once_before pairs words opens log by base all old known)
+    (brings_in_place pairs words opens log by base all)))

@@ -1,24 +1,6 @@
 -- What a table of slots says of a lawful log, and what follows from its entries. Serves
 -- `linking.rt`.
-use Rattle.std.proofs.Common.{
-  ◌≡◌,
-  ◌↔◌,
-  ◌≤◌,
-  ℕ,
-  List,
-  [],
-  ◌∷◌,
-  Option,
-  Some,
-  None,
-  refl,
-  sym,
-  subst,
-  inl,
-  inr,
-  ⊎_elim,
-  arith,
-}
+use Rattle.std.proofs.Common.{◌≡◌, ◌↔◌, ◌≤◌, ℕ, List, [], ◌∷◌, Option, Some, None, refl, sym, subst, inl, inr, ⊎_elim, arith}
 use Rattle.std.proofs.lemmas.Grind.{common_steps}
 use Rattle.std.specs.Ordering.{nat_cmp}
 use Rattle.std.specs.BTreeMap as tree
@@ -37,6 +19,7 @@ use Rattle.ist_core.proofs.NamingLemmas.{WordsName}
 use Rattle.ist_core.proofs.OrderLemmas.{names, child_above}
 use Rattle.ist_core.proofs.PlaceLemmas.{anchor_free}
 use Rattle.ist_core.proofs.SlotLemmas.{anchor_slot}
+use Rattle.ist_core.proofs.PrefixLemmas.{goes_on_more}
 use Rattle.check_events.specs.declared.pasts.Slot.{Slot}
 use Rattle.check_events.specs.Remembering.{WasChild, SlotsRise, KnowsSlots}
 use Rattle.check_state.specs.Hanging.{Hangs, hangs_here, HasSlot, AddsSlots, HangsOnce}
@@ -103,7 +86,7 @@ module _ (pairs : List Pair) (words : ℕ) (opens : CanOpen pairs words) where
             (λ u. Linked u slot.node × IsChild u slot.node slot.index child) earlier
             (of child slot e) in
             let same =
-            one_parent pairs words opens was.0 log (longer was.0 earlier log was.1 on) h
+            one_parent pairs words opens was.0 log (goes_on_more was.1 on) h
             slot.node slot.index node i child was.2.1 c in
             at node i slot same.0 same.1;
       }
@@ -119,10 +102,6 @@ module _ (pairs : List Pair) (words : ℕ) (opens : CanOpen pairs words) where
       at n i slot a b =
           let P : ℕ → ℕ → Type 0 = λ x y. slot ≡ record { node = x; index = y } in
           subst (P n) b (subst (λ x. P x slot.index) a refl)
-
-      longer : (a b c : Log) → GoesOn a b → GoesOn b c → GoesOn a c
-      longer a b _ g same_log = g
-      longer a b _ g (one_event event k) = one_event event (longer a b _ g k)
 
   -- a linked node lies no lower than the anchor
   linked_high : (log : Log) → EachEnabled (start pairs words) log → (node : ℕ)

@@ -27,7 +27,8 @@ use Rattle.ist_core.specs.declared.pairs.Pair.{Pair}
 use Rattle.ist_core.specs.declared.events.Event.{Event}
 use Rattle.ist_core.specs.declared.events.Event.TheVariants.{Decide, Count}
 use Rattle.ist_core.specs.Snapshots.{Snapshot}
-use Rattle.ist_core.specs.Logs.{Log, Happened, Decides, Counts}
+use Rattle.ist_core.specs.Logs.{Log, Happened, Counts}
+use Rattle.laws_links.proofs.DecisionLemmas.{Decides}
 use Rattle.ist_core.specs.Deciding.{IsUpdateOf, SaysYes}
 use Rattle.ist_core.specs.StartLayout.{start}
 use Rattle.ist_core.specs.Lawful.{Lawful, EachEnabled, state_of}

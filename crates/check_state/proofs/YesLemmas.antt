@@ -22,7 +22,8 @@ use Rattle.ist_core.specs.declared.events.Event.{Event}
 use Rattle.ist_core.specs.declared.events.Event.TheVariants.{Decide}
 use Rattle.ist_core.specs.Pieces.{Pieces, Change}
 use Rattle.ist_core.specs.Snapshots.{Snapshot}
-use Rattle.ist_core.specs.Logs.{Log, Happened, Decides}
+use Rattle.ist_core.specs.Logs.{Log, Happened}
+use Rattle.laws_links.proofs.DecisionLemmas.{Decides}
 use Rattle.ist_core.specs.Growing.{AllGrow}
 use Rattle.ist_core.specs.Rebuilding.{IsUpdate}
 use Rattle.ist_core.specs.Deciding.{IsUpdateOf, SaysYes}

@@ -4,3 +4,4 @@ pub mod OpeningLemmas
 pub mod RoomLemmas
 pub mod ReasonLemmas
 pub mod CheckingLemmas
+pub mod KindLemmas

@@ -2,7 +2,7 @@
 use Rattle.std.specs.Prelude.{ℕ, List}
 use Rattle.ist_core.specs.declared.pairs.Pair.{Pair}
 use Rattle.ist_core.specs.declared.events.Event.{Event}
-use Rattle.ist_core.specs.declared.events.Event.TheVariants.{Root, Place}
+use Rattle.ist_core.specs.declared.events.Event.TheVariants.{Root, Draw, Place, Lose}
 use Rattle.ist_core.specs.StartLayout.{start}
 use Rattle.ist_core.specs.Logs.{Log}
 use Rattle.ist_core.specs.Lawful.{Lawful, state_of}
@@ -35,8 +35,10 @@ pub record Knows (replica : Replica) (past : Past) (pairs : List Pair) (words : 
   pub ways : KnowsWays past.ways (start pairs words) log
   pub remembers : Remembers past pairs words log
 
--- the event publishes what a caller has built
+-- the event is one of a build: what was built is published, a part is drawn, or rows are given up
 abbrev pub IsOfBuild : Event → Type 0
 IsOfBuild (Root caller rebuild word rows) = Unit {0}
+IsOfBuild (Draw caller rebuild part) = Unit {0}
 IsOfBuild (Place caller rebuild i word rows) = Unit {0}
+IsOfBuild (Lose caller bases) = Unit {0}
 IsOfBuild _ = ⊥

@@ -53,20 +53,11 @@ pub(crate) fn may_come(
         Event::Finish { caller, node, keys } => {
             Ok(can_finish(replica, past, *caller, *node, *keys))
         }
-        Event::Root { .. } => may_build(alloc, replica, past, event),
-        Event::Draw {
-            caller,
-            rebuild,
-            part,
-        } => Ok(can_draw(replica, past, *caller, *rebuild, *part)),
-        Event::Place { .. } => may_build(alloc, replica, past, event),
-        Event::Lose { caller, bases } => {
-            can_lose(alloc, replica, past, *caller, bases.as_slice())
-        }
+        _ => may_build(alloc, replica, past, event),
     }
 }
 
-/// Returns whether the root or the part may come next.
+/// Returns whether the event of a build may come next.
 fn may_build(
     alloc: Global,
     replica: &Replica,
@@ -92,6 +83,11 @@ fn may_build(
             *word,
             rows.as_slice(),
         ),
+        Event::Draw {
+            caller,
+            rebuild,
+            part,
+        } => Ok(can_draw(replica, past, *caller, *rebuild, *part)),
         Event::Place {
             caller,
             rebuild,
@@ -108,6 +104,9 @@ fn may_build(
             *word,
             rows.as_slice(),
         ),
+        Event::Lose { caller, bases } => {
+            can_lose(alloc, replica, past, *caller, bases.as_slice())
+        }
         _ => Ok(false),
     }
 }

@@ -55,20 +55,11 @@ pub(crate) fn fails(
         Event::Finish { caller, node, keys } => {
             Ok(finish_fails(replica, past, *caller, *node, *keys))
         }
-        Event::Root { .. } => build_fails(alloc, replica, past, event),
-        Event::Draw {
-            caller,
-            rebuild,
-            part,
-        } => Ok(draw_fails(replica, past, *caller, *rebuild, *part)),
-        Event::Place { .. } => build_fails(alloc, replica, past, event),
-        Event::Lose { caller, bases } => {
-            lose_fails(alloc, replica, past, *caller, bases.as_slice())
-        }
+        _ => build_fails(alloc, replica, past, event),
     }
 }
 
-/// Returns the first condition of a root or a part that fails, if one does.
+/// Returns the first condition of an event of a build that fails, if one does.
 fn build_fails(
     alloc: Global,
     replica: &Replica,
@@ -94,6 +85,11 @@ fn build_fails(
             *word,
             rows.as_slice(),
         ),
+        Event::Draw {
+            caller,
+            rebuild,
+            part,
+        } => Ok(draw_fails(replica, past, *caller, *rebuild, *part)),
         Event::Place {
             caller,
             rebuild,
@@ -110,6 +106,9 @@ fn build_fails(
             *word,
             rows.as_slice(),
         ),
+        Event::Lose { caller, bases } => {
+            lose_fails(alloc, replica, past, *caller, bases.as_slice())
+        }
         _ => Ok(None),
     }
 }

@@ -18,6 +18,7 @@ use Rattle.ist_core.specs.Limits.{decided_yes_in}
 use Rattle.ist_core.proofs.ElementLemmas.{among_filter, among_left, among_right}
 use Rattle.ist_core.proofs.GrowingLemmas.{change_there}
 use Rattle.ist_core.proofs.FateLemmas.{enabled_before, grow_between}
+use Rattle.ist_core.proofs.PrefixLemmas.{goes_on_more, goes_on-append}
 
 -- ---- counts and what may be counted
 
@@ -142,11 +143,6 @@ module _ (pairs : List Pair) (words : ℕ) (node : ℕ) where
       waiting_on (later ++ Decide by base true ∷ earlier) event caller (λ k. none (inl k))
       (waits later by base earlier caller (λ k. none (inr k)) i)
 
-  -- a log with more events goes on from its prefix
-  goes_on : (later earlier : Log) → GoesOn earlier (later ++ earlier)
-  goes_on [] earlier = same_log
-  goes_on (event ∷ later) earlier = one_event event (goes_on later earlier)
-
   -- the caller of a Count waits
   counter_waits : (log : Log) (caller : ℕ) → EachEnabled (start pairs words) log
       → CanCount (start pairs words) log caller node
@@ -155,22 +151,18 @@ module _ (pairs : List Pair) (words : ℕ) (node : ℕ) where
       let earlier = can.earlier in
       let whole = Decide can.by can.base true ∷ earlier in
       let on : GoesOn whole log = subst (λ l. GoesOn whole l) (sym can.log_is)
-      (goes_on can.later whole) in
+      (goes_on-append can.later whole) in
       let before = enabled_before (start pairs words) whole log on h in
       let stood = before.1.pending.published in
       let now = change_there (state_of pairs words earlier).pieces (state_of pairs words log).pieces
       (grow_between pairs words earlier log h
-      (further earlier whole log (one_event (Decide can.by can.base true) same_log) on))
+      (goes_on_more (one_event (Decide can.by can.base true) same_log) on))
       can.base before.1.change stood in
       let owner = same_owner ((state_of pairs words log).pieces can.base) before.1.change now.0
       can.update.change caller now.2 now.1 can.update.published can.update.owned in
       subst (λ l. Among caller (waiting (start pairs words) node l)) (sym can.log_is)
       (waits can.later can.by can.base earlier caller can.uncounted
       (subst (λ o. Among caller (owner_of o)) (sym stood) (inl (sym owner))))
-    where
-      further : (a b c : Log) → GoesOn a b → GoesOn b c → GoesOn a c
-      further a b _ g same_log = g
-      further a b _ g (one_event {log = l} event k) = one_event event (further a b l g k)
 
   owner_few : (o : Option Piece) → length (owner_of o) ≤ 1
   owner_few (Some (Change r)) = omega arith

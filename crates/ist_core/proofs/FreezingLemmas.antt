@@ -1,5 +1,5 @@
 -- A slot that was passed keeps its word at each event. Serves the frozen-slot law.
-use Rattle.std.proofs.Common.{◌≡◌, ◌≢◌, ℕ, ◌+◌, ◌*◌, Bool, true, false, List, [], ◌∷◌, Option, Some, None, option_map, sym, ap, ◌∙◌, subst, inl, inr, ⊎_elim, arith}
+use Rattle.std.proofs.Common.{◌≡◌, ◌≢◌, ℕ, ◌+◌, ◌*◌, Bool, true, false, List, ◌∷◌, Option, Some, None, option_map, sym, ap, ◌∙◌, subst, ⊎_elim, arith}
 use Rattle.std.proofs.lemmas.Bool.Decides.{nat_tests, eqb_tells}
 use Rattle.ist_core.specs.declared.pairs.Pair.{Pair}
 use Rattle.ist_core.specs.declared.lists.Row.{Row}
@@ -15,7 +15,7 @@ use Rattle.ist_core.specs.Snapshots.{Snapshot, HoldsRow}
 use Rattle.ist_core.specs.StartLayout.{start}
 use Rattle.ist_core.specs.After.{side_of}
 use Rattle.ist_core.specs.Logs.{Log, state, Happened, Okays}
-use Rattle.ist_core.specs.Slots.{SlotHolds, IsOpen, anchor_is, row_is}
+use Rattle.ist_core.specs.Slots.{SlotHolds, IsOpen}
 use Rattle.ist_core.specs.Installing.{CanInstall}
 use Rattle.ist_core.specs.Deciding.{CanOkay, CanDecide, CanResolve}
 use Rattle.ist_core.specs.Building.{CanPlace}
@@ -27,14 +27,15 @@ use Rattle.ist_core.proofs.RowLemmas.{changed_at-same, changed_at-other}
 use Rattle.ist_core.proofs.MoveLemmas.{HeldLieApart}
 use Rattle.ist_core.proofs.SoundLemmas.{sound}
 use Rattle.ist_core.proofs.StartLemmas.{sound_start}
-use Rattle.ist_core.proofs.GrowingLemmas.{inner_there, change_there}
+use Rattle.ist_core.proofs.GrowingLemmas.{inner_there}
 use Rattle.ist_core.proofs.StepLemmas.{grow_step, holds_installed}
 use Rattle.ist_core.proofs.PlaceLemmas.{anchor_free, no_piece}
 use Rattle.ist_core.proofs.RoomLemmas.{published_good, ref_of-change}
-use Rattle.ist_core.proofs.SlotLemmas.{same_inner, no_row}
+use Rattle.ist_core.proofs.SlotLemmas.{closed_not_open}
 use Rattle.ist_core.proofs.NamingLemmas.{SlotNames, slot_names}
 use Rattle.ist_core.proofs.InstallNamingLemmas.{from_plain}
 use Rattle.ist_core.proofs.OrderLemmas.{names}
+use Rattle.ist_core.proofs.OkayLemmas.{okay_published}
 use Rattle.ist_core.proofs.SlotStepLemmas.{install_stands, install_writes, resolve_writes, place_writes, WritesNoSlot, slot_stays, IsNoDecide, change_stays}
 
 -- ---- words and statuses
@@ -49,12 +50,6 @@ closed_on old new (status_stays e) ne = λ f. ne (sym e ∙ f)
 closed_on old new (is_marked e f) ne = absurd (ne e)
 closed_on old new (is_finished k e f) ne = λ g. omega arith
 closed_on old new (is_closed k e f) ne = absurd (ne e)
-
--- a closed node isn't open
-not_open : (t : Snapshot) (node : ℕ) (r : InnerRow) → t.pieces anchor ≡ None
-    → t.pieces node ≡ Some (Inner r) → r.status ≢ open_word → ¬ (IsOpen t node)
-not_open t node r free e closed (anchor_is a) = no_row t.pieces node r free a e
-not_open t node r free e closed (row_is s p o) = closed (ap (λ x. x.status) (same_inner (t.pieces node) r s e p) ∙ o)
 
 -- a change that wasn't decided yes leaves `from`
 pub side_not_yes : (change : ChangeRow) → change.decision ≢ decided_yes
@@ -98,34 +93,6 @@ keeps_quiet first log event h s none still unseen node i word (holds_it k) = hol
 keeps_quiet first log event h s none still unseen node i word (holds_change v) =
     vain_on (state first log) (state first (event ∷ log)) log event node i word v
     (change_stays first log event h s still v.base v.change v.published) (slot_stays first log event h s none node i (word_of (ChangeAt v.base)) v.in_slot) (unseen v.base)
-
--- a change with an Okay is published
-okay_published : (first : Snapshot) (log : Log) (base : ℕ) → HeldLieApart first → EachEnabled first log
-    → Happened (Okays base) log
-    → (r : ChangeRow) × ((state first log).pieces base ≡ Some (Change r))
-okay_published first [] base s h k = absurd k
-okay_published first (event ∷ log) base s h (inl now) = at event h.1 now
-  where
-    at : (e : Event) → Enabled first log e → Okays base e
-        → (r : ChangeRow) × ((state first (e ∷ log)).pieces base ≡ Some (Change r))
-    at (Okay caller change) can is = (can.change, subst (λ b. (state first log).pieces b ≡ Some (Change can.change)) is can.pending.published)
-    at (Enter caller) can is = absurd is
-    at (Reserve caller b size) can is = absurd is
-    at (Install caller change rows) can is = absurd is
-    at (Decide caller change said) can is = absurd is
-    at (Resolve caller change) can is = absurd is
-    at (Count caller node) can is = absurd is
-    at (Mark caller node) can is = absurd is
-    at (Pass caller node i word) can is = absurd is
-    at (Finish caller node keys) can is = absurd is
-    at (Root caller rebuild word rows) can is = absurd is
-    at (Draw caller rebuild part) can is = absurd is
-    at (Place caller rebuild i word rows) can is = absurd is
-    at (Lose caller bases) can is = absurd is
-okay_published first (event ∷ log) base s h (inr before) =
-    let it = okay_published first log base s h.0 before in
-    let there = change_there (state first log).pieces (state first (event ∷ log)).pieces (grow_step first log event h.1 (sound first log s h.0)) base it.0 it.1 in
-    (there.0, there.1)
 
 module _ (pairs : List Pair) (words : ℕ) (opens : CanOpen pairs words) (log : Log) (enabled : EachEnabled (start pairs words) log) where
   -- held rows lie apart after the log
@@ -266,7 +233,7 @@ module _ (pairs : List Pair) (words : ℕ) (opens : CanOpen pairs words) (log : 
       vain_on t t log (Okay caller base) node i word v v.published v.in_slot
       (λ is.
       let row = same_change (t.pieces v.base) h.change here.row (subst (λ b. t.pieces b ≡ Some (Change h.change)) is h.pending.published) here.published in
-      not_open t node r free_there e closed (subst (λ n. IsOpen t n) (ap (λ c. c.node) row ∙ here.node_is) h.node_open))
+      closed_not_open t node r free_there e closed (subst (λ n. IsOpen t n) (ap (λ c. c.node) row ∙ here.node_is) h.node_open))
 
   -- an event keeps the word of a closed slot, which is neither a change nor Unset
   pub closed_step : (event : Event) → Enabled (start pairs words) log event → (node i word : ℕ)

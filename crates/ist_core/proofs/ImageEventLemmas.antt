@@ -1,116 +1,30 @@
 -- What each kind of event writes into the image. Serves `laws.one_word_is_written`.
-use Rattle.std.proofs.Common.{◌≡◌, ◌≢◌, ℕ, ◌+◌, ◌-◌, ◌<◌, ◌≤◌, List, [], ◌∷◌, length, slice_get, slice_set, Option, Some, None, refl, sym, ap, ◌∙◌, subst, inl, inr, ⊎_elim, arith, length-set}
-use Rattle.std.proofs.lemmas.List.{take-append-drop}
-use Rattle.ist_core.specs.declared.pairs.Pair.{Pair}
+use Rattle.std.proofs.Common.{◌≡◌, ℕ, ◌+◌, ◌<◌, ◌≤◌, List, ◌∷◌, length, slice_set, Some, None, refl, sym, ap, ◌∙◌, subst, ⊎_elim, arith, length-set}
 use Rattle.ist_core.specs.declared.lists.Row.{Row}
 use Rattle.ist_core.specs.declared.states.InnerRow.{InnerRow}
-use Rattle.ist_core.specs.declared.states.ChangeRow.{ChangeRow}
 use Rattle.ist_core.specs.declared.states.RebuildRow.{RebuildRow}
 use Rattle.ist_core.specs.declared.events.Event.TheVariants.{Enter, Reserve, Install, Resolve, Count, Root, Draw, Place}
-use Rattle.ist_core.specs.RowLayout.{next_place, callers_place, anchor, anchor_status_place, anchor_slot_place, first_row}
+use Rattle.ist_core.specs.RowLayout.{next_place, callers_place, anchor, anchor_status_place, anchor_slot_place}
 use Rattle.ist_core.specs.References.{ChangeAt, word_of, unset_word}
-use Rattle.ist_core.specs.Elements.{Among}
-use Rattle.ist_core.specs.Pieces.{Pieces, Piece, Inner, Change, Rebuild, words_of, size_of, row_at, inner_of, as_inner, as_change, as_rebuild, with_inners, changed_at, counted, with_root, drawn}
+use Rattle.ist_core.specs.Pieces.{Piece, Inner, Change, Rebuild, words_of, row_at, as_inner, as_change, as_rebuild, with_inners, changed_at, counted, with_root, drawn}
 use Rattle.ist_core.specs.Snapshots.{Snapshot}
 use Rattle.ist_core.specs.Images.{StandsAt, IsImage}
-use Rattle.ist_core.specs.StartLayout.{start}
 use Rattle.ist_core.specs.After.{after, side_of, resolved}
 use Rattle.ist_core.specs.Logs.{Log, state}
-use Rattle.ist_core.specs.Installing.{CanInstall, FitsKind, a_put, a_pair, a_remove, a_start, a_finish}
+use Rattle.ist_core.specs.Installing.{CanInstall}
 use Rattle.ist_core.specs.Deciding.{CanResolve}
 use Rattle.ist_core.specs.Building.{CanRoot, CanPlace}
-use Rattle.ist_core.specs.Lawful.{EachEnabled, state_of}
-use Rattle.ist_core.specs.Rows.{Apart, IsWithin}
 use Rattle.ist_core.specs.Writing.{touch_of, touched, touch_of_resolve, touch_of_count, touch_of_draw, touch_of_place, touch_in_root, place_of_slot, RowsStand}
-use Rattle.ist_core.proofs.ElementLemmas.{each-among}
-use Rattle.ist_core.proofs.RowLemmas.{with_inners-some}
 use Rattle.ist_core.proofs.MoveLemmas.{HeldLieApart}
 use Rattle.ist_core.proofs.InstallLemmas.{with_installed}
-use Rattle.ist_core.proofs.AddingLemmas.{IsInstalled, adds_install, adds-with_inners}
+use Rattle.ist_core.proofs.AddingLemmas.{adds_install, adds-with_inners}
 use Rattle.ist_core.proofs.StepLemmas.{rows_resolved, rows_placed, holds_installed}
-use Rattle.ist_core.proofs.PlaceLemmas.{claimed_within, claimed_apart, placed, next_behind_fixed, no_piece}
 use Rattle.ist_core.proofs.SlotLemmas.{get-set_same, get-set_other, no_row}
 use Rattle.ist_core.specs.Naming.{HasDegree}
 use Rattle.ist_core.specs.Slots.{in_row}
 use Rattle.ist_core.proofs.SlotStepLemmas.{elsewhere}
 use Rattle.ist_core.proofs.ImageLemmas.{image_row, image_slot}
-
--- ---- rows that are published
-
--- the words of a row, if there is one
-pub words_in : Option Piece → List ℕ
-words_in (Some q) = words_of q
-words_in None = []
-
--- an inner row has the words that it was read from
-pub words_of-inner_of : (words : List ℕ) (p : Piece) → inner_of words ≡ Some p → words_of p ≡ words
-unfolding words_in
-words_of-inner_of [] p e = absurd (cc)
-words_of-inner_of (a ∷ []) p e = absurd (cc)
-words_of-inner_of (a ∷ b ∷ []) p e = absurd (cc)
-words_of-inner_of (a ∷ b ∷ c ∷ []) p e = absurd (cc)
-words_of-inner_of (status ∷ count ∷ degree ∷ size ∷ rest) p e = sym (ap words_in e) ∙ ap
-    (λ xs. status ∷ count ∷ degree ∷ size ∷ xs) (take-append-drop (degree - 1) rest)
-
--- if the words of these rows are in the table, so is the row at a base that has the words of one of
--- them
-pub row_stands : (words : List ℕ) (rows : List Row) (row : Row) (base : ℕ) (p : Piece)
-    → RowsStand words rows → Among row rows → row.base ≡ base → row.words ≡ words_of p
-    → StandsAt words base p
-row_stands words rows row base p all i here is k less =
-    let it = each-among (λ r. (n : ℕ) → n < length r.words → slice_get words (r.base + n) ≡
-    slice_get r.words n) row rows all i k (subst (λ ws. k < length ws) (sym is) less) in
-    ap (λ b. slice_get words (b + k)) (sym here) ∙ it ∙ ap (λ ws. slice_get ws k) is
-
--- published inner rows are in the table
-pub inners_stand : (ps : Pieces) (words : List ℕ) (rows : List Row) → RowsStand words rows
-    → ((base : ℕ) (p : Piece) → ps base ≡ Some p → StandsAt words base p)
-    → (base : ℕ) (p : Piece) → with_inners ps rows base ≡ Some p → StandsAt words base p
-inners_stand ps words rows all old base p e =
-    ⊎_elim (λ w. row_stands words rows w.0 base p all w.1 w.2
-    (sym (words_of-inner_of w.0.words p w.3))) (λ there. old base p there)
-    (with_inners-some ps rows base p e)
-
--- a row of an Install is one of those that it publishes
-pub installed_row : (first : Snapshot) (log : Log) (at : ℕ) (change : ChangeRow) (fresh : List Row)
-    (fits : FitsKind first log change fresh) (base : ℕ) (p : Piece)
-    → IsInstalled first log at change fresh fits base p
-    → Among (row_at base p) (row_at at (Change change) ∷ fresh)
-installed_row first log at change fresh fits base p (inl h) = inl (λ i. row_at (h.0 i) (h.1 i))
-installed_row first log at change fresh (a_put f) base p (inr h) = inr
-    (subst (λ xs. Among (row_at base p) xs) (sym f.fresh_are) (inl (λ i. row_at (h.0 i) (h.1 i))))
-installed_row first log at change fresh (a_pair f) base p (inr (inl h)) = inr
-    (subst (λ xs. Among (row_at base p) xs) (sym f.fresh_are) (inl (λ i. row_at (h.0 i) (h.1 i))))
-installed_row first log at change fresh (a_pair f) base p (inr (inr h)) = inr
-    (subst (λ xs. Among (row_at base p) xs) (sym f.fresh_are)
-    (inr (inl (λ i. row_at (h.0 i) (h.1 i)))))
-installed_row first log at change fresh (a_remove f) base p (inr h) = absurd h
-installed_row first log at change fresh (a_start f) base p (inr h) = inr
-    (subst (λ xs. Among (row_at base p) xs) (sym f.fresh_are) (inl (λ i. row_at (h.0 i) (h.1 i))))
-installed_row first log at change fresh (a_finish f) base p (inr h) = absurd h
-
--- ---- where the rows of a state lie
-
--- rows lie within the table and apart
-pub record RowsApart (u : Snapshot) : Type 0 where
-  pub low_next : first_row ≤ u.next
-  pub within : (base : ℕ) (p : Piece) → u.pieces base ≡ Some p → IsWithin u base (size_of p)
-  pub apart : (base other : ℕ) (p q : Piece) → u.pieces base ≡ Some p → u.pieces other ≡ Some q
-      → base ≢ other → Apart base (size_of p) other (size_of q)
-
--- the rows after a log from a new table lie apart
-pub rows_apart : (pairs : List Pair) (words : ℕ) (log : Log) → EachEnabled (start pairs words) log
-    → RowsApart (state_of pairs words log)
-rows_apart pairs words log h =
-    let k = placed pairs words log h in
-    record {
-      low_next = next_behind_fixed pairs words log h;
-      within = λ base p e. claimed_within pairs words log base (size_of p) h (k.published base p e);
-      apart = λ base other p q e f differ.
-          ⊎_elim (λ same. absurd (differ same.0)) (λ a. a.1)
-          (claimed_apart pairs words log base (size_of p) other (size_of q) h (k.published base p e)
-          (k.published other q f));
-    }
+use Rattle.ist_core.proofs.ImageRowLemmas.{inners_stand, row_stands, installed_row, RowsApart}
 
 -- ---- the events that write no word, or a fixed one
 
@@ -218,16 +132,6 @@ pub record SlotsReady (t : Snapshot) : Type 0 where
   pub free : t.pieces anchor ≡ None
   pub shaped : (base : ℕ) (r : InnerRow) → t.pieces base ≡ Some (Inner r) → HasDegree r
   pub sound : HeldLieApart t
-
--- if no row is new at a base, a base without a row stays without one
-pub still_free : (t : Snapshot) (qs : Pieces) (base : ℕ)
-    → ((p : Piece) → qs base ≡ Some p → t.pieces base ≡ Some p) → t.pieces base ≡ None
-    → qs base ≡ None
-still_free t qs base back none = at (qs base) refl
-  where
-    at : (o : Option Piece) → qs base ≡ o → qs base ≡ None
-    at None e = e
-    at (Some p) e = absurd (no_piece (t.pieces base) p none (back p e))
 
 -- a Resolve writes one word of the image
 pub image_resolve : (t : Snapshot) (caller base : ℕ) (words : List ℕ) (h : CanResolve t caller base)

@@ -22,7 +22,8 @@ use Rattle.ist_core.proofs.PlaceLemmas.{anchor_free}
 use Rattle.ist_core.proofs.ShapedLemmas.{shaped}
 use Rattle.ist_core.proofs.ChainLemmas.{on_chain_inner}
 use Rattle.ist_core.proofs.TouchLemmas.{touches}
-use Rattle.ist_core.proofs.ImageEventLemmas.{image_same, image_enter, image_reserve, image_word, image_count, image_draw, SlotsReady, image_resolve, image_place, image_root, image_install, rows_apart}
+use Rattle.ist_core.proofs.ImageEventLemmas.{image_same, image_enter, image_reserve, image_word, image_count, image_draw, SlotsReady, image_resolve, image_place, image_root, image_install}
+use Rattle.ist_core.proofs.ImageRowLemmas.{rows_apart}
 
 -- ---- all events
 

@@ -40,11 +40,13 @@ pub mod NamingStepLemmas
 pub mod StartTreeLemmas
 pub mod OrderLemmas
 pub mod SlotStepLemmas
+pub mod OkayLemmas
 pub mod FreezingLemmas
 pub mod FrozenLemmas
 pub mod BranchLemmas
 pub mod HomeLemmas
 pub mod HomeStepLemmas
+pub mod HomeInstallLemmas
 pub mod ParentLemmas
 pub mod MentionLemmas
 pub mod LeadingLemmas
@@ -56,6 +58,7 @@ pub mod FieldLemmas
 pub mod ImageLemmas
 pub mod ChainLemmas
 pub mod TouchLemmas
+pub mod ImageRowLemmas
 pub mod ImageEventLemmas
 pub mod ImageStepLemmas
 pub mod CountLemmas

@@ -31,7 +31,8 @@ use Rattle.ist_core.proofs.StartTreeLemmas.{IsLeafRow, leaf_row, HangsAs, start_
 use Rattle.ist_core.proofs.OrderLemmas.{names, install_good}
 use Rattle.ist_core.proofs.BranchLemmas.{HangsIn, hangs_once}
 use Rattle.ist_core.proofs.HomeLemmas.{Says, Mentions, HasOneHome, came_old, came_added, came-changed_at, came-with_slot, came-with_status, came-counted, came-drawn, came-with_decision, one_home_from, one_home_same, anchor_came}
-use Rattle.ist_core.proofs.HomeStepLemmas.{NewPair, one_home_changed, one_home_resolve, one_home_root, one_home_place, word_of_other, pair_new, installed_says}
+use Rattle.ist_core.proofs.HomeStepLemmas.{one_home_changed, one_home_resolve, one_home_root, one_home_place, word_of_other}
+use Rattle.ist_core.proofs.HomeInstallLemmas.{NewPair, pair_new, installed_says}
 
 module _ (pairs : List Pair) (words : ℕ) (opens : CanOpen pairs words) where
   -- ---- one home after each event

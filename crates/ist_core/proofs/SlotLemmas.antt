@@ -3,9 +3,10 @@ use Rattle.std.proofs.Common.{◌≡◌, ◌≢◌, ℕ, zero, suc, ◌⊎◌, �
 use Rattle.std.proofs.lemmas.Bool.Decides.{nat_tests, eqb_tells}
 use Rattle.ist_core.specs.declared.states.InnerRow.{InnerRow}
 use Rattle.ist_core.specs.RowLayout.{anchor}
+use Rattle.ist_core.specs.Statuses.{open_word}
 use Rattle.ist_core.specs.Pieces.{Pieces, Piece, Inner, changed_at, with_slot}
 use Rattle.ist_core.specs.Snapshots.{Snapshot}
-use Rattle.ist_core.specs.Slots.{SlotHolds, in_anchor, in_row}
+use Rattle.ist_core.specs.Slots.{SlotHolds, in_anchor, in_row, IsOpen, anchor_is, row_is}
 use Rattle.ist_core.proofs.RowLemmas.{changed_at-same, changed_at-other}
 
 -- ---- words of a list
@@ -51,6 +52,14 @@ no_row ps node r none e there = clash (ps anchor) none (subst (λ b. ps b ≡ So
     clash : (o : Option Piece) → o ≡ None → o ≡ Some (Inner r) → ⊥
     clash o a b = cc
 
+-- a row with a status that isn't open isn't open
+pub closed_not_open : (t : Snapshot) (node : ℕ) (r : InnerRow) → t.pieces anchor ≡ None
+    → t.pieces node ≡ Some (Inner r) → r.status ≢ open_word → ¬ (IsOpen t node)
+closed_not_open t node r free e closed (anchor_is a) = no_row t.pieces node r free a e
+closed_not_open t node r free e closed (row_is s p o) =
+    closed (ap (λ x. x.status) (same_inner (t.pieces node) r s e p) ∙ o)
+
+-- a place of a list has one word
 same_word : (xs ys : List ℕ) (i w v : ℕ) → xs ≡ ys → slice_get xs i ≡ Some w
     → slice_get ys i ≡ Some v → w ≡ v
 same_word xs ys i w v e h k = cc

@@ -1,8 +1,8 @@
 -- Logs: lists of events, the newest first; the state after each, and what was true or happened on
 -- the way.
-use Rattle.std.specs.Prelude.{◌≡◌, ℕ, ◌⊎◌, Bool, List, [], ◌∷◌}
+use Rattle.std.specs.Prelude.{◌≡◌, ℕ, ◌⊎◌, List, [], ◌∷◌}
 use Rattle.ist_core.specs.declared.events.Event.{Event}
-use Rattle.ist_core.specs.declared.events.Event.TheVariants.{Reserve, Okay, Decide, Resolve, Count, Pass, Draw, Lose}
+use Rattle.ist_core.specs.declared.events.Event.TheVariants.{Reserve, Okay, Resolve, Count, Pass, Draw, Lose}
 use Rattle.ist_core.specs.Elements.{Among}
 use Rattle.ist_core.specs.Snapshots.{Snapshot}
 use Rattle.ist_core.specs.After.{after}
@@ -42,11 +42,6 @@ Reserves caller base size _ = ⊥
 abbrev pub Okays : ℕ → Event → Type 0
 Okays change (Okay c d) = d ≡ change
 Okays change _ = ⊥
-
--- the event decides the change this way
-abbrev pub Decides : ℕ → Bool → Event → Type 0
-Decides change said (Decide c d x) = (d ≡ change) × (x ≡ said)
-Decides change said _ = ⊥
 
 -- the event takes the change out of its slot
 abbrev pub Resolves : ℕ → Event → Type 0

@@ -23,7 +23,7 @@ use Rattle.ist_rule.specs.Rule.{Recalls, IsMet, IsWellMade, IsTakenBack, IsTrueI
 use Rattle.ist_rule.specs.Standings.{StandsInPrefix, HasMade}
 use Rattle.ist_rule.specs.Learning.{made_behind, logging}
 use Rattle.ist_rule.specs.Conditions.{MayInstall, SeatAllows}
-use Rattle.ist_rule.proofs.LaterLemmas.{goes_on_more, goes_on_length}
+use Rattle.ist_core.proofs.PrefixLemmas.{goes_on_more, goes_on_length}
 use Rattle.ist_rule.proofs.EventLemmas.{callers-state, made_behind-grows, made_by_others, Authored, by_maker, by_caller, authored}
 use Rattle.ist_rule.proofs.CallLemmas.{installs_not, MayBring, between_on, between_later, resolved_later, call_on, call_by_others}
 

@@ -9,7 +9,7 @@ use Rattle.ist_core.specs.declared.events.Event.TheVariants.{Enter, Reserve, Ins
 use Rattle.ist_core.specs.Elements.{Among, Each}
 use Rattle.ist_core.specs.Pieces.{Change}
 use Rattle.ist_core.specs.Snapshots.{Snapshot, bases_of, HoldsRow, HoldsRows}
-use Rattle.ist_core.specs.After.{with_change, resolved}
+use Rattle.ist_core.specs.After.{resolved}
 use Rattle.ist_core.specs.StartLayout.{start, rows_within, rows_from, placed_parts}
 use Rattle.ist_core.specs.Logs.{Log, state}
 use Rattle.ist_core.specs.Building.{HoldsSizes, CanLose}
@@ -66,11 +66,6 @@ lost_holder t log caller bases s can h i among =
     (subst (Among h.base) p.bases_are among))
     (λ b. sizes_holder t caller bases b.sizes s b.held h i among)
     can.cause
-
-held-with_change : (t : Snapshot) (base : ℕ) (fresh : List Row) (change : Option ChangeRow)
-    → (with_change t base fresh change).held ≡ t.held
-held-with_change t base fresh None = refl
-held-with_change t base fresh (Some change) = refl
 
 -- a Resolve changes nothing of what is held
 pub held-resolved : (t : Snapshot) (change : Option ChangeRow) → (resolved t change).held ≡ t.held

@@ -13,11 +13,12 @@ use Rattle.ist_rule.specs.declared.view.About.{About}
 use Rattle.ist_core.specs.declared.events.Who.{Who}
 use Rattle.ist_core.specs.declared.events.Who.TheVariants.{Maker, Caller, Note, Spent}
 use Rattle.ist_core.specs.Authors.{Later}
+use Rattle.ist_core.proofs.PrefixLemmas.{goes_on_more, goes_on_length, goes_on_by}
 use Rattle.ist_rule.specs.Standings.{StandsInPrefix, CallStands}
 use Rattle.ist_rule.specs.Rule.{KeepsCalls, its_own, IsNamed, IsMet, IsWellMade, IsTakenBack, IsRetired, HasView, Fits, Kept}
 use Rattle.ist_rule.specs.Learning.{Looked}
 use Rattle.ist_rule.specs.Seating.{longer, with_taken, joined, gone, CanJoin}
-use Rattle.ist_rule.proofs.LaterLemmas.{goes_on_more, later-goes_on, goes_on_length, between, later_more, later_longer, later_before, later_any}
+use Rattle.ist_rule.proofs.LaterLemmas.{between, later_more, later_longer, later_before, later_any}
 use Rattle.ist_rule.proofs.EventLemmas.{author_no_note}
 use Rattle.ist_rule.proofs.FitLemmas.{each_map, well_made_on}
 use Rattle.ist_rule.proofs.FrameLemmas.{Table, moved, ended, spent_caller}
@@ -66,9 +67,6 @@ module _ (a b log : Log) (p : GoesOn a log) (q : GoesOn b log) where
   pub longer_goes : GoesOn a (longer a b) × GoesOn b (longer a b) × GoesOn (longer a b) log
   longer_goes = longer_is (nat_le (length b) (length a)) refl
 
-same_number : (m n : ℕ) → Caller m ≡ Caller n → m ≡ n
-same_number m n e = cc
-
 le_max : (a b : ℕ) → a ≤ max a b
 le_max a b = omega arith
 
@@ -85,7 +83,7 @@ module _ (k : About) (s : Table) (r : Kept k s) (id other : ℕ) (v w : View) (l
   both = joined v w
 
   logs : GoesOn v.log both.log × GoesOn w.log both.log × GoesOn both.log r.log
-  logs = longer_goes v.log w.log r.log (later-goes_on f.later) (later-goes_on g.later)
+  logs = longer_goes v.log w.log r.log (goes_on_by f.later) (goes_on_by g.later)
 
   -- what is asked of the callers that were taken back, with one that is joined now
   with_one : (P : Taken → Type 0) → Each P v.taken
@@ -231,10 +229,6 @@ joins k id other v w live live' can s r mine apart there =
     (at_set s.views id other (joined v w) w there) in
     kept_both k s r id other v w live live' can mine apart theirs
 
--- the seat is live still
-pub joined_live : (v w : View) → v.who ≢ Spent → (joined v w).who ≢ Spent
-joined_live v w live = live
-
 -- ---- what a join learns
 
 module _ (v w u : View) (word : ℕ) (l : Looked (joined v w) 0 word u) where
@@ -260,5 +254,5 @@ module _ (v w u : View) (word : ℕ) (l : Looked (joined v w) 0 word u) where
           (subst (λ x. Each (IsTakenBack u.start u.words u.log)
           (with_taken x w.calls w.log v.taken)) e taken).0.later
       at (Note of) e = later_any (λ event. author_no_note event of)
-          (goes_on_more (later-goes_on met.1.0.later) met.1.0.seen)
+          (goes_on_more (goes_on_by met.1.0.later) met.1.0.seen)
       at Spent e = absurd (live e)

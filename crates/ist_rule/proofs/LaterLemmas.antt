@@ -5,21 +5,7 @@ use Rattle.ist_core.specs.declared.events.Event.{Event}
 use Rattle.ist_core.specs.Logs.{Log, GoesOn, same_log, one_event}
 use Rattle.ist_core.specs.declared.events.Who.{Who}
 use Rattle.ist_core.specs.Authors.{no_more, one_more, whose, Later, IsIdleIn}
-
--- a prefix of a prefix is a prefix
-pub goes_on_more : {a b c : Log} → GoesOn a b → GoesOn b c → GoesOn a c
-goes_on_more p same_log = p
-goes_on_more p (one_event event q) = one_event event (goes_on_more p q)
-
--- a prefix is no longer
-pub goes_on_length : {a b : Log} → GoesOn a b → length a ≤ length b
-goes_on_length same_log = omega arith
-goes_on_length (one_event event p) = let le = goes_on_length p in omega arith
-
--- a log that went on by events of others went on
-pub later-goes_on : {who : Who} {a b : Log} → Later who a b → GoesOn a b
-later-goes_on no_more = same_log
-later-goes_on (one_more event p ne) = one_event event (later-goes_on p)
+pub use Rattle.ist_core.proofs.PrefixLemmas.{goes_on_more, goes_on_length, goes_on_by as later-goes_on}
 
 -- going on by events of others, twice
 pub later_more : {who : Who} {a b c : Log} → Later who a b → Later who b c → Later who a c

@@ -24,7 +24,8 @@ use Rattle.ist_rule.specs.Conditions.{CanMake, LeavesAt, CanLoadAs, CanExchangeO
 use Rattle.ist_rule.proofs.FrameLemmas.{Table}
 use Rattle.ist_rule.proofs.SoundViewLemmas.{as_table}
 use Rattle.ist_rule.proofs.LookLemmas.{Goes, sees}
-use Rattle.ist_rule.proofs.LogLemmas.{sound_now, kept, logs, shown_here, shown_there, comes_here, may_come}
+use Rattle.ist_rule.proofs.LogLemmas.{sound_now, kept, logs}
+use Rattle.ist_rule.proofs.ExchangeLemmas.{shown_here, shown_there, comes_here, may_come}
 
 -- ---- steps that leave the word, and are events
 

@@ -1,3 +1,4 @@
+pub mod WhoLemmas
 pub mod LaterLemmas
 pub mod ShownLemmas
 pub mod EventLemmas
@@ -12,11 +13,12 @@ pub mod SoundViewLemmas
 pub mod LookLemmas
 pub mod LogLemmas
 pub mod ListLogLemmas
+pub mod ExchangeLemmas
 pub mod LeavingLemmas
 pub mod HeldLemmas
 pub mod StoreLemmas
-pub mod TurnLemmas
-pub mod TurnedSeatLemmas
+pub mod CallLoadLemmas
+pub mod CallPlayLemmas
 pub mod SplitLemmas
 pub mod SplitSeatLemmas
 pub mod JoinLemmas

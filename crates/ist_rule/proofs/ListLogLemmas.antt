@@ -26,7 +26,8 @@ use Rattle.ist_rule.specs.Several.{with_events, logging_all, LoggedAll, Exchange
 use Rattle.ist_rule.proofs.FrameLemmas.{Table}
 use Rattle.ist_rule.proofs.SoundViewLemmas.{as_table}
 use Rattle.ist_rule.proofs.LookLemmas.{Goes, sees}
-use Rattle.ist_rule.proofs.LogLemmas.{sound_now, kept, kept_log, shown_there, may_come}
+use Rattle.ist_rule.proofs.LogLemmas.{sound_now, kept, kept_log}
+use Rattle.ist_rule.proofs.ExchangeLemmas.{shown_there, may_come}
 
 -- ---- lists
 

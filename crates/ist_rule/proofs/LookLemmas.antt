@@ -19,8 +19,8 @@ use Rattle.ist_core.specs.Shown.{IsShown}
 use Rattle.ist_rule.specs.Rule.{own_at, Recalls, IsRetired, HasView, Fits, Kept, IsSound}
 use Rattle.ist_rule.specs.Playing.{Seated, looks}
 use Rattle.ist_rule.specs.Learning.{seeing, Looked, Turned}
-use Rattle.ist_rule.proofs.LaterLemmas.{later-goes_on, goes_on_length}
 use Rattle.ist_core.proofs.ShownLemmas.{image_shows}
+use Rattle.ist_core.proofs.PrefixLemmas.{goes_on_length, goes_on_by}
 use Rattle.ist_rule.proofs.FitLemmas.{each_map, well_made_on}
 use Rattle.ist_rule.proofs.FrameLemmas.{Table, moved}
 use Rattle.ist_rule.proofs.SoundViewLemmas.{as_view, sound_of}
@@ -77,7 +77,7 @@ module _ (k : About) (s : Table) (r : Kept k s) (v : View) (f : Fits k r.log s.w
 
     fits_seeing : Fits k r.log s.words w
     fits_seeing =
-        let m = well_made_on k.start.value.items k.words v r.log (later-goes_on f.later)
+        let m = well_made_on k.start.value.items k.words v r.log (goes_on_by f.later)
         f.well_made in
         let t = f.is_true in
         record {

@@ -11,14 +11,12 @@ use Rattle.ist_core.specs.Lawful.{CanOpen, Lawful, state_of}
 use Rattle.ist_rule.specs.declared.view.View.{View}
 use Rattle.ist_rule.specs.declared.view.About.{About}
 use Rattle.ist_core.specs.declared.events.Who.{Who}
-use Rattle.ist_core.specs.declared.events.Who.TheVariants.{Maker, Caller, Spent}
+use Rattle.ist_core.specs.declared.events.Who.TheVariants.{Maker, Spent}
 use Rattle.ist_core.specs.Authors.{no_more}
-use Rattle.ist_rule.specs.Rule.{KeepsCalls, its_own, noted, IsWellMade, IsTrueIn, IsSound, IsRetired, Fits, Kept, opened_view, first_view}
+use Rattle.ist_rule.specs.Rule.{KeepsCalls, its_own, noted, IsWellMade, IsTrueIn, IsRetired, Fits, Kept, opened_view, first_view}
 use Rattle.ist_rule.specs.Seating.{IsLast}
+use Rattle.ist_rule.proofs.WhoLemmas.{maker_caller}
 use Rattle.ist_rule.proofs.SoundViewLemmas.{as_view}
-
-maker_caller : (number : ℕ) → Maker ≡ Caller number → ⊥
-maker_caller number e = cc
 
 maker_keeps : (number : ℕ) (w : Who) → KeepsCalls number w → w ≡ Maker → ⊥
 maker_keeps number _ its_own e = maker_caller number (sym e)
@@ -52,17 +50,6 @@ first_true pairs words =
       fresh = λ place far. refl;
       call = λ number is. absurd (maker_caller number is);
       taken = tt;
-    }
-
--- the seat of a new table is sound
-pub first_sound : (pairs : List Pair) (words : ℕ) → CanOpen pairs words
-    → IsSound (opened_view pairs words)
-first_sound pairs words opens =
-    record {
-      lawful = record { opens = opens; enabled = tt };
-      live = λ e. absurd (cc);
-      well_made = first_well_made pairs words;
-      is_true = first_true pairs words;
     }
 
 only : (v : View) (i : ℕ) (u : View) → get_elem? (v ∷ []) i ≡ some u → (v ≡ u) × (i ≡ 0)

@@ -12,10 +12,12 @@ use Rattle.ist_rule.specs.declared.view.Taken.{Taken}
 use Rattle.ist_rule.specs.declared.view.About.{About}
 use Rattle.ist_core.specs.declared.events.Who.{Who}
 use Rattle.ist_core.specs.declared.events.Who.TheVariants.{Maker, Caller, Note, Spent}
+use Rattle.ist_core.proofs.PrefixLemmas.{goes_on_by}
 use Rattle.ist_rule.specs.Standings.{StandsInPrefix, CallStands}
 use Rattle.ist_rule.specs.Rule.{KeepsCalls, its_own, noted, IsNamed, IsWellMade, HasView, Fits, Kept}
 use Rattle.ist_rule.specs.Seating.{noted_by, plain}
-use Rattle.ist_rule.proofs.LaterLemmas.{later-goes_on, later_idle, later_any}
+use Rattle.ist_rule.proofs.WhoLemmas.{caller_maker, same_number}
+use Rattle.ist_rule.proofs.LaterLemmas.{later_idle, later_any}
 use Rattle.ist_rule.proofs.EventLemmas.{author_no_note}
 use Rattle.ist_rule.proofs.HeldLemmas.{idle_holds, idle_between}
 use Rattle.ist_rule.proofs.FitLemmas.{each_map}
@@ -33,13 +35,6 @@ note_maker of e = cc
 pub note_spent : (of : Option ℕ) → Note of ≡ Spent → ⊥
 note_spent of e = cc
 
--- a caller isn't the maker
-pub caller_maker : (number : ℕ) → Caller number ≡ Maker → ⊥
-caller_maker number e = cc
-
-maker_caller : (number : ℕ) → Maker ≡ Caller number → ⊥
-maker_caller number e = cc
-
 -- a caller isn't spent
 pub caller_spent : (number : ℕ) → Caller number ≡ Spent → ⊥
 caller_spent number e = cc
@@ -49,10 +44,6 @@ maker_or Maker = inl refl
 maker_or (Caller number) = inr (caller_maker number)
 maker_or (Note of) = inr (note_maker of)
 maker_or Spent = inr (λ e. absurd (cc))
-
--- callers of one name have one number
-pub same_number : (m n : ℕ) → Caller m ≡ Caller n → m ≡ n
-same_number m n e = cc
 
 -- what a note keeps its seat kept
 pub keeps_note : (number : ℕ) (w : Who) → KeepsCalls number (Note (noted_by w))
@@ -111,7 +102,7 @@ module _ (k : About) (s : Table) (r : Kept k s) (id : ℕ) (v : View) (live : v.
       record {
         start_is = f.start_is;
         words_is = f.words_is;
-        later = later_any (λ event. author_no_note event of) (later-goes_on f.later);
+        later = later_any (λ event. author_no_note event of) (goes_on_by f.later);
         owns = λ h i who. absurd (note_caller of h.caller who);
         well_made = record {
           stands = λ number keeps. m.stands number (keeps_note number v.who keeps);
@@ -167,7 +158,7 @@ module _ (k : About) (s : Table) (r : Kept k s) (id : ℕ) (v : View) (live : v.
       record {
         start_is = f.start_is;
         words_is = f.words_is;
-        later = later_idle (later-goes_on f.later) idle;
+        later = later_idle (goes_on_by f.later) idle;
         owns = λ h i who. absurd (idle_holds k.start.value.items k.words r.log v.given
             r.lawful.enabled idle h i (same_number h.caller v.given (sym who)));
         well_made = record {

@@ -9,10 +9,11 @@ use Rattle.ist_core.specs.declared.events.Who.TheVariants.{Maker, Caller, Note, 
 use Rattle.ist_rule.specs.Standings.{CallStands}
 use Rattle.ist_rule.specs.Rule.{IsSound, HasView, Kept}
 use Rattle.ist_rule.specs.Seating.{is_maker, awaits_seat, noted_by, plain, split_left, split_right}
+use Rattle.ist_rule.proofs.WhoLemmas.{caller_maker, same_number}
 use Rattle.ist_rule.proofs.HeldLemmas.{idle_between}
 use Rattle.ist_rule.proofs.FitLemmas.{each_map}
 use Rattle.ist_rule.proofs.FrameLemmas.{Table}
-use Rattle.ist_rule.proofs.SplitLemmas.{note_caller, note_maker, note_spent, caller_maker, caller_spent, same_number, keeps_note, none_stands, splits_note, splits_caller}
+use Rattle.ist_rule.proofs.SplitLemmas.{note_caller, note_maker, note_spent, caller_spent, keeps_note, none_stands, splits_note, splits_caller}
 
 -- ---- both cases
 

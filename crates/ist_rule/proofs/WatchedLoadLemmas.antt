@@ -26,11 +26,11 @@ use Rattle.ist_rule.specs.declared.view.View.{View}
 use Rattle.ist_core.specs.declared.events.Who.TheVariants.{Caller}
 use Rattle.ist_core.specs.Authors.{whose, Later}
 use Rattle.ist_core.specs.Shown.{IsShown, shown_status, shown_row}
+use Rattle.ist_core.proofs.PrefixLemmas.{goes_on_by}
 use Rattle.ist_rule.specs.Rule.{IsSound}
 use Rattle.ist_rule.specs.Learning.{now}
 use Rattle.ist_rule.specs.Conditions.{MayCome, CanMake, LeavesAt, CanLoadAs}
 use Rattle.ist_rule.specs.Watching.{IsNode, is_anchor, is_inner, number_of, waits, okay_of, CanLoadOkay, is_marked, is_change, pass_of, CanLoadPass, past_of, CanLoadPast}
-use Rattle.ist_rule.proofs.LaterLemmas.{later-goes_on}
 use Rattle.ist_rule.proofs.GoingOnLemmas.{callers_later}
 use Rattle.ist_rule.proofs.HeldLemmas.{held_later}
 use Rattle.ist_rule.proofs.WatchLemmas.{some_one, shown_in_row, change_node, both_true, if_some, eq_true, not_true, no_change, status_place_inner, status_place_anchor, place_inner}
@@ -50,7 +50,7 @@ module _ (v : View) (s : IsSound v) (log : Log) (m : MayCome v log) where
       → (r : InnerRow) × (u.pieces node ≡ Some (Inner r)) × (r.degree ≡ row.degree)
   inner_later node row e =
       let it = inner_there (now v).pieces u.pieces
-      (grow_between v.start v.words v.log log m.lawful.enabled (later-goes_on m.later)) node
+      (grow_between v.start v.words v.log log m.lawful.enabled (goes_on_by m.later)) node
       row e in
       (it.0, it.1, it.2.degree)
 
@@ -59,7 +59,7 @@ module _ (v : View) (s : IsSound v) (log : Log) (m : MayCome v log) where
       → (r : ChangeRow) × (u.pieces base ≡ Some (Change r)) × (r.node ≡ row.node)
   change_later base row e =
       let it = change_there (now v).pieces u.pieces
-      (grow_between v.start v.words v.log log m.lawful.enabled (later-goes_on m.later)) base
+      (grow_between v.start v.words v.log log m.lawful.enabled (goes_on_by m.later)) base
       row e in
       (it.0, it.1, ap (λ x. x.node) it.2.others)
 

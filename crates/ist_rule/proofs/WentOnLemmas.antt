@@ -1,19 +1,20 @@
 -- Seats that went on by loads, by events of their own and by stores. Serves the crates above.
-use Rattle.std.proofs.Common.{◌≡◌, ℕ, ◌+◌, ◌∷◌, sym, ap, ap₂, ◌∙◌, subst, inl, inr, ⊎_elim, Some, arith}
+use Rattle.std.proofs.Common.{◌≡◌, ℕ, ◌+◌, ◌∷◌, sym, ap, ap₂, ◌∙◌, subst, inl, inr, arith}
 use Rattle.std.proofs.Math.Nat.{le_trans}
-use Rattle.std.proofs.lemmas.Bool.Decides.{eqb_tells}
 use Rattle.ist_core.specs.declared.events.Event.{Event}
 use Rattle.ist_core.specs.Authors.{no_more, one_more, Later, LaterBy}
 use Rattle.ist_core.specs.Growing.{AllGrow}
-use Rattle.ist_core.specs.Logs.{Log, GoesOn, same_log, one_event}
+use Rattle.ist_core.specs.Logs.{Log}
 use Rattle.ist_core.specs.Lawful.{Lawful, state_of}
 use Rattle.ist_core.proofs.FateLemmas.{grow_between}
 use Rattle.ist_rule.specs.declared.view.View.{View}
 use Rattle.ist_core.specs.declared.events.Who.{Who}
 use Rattle.ist_rule.specs.Rule.{IsSound}
-use Rattle.ist_rule.specs.Learning.{now, made_behind, logging, logging_load, GoesOnTo, Looked, Logged, LoggedLoad, Naming, LoadedAs, as_event, as_load, Exchanged, storing}
+use Rattle.ist_rule.specs.Learning.{now, made_behind, logging, logging_load, GoesOnTo, Looked, Logged, LoggedLoad}
 use Rattle.ist_rule.specs.Going.{WentOn}
 use Rattle.ist_rule.proofs.GoingOnLemmas.{goes_on_same, looked_goes_on}
+use Rattle.ist_core.proofs.PrefixLemmas.{goes_on_by}
+pub use Rattle.ist_core.proofs.PrefixLemmas.{goes_on_by as later_by-goes_on}
 
 -- ---- logs
 
@@ -27,12 +28,6 @@ pub later_by_more : {who : Who} {P : Event → Type 0} {a b c : Log} → LaterBy
     → LaterBy who P b c → LaterBy who P a c
 later_by_more l no_more = l
 later_by_more l (one_more event k is) = one_more event (later_by_more l k) is
-
--- the earlier log is a prefix
-pub later_by-goes_on : {who : Who} {P : Event → Type 0} {a b : Log} → LaterBy who P a b
-    → GoesOn a b
-later_by-goes_on no_more = same_log
-later_by-goes_on (one_more event k is) = one_event event (later_by-goes_on k)
 
 -- what is true of all such events may be said of them
 pub later_by_all : {who : Who} {P Q : Event → Type 0} {a b : Log}
@@ -66,7 +61,7 @@ pub went_grow : (P : Event → Type 0) (v w : View) → WentOn P v w
 went_grow P v w h =
     subst (λ t. AllGrow (now v).pieces t.pieces) (sym (went_now P v w h))
     (grow_between v.start v.words v.log w.log (went_lawful P v w h).enabled
-    (later_by-goes_on h.later))
+    (goes_on_by h.later))
 
 -- what is true of all its events may be said of them
 pub went_all : (P Q : Event → Type 0) → ((event : Event) → P event → Q event) → (v w : View)
@@ -149,24 +144,6 @@ logged_load_went P v event place word w l is made =
       loaded = let is = ap (λ x. x.loaded) l.view in omega arith;
     }
 
--- a seat that made an exchange for such an event went on
-pub exchanged_went : (P : Event → Type 0) (v : View) (event : Event) (place old found : ℕ) (w : View)
-    → Exchanged v event place old found w → P event → made_behind event v.made ≡ v.made
-    → WentOn P v w
-exchanged_went P v event place old found w e is made =
-    ⊎_elim (λ k. logged_went P v event w (e.0 k.1) is made)
-    (λ k. looked_went P v place found w (e.1 k.1)) (eqb_tells found old)
-
--- a seat that made a load which is such an event, or none, went on
-pub loaded_as_went : (P : Event → Type 0) (v : View) (named : Naming) (place word : ℕ) (w : View)
-    → LoadedAs v named place word w
-    → ((log : Log) (event : Event) → named log word ≡ Some event
-    → P event × (made_behind event v.made ≡ v.made))
-    → WentOn P v w
-loaded_as_went P v named place word w (as_event event l is) all =
-    let it = all l.before event is in logged_load_went P v event place word w l it.0 it.1
-loaded_as_went P v named place word w (as_load l none) all = looked_went P v place word w l
-
 -- a seat that only made loads: the state that it has seen, its log, and what is published
 pub goes_on_now : (v w : View) → GoesOnTo v w → now w ≡ state_of v.start v.words w.log
 goes_on_now v w g = went_now (λ event. ⊥) v w (goes_on_went (λ event. ⊥) v w g)
@@ -208,14 +185,3 @@ went_more P u v w a b =
     lawful : Lawful u.start u.words w.log
     lawful = subst (λ p. Lawful p u.words w.log) start_is
         (subst (λ n. Lawful w.start n w.log) words_is b.sound.lawful)
-
--- a seat that went on, and then stored a word into a row of its own, went on
-pub storing_went : (P : Event → Type 0) (u v : View) (place word : ℕ) → WentOn P u v
-    → IsSound (storing v place word) → WentOn P u (storing v place word)
-storing_went P u v place word g s =
-    record {
-      later = g.later;
-      sound = s;
-      same = ap {B = View} (λ (x : View). record x { own = (storing v place word).own }) g.same;
-      loaded = g.loaded;
-    }

@@ -4,6 +4,8 @@ use Rattle.std.proofs.Common.{sym, subst}
 use Rattle.std.proofs.lemmas.List.{append-nil}
 use Rattle.ist_core.specs.declared.pairs.Pair.{Pair}
 use Rattle.ist_core.specs.References.{LeafAt, InnerAt, ref_of}
+use Rattle.ist_layout.specs.declared.references.Ref as layout
+use Rattle.ist_layout.specs.Meanings.{ref_meant}
 use Rattle.ist_words.specs.declared.tasks.AuditTask.{AuditTask}
 use Rattle.ist_words.specs.WordRows.{rows_on}
 use Rattle.ist_words.specs.Walks.{Visit, IsGoodLeaf, IsGoodRow, Reads, row_read, pairs_read}
@@ -11,6 +13,11 @@ use Rattle.ist_words.specs.Auditing.{IsTaskOf, AreClaimed, AreRefused, PassesSlo
 use Rattle.ist_words.specs.Auditing.{tasks_in_row}
 use Rattle.ist_words.proofs.WholeLemmas.{if_ok_so}
 use Rattle.ist_words.proofs.ClaimLemmas.{claimed_both, fails_second, if_ok_three}
+
+-- a word that reads as a reference reads as the one that is meant by it
+pub reads_meant : (words : List ℕ) (word : ℕ) {r x : layout.Ref} → r ≡ x
+    → Reads words word (ref_meant r) → Reads words word (ref_meant x)
+reads_meant words word is = subst (λ r. Reads words word (ref_meant r)) is
 
 module _ {E : Type 0} (words : List ℕ) (task : AuditTask) (base : ℕ) (old mid : List Bool)
     (claimed : AreClaimed old mid (rows_on words (ref_of task.word))) where

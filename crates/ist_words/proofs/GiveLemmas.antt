@@ -16,7 +16,7 @@ use Rattle.ist_words.specs.Walks.{visits_below, Walks, ends, goes_on}
 use Rattle.ist_words.specs.Steps.{slot_of, GiveBetween, no_slot, one_slot, slots_between, pairs_at}
 use Rattle.ist_words.specs.Steps.{IsGoodSlot}
 use Rattle.ist_words.proofs.WalkLemmas.{IsSplit, split, all_lie}
-use Rattle.ist_words.proofs.BetweenLemmas.{none_low, none_high, between-append}
+use Rattle.ist_words.proofs.IntervalLemmas.{none_low, none_high, between-append}
 
 module _ (words : List ℕ) (first last : ℕ) where
   -- no slot gives no pair

@@ -1,7 +1,7 @@
 pub mod RowLemmas
 pub mod ReadingLemmas
 pub mod WalkLemmas
-pub mod BetweenLemmas
+pub mod IntervalLemmas
 pub mod GiveLemmas
 pub mod WholeLemmas
 pub mod WorkLemmas
@@ -11,4 +11,5 @@ pub mod TaskLemmas
 pub mod ClaimLemmas
 pub mod ExamineLemmas
 pub mod AuditLemmas
+pub mod ZeroLemmas
 pub mod AlikeLemmas

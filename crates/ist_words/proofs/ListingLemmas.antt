@@ -19,7 +19,7 @@ use Rattle.ist_words.specs.Steps.{GiveBetween, no_slot, one_slot, slot_of, slots
 use Rattle.ist_words.specs.Steps.{pairs_at, work_of, work_left, IsGoodSlot}
 use Rattle.ist_words.specs.Listing.{HasListed}
 use Rattle.ist_words.proofs.GiveLemmas.{IsVisited, visited}
-use Rattle.ist_words.proofs.BetweenLemmas.{no_pair}
+use Rattle.ist_words.proofs.IntervalLemmas.{no_pair}
 use Rattle.ist_words.proofs.WorkLemmas.{work_falls}
 
 -- the last of some slots is the first of them in reverse

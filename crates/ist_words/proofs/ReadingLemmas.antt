@@ -5,7 +5,6 @@ use Rattle.ist_core.specs.RowLayout.{next_place, place_limit}
 use Rattle.ist_core.specs.References.{Ref, Empty, Unset, LeafAt, InnerAt, ChangeAt, RebuildAt}
 use Rattle.ist_core.specs.References.{ref_of}
 use Rattle.ist_core.specs.Elements.{Each}
-use Rattle.ist_core.proofs.ElementLemmas.{each_append}
 use Rattle.ist_words.specs.WordRows.{word_at, IsWithinUsed, change_on, rebuild_on, rows_on}
 use Rattle.ist_words.specs.WordRows.{past_change_in, past_rebuild_in}
 use Rattle.ist_words.specs.Walks.{HasDecision, Reads, Visit, IsGood, IsGoodAs}
@@ -19,22 +18,6 @@ each_left P (x ∷ xs) ys h = (h.0, each_left P xs ys h.1)
 each_right : {A : Type 0} (P : A → Type 0) (xs ys : List A) → Each P (xs ++ ys) → Each P ys
 each_right P [] ys h = h
 each_right P (x ∷ xs) ys h = each_right P xs ys h.1
-
--- both steps make a reading
-pub reads_by : (words : List ℕ) (word : ℕ) (found side ref : Ref) → ref_of word ≡ Some found
-    → LeavesSide words found side → LeadsPast words side ref → Reads words word ref
-reads_by words word found side ref e one two =
-    let Good : Option Ref → Type 0 = λ o. HasDecision words o × Each (IsWithinUsed words)
-    (rows_on words o) × (past_rebuild_in words (past_change_in words o) ≡ Some ref) in
-    let it : Good (Some found) = (
-      one.decision,
-      each_append (IsWithinUsed words) (change_on (Some found))
-          (rebuild_on (past_change_in words (Some found))) one.within
-          (subst (λ o. Each (IsWithinUsed words) (rebuild_on o)) (sym one.is) two.through),
-      subst (λ o. past_rebuild_in words o ≡ Some ref) (sym one.is) two.is,
-    ) in
-    let it : Good (ref_of word) = subst Good (sym e) it in
-    record { decision = it.0; through = it.1; is = it.2 }
 
 -- a slot in good shape reads as nothing, a leaf or an inner row, at a place of a table
 pub good_plain : (words : List ℕ) (visit : Visit) (ref : Ref) → IsGoodAs words visit ref
@@ -57,12 +40,6 @@ good_in_use words visit (InnerAt base) k l h = let w = h.within in let b = w.bel
     omega arith
 good_in_use words visit (ChangeAt base) k l h = absurd h
 good_in_use words visit (RebuildAt base) k l h = absurd h
-
--- no reading of a word that is no reference
-pub no_reading : (words : List ℕ) (word : ℕ) (ref : Ref) → ref_of word ≡ None
-    → Reads words word ref → ⊥
-no_reading words word ref e r = let k : past_rebuild_in words (past_change_in words None) ≡ Some
-    ref = subst (λ o. past_rebuild_in words (past_change_in words o) ≡ Some ref) e r.is in cc
 
 -- a reading of a word goes by both steps
 pub first_step : (words : List ℕ) (word : ℕ) (found ref : Ref) → ref_of word ≡ Some found

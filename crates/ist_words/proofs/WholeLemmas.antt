@@ -9,7 +9,7 @@ use Rattle.ist_words.specs.WordRows.{Span, word_at}
 use Rattle.ist_words.specs.Walks.{Visit, first_visit, Walks, ends, goes_on, pairs_read}
 use Rattle.ist_words.specs.Walks.{visits_below}
 use Rattle.ist_words.specs.RestingWords.{HoldPairs, AreListed}
-use Rattle.ist_words.proofs.BetweenLemmas.{between-append}
+use Rattle.ist_words.proofs.IntervalLemmas.{between-append}
 use Rattle.ist_words.proofs.WalkLemmas.{one_walk}
 
 -- words hold one list of pairs

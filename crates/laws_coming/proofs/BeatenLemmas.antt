@@ -12,8 +12,8 @@ use Rattle.ist_core.specs.Statuses.{finished_word}
 use Rattle.ist_core.specs.Pieces.{Inner, Rebuild}
 use Rattle.ist_core.specs.Snapshots.{Snapshot, sizes_of}
 use Rattle.ist_core.specs.StartLayout.{start}
-use Rattle.ist_core.specs.Authors.{GoesOnBy, no_more, one_more, whose, Later}
-use Rattle.ist_core.specs.Logs.{Log, GoesOn, same_log, one_event}
+use Rattle.ist_core.specs.Authors.{no_more, one_more, whose, Later}
+use Rattle.ist_core.specs.Logs.{Log}
 use Rattle.ist_core.specs.Building.{IsBeaten, CanRoot}
 use Rattle.ist_core.specs.Rebuilding.{IsFinishedWith}
 use Rattle.ist_core.specs.Lawful.{EachEnabled, CanOpen, state_of}
@@ -57,11 +57,6 @@ without_later number mine g no_more = g
 without_later number mine g (one_more event later differs) =
     one_more event (without_later number mine g later)
     (others_build number event (λ e. differs (e ∙ sym mine)))
-
--- a log that goes on by such events goes on
-pub without-goes_on : {P : Event → Type 0} {a b : Log} → GoesOnBy P a b → GoesOn a b
-without-goes_on no_more = same_log
-without-goes_on (one_more event g out) = one_event event (without-goes_on g)
 
 -- a caller that is beaten is so after each event that ends no build of it
 pub beaten_on : (number : ℕ) (sizes : List ℕ) (log : Log) (event : Event)

@@ -15,10 +15,10 @@ use Rattle.ist_core.specs.Slots.{in_row}
 use Rattle.ist_core.specs.Writing.{Touch, touch_of, touch_of_resolve, touch_of_place, touch_in_root}
 use Rattle.ist_rule.specs.declared.view.View.{View}
 use Rattle.ist_core.specs.Shown.{IsShown}
+use Rattle.ist_core.proofs.PrefixLemmas.{goes_on_by}
 use Rattle.ist_rule.specs.Rule.{IsSound}
 use Rattle.ist_rule.specs.Learning.{now}
 use Rattle.ist_rule.specs.Conditions.{MayCome, CanMake, ComesAt, CanExchange}
-use Rattle.ist_rule.proofs.LaterLemmas.{later-goes_on}
 use Rattle.laws_stability.specs.Stability.{AddsNothing}
 use Rattle.laws_stability.specs.Words.{FindsItsWord}
 use Rattle.laws_stability.proofs.BuildEventLemmas as builds
@@ -110,16 +110,16 @@ module _ (v : View) (s : IsSound v) where
         (λ change is. none_refused v.start v.words s.lawful.opens v.log s.lawful.enabled caller
         (k.allowed change is).resolved u change.node)
     enabled_still (Decide caller base said) x k can f =
-        changes.decide_stays v.start v.words m.lawful.opens v.log log (later-goes_on m.later)
+        changes.decide_stays v.start v.words m.lawful.opens v.log log (goes_on_by m.later)
         m.lawful.enabled caller base said can f
     enabled_still (Resolve caller base) x k can f =
-        changes.resolve_stays v.start v.words m.lawful.opens v.log log (later-goes_on m.later)
+        changes.resolve_stays v.start v.words m.lawful.opens v.log log (goes_on_by m.later)
         m.lawful.enabled caller base can f
     enabled_still (Mark caller node) x k can f =
-        nodes.mark_stays v.start v.words v.log log (later-goes_on m.later) m.lawful.enabled caller
+        nodes.mark_stays v.start v.words v.log log (goes_on_by m.later) m.lawful.enabled caller
         node can f
     enabled_still (Finish caller node keys) x k can f =
-        nodes.finish_stays v.start v.words v.log log (later-goes_on m.later) m.lawful.enabled caller
+        nodes.finish_stays v.start v.words v.log log (goes_on_by m.later) m.lawful.enabled caller
         node keys can f
     enabled_still (Root caller rebuild word rows) x k can f =
         builds.root_stays v.start v.words m.lawful.opens caller
@@ -148,7 +148,7 @@ module _ (v : View) (s : IsSound v) where
         record {
           enabled = enabled_still event x k c.enabled
               record { touch = _; is = c.touches; found = shown };
-          touches = touch_stays v.start v.words v.log log (later-goes_on m.later) m.lawful.enabled
+          touches = touch_stays v.start v.words v.log log (goes_on_by m.later) m.lawful.enabled
               event c.enabled (adds_nothing event x) ∙ c.touches;
         }
 

@@ -33,10 +33,10 @@ use Rattle.laws_links.proofs.InductionLemmas.{sound_behind}
 use Rattle.laws_rebuilds.proofs.BuiltLemmas.{root_once}
 use Rattle.laws_rebuilds.proofs.NumberLemmas.{number_is}
 use Rattle.ist_core.specs.Shown.{IsShown, shown_next, shown_callers, shown_status, shown_slot, shown_row, shown_free}
-use Rattle.ist_rule.proofs.LaterLemmas.{goes_on_more}
+use Rattle.ist_core.proofs.PrefixLemmas.{goes_on_more, goes_on_by}
 use Rattle.laws_stability.proofs.SetLemmas.{set_by}
 use Rattle.laws_coming.specs.Builds.{EndsBuild, EndsNone}
-use Rattle.laws_coming.proofs.BeatenLemmas.{beaten_on, finished_once, without-goes_on}
+use Rattle.laws_coming.proofs.BeatenLemmas.{beaten_on, finished_once}
 use Rattle.laws_coming.proofs.KnownLemmas.{same_size}
 use Rattle.laws_coming.proofs.PlacedLemmas.{IsPlaceIn, is_place, filled, part_length, part_sizes, slot_there}
 
@@ -147,7 +147,7 @@ module _ (pairs : List Pair) (words : ℕ) (opens : CanOpen pairs words) (number
   beaten_part prefix was _ (one_more {log = log} event g out) on enabled w now set one =
       let before = goes_on_more (one_event event same_log) on in
       let there = slot_there (state_of pairs words prefix) (state_of pairs words log)
-      (grow_between pairs words prefix log enabled.0 (without-goes_on g)) root i unset_word was in
+      (grow_between pairs words prefix log enabled.0 (goes_on_by g)) root i unset_word was in
       ⊎_elim
       (λ unset.
       at event out before

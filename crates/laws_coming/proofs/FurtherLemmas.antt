@@ -6,13 +6,12 @@ use Rattle.ist_core.specs.Logs.{GoesOn, Happened, Resolves}
 use Rattle.ist_core.specs.References.{ChangeAt, ref_of}
 use Rattle.ist_core.specs.Slots.{SlotHolds}
 use Rattle.ist_core.proofs.ReferenceLemmas.{word_of-ref_of}
+use Rattle.ist_core.proofs.PrefixLemmas.{goes_on_by}
 use Rattle.laws_links.proofs.ResolvedLemmas.{resolved_gone}
 use Rattle.ist_rule.specs.declared.view.View.{View}
 use Rattle.ist_rule.specs.Going.{WentOn}
 use Rattle.ist_rule.specs.Learning.{now, GoesOnTo}
 use Rattle.ist_rule.specs.Rule.{IsSound}
-use Rattle.ist_rule.proofs.LaterLemmas.{later-goes_on}
-use Rattle.ist_rule.proofs.WentOnLemmas.{later_by-goes_on}
 use Rattle.laws_progress.specs.Progress.{progress, most_progress}
 use Rattle.laws_progress.proofs.BoundLemmas.{bounded}
 use Rattle.laws_progress.proofs.ProgressLemmas.{never_falls, resolving}
@@ -27,16 +26,16 @@ later_further u v w g k =
 
 -- steps before it take nothing away
 pub no_less : (P : Event → Type 0) (u v w : View) → WentOn P u v → CameFurther v w → CameFurther u w
-no_less P u v w g = later_further u v w (later_by-goes_on g.later)
+no_less P u v w g = later_further u v w (goes_on_by g.later)
 
 -- loads before it keep it
 pub behind_load : (u v w : View) → GoesOnTo u v → CameFurther v w → CameFurther u w
-behind_load u v w g = later_further u v w (later-goes_on g.later)
+behind_load u v w g = later_further u v w (goes_on_by g.later)
 
 -- steps after it keep it
 pub and_on : (P : Event → Type 0) (u v w : View) → CameFurther u v → WentOn P v w → CameFurther u w
 and_on P u v w k g =
-    let then = never_falls v.log w.log (later_by-goes_on g.later) in
+    let then = never_falls v.log w.log (goes_on_by g.later) in
     let more = k.more in
     record { more = omega arith }
 
@@ -44,7 +43,7 @@ and_on P u v w k g =
 pub resolved_further : (P : Event → Type 0) (v w : View) → WentOn P v w → (change : ℕ)
     → ¬ (Happened (Resolves change) v.log) → Happened (Resolves change) w.log → CameFurther v w
 resolved_further P v w g change before out =
-    record { more = resolving v.log w.log (later_by-goes_on g.later) change before out }
+    record { more = resolving v.log w.log (goes_on_by g.later) change before out }
 
 -- a change that was in a slot before is resolved after
 pub helped_further : (P : Event → Type 0) (v w : View) → IsSound v → WentOn P v w

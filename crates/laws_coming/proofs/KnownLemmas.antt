@@ -19,10 +19,10 @@ use Rattle.ist_core.proofs.PlaceLemmas.{anchor_free}
 use Rattle.ist_core.proofs.ShapedLemmas.{shaped}
 use Rattle.ist_rule.specs.declared.view.View.{View}
 use Rattle.ist_core.specs.Shown.{IsShown, shown_next, shown_slot, shown_row}
+use Rattle.ist_core.proofs.PrefixLemmas.{goes_on_by}
 use Rattle.ist_rule.specs.Rule.{IsSound}
 use Rattle.ist_rule.specs.Learning.{now}
 use Rattle.ist_rule.specs.Conditions.{MayCome, CanMake, IsKnown, CanExchange}
-use Rattle.ist_rule.proofs.LaterLemmas.{later-goes_on}
 use Rattle.ist_rule.proofs.WatchLemmas.{shown_in_row}
 use Rattle.laws_stability.proofs.SlotWordLemmas.{place_of_row}
 use Rattle.laws_coming.specs.Coming.{IsGone}
@@ -51,7 +51,7 @@ same_size _ _ (rebuild_grows g) = refl
 -- rows grow after each log that may come
 pub grow : (v : View) (log : Log) → MayCome v log
     → AllGrow (now v).pieces (state_of v.start v.words log).pieces
-grow v log m = grow_between v.start v.words v.log log m.lawful.enabled (later-goes_on m.later)
+grow v log m = grow_between v.start v.words v.log log m.lawful.enabled (goes_on_by m.later)
 
 -- such a place is known
 pub fast_known : (v : View) (place : ℕ) → IsFast (now v) place → IsKnown v place

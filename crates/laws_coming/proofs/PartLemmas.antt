@@ -32,17 +32,17 @@ use Rattle.laws_rebuilds.proofs.NumberLemmas.{number_is}
 use Rattle.ist_rule.specs.declared.view.View.{View}
 use Rattle.ist_core.specs.declared.events.Who.TheVariants.{Caller}
 use Rattle.ist_core.specs.Shown.{IsShown}
+use Rattle.ist_core.proofs.PrefixLemmas.{goes_on_by}
 use Rattle.ist_rule.specs.Rule.{IsSound}
 use Rattle.ist_rule.specs.Learning.{now}
 use Rattle.ist_rule.specs.Conditions.{MayCome, CanMake, StoredAll, CanExchange, LeavesAt, CanExchangeOrLose}
 use Rattle.ist_rule.proofs.GoingOnLemmas.{callers_later}
-use Rattle.ist_rule.proofs.LaterLemmas.{later-goes_on}
 use Rattle.laws_stability.proofs.HoldingLemmas.{rows_later}
 use Rattle.laws_stability.proofs.SetLemmas.{set_by, set_later}
 use Rattle.laws_stability.proofs.SlotWordLemmas.{place_later, place_of_row}
 use Rattle.laws_stability.proofs.WordLemmas.{slot_word}
 use Rattle.laws_coming.specs.Builds.{IsPartBuilt, WasUnset}
-use Rattle.laws_coming.proofs.BeatenLemmas.{without_later, without-goes_on}
+use Rattle.laws_coming.proofs.BeatenLemmas.{without_later}
 use Rattle.laws_coming.proofs.ComingLemmas.{exchange_comes}
 use Rattle.laws_coming.proofs.FilledLemmas.{beaten_part, slot_was}
 use Rattle.laws_coming.proofs.KnownLemmas.{IsFast, grow, slot_fast, fast_known, gone_missed}
@@ -75,7 +75,7 @@ module _ (v : View) (s : IsSound v) (number rebuild i word : ℕ) (rows : List R
       let u = state_of v.start v.words log in
       let there = slot_there (now v) u (grow v log m) b.root i slot_now.0 holds_now in
       let is : place ≡ place_of_slot u b.root i =
-      at ∙ sym (place_later v.start v.words v.log log (later-goes_on m.later) m.lawful.enabled
+      at ∙ sym (place_later v.start v.words v.log log (goes_on_by m.later) m.lawful.enabled
       b.root i slot_now.0 holds_now) in
       subst (SlotHolds u b.root i)
       (sym (slot_word v.start v.words log m.lawful.enabled b.root i there.0 there.1 found
@@ -94,7 +94,7 @@ module _ (v : View) (s : IsSound v) (number rebuild i word : ℕ) (rows : List R
       (λ set. gone_missed v (Place number rebuild i word rows) make_place _ _ _
       (fast_known v place (subst (IsFast (now v)) (sym at) (slot_fast v s b.root i slot_now.0 holds_now)))
       (λ log m shown.
-      let still = set_later v.start v.words s.lawful.opens (later-goes_on m.later) m.lawful.enabled
+      let still = set_later v.start v.words s.lawful.opens (goes_on_by m.later) m.lawful.enabled
       b.root i record { word = slot_now.0; holds = holds_now; set = set.1 } in
       still.set (slot_once (state_of v.start v.words log) b.root i still.word unset_word
       (anchor_free v.start v.words log m.lawful.enabled) still.holds
@@ -152,8 +152,8 @@ module _ (v : View) (s : IsSound v) (number rebuild i word : ℕ) (rows : List R
       let done = subst (λ n. IsFinishedWith u n b.k) (sym on.2.target)
       (finished_with_grows (now v) u g b.row.target b.k b.finished) in
       let first = enabled_before (start v.start v.words) was.prefix v.log
-      (without-goes_on was.since) s.lawful.enabled in
-      let slot = slot_was v.start v.words was.prefix v.log (without-goes_on was.since)
+      (goes_on_by was.since) s.lawful.enabled in
+      let slot = slot_was v.start v.words was.prefix v.log (goes_on_by was.since)
       s.lawful.enabled b.root i b.root_row b.root_published b.within place unset_word was.shown
       (at ∙ place_of_row (now v) b.root i b.root_row
       (anchor_free v.start v.words v.log s.lawful.enabled) b.root_published) (λ e. omega arith) in

@@ -26,6 +26,7 @@ use Rattle.laws_rebuilds.proofs.NumberLemmas.{number_is}
 use Rattle.ist_rule.specs.declared.view.View.{View}
 use Rattle.ist_core.specs.declared.events.Who.TheVariants.{Caller}
 use Rattle.ist_core.specs.Shown.{IsShown}
+use Rattle.ist_core.proofs.PrefixLemmas.{goes_on_by}
 use Rattle.ist_rule.specs.Rule.{IsSound}
 use Rattle.ist_rule.specs.Learning.{now}
 use Rattle.ist_rule.specs.Conditions.{MayCome, CanMake, StoredAll, CanExchange, LeavesAt, CanExchangeOrLose}
@@ -33,7 +34,7 @@ use Rattle.ist_rule.proofs.GoingOnLemmas.{callers_later}
 use Rattle.ist_rule.proofs.WatchLemmas.{shown_in_row}
 use Rattle.laws_stability.proofs.HoldingLemmas.{rows_later}
 use Rattle.laws_coming.specs.Builds.{IsRootBuilt, WasUnset}
-use Rattle.laws_coming.proofs.BeatenLemmas.{beaten_root, without_later, without-goes_on}
+use Rattle.laws_coming.proofs.BeatenLemmas.{beaten_root, without_later}
 use Rattle.laws_coming.proofs.ComingLemmas.{exchange_comes}
 use Rattle.laws_coming.proofs.KnownLemmas.{grow, in_piece, fast_known, gone_missed}
 use Rattle.laws_coming.proofs.SizeLemmas.{IsRootSizes, of_whole, of_top, root_sizes}
@@ -169,7 +170,7 @@ module _ (v : View) (s : IsSound v) (number rebuild word : ℕ) (rows : List Row
             beaten = beaten_root v.start v.words s.lawful.opens number rebuild b.k (sizes_of rows)
                 sizes_fit was.prefix
                 (λ p e. sym (shown_in_row v.start v.words was.prefix
-                (enabled_before (start v.start v.words) was.prefix log (without-goes_on since)
+                (enabled_before (start v.start v.words) was.prefix log (goes_on_by since)
                 m.lawful.enabled) rebuild (Rebuild p) 3 p.root e refl
                 (rebuild + rebuild_root_offset) unset_word was.shown refl))
                 log since m.lawful.enabled r.0 r.1 (λ e. differs (r.2 ∙ e)) done;

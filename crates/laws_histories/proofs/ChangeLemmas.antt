@@ -8,11 +8,11 @@ use Rattle.ist_core.specs.Snapshots.{Snapshot}
 use Rattle.ist_core.specs.Logs.{Log, state, GoesOn, same_log, one_event}
 use Rattle.ist_core.specs.Changes.{Entry, entry_of, changes, map_behind}
 use Rattle.ist_core.specs.Standing.{IsRead}
+use Rattle.ist_core.proofs.PrefixLemmas.{goes_on_more}
 
--- going on is transitive for logs
+-- a prefix of a prefix is a prefix, with the logs named
 pub on_trans : (a b c : Log) → GoesOn a b → GoesOn b c → GoesOn a c
-on_trans a b _ g same_log = g
-on_trans a b _ g (one_event {log = log} event h) = one_event event (on_trans a b log g h)
+on_trans a b c g h = goes_on_more g h
 
 -- a longer log has the changes of the shorter one, and more after them
 pub changes_on : (first : Snapshot) (earlier log : Log) → GoesOn earlier log

@@ -21,13 +21,13 @@ use Rattle.ist_core.proofs.PlaceLemmas.{anchor_free}
 use Rattle.ist_core.proofs.SlotLemmas.{slot_once}
 use Rattle.ist_core.proofs.FreezingLemmas.{change_read, same_change}
 use Rattle.ist_core.proofs.FrozenLemmas as frozen
+use Rattle.ist_core.proofs.PrefixLemmas.{goes_on_more}
 use Rattle.laws_links.specs.Linking.{IsFinished}
 use Rattle.laws_links.proofs.FormLemmas.{finished_grows}
 use Rattle.laws_links.proofs.ChangeLemmas.{same_change_word, said_yes}
 use Rattle.laws_links.proofs.PassLemmas.{passed_no_change}
 use Rattle.laws_links.proofs.InductionLemmas.{changes_by}
 use Rattle.laws_links.proofs.LinkLemmas.{open_unfinished}
-use Rattle.laws_histories.proofs.ChangeLemmas.{on_trans}
 use Rattle.laws_histories.proofs.NeedLemmas.{Needs}
 
 module _ (pairs : List Pair) (words : ℕ) (opens : CanOpen pairs words) where
@@ -140,7 +140,7 @@ module _ (pairs : List Pair) (words : ℕ) where
           let it =
           change_there (state_of pairs words d.earlier).pieces
           (state_of pairs words earlier).pieces
-          (grow_between pairs words d.earlier earlier a (on_trans d.earlier (Decide d.caller base true ∷ d.earlier) earlier (one_event (Decide d.caller base true) same_log) x)) base m.1.change m.1.pending.published in
+          (grow_between pairs words d.earlier earlier a (goes_on_more (one_event (Decide d.caller base true) same_log) x)) base m.1.change m.1.pending.published in
           not_yet it.0 it.1 (decided_behind d.caller base d.earlier earlier x a it.0 it.1)
 
       behind : GoesOn earlier (Decide d.caller base true ∷ d.earlier) → Turning earlier log base

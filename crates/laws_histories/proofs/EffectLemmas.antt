@@ -20,9 +20,10 @@ use Rattle.ist_core.specs.Snapshots.{Snapshot}
 use Rattle.ist_core.proofs.GrowingLemmas.{change_there}
 use Rattle.ist_core.proofs.FateLemmas.{enabled_before, grow_between}
 use Rattle.ist_core.proofs.FreezingLemmas.{same_change}
+use Rattle.ist_core.proofs.PrefixLemmas.{goes_on_more}
 use Rattle.laws_histories.specs.Telling.{IsEntryOf}
 use Rattle.laws_histories.specs.Calls.{CameToCall}
-use Rattle.laws_histories.proofs.ChangeLemmas.{on_trans, changes_on, get_at}
+use Rattle.laws_histories.proofs.ChangeLemmas.{changes_on, get_at}
 use Rattle.laws_histories.proofs.DecisionLemmas.{Turning, turns_since}
 use Rattle.laws_histories.proofs.EntryLemmas.{command_stays, entry_made}
 use Rattle.laws_histories.proofs.EntryChangeLemmas.{entries_change}
@@ -134,7 +135,7 @@ module _ (pairs : List Pair) (words : ℕ) (opens : CanOpen pairs words) where
       whole = Decide turn.caller base true ∷ turn.at
 
       on : GoesOn turn.at log
-      on = on_trans turn.at whole log (one_event (Decide turn.caller base true) same_log) turn.until
+      on = goes_on_more (one_event (Decide turn.caller base true) same_log) turn.until
 
       t : Snapshot
       t = state_of pairs words turn.at

@@ -18,9 +18,10 @@ use Rattle.ist_core.proofs.RowLemmas.{changed_at-same}
 use Rattle.ist_core.proofs.NamingLemmas.{SideNames}
 use Rattle.ist_core.proofs.OrderLemmas.{names}
 use Rattle.ist_core.proofs.FreezingLemmas.{same_change}
+use Rattle.ist_core.proofs.PrefixLemmas.{goes_on_more}
 use Rattle.laws_histories.proofs.DecisionLemmas.{yes_decided}
 use Rattle.laws_histories.specs.Telling.{IsEntryOf}
-use Rattle.laws_histories.proofs.ChangeLemmas.{on_trans, changes_on, get_at}
+use Rattle.laws_histories.proofs.ChangeLemmas.{changes_on, get_at}
 
 -- an element of two lists in a row
 get_both : {A : Type 0} (xs ys : List A) (i : ℕ) (x : A) → slice_get (xs ++ ys) i ≡ Some x
@@ -62,7 +63,7 @@ module _ (pairs : List Pair) (words : ℕ) (opens : CanOpen pairs words) where
       let same = same_change (t.pieces base) can.change old can.pending.published e in
       let on =
       grow_between pairs words earlier log h
-      (on_trans earlier (Decide caller base true ∷ earlier) log (one_event (Decide caller base true) same_log) g) in
+      (goes_on_more (one_event (Decide caller base true) same_log) g) in
       let turned : ChangeRow = record old { decision = decided_yes } in
       let there : now.pieces base ≡ Some (Change turned) =
       changed_at-same t.pieces base (with_decision decided_yes)
@@ -116,7 +117,7 @@ module _ (pairs : List Pair) (words : ℕ) (opens : CanOpen pairs words) where
       let old = m.1.change in
       let t = state_of pairs words d.earlier in
       let it = change_there t.pieces (state_of pairs words log).pieces
-      (grow_between pairs words d.earlier log h (on_trans d.earlier (Decide d.caller base true ∷ d.earlier) log (one_event (Decide d.caller base true) same_log) d.decided)) base old m.1.pending.published in
+      (grow_between pairs words d.earlier log h (goes_on_more (one_event (Decide d.caller base true) same_log) d.decided)) base old m.1.pending.published in
       let same = same_change ((state_of pairs words log).pieces base) it.0 change it.1 e in (
         length (changes_of pairs words d.earlier),
         entry_made log h d.caller base d.earlier d.decided command old m.1.pending.published

@@ -10,10 +10,11 @@ use Rattle.ist_core.specs.Lawful.{EachEnabled, CanOpen, state_of}
 use Rattle.ist_core.proofs.GrowingLemmas.{change_there}
 use Rattle.ist_core.proofs.FateLemmas.{enabled_before, grow_between}
 use Rattle.ist_core.proofs.FreezingLemmas.{same_change}
+use Rattle.ist_core.proofs.PrefixLemmas.{goes_on_more}
 use Rattle.laws_histories.proofs.DecisionLemmas.{prefixes, decided_behind}
 use Rattle.laws_histories.specs.Telling.{IsEntryOf}
 use Rattle.laws_histories.proofs.EntryLemmas.{command_stays}
-use Rattle.laws_histories.proofs.ChangeLemmas.{on_trans, changes_rise}
+use Rattle.laws_histories.proofs.ChangeLemmas.{changes_rise}
 
 -- equal logs that end with a Decide have equal logs before it
 same_prefix : (a b c d : ℕ) (x y : Log) → Decide a b true ∷ x ≡ Decide c d true ∷ y → x ≡ y
@@ -74,7 +75,7 @@ module _ (pairs : List Pair) (words : ℕ) (opens : CanOpen pairs words) where
       let m = enabled_before first (Decide x.caller base true ∷ x.earlier) log x.decided h in
       let t = state_of pairs words x.earlier in
       let it = change_there t.pieces (state_of pairs words log).pieces
-      (grow_between pairs words x.earlier log h (on_trans x.earlier (Decide x.caller base true ∷ x.earlier) log (one_event (Decide x.caller base true) same_log) x.decided)) base m.1.change m.1.pending.published in
+      (grow_between pairs words x.earlier log h (goes_on_more (one_event (Decide x.caller base true) same_log) x.decided)) base m.1.change m.1.pending.published in
       let same =
       same_change ((state_of pairs words log).pieces base) it.0 x.change it.1 x.published in
       let is : command_of m.1.change ≡ Some x.command =
@@ -109,7 +110,7 @@ module _ (pairs : List Pair) (words : ℕ) (opens : CanOpen pairs words) where
               let before = subst (λ r. GoesOn (Decide x.caller m true ∷ x.earlier) r) tail z in
               let less =
               more_changes log h position m x y.earlier before
-              (on_trans y.earlier (Decide y.caller n true ∷ y.earlier) log (one_event (Decide y.caller n true) same_log) y.decided) in
+              (goes_on_more (one_event (Decide y.caller n true) same_log) y.decided) in
               let same = y.position_is in
               absurd (omega arith)
             where

@@ -32,10 +32,10 @@ use Rattle.ist_core.proofs.OrderLemmas.{names}
 use Rattle.ist_core.proofs.FreezingLemmas.{side_not_yes}
 use Rattle.laws_links.proofs.ReadLemmas.{side_yes, past_plain}
 use Rattle.ist_core.proofs.ShownLemmas.{shown_in_anchor, shown_in_row}
+use Rattle.ist_core.proofs.PrefixLemmas.{goes_on_more}
 use Rattle.laws_histories.specs.Finding.{Finds, in_nothing, in_leaf}
 use Rattle.laws_histories.specs.Loads.{log_at, IsLoad}
 use Rattle.laws_histories.specs.Searching.{ReadsSide, no_change, by_to, by_from, ReadsTarget, no_rebuild, by_target, LooksAt, ComesTo, begins, goes_down, ReadsValue, of_nothing, of_other, of_key}
-use Rattle.laws_histories.proofs.ChangeLemmas.{on_trans}
 use Rattle.laws_histories.proofs.ReadLemmas.{change_logical}
 use Rattle.laws_histories.proofs.LoadOnLemmas.{at_on, at_rises}
 use Rattle.laws_histories.proofs.SearchLemmas as search
@@ -263,7 +263,7 @@ module _ (pairs : List Pair) (words : ℕ) (opens : CanOpen pairs words) (log : 
   value_of at key least _ _ _ g of_nothing in_nothing = refl
   value_of at key least _ _ _ g (of_other {base = base} load is_load other) (in_leaf r e) =
       let there = leaf_there (state_of pairs words at).pieces (At load.length).pieces
-      (grow_between pairs words at (log_at log load.length) (enabled_at load.length) (on_trans at (log_at log least) (log_at log load.length) g (at_rises log least load.length is_load.since)))
+      (grow_between pairs words at (log_at log load.length) (enabled_at load.length) (goes_on_more g (at_rises log least load.length is_load.since)))
       base r e in
       let word =
       load_word pairs words log (base + 0) least load is_load base 0 r.key
@@ -277,7 +277,7 @@ module _ (pairs : List Pair) (words : ℕ) (opens : CanOpen pairs words) (log : 
       let on : (x : Load) → least ≤ x.length → (At x.length).pieces base ≡ Some (Leaf r) =
       λ x since.
       leaf_there (state_of pairs words at).pieces (At x.length).pieces
-      (grow_between pairs words at (log_at log x.length) (enabled_at x.length) (on_trans at (log_at log least) (log_at log x.length) g (at_rises log least x.length since)))
+      (grow_between pairs words at (log_at log x.length) (enabled_at x.length) (goes_on_more g (at_rises log least x.length since)))
       base r e in
       let word =
       load_word pairs words log (base + 0) least load is_load base 0 r.key (Leaf r)

@@ -8,6 +8,7 @@ use Rattle.ist_core.specs.Slots.{IsChildFor}
 use Rattle.ist_core.specs.Writing.{place_of_slot}
 use Rattle.ist_core.specs.Lawful.{state_of}
 use Rattle.ist_core.specs.Shown.{IsShown}
+use Rattle.ist_core.proofs.PrefixLemmas.{goes_on_length}
 use Rattle.laws_histories.specs.Loads.{log_at, IsLoad}
 use Rattle.laws_histories.specs.Searching.{ReadsSide, no_change, by_to, by_from, ReadsTarget, no_rebuild, by_target, LooksAt, ComesTo, begins, goes_down, ReadsValue, of_nothing, of_other, of_key, Searched}
 
@@ -34,18 +35,12 @@ at_on log n = drop_on (length log - n) log
 pub at_rises : (log : Log) (m n : ℕ) → m ≤ n → GoesOn (log_at log m) (log_at log n)
 at_rises log m n h = drop_rises (length log - m) (length log - n) log (omega arith)
 
--- a prefix is no longer than its log
-pub length_rises : (log longer : Log) → GoesOn log longer → length log ≤ length longer
-length_rises log _ same_log = omega arith
-length_rises log _ (one_event {log = rest} event g) =
-    let low = length_rises log rest g in omega arith
-
 -- a log keeps at each length what it was
 at_same : (log longer : Log) → GoesOn log longer → (n : ℕ) → n ≤ length log
     → log_at longer n ≡ log_at log n
 at_same log _ same_log n h = refl
 at_same log _ (one_event {log = rest} event g) n h =
-    let low = length_rises log rest g in
+    let low = goes_on_length g in
     let more : suc (length rest) - n ≡ suc (length rest - n) = omega arith in
     ap (λ k. drop k (event ∷ rest)) more ∙ at_same log rest g n h
 
@@ -66,7 +61,7 @@ module _ (pairs : List Pair) (words : ℕ) (log longer : Log) (g : GoesOn log lo
             (sym (at_same log longer g load.length h.within)) h.tells;
         place_is = h.place_is;
         since = h.since;
-        within = (let low = length_rises log longer g in let here = h.within in omega arith);
+        within = (let low = goes_on_length g in let here = h.within in omega arith);
       }
 
   -- what a slot's word reads as stays
@@ -128,7 +123,7 @@ module _ (pairs : List Pair) (words : ℕ) (log longer : Log) (g : GoesOn log lo
       record {
         least = h.least;
         last = h.last;
-        since = (let low = length_rises log longer g in let here = h.since in omega arith);
+        since = (let low = goes_on_length g in let here = h.since in omega arith);
         comes = come_on key began h.least node h.comes;
         ref = h.ref;
         look = look_on key h.least h.last node h.ref h.look;

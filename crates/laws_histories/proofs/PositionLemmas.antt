@@ -16,12 +16,13 @@ use Rattle.ist_core.specs.Lawful.{EachEnabled, CanOpen, state_of}
 use Rattle.ist_core.specs.Standing.{makes_entry, IsRead, IsFresh}
 use Rattle.ist_core.proofs.FateLemmas.{enabled_before}
 use Rattle.ist_core.proofs.PlaceLemmas.{anchor_free}
+use Rattle.ist_core.proofs.PrefixLemmas.{goes_on_more}
 use Rattle.laws_histories.specs.Finding.{Finds}
 use Rattle.laws_histories.specs.Calls.{MadeNoEntry, HasCalls}
 use Rattle.laws_histories.specs.Loads.{log_at}
 use Rattle.laws_histories.specs.Searching.{LooksAt, ComesTo, Searched, HasPosition, SearchIsAdded, WasMet}
 use Rattle.laws_histories.specs.Telling.{map_now}
-use Rattle.laws_histories.proofs.ChangeLemmas.{on_trans, changes_on, changes_rise}
+use Rattle.laws_histories.proofs.ChangeLemmas.{changes_on, changes_rise}
 use Rattle.laws_histories.proofs.CallLemmas.{add_reading}
 use Rattle.laws_histories.proofs.SearchLemmas.{seen, standing, goes_up, ever_at, leads_linked, leads_there, there_on, finds_below}
 use Rattle.laws_histories.proofs.LoadOnLemmas.{at_on}
@@ -72,7 +73,7 @@ module _ (pairs : List Pair) (words : ℕ) (opens : CanOpen pairs words) (log : 
       (anchor_free pairs words s.at l) s.led s.index_is s.read.holds
       ((told_at pairs words opens s.at l).gives key) in
       at_position pairs words (log_at log began) s.at log s.since
-      (on_trans s.at (log_at log x.last) log s.until (at_on log x.last)) key value
+      (goes_on_more s.until (at_on log x.last)) key value
       (value_of pairs words opens log h s.at key x.last x.ref value given s.until x.value_is (subst (λ ref. Finds t.pieces key ref given) s.read.reads found))
 
   -- the call of a search is placed at its position
@@ -101,7 +102,7 @@ module _ (pairs : List Pair) (words : ℕ) (opens : CanOpen pairs words) (log : 
             record {
               has_calls =
                   add_reading pairs words seen log number stamp calls call has
-                  (on_trans seen (log_at log began) log since (at_on log began)) none plain fresh read;
+                  (goes_on_more since (at_on log began)) none plain fresh read;
               fresh = fresh;
             };
       }
@@ -115,7 +116,7 @@ module _ (pairs : List Pair) (words : ℕ) (opens : CanOpen pairs words) (log : 
       let at : (n : Log) → GoesOn n (log_at log last) → Leads (state_of pairs words n) key node → WasMet pairs words log key last node =
       λ n until led.
       let l = enabled_before first n (log_at log last) until (enabled_at last) in
-      let on = on_trans n (log_at log last) log until (at_on log last) in
+      let on = goes_on_more until (at_on log last) in
       record {
         led = ever_at first (λ t. Leads t key node) n log on led;
         linked =

@@ -19,8 +19,8 @@ use Rattle.ist_core.proofs.SlotLemmas.{same_inner, no_row}
 use Rattle.ist_core.proofs.OrderLemmas.{names, child_above}
 use Rattle.ist_core.proofs.HomeLemmas.{mentioned_here}
 use Rattle.ist_core.proofs.MentionLemmas.{child_mentioned}
+use Rattle.ist_core.proofs.PrefixLemmas.{goes_on_more}
 use Rattle.laws_histories.specs.Finding.{Finds, in_node, Gives}
-use Rattle.laws_histories.proofs.ChangeLemmas.{on_trans}
 use Rattle.laws_histories.proofs.NeedLemmas.{AllNeeds}
 use Rattle.laws_histories.proofs.LedLemmas.{WasLeft, led_on}
 use Rattle.laws_histories.proofs.SeenLemmas.{Saw, saw_led, saw_left}
@@ -52,8 +52,8 @@ pub comes_on : (pairs : List Pair) (words key : ℕ) (first now : Log) (node : �
     → GoesOn first now
 comes_on pairs words key first _ _ begins = same_log
 comes_on pairs words key first _ _ (goes {before = before} {now = now} {node = node} c look) =
-    on_trans first before now (comes_on pairs words key first before node c)
-    (on_trans before look.loaded now look.after look.later)
+    goes_on_more (comes_on pairs words key first before node c)
+    (goes_on_more look.after look.later)
 
 -- ---- the node that a search has reached
 
@@ -71,7 +71,7 @@ module _ (pairs : List Pair) (words : ℕ) (opens : CanOpen pairs words)
       → Saw pairs words key first now node ref
   saw first before now g h node ref stands look =
       let l = enabled_before (start pairs words) look.loaded now look.later h in
-      let on = on_trans first before look.loaded g look.after in
+      let on = goes_on_more g look.after in
       let left : WasLeft pairs words key first look.loaded node → Saw pairs words key first now node ref = λ w.
       saw_left pairs words opens needs key first look.loaded now look.later h node look.index look.word ref w look.index_is look.held look.reads in
       ⊎_elim
@@ -80,10 +80,10 @@ module _ (pairs : List Pair) (words : ℕ) (opens : CanOpen pairs words)
       (λ x.
       let s =
       saw_led pairs words opens needs key look.loaded now look.later h node look.index look.word ref x look.index_is look.held look.reads in
-      record { at = s.at; since = on_trans first look.loaded s.at on s.since; until = s.until; led = s.led; index = s.index; index_is = s.index_is; read = s.read })
-      (λ w. left record { at = w.at; since = on_trans first before w.at g w.since; until = w.until; led = w.led; finished = w.finished })
+      record { at = s.at; since = goes_on_more on s.since; until = s.until; led = s.led; index = s.index; index_is = s.index_is; read = s.read })
+      (λ w. left record { at = w.at; since = goes_on_more g w.since; until = w.until; led = w.led; finished = w.finished })
       (led_on pairs words opens needs before look.loaded look.after l key node led))
-      (λ w. left record { at = w.at; since = w.since; until = on_trans w.at before look.loaded w.until look.after; led = w.led; finished = w.finished })
+      (λ w. left record { at = w.at; since = w.since; until = goes_on_more w.until look.after; led = w.led; finished = w.finished })
       stands
 
   -- a child that was seen is led to at that moment
@@ -101,13 +101,13 @@ module _ (pairs : List Pair) (words : ℕ) (opens : CanOpen pairs words)
   standing first _ _ h (goes {before = before} {now = now} {node = node} {child = child} c look) =
       let l =
       enabled_before (start pairs words) before now
-      (on_trans before look.loaded now look.after look.later) h in
+      (goes_on_more look.after look.later) h in
       let s =
       saw first before now (comes_on pairs words key first before node c) h node
       (Some (InnerAt child)) (standing first before node l c) look in
       ⊎_elim
       (λ x. inl x)
-      (λ w. inr record { at = w.at; since = on_trans first s.at w.at s.since w.since; until = w.until; led = w.led; finished = w.finished })
+      (λ w. inr record { at = w.at; since = goes_on_more s.since w.since; until = w.until; led = w.led; finished = w.finished })
       (led_on pairs words opens needs s.at now s.until h key child (saw_led_down first now node child s))
 
   -- what a look of a search saw
@@ -118,7 +118,7 @@ module _ (pairs : List Pair) (words : ℕ) (opens : CanOpen pairs words)
   seen first before now node ref h c look =
       let l =
       enabled_before (start pairs words) before now
-      (on_trans before look.loaded now look.after look.later) h in
+      (goes_on_more look.after look.later) h in
       saw first before now (comes_on pairs words key first before node c) h node ref
       (standing first before node l c) look
 

@@ -25,11 +25,11 @@ use Rattle.ist_core.proofs.OrderLemmas.{names}
 use Rattle.ist_core.proofs.SlotStepLemmas.{slot_stays}
 use Rattle.ist_core.proofs.FreezingLemmas.{change_read, side_not_yes, same_change}
 use Rattle.ist_core.proofs.FrozenLemmas as frozen
+use Rattle.ist_core.proofs.PrefixLemmas.{goes_on_more}
 use Rattle.laws_links.specs.Linking.{IsFinished}
 use Rattle.laws_links.proofs.FormLemmas.{finished_grows}
 use Rattle.laws_links.proofs.InductionLemmas.{sound_behind}
 use Rattle.laws_links.proofs.ReadLemmas.{side_yes, past_plain}
-use Rattle.laws_histories.proofs.ChangeLemmas.{on_trans}
 use Rattle.laws_histories.proofs.PassLemmas.{passed_plain}
 use Rattle.laws_histories.proofs.NeedLemmas.{AllNeeds}
 use Rattle.laws_histories.proofs.ReadLemmas.{side_reads, plain_side, change_logical, IsTurned, word_reads, ReadsAs}
@@ -250,7 +250,7 @@ module _ (pairs : List Pair) (words : ℕ) (opens : CanOpen pairs words)
       let u = state_of pairs words now in
       let row = was.finished.1.row in
       let grows = grow_between pairs words at loaded l was.until in
-      let all = on_trans at loaded now was.until g in
+      let all = goes_on_more was.until g in
       let it = inner_there a.pieces t.pieces grows node row was.finished.1.published in
       let here = row_holds t node i word it.0 (anchor_free pairs words loaded l) it.1 slot in
       let old = get_too it.0.slots row.slots i word (sym it.2.slots) here in

@@ -1,5 +1,5 @@
 pub mod TopLemmas
-pub mod TurnLemmas
+pub mod RowEventLemmas
 pub mod OriginLemmas
 pub mod PublishedLemmas
 pub mod ComesLemmas
@@ -20,3 +20,4 @@ pub mod UntouchedLemmas
 pub mod PairLemmas
 pub mod ResolvedLemmas
 pub mod OwnerLemmas
+pub mod DecisionLemmas

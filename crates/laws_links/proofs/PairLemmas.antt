@@ -38,7 +38,7 @@ use Rattle.laws_links.proofs.FormedLemmas.{fresh_behind, leaf_grown}
 use Rattle.laws_links.proofs.InductionLemmas.{changes_by, grow_behind, sound_behind}
 use Rattle.laws_links.proofs.ReadEventLemmas.{change_past}
 use Rattle.laws_links.proofs.ReadLemmas.{side_undecided}
-use Rattle.laws_links.proofs.TurnLemmas.{slot_stood}
+use Rattle.laws_links.proofs.RowEventLemmas.{slot_stood}
 use Rattle.laws_links.proofs.UntouchedLemmas.{inner_row, not_the_anchor, stays_whole, untouched, was_linked_here}
 use Rattle.ist_core.specs.Installing as kinds
 

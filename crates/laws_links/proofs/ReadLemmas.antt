@@ -15,7 +15,7 @@ use Rattle.ist_core.specs.References.{ChangeAt, Empty, InnerAt, LeafAt, RebuildA
 use Rattle.ist_core.specs.RowLayout.{anchor}
 use Rattle.ist_core.specs.Slots.{SlotHolds, change_reads, past_change}
 use Rattle.ist_core.specs.Snapshots.{Snapshot}
-use Rattle.ist_core.specs.Statuses.{decided_no, decided_yes, undecided}
+use Rattle.ist_core.specs.Statuses.{decided_yes, undecided}
 use Rattle.ist_core.proofs.FreezingLemmas.{side_not_yes}
 use Rattle.ist_core.proofs.NamingLemmas.{SideNames}
 use Rattle.ist_core.proofs.SlotLemmas.{slot_once}
@@ -92,10 +92,6 @@ reads_once t node i a b free r s =
 -- an undecided change leaves `from`, one that was decided no too, and one that was decided yes `to`
 pub side_undecided : (x : ChangeRow) → x.decision ≡ undecided → side_of x ≡ x.from
 side_undecided x none = side_not_yes x (λ e. omega arith)
-
--- the side of a refused change is `from`
-pub side_refused : (x : ChangeRow) → side_of record x { decision = decided_no } ≡ x.from
-side_refused x = refl
 
 -- the side of a change that was decided yes is `to`
 pub side_yes : (x : ChangeRow) → x.decision ≡ decided_yes → side_of x ≡ x.to

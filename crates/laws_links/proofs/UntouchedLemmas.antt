@@ -27,7 +27,7 @@ use Rattle.ist_core.proofs.SlotLemmas.{no_row, same_inner}
 use Rattle.laws_links.proofs.ChangeLemmas.{node_was_linked}
 use Rattle.laws_links.proofs.ClosedLemmas.{closed_was_linked, linked_now, mark_linked, passed_was_linked}
 use Rattle.laws_links.proofs.InductionLemmas.{grow_behind}
-use Rattle.laws_links.proofs.TurnLemmas.{Came, BecameBy, as_it_was, by_count, by_decide, by_draw, by_finish, by_install, by_mark, by_place, by_resolve, by_root, came, from_new, from_old}
+use Rattle.laws_links.proofs.RowEventLemmas.{Came, BecameBy, as_it_was, by_count, by_decide, by_draw, by_finish, by_install, by_mark, by_place, by_resolve, by_root, came, from_new, from_old}
 use Rattle.ist_core.specs.Links as chains
 
 -- ---- chains

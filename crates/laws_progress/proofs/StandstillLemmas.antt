@@ -1,23 +1,20 @@
 -- What stays as it is while a table comes no further. Serves `laws.tables_stand_still`.
-use Rattle.std.proofs.Common.{List, None, Option, Some, ap, arith, subst, sym, ℕ, ⊎_elim, ◌≤◌, ◌∙◌, ◌∷◌, ◌≡◌, ◌≢◌}
+use Rattle.std.proofs.Common.{List, Option, Some, ap, arith, subst, sym, ℕ, ⊎_elim, ◌≤◌, ◌∙◌, ◌∷◌, ◌≡◌, ◌≢◌}
 use Rattle.std.proofs.lemmas.Bool.Decides.{eqb_tells}
 use Rattle.ist_core.specs.declared.events.Event.{Event}
 use Rattle.ist_core.specs.declared.events.Event.TheVariants.{Count, Decide, Draw, Enter, Finish, Install, Lose, Mark, Okay, Pass, Place, Reserve, Resolve, Root}
 use Rattle.ist_core.specs.declared.pairs.Pair.{Pair}
 use Rattle.ist_core.specs.declared.states.InnerRow.{InnerRow}
-use Rattle.ist_core.specs.Freezing.{KeepsWord, holds_change, holds_it}
 use Rattle.ist_core.specs.Lawful.{CanOpen, EachEnabled, state_of}
 use Rattle.ist_core.specs.Links.{IsChild, Linked, below}
-use Rattle.ist_core.specs.Logs.{GoesOn, Happened, Log, Passes, one_event, same_log}
+use Rattle.ist_core.specs.Logs.{GoesOn, Log, one_event, same_log}
 use Rattle.ist_core.specs.Marking.{IsCalled, as_child, as_target, behind_rebuild}
 use Rattle.ist_core.specs.Pieces.{Inner}
-use Rattle.ist_core.specs.References.{ChangeAt, InnerAt, RebuildAt, Ref, ref_of, unset_word, word_of}
-use Rattle.ist_core.specs.RowLayout.{anchor}
+use Rattle.ist_core.specs.References.{InnerAt, RebuildAt, Ref, ref_of, unset_word}
 use Rattle.ist_core.specs.Slots.{IsOpen, SlotHolds, anchor_is, past_change, past_rebuild, rebuild_reads, row_is}
 use Rattle.ist_core.specs.Snapshots.{Snapshot}
 use Rattle.ist_core.specs.StartLayout.{start}
 use Rattle.ist_core.specs.Statuses.{open_word}
-use Rattle.ist_core.proofs.FrozenLemmas.{closed, frozen_reads}
 use Rattle.ist_core.proofs.GrowingLemmas.{inner_there}
 use Rattle.ist_core.proofs.HomeLemmas.{Mentions}
 use Rattle.ist_core.proofs.MentionLemmas.{child_mentioned}
@@ -25,7 +22,7 @@ use Rattle.ist_core.proofs.NamingLemmas.{SlotNames, slot_names}
 use Rattle.ist_core.proofs.OrderLemmas.{names}
 use Rattle.ist_core.proofs.ParentLemmas.{one_home}
 use Rattle.ist_core.proofs.PlaceLemmas.{anchor_free}
-use Rattle.ist_core.proofs.SlotLemmas.{no_row, same_inner, slot_once}
+use Rattle.ist_core.proofs.SlotLemmas.{same_inner, slot_once}
 use Rattle.ist_core.proofs.SlotStepLemmas.{place_writes, slot_stays}
 use Rattle.laws_links.proofs.ComesLemmas.{status_comes}
 use Rattle.laws_links.proofs.InductionLemmas.{grow_behind, sound_behind}
@@ -35,19 +32,7 @@ use Rattle.laws_rebuilds.proofs.ReplacedLemmas.{replaced_unlinked, target_named}
 use Rattle.laws_rebuilds.proofs.RebuiltLemmas.{started_reads}
 use Rattle.laws_progress.specs.Progress.{advance_by, progress}
 use Rattle.laws_progress.proofs.ProgressLemmas.{never_falls}
-
--- a row with a status that isn't open isn't open
-shut_row : (t : Snapshot) (node : ℕ) (r : InnerRow) → t.pieces anchor ≡ None
-    → t.pieces node ≡ Some (Inner r) → r.status ≢ open_word → ¬ (IsOpen t node)
-shut_row t node r free e shut (anchor_is a) = no_row t.pieces node r free a e
-shut_row t node r free e shut (row_is s p o) =
-    shut (ap (λ x. x.status) (same_inner (t.pieces node) r s e p) ∙ o)
-
--- a passed slot holds a word
-kept_word : (t : Snapshot) (log : Log) (node i word : ℕ) → KeepsWord t log node i word
-    → (w : ℕ) × SlotHolds t node i w
-kept_word t log node i word (holds_it slot) = (word, slot)
-kept_word t log node i word (holds_change v) = (word_of (ChangeAt v.base), v.in_slot)
+use Rattle.laws_rebuilds.proofs.OpenRowLemmas.{passed_closed}
 
 -- the word of a row isn't the word of a rebuild
 inner_no_rebuild : (a : Option Ref) (child rebuild : ℕ) → a ≡ Some (InnerAt child)
@@ -142,22 +127,6 @@ module _ (pairs : List Pair) (words : ℕ) (opens : CanOpen pairs words) where
 
   -- ---- a row in a slot of an open node
 
-  -- the row named by a passed word hangs in a row that isn't open
-  passed_closed : (log : Log) → EachEnabled (start pairs words) log
-      → (node i child above j word : ℕ)
-      → Mentions (state_of pairs words log) node i (InnerAt child)
-      → Happened (Passes above j word) log
-      → past_rebuild (state_of pairs words log).pieces (ref_of word) ≡ Some (InnerAt child)
-      → ¬ (IsOpen (state_of pairs words log) node)
-  passed_closed log h node i child above j word named p leads o =
-      let t = state_of pairs words log in
-      let c = closed pairs words opens log h above j word p in
-      let slot = kept_word t log above j word c.keeps in
-      let is_child : IsChild t above j child = record { word = slot.0; holds = slot.1; reads = frozen_reads pairs words opens log h above j word slot.0 p slot.1 ∙ leads } in
-      let home = (one_home pairs words opens log h).one node i above j child named (child_mentioned t above j child (names pairs words opens log h) is_child) in
-      shut_row t above c.row (anchor_free pairs words log h) c.published c.closed
-      (subst (λ n. IsOpen t n) home.0 o)
-
   module _ (log : Log) (h : EachEnabled (start pairs words) log) (node i word child : ℕ)
       (linked : Linked (state_of pairs words log) node) (is : IsOpen (state_of pairs words log) node)
       (here : SlotHolds (state_of pairs words log) node i word)
@@ -188,9 +157,9 @@ module _ (pairs : List Pair) (words : ℕ) (opens : CanOpen pairs words) where
         (λ k. unread rebuild k.word (subst (λ n. SlotHolds t n i k.word) (sym home.0) (subst (λ j. SlotHolds t target.row.parent j k.word) (sym home.1) k.holds)) k.reads)
         (started_reads pairs words opens log h rebuild target.row target.published started)
     uncalled (as_child above j w p leads) =
-        passed_closed log h node i child above j w named p (ap (past_rebuild t.pieces) leads) is
+        passed_closed pairs words opens log h node i child above j w named p (ap (past_rebuild t.pieces) leads) is
     uncalled (behind_rebuild above j w rebuild p leads target) =
-        passed_closed log h node i child above j w named p
+        passed_closed pairs words opens log h node i child above j w named p
         (ap (past_rebuild t.pieces) leads ∙ ap rebuild_reads target.published ∙ ap (λ n. Some (InnerAt n)) target.target_is) is
 
     -- the row that the slot names is open

@@ -1,6 +1,6 @@
 -- Until it is replaced, a rebuild with a root is built over the leaves of its target, in part or whole. Serves the
 -- replacement law.
-use Rattle.std.proofs.Common.{List, None, Some, [], ap, refl, slice_get, slice_set, subst, sym, ℕ, ◌∙◌, ◌∷◌, ◌≡◌, ◌≢◌}
+use Rattle.std.proofs.Common.{List, None, Some, [], ap, refl, slice_get, slice_set, subst, sym, ℕ, ◌∙◌, ◌∷◌, ◌≡◌}
 use Rattle.ist_core.specs.declared.events.Event.{Event}
 use Rattle.ist_core.specs.declared.events.Event.TheVariants.{Place, Root}
 use Rattle.ist_core.specs.declared.lists.Row.{Row}
@@ -16,7 +16,7 @@ use Rattle.ist_core.specs.Logs.{Log}
 use Rattle.ist_core.specs.Parts.{parts}
 use Rattle.ist_core.specs.Pieces.{Inner, Leaf, Pieces, Rebuild, with_inners, with_slot}
 use Rattle.ist_core.specs.Rebuilding.{IsReplaced}
-use Rattle.ist_core.specs.References.{InnerAt, Ref, Unset, ref_of, unset_word}
+use Rattle.ist_core.specs.References.{InnerAt, Ref, ref_of, unset_word}
 use Rattle.ist_core.specs.Snapshots.{Snapshot, bases_of}
 use Rattle.ist_core.specs.StartLayout.{start}
 use Rattle.ist_core.proofs.AddingLemmas.{held_free}
@@ -34,7 +34,7 @@ use Rattle.laws_links.proofs.InductionLemmas.{sound_behind}
 use Rattle.laws_links.proofs.OriginLemmas.{RebuildComes, is_begun, is_drawn, is_rooted, rebuild_was}
 use Rattle.laws_links.proofs.QuietLemmas.{start_quiet}
 use Rattle.laws_links.proofs.UntouchedLemmas.{Stays, is_filled, stays_so, untouched}
-use Rattle.laws_rebuilds.proofs.NewTreeLemmas.{ArePartly, IsPartly, StandsIn, ideal_each, ideal_kept, ideal_set, ideal_whole, in_parts, partly_each, partly_kept, partly_placed, partly_whole, top_kept, whole}
+use Rattle.laws_rebuilds.proofs.NewTreeLemmas.{ArePartly, IsPartly, StandsIn, ideal_each, ideal_kept, ideal_whole, in_parts, partly_each, partly_kept, partly_placed, partly_whole, top_kept, whole}
 use Rattle.laws_rebuilds.proofs.UnlinkedLemmas.{inner_set, never_down, never_stand, root_among, root_named, root_never_linked}
 
 -- ---- one rebuild a root
@@ -109,13 +109,6 @@ pub record IsBuiltOver (t : Snapshot) (r : RebuildRow) : Type 0 where
   pub root_is : ref_of r.root ≡ Some ref
   pub rows : List ℕ
   pub built : IsPartly t.pieces ref leaves r.target rows
-
--- a root that is built in part is set
-pub partly_set : (ps : Pieces) (ref : Ref) (leaves : List PlacedLeaf) (above : ℕ) (rows : List ℕ)
-    → IsPartly ps ref leaves above rows → ref ≢ Unset
-partly_set ps _ leaves above rows (whole {ref = ref} ideal) e =
-    ideal_set ps ref leaves above rows ideal e
-partly_set ps _ _ _ _ (in_parts r top under) e = cc
 
 -- some rows with which a reference is partly built
 abbrev SomeBuilt : Pieces → Ref → List PlacedLeaf → ℕ → Type 0

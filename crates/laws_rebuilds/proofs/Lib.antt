@@ -8,6 +8,7 @@ pub mod IdealLeafLemmas
 pub mod ReplacingLemmas
 pub mod KeepingContentLemmas
 pub mod ExistLemmas
+pub mod UpdateContentLemmas
 pub mod ContentLemmas
 pub mod NumberLemmas
 pub mod FewLeafLemmas
@@ -15,5 +16,5 @@ pub mod FinishedLeafLemmas
 pub mod ReturnLemmas
 pub mod ReplacedLemmas
 pub mod CalledLemmas
-pub mod RestLemmas
-pub mod LowLemmas
+pub mod OpenRowLemmas
+pub mod DrawWordLemmas

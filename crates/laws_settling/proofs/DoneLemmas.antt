@@ -19,12 +19,12 @@ use Rattle.ist_core.specs.Statuses.{start_kind}
 use Rattle.ist_core.specs.Writing.{first_change}
 use Rattle.ist_core.proofs.FateLemmas.{enabled_before, grow_between}
 use Rattle.ist_core.proofs.SlotLemmas.{same_inner}
+use Rattle.ist_core.proofs.PrefixLemmas.{ever_later, goes_on_by}
 use Rattle.laws_links.proofs.ChangeLemmas.{node_was_linked, undecided_unresolved}
 use Rattle.laws_links.proofs.ComesLemmas.{change_comes}
 use Rattle.laws_links.proofs.FormLemmas.{replaced_grows}
 use Rattle.laws_links.proofs.OriginLemmas.{ChangeComes, change_was, is_decided, is_installed}
 use Rattle.laws_links.proofs.UntouchedLemmas.{on_chain_was_linked}
-use Rattle.laws_stability.proofs.LaterLemmas.{ever_later, goes_on}
 use Rattle.laws_settling.proofs.ClosedLemmas.{closed_stays}
 use Rattle.laws_settling.specs.Settling.{CountsNothing, DueRowsAreClosed, HasClosedAbove, InstallsNoStart, IsDoneStart, MadeDue, StartsAreDone, due_before, due_now}
 
@@ -78,7 +78,7 @@ module _ (pairs : List Pair) (words : ℕ) (opens : CanOpen pairs words) where
           (ap (λ y. y.kind) (sym is) ∙ kind) in
           absurd
           (undecided_unresolved pairs words opens earlier
-          (enabled_before (start pairs words) earlier log (goes_on later) all.0) base can.change old
+          (enabled_before (start pairs words) earlier log (goes_on_by later) all.0) base can.change old
           can.pending.unset (resolved base can.change old mine))
 
   -- if its changes were resolved and it installs no other start, a caller's starts stay done
@@ -91,7 +91,7 @@ module _ (pairs : List Pair) (words : ℕ) (opens : CanOpen pairs words) where
   starts_stay P earlier log caller no_start later h resolved done base x e own kind said rebuild to
       =
       let old = own_start_stays P earlier caller no_start log later h resolved base x e own kind in
-      done_stays earlier log (goes_on later) h base x rebuild old
+      done_stays earlier log (goes_on_by later) h base x rebuild old
       (done base x old own kind said rebuild to)
 
   -- what isn't a Count of the caller makes no row due in its name
@@ -135,7 +135,7 @@ module _ (pairs : List Pair) (words : ℕ) (opens : CanOpen pairs words) where
       → DueRowsAreClosed (start pairs words) earlier caller
       → DueRowsAreClosed (start pairs words) log caller
   due_stay P earlier log caller no_count later h closed node made =
-      closed_above_stays earlier log (goes_on later) h node
+      closed_above_stays earlier log (goes_on_by later) h node
       (closed node (made_before P earlier caller node no_count log later made))
 
   -- a Count also keeps this if it leaves the count below the limit, or if a row on the chain isn't

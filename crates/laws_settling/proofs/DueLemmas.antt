@@ -24,7 +24,7 @@ use Rattle.ist_core.proofs.PlaceLemmas.{absent, no_piece}
 use Rattle.ist_core.proofs.TallyLemmas.{count_at_most}
 use Rattle.laws_links.proofs.InductionLemmas.{grow_behind}
 use Rattle.laws_links.proofs.UntouchedLemmas.{on_chain_was_linked}
-use Rattle.laws_links.proofs.TurnLemmas.{Came, BecameBy, as_it_was, by_count, by_decide, by_draw, by_finish, by_install, by_mark, by_place, by_resolve, by_root, came, from_new, from_old}
+use Rattle.laws_links.proofs.RowEventLemmas.{Came, BecameBy, as_it_was, by_count, by_decide, by_draw, by_finish, by_install, by_mark, by_place, by_resolve, by_root, came, from_new, from_old}
 use Rattle.ist_core.proofs.CallerLemmas.{known_step}
 use Rattle.laws_settling.specs.Settling.{MadeDue, due_before, due_now}
 use Rattle.ist_core.proofs.BornLemmas as born

@@ -12,10 +12,10 @@ use Rattle.ist_core.specs.Logs.{GoesOn, Log, one_event, same_log}
 use Rattle.ist_core.specs.Pieces.{Change}
 use Rattle.ist_core.specs.StartLayout.{start}
 use Rattle.ist_core.proofs.FateLemmas.{enabled_before}
+use Rattle.ist_core.proofs.PrefixLemmas.{goes_on_by}
 use Rattle.laws_links.proofs.ChangeLemmas.{undecided_unresolved}
 use Rattle.laws_links.proofs.ComesLemmas.{change_comes}
 use Rattle.laws_links.proofs.OriginLemmas.{ChangeComes, change_was, is_decided, is_installed}
-use Rattle.laws_stability.proofs.LaterLemmas.{goes_on}
 use Rattle.laws_stability.proofs.OwnLemmas.{own_was}
 use Rattle.laws_settling.specs.Owning.{HasChange, WasInstalled}
 
@@ -103,4 +103,4 @@ module _ (pairs : List Pair) (words : ℕ) (opens : CanOpen pairs words) where
           let happened = resolved base k.change old (ap (λ y. y.owner) (sym is) ∙ own) in
           absurd
           (undecided_unresolved pairs words opens earlier (enabled_before (start pairs words)
-          earlier log (goes_on later) all.0) base k.change old k.pending.unset happened)
+          earlier log (goes_on_by later) all.0) base k.change old k.pending.unset happened)

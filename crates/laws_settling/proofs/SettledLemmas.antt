@@ -21,7 +21,7 @@ use Rattle.ist_core.proofs.PrefixLemmas.{ever_from}
 use Rattle.laws_links.proofs.ClosedLemmas.{linked_now, same_rebuild}
 use Rattle.laws_links.proofs.UntouchedLemmas.{child_no_anchor, was_linked_here}
 use Rattle.laws_rebuilds.specs.Opening.{RebuildsAreDone}
-use Rattle.laws_rebuilds.proofs.RestLemmas.{rest_is_open}
+use Rattle.laws_rebuilds.proofs.OpenRowLemmas.{rest_is_open}
 use Rattle.laws_rebuilds.proofs.StartingLemmas.{side_rebuild}
 use Rattle.laws_links.proofs.OwnerLemmas.{owner_known}
 use Rattle.laws_settling.proofs.DueLemmas.{due_was_made}

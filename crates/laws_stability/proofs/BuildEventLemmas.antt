@@ -37,10 +37,11 @@ use Rattle.ist_core.specs.Shown.{IsShown}
 use Rattle.laws_stability.specs.Words.{FindsItsWord}
 use Rattle.laws_stability.proofs.HoldingLemmas.{rows_later}
 use Rattle.laws_stability.proofs.IdealLemmas.{ideal_put, root_put}
-use Rattle.laws_stability.proofs.LaterLemmas.{done_before, goes_on, known_later}
+use Rattle.laws_stability.proofs.LaterLemmas.{done_before, known_later}
 use Rattle.laws_stability.proofs.SetLemmas.{set_by}
 use Rattle.laws_stability.proofs.SlotWordLemmas.{finds, slot_later, slot_of_row}
 use Rattle.ist_core.proofs.ShownLemmas.{row_word}
+use Rattle.ist_core.proofs.PrefixLemmas.{goes_on_by}
 
 -- a Draw of a caller is its own event
 draws_own : (caller rebuild part : ℕ) (event : Event) → Draws caller rebuild part event
@@ -76,7 +77,7 @@ module _ (pairs : List Pair) (words : ℕ) (opens : CanOpen pairs words) {earlie
     (later : Later (Caller caller) earlier log)
     (h : EachEnabled (start pairs words) log) where
   on : GoesOn earlier log
-  on = goes_on later
+  on = goes_on_by later
 
   before : EachEnabled (start pairs words) earlier
   before = enabled_before (start pairs words) earlier log on h

@@ -24,9 +24,10 @@ use Rattle.laws_links.proofs.ChangeLemmas.{undecided_stands}
 use Rattle.laws_stability.specs.Meanwhile.{IsStillUndecided}
 use Rattle.ist_core.specs.Shown.{IsShown}
 use Rattle.laws_stability.specs.Words.{FindsItsWord}
-use Rattle.laws_stability.proofs.LaterLemmas.{happened_later, known_later}
+use Rattle.laws_stability.proofs.LaterLemmas.{known_later}
 use Rattle.laws_stability.proofs.SlotWordLemmas.{finds, slot_later}
 use Rattle.ist_core.proofs.ShownLemmas.{row_word}
+use Rattle.ist_core.proofs.PrefixLemmas.{happened_later}
 
 -- a status that isn't open is never open again
 closed_on : (old new : ℕ) → StatusGoesOn old new → old ≢ open_word → new ≢ open_word

@@ -11,7 +11,8 @@ use Rattle.ist_core.specs.Deciding.{CanCount, IsUpdateOf, SaysYes}
 use Rattle.ist_core.specs.Growing.{AllGrow}
 use Rattle.ist_core.specs.Lawful.{EachEnabled, state_of}
 use Rattle.ist_core.specs.Links.{WasOnChain}
-use Rattle.ist_core.specs.Logs.{Counts, Decides, Happened, Log}
+use Rattle.ist_core.specs.Logs.{Counts, Happened, Log}
+use Rattle.laws_links.proofs.DecisionLemmas.{Decides}
 use Rattle.ist_core.specs.Pieces.{Change, Piece, with_decision}
 use Rattle.ist_core.specs.Rebuilding.{IsUpdate}
 use Rattle.ist_core.specs.Snapshots.{Snapshot}

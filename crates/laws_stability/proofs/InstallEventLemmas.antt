@@ -29,9 +29,10 @@ use Rattle.ist_core.proofs.SlotLemmas.{slot_once}
 use Rattle.laws_links.proofs.FormLemmas.{leaf_of_grows, room_grows, started_grows}
 use Rattle.laws_stability.specs.Meanwhile.{NoneRefused}
 use Rattle.ist_core.specs.Authors.{Later}
+use Rattle.ist_core.proofs.PrefixLemmas.{ever_later, goes_on_by}
 use Rattle.laws_stability.specs.Words.{FindsItsWord}
 use Rattle.laws_stability.proofs.HoldingLemmas.{rows_later}
-use Rattle.laws_stability.proofs.LaterLemmas.{ever_later, goes_on, known_later}
+use Rattle.laws_stability.proofs.LaterLemmas.{known_later}
 use Rattle.laws_stability.proofs.OwnLemmas.{unrefused_later}
 use Rattle.laws_stability.proofs.SetLemmas.{set_later}
 use Rattle.laws_stability.proofs.SlotWordLemmas.{finds, get_alike, slot_later, slot_of_row}
@@ -224,7 +225,7 @@ module _ (pairs : List Pair) (words : ℕ) (opens : CanOpen pairs words) {earlie
       → CanInstall (start pairs words) log caller base rows
   install_stays base rows can f none =
       let change = can.change in
-      let on = goes_on later in
+      let on = goes_on_by later in
       let has = finds (state_of pairs words earlier) (state_of pairs words log)
       (Install caller base rows) _
       (ap (λ xs. touch_of (state_of pairs words earlier) (Install caller base xs)) can.rows_are)

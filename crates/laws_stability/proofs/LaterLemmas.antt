@@ -1,30 +1,13 @@
 -- Longer logs: what happened or was true stays so, and callers are only added. Serves each clause.
-use Rattle.std.proofs.Common.{inr, refl, ℕ, ⊎_elim, ◌<◌, ◌∙◌, ◌≡◌}
+use Rattle.std.proofs.Common.{refl, ℕ, ⊎_elim, ◌<◌, ◌∙◌, ◌≡◌}
 use Rattle.ist_core.specs.declared.events.Event.{Event}
 use Rattle.ist_core.specs.declared.events.Who.{Who}
 use Rattle.ist_core.specs.declared.events.Who.TheVariants.{Maker}
-use Rattle.ist_core.specs.Authors.{GoesOnBy, Later, whose, no_more, one_more}
-use Rattle.ist_core.specs.Logs.{Ever, GoesOn, Happened, Log, one_event, same_log, state}
+use Rattle.ist_core.specs.Authors.{Later, whose, no_more, one_more}
+use Rattle.ist_core.specs.Logs.{GoesOn, Happened, Log, one_event, same_log, state}
 use Rattle.ist_core.specs.Snapshots.{Snapshot}
 use Rattle.ist_core.proofs.CallerLemmas.{callers_step, known_step}
-
--- a log that goes on by certain events goes on
-pub goes_on : {P : Event → Type 0} {earlier log : Log} → GoesOnBy P earlier log
-    → GoesOn earlier log
-goes_on no_more = same_log
-goes_on (one_more event later other) = one_event event (goes_on later)
-
--- what happened in a log happened in each longer log
-pub happened_later : (P : Event → Type 0) {earlier log : Log} → GoesOn earlier log
-    → Happened P earlier → Happened P log
-happened_later P same_log h = h
-happened_later P (one_event event g) h = inr (happened_later P g h)
-
--- what was true at some moment of a log is so of each longer log
-pub ever_later : (first : Snapshot) (P : Snapshot → Type 0) {earlier log : Log} → GoesOn earlier log
-    → Ever first P earlier → Ever first P log
-ever_later first P same_log h = h
-ever_later first P (one_event event g) h = inr (ever_later first P g h)
+pub use Rattle.ist_core.proofs.PrefixLemmas.{happened_later, ever_later, goes_on_by as goes_on}
 
 -- if only others made the further events, what only one's own events do was done before
 pub done_before : (P : Event → Type 0) (who : Who)

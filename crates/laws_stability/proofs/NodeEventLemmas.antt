@@ -19,9 +19,10 @@ use Rattle.laws_links.proofs.FinishedLemmas.{target_grows}
 use Rattle.laws_links.proofs.FormLemmas.{finished_with_grows, started_grows}
 use Rattle.laws_stability.specs.Meanwhile.{IsMarked}
 use Rattle.laws_stability.specs.Words.{FindsItsWord}
-use Rattle.laws_stability.proofs.LaterLemmas.{happened_later, known_later}
+use Rattle.laws_stability.proofs.LaterLemmas.{known_later}
 use Rattle.laws_stability.proofs.SlotWordLemmas.{finds, slot_later, slot_of_row}
 use Rattle.ist_core.proofs.ShownLemmas.{row_word}
+use Rattle.ist_core.proofs.PrefixLemmas.{happened_later}
 
 -- a cause to mark a node stays
 called_later : (t u : Snapshot) → AllGrow t.pieces u.pieces → {earlier log : Log}

@@ -17,10 +17,10 @@ use Rattle.ist_core.specs.StartLayout.{start}
 use Rattle.ist_core.specs.Statuses.{undecided}
 use Rattle.ist_core.proofs.FateLemmas.{grow_between}
 use Rattle.ist_core.proofs.GrowingLemmas.{change_there}
+use Rattle.ist_core.proofs.PrefixLemmas.{goes_on_by}
 use Rattle.laws_links.proofs.ComesLemmas.{change_comes}
 use Rattle.laws_links.proofs.OriginLemmas.{ChangeComes, change_was, is_decided, is_installed}
 use Rattle.laws_stability.specs.Meanwhile.{NoneRefused}
-use Rattle.laws_stability.proofs.LaterLemmas.{goes_on}
 
 -- a change in the second state was also a change in the first
 pub record Was (t u : Snapshot) (base : ℕ) (x : ChangeRow) : Type 0 where
@@ -59,7 +59,7 @@ module _ (pairs : List Pair) (words : ℕ) (caller : ℕ) where
       let it = own_before later h base x e own in
       let there = change_there (state_of pairs words earlier).pieces
       (state_of pairs words log).pieces
-      (grow_between pairs words earlier log h (goes_on later)) base it.0 it.1 in
+      (grow_between pairs words earlier log h (goes_on_by later)) base it.0 it.1 in
       record {
         old = it.0;
         published = it.1;

@@ -21,9 +21,10 @@ use Rattle.laws_links.proofs.FormLemmas.{finished_with_grows, started_grows}
 use Rattle.ist_core.specs.Authors.{Later, whose, no_more, one_more}
 use Rattle.laws_stability.specs.Words.{FindsItsWord}
 use Rattle.laws_stability.proofs.HoldingLemmas.{bases_later, holds_later, sizes_later}
-use Rattle.laws_stability.proofs.LaterLemmas.{callers_later, goes_on, known_later}
+use Rattle.laws_stability.proofs.LaterLemmas.{callers_later, known_later}
 use Rattle.laws_stability.proofs.SlotWordLemmas.{finds}
 use Rattle.ist_core.proofs.ShownLemmas.{next_word}
+use Rattle.ist_core.proofs.PrefixLemmas.{goes_on_by}
 
 -- a building list stays one
 building_later : (t u : Snapshot) → AllGrow t.pieces u.pieces → (sizes : List ℕ)
@@ -99,7 +100,7 @@ module _ (pairs : List Pair) (words : ℕ) (opens : CanOpen pairs words) {earlie
     (later : Later (Caller caller) earlier log)
     (h : EachEnabled (start pairs words) log) where
   grows : AllGrow (state_of pairs words earlier).pieces (state_of pairs words log).pieces
-  grows = grow_between pairs words earlier log h (goes_on later)
+  grows = grow_between pairs words earlier log h (goes_on_by later)
 
   -- a Reserve stays enabled if the first free word is the same
   pub reserve_stays : (base size : ℕ) → CanReserve (state_of pairs words earlier) caller base size
@@ -116,7 +117,7 @@ module _ (pairs : List Pair) (words : ℕ) (opens : CanOpen pairs words) {earlie
       ∙ sym (words_same pairs words opens earlier) in
       let room = can.room in
       record {
-        known = known_later (start pairs words) (goes_on later) caller can.known;
+        known = known_later (start pairs words) (goes_on_by later) caller can.known;
         base_is = now;
         room = subst (λ n. n + size ≤ u.words) (sym next)
             (subst (λ n. t.next + size ≤ n) (sym same) room);
@@ -164,6 +165,6 @@ module _ (pairs : List Pair) (words : ℕ) (opens : CanOpen pairs words) {earlie
       → CanLose (state_of pairs words log) log caller bases
   lose_stays bases can =
       record {
-        known = known_later (start pairs words) (goes_on later) caller can.known;
+        known = known_later (start pairs words) (goes_on_by later) caller can.known;
         cause = ⊎_elim (λ p. inl (pair_later bases p)) (λ b. inr (build_later bases b)) can.cause;
       }

@@ -1,8 +1,9 @@
 //! The events of a log, one per line.
 
-use crate::fields::{Fields, numeral_value, parts_of};
+use crate::fields::{Fields, parts_of};
 use ist_core::{Bases, Event, Row, Rows, Words};
 use std::alloc::{AllocError, Global};
+use tele_lines::number;
 
 /// The text for a list without elements.
 const NOTHING: &[u8] = b"-";
@@ -170,9 +171,9 @@ fn read_numbers(alloc: Global, text: &[u8]) -> Result<Option<Vec<u64>>, AllocErr
         return Ok(Some(numbers));
     }
     for part in text.split(|byte| *byte == b',') {
-        match numeral_value(part) {
+        match number(part) {
             None => return Ok(None),
-            Some(number) => numbers.push(number)?,
+            Some(value) => numbers.push(value)?,
         }
     }
     Ok(Some(numbers))

@@ -1,5 +1,7 @@
 //! The fields of a line: parts of it between single separators.
 
+use tele_lines::number;
+
 /// The rest of a line, whose fields are separated by single separators.
 #[derive(Drop)]
 pub struct Fields<'a> {
@@ -34,27 +36,11 @@ impl<'a> Fields<'a> {
 
     /// Returns the number in the next field, if that is one: ASCII digits with a value below 2^64.
     pub fn number(&mut self) -> Option<u64> {
-        numeral_value(self.take()?)
+        number(self.take()?)
     }
 
     /// Returns whether no field is left.
     pub fn is_done(&self) -> bool {
         self.rest.is_none()
     }
-}
-
-/// Reads bytes as a number: one or more ASCII digits with a value below 2^64.
-pub fn numeral_value(bytes: &[u8]) -> Option<u64> {
-    if bytes.is_empty() {
-        return None;
-    }
-    let mut value: u64 = 0;
-    for &byte in bytes {
-        if !byte.is_ascii_digit() {
-            return None;
-        }
-        let digit = u64::from(byte - b'0');
-        value = value.checked_mul(10)?.checked_add(digit)?;
-    }
-    Some(value)
 }

@@ -19,7 +19,7 @@ use Rattle.ist_rule.proofs.WentOnLemmas.{later_by-goes_on, went_now, went_all, l
 use Rattle.ist_rows.specs.CallerLaws.{KeepsRows}
 use Rattle.ist_rows.proofs.CallerLawLemmas.{row_went}
 use Rattle.ist_dcss.proofs.HelperLemmas.{serves_keep}
-use Rattle.test_parts.specs.Racing.{HasPrepared, IsUnderway, HasBoth}
+use Rattle.test_parts.specs.Racing.{HasPrepared, IsUnderway, HasBothLeaves}
 
 -- ---- the rows of the race
 
@@ -72,8 +72,8 @@ leaves_went v w g f leaves h =
     lawful.enabled 4 leaves (2, f) h)
 
 -- the two leaves stay below the finished row at 4
-pub both_went : (v w : View) → WentOn KeepsRows v w → IsFinishedWith (now v) 4 2 → HasBoth (now v)
-    → HasBoth (now w)
+pub both_went : (v w : View) → WentOn KeepsRows v w → IsFinishedWith (now v) 4 2 → HasBothLeaves (now v)
+    → HasBothLeaves (now w)
 both_went v w g f b =
     record {
       low = b.low;

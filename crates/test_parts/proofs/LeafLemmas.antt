@@ -22,7 +22,7 @@ use Rattle.ist_dcss.proofs.SlotPlaceLemmas.{has_degree}
 use Rattle.ist_rule.specs.Going.{WentOn}
 use Rattle.ist_rule.proofs.WentOnLemmas.{looked_went, went_grow}
 use Rattle.ist_rows.specs.CallerLaws.{KeepsRows}
-use Rattle.test_parts.specs.Racing.{HasBoth}
+use Rattle.test_parts.specs.Racing.{HasBothLeaves}
 use Rattle.test_parts.proofs.KeptLemmas.{finished_went, leaves_went}
 
 -- ---- words
@@ -159,7 +159,7 @@ pub found_both : (u : View) → IsFinishedWith (now u) 4 2
     → (degree : ℕ) (v : View) → Looked u 6 degree v → degree ≡ 2
     → (low : ℕ) (w : View) → Looked v 9 low w → low ≡ 89
     → (high : ℕ) (x : View) → Looked w 10 high x → high ≡ 105
-    → (key : ℕ) (y : View) → Looked x 13 key y → key ≡ 9 → HasBoth (now y)
+    → (key : ℕ) (y : View) → Looked x 13 key y → key ≡ 9 → HasBothLeaves (now y)
 found_both u f degree v l degree_is low w m low_is high x n high_is key y o key_is =
     record {
       low = first.row;

@@ -36,7 +36,7 @@ use Rattle.ist_rows.specs.CallerLaws.{KeepsRows}
 use Rattle.ist_rows.specs.declared.callers.Caller.{Caller}
 use Rattle.ist_rows.specs.Filling.{filled_with, storing_all}
 use Rattle.ist_rows.proofs.FillingLemmas.{stored_at}
-use Rattle.test_parts.specs.Racing.{root_rows, root_word, racing, HasPrepared, IsUnderway, HasBoth, HasBuilt}
+use Rattle.test_parts.specs.Racing.{root_rows, root_word, racing, HasPrepared, IsUnderway, HasBothLeaves, HasPairRoot}
 use Rattle.test_parts.proofs.KeptLemmas.{underway_went}
 use Rattle.test_parts.proofs.LeafLemmas.{good}
 
@@ -84,10 +84,10 @@ the_row =
       slots = 89 ∷ 105 ∷ [];
     }
 
-abbrev leaves_of : {t : Snapshot} → HasBoth t → List PlacedLeaf
+abbrev leaves_of : {t : Snapshot} → HasBothLeaves t → List PlacedLeaf
 leaves_of b = record { base = 11; row = b.low } ∷ record { base = 13; row = b.high } ∷ []
 
-module _ (t : Snapshot) (base : ℕ) (above : 28 < base) (low : base < 43) (b : HasBoth t) where
+module _ (t : Snapshot) (base : ℕ) (above : 28 < base) (low : base < 43) (b : HasBothLeaves t) where
   abbrev ps : Pieces
   ps = with_inners t.pieces (root_rows base)
 
@@ -132,7 +132,7 @@ two_is_few = let is = share_from_is in omega arith
 
 -- a filled row is a root for the rebuild, whose target is finished over the two leaves
 pub root_built : (v : View) (number base : ℕ) → HasPrepared v number base → IsUnderway (now v)
-    → IsFinishedWith (now v) 4 2 → HasBoth (now v)
+    → IsFinishedWith (now v) 4 2 → HasBothLeaves (now v)
     → IsRootBuilt (now v) number 15 (root_word base) (root_rows base)
 root_built v number base f u done b =
     let target = u.target.target_is in
@@ -177,8 +177,8 @@ may_mark v number base f u =
 
 -- so it is built
 pub has_built : (v : View) (number base : ℕ) → HasPrepared v number base → IsUnderway (now v)
-    → IsFinishedWith (now v) 4 2 → HasBoth (now v) → WasUnset v number 18
-    → HasBuilt v number base
+    → IsFinishedWith (now v) 4 2 → HasBothLeaves (now v) → WasUnset v number 18
+    → HasPairRoot v number base
 has_built v number base f u done b was =
     record {
       mine = f.mine;
@@ -199,7 +199,7 @@ race_named v number base mine =
     (ap number_of mine) at
 
 -- an exchange of the root word may be them
-pub may_race : (v : View) → IsSound v → (number base : ℕ) → HasBuilt v number base → (word : ℕ)
+pub may_race : (v : View) → IsSound v → (number base : ℕ) → HasPairRoot v number base → (word : ℕ)
     → word ≡ root_word base → CanExchangeOrLose v 18 7 word (racing v word).0 (racing v word).1
 may_race v s number base h word is =
     subst (λ w. CanExchangeOrLose v 18 7 w (racing v w).0 (racing v w).1) (sym is)
@@ -212,7 +212,7 @@ may_race v s number base h word is =
     some e = absurd (cc)
 
 -- and it was one of them
-pub raced : (v : View) (number base : ℕ) → HasBuilt v number base → (word : ℕ)
+pub raced : (v : View) (number base : ℕ) → HasPairRoot v number base → (word : ℕ)
     → word ≡ root_word base → (found : ℕ) (w : View)
     → ExchangedOrLost v (racing v word).0 (racing v word).1 18 7 found w
     → ExchangedOrLost v (Root number 15 (root_word base) (root_rows base)) (Lose number (base ∷ []))

@@ -53,7 +53,7 @@ pub record IsUnderway (t : Snapshot) : Type 0 where
   pub started : IsStarted t 15
 
 -- two leaves lie below the row at 4, of which the second has the key 9
-pub record HasBoth (t : Snapshot) : Type 0 where
+pub record HasBothLeaves (t : Snapshot) : Type 0 where
   pub low : LeafRow
   pub high : LeafRow
   pub reached : HasLeaves t.pieces (Some (InnerAt 4))
@@ -61,7 +61,7 @@ pub record HasBoth (t : Snapshot) : Type 0 where
   pub key : high.key ≡ 9
 
 -- the caller has built a root, and has seen that the rebuild had none
-pub record HasBuilt (v : View) (number base : ℕ) : Type 0 where
+pub record HasPairRoot (v : View) (number base : ℕ) : Type 0 where
   pub mine : v.who ≡ Caller number
   pub stored : StoredAll v (root_rows base)
   pub built : IsRootBuilt (now v) number 15 (root_word base) (root_rows base)

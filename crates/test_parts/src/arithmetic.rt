@@ -90,10 +90,11 @@ fn parts_follow_one_another(rt: HostRuntime) {
         (3, 1, 2, 1),
     ];
     for (n, j, start, len) in cases {
-        if 2 <= n && n < 1 << 32 && j < degree(n) {
-            let found = part(n, j);
-            assert_eq!(rt; (found.start, found.len), (start, len), "child {j} of {n}");
-        }
+        assert!(rt; 2 <= n);
+        assert!(rt; n < 1 << 32);
+        assert!(rt; j < degree(n));
+        let found = part(n, j);
+        assert_eq!(rt; (found.start, found.len), (start, len), "child {j} of {n}");
     }
 }
 
@@ -106,9 +107,9 @@ fn degrees_of_large_nodes_are_whole_roots(rt: HostRuntime) {
         (4294967295, 65535),
     ];
     for (n, root) in cases {
-        if 2 <= n && n < 1 << 32 {
-            assert_eq!(rt; degree(n), root, "{n} keys");
-        }
+        assert!(rt; 2 <= n);
+        assert!(rt; n < 1 << 32);
+        assert_eq!(rt; degree(n), root, "{n} keys");
     }
 }
 
@@ -132,14 +133,12 @@ fn ideal_trees_take_these_words(rt: HostRuntime) {
         (4294967295, 34712447733),
     ];
     for (n, words) in small {
-        if n < 1 << 32 {
-            assert_eq!(rt; ideal_words(n), words, "{n} keys");
-        }
+        assert!(rt; n < 1 << 32);
+        assert_eq!(rt; ideal_words(n), words, "{n} keys");
     }
     for (n, words) in large {
-        if n < 1 << 32 {
-            assert_eq!(rt; ideal_words(n), words, "{n} keys");
-        }
+        assert!(rt; n < 1 << 32);
+        assert_eq!(rt; ideal_words(n), words, "{n} keys");
     }
 }
 

@@ -10,7 +10,7 @@ ghost use Rattle.ist_dcss.specs.Helping.{MayHelp};
 ghost use Rattle.laws_coming.specs.Builds.{WasUnset};
 ghost use Rattle.ist_rule.specs.Going.{WentOn};
 ghost use Rattle.ist_rows.specs.CallerLaws.{KeepsRows};
-ghost use Rattle.test_parts.specs.Racing.{root_rows, root_word, HasBoth, HasBuilt, HasPrepared, IsUnderway};
+ghost use Rattle.test_parts.specs.Racing.{root_rows, root_word, HasBothLeaves, HasPairRoot, HasPrepared, IsUnderway};
 
 use crate::beginnings::{begin_start, reserve_start};
 use crate::samples::word_at;
@@ -74,13 +74,7 @@ pub(crate) fn follow(table: &TreeTable, seat: &mut TreeSeat) -> bool
     let kind = load(table, seat, 21);
     let to = load(table, seat, 25);
     let target = load(table, seat, 15);
-    if kind != 3 {
-        return false;
-    }
-    if to != 124 {
-        return false;
-    }
-    if target != 4 {
+    if kind != 3 || to != 124 || target != 4 {
         return false;
     }
     match decision {
@@ -96,7 +90,7 @@ fn find_both(table: &TreeTable, seat: &mut TreeSeat) -> bool
     ensures same_table { seat.new.table ≡ table.now.table }
     ensures went { WentOn KeepsRows seat.old.view seat.new.view }
     ensures own { seat.new.view.own ≡ seat.old.view.own }
-    ensures both { result ≡ true → HasBoth (now seat.new.view) }
+    ensures both { result ≡ true → HasBothLeaves (now seat.new.view) }
 {
     know(seat);
     if word_count(table) < 44 {
@@ -106,16 +100,7 @@ fn find_both(table: &TreeTable, seat: &mut TreeSeat) -> bool
     let low = load(table, seat, 9);
     let high = load(table, seat, 10);
     let key = load(table, seat, 13);
-    if degree != 2 {
-        return false;
-    }
-    if low != 89 {
-        return false;
-    }
-    if high != 105 {
-        return false;
-    }
-    if key != 9 {
+    if degree != 2 || low != 89 || high != 105 || key != 9 {
         return false;
     }
     true
@@ -148,7 +133,7 @@ fn build(table: &TreeTable, seat: &mut TreeSeat, number: u32, base: u32) -> bool
     requires may_help { MayHelp seat.old.view 20 }
     requires filled { HasPrepared seat.old.view number base }
     ensures same_table { seat.new.table ≡ table.now.table }
-    ensures built { result ≡ true → HasBuilt seat.new.view number base }
+    ensures built { result ≡ true → HasPairRoot seat.new.view number base }
 {
     let underway = follow(table, seat);
     if !underway {
@@ -169,7 +154,7 @@ fn build(table: &TreeTable, seat: &mut TreeSeat, number: u32, base: u32) -> bool
 // root's place. The caller no longer holds the row.
 fn root_or_lose(table: &TreeTable, seat: &mut TreeSeat, number: u32, base: u32) -> u64
     requires same_table { seat.old.table ≡ table.now.table }
-    requires built { HasBuilt seat.old.view number base }
+    requires built { HasPairRoot seat.old.view number base }
     ensures same_table { seat.new.table ≡ table.now.table }
     ensures rooted_or_lost { let root = Root number 15 (root_word base) (root_rows base) in
         ExchangedOrLost seat.old.view root (Lose number (base ∷ [])) 18 7 result seat.new.view }

@@ -1,8 +1,7 @@
-use Rattle.std.proofs.Common.{◌∙◌, sym}
-use Rattle.check_fairness.proofs.AnswerLemmas.{iff_trans, never, is_not}
+use Rattle.std.proofs.Common.{◌∙◌, sym, arith}
+use Rattle.check_fairness.proofs.AnswerLemmas.{if_ok, iff_trans, never, is_not}
 use Rattle.check_events.proofs.MirrorLemmas.{rebuild_stands}
-use Rattle.check_builds.proofs.GatherLemmas.{if_ok, known_caller}
-use Rattle.check_builds.proofs.FitLemmas.{root_is, root_publishes, root_finished}
+use Rattle.check_builds.proofs.FitLemmas.{root_is, root_publishes, root_unfinished}
 use Rattle.check_builds.proofs.building.can_root.Goals as goal
 
 pub returns-then-not-may_publish : goal.returns-then-not-may_publish
@@ -20,9 +19,8 @@ returns-in-None-finished_keys c =
       exact = λ t h starts free.
           let stands = rebuild_stands c.args.replica.now t c.args.rebuild h c.in-Some.row.now
           (sym c.in-Some.ensures.value) in
-          never (λ can. let it = root_finished t c.args.caller c.args.rebuild c.args.word
-          c.args.rows.now c.in-Some.row.now stands can in c.in-None-finished_keys.ensures.exact
-          t h it.0 it.1);
+          never (root_unfinished t c.args.caller c.args.rebuild c.args.word c.args.rows.now
+          c.in-Some.row.now stands (c.in-None-finished_keys.ensures.exact t h));
     }
 
 pub returns-in-Some-finished_keys : goal.returns-in-Some-finished_keys
@@ -33,13 +31,9 @@ returns-in-Some-finished_keys c =
           let stands = rebuild_stands c.args.replica.now t c.args.rebuild h c.in-Some.row.now
           (sym c.in-Some.ensures.value) in
           let publish = (c.may_publish.ensures.exact t h).0 c.if-not-may_publish.false in
-          let started = (starts c.args.rebuild).0 (sym c.contains.ensures ∙ c.if-not-contains.false)
-          in
-          let finished = (c.in-Some-finished_keys.ensures.exact t h).0 in
-          iff_trans (f t h)
-          (root_is t c.args.caller c.args.rows.now publish free c.args.rebuild c.args.word
-          c.in-Some-finished_keys.k c.in-Some.row.now (known_caller c.args.replica.now t
-          c.args.caller h c.if-caller-replica.false) stands started c.if-row-ne-UNSET_WORD.false
-          finished))
+          iff_trans (f t h) (root_is t c.args.caller c.args.rows.now publish free c.args.rebuild
+          c.args.word c.in-Some-finished_keys.k c.in-Some.row.now (omega (arith, h.callers)) stands
+          ((starts c.args.rebuild).0 (sym c.contains.ensures ∙ c.if-not-contains.false))
+          c.if-row-ne-UNSET_WORD.false (c.in-Some-finished_keys.ensures.exact t h).0))
           c.has_root.ensures.exact;
     }

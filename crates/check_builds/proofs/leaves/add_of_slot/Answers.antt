@@ -2,7 +2,8 @@ use Rattle.std.proofs.Common.{reverse, subst, Some}
 use Rattle.ist_core.specs.References.{LeafAt}
 use Rattle.ist_core.specs.Slots.{logical}
 use Rattle.check_builds.specs.Reading.{IsReadingOf}
-use Rattle.check_builds.proofs.GatherLemmas.{if_ok, first_empty, first_gathered, row_gathered}
+use Rattle.check_fairness.proofs.AnswerLemmas.{if_ok}
+use Rattle.check_builds.proofs.GatherLemmas.{first_empty, first_gathered, row_gathered}
 use Rattle.check_builds.proofs.leaves.add_of_slot.Goals as goal
 
 pub returns-in-Nothing : goal.returns-in-Nothing

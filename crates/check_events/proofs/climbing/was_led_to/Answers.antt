@@ -1,4 +1,4 @@
-use Rattle.std.proofs.Common.{◌≤◌, ◌^◌, ◌<◌, arith, sym}
+use Rattle.std.proofs.Common.{◌≤◌, arith, sym}
 use Rattle.std.proofs.lemmas.Bool.Decides.{nat_tests}
 use Rattle.ist_core.specs.Logs.{state}
 use Rattle.check_fairness.proofs.AnswerLemmas.{iff_trans}
@@ -18,9 +18,8 @@ returns-then-way-key c =
     record {
       exact = λ first log h k w stay.
           let low = c.if-way-key.true in
-          let word : c.args.key < 2 ^ 64 = omega arith in
           let it = (w c.args.node c.in-Some.way.now (sym c.in-Some.ensures.value)).led c.args.key
-          word in (
+          (omega arith) in (
             (λ e. let high : c.args.key ≤ c.in-Some.way.now.high = grind (arith, nat_tests) in
                 it.1 (low, high)),
             (λ led. let high = (it.0 led).1 in grind (arith, nat_tests)),
@@ -32,9 +31,8 @@ returns-else-way-key c =
     record {
       exact = λ first log h k w stay.
           let low = c.if-way-key.false in
-          let word : c.args.key < 2 ^ 64 = omega arith in
           let it = (w c.args.node c.in-Some.way.now (sym c.in-Some.ensures.value)).led c.args.key
-          word in (
+          (omega arith) in (
             (λ e. let high : c.in-Some.way.now.low ≤ c.args.key = grind (arith, nat_tests) in
                 absurd (omega arith)),
             (λ led. let high = (it.0 led).0 in absurd (omega arith)),

@@ -1,7 +1,7 @@
 use Rattle.std.proofs.Common.{take, subst}
 use Rattle.std.proofs.lemmas.List.{take_all, take_more}
 use Rattle.ist_core.specs.Snapshots.{without}
-use Rattle.check_events.specs.Holding.{Keeps}
+use Rattle.check_events.specs.Holding.{TableHolds}
 use Rattle.check_events.proofs.LetGoLemmas.{keeps_none, keeps_last}
 use Rattle.check_events.proofs.held.let_go.Goals as goal
 
@@ -16,7 +16,7 @@ loop-base-preserved c = λ held k. keeps_last _ held (take c.loop-base.base-inde
 pub returns : goal.returns
 returns c =
     record {
-      exact = λ held k. subst (λ bs. Keeps c.loop-base.table (without bs held))
+      exact = λ held k. subst (λ bs. TableHolds c.loop-base.table (without bs held))
           (take_all c.loop-base.base-index c.args.bases.now c.loop-base-test.false)
           (c.loop-base.invariant held k);
     }

@@ -1,7 +1,8 @@
-use Rattle.std.proofs.Common.{◌≡◌, ◌↔◌, IsTrue, subst, arith}
+use Rattle.std.proofs.Common.{◌↔◌, IsTrue, subst, arith}
 use Rattle.ist_core.specs.Logs.{state}
 use Rattle.ist_core.specs.Slots.{SlotHolds}
-use Rattle.check_fairness.proofs.AnswerLemmas.{is_not, never}
+use Rattle.check_fairness.proofs.AnswerLemmas.{iff_trans, is_not, never}
+use Rattle.check_events.proofs.InstallLemmas.{stands_unrefused}
 use Rattle.check_events.proofs.installing.may_stand.Goals as goal
 
 pub returns-then-not-slot_holds : goal.returns-then-not-slot_holds
@@ -24,18 +25,8 @@ returns c =
           let holds = subst (λ w. IsTrue c.slot_holds.result ↔ SlotHolds (state first log)
           change.node change.index w) c.from.ensures
           (c.slot_holds.ensures.exact (state first log) h) in
-          let linked = (c.was_linked.ensures.exact first log k).0 c.if-not-was_linked.false in
-          let unrefused = c.is_unrefused.ensures.exact (state first log) r in
-          let owned : change.owner ≡ c.args.caller = omega arith in
-          let unset : change.decision ≡ 0 = omega arith in (
-            (λ y. record {
-              owned = owned;
-              unset = unset;
-              in_slot = holds.0
-                  c.if-not-slot_holds.false;
-              linked = linked;
-              unrefused = unrefused.0 y;
-            }),
-            (λ x. unrefused.1 x.unrefused),
-          );
+          iff_trans (c.is_unrefused.ensures.exact (state first log) r)
+          (stands_unrefused first log c.args.caller change (omega arith) (omega arith)
+          (holds.0 c.if-not-slot_holds.false)
+          ((c.was_linked.ensures.exact first log k).0 c.if-not-was_linked.false));
     }

@@ -1,7 +1,7 @@
 use Rattle.std.proofs.Common.{◌<◌, ◌≤◌, map, length, arith}
 use Rattle.std.proofs.lemmas.List.{length-map}
 use Rattle.check_fairness.proofs.AddedLemmas.{none_added, other_added, two_added}
-use Rattle.check_fairness.proofs.RestLemmas.{begins_none, begins_more, begins_end}
+use Rattle.check_fairness.proofs.BuildingListLemmas.{begins_none, begins_more, begins_end}
 use Rattle.check_fairness.proofs.readings.add_begun.Goals as goal
 
 pub loop-list-init : goal.loop-list-init

@@ -1,7 +1,7 @@
 use Rattle.std.proofs.Common.{map}
 use Rattle.check_fairness.proofs.AnswerLemmas.{on_ok}
 use Rattle.check_fairness.proofs.AddedLemmas.{none_added, other_added}
-use Rattle.check_fairness.proofs.RestLemmas.{nothing_on, other_on, this_on}
+use Rattle.check_fairness.proofs.BuildingListLemmas.{nothing_on, other_on, this_on}
 use Rattle.check_fairness.proofs.readings.add_on.Goals as goal
 
 pub returns-in-empty : goal.returns-in-empty

@@ -1,6 +1,6 @@
 use Rattle.std.proofs.Common.{◌∷◌, []}
 use Rattle.check_reasons.specs.Conditions.{lose_says}
-use Rattle.check_reasons.proofs.TellLemmas.{named, holding, tells}
+use Rattle.check_reasons.proofs.TellLemmas.{next, tells}
 use Rattle.check_reasons.proofs.builds.lose_fails.Goals as goal
 
 pub returns : goal.returns
@@ -8,14 +8,9 @@ returns c =
     record {
       exact = λ t log h k b. tells
           (c.test_of.result ∷ c.test_of-2.result ∷ [])
-          (lose_says t log c.args.caller c.args.bases.now) c.first_failing.result (
-            named c.test_of.ensures.value,
-            holding c.test_of.ensures.value (c.is_known.ensures.exact t h),
-            (
-              named c.test_of-2.ensures.value,
-              holding c.test_of-2.ensures.value (c.in_ok-may.ensures.exact t log h k b),
-              tt,
-            ),
-          )
+          (lose_says t log c.args.caller c.args.bases.now) c.first_failing.result
+          (next c.test_of.result c.test_of.ensures.value (c.is_known.ensures.exact t h)
+          (next c.test_of-2.result c.test_of-2.ensures.value
+          (c.in_ok-may.ensures.exact t log h k b) tt))
           c.first_failing.ensures.exact;
     }

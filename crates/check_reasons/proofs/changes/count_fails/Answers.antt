@@ -1,7 +1,7 @@
 use Rattle.std.proofs.Common.{◌∷◌, []}
 use Rattle.ist_core.specs.Logs.{state}
 use Rattle.check_reasons.specs.Conditions.{count_says}
-use Rattle.check_reasons.proofs.TellLemmas.{named, holding, tells}
+use Rattle.check_reasons.proofs.TellLemmas.{next, tells}
 use Rattle.check_reasons.proofs.changes.count_fails.Goals as goal
 
 pub returns : goal.returns
@@ -9,18 +9,12 @@ returns c =
     record {
       exact = λ first log h u k w. tells
           (c.test_of.result ∷ c.test_of-2.result ∷ c.test_of-3.result ∷ [])
-          (count_says first log c.args.caller c.args.node) c.first_failing.result (
-            named c.test_of.ensures.value,
-            holding c.test_of.ensures.value (c.is_known.ensures.exact (state first log) h),
-            (
-              named c.test_of-2.ensures.value,
-              holding c.test_of-2.ensures.value (c.is_uncounted.ensures.exact (state first log) log u),
-              (
-                named c.test_of-3.ensures.value,
-                holding c.test_of-3.ensures.value (c.can_count.ensures.exact first log h u k w),
-                tt,
-              ),
-            ),
-          )
+          (count_says first log c.args.caller c.args.node) c.first_failing.result
+          (next c.test_of.result c.test_of.ensures.value
+          (c.is_known.ensures.exact (state first log) h)
+          (next c.test_of-2.result c.test_of-2.ensures.value
+          (c.is_uncounted.ensures.exact (state first log) log u)
+          (next c.test_of-3.result c.test_of-3.ensures.value
+          (c.can_count.ensures.exact first log h u k w) tt)))
           c.first_failing.ensures.exact;
     }

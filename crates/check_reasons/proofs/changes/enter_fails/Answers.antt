@@ -1,6 +1,6 @@
 use Rattle.std.proofs.Common.{◌∷◌, []}
 use Rattle.check_reasons.specs.Conditions.{enter_says}
-use Rattle.check_reasons.proofs.TellLemmas.{named, holding, tells}
+use Rattle.check_reasons.proofs.TellLemmas.{next, tells}
 use Rattle.check_reasons.proofs.changes.enter_fails.Goals as goal
 
 pub returns : goal.returns
@@ -8,14 +8,8 @@ returns c =
     record {
       exact = λ t h. tells
           (c.test_of.result ∷ c.test_of-2.result ∷ [])
-          (enter_says t c.args.caller) c.first_failing.result (
-            named c.test_of.ensures.value,
-            holding c.test_of.ensures.value (c.is_next_caller.ensures.exact t h),
-            (
-              named c.test_of-2.ensures.value,
-              holding c.test_of-2.ensures.value (c.can_enter.ensures.exact t h),
-              tt,
-            ),
-          )
+          (enter_says t c.args.caller) c.first_failing.result
+          (next c.test_of.result c.test_of.ensures.value (c.is_next_caller.ensures.exact t h)
+          (next c.test_of-2.result c.test_of-2.ensures.value (c.can_enter.ensures.exact t h) tt))
           c.first_failing.ensures.exact;
     }

@@ -1,6 +1,6 @@
 use Rattle.std.proofs.Common.{◌∷◌, []}
 use Rattle.check_reasons.specs.Conditions.{reserve_says}
-use Rattle.check_reasons.proofs.TellLemmas.{named, holding, tells}
+use Rattle.check_reasons.proofs.TellLemmas.{next, tells}
 use Rattle.check_reasons.proofs.changes.reserve_fails.Goals as goal
 
 pub returns : goal.returns
@@ -8,22 +8,11 @@ returns c =
     record {
       exact = λ t h k. tells
           (c.test_of.result ∷ c.test_of-2.result ∷ c.test_of-3.result ∷ c.test_of-4.result ∷ [])
-          (reserve_says t c.args.caller c.args.base c.args.size) c.first_failing.result (
-            named c.test_of.ensures.value,
-            holding c.test_of.ensures.value (c.is_known.ensures.exact t h),
-            (
-              named c.test_of-2.ensures.value,
-              holding c.test_of-2.ensures.value (c.is_next.ensures.exact t h),
-              (
-                named c.test_of-3.ensures.value,
-                holding c.test_of-3.ensures.value (c.has_room.ensures.exact t h),
-                (
-                  named c.test_of-4.ensures.value,
-                  holding c.test_of-4.ensures.value (c.in_ok-may.ensures.exact t h k),
-                  tt,
-                ),
-              ),
-            ),
-          )
+          (reserve_says t c.args.caller c.args.base c.args.size) c.first_failing.result
+          (next c.test_of.result c.test_of.ensures.value (c.is_known.ensures.exact t h)
+          (next c.test_of-2.result c.test_of-2.ensures.value (c.is_next.ensures.exact t h)
+          (next c.test_of-3.result c.test_of-3.ensures.value (c.has_room.ensures.exact t h)
+          (next c.test_of-4.result c.test_of-4.ensures.value
+          (c.in_ok-may.ensures.exact t h k) tt))))
           c.first_failing.ensures.exact;
     }

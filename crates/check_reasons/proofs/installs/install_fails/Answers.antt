@@ -2,7 +2,7 @@ use Rattle.std.proofs.Common.{◌∷◌, [], subst}
 use Rattle.ist_core.specs.Logs.{state}
 use Rattle.check_reasons.specs.Conditions.{says_of_change}
 use Rattle.check_reasons.specs.Failing.{Tells}
-use Rattle.check_reasons.proofs.TellLemmas.{named, holding, tells}
+use Rattle.check_reasons.proofs.TellLemmas.{next, tells}
 use Rattle.check_reasons.proofs.installs.install_fails.Goals as goal
 
 pub returns : goal.returns
@@ -12,43 +12,24 @@ returns c =
           let change = c.first_change-change.result in
           subst (λ o. Tells (says_of_change first log c.args.caller c.args.base c.args.rows.now o)
           c.first_failing.result) c.first_change-change.ensures.value (tells
-          (c.test_of.result ∷ c.test_of-2.result ∷ c.test_of-3.result ∷ c.test_of-4.result ∷ c.test_of-5.result ∷ c.test_of-6.result ∷ c.test_of-7.result ∷ c.test_of-8.result ∷ c.test_of-9.result ∷ [])
-          (says_of_change first log c.args.caller c.args.base c.args.rows.now change) c.first_failing.result (
-            named c.test_of.ensures.value,
-            holding c.test_of.ensures.value (c.is_known.ensures.exact (state first log) h),
-            (
-              named c.test_of-2.ensures.value,
-              holding c.test_of-2.ensures.value c.is_there.ensures.exact,
-              (
-                named c.test_of-3.ensures.value,
-                holding c.test_of-3.ensures.value (c.holds_rows.ensures.exact (state first log) h),
-                (
-                  named c.test_of-4.ensures.value,
-                  holding c.test_of-4.ensures.value c.is_owned.ensures.exact,
-                  (
-                    named c.test_of-5.ensures.value,
-                    holding c.test_of-5.ensures.value c.is_unset.ensures.exact,
-                    (
-                      named c.test_of-6.ensures.value,
-                      holding c.test_of-6.ensures.value (c.is_in_slot.ensures.exact (state first log) h),
-                      (
-                        named c.test_of-7.ensures.value,
-                        holding c.test_of-7.ensures.value (c.is_linked.ensures.exact first log k),
-                        (
-                          named c.test_of-8.ensures.value,
-                          holding c.test_of-8.ensures.value (c.is_free.ensures.exact (state first log) r),
-                          (
-                            named c.test_of-9.ensures.value,
-                            holding c.test_of-9.ensures.value (c.can_install.ensures.exact first log h k w r s stay),
-                            tt,
-                          ),
-                        ),
-                      ),
-                    ),
-                  ),
-                ),
-              ),
-            ),
-          )
+          (c.test_of.result ∷ c.test_of-2.result ∷ c.test_of-3.result ∷ c.test_of-4.result
+          ∷ c.test_of-5.result ∷ c.test_of-6.result ∷ c.test_of-7.result ∷ c.test_of-8.result
+          ∷ c.test_of-9.result ∷ [])
+          (says_of_change first log c.args.caller c.args.base c.args.rows.now change)
+          c.first_failing.result
+          (next c.test_of.result c.test_of.ensures.value
+          (c.is_known.ensures.exact (state first log) h)
+          (next c.test_of-2.result c.test_of-2.ensures.value c.is_there.ensures.exact
+          (next c.test_of-3.result c.test_of-3.ensures.value
+          (c.holds_rows.ensures.exact (state first log) h)
+          (next c.test_of-4.result c.test_of-4.ensures.value c.is_owned.ensures.exact
+          (next c.test_of-5.result c.test_of-5.ensures.value c.is_unset.ensures.exact
+          (next c.test_of-6.result c.test_of-6.ensures.value
+          (c.is_in_slot.ensures.exact (state first log) h)
+          (next c.test_of-7.result c.test_of-7.ensures.value (c.is_linked.ensures.exact first log k)
+          (next c.test_of-8.result c.test_of-8.ensures.value
+          (c.is_free.ensures.exact (state first log) r)
+          (next c.test_of-9.result c.test_of-9.ensures.value
+          (c.can_install.ensures.exact first log h k w r s stay) tt)))))))))
           c.first_failing.ensures.exact);
     }

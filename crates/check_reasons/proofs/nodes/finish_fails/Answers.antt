@@ -1,6 +1,6 @@
 use Rattle.std.proofs.Common.{◌∷◌, []}
 use Rattle.check_reasons.specs.Conditions.{finish_says}
-use Rattle.check_reasons.proofs.TellLemmas.{named, holding, tells}
+use Rattle.check_reasons.proofs.TellLemmas.{next, tells}
 use Rattle.check_reasons.proofs.nodes.finish_fails.Goals as goal
 
 pub returns : goal.returns
@@ -8,22 +8,11 @@ returns c =
     record {
       exact = λ t log h k. tells
           (c.test_of.result ∷ c.test_of-2.result ∷ c.test_of-3.result ∷ c.test_of-4.result ∷ [])
-          (finish_says t log c.args.caller c.args.node c.args.keys) c.first_failing.result (
-            named c.test_of.ensures.value,
-            holding c.test_of.ensures.value (c.is_known.ensures.exact t h),
-            (
-              named c.test_of-2.ensures.value,
-              holding c.test_of-2.ensures.value (c.has_inner.ensures.exact t h),
-              (
-                named c.test_of-3.ensures.value,
-                holding c.test_of-3.ensures.value (c.has_status.ensures.exact t h),
-                (
-                  named c.test_of-4.ensures.value,
-                  holding c.test_of-4.ensures.value (c.can_finish.ensures.exact t log h k),
-                  tt,
-                ),
-              ),
-            ),
-          )
+          (finish_says t log c.args.caller c.args.node c.args.keys) c.first_failing.result
+          (next c.test_of.result c.test_of.ensures.value (c.is_known.ensures.exact t h)
+          (next c.test_of-2.result c.test_of-2.ensures.value (c.has_inner.ensures.exact t h)
+          (next c.test_of-3.result c.test_of-3.ensures.value (c.has_status.ensures.exact t h)
+          (next c.test_of-4.result c.test_of-4.ensures.value
+          (c.can_finish.ensures.exact t log h k) tt))))
           c.first_failing.ensures.exact;
     }

@@ -1,37 +1,20 @@
 use Rattle.std.proofs.Common.{◌∷◌, []}
 use Rattle.check_reasons.specs.Conditions.{pass_says}
-use Rattle.check_reasons.proofs.TellLemmas.{named, holding, tells}
+use Rattle.check_reasons.proofs.TellLemmas.{next, tells}
 use Rattle.check_reasons.proofs.nodes.pass_fails.Goals as goal
 
 pub returns : goal.returns
 returns c =
     record {
       exact = λ t h. tells
-          (c.test_of.result ∷ c.test_of-2.result ∷ c.test_of-3.result ∷ c.test_of-4.result ∷ c.test_of-5.result ∷ c.test_of-6.result ∷ [])
-          (pass_says t c.args.caller c.args.node c.args.i c.args.word) c.first_failing.result (
-            named c.test_of.ensures.value,
-            holding c.test_of.ensures.value (c.is_known.ensures.exact t h),
-            (
-              named c.test_of-2.ensures.value,
-              holding c.test_of-2.ensures.value (c.has_inner.ensures.exact t h),
-              (
-                named c.test_of-3.ensures.value,
-                holding c.test_of-3.ensures.value (c.has_status.ensures.exact t h),
-                (
-                  named c.test_of-4.ensures.value,
-                  holding c.test_of-4.ensures.value (c.has_in_slot.ensures.exact t h),
-                  (
-                    named c.test_of-5.ensures.value,
-                    holding c.test_of-5.ensures.value c.names_no_change.ensures.exact,
-                    (
-                      named c.test_of-6.ensures.value,
-                      holding c.test_of-6.ensures.value (c.can_pass.ensures.exact t h),
-                      tt,
-                    ),
-                  ),
-                ),
-              ),
-            ),
-          )
+          (c.test_of.result ∷ c.test_of-2.result ∷ c.test_of-3.result ∷ c.test_of-4.result
+          ∷ c.test_of-5.result ∷ c.test_of-6.result ∷ [])
+          (pass_says t c.args.caller c.args.node c.args.i c.args.word) c.first_failing.result
+          (next c.test_of.result c.test_of.ensures.value (c.is_known.ensures.exact t h)
+          (next c.test_of-2.result c.test_of-2.ensures.value (c.has_inner.ensures.exact t h)
+          (next c.test_of-3.result c.test_of-3.ensures.value (c.has_status.ensures.exact t h)
+          (next c.test_of-4.result c.test_of-4.ensures.value (c.has_in_slot.ensures.exact t h)
+          (next c.test_of-5.result c.test_of-5.ensures.value c.names_no_change.ensures.exact
+          (next c.test_of-6.result c.test_of-6.ensures.value (c.can_pass.ensures.exact t h) tt))))))
           c.first_failing.ensures.exact;
     }

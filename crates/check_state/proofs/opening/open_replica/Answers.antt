@@ -1,4 +1,4 @@
-use Rattle.std.proofs.Common.{◌≡◌, ◌∙◌, ap, arith, length, refl, None}
+use Rattle.std.proofs.Common.{◌∙◌, ap, arith, length, refl, None}
 use Rattle.ist_core.specs.RowLayout.{first_row}
 use Rattle.ist_core.specs.References.{word_of}
 use Rattle.ist_core.specs.StartLayout.{start, tree_at}
@@ -21,17 +21,16 @@ pub returns : goal.returns
 returns c =
     let pairs = c.args.pairs.now in
     let t = start pairs c.args.words in
-    let first : c.from-first.result ≡ first_row = c.from-first.ensures in
     let words = c.ideal_words.ensures.value in
     record {
-      mirrors = opened c.put_tree.new.replica t c.from-first.result pairs first
+      mirrors = opened c.put_tree.new.replica t c.from-first.result pairs c.from-first.ensures
           (c.in_ok-put_tree.ensures.exact (record t { pieces = λ base. None })
           record {
             words = refl;
             next = omega arith;
             callers = refl;
             anchor = c.word_at.ensures.value pairs refl ∙ ap (λ base. word_of (tree_at base pairs))
-                first;
+                c.from-first.ensures;
             leaves = λ base. finds_none c.new.result base c.new.ensures.empty;
             inners = λ base. finds_none c.new-2.result base c.new-2.ensures.empty;
             changes = λ base. finds_none c.new-3.result base c.new-3.ensures.empty;

@@ -1,7 +1,7 @@
 use Rattle.std.proofs.Common.{sym, ap, subst, ◌∙◌, arith}
 use Rattle.ist_rule.specs.Faces.{SeatFace, TableFace}
 use Rattle.ist_rule.specs.Conditions.{CanBegin}
-use Rattle.ist_rule.proofs.TurnedSeatLemmas.{begins_moves}
+use Rattle.ist_rule.proofs.CallPlayLemmas.{begins_moves}
 use Rattle.ist_rule.proofs.calling.begin_as.Goals as goal
 
 -- a load that begins a call keeps the rule

@@ -1,6 +1,6 @@
 use Rattle.std.proofs.Common.{sym, ap, ◌∙◌, arith}
 use Rattle.ist_rule.specs.Faces.{SeatFace, TableFace}
-use Rattle.ist_rule.proofs.TurnedSeatLemmas.{searches_moves}
+use Rattle.ist_rule.proofs.CallPlayLemmas.{searches_moves}
 use Rattle.ist_rule.proofs.calling.begin_search.Goals as goal
 
 -- a load that begins a search keeps the rule

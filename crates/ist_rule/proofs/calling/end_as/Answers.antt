@@ -2,7 +2,7 @@ use Rattle.std.proofs.Common.{sym, ap, subst, ◌∙◌, arith}
 use Rattle.ist_rule.specs.declared.view.View.{View}
 use Rattle.ist_rule.specs.Faces.{SeatFace, TableFace}
 use Rattle.ist_rule.specs.Conditions.{CanEnd}
-use Rattle.ist_rule.proofs.TurnedSeatLemmas.{ends_moves}
+use Rattle.ist_rule.proofs.CallPlayLemmas.{ends_moves}
 use Rattle.ist_rule.proofs.calling.end_as.Goals as goal
 
 -- a load that ends a call keeps the rule

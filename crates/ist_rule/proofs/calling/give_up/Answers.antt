@@ -1,7 +1,7 @@
 use Rattle.std.proofs.Common.{sym, ap, subst, ◌∙◌, arith}
 use Rattle.ist_rule.specs.Faces.{SeatFace, TableFace}
 use Rattle.ist_rule.specs.Conditions.{CanGiveUp}
-use Rattle.ist_rule.proofs.TurnedSeatLemmas.{gives_up_moves}
+use Rattle.ist_rule.proofs.CallPlayLemmas.{gives_up_moves}
 use Rattle.ist_rule.proofs.calling.give_up.Goals as goal
 
 -- a load that gives up a call keeps the rule

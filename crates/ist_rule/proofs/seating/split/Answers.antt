@@ -19,23 +19,21 @@ split_seat-requires c =
 -- the seat that was split is sound
 pub invariant_of-seat : goal.invariant_of-seat
 invariant_of-seat c =
-    let e = c.split_seat.ensures in
     let v : View = c.seat.inside.seat.me.0 in
-    let me = e.2 in (
+    let me = c.split_seat.ensures.2 in (
       ap (λ (m : Seated). m.1) me ∙ c.seat.invariant.0,
       subst (λ (m : Seated). IsSound m.0) (sym me) (left_sound v c.seat.invariant.1),
       ap (λ (m : Seated). m.0.words) me ∙ left_words v ∙ c.seat.invariant.2 ∙ sym
-          (ap (λ t. t.words) e.0),
+          (ap (λ t. t.words) c.split_seat.ensures.0),
     )
 
 -- the new seat keeps the invariant too
 pub invariant_of-result : goal.invariant_of-result
 invariant_of-result c =
-    let e = c.split_seat.ensures in
     let v : View = c.seat.inside.seat.me.0 in
-    let me = e.4 in (
+    let me = c.split_seat.ensures.4 in (
       ap (λ (m : Seated). m.1) me,
       subst (λ (m : Seated). IsSound m.0) (sym me) (right_sound v c.seat.invariant.1),
       ap (λ (m : Seated). m.0.words) me ∙ right_words v ∙ c.seat.invariant.2 ∙ sym
-          (ap (λ t. t.words) e.3),
+          (ap (λ t. t.words) c.split_seat.ensures.3),
     )

@@ -1,7 +1,7 @@
 use Rattle.std.proofs.Common.{sym, ap, subst, ◌∙◌, arith}
 use Rattle.ist_rule.specs.Faces.{SeatFace, TableFace}
 use Rattle.ist_rule.specs.Conditions.{CanAdd}
-use Rattle.ist_rule.proofs.LogLemmas.{adds_moves}
+use Rattle.ist_rule.proofs.ExchangeLemmas.{adds_moves}
 use Rattle.ist_rule.proofs.steps.add_as.Goals as goal
 
 -- an add that may be made keeps the rule

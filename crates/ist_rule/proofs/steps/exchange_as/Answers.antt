@@ -1,7 +1,7 @@
 use Rattle.std.proofs.Common.{sym, ap, subst, ◌∙◌, arith}
 use Rattle.ist_rule.specs.Faces.{SeatFace, TableFace}
 use Rattle.ist_rule.specs.Conditions.{CanExchange}
-use Rattle.ist_rule.proofs.LogLemmas.{exchanges_moves, exchanged_sound}
+use Rattle.ist_rule.proofs.ExchangeLemmas.{exchanges_moves, exchanged_sound}
 use Rattle.ist_rule.proofs.steps.exchange_as.Goals as goal
 
 -- an exchange that may be made keeps the rule

@@ -9,8 +9,7 @@ loop-task-init g c =
     c.word-first.result
     c.from.result c.word-used.ensures.value c.word-first.ensures.value c.from.ensures
     (c.in_ok-marks.ensures.items_if_clones_equal (λ y e. e)) c.new-left.ensures.items
-    c.in_ok-push.ensures.items
-    c.new-found.ensures.items
+    c.in_ok-push.ensures.items c.new-found.ensures.items
 
 pub returns-then-not-branch-clause-broken : goal.returns-then-not-branch-clause-broken
 returns-then-not-branch-clause-broken g c =

@@ -1,4 +1,4 @@
-use Rattle.ist_words.proofs.AlikeLemmas.{lawful_zeros, break_zeros}
+use Rattle.ist_words.proofs.ZeroLemmas.{lawful_zeros, break_zeros}
 use Rattle.ist_words.proofs.laws.zeros_change_nothing.Goals as goal
 
 pub returns : goal.returns

@@ -1,4 +1,4 @@
-use Rattle.laws_rebuilds.proofs.LowLemmas.{draw_low}
+use Rattle.laws_rebuilds.proofs.DrawWordLemmas.{draw_low}
 use Rattle.laws_rebuilds.proofs.laws.draws_stay_low.Goals as goal
 
 pub returns : goal.returns

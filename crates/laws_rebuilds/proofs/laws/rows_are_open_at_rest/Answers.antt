@@ -1,4 +1,4 @@
-use Rattle.laws_rebuilds.proofs.RestLemmas.{rest_is_open}
+use Rattle.laws_rebuilds.proofs.OpenRowLemmas.{rest_is_open}
 use Rattle.laws_rebuilds.proofs.laws.rows_are_open_at_rest.Goals as goal
 
 pub returns : goal.returns

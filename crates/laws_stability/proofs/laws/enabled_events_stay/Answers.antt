@@ -1,7 +1,7 @@
 use Rattle.ist_core.specs.StartLayout.{start}
+use Rattle.ist_core.proofs.PrefixLemmas.{goes_on_by}
 use Rattle.laws_stability.proofs.BuildEventLemmas as builds
 use Rattle.laws_stability.proofs.ChangeEventLemmas as changes
-use Rattle.laws_stability.proofs.LaterLemmas.{goes_on}
 use Rattle.laws_stability.proofs.NodeEventLemmas as nodes
 use Rattle.laws_stability.proofs.SpareEventLemmas as spare
 use Rattle.laws_stability.proofs.laws.enabled_events_stay.Goals as goal
@@ -15,14 +15,14 @@ returns c =
           spare.reserve_stays pairs words l.opens caller on l.enabled base size can p;
       decide = λ caller base said pairs words earlier log l on can p.
           changes.decide_stays pairs words l.opens earlier log
-          (goes_on on) l.enabled caller base said can p;
+          (goes_on_by on) l.enabled caller base said can p;
       resolve = λ caller base pairs words earlier log l on can p.
           changes.resolve_stays pairs words l.opens earlier log
-          (goes_on on) l.enabled caller base can p;
+          (goes_on_by on) l.enabled caller base can p;
       mark = λ caller node pairs words earlier log l on can p.
-          nodes.mark_stays pairs words earlier log (goes_on on) l.enabled caller node can p;
+          nodes.mark_stays pairs words earlier log (goes_on_by on) l.enabled caller node can p;
       finish = λ caller node keys pairs words earlier log l on can p.
-          nodes.finish_stays pairs words earlier log (goes_on on) l.enabled caller node keys can p;
+          nodes.finish_stays pairs words earlier log (goes_on_by on) l.enabled caller node keys can p;
       root = λ caller rebuild word rows pairs words earlier log l on can p.
           builds.root_stays pairs words l.opens caller on l.enabled rebuild word rows can p;
       draw = λ caller rebuild part pairs words earlier log l on can p.

@@ -8,28 +8,13 @@ use Rattle.test_parts.proofs.races.find_both.Goals as goal
 pub returns-then-word_count-lt44-clause-went : goal.returns-then-word_count-lt44-clause-went
 returns-then-word_count-lt44-clause-went c = went_same KeepsRows _ c.know.ensures.sound
 
-pub returns-then-degree-ne2-clause-went : goal.returns-then-degree-ne2-clause-went
-returns-then-degree-ne2-clause-went c =
-    went_four _ _ _ _ _ _ _ _ _ _ _ _ _ c.load-degree.ensures.looked c.load-low.ensures.looked
-    c.load-high.ensures.looked c.load-key.ensures.looked
-
-pub returns-then-low-ne89-clause-went : goal.returns-then-low-ne89-clause-went
-returns-then-low-ne89-clause-went c =
-    went_four _ _ _ _ _ _ _ _ _ _ _ _ _ c.load-degree.ensures.looked c.load-low.ensures.looked
-    c.load-high.ensures.looked c.load-key.ensures.looked
-
-pub returns-then-high-ne105-clause-went : goal.returns-then-high-ne105-clause-went
-returns-then-high-ne105-clause-went c =
-    went_four _ _ _ _ _ _ _ _ _ _ _ _ _ c.load-degree.ensures.looked c.load-low.ensures.looked
-    c.load-high.ensures.looked c.load-key.ensures.looked
-
-pub returns-then-key-ne9-clause-went : goal.returns-then-key-ne9-clause-went
-returns-then-key-ne9-clause-went c =
-    went_four _ _ _ _ _ _ _ _ _ _ _ _ _ c.load-degree.ensures.looked c.load-low.ensures.looked
-    c.load-high.ensures.looked c.load-key.ensures.looked
-
 pub returns-clause-went : goal.returns-clause-went
 returns-clause-went c =
+    went_four _ _ _ _ _ _ _ _ _ _ _ _ _ c.load-degree.ensures.looked c.load-low.ensures.looked
+    c.load-high.ensures.looked c.load-key.ensures.looked
+
+pub returns-then-degree-ne2-clause-went : goal.returns-then-degree-ne2-clause-went
+returns-then-degree-ne2-clause-went c =
     went_four _ _ _ _ _ _ _ _ _ _ _ _ _ c.load-degree.ensures.looked c.load-low.ensures.looked
     c.load-high.ensures.looked c.load-key.ensures.looked
 

@@ -31,16 +31,6 @@ returns-then-kind-ne3-clause-went c =
     went_help _ _ _ _ _ 20 _ _ _ _ _ _ c.help-decision.ensures.went c.load-kind.ensures.looked
     c.load-to.ensures.looked c.load-target.ensures.looked
 
-pub returns-then-to-ne124-clause-went : goal.returns-then-to-ne124-clause-went
-returns-then-to-ne124-clause-went c =
-    went_help _ _ _ _ _ 20 _ _ _ _ _ _ c.help-decision.ensures.went c.load-kind.ensures.looked
-    c.load-to.ensures.looked c.load-target.ensures.looked
-
-pub returns-then-target-ne4-clause-went : goal.returns-then-target-ne4-clause-went
-returns-then-target-ne4-clause-went c =
-    went_help _ _ _ _ _ 20 _ _ _ _ _ _ c.help-decision.ensures.went c.load-kind.ensures.looked
-    c.load-to.ensures.looked c.load-target.ensures.looked
-
 pub returns-in-Yes-clause-went : goal.returns-in-Yes-clause-went
 returns-in-Yes-clause-went c =
     went_help _ _ _ _ _ 20 _ _ _ _ _ _ c.help-decision.ensures.went c.load-kind.ensures.looked

@@ -40,11 +40,6 @@ module _ {A : Type 0} (f : A → List ℕ) (xs : List A) where
   pub rest_none : (i n : ℕ) → length xs ≤ i → [] ≡ rest_at (map f xs) i n
   rest_none i n h = sym (ap (drop n) (list_past f xs i h) ∙ drop_none n)
 
-  -- past the end of a list nothing is left of it
-  pub rest_past : (i n : ℕ) (x : A) → i < length xs → x ≡ get_or xs i x → length (f x) ≤ n
-      → [] ≡ rest_at (map f xs) i n
-  rest_past i n x h e past = sym (ap (drop n) (list_at f xs i x h e) ∙ drop_past n (f x) past)
-
   -- what is left of a list is its elements from the place on
   pub rest_is : (i n : ℕ) (x : A) → i < length xs → x ≡ get_or xs i x
       → take (length (f x) - n) (drop n (f x)) ≡ rest_at (map f xs) i n

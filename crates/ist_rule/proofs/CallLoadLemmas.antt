@@ -13,13 +13,14 @@ use Rattle.ist_rule.specs.declared.view.View.{View}
 use Rattle.ist_rule.specs.declared.view.Pending.{Pending}
 use Rattle.ist_rule.specs.declared.view.About.{About}
 use Rattle.ist_core.specs.declared.events.Who.{Who}
-use Rattle.ist_core.specs.declared.events.Who.TheVariants.{Maker, Caller, Note}
+use Rattle.ist_core.specs.declared.events.Who.TheVariants.{Caller, Note}
 use Rattle.ist_core.specs.Authors.{no_more, Later}
+use Rattle.ist_core.proofs.PrefixLemmas.{goes_on_by}
 use Rattle.ist_rule.specs.Standings.{StandsInPrefix, HasMade, IsBetween, CallStands}
 use Rattle.ist_rule.specs.Rule.{KeepsCalls, its_own, noted, Fits}
 use Rattle.ist_rule.specs.Learning.{beginning, searching, ending, giving_up}
 use Rattle.ist_rule.specs.Conditions.{CanEnd, CanGiveUp}
-use Rattle.ist_rule.proofs.LaterLemmas.{later-goes_on}
+use Rattle.ist_rule.proofs.WhoLemmas.{caller_maker, same_number}
 use Rattle.ist_rule.proofs.UndecidedLemmas.{none_undecided}
 use Rattle.ist_rule.proofs.CallLemmas.{between_later}
 use Rattle.ist_rule.proofs.FitLemmas.{each_map, well_made_on}
@@ -33,12 +34,6 @@ keeps_own number other _ noted e = absurd (note_caller e)
   where
     note_caller : Note (Some number) ≡ Caller other → ⊥
     note_caller f = cc
-
-caller_maker : (number : ℕ) → Caller number ≡ Maker → ⊥
-caller_maker number e = cc
-
-same_number : (m n : ℕ) → Caller m ≡ Caller n → m ≡ n
-same_number m n e = cc
 
 -- what became of the changes of a caller, when it is between calls and begins one
 begun : (pairs : List Pair) (words : ℕ) (log : Log) → Lawful pairs words log
@@ -70,7 +65,7 @@ can_begin v number command who none =
     fits : (k : About) (log : Log) (image : List ℕ) → Lawful k.start.value.items k.words log
         → Fits k log image v → Fits k log image (beginning v command log)
     fits k log image lawful f =
-        let m = well_made_on k.start.value.items k.words v log (later-goes_on f.later)
+        let m = well_made_on k.start.value.items k.words v log (goes_on_by f.later)
         f.well_made in
         let t = f.is_true in
         record {
@@ -123,7 +118,7 @@ can_search v =
     fits : (k : About) (log : Log) (image : List ℕ) → Lawful k.start.value.items k.words log
         → Fits k log image v → Fits k log image (searching v log)
     fits k log image lawful f =
-        let m = well_made_on k.start.value.items k.words v log (later-goes_on f.later)
+        let m = well_made_on k.start.value.items k.words v log (goes_on_by f.later)
         f.well_made in
         let t = f.is_true in
         record {
@@ -171,7 +166,7 @@ can_end v call can =
     fits : (k : About) (log : Log) (image : List ℕ) → Lawful k.start.value.items k.words log
         → Fits k log image v → Fits k log image (ending v call log)
     fits k log image lawful f =
-        let m = well_made_on k.start.value.items k.words v log (later-goes_on f.later)
+        let m = well_made_on k.start.value.items k.words v log (goes_on_by f.later)
         f.well_made in
         let t = f.is_true in
         let stand = as_table k log image v f
@@ -190,7 +185,7 @@ can_end v call can =
             stands = λ n keeps.
                 subst (λ i. StandsInPrefix k.start.value.items k.words log i (v.calls ++ call ∷ []))
                 (sym (keeps_own n can.number v.who keeps can.mine))
-                record { prefix = v.log; goes_on = later-goes_on f.later; stands = stand };
+                record { prefix = v.log; goes_on = goes_on_by f.later; stands = stand };
             stamps = each_append (λ c. c.stamp ≤ call.stamp) v.calls (call ∷ [])
                 (each_map (λ c. c.stamp ≤ v.stamp) (λ c. c.stamp ≤ call.stamp) v.calls
                 (λ c _ le. omega arith) m.stamps) (omega arith, tt);
@@ -234,7 +229,7 @@ can_give_up v can =
     fits : (k : About) (log : Log) (image : List ℕ) → Lawful k.start.value.items k.words log
         → Fits k log image v → Fits k log image (giving_up v log)
     fits k log image lawful f =
-        let m = well_made_on k.start.value.items k.words v log (later-goes_on f.later)
+        let m = well_made_on k.start.value.items k.words v log (goes_on_by f.later)
         f.well_made in
         let t = f.is_true in
         let made = as_table k log image v f (λ p n. HasMade p n v.log can.number v.calls)

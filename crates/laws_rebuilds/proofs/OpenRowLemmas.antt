@@ -1,6 +1,6 @@
 -- If each started rebuild was replaced, or hangs in a row that isn't open, each linked row is open.
 -- Serves `laws.rows_are_open_at_rest`.
-use Rattle.std.proofs.Common.{List, None, Some, ap, arith, false, inl, inr, refl, subst, suc, sym, true, zero, ℕ, ⊎_elim, ◌<◌, ◌==◌, ◌∙◌, ◌≡◌, ◌≢◌, ◌⊎◌}
+use Rattle.std.proofs.Common.{List, Some, ap, arith, false, inl, inr, refl, subst, suc, sym, true, zero, ℕ, ⊎_elim, ◌<◌, ◌==◌, ◌∙◌, ◌≡◌, ◌≢◌, ◌⊎◌}
 use Rattle.std.proofs.lemmas.Bool.Decides.{eqb_tells}
 use Rattle.ist_core.specs.declared.pairs.Pair.{Pair}
 use Rattle.ist_core.specs.declared.states.InnerRow.{InnerRow}
@@ -22,7 +22,7 @@ use Rattle.ist_core.proofs.MentionLemmas.{child_mentioned}
 use Rattle.ist_core.proofs.OrderLemmas.{child_above, names}
 use Rattle.ist_core.proofs.ParentLemmas.{one_home}
 use Rattle.ist_core.proofs.PlaceLemmas.{anchor_free}
-use Rattle.ist_core.proofs.SlotLemmas.{no_row, same_inner}
+use Rattle.ist_core.proofs.SlotLemmas.{closed_not_open}
 use Rattle.laws_links.proofs.ClosedLemmas.{linked_now}
 use Rattle.laws_links.proofs.UntouchedLemmas.{not_the_anchor, was_linked_here}
 use Rattle.laws_rebuilds.proofs.CalledLemmas.{closed_is_called}
@@ -35,17 +35,9 @@ kept_word : (t : Snapshot) (log : Log) (node i word : ℕ) → KeepsWord t log n
 kept_word t log node i word (holds_it slot) = (word, slot)
 kept_word t log node i word (holds_change v) = (word_of (ChangeAt v.base), v.in_slot)
 
--- a row with a status that isn't open isn't open
-shut_row : (t : Snapshot) (node : ℕ) (r : InnerRow) → t.pieces anchor ≡ None
-    → t.pieces node ≡ Some (Inner r)
-    → r.status ≢ open_word → ¬ (IsOpen t node)
-shut_row t node r free e shut (anchor_is a) = no_row t.pieces node r free a e
-shut_row t node r free e shut (row_is s p o) =
-    shut (ap (λ x. x.status) (same_inner (t.pieces node) r s e p) ∙ o)
-
 module _ (pairs : List Pair) (words : ℕ) (opens : CanOpen pairs words) where
   -- the row that a passed word leads to hangs in a row that isn't open
-  passed_closed : (log : Log) → EachEnabled (start pairs words) log
+  pub passed_closed : (log : Log) → EachEnabled (start pairs words) log
       → (node i child above j word : ℕ)
       → Mentions (state_of pairs words log) node i (InnerAt child)
       → Happened (Passes above j word) log
@@ -57,7 +49,7 @@ module _ (pairs : List Pair) (words : ℕ) (opens : CanOpen pairs words) where
       let slot = kept_word t log above j word c.keeps in
       let is_child : IsChild t above j child = record { word = slot.0; holds = slot.1; reads = frozen_reads pairs words opens log h above j word slot.0 p slot.1 ∙ leads } in
       let home = (one_home pairs words opens log h).one node i above j child named (child_mentioned t above j child (names pairs words opens log h) is_child) in
-      shut_row t above c.row (anchor_free pairs words log h) c.published c.closed
+      closed_not_open t above c.row (anchor_free pairs words log h) c.published c.closed
       (subst (λ n. IsOpen t n) home.0 o)
 
   -- if rebuilds are done, a linked row that isn't open hangs in one that isn't open

@@ -11,7 +11,7 @@ use Rattle.ist_rule.specs.Playing.{Seated, begins, searches, ends, gives_up}
 use Rattle.ist_rule.specs.Learning.{beginning, searching, ending, giving_up}
 use Rattle.ist_rule.specs.Conditions.{CanBegin, CanEnd, CanGiveUp}
 use Rattle.ist_rule.proofs.LookLemmas.{turns_moves}
-use Rattle.ist_rule.proofs.TurnLemmas.{can_begin, can_search, can_end, can_give_up}
+use Rattle.ist_rule.proofs.CallLoadLemmas.{can_begin, can_search, can_end, can_give_up}
 
 -- ---- the loads
 

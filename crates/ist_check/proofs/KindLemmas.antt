@@ -1,0 +1,56 @@
+-- Kinds of events, and what is said of an event said of the same event in other words. Serves
+-- `coming.rt` and `failing.rt`.
+use Rattle.std.proofs.Common.{◌≡◌, ◌≢◌, ◌↔◌, ℕ, IsTrue, Bool, List, Option, refl, subst}
+use Rattle.ist_core.specs.declared.events.Event.{Event}
+use Rattle.ist_core.specs.declared.events.Event.TheVariants.{Enter, Reserve, Install, Okay, Decide, Resolve, Count, Mark, Pass, Finish, Root, Draw, Place, Lose}
+use Rattle.ist_core.specs.declared.lists.Row.{Row}
+use Rattle.ist_core.specs.declared.pairs.Pair.{Pair}
+use Rattle.ist_core.specs.StartLayout.{start}
+use Rattle.ist_core.specs.Logs.{Log}
+use Rattle.ist_core.specs.Enabled.{Enabled}
+use Rattle.check_reasons.specs.declared.conditions.Condition.{Condition}
+use Rattle.check_reasons.specs.Conditions.{says_of}
+use Rattle.check_reasons.specs.Failing.{Tells}
+use Rattle.ist_check.specs.Knowing.{IsOfBuild}
+
+module _ (pairs : List Pair) (words : ℕ) (log : Log) {other event : Event} (is : other ≡ event) where
+  -- the same event may come
+  pub enabled_by : (may : Bool) → (IsTrue may ↔ Enabled (start pairs words) log other)
+      → IsTrue may ↔ Enabled (start pairs words) log event
+  enabled_by may = subst (λ e. IsTrue may ↔ Enabled (start pairs words) log e) is
+
+  -- the same condition of it fails first
+  pub tells_by : (fails : Option Condition) → Tells (says_of (start pairs words) log other) fails
+      → Tells (says_of (start pairs words) log event) fails
+  tells_by fails = subst (λ e. Tells (says_of (start pairs words) log e) fails) is
+
+-- an event of none of the other kinds is of a build
+pub of_build : (e : Event) → ((c : ℕ) → e ≢ Enter c) → ((c b n : ℕ) → e ≢ Reserve c b n)
+    → ((c x : ℕ) (rows : List Row) → e ≢ Install c x rows) → ((c x : ℕ) → e ≢ Okay c x)
+    → ((c x : ℕ) (said : Bool) → e ≢ Decide c x said) → ((c x : ℕ) → e ≢ Resolve c x)
+    → ((c n : ℕ) → e ≢ Count c n) → ((c n : ℕ) → e ≢ Mark c n)
+    → ((c n i w : ℕ) → e ≢ Pass c n i w) → ((c n k : ℕ) → e ≢ Finish c n k) → IsOfBuild e
+of_build (Enter c) enter reserve install okay decide resolve count mark pass finish =
+    absurd (enter c refl)
+of_build (Reserve c b n) enter reserve install okay decide resolve count mark pass finish =
+    absurd (reserve c b n refl)
+of_build (Install c x rows) enter reserve install okay decide resolve count mark pass finish =
+    absurd (install c x rows refl)
+of_build (Okay c x) enter reserve install okay decide resolve count mark pass finish =
+    absurd (okay c x refl)
+of_build (Decide c x said) enter reserve install okay decide resolve count mark pass finish =
+    absurd (decide c x said refl)
+of_build (Resolve c x) enter reserve install okay decide resolve count mark pass finish =
+    absurd (resolve c x refl)
+of_build (Count c n) enter reserve install okay decide resolve count mark pass finish =
+    absurd (count c n refl)
+of_build (Mark c n) enter reserve install okay decide resolve count mark pass finish =
+    absurd (mark c n refl)
+of_build (Pass c n i w) enter reserve install okay decide resolve count mark pass finish =
+    absurd (pass c n i w refl)
+of_build (Finish c n k) enter reserve install okay decide resolve count mark pass finish =
+    absurd (finish c n k refl)
+of_build (Root c b w rows) enter reserve install okay decide resolve count mark pass finish = tt
+of_build (Draw c b i) enter reserve install okay decide resolve count mark pass finish = tt
+of_build (Place c b i w rows) enter reserve install okay decide resolve count mark pass finish = tt
+of_build (Lose c bases) enter reserve install okay decide resolve count mark pass finish = tt

@@ -1,0 +1,15 @@
+-- Who makes events: the maker, and callers by their numbers. Serves seats that open, split and join.
+use Rattle.std.proofs.Common.{◌≡◌, ℕ}
+use Rattle.ist_core.specs.declared.events.Who.TheVariants.{Caller, Maker}
+
+-- a caller isn't the maker
+pub caller_maker : (number : ℕ) → Caller number ≡ Maker → ⊥
+caller_maker number e = cc
+
+-- the maker is no caller
+pub maker_caller : (number : ℕ) → Maker ≡ Caller number → ⊥
+maker_caller number e = cc
+
+-- one caller has one number
+pub same_number : (m n : ℕ) → Caller m ≡ Caller n → m ≡ n
+same_number m n e = cc
