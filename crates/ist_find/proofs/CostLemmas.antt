@@ -1,5 +1,5 @@
 -- What the rows of a search cost, and that it makes few loads. Serves `find_from_anchor`.
-use Rattle.std.proofs.Common.{◌≡◌, ℕ, ◌+◌, ◌*◌, ◌^◌, ◌<◌, ◌≤◌, List, [], ◌∷◌, ◌++◌, refl, sym, ap, ap₂, ◌∙◌, arith}
+use Rattle.std.proofs.Common.{◌≡◌, ℕ, ◌+◌, ◌^◌, ◌<◌, ◌≤◌, List, [], ◌∷◌, ◌++◌, refl, sym, ap, ap₂, ◌∙◌, arith}
 use Rattle.std.proofs.lemmas.List.Sums.{sum_by-append}
 use Rattle.ist_core.specs.Arithmetic.{child_count}
 use Rattle.ist_core.specs.Elements.{Each}
@@ -18,6 +18,7 @@ use Rattle.ist_math.specs.Guess.{guess_in, distance}
 use Rattle.ist_rule.specs.Watching.{IsNode, is_anchor, is_inner}
 use Rattle.ist_find.specs.Searches.{IsRow, HasFewLoads, keys_at, row_cost, cost_of}
 use Rattle.ist_find.specs.Reads.{HasLooked, LooksFew}
+use Rattle.ist_find.specs.Looks.{HasSpent}
 use Rattle.ist_find.proofs.LookLemmas.{come_node, comes_later, look_comes}
 use Rattle.ist_find.proofs.RowLemmas.{keys_are, keys_on}
 
@@ -103,12 +104,6 @@ look_cost v u m n s g key node i r (of_row row e is) first more =
     omega arith
 
 -- ---- how many they are
-
--- this many loads were made on the way to the node, few enough to be counted
-pub record HasSpent (v w : View) (node loads : ℕ) : Type 0 where
-  pub count : w.loaded ≡ v.loaded + loads
-  pub few : loads ≤ node * 2 ^ 31
-  pub low : node < 2 ^ 28
 
 -- a look at a row above is counted too
 pub spent_on : (v w u : View) (node base loads more : ℕ) → HasSpent v w node loads → node < base

@@ -1,46 +1,21 @@
 -- Looks at the keys of a row: one after the other, and by a gallop. Serves `keys`.
-use Rattle.std.proofs.Common.{
-  ◌≡◌,
-  ◌∙◌,
-  ℕ,
-  suc,
-  ◌+◌,
-  ◌-◌,
-  ◌*◌,
-  ◌^◌,
-  ◌<◌,
-  ◌≤◌,
-  nat_le,
-  nat_lt,
-  cond,
-  Bool,
-  true,
-  false,
-  List,
-  length,
-  get_or,
-  take,
-  ⊎_elim,
-  refl,
-  sym,
-  ap,
-  arith,
-}
+use Rattle.std.proofs.Common.{◌≡◌, ◌∙◌, ℕ, suc, ◌+◌, ◌-◌, ◌*◌, ◌<◌, ◌≤◌, nat_le, nat_lt, cond, Bool, true, false, List, length, get_or, take, ⊎_elim, refl, sym, ap, arith}
 use Rattle.std.proofs.lemmas.Bool.{cases_lt}
 use Rattle.std.proofs.lemmas.Bool.Decides.{nat_tests}
 use Rattle.std.proofs.lemmas.List.{take_all}
-use Rattle.std.proofs.lemmas.List.Sums.{count_by_more_yes, count_by_more_no}
+use Rattle.std.proofs.lemmas.List.Sums.{count_by_more_yes, count_by_more_no, count_by-le-length}
 use Rattle.ist_core.specs.Arithmetic.{child_count}
 use Rattle.ist_math.specs.declared.gallops.Gallop.{Gallop}
-use Rattle.ist_math.specs.Guess.{distance}
+use Rattle.ist_math.specs.Guess.{guess_in, distance}
 use Rattle.ist_math.specs.Gallops.{Gallops}
 use Rattle.ist_math.proofs.GallopLemmas.{end-near, end-far}
-use Rattle.ist_math.proofs.ChildLemmas.{HasGalloped, galloped_on, galloped_to}
+use Rattle.ist_math.proofs.ChildLemmas.{HasGalloped, galloped_on, galloped_to, looks_fit, child_is_first, child_is_last}
 use Rattle.ist_rule.specs.declared.view.View.{View}
 use Rattle.ist_rule.specs.Rule.{IsSound}
 use Rattle.ist_rule.specs.Learning.{GoesOnTo}
 use Rattle.ist_rule.proofs.GoingOnLemmas.{goes_on_same, goes_on_more}
 use Rattle.ist_find.specs.Searches.{IsRow, keys_at}
+use Rattle.ist_find.specs.Looks.{FindsChild}
 use Rattle.ist_find.proofs.RowLemmas.{row_on, keys_on, keys_rise}
 
 -- this many loads were made, and the row still has its keys
@@ -209,17 +184,93 @@ run_on v w u node from key g next looks at word h go count is up down low high g
           (goes from looks h.galloped.gallops);
     }
 
+-- a gallop makes few looks
+pub run_fits : (v w : View) (node from key count : ℕ) (g : Gallop) (looks : ℕ)
+    → HasRun v w node from key g looks → count ≡ length (keys_at v node) → from < count → looks ≤ 2 * count + 3
+run_fits v w node from key count g looks h long less =
+    let fit = looks_fit (keys_at v node) key from g looks h.galloped (omega arith) in omega arith
+
 -- at its end the child is found
-module _ (v w : View) (s : IsSound v) (node from key : ℕ) (g : Gallop) (looks : ℕ)
-    (h : HasRun v w node from key g looks) (end : g.low + 1 ≡ g.high) where
-  -- its high end is the child for the key
-  pub run_to : IsRow v node → g.high ≡ child_count (keys_at v node) key
-  run_to r = sym (galloped_to (keys_at v node) key from g looks (keys_rise v s node r) h.galloped end)
+pub run_ends : (v w : View) → IsSound v → (node from key count : ℕ) (g : Gallop) (looks : ℕ) → IsRow v node
+    → HasRun v w node from key g looks → g.low + 1 ≡ g.high → count ≡ length (keys_at v node) → from < count
+    → FindsChild v w node key count from 0 g.high looks
+run_ends v w s node from key count g looks r h end long less =
+    let fit = run_fits v w node from key count g looks h long less in
+    let near = end-near g from looks h.galloped.gallops end in
+    let high = h.galloped.within in
+    record {
+      seen = h.loaded.seen;
+      counted = h.loaded.count;
+      few = omega arith;
+      far = λ k less. let few = end-far g from looks h.galloped.gallops end k less in omega arith;
+      fits = omega arith;
+      value = sym (galloped_to (keys_at v node) key from g looks (keys_rise v s node r) h.galloped end);
+      within = omega arith;
+    }
 
-  -- in few looks
-  pub run-near : looks ≤ distance from g.high + 3
-  run-near = end-near g from looks h.galloped.gallops end
+-- ---- with the keys at both ends
 
-  -- and in few looks far from the guess: at most 2 k + 2 if the distance is below 2 ^ k
-  pub run-far : (k : ℕ) → distance from g.high < 2 ^ k → looks ≤ 2 * k + 2
-  run-far k less = end-far g from looks h.galloped.gallops end k less
+module _ (v u : View) (s : IsSound v) (g : GoesOnTo v u) (two : u.loaded ≡ v.loaded + 2) (node key count : ℕ)
+    (r : IsRow v node) (long : count ≡ length (keys_at v node)) where
+  -- a key below the first one has the first child
+  pub child_at_start : key < get_or (keys_at v node) 0 0
+      → FindsChild v u node key count (guess_in (keys_at v node) key) 2 0 2
+  child_at_start low =
+      record {
+        seen = g;
+        counted = two;
+        few = omega arith;
+        far = λ k less. omega arith;
+        fits = omega arith;
+        value = sym (child_is_first (keys_at v node) key (keys_rise v s node r) low);
+        within = omega arith;
+      }
+
+  -- a key that isn't below the last one has the last child
+  pub child_at_end : get_or (keys_at v node) (length (keys_at v node) - 1) 0 ≤ key
+      → FindsChild v u node key count (guess_in (keys_at v node) key) 2 count 2
+  child_at_end high =
+      record {
+        seen = g;
+        counted = two;
+        few = omega arith;
+        far = λ k less. omega arith;
+        fits = omega arith;
+        value = long ∙ sym (child_is_last (keys_at v node) key (keys_rise v s node r) high);
+        within = omega arith;
+      }
+
+  -- any other key has the one that was found from the guess
+  pub child_between : (w : View) (from child loads : ℕ) → from ≡ guess_in (keys_at v node) key
+      → FindsChild u w node key count from 0 child loads
+      → FindsChild v w node key count (guess_in (keys_at v node) key) 2 child (loads + 2)
+  child_between w from child loads is f =
+      let away = ap (λ n. distance n child) is in
+      let near = f.few in
+      let counted = f.counted in
+      let fits = f.fits in
+      record {
+        seen = goes_on_more v u w g f.seen;
+        counted = omega arith;
+        few = omega arith;
+        far = λ k less. let few = f.far k (omega arith) in omega arith;
+        fits = omega arith;
+        value = f.value ∙ ap (λ ks. child_count ks key) (keys_on v u g node r);
+        within = f.within;
+      }
+
+-- in a row of few keys all of them may be loaded
+pub few_counted : (v w : View) (node key count child : ℕ) → GoesOnTo v w → w.loaded ≡ v.loaded + count
+    → count ≤ 4 → count ≡ length (keys_at v node) → child ≡ child_count (keys_at v node) key
+    → FindsChild v w node key count (guess_in (keys_at v node) key) 2 child count
+few_counted v w node key count child g counted four long is =
+    let most = count_by-le-length (λ k. nat_le k key) (keys_at v node) in
+    record {
+      seen = g;
+      counted = counted;
+      few = omega arith;
+      far = λ k less. omega arith;
+      fits = omega arith;
+      value = is;
+      within = omega arith;
+    }

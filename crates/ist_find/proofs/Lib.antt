@@ -6,8 +6,15 @@ pub mod LookLemmas
 pub mod SearchLemmas
 pub mod CostLemmas
 pub mod SpanLemmas
+pub mod ChildReadLemmas
+pub mod SearchTurnLemmas
+pub mod SpanTurnLemmas
+pub mod RowEndLemmas
 pub mod EdgeLemmas
 pub mod SweepLemmas
 pub mod SlotEndLemmas
+pub mod PlaceLemmas
 pub mod SlotSawLemmas
+pub mod SweptLemmas
+pub mod SweepTurnLemmas
 pub mod SweepingLemmas

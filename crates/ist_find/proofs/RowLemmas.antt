@@ -12,6 +12,7 @@ use Rattle.ist_core.proofs.GrowingLemmas.{inner_there}
 use Rattle.ist_core.proofs.ImageLemmas.{get-words_of_slot}
 use Rattle.ist_core.proofs.KeyLemmas.{keys_rising}
 use Rattle.ist_core.proofs.LeafOrderLemmas.{next_from_rising}
+use Rattle.ist_math.specs.Guess.{guess_in, distance}
 use Rattle.ist_rule.specs.declared.view.View.{View}
 use Rattle.ist_rule.specs.Rule.{IsSound}
 use Rattle.ist_rule.specs.Learning.{now, GoesOnTo, Looked}
@@ -140,3 +141,13 @@ pub child_is : (v : View) (node : ℕ) → IsRow v node → (key i : ℕ)
     → i ≡ child_count (keys_at v node) key → IsChildFor (now v) node key i
 child_is v node r key i is =
     of_row r.row r.published (is ∙ ap (λ ks. child_count ks key) (keys_are v node r))
+
+-- the number of its keys stays when the seat goes on by loads
+pub count_on : (v w : View) → GoesOnTo v w → (node : ℕ) → IsRow v node → (count : ℕ)
+    → count ≡ length (keys_at v node) → count ≡ length (keys_at w node)
+count_on v w g node r count is = is ∙ sym (ap length (keys_on v w g node r))
+
+-- and so does the distance of the guess from a child
+pub distance_on : (v w : View) → GoesOnTo v w → (node : ℕ) → IsRow v node → (key i : ℕ)
+    → distance (guess_in (keys_at w node) key) i ≡ distance (guess_in (keys_at v node) key) i
+distance_on v w g node r key i = ap (λ ks. distance (guess_in ks key) i) (keys_on v w g node r)

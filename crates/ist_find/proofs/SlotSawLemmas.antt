@@ -1,5 +1,5 @@
 -- What a seat saw in a slot, for all keys that led to the slot's node. Serves `sweeping`.
-use Rattle.std.proofs.Common.{◌≡◌, ◌≢◌, ℕ, ◌+◌, ◌<◌, ◌≤◌, ◌⊎◌, List, [], ◌∷◌, length, Option, Some, None, refl, sym, ap, ◌∙◌, subst, inl, inr, ⊎_elim, arith}
+use Rattle.std.proofs.Common.{◌≡◌, ◌≢◌, ℕ, ◌+◌, ◌<◌, ◌≤◌, ◌⊎◌, length, Option, Some, None, refl, sym, ap, ◌∙◌, subst, inl, inr, ⊎_elim, arith}
 use Rattle.std.specs.Prelude.{IfSome}
 use Rattle.std.specs.FinMap as fin
 use Rattle.std.proofs.Math.Nat.{le_trans}
@@ -78,6 +78,15 @@ pub led_on : (v w : View) → GoesOnTo v w → (at : Log) (first last node : ℕ
     → AllLed w at first last node
 led_on v w g at first last node led k low high =
     by_table v w g (λ p n. Leads (state_of p n at) k node) (led k low high)
+
+pub were_led_on : (v w : View) → GoesOnTo v w → (first last node : ℕ) → WereLed v first last node
+    → WereLed w first last node
+were_led_on v w g first last node h =
+    record {
+      at = h.at;
+      until = on_trans h.at v.log w.log h.until (goes_log v w g);
+      led = led_on v w g h.at first last node h.led;
+    }
 
 -- ---- the look
 

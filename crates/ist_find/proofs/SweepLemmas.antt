@@ -15,7 +15,7 @@ use Rattle.ist_core.specs.Logs.{Log, GoesOn, same_log}
 use Rattle.ist_core.specs.Slots.{IsChildFor, of_anchor, of_row}
 use Rattle.ist_core.specs.Links.{IsChild, Leads, from_anchor, down}
 use Rattle.ist_core.specs.Lawful.{EachEnabled, CanOpen, state_of}
-use Rattle.ist_core.proofs.FateLemmas.{enabled_before, grow_between}
+use Rattle.ist_core.proofs.FateLemmas.{enabled_before}
 use Rattle.ist_core.proofs.GrowingLemmas.{inner_there}
 use Rattle.ist_core.proofs.OrderLemmas.{names}
 use Rattle.ist_core.proofs.ParentLemmas.{one_home}
@@ -32,7 +32,7 @@ use Rattle.laws_histories.proofs.LoadLemmas.{look_of, value_of}
 use Rattle.laws_histories.proofs.LoadOnLemmas.{at_on, at_prefix}
 use Rattle.laws_histories.proofs.NeededLemmas.{all_needed}
 use Rattle.laws_histories.proofs.ReadLemmas.{ReadsAs}
-use Rattle.laws_histories.proofs.SearchLemmas.{Look, saw, ever_at, leads_linked, finds_below}
+use Rattle.laws_histories.proofs.SearchLemmas.{Look, saw, ever_at, finds_below}
 use Rattle.laws_histories.proofs.SeenLemmas.{Saw}
 
 -- a key that has the child of another key had it whenever the other had it

@@ -40,6 +40,15 @@ pub(crate) struct Look {
     pub reference: Ref,
 }
 
+/// A slot of a node, and how many keys the node has.
+#[derive(Clone, Copy, Debug, PartialEq, Eq, Drop)]
+pub(crate) struct Place {
+    /// How many keys the node has.
+    pub count: u64,
+    /// The number of the slot.
+    pub index: u64,
+}
+
 /// A range of keys that share one slot of the tree, and the pair in that slot.
 #[derive(Clone, Copy, Debug, PartialEq, Eq, Drop)]
 pub struct Span {

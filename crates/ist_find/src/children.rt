@@ -1,16 +1,75 @@
 //! The child of a node for a key, with what its slot holds.
-ghost use Rattle.std.specs.Prelude.{◌≡◌, ℕ, ◌+◌, ◌*◌, ◌<◌, ◌≤◌, ◌^◌};
+ghost use Rattle.std.specs.Prelude.{◌≡◌, ℕ, ◌+◌, ◌*◌, ◌<◌, ◌≤◌, ◌^◌, length};
 ghost use Rattle.ist_core.specs.RowLayout.{anchor};
 ghost use Rattle.ist_core.specs.Slots.{SlotHolds, IsChildFor};
+ghost use Rattle.ist_layout.specs.Meanings.{ref_meant};
 ghost use Rattle.ist_rule.specs.Learning.{now, GoesOnTo};
 ghost use Rattle.ist_math.specs.Guess.{guess_in, distance};
 ghost use Rattle.ist_rule.specs.Watching.{IsNode};
 ghost use Rattle.ist_find.specs.Searches.{IsRow, keys_at};
+ghost use Rattle.ist_find.specs.Looks.{ReadsChild};
+ghost use Rattle.ist_find.specs.Turns.{IsAt};
 
-use crate::answers::{Child, Counted};
+use crate::answers::{Child, Counted, Look, Place};
 use crate::keys::{child_for, key_count};
+use crate::reading::{past_change, past_rebuild};
 use ist_layout::{ANCHOR, ANCHOR_SLOT_PLACE, slot_place};
 use ist_rule::{TreeSeat, TreeTable, know, load};
+
+/// Returns the slot for the key of an inner row, and how many loads this took.
+#[inline(always)]
+pub(crate) fn place_in_row(
+    table: &TreeTable,
+    seat: &mut TreeSeat,
+    node: u32,
+    key: u64,
+) -> Counted<Place>
+    requires same_table { seat.old.table ≡ table.now.table }
+    requires row { IsRow seat.old.view node }
+    ensures same_table { seat.new.table ≡ seat.old.table }
+    ensures seen { GoesOnTo seat.old.view seat.new.view }
+    ensures at { let place = result.value in
+        IsAt seat.new.view node key place.index place.count }
+    ensures counted { seat.new.view.loaded ≡ seat.old.view.loaded + result.loads }
+    ensures loads { let guess = guess_in (keys_at seat.old.view node) key in
+        result.loads ≤ distance guess result.value.index + 6 }
+    ensures loads_far { let guess = guess_in (keys_at seat.old.view node) key in
+        (k : ℕ) → distance guess result.value.index < 2 ^ k → result.loads ≤ 2 * k + 5 }
+    ensures fits { result.loads + 1 < 2 ^ 30 }
+    ensures within { result.value.index ≤ result.value.count }
+{
+    let count = key_count(table, seat, node);
+    let index = child_for(table, seat, node, count, key);
+    Counted {
+        value: Place {
+            count,
+            index: index.value,
+        },
+        loads: index.loads + 1,
+    }
+}
+
+/// Returns the word in a slot of an inner row.
+#[inline(always)]
+pub(crate) fn slot_of_row(
+    table: &TreeTable,
+    seat: &mut TreeSeat,
+    node: u32,
+    count: u64,
+    index: u64,
+) -> u64
+    requires same_table { seat.old.table ≡ table.now.table }
+    requires row { IsRow seat.old.view node }
+    requires count { count ≡ length (keys_at seat.old.view node) }
+    requires within { index ≤ count }
+    ensures same_table { seat.new.table ≡ seat.old.table }
+    ensures seen { GoesOnTo seat.old.view seat.new.view }
+    ensures loads { seat.new.view.loaded ≡ seat.old.view.loaded + 1 }
+    ensures word { SlotHolds (now seat.new.view) node index result }
+{
+    know(seat);
+    load(table, seat, slot_place(node, count + 1, index))
+}
 
 /// Returns the child for the key of an inner row that is published in the seat's log, and the word
 /// that its slot holds at the last step of this call.
@@ -52,16 +111,13 @@ fn child_and_loads(table: &TreeTable, seat: &mut TreeSeat, node: u32, key: u64) 
         (k : ℕ) → distance guess result.value.index < 2 ^ k → result.loads ≤ 2 * k + 6 }
     ensures fits { result.loads < 2 ^ 30 }
 {
-    let count = key_count(table, seat, node);
-    let index = child_for(table, seat, node, count, key);
+    let place = place_in_row(table, seat, node, key);
+    let index = place.value.index;
+    let word = slot_of_row(table, seat, node, place.value.count, index);
     know(seat);
-    let word = load(table, seat, slot_place(node, count + 1, index.value));
     Counted {
-        value: Child {
-            index: index.value,
-            word,
-        },
-        loads: index.loads + 2,
+        value: Child { index, word },
+        loads: place.loads + 1,
     }
 }
 
@@ -95,4 +151,32 @@ pub(crate) fn slot_for(
         };
     }
     child_and_loads(table, seat, node, key)
+}
+
+/// What the slot of a node for the key reads as, after its change and its rebuild are followed.
+#[inline(always)]
+pub(crate) fn read_child(
+    table: &TreeTable,
+    seat: &mut TreeSeat,
+    node: u32,
+    key: u64,
+) -> Counted<Look>
+    requires same_table { seat.old.table ≡ table.now.table }
+    requires node { IsNode (now seat.old.view) node }
+    ensures same_table { seat.new.table ≡ seat.old.table }
+    ensures read { let look = result.value in ReadsChild seat.old.view seat.new.view node key
+        look.index result.loads (ref_meant look.reference) }
+{
+    know(seat);
+    let child = slot_for(table, seat, node, key);
+    know(seat);
+    let side = past_change(table, seat, child.value.word);
+    let reference = past_rebuild(table, seat, side.value);
+    Counted {
+        value: Look {
+            index: child.value.index,
+            reference: reference.value,
+        },
+        loads: child.loads + side.loads + reference.loads,
+    }
 }

@@ -1,19 +1,17 @@
 //! The search for a key from the anchor down.
-ghost use Rattle.std.specs.Prelude.{◌≡◌, ◌+◌, ◌<◌, ◌≤◌, ◌^◌, List, ℕ};
-ghost use Rattle.ist_core.specs.RowLayout.{anchor};
+ghost use Rattle.std.specs.Prelude.{◌≡◌, ◌+◌};
 ghost use Rattle.ist_core.specs.StartLayout.{start};
 ghost use Rattle.ist_core.specs.Slots.{IsChildFor};
 ghost use Rattle.ist_core.specs.Links.{WasLinked};
 ghost use Rattle.ist_layout.specs.Meanings.{ref_meant};
-ghost use Rattle.ist_rule.specs.Learning.{now, GoesOnTo};
+ghost use Rattle.ist_rule.specs.Learning.{now};
 ghost use Rattle.laws_histories.specs.Searching.{HasPosition};
-ghost use Rattle.ist_find.specs.Searches.{IsRow, HasCome, Came, row_cost};
-ghost use Rattle.ist_find.specs.Searches.{HasSearched, HasFound, HasFewLoads};
-ghost use Rattle.ist_find.specs.Reads.{HasLooked, IsReached};
+ghost use Rattle.ist_find.specs.Searches.{Came, HasSearched, HasFound, HasFewLoads};
+ghost use Rattle.ist_find.specs.Looks.{LooksAtChild};
 
 use crate::answers::{Counted, Found, Look};
-use crate::children::slot_for;
-use crate::reading::{past_change, past_rebuild, value_in};
+use crate::children::read_child;
+use crate::reading::value_in;
 use ist_layout::{ANCHOR, Ref};
 use ist_rule::{TreeSeat, TreeTable, begin_search, know};
 
@@ -24,30 +22,11 @@ fn look_at(table: &TreeTable, seat: &mut TreeSeat, node: u32, key: u64) -> Count
     requires same_table { seat.old.table ≡ table.now.table }
     requires come { Came seat.old.view key node }
     ensures same_table { seat.new.table ≡ seat.old.table }
-    ensures seen { GoesOnTo seat.old.view seat.new.view }
-    ensures looked { (rows : List ℕ) → HasCome seat.old.view key node rows
-        → HasLooked seat.new.view key node result.value.index rows
-        (ref_meant result.value.reference) }
-    ensures counted { seat.new.view.loaded ≡ seat.old.view.loaded + result.loads }
-    ensures anchor_loads { node ≡ anchor → result.loads ≤ 4 }
-    ensures row_loads { IsRow seat.old.view node
-        → result.loads ≤ row_cost seat.old.view key node }
-    ensures fits { result.loads < 2 ^ 31 }
-    ensures reached { IsReached seat.new.view node (ref_meant result.value.reference) }
+    ensures looked { let look = result.value in LooksAtChild seat.old.view seat.new.view node key
+        look.index result.loads (ref_meant look.reference) }
 {
     know(seat);
-    let child = slot_for(table, seat, node, key);
-    know(seat);
-    let side = past_change(table, seat, child.value.word);
-    let reference = past_rebuild(table, seat, side.value);
-    know(seat);
-    Counted {
-        value: Look {
-            index: child.value.index,
-            reference: reference.value,
-        },
-        loads: child.loads + side.loads + reference.loads,
-    }
+    read_child(table, seat, node, key)
 }
 
 /// Searches for the key from the anchor down, only by loads, and returns its value, if it has one.

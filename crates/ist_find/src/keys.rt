@@ -1,10 +1,11 @@
 //! In which child of a node a key lies.
-ghost use Rattle.std.specs.Prelude.{◌≡◌, ℕ, ◌+◌, ◌-◌, ◌*◌, ◌<◌, ◌≤◌, ◌^◌, length, slice_index};
+ghost use Rattle.std.specs.Prelude.{◌≡◌, ◌+◌, ◌-◌, ◌<◌, ◌≤◌, length, slice_index};
 ghost use Rattle.ist_core.specs.RowLayout.{place_limit};
 ghost use Rattle.ist_core.specs.Arithmetic.{child_count};
 ghost use Rattle.ist_rule.specs.Learning.{GoesOnTo};
-ghost use Rattle.ist_math.specs.Guess.{guess_in, distance};
+ghost use Rattle.ist_math.specs.Guess.{guess_in};
 ghost use Rattle.ist_find.specs.Searches.{IsRow, keys_at};
+ghost use Rattle.ist_find.specs.Looks.{FindsChild};
 
 use crate::answers::Counted;
 use ist_layout::{INNER_DEGREE_OFFSET, key_place};
@@ -104,13 +105,8 @@ fn gallop_from(
     requires last { let keys = keys_at seat.old.view node in
         key < slice_index keys (length keys - 1) }
     ensures same_table { seat.new.table ≡ seat.old.table }
-    ensures seen { GoesOnTo seat.old.view seat.new.view }
-    ensures counted { seat.new.view.loaded ≡ seat.old.view.loaded + result.loads }
-    ensures loads { result.loads ≤ distance from result.value + 3 }
-    ensures loads_far { (k : ℕ) → distance from result.value < 2 ^ k → result.loads ≤ 2 * k + 2 }
-    ensures fits { result.loads ≤ 2 * count + 3 }
-    ensures value { result.value ≡ child_count (keys_at seat.old.view node) key }
-    ensures within { result.value ≤ count }
+    ensures finds { FindsChild seat.old.view seat.new.view node key count from 0 result.value
+        result.loads }
 {
     know(seat);
     let mut gallop = Gallop::begin(count, from, key_at(table, seat, node, from) > key);
@@ -141,15 +137,8 @@ fn child_among_many(
     requires fits { count < place_limit }
     requires many { 4 < count }
     ensures same_table { seat.new.table ≡ seat.old.table }
-    ensures seen { GoesOnTo seat.old.view seat.new.view }
-    ensures counted { seat.new.view.loaded ≡ seat.old.view.loaded + result.loads }
-    ensures loads { let guess = guess_in (keys_at seat.old.view node) key in
-        result.loads ≤ distance guess result.value + 5 }
-    ensures loads_far { let guess = guess_in (keys_at seat.old.view node) key in
-        (k : ℕ) → distance guess result.value < 2 ^ k → result.loads ≤ 2 * k + 4 }
-    ensures fits { result.loads ≤ 2 * count + 5 }
-    ensures value { result.value ≡ child_count (keys_at seat.old.view node) key }
-    ensures within { result.value ≤ count }
+    ensures finds { let guess = guess_in (keys_at seat.old.view node) key in
+        FindsChild seat.old.view seat.new.view node key count guess 2 result.value result.loads }
 {
     know(seat);
     let ends = end_keys(table, seat, node, count);
@@ -182,15 +171,8 @@ pub(crate) fn child_for(
     requires count { count ≡ length (keys_at seat.old.view node) }
     requires fits { count < place_limit }
     ensures same_table { seat.new.table ≡ seat.old.table }
-    ensures seen { GoesOnTo seat.old.view seat.new.view }
-    ensures counted { seat.new.view.loaded ≡ seat.old.view.loaded + result.loads }
-    ensures loads { let guess = guess_in (keys_at seat.old.view node) key in
-        result.loads ≤ distance guess result.value + 5 }
-    ensures loads_far { let guess = guess_in (keys_at seat.old.view node) key in
-        (k : ℕ) → distance guess result.value < 2 ^ k → result.loads ≤ 2 * k + 4 }
-    ensures fits { result.loads ≤ 2 * count + 5 }
-    ensures value { result.value ≡ child_count (keys_at seat.old.view node) key }
-    ensures within { result.value ≤ count }
+    ensures finds { let guess = guess_in (keys_at seat.old.view node) key in
+        FindsChild seat.old.view seat.new.view node key count guess 2 result.value result.loads }
 {
     if count <= FEW_KEYS {
         let value = count_through(table, seat, node, count, key);

@@ -1,5 +1,5 @@
 //! A search for all keys that share the slot of a key.
-ghost use Rattle.std.specs.Prelude.{◌≡◌, ℕ, ◌+◌, ◌-◌, ◌<◌, ◌≤◌, List, length, slice_index, Some};
+ghost use Rattle.std.specs.Prelude.{◌≡◌, ℕ, ◌+◌, ◌-◌, ◌<◌, ◌≤◌, length, slice_index, Some};
 ghost use Rattle.std.specs.Prelude.{IfSome};
 ghost use Rattle.ist_core.specs.Elements.{Among};
 ghost use Rattle.ist_core.specs.RowLayout.{anchor};
@@ -10,14 +10,15 @@ ghost use Rattle.ist_layout.specs.Meanings.{ref_meant};
 ghost use Rattle.ist_rule.specs.Learning.{now, GoesOnTo};
 ghost use Rattle.ist_rule.specs.Watching.{IsNode};
 ghost use Rattle.laws_histories.specs.Searching.{HasPosition};
-ghost use Rattle.ist_find.specs.Searches.{IsRow, SeesLeaf, HasCome, HasSearched, keys_at, row_cost};
-ghost use Rattle.ist_find.specs.Reads.{HasLooked, IsEnd, IsReached, TellsValue};
+ghost use Rattle.ist_find.specs.Searches.{IsRow, SeesLeaf, HasSearched, keys_at};
+ghost use Rattle.ist_find.specs.Reads.{IsEnd, TellsValue};
+ghost use Rattle.ist_find.specs.Looks.{LooksForAll};
 ghost use Rattle.ist_find.specs.Spans.{pair_value, AllCome, EndAtEdges, HasFewSpanLoads};
 
 use crate::answers::{Ends, Shared, Span};
-use crate::children::slot_for;
+use crate::children::read_child;
 use crate::keys::{key_at, key_count};
-use crate::reading::{leaf_in, past_change, past_rebuild};
+use crate::reading::leaf_in;
 use ist_core::Pair;
 use ist_layout::{ANCHOR, LEAF_KEY_OFFSET, LEAF_VALUE_OFFSET, Ref};
 use ist_rule::{TreeSeat, TreeTable, begin_search, know, load};
@@ -163,33 +164,16 @@ fn look_for_all(table: &TreeTable, seat: &mut TreeSeat, node: u32, key: u64, end
     requires last { key ≤ ends.last }
     requires edges { EndAtEdges (now seat.old.view) ends.first ends.last }
     ensures same_table { seat.new.table ≡ seat.old.table }
-    ensures seen { GoesOnTo seat.old.view seat.new.view }
-    ensures first { result.ends.first ≤ key }
-    ensures last { key ≤ result.ends.last }
-    ensures low { ends.first ≤ result.ends.first }
-    ensures high { result.ends.last ≤ ends.last }
-    ensures edges { EndAtEdges (now seat.new.view) result.ends.first result.ends.last }
-    ensures looked { (k : ℕ) (rows : List ℕ) → result.ends.first ≤ k → k ≤ result.ends.last
-        → HasCome seat.old.view k node rows
-        → HasLooked seat.new.view k node result.index rows (ref_meant result.reference) }
-    ensures anchor_loads { node ≡ anchor
-        → seat.new.view.loaded ≤ seat.old.view.loaded + 4 }
-    ensures row_loads { IsRow seat.old.view node
-        → seat.new.view.loaded ≤ seat.old.view.loaded + row_cost seat.old.view key node + 3 }
-    ensures reached { IsReached seat.new.view node (ref_meant result.reference) }
+    ensures looked { let shared = result.ends in LooksForAll seat.old.view seat.new.view node key
+        ends.first ends.last result.index shared.first shared.last (ref_meant result.reference) }
 {
     know(seat);
-    let child = slot_for(table, seat, node, key);
-    know(seat);
-    let side = past_change(table, seat, child.value.word);
-    let reference = past_rebuild(table, seat, side.value);
-    know(seat);
-    let index = child.value.index;
+    let look = read_child(table, seat, node, key);
+    let index = look.value.index;
     let shared = shared_ends(table, seat, node, index, key, ends);
-    know(seat);
     Shared {
         index,
-        reference: reference.value,
+        reference: look.value.reference,
         ends: shared,
     }
 }

@@ -1,28 +1,28 @@
 //! A sweep: it reads the slots of a range of keys in order, each inner row once.
-ghost use Rattle.std.specs.Prelude.{◌≡◌, ℕ, ◌+◌, ◌<◌, ◌≤◌, ◌++◌, length, OnOk};
-ghost use Rattle.ist_core.specs.Elements.{Among};
+ghost use Rattle.std.specs.Prelude.{◌≡◌, ℕ, ◌+◌, ◌≤◌, ◌++◌, length, OnOk};
 ghost use Rattle.ist_core.specs.Slots.{SlotHolds, IsChildFor};
 ghost use Rattle.ist_layout.specs.Meanings.{ref_meant};
 ghost use Rattle.ist_rule.specs.Learning.{now, GoesOnTo};
 ghost use Rattle.ist_rule.specs.Watching.{IsNode};
 ghost use Rattle.ist_find.specs.Searches.{keys_at};
-ghost use Rattle.ist_find.specs.Reads.{IsFoundAs};
+ghost use Rattle.ist_find.specs.Reads.{IsFoundAs, IsEnd};
 ghost use Rattle.ist_find.specs.Sweeps.{WereLed, HasSwept, SweptBetween, LookedSince, starting, one_of};
+ghost use Rattle.ist_find.specs.Turns.{IsAt, SlotEnds, HasReadSlot, LeadsBelow, HasReadEnd, HasSweptSlot};
 
-use crate::answers::Ends;
-use crate::keys::{child_for, key_count};
+use crate::answers::{Ends, Place};
+use crate::children::{place_in_row, slot_of_row};
 use crate::reading::{past_change, past_rebuild};
 use crate::spans::{end_pair, last_of, pair_within};
 use ist_core::Pair;
-use ist_layout::{ANCHOR, ANCHOR_SLOT_PLACE, Ref, slot_place};
+use ist_layout::{ANCHOR, ANCHOR_SLOT_PLACE, Ref};
 use ist_rule::{TreeSeat, TreeTable, know, load};
 use std::alloc::AllocError;
 
-// A slot of a node, and how many keys the node has.
+// What a slot of a node read as, and the last of its keys.
 #[derive(Clone, Copy, Drop)]
-struct Place {
-    count: u64,
-    index: u64,
+struct SlotRead {
+    reference: Ref,
+    to: u64,
 }
 
 // The slot of a node for the key. The anchor has no keys, and one slot.
@@ -32,20 +32,13 @@ fn first_slot(table: &TreeTable, seat: &mut TreeSeat, node: u32, key: u64) -> Pl
     ensures same_table { seat.new.table ≡ seat.old.table }
     ensures seen { GoesOnTo seat.old.view seat.new.view }
     ensures loads { seat.new.view.loaded ≤ seat.old.view.loaded + starting seat.old.view node key }
-    ensures count { result.count ≡ length (keys_at seat.old.view node) }
-    ensures child { IsChildFor (now seat.new.view) node key result.index }
+    ensures at { IsAt seat.new.view node key result.index result.count }
 {
     know(seat);
     if node == ANCHOR {
         return Place { count: 0, index: 0 };
     }
-    let count = key_count(table, seat, node);
-    let index = child_for(table, seat, node, count, key);
-    know(seat);
-    Place {
-        count,
-        index: index.value,
-    }
+    place_in_row(table, seat, node, key).value
 }
 
 // The greatest key up to `last` that has the same slot as `from`.
@@ -58,21 +51,12 @@ fn slot_end(
     last: u64,
 ) -> u64
     requires same_table { seat.old.table ≡ table.now.table }
-    requires node { IsNode (now seat.old.view) node }
-    requires count { place.count ≡ length (keys_at seat.old.view node) }
-    requires child { IsChildFor (now seat.old.view) node from place.index }
+    requires at { IsAt seat.old.view node from place.index place.count }
     requires some { from ≤ last }
     ensures same_table { seat.new.table ≡ seat.old.table }
     ensures seen { GoesOnTo seat.old.view seat.new.view }
     ensures loads { seat.new.view.loaded ≤ seat.old.view.loaded + 1 }
-    ensures first { from ≤ result }
-    ensures last { result ≤ last }
-    ensures share { (k : ℕ) → from ≤ k → k ≤ result
-        → IsChildFor (now seat.old.view) node k place.index }
-    ensures edge { result < last → Among (result + 1) (keys_at seat.old.view node) }
-    ensures next { result < last
-        → IsChildFor (now seat.old.view) node (result + 1) (place.index + 1) }
-    ensures within { result < last → place.index < place.count }
+    ensures ends { SlotEnds seat.old.view node from result last place.index place.count }
 {
     know(seat);
     if node == ANCHOR {
@@ -96,7 +80,7 @@ fn slot_word(table: &TreeTable, seat: &mut TreeSeat, node: u32, place: Place) ->
     if node == ANCHOR {
         return load(table, seat, ANCHOR_SLOT_PLACE);
     }
-    load(table, seat, slot_place(node, place.count + 1, place.index))
+    slot_of_row(table, seat, node, place.count, place.index)
 }
 
 // What a slot of a node reads as, by loads that are a look for each key of that slot.
@@ -121,6 +105,28 @@ fn read_slot(table: &TreeTable, seat: &mut TreeSeat, node: u32, place: Place) ->
     reference.value
 }
 
+// Reads the slot of the key `from`, and which keys up to `last` share it.
+fn read_from(
+    table: &TreeTable,
+    seat: &mut TreeSeat,
+    node: u32,
+    place: Place,
+    from: u64,
+    last: u64,
+) -> SlotRead
+    requires same_table { seat.old.table ≡ table.now.table }
+    requires at { IsAt seat.old.view node from place.index place.count }
+    requires some { from ≤ last }
+    ensures same_table { seat.new.table ≡ seat.old.table }
+    ensures read { HasReadSlot seat.old.view seat.new.view node from result.to last
+        place.index place.count (ref_meant result.reference) }
+{
+    know(seat);
+    let to = slot_end(table, seat, node, place, from, last);
+    let reference = read_slot(table, seat, node, place);
+    SlotRead { reference, to }
+}
+
 // Adds the pair to what was found, if there is one.
 fn push_pair(found: &mut Vec<Pair>, pair: Option<Pair>) -> Result<(), AllocError>
     ensures found { OnOk result (found.new.items ≡ found.old.items ++ one_of pair) }
@@ -134,8 +140,56 @@ fn push_pair(found: &mut Vec<Pair>, pair: Option<Pair>) -> Result<(), AllocError
     }
 }
 
+// Adds the pair of a slot that holds no row, if its key is one of those that are asked for.
+fn sweep_end(
+    table: &TreeTable,
+    seat: &mut TreeSeat,
+    from: u64,
+    read: SlotRead,
+    found: &mut Vec<Pair>,
+) -> Result<(), AllocError>
+    requires same_table { seat.old.table ≡ table.now.table }
+    requires end { IsEnd seat.old.view (ref_meant read.reference) }
+    ensures same_table { seat.new.table ≡ seat.old.table }
+    ensures seen { GoesOnTo seat.old.view seat.new.view }
+    ensures read { OnOk result (HasReadEnd seat.old.view seat.new.view from read.to
+        (ref_meant read.reference) found.old.items found.new.items) }
+{
+    let pair = end_pair(table, seat, read.reference);
+    let ends = Ends {
+        first: from,
+        last: read.to,
+    };
+    push_pair(found, pair_within(pair, ends))
+}
+
+// Sweeps the keys of one slot, which begin at `from`: below its row, if it holds one.
+#[cycle(sweeping)]
+fn sweep_slot(
+    table: &TreeTable,
+    seat: &mut TreeSeat,
+    node: u32,
+    from: u64,
+    read: SlotRead,
+    found: &mut Vec<Pair>,
+) -> Result<(), AllocError>
+    requires same_table { seat.old.table ≡ table.now.table }
+    requires below { LeadsBelow seat.old.view node from read.to (ref_meant read.reference) }
+    requires some { from ≤ read.to }
+    ensures same_table { seat.new.table ≡ seat.old.table }
+    ensures seen { GoesOnTo seat.old.view seat.new.view }
+    ensures swept { OnOk result (HasSweptSlot seat.old.view seat.new.view from read.to
+        (ref_meant read.reference) found.old.items found.new.items) }
+{
+    match read.reference {
+        Ref::Inner { base } => sweep_below(table, seat, base, from, read.to, found),
+        _ => sweep_end(table, seat, from, read, found),
+    }
+}
+
 // Sweeps the keys from `first` to `last`, each of which led to the node. It ends, since bases rise on
 // the way down.
+#[cycle(sweeping)]
 fn sweep_below(
     table: &TreeTable,
     seat: &mut TreeSeat,
@@ -156,25 +210,12 @@ fn sweep_below(
     let mut place = first_slot(table, seat, node, first);
     let mut from = first;
     'slots: loop {
-        let to = slot_end(table, seat, node, place, from, last);
-        let reference = read_slot(table, seat, node, place);
-        if let Ref::Inner { base } = reference {
-            sweep_below(table, seat, base, from, to, found)?;
-        } else {
-            let pair = end_pair(table, seat, reference);
-            let own = pair_within(
-                pair,
-                Ends {
-                    first: from,
-                    last: to,
-                },
-            );
-            push_pair(found, own)?;
-        }
-        if to == last {
+        let read = read_from(table, seat, node, place, from, last);
+        sweep_slot(table, seat, node, from, read, found)?;
+        if read.to == last {
             return Ok(());
         }
-        from = to + 1;
+        from = read.to + 1;
         place = Place {
             count: place.count,
             index: place.index + 1,

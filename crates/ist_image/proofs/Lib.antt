@@ -4,3 +4,5 @@ pub mod PlacedLemmas
 pub mod SettingLemmas
 pub mod NewImageLemmas
 pub mod RisingLemmas
+pub mod CutLemmas
+pub mod RowKeyLemmas

@@ -1,8 +1,7 @@
 -- The words that are written are the image of a new table. Serves `images.rt`.
-use Rattle.std.proofs.Common.{◌≡◌, ◌∙◌, ◌+◌, ◌-◌, ◌<◌, ◌≤◌, Some, get_or, ℕ, zero, suc, List, [], ◌∷◌, ◌++◌, length, drop, slice_get, refl, sym, ap, subst, arith, inl, inr, length-append, append_assoc}
+use Rattle.std.proofs.Common.{◌≡◌, ◌∙◌, ◌+◌, ◌-◌, ◌<◌, ◌≤◌, ℕ, zero, suc, List, [], ◌∷◌, ◌++◌, length, take, drop, slice_get, refl, sym, ap, subst, arith, inl, inr, length-append, append_assoc}
 use Rattle.std.proofs.Math.ListN.{set}
-use Rattle.std.proofs.lemmas.Bool.{cases_lt}
-use Rattle.std.proofs.lemmas.Option.{slice_get-get_or, get_or_from_slice_get}
+use Rattle.std.proofs.lemmas.List.{length-take-le}
 use Rattle.std.proofs.lemmas.List.Edits.{sets, sets-eq}
 use Rattle.std.proofs.Math.Seq.{length-sets}
 use Rattle.ist_core.specs.declared.pairs.Pair.{Pair}
@@ -73,7 +72,22 @@ words_laid old new next anchor first pairs n a f e =
     ∙ ap (λ w. sets (fixed used w) first (tree_words first pairs)) a
     ∙ ap (λ b. sets (fixed used (word_of (tree_at b pairs))) b (tree_words b pairs)) f
 
-module _ (pairs : List Pair) (old : List ℕ) (opens : CanOpen pairs (length old)) where
+-- the first words of two lists, the first of which is no longer
+take_over : (xs ys : List ℕ) (n : ℕ) → length xs ≤ n → take n (xs ++ ys) ≡ xs ++ take (n - length xs) ys
+take_over [] ys n h = ap (λ k. take k ys) (let e : n ≡ n - 0 = omega arith in e)
+take_over (x ∷ xs) ys zero h = absurd (omega arith)
+take_over (x ∷ xs) ys (suc n) h =
+    ap (λ zs. x ∷ zs) (take_over xs ys n (omega arith)
+    ∙ ap (λ k. xs ++ take k ys) (let e : n - length xs ≡ suc n - suc (length xs) = omega arith in e))
+
+-- a word of the first ones
+get_taken : (xs : List ℕ) (n k : ℕ) → k < n → slice_get (take n xs) k ≡ slice_get xs k
+get_taken xs zero k h = absurd (omega arith)
+get_taken [] (suc n) k h = refl
+get_taken (x ∷ xs) (suc n) zero h = refl
+get_taken (x ∷ xs) (suc n) (suc k) h = get_taken xs n k (omega arith)
+
+module _ (pairs : List Pair) (old : List ℕ) (n : ℕ) (opens : CanOpen pairs n) (held : n ≤ length old) where
   -- the number of words that the image uses
   length-image_words : length (image_words pairs) ≡ first_row + ideal_words (length pairs)
   length-image_words = let tree = length-tree_words first_row pairs in omega arith
@@ -89,8 +103,21 @@ module _ (pairs : List Pair) (old : List ℕ) (opens : CanOpen pairs (length old
       let long = length-image_words in
       sets-eq (image_words pairs) old 0 (omega arith)
 
+  -- and so are the first n of them
+  abbrev table : List ℕ
+  table = take n (sets old 0 (image_words pairs))
+
+  abbrev spare : List ℕ
+  spare = take (n - length (image_words pairs)) rest
+
+  table_is : table ≡ image_words pairs ++ spare
+  table_is =
+      let room = opens.room in
+      let long = length-image_words in
+      ap (take n) words_are ∙ take_over (image_words pairs) rest n (omega arith)
+
   -- after the image they are 0
-  zeros_behind : ZerosFrom (first_row + ideal_words (length pairs)) old
+  pub zeros_behind : ZerosFrom (first_row + ideal_words (length pairs)) old
       → ZerosFrom (first_row + ideal_words (length pairs)) (sets old 0 (image_words pairs))
   zeros_behind zeros place behind within =
       let long = length-image_words in
@@ -105,39 +132,25 @@ module _ (pairs : List Pair) (old : List ℕ) (opens : CanOpen pairs (length old
       ∙ ap (slice_get old) whole
       ∙ zeros place behind (omega arith)
 
-  -- the words are the image
-  pub image_laid : ZerosFrom (first_row + ideal_words (length pairs)) old
-      → IsImage (start pairs (length old)) (sets old 0 (image_words pairs))
+  -- the first n words are the image
+  pub image_laid : ZerosFrom (first_row + ideal_words (length pairs)) old → IsImage (start pairs n) table
   image_laid zeros =
       let fixed = (first_row + ideal_words (length pairs)) ∷ 0 ∷ 0
       ∷ word_of (tree_at first_row pairs) ∷ [] in
+      let same = length-sets old 0 (image_words pairs) in
       record {
-        size = length-sets old 0 (image_words pairs);
-        next = ap (λ ws. slice_get ws 0) words_are;
-        callers = ap (λ ws. slice_get ws 1) words_are;
-        anchor_status = ap (λ ws. slice_get ws 2) words_are;
-        anchor_slot = ap (λ ws. slice_get ws 3) words_are;
+        size = length-take-le n (sets old 0 (image_words pairs)) (omega arith);
+        next = ap (λ ws. slice_get ws 0) table_is;
+        callers = ap (λ ws. slice_get ws 1) table_is;
+        anchor_status = ap (λ ws. slice_get ws 2) table_is;
+        anchor_slot = ap (λ ws. slice_get ws 3) table_is;
         rows = λ base p e.
-            subst (λ ws. StandsAt ws base p) (sym words_are)
-            (rows_stand fixed rest (first_row + ideal_words (length pairs))
+            subst (λ ws. StandsAt ws base p) (sym table_is)
+            (rows_stand fixed spare (first_row + ideal_words (length pairs))
             (rows_from first_row pairs) base p
             (fills_rows (length pairs) first_row pairs (omega arith))
             (among-pieces_of (rows_from first_row pairs) base p e));
         free = λ place behind within.
-            zeros_behind zeros place behind
-            (let same = length-sets old 0 (image_words pairs) in omega arith);
+            get_taken (sets old 0 (image_words pairs)) n place within
+            ∙ zeros_behind zeros place behind (omega arith);
       }
-
--- words that were made more by zeros, or fewer, are 0 from a later place on
-pub zeros_resized : (old new : List ℕ) (from later n : ℕ) → from ≤ later → ZerosFrom from old
-    → length new ≡ n
-    → ((k d : ℕ) → k < n → k < length old → get_or new k d ≡ get_or old k d)
-    → ((k d : ℕ) → length old ≤ k → k < n → get_or new k d ≡ 0)
-    → ZerosFrom later new
-zeros_resized old new from later n le zeros size same more place low high =
-    let below : place < n = omega arith in
-    slice_get-get_or new place 0 high ∙ ap Some (elim (cases_lt place (length old)) [
-      | inl before ↦ same place 0 below before
-          ∙ get_or_from_slice_get old place 0 0 (zeros place (omega arith) before)
-      | inr behind ↦ more place 0 behind below
-    ])

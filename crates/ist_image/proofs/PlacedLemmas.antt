@@ -280,3 +280,19 @@ all_left words base slot at pairs s e =
     let rows = row_words (rows_behind base pairs 0) in
     ap (λ k. sets (sets words k slots) at rows) s
     ∙ ap (λ k. sets (sets words (slot_base base (length pairs)) slots) k rows) e
+
+-- so the slot of a part and its tree are written
+pub part_put : (old mid new : List ℕ) (base d j at next : ℕ) (pairs part : List Pair)
+    → d ≡ degree (length pairs) → j < degree (length pairs) → base + inner_words d ≤ at
+    → at ≡ part_base base (length pairs) j → part ≡ part_of pairs j
+    → mid ≡ set old (base + 3 + d + j) (word_of (tree_at at part))
+    → new ≡ sets mid at (tree_words at part) → next ≡ at + ideal_words (length part)
+    → sets (sets new (base + 3 + d + (j + 1)) (slots_behind base pairs (j + 1))) next
+    (row_words (rows_behind base pairs (j + 1)))
+    ≡ sets (sets old (base + 3 + d + j) (slots_behind base pairs j)) at (row_words (rows_behind base pairs j))
+part_put old mid new base d j at next pairs part e h row place is slot tree n =
+    sym (slot_and_part_set old new base (base + 3 + d + j) (base + 3 + d + (j + 1)) at next j
+    (word_of (tree_at at part)) pairs part h place is (omega arith)
+    (ap (λ b. word_of (tree_at b part)) place
+    ∙ ap (λ p. word_of (tree_at (part_base base (length pairs) j) p)) is)
+    (omega arith) (tree ∙ ap (λ ws. sets ws at (tree_words at part)) slot) (sym n))

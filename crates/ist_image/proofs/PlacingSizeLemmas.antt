@@ -1,31 +1,14 @@
 -- Where the trees of parts lie within the words of the whole. Serves `laying.rt`.
-use Rattle.std.proofs.Common.{
-  ◌≡◌,
-  ◌∙◌,
-  ◌+◌,
-  ◌-◌,
-  ◌<◌,
-  ◌≤◌,
-  ◌^◌,
-  ℕ,
-  zero,
-  suc,
-  List,
-  length,
-  refl,
-  sym,
-  ap,
-  subst,
-  arith,
-}
+use Rattle.std.proofs.Common.{◌≡◌, ◌∙◌, ◌+◌, ◌-◌, ◌<◌, ◌≤◌, ◌^◌, ℕ, zero, suc, List, length, refl, sym, ap, subst, arith}
 use Rattle.ist_core.specs.declared.pairs.Pair.{Pair}
 use Rattle.ist_core.specs.Arithmetic.{degree, part_len, part_lens, part_start}
 use Rattle.ist_core.specs.RowLayout.{first_row, inner_words}
 use Rattle.ist_core.specs.Shapes.{ideal_words}
 use Rattle.ist_core.specs.Lawful.{CanOpen}
+use Rattle.ist_core.proofs.RootLemmas.{least_degree-le}
 use Rattle.ist_core.proofs.PartLemmas.{sum_of_more, part_len-pos, part_start-suc, part_end-le}
 use Rattle.ist_core.proofs.ShapeLemmas.{ideal_words_many}
-use Rattle.ist_core.proofs.WordLemmas.{ideal_words_is}
+use Rattle.ist_core.proofs.WordLemmas.{ideal_words_is, ideal_words_none, ideal_words_one}
 use Rattle.ist_image.specs.Placing.{words_before, part_base, FitsAt}
 
 -- the words of the trees of one part more
@@ -146,3 +129,61 @@ end_within n m j start len e below s l =
 -- a part of several pairs begins within the whole
 pub start_within : (n j start : ℕ) → 2 ≤ n → j < degree n → start ≡ part_start n j → start < n
 start_within n j start two below s = omega (arith, part_end-le n j below, part_len-pos n j two)
+
+-- where part j lies: its row and its tree within the words, and its tree after the row and below the limit
+pub record PartLies (base n d j at len whole : ℕ) : Type 0 where
+  pub below : j < degree n
+  pub fits : FitsAt at len
+  pub row : base + inner_words d ≤ at
+  pub low : 4 ≤ at
+  pub small : at < 2 ^ 28
+  pub room : at + ideal_words len ≤ whole
+  pub next : at + ideal_words len ≡ part_base base n (j + 1)
+
+pub part_lies : (base n m d j at len whole : ℕ) → 2 ≤ m → m ≡ n → d ≡ degree m → j < d → FitsAt base n
+    → base + ideal_words n ≤ whole → at ≡ part_base base n j → len ≡ part_len n j
+    → PartLies base n d j at len whole
+part_lies base n m d j at len whole several same is less fits room place long =
+    let two : 2 ≤ n = omega arith in
+    let count = is ∙ ap degree same in
+    let below : j < degree n = omega arith in
+    let high = part_base_fits base n j two below fits in
+    let low = fits.behind_fixed in
+    let ends = part_ends base n j two below in
+    let size = ap ideal_words long in
+    let next = part_base-suc base n j in
+    record {
+      below = below;
+      fits = part_fits_at base n j at len two below fits place long;
+      row = omega arith;
+      low = omega arith;
+      small = omega arith;
+      room = omega arith;
+      next = omega arith;
+    }
+
+-- the tree of no pair ends where it begins
+pub none_end : (base n : ℕ) → n < 1 → base ≡ base + ideal_words n
+none_end base n less =
+    let none : n ≡ 0 = omega arith in
+    omega (arith, ap ideal_words none, ideal_words_none)
+
+-- the tree of one pair has two words
+pub one_end : (base n : ℕ) → 1 ≤ n → n < 2 → base + 2 ≡ base + ideal_words n
+one_end base n least most =
+    let one : n ≡ 1 = omega arith in
+    omega (arith, ap ideal_words one, ideal_words_one)
+
+-- after the last part the tree ends
+pub last_end : (base n m d j at : ℕ) → 2 ≤ m → m ≡ n → d ≡ degree m → j ≡ d → at ≡ part_base base n j
+    → at ≡ base + ideal_words n
+last_end base n m d j at several same is all place =
+    let count = is ∙ ap degree same in
+    place ∙ ap (part_base base n) (all ∙ count) ∙ sym (part_base-last base n (omega arith))
+
+-- the fields and the keys of an inner row lie within the words of its tree, which has at least two children
+pub head_fits : (base n m whole : ℕ) → 2 ≤ m → m ≡ n → base + ideal_words n ≤ whole
+    → (2 ≤ degree n) × (base + 4 + degree n ≤ whole + 1)
+head_fits base n m whole several same room =
+    let row = row_fits base n whole (omega arith) room in
+    (least_degree-le n, omega arith)

@@ -1,5 +1,5 @@
 -- Where the rows of a new table lie, part by part, and their words.
-use Rattle.std.specs.Prelude.{◌≤◌, ℕ, ◌+◌, ◌-◌, List, ◌∷◌, length, map, take, drop, get_or}
+use Rattle.std.specs.Prelude.{◌≡◌, ◌<◌, ◌≤◌, ℕ, ◌+◌, ◌-◌, List, ◌∷◌, length, map, take, drop, get_or}
 use Rattle.std.specs.List.{sum_by, flat_map, range_with_len}
 use Rattle.std.proofs.Math.ListN.{set}
 use Rattle.std.proofs.lemmas.List.Edits.{sets}
@@ -17,6 +17,14 @@ use Rattle.ist_core.specs.StartLayout.{tree_at, rows_from}
 -- part j of the pairs
 abbrev pub part_of : List Pair → ℕ → List Pair
 part_of pairs j = take (part_len (length pairs) j) (drop (part_start (length pairs) j) pairs)
+
+-- this is part j of the pairs, which begins at this number, and is shorter than the whole
+pub record IsPart (pairs : List Pair) (j start : ℕ) (part : List Pair) : Type 0 where
+  pub is : part ≡ part_of pairs j
+  pub long : length part ≡ part_len (length pairs) j
+  pub fewer : length part < length pairs
+  pub next : start + length part ≡ part_start (length pairs) (j + 1)
+  pub end : start + length part ≤ length pairs
 
 -- how many words the trees of the first j parts of n keys take
 abbrev pub words_before : ℕ → ℕ → ℕ

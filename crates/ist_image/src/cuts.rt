@@ -2,6 +2,8 @@
 ghost use Rattle.std.specs.Prelude.{◌≡◌, ◌≤◌, ◌<◌, ◌^◌, ◌/◌, ◌%◌};
 ghost use Rattle.ist_core.specs.Arithmetic.{degree};
 
+use ist_core::Pair;
+use ist_layout::inner_words;
 use ist_math::degree;
 
 /// How the pairs of a row are cut: into as many parts as the row has children, the longer ones
@@ -20,8 +22,10 @@ pub(crate) struct Cut {
 }
 
 impl Cut {
-    ghost use Rattle.std.specs.Prelude.{◌≡◌, ◌≤◌, ◌<◌, ◌^◌};
-    ghost use Rattle.ist_core.specs.Arithmetic.{part_len};
+    ghost use Rattle.std.specs.Prelude.{◌≡◌, ◌+◌, ◌≤◌, ◌<◌, ◌^◌, length};
+    ghost use Rattle.ist_core.specs.Arithmetic.{part_len, part_start};
+    ghost use Rattle.ist_core.specs.Shapes.{ideal_words};
+    ghost use Rattle.ist_image.specs.Placing.{IsPart, part_base};
 
     /// Says how `count` pairs are cut.
     pub(crate) fn of(count: u64) -> Cut
@@ -49,5 +53,34 @@ impl Cut {
         } else {
             self.share
         }
+    }
+
+    /// Returns where the tree of the first part begins, below an inner row at the base.
+    pub(crate) fn first_base(&self, base: u64) -> u64
+        requires fits { base + ideal_words self.now.count ≤ 2 ^ 28 }
+        ensures value { result ≡ part_base base self.now.count 0 }
+    {
+        base + inner_words(self.children)
+    }
+
+    /// Returns where the part after part `j` begins, which begins at this number.
+    pub(crate) fn next_start(&self, j: u64, start: usize) -> usize
+        requires within { j < self.now.children }
+        requires start { start ≡ part_start self.now.count j }
+        ensures value { result ≡ part_start self.now.count (j + 1) }
+        ensures begin { start ≤ result }
+        ensures end { result ≤ self.now.count }
+    {
+        start + self.len(j) as usize
+    }
+
+    /// Returns part `j` of the pairs, which begins at the pair with this number.
+    pub(crate) fn part<'a>(&self, pairs: &'a [Pair], j: u64, start: usize) -> &'a [Pair]
+        requires cut { self.now.count ≡ length pairs.now }
+        requires within { j < self.now.children }
+        requires start { start ≡ part_start (length pairs.now) j }
+        ensures part { IsPart pairs.now j start result.now }
+    {
+        &pairs[start..self.next_start(j, start)]
     }
 }

@@ -1,5 +1,5 @@
 //! The words of a new table, whole.
-ghost use Rattle.std.specs.Prelude.{◌≡◌, ◌+◌, ◌≤◌, ◌<◌, ◌^◌, length, [], IfOk, OnOk, OnErr};
+ghost use Rattle.std.specs.Prelude.{◌≡◌, ◌+◌, ◌≤◌, ◌<◌, ◌^◌, length, take, [], IfOk, OnOk};
 ghost use Rattle.ist_core.specs.Shapes.{ideal_words};
 ghost use Rattle.ist_core.specs.RowLayout.{first_row};
 ghost use Rattle.ist_core.specs.StartLayout.{start};
@@ -13,6 +13,7 @@ use ist_core::Pair;
 use ist_layout::{ANCHOR_SLOT_PLACE, ANCHOR_STATUS_PLACE, CALLERS_PLACE, FIRST_ROW, NEXT_PLACE};
 use ist_math::ideal_words;
 use std::alloc::{AllocError, Global};
+use std::marker::Model;
 
 /// The status of a node that isn't marked.
 const OPEN_WORD: u64 = 0;
@@ -37,29 +38,43 @@ pub fn lay_image(alloc: Global, words: u64, pairs: &[Pair]) -> Result<Vec<u64>, 
     ensures image { IfOk result (λ image. IsImage (start pairs.now words) image.items) }
 {
     let mut image = vec![in alloc; 0; words as usize]?;
-    put_image(image.as_mut_slice(), pairs);
+    put_image(image.as_mut_slice(), words, pairs);
     Ok(image)
 }
 
 /// Memory for images that are built one after another, with the last of them.
 ///
-/// All words that the last image doesn't use are 0. So building the next one touches only those
-/// that it uses itself, and those that only the last one used.
+/// It keeps as many words as its largest image had, and lends as many of them as the last one has. All
+/// words that the last image doesn't use are 0. So building the next one touches only those that it
+/// uses itself, and those that only the last one used, also if it has more or fewer words.
+///
+/// Contracts see the words of the last image.
 #[derive(Drop)]
 pub struct Image {
     words: Vec<u64>,
+    count: usize,
     used: usize,
-    ghost within: { used ≤ length words.items },
-    ghost zeros: { ZerosFrom used words.items },
+}
+
+impl Model for Image {
+    ghost use Rattle.std.specs.Prelude.{ℕ, List, take};
+    ghost use Rattle.ist_image.specs.Zeros.{IsImageMemory};
+
+    ghost Value = { List ℕ };
+
+    ghost view = { λ i. take i.count i.words.items };
+
+    ghost invariant = { λ i. IsImageMemory i.words.items i.count i.used };
 }
 
 impl Image {
     /// Returns an image without words.
     pub fn new(alloc: Global) -> Image
-        ensures empty { result.words.items ≡ [] }
+        ensures empty { result ≡ [] }
     {
         Image {
             words: Vec::new(alloc),
+            count: 0,
             used: 0,
         }
     }
@@ -71,30 +86,32 @@ impl Image {
     /// each word that is added. If it fails, the words are no image until the next call.
     pub fn lay(&mut self, words: u64, pairs: &[Pair]) -> Result<(), AllocError>
         requires opens { CanOpen pairs.now words }
-        ensures size { OnOk result (length self.new.words.items ≡ words) }
-        ensures image { OnOk result (IsImage (start pairs.now words) self.new.words.items) }
+        ensures size { OnOk result (length self.new ≡ words) }
+        ensures image { OnOk result (IsImage (start pairs.now words) self.new) }
     {
         let needed = needed_words(pairs.len() as u64) as usize;
         let kept = self.used.min(needed);
         clear(self.words.as_mut_slice(), kept, self.used);
         self.used = kept;
-        resize(&mut self.words, kept, words as usize)?;
-        put_image(self.words.as_mut_slice(), pairs);
+        grow(&mut self.words, kept, words as usize)?;
+        put_image(self.words.as_mut_slice(), words, pairs);
+        self.count = words as usize;
         self.used = needed;
         Ok(())
     }
 
     /// Returns the words of the last image.
-    pub fn words(&self) -> &Vec<u64>
-        ensures value { result.now ≡ self.now.words }
+    pub fn words(&self) -> &[u64]
+        ensures value { result.now ≡ self.now }
     {
-        &self.words
+        &self.words[..self.count]
     }
 
     /// Returns the words of the last image, to keep.
-    pub fn into_words(self) -> Vec<u64>
-        ensures value { result ≡ self.words }
+    pub fn into_words(mut self) -> Vec<u64>
+        ensures value { result.items ≡ self }
     {
+        self.words.truncate(self.count);
         self.words
     }
 }
@@ -105,28 +122,35 @@ fn clear(words: &mut [u64], from: usize, used: usize)
     requires within { used ≤ length words.old }
     requires zeros { ZerosFrom used words.old }
     ensures zeros { ZerosFrom from words.new }
+    ensures length { length words.new ≡ length words.old }
 {
     for i in from..used {
         words[i] = 0;
     }
 }
 
-/// Makes this many words of them. Words that are added are 0. Fails only if memory runs out, and
-/// then leaves them as they were.
-fn resize(words: &mut Vec<u64>, from: usize, count: usize) -> Result<(), AllocError>
+/// Makes at least this many words of them. Words that are added are 0. Fails only if memory runs out,
+/// and then leaves them as they were.
+fn grow(words: &mut Vec<u64>, from: usize, count: usize) -> Result<(), AllocError>
     requires zeros { ZerosFrom from words.old.items }
-    ensures size { OnOk result (length words.new.items ≡ count) }
-    ensures zeros { OnOk result (ZerosFrom from words.new.items) }
-    ensures same { OnErr result (words.new.items ≡ words.old.items) }
+    ensures longer { length words.old.items ≤ length words.new.items }
+    ensures size { OnOk result (count ≤ length words.new.items) }
+    ensures zeros { ZerosFrom from words.new.items }
 {
-    words.resize(count, 0)
+    if words.len() < count {
+        words.resize(count, 0)?;
+    }
+    Ok(())
 }
 
-/// Writes the image of a new table with these pairs into words that are 0 after it.
-fn put_image(words: &mut [u64], pairs: &[Pair])
-    requires opens { CanOpen pairs.now (length words.old) }
+/// Writes the image of a new table of `size` words with these pairs into words that are 0 after it.
+fn put_image(words: &mut [u64], size: u64, pairs: &[Pair])
+    requires opens { CanOpen pairs.now size }
+    requires within { size ≤ length words.old }
     requires zeros { ZerosFrom (first_row + ideal_words (length pairs.now)) words.old }
-    ensures image { IsImage (start pairs.now (length words.old)) words.new }
+    ensures image { IsImage (start pairs.now size) (take size words.new) }
+    ensures zeros { ZerosFrom (first_row + ideal_words (length pairs.now)) words.new }
+    ensures length { length words.new ≡ length words.old }
 {
     let count = pairs.len() as u64;
     let first = u64::from(FIRST_ROW);

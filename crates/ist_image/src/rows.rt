@@ -1,10 +1,12 @@
-//! The fields and keys of an inner row of a new table as words, and the words for its children.
+//! The fields, keys and slots of an inner row of a new table as words.
 ghost use Rattle.std.specs.Prelude.{◌≡◌, ◌+◌, ◌≤◌, ◌<◌, ◌^◌, List, length, drop};
+ghost use Rattle.std.proofs.Math.ListN.{set};
 ghost use Rattle.std.proofs.lemmas.List.Edits.{sets};
 ghost use Rattle.ist_core.specs.declared.pairs.Pair.{Pair as APair};
 ghost use Rattle.ist_core.specs.Arithmetic.{degree};
 ghost use Rattle.ist_core.specs.Parts as cuts;
 ghost use Rattle.ist_core.specs.References.{word_of as the_word};
+ghost use Rattle.ist_core.specs.RowLayout.{inner_words};
 ghost use Rattle.ist_core.specs.Shapes.{ideal_words};
 ghost use Rattle.ist_core.specs.StartLayout.{tree_at};
 ghost use Rattle.ist_image.specs.Placing.{row_head};
@@ -43,9 +45,24 @@ fn put_keys(words: &mut [u64], place: usize, pairs: &[Pair], cut: &Cut)
 {
     let mut start = 0;
     for j in 1..cut.children {
-        start += cut.len(j - 1) as usize;
+        start = cut.next_start(j - 1, start);
         words[place + (j as usize - 1)] = pairs[start].key;
     }
+}
+
+/// Writes the slot of part `j` of an inner row at the base: the word for its tree of `count` pairs, which
+/// begins at `at`.
+pub(crate) fn put_slot(words: &mut [u64], base: u64, cut: &Cut, j: u64, at: u64, count: u64)
+    requires within { j < cut.now.children }
+    requires row { base + inner_words cut.now.children ≤ length words.old }
+    requires few { base + inner_words cut.now.children ≤ at }
+    requires low { 4 ≤ at }
+    requires small { at < 2 ^ 28 }
+    ensures exact { (pairs : List APair) → length pairs ≡ count → words.new
+        ≡ set words.old (base + 3 + cut.now.children + j) (the_word (tree_at at pairs)) }
+{
+    let slots = base + 3 + cut.children;
+    words[(slots + j) as usize] = word_at(at, count);
 }
 
 /// Returns the word for the tree of `count` pairs at the base.

@@ -1,11 +1,13 @@
 -- The next pair above and below a key. Serves `ends` and `cursors`.
-use Rattle.std.proofs.Common.{◌≡◌, ◌≢◌, ℕ, ◌+◌, ◌<◌, ◌≤◌, if◌then◌else◌, List, [], ◌∷◌, length, Option, Some, None, ⊎_elim, refl, ap, subst, arith}
+use Rattle.std.proofs.Common.{◌≡◌, ◌≢◌, ℕ, ◌+◌, ◌-◌, ◌^◌, ◌<◌, ◌≤◌, if◌then◌else◌, List, [], ◌∷◌, length, Option, Some, None, ⊎_elim, inl, inr, refl, ap, subst, append-nil, arith}
 use Rattle.std.proofs.lemmas.Bool.{cases_lt}
 use Rattle.std.proofs.lemmas.Bool.Decides.{eqb_tells}
 use Rattle.ist_core.specs.declared.pairs.Pair.{Pair}
+use Rattle.ist_find.specs.Spans.{IsEdge}
 use Rattle.ist_find.specs.Sweeps.{one_of}
 use Rattle.ist_tree.specs.Faces.{PassFace}
-use Rattle.ist_live.specs.Reading.{Begins, HasRead, Had, HadNone, HasReadSpan, ReadsUp, ReadsDown, span_up, none_down, span_down}
+use Rattle.ist_tree.specs.Spans.{state_seen}
+use Rattle.ist_live.specs.Reading.{Begins, HasRead, Had, HadNone, HasReadSpan, ReadsUp, ReadsDown, none_up, span_up, none_down, span_down}
 use Rattle.ist_live.specs.Lists.{value_among}
 use Rattle.ist_live.specs.Ends.{IsNextUp, IsNextDown, end_up, end_down}
 use Rattle.ist_live.proofs.ReadLemmas.{read_not, read_more, had_before, had_after, up_to_pair, down_to_pair}
@@ -91,22 +93,98 @@ next_down p m q asked from behind None r s =
 
 -- ---- one span more
 
-module _ (p m q : PassFace) (key from to : ℕ) (o : Option Pair) where
-  -- upwards, up to its pair
-  pub pair_up : (x : Pair) → o ≡ Some x → ReadsUp p key m from [] → Begins m key from
-      → HasReadSpan m q from from (to + 1) o → ReadsUp p key q (x.key + 1) (x ∷ [])
-  pair_up x is r begins s =
-      span_up (Some x) r begins
-      (up_to_pair m q from from (to + 1) x (subst (HasReadSpan m q from from (to + 1)) is s) refl)
+-- a read found this as the next pair upwards, span after span
+pub record FoundUp (p q : PassFace) (key : ℕ) (pair : Option Pair) : Type 0 where
+  pub read : HasRead p q
+  pub next : IsNextUp p q key pair
+  pub spans : ReadsUp p key q (end_up pair) (one_of pair)
 
-  -- or all of it, without a pair
-  pub on_up : o ≡ None → ReadsUp p key m from [] → Begins m key from
-      → HasReadSpan m q from from (to + 1) o → ReadsUp p key q (to + 1) []
-  on_up is r begins s =
-      span_up None r begins (subst (HasReadSpan m q from from (to + 1)) is s)
+-- the keys from this one up to another were read, and none had a value
+pub record IsUpTo (p m : PassFace) (key from : ℕ) : Type 0 where
+  pub read : HasRead p m
+  pub reads : ReadsUp p key m from []
+  pub begins : Begins m key from
+  pub small : from < 2 ^ 64
 
-  -- downwards, down to its pair
-  pub pair_down : (x : Pair) → o ≡ Some x → HasReadSpan m q from to (from + 1) o
-      → HasReadSpan m q from x.key (from + 1) (Some x)
-  pair_down x is s =
-      down_to_pair m q from to (from + 1) x (subst (HasReadSpan m q from to (from + 1)) is s) refl
+-- at first none was
+pub up_to_none : (p : PassFace) (key : ℕ) → key < 2 ^ 64 → IsUpTo p p key key
+up_to_none p key small = record { read = read_not p; reads = none_up; begins = inl refl; small = small }
+
+module _ (p m q : PassFace) (key from to : ℕ) (o : Option Pair) (h : IsUpTo p m key from)
+    (s : HasReadSpan m q from from (to + 1) o) where
+  found : (pair : Option Pair) → ReadsUp p key q (end_up pair) (one_of pair) → FoundUp p q key pair
+  found pair r = record { read = read_more p m q h.read s.read; next = next_up p q key pair r; spans = r }
+
+  -- one span more, up to its pair
+  pub found_up : (x : Pair) → o ≡ Some x → FoundUp p q key (Some x)
+  found_up x is =
+      found (Some x) (span_up (Some x) h.reads h.begins
+      (up_to_pair m q from from (to + 1) x (subst (HasReadSpan m q from from (to + 1)) is s) refl))
+
+  -- all of it, without a pair
+  all_up_to : o ≡ None → ReadsUp p key q (to + 1) []
+  all_up_to is = span_up None h.reads h.begins (subst (HasReadSpan m q from from (to + 1)) is s)
+
+  -- up to the end of all keys
+  pub found_none_up : o ≡ None → to + 1 ≡ 2 ^ 64 → FoundUp p q key None
+  found_none_up is end = found None (subst (λ n. ReadsUp p key q n []) end (all_up_to is))
+
+  -- or up to where it goes on
+  pub up_to_on : o ≡ None → to + 1 < 2 ^ 64 → IsEdge (state_seen q) (to + 1) → IsUpTo p q key (to + 1)
+  up_to_on is small edge =
+      record {
+        read = read_more p m q h.read s.read;
+        reads = all_up_to is;
+        begins = inr edge;
+        small = small;
+      }
+
+-- a read found this as the next pair downwards, span after span
+pub record FoundDown (p q : PassFace) (behind : ℕ) (pair : Option Pair) : Type 0 where
+  pub read : HasRead p q
+  pub next : IsNextDown p q behind pair
+  pub spans : ReadsDown p behind q (end_down pair) (one_of pair)
+
+-- the keys below this one down to another were read, and none had a value
+pub record IsDownTo (p m : PassFace) (behind from : ℕ) : Type 0 where
+  pub read : HasRead p m
+  pub reads : ReadsDown p behind m from []
+  pub begins : Begins m behind from
+
+-- at first none was
+pub down_to_none : (p : PassFace) (behind : ℕ) → IsDownTo p p behind behind
+down_to_none p behind = record { read = read_not p; reads = none_down; begins = inl refl }
+
+module _ (p m q : PassFace) (behind from to : ℕ) (o : Option Pair) (h : IsDownTo p m behind (from + 1))
+    (s : HasReadSpan m q from to (from + 1) o) where
+  lower : (pair : Option Pair) → HasReadSpan m q from (end_down pair) (from + 1) pair
+      → FoundDown p q behind pair
+  lower pair r =
+      record {
+        read = read_more p m q h.read s.read;
+        next = next_down p m q from (from + 1) behind pair h.reads r;
+        spans = subst (ReadsDown p behind q (end_down pair)) (append-nil (one_of pair))
+            (span_down pair h.reads h.begins r);
+      }
+
+  -- one span more, down to its pair
+  pub found_down : (x : Pair) → o ≡ Some x → FoundDown p q behind (Some x)
+  found_down x is =
+      lower (Some x) (down_to_pair m q from to (from + 1) x
+      (subst (HasReadSpan m q from to (from + 1)) is s) refl)
+
+  -- all of it, without a pair, down to 0
+  pub found_none_down : o ≡ None → to ≡ 0 → FoundDown p q behind None
+  found_none_down is end =
+      lower None (subst (λ n. HasReadSpan m q from n (from + 1) None) end
+      (subst (HasReadSpan m q from to (from + 1)) is s))
+
+  -- or down to where it goes on
+  pub down_to_on : o ≡ None → 0 < to → IsEdge (state_seen q) to → IsDownTo p q behind (to - 1 + 1)
+  down_to_on is some edge =
+      let same : to ≡ to - 1 + 1 = omega arith in
+      subst (IsDownTo p q behind) same record {
+        read = read_more p m q h.read s.read;
+        reads = span_down None h.reads h.begins (subst (HasReadSpan m q from to (from + 1)) is s);
+        begins = inr edge;
+      }

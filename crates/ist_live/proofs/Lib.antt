@@ -4,3 +4,4 @@ pub mod ListLemmas
 pub mod EndLemmas
 pub mod TurnLemmas
 pub mod MomentLemmas
+pub mod JoinLemmas

@@ -15,7 +15,7 @@ use Rattle.ist_live.proofs.SlotLemmas.{HasReadSlot, SweepsUp, none_up, later_up,
 use Rattle.ist_live.proofs.ReadLemmas.{read_not, read_more, had_before, had_after}
 
 -- a pair of another key gives the key nothing
-other_first : (pair : Pair) (pairs : List Pair) (k : ℕ) → pair.key ≢ k
+pub other_first : (pair : Pair) (pairs : List Pair) (k : ℕ) → pair.key ≢ k
     → value_among (pair ∷ pairs) k ≡ value_among pairs k
 other_first pair pairs k ne =
     ⊎_elim (λ a. absurd (ne a.1))
@@ -100,7 +100,8 @@ listed_none p first =
       values = λ k low high. absurd (omega arith);
     }
 
-each_higher : (pairs : List Pair) (from to : ℕ) → from ≤ to → Each (λ x. x.key < from) pairs
+-- pairs below a key are below a greater one
+pub each_higher : (pairs : List Pair) (from to : ℕ) → from ≤ to → Each (λ x. x.key < from) pairs
     → Each (λ x. x.key < to) pairs
 each_higher [] from to h e = tt
 each_higher (x ∷ pairs) from to h e = let less = e.0 in (omega arith, each_higher pairs from to h e.1)

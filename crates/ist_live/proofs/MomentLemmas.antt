@@ -1,7 +1,7 @@
 -- What a tree swept between two moments of a pass, as moments of the pass. Serves `lists`.
-use Rattle.std.proofs.Common.{◌≡◌, ℕ, ◌+◌, List, [], ◌++◌, refl, sym, ap, ◌∙◌, subst, arith}
+use Rattle.std.proofs.Common.{◌≡◌, ℕ, ◌+◌, ◌<◌, List, [], ◌++◌, refl, sym, ap, ◌∙◌, subst, arith}
 use Rattle.ist_core.specs.declared.pairs.Pair.{Pair}
-use Rattle.ist_core.specs.Logs.{Log, GoesOn}
+use Rattle.ist_core.specs.Logs.{Log, GoesOn, same_log}
 use Rattle.ist_core.specs.RowLayout.{anchor}
 use Rattle.ist_find.specs.Sweeps.{Swept, none_swept, later_swept, row_swept, slot_swept}
 use Rattle.ist_tree.specs.Faces.{PassFace}
@@ -74,4 +74,18 @@ has_listed p q first last old new none h =
       swept = subst
           (Swept p.tree.start p.tree.words first anchor p.seen h.at (last + 1) 0 h.loads)
           (sym (h.are ∙ ap (λ xs. xs ++ h.found) none)) h.swept;
+    }
+
+-- if there is no key to read, it listed none
+pub none_listed : (p : PassFace) (first last : ℕ) → last < first → HasListed p p first last []
+none_listed p first last less =
+    record {
+      behind = first;
+      past = less;
+      at = p.seen;
+      until = same_log;
+      row = anchor;
+      loads = 0;
+      few = omega arith;
+      swept = none_swept;
     }

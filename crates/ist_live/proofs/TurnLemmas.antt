@@ -29,6 +29,17 @@ span_had m q from behind (Some y) s x (inl e) =
 span_had m q from behind (Some y) s x (inr a) = absurd a
 span_had m q from behind None s x a = absurd a
 
+-- both were in turn at a later moment too
+pub turn_later : (p m q : PassFace) (x y : Pair) → HasRead m q → HadInTurn p m x y → HadInTurn p q x y
+turn_later p m q x y r t =
+    record {
+      between = t.between;
+      before = t.before;
+      after = read_more t.between m q t.after r;
+      one_had = t.one_had;
+      other_had = had_after t.between m q r y.key (Some y.value) t.other_had;
+    }
+
 module _ (p : PassFace) (first : ℕ) where
   -- each pair that was read was in the map at a position
   pair_had : (q : PassFace) (behind : ℕ) (pairs : List Pair) → SweepsUp p first q behind pairs
@@ -43,23 +54,12 @@ module _ (p : PassFace) (first : ℕ) where
       (span_had m q from behind pair s x b).1)
       (among-append x pairs (one_of pair) a)
 
-  -- both were in turn at a later moment too
-  turn_later : (m q : PassFace) (x y : Pair) → HasRead m q → HadInTurn p m x y → HadInTurn p q x y
-  turn_later m q x y r t =
-      record {
-        between = t.between;
-        before = t.before;
-        after = read_more t.between m q t.after r;
-        one_had = t.one_had;
-        other_had = had_after t.between m q r y.key (Some y.value) t.other_had;
-      }
-
   -- and the greater of two at no earlier one
   pub in_turn : (q : PassFace) (behind : ℕ) (pairs : List Pair) → SweepsUp p first q behind pairs
       → (x y : Pair) → Among x pairs → Among y pairs → x.key < y.key → HadInTurn p q x y
   in_turn _ _ _ none_up x y a b less = absurd a
   in_turn q behind pairs (later_up {m = m} s r) x y a b less =
-      turn_later m q x y r (in_turn m behind pairs s x y a b less)
+      turn_later p m q x y r (in_turn m behind pairs s x y a b less)
   in_turn q behind _ (slot_up {m = m} {from = from} {pairs = pairs} pair r s) x y a b less =
       ⊎_elim
       (λ c. ⊎_elim (λ d. both_old (in_turn m from pairs r x y c d less)) (λ d. new_and_old c d) (among-append y pairs (one_of pair) b))
@@ -69,7 +69,7 @@ module _ (p : PassFace) (first : ℕ) where
       (among-append x pairs (one_of pair) a)
     where
       both_old : HadInTurn p m x y → HadInTurn p q x y
-      both_old = turn_later m q x y s.read
+      both_old = turn_later p m q x y s.read
 
       new_and_old : Among x pairs → Among y (one_of pair) → HadInTurn p q x y
       new_and_old c d =

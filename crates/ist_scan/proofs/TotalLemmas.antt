@@ -1,5 +1,6 @@
 -- Totals of pairs, one pair more at a time. Serves `shots.total_at` and `shots.list`.
-use Rattle.std.proofs.Common.{◌≡◌, ℕ, ◌+◌, ◌-◌, ◌<◌, ◌≤◌, List, [], ◌∷◌, ◌++◌, zero, suc, length, take, drop, slice_get, slice_set, ◌≢◌, Option, Some, None, refl, sym, ap, ◌∙◌, arith}
+use Rattle.std.proofs.Common.{◌≡◌, ℕ, ◌+◌, ◌-◌, ◌<◌, ◌≤◌, List, [], ◌∷◌, ◌++◌, zero, suc, length, take, drop, slice_get, slice_set, ◌≢◌, Option, Some, None, refl, sym, ap, ◌∙◌, ⊎_elim, arith}
+use Rattle.std.proofs.lemmas.Bool.{cases_lt}
 use Rattle.std.proofs.lemmas.List.Sums.{sum_by_push}
 use Rattle.ist_core.proofs.PieceLemmas.{slice_get-drop}
 use Rattle.ist_core.specs.declared.pairs.Pair.{Pair}
@@ -68,6 +69,15 @@ total_more old new pairs x same keys sum least greatest =
         → a.greatest ≡ b.greatest → a ≡ b
     same_total a b k s l g = λ i. record { keys = k i; sum = s i; least = l i; greatest = g i }
 
+-- the total of a part with one pair more
+pub part_total_more : (pairs : List Pair) (low i : ℕ) (x : Pair) (old new : Total) → low ≤ i
+    → slice_get pairs i ≡ Some x → old ≡ total_of (part_of pairs low i) → new.keys ≡ old.keys + 1
+    → new.sum ≡ old.sum + x.value → new.least ≡ least_with x.value old.least
+    → new.greatest ≡ greatest_with x.value old.greatest → new ≡ total_of (part_of pairs low (i + 1))
+part_total_more pairs low i x old new order at same keys sum least greatest =
+    total_more old new (part_of pairs low i) x same keys sum least greatest
+    ∙ ap total_of (sym (part_more pairs low i x order at))
+
 -- ---- a list of totals, one of which is written
 
 -- an entry after a write to it
@@ -85,3 +95,14 @@ get_set_other (t ∷ totals) zero zero x apart = absurd (apart refl)
 get_set_other (t ∷ totals) zero (suc k) x apart = refl
 get_set_other (t ∷ totals) (suc i) zero x apart = refl
 get_set_other (t ∷ totals) (suc i) (suc k) x apart = get_set_other totals i k x (omega arith)
+
+-- so one entry more is what it must be
+pub totals_more : (f : ℕ → Total) (totals : List Total) (j : ℕ) (x : Total) → j < length totals → x ≡ f j
+    → ((k : ℕ) → k < j → slice_get totals k ≡ Some (f k)) → (k : ℕ) → k < j + 1
+    → slice_get (slice_set totals j x) k ≡ Some (f k)
+totals_more f totals j x within is before k low =
+    ⊎_elim (λ (h : k < j). get_set_other totals j k x (omega (arith, h)) ∙ before k h)
+    (λ (h : j ≤ k). let same : k ≡ j = omega (arith, h, low) in
+    ap (slice_get (slice_set totals j x)) same ∙ get_set_same totals j x within
+    ∙ ap Some (is ∙ ap f (sym same)))
+    (cases_lt k j)

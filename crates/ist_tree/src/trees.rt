@@ -86,7 +86,7 @@ impl Tree {
         }
         let kept = pairs.to_vec(alloc)?;
         image.lay(words, pairs)?;
-        let (table, seat) = open_table_over(alloc, image.words().as_slice(), &kept)?;
+        let (table, seat) = open_table_over(alloc, image.words(), &kept)?;
         know(&seat);
         Ok((
             Tree { table },

@@ -1,8 +1,9 @@
 //! Two threads share a tree. Each puts a pair, tells the other by a note, and finds the other's pair. Then two
-//! threads raise one counter, and some workers put a key each.
+//! threads raise one counter, some workers put a key each, and many keys are read in pieces.
 //!
 //! `exchange::exchange` is the part to read: its contract says what both threads find. `counting::raise` shows
-//! a conditional put, and `many::close_if_back` how a tree is closed after any number of workers.
+//! a conditional put, `many::close_if_back` how a tree is closed after any number of workers, and
+//! `paging::read_in_pieces` that pieces which are read one after another are one list.
 #![tactic(auto)]
 
 mod counting;
@@ -13,6 +14,7 @@ mod paging;
 use crate::counting::count_in_two;
 use crate::exchange::exchange;
 use crate::many::put_by_many;
+use crate::paging::read_many;
 use ist_core::Pair;
 use std::io;
 
@@ -23,6 +25,8 @@ const RIGHT: Pair = Pair { key: 2, value: 20 };
 const TIMES: u64 = 1000;
 
 const WORKERS: u32 = 7;
+
+const KEYS: u64 = 250;
 
 fn main(rt: HostRuntime) -> io::Result<()> {
     match exchange(&rt, rt.alloc(), LEFT, RIGHT) {
@@ -48,7 +52,11 @@ fn main(rt: HostRuntime) -> io::Result<()> {
     match put_by_many(&rt, rt.alloc(), WORKERS) {
         Ok(keys) => println!(rt;
             "{WORKERS} workers put a key each, and the tree has {keys:?} keys"
-        ),
+        )?,
+        Err(fault) => println!(rt; "refused: {fault:?}")?,
+    }
+    match read_many(rt.alloc(), KEYS) {
+        Ok(pairs) => println!(rt; "of {KEYS} keys {pairs} were read in pieces"),
         Err(fault) => println!(rt; "refused: {fault:?}"),
     }
 }

@@ -1,13 +1,17 @@
 //! The pairs between two keys in pieces, while others change the tree.
-ghost use Rattle.std.specs.Prelude.{◌≡◌, ◌<◌, ◌≤◌, IfOk, IfSome};
+ghost use Rattle.std.specs.Prelude.{◌≡◌, ◌≤◌, IfOk};
 ghost use Rattle.ist_live.specs.Reading.{HasRead};
 ghost use Rattle.ist_live.specs.Lists.{AreInTurn, AreLive};
-ghost use Rattle.try_example.specs.Pieces.{end_of};
+ghost use Rattle.try_example.specs.Pieces.{IsPiece};
 
-use ist_core::Pair;
+use crate::exchange::Fault;
+use ist_core::{Full, Pair};
 use ist_live::at_least;
-use ist_tree::{Pass, Tree};
+use ist_tree::{OpenFault, Pass, Tree};
 use std::alloc::{AllocError, Global};
+
+/// How many words of 8 bytes the tree has.
+const WORDS: u32 = 100_000;
 
 /// How many pairs a piece has at most.
 const PAIRS: usize = 100;
@@ -35,10 +39,8 @@ pub fn read_piece(
     requires same_tree { pass.old.tree ≡ tree.now }
     requires some { first ≤ last }
     ensures read { HasRead pass.old pass.new }
-    ensures live { IfOk result (λ piece.
-        AreLive pass.old pass.new first (end_of piece.next last) piece.pairs.items) }
-    ensures in_turn { IfOk result (λ piece. AreInTurn pass.old pass.new piece.pairs.items) }
-    ensures next { IfOk result (λ piece. IfSome piece.next (λ key. (first < key) × (key ≤ last))) }
+    ensures piece { IfOk result (λ piece.
+        IsPiece pass.old pass.new first last piece.next piece.pairs.items) }
 {
     let mut pairs = Vec::new(alloc);
     let mut from = first;
@@ -60,5 +62,57 @@ pub fn read_piece(
                 next: Some(from),
             });
         }
+    }
+}
+
+/// Reads all pairs from `first` to `last`, piece after piece, as one list.
+///
+/// Others may change the tree while a piece is read, and between two of them. Still the list says of each
+/// key from `first` to `last` what it had at a position of its own during the call, its keys are strictly
+/// increasing, and time never goes back along them: the contract is that of one read of all keys.
+pub fn read_in_pieces(
+    alloc: Global,
+    tree: &Tree,
+    pass: &mut Pass,
+    first: u64,
+    last: u64,
+) -> Result<Vec<Pair>, AllocError>
+    requires same_tree { pass.old.tree ≡ tree.now }
+    requires some { first ≤ last }
+    ensures read { HasRead pass.old pass.new }
+    ensures live { IfOk result (λ found. AreLive pass.old pass.new first last found.items) }
+    ensures in_turn { IfOk result (λ found. AreInTurn pass.old pass.new found.items) }
+{
+    let Piece {
+        mut pairs,
+        mut next,
+    } = read_piece(alloc, tree, pass, first, last)?;
+    while let Some(from) = next {
+        let piece = read_piece(alloc, tree, pass, from, last)?;
+        pairs.extend_from_slice(piece.pairs.as_slice())?;
+        next = piece.next;
+    }
+    Ok(pairs)
+}
+
+// Puts this many keys.
+fn put_keys(tree: &Tree, pass: &mut Pass, count: u64) -> Result<(), Full>
+    requires same_tree { pass.old.tree ≡ tree.now }
+    ensures same_tree { pass.new.tree ≡ tree.now }
+{
+    for key in 0..count {
+        tree.put(pass, key, key)?;
+    }
+    Ok(())
+}
+
+/// Puts this many keys into a new tree, and reads them in pieces. Returns how many pairs it read.
+pub fn read_many(alloc: Global, count: u64) -> Result<usize, Fault> {
+    let (tree, mut maker) = Tree::open(alloc, WORDS, &[])?;
+    let mut pass = tree.pass(&mut maker);
+    put_keys(&tree, &mut pass, count)?;
+    match read_in_pieces(alloc, &tree, &mut pass, 0, u64::MAX) {
+        Ok(pairs) => Ok(pairs.len()),
+        Err(AllocError) => Err(Fault::Open(OpenFault::Memory)),
     }
 }

@@ -1,71 +1,53 @@
-use Rattle.std.proofs.Common.{◌∙◌, ◌-◌, length, get_or, sym, ap, arith}
-use Rattle.ist_core.specs.Arithmetic.{child_count}
-use Rattle.ist_math.proofs.ChildLemmas.{child_is_first, child_is_last}
+use Rattle.std.proofs.Common.{◌∙◌, ◌-◌, length, get_or, ap, arith}
 use Rattle.ist_math.proofs.GuessLemmas.{guess_of-between}
-use Rattle.ist_rule.proofs.GoingOnLemmas.{goes_on_more}
-use Rattle.ist_find.specs.Searches.{keys_at}
-use Rattle.ist_find.proofs.RowLemmas.{row_on, keys_on, keys_rise}
+use Rattle.ist_find.proofs.RowLemmas.{row_on, keys_on, count_on}
+use Rattle.ist_find.proofs.KeyLemmas.{child_at_start, child_at_end, child_between}
 use Rattle.ist_find.proofs.keys.child_among_many.Goals as goal
 
 -- no key is at most the key, or each is
-pub returns-then-key-ends-clause-value : goal.returns-then-key-ends-clause-value
-returns-then-key-ends-clause-value c =
-    let v = c.args.seat.now.view in
+pub returns-then-key-ends-clause-finds : goal.returns-then-key-ends-clause-finds
+returns-then-key-ends-clause-finds c =
     let first = c.end_keys-ends.ensures.first in
-    let above = c.if-key-ends.true in
-    sym (child_is_first (keys_at v c.args.node) c.args.key
-    (keys_rise v c.know.ensures.sound c.args.node c.requires.row) (omega arith))
+    let low = c.if-key-ends.true in
+    child_at_start _ _ c.know.ensures.sound c.end_keys-ends.ensures.seen c.end_keys-ends.ensures.loads
+    c.args.node c.args.key c.args.count c.requires.row c.requires.count (omega arith)
 
-pub returns-then-ends-key-clause-value : goal.returns-then-ends-key-clause-value
-returns-then-ends-key-clause-value c =
-    let v = c.args.seat.now.view in
+pub returns-then-ends-key-clause-finds : goal.returns-then-ends-key-clause-finds
+returns-then-ends-key-clause-finds c =
     let last = c.end_keys-ends.ensures.last in
-    let below = c.if-ends-key.true in
-    c.requires.count
-    ∙ sym (child_is_last (keys_at v c.args.node) c.args.key
-    (keys_rise v c.know.ensures.sound c.args.node c.requires.row) (omega arith))
+    let high = c.if-ends-key.true in
+    child_at_end _ _ c.know.ensures.sound c.end_keys-ends.ensures.seen c.end_keys-ends.ensures.loads
+    c.args.node c.args.key c.args.count c.requires.row c.requires.count (omega arith)
 
--- the row is published still, with the same keys
-pub gallop_from-child-requires-clause-row : goal.gallop_from-child-requires-clause-row
-gallop_from-child-requires-clause-row c =
-    row_on _ _ c.end_keys-ends.ensures.seen c.args.node c.requires.row
-
-pub gallop_from-child-requires-clause-count : goal.gallop_from-child-requires-clause-count
-gallop_from-child-requires-clause-count c =
-    c.requires.count
-    ∙ sym (ap length (keys_on _ _ c.end_keys-ends.ensures.seen c.args.node c.requires.row))
-
--- the key lies between the end keys
-pub gallop_from-child-requires-clause-within : goal.gallop_from-child-requires-clause-within
-gallop_from-child-requires-clause-within c =
+-- the key lies between the end keys, and so does the guess
+pub gallop_from-child-requires : goal.gallop_from-child-requires
+gallop_from-child-requires c =
+    let e = c.end_keys-ends.ensures in
     let is = c.guess-from.ensures.value in
     let many = c.requires.many in
-    let between = guess_of-between c.end_keys-ends.result.first c.end_keys-ends.result.last
-    c.args.count c.args.key (omega arith) c.if-key-ends.false c.if-ends-key.false in
-    omega (arith, between.1)
-
-pub gallop_from-child-requires-clause-first : goal.gallop_from-child-requires-clause-first
-gallop_from-child-requires-clause-first c =
-    let same = keys_on _ _ c.end_keys-ends.ensures.seen c.args.node c.requires.row in
-    let here = ap (λ ks. get_or ks 0 0) same in
-    let first = c.end_keys-ends.ensures.first in
     let low = c.if-key-ends.false in
-    omega arith
-
-pub gallop_from-child-requires-clause-last : goal.gallop_from-child-requires-clause-last
-gallop_from-child-requires-clause-last c =
-    let same = keys_on _ _ c.end_keys-ends.ensures.seen c.args.node c.requires.row in
-    let here = ap (λ ks. get_or ks (length ks - 1) 0) same in
-    let last = c.end_keys-ends.ensures.last in
     let high = c.if-ends-key.false in
-    omega arith
+    let between = guess_of-between c.end_keys-ends.result.first c.end_keys-ends.result.last
+    c.args.count c.args.key (omega arith) low high in
+    let same = keys_on _ _ e.seen c.args.node c.requires.row in
+    let first = e.first in
+    let last = e.last in
+    let first_on = ap (λ ks. get_or ks 0 0) same in
+    let last_on = ap (λ ks. get_or ks (length ks - 1) 0) same in
+    record {
+      same_table = e.same_table ∙ c.requires.same_table;
+      row = row_on _ _ e.seen c.args.node c.requires.row;
+      count = count_on _ _ e.seen c.args.node c.requires.row _ c.requires.count;
+      fits = c.requires.fits;
+      some = omega (arith, between.0);
+      within = omega (arith, between.1);
+      first = omega arith;
+      last = omega arith;
+    }
 
-pub returns-clause-seen : goal.returns-clause-seen
-returns-clause-seen c =
-    goes_on_more _ _ _ c.end_keys-ends.ensures.seen c.gallop_from-child.ensures.seen
-
-pub returns-clause-value : goal.returns-clause-value
-returns-clause-value c =
-    c.gallop_from-child.ensures.value
-    ∙ ap (λ ks. child_count ks c.args.key)
-    (keys_on _ _ c.end_keys-ends.ensures.seen c.args.node c.requires.row)
+pub returns-clause-finds : goal.returns-clause-finds
+returns-clause-finds c =
+    let e = c.end_keys-ends.ensures in
+    child_between _ _ c.know.ensures.sound e.seen e.loads c.args.node c.args.key c.args.count c.requires.row
+    c.requires.count _ c.guess-from.result _ _ (cc (c.guess-from.ensures.value, e.first, e.last, c.requires.count))
+    c.gallop_from-child.ensures.finds

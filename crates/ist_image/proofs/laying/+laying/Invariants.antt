@@ -16,7 +16,7 @@ abbrev pub invariant-put_parts-loop-j : goal.invariant-put_parts-loop-j
 invariant-put_parts-loop-j l = record {
   place : l.at ≡ part_base l.base (length l.pairs) l.j;
   start : l.start ≡ part_start (length l.pairs) l.j;
-  left : sets (sets l.words (l.slots + l.j) (slots_behind l.base l.pairs l.j)) l.at
+  left : sets (sets l.words (l.base + 3 + l.cut.children + l.j) (slots_behind l.base l.pairs l.j)) l.at
       (row_words (rows_behind l.base l.pairs l.j))
       ≡ sets (sets l.initial.words (slot_base l.base (length l.pairs))
       (slots_behind l.base l.pairs 0)) (part_base l.base (length l.pairs) 0)

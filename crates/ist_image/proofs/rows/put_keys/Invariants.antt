@@ -1,4 +1,4 @@
-use Rattle.std.proofs.Common.{◌≡◌, ◌+◌, ◌-◌, length}
+use Rattle.std.proofs.Common.{◌≡◌, ◌+◌, ◌-◌}
 use Rattle.std.proofs.lemmas.List.Edits.{sets}
 use Rattle.ist_core.specs.Arithmetic.{part_start}
 use Rattle.ist_image.specs.Placing.{keys_behind}
@@ -8,7 +8,7 @@ use Rattle.ist_image.proofs.rows.put_keys.Given as goal
 -- be written
 abbrev pub invariant-loop-j : goal.invariant-loop-j
 invariant-loop-j l = record {
-  start : l.start ≡ part_start (length l.pairs) (l.j - 1);
+  start : l.start ≡ part_start l.cut.count (l.j - 1);
   left : sets l.words (l.place + (l.j - 1)) (keys_behind l.pairs l.j)
       ≡ sets l.initial.words l.place (keys_behind l.pairs 1);
 }

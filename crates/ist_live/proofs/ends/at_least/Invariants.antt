@@ -1,12 +1,10 @@
-use Rattle.std.proofs.Common.{[], ◌-◌, ◌^◌, ◌<◌}
-use Rattle.ist_live.specs.Reading.{Begins, HasRead, ReadsUp}
+use Rattle.std.proofs.Common.{◌-◌, ◌^◌}
+use Rattle.ist_live.proofs.EndLemmas.{IsUpTo}
 use Rattle.ist_live.proofs.ends.at_least.Given as goal
 
 -- the keys before this one were read, and none had a value
 abbrev pub invariant-spans : goal.invariant-spans
-invariant-spans l =
-    HasRead l.fn.pass l.pass × ReadsUp l.fn.pass l.key l.pass l.from [] × Begins l.pass l.key l.from
-    × (l.from < 2 ^ 64)
+invariant-spans l = IsUpTo l.fn.pass l.pass l.key l.from
 
 -- keys rise
 abbrev pub decreases-spans : goal.decreases-spans

@@ -1,11 +1,10 @@
-use Rattle.std.proofs.Common.{◌≡◌, ◌<◌, slice_get, slice_set, Some, ap, ◌∙◌, subst, sym, arith, ⊎_elim}
+use Rattle.std.proofs.Common.{◌∙◌, subst, sym, arith}
 use Rattle.std.proofs.lemmas.List.{length-set}
-use Rattle.std.proofs.lemmas.Bool.{cases_lt}
 use Rattle.ist_core.specs.Map.{pairs_of}
 use Rattle.ist_scan.specs.Shots.{HasPairs, map_seen}
 use Rattle.ist_scan.specs.Totals.{total_of, pairs_in_bin}
 use Rattle.ist_scan.proofs.ShotLemmas.{looked_not, looked_more, of_pairs}
-use Rattle.ist_scan.proofs.TotalLemmas.{get_set_same, get_set_other}
+use Rattle.ist_scan.proofs.TotalLemmas.{totals_more}
 use Rattle.ist_scan.proofs.shots.Shot.bins.Goals as goal
 
 pub loop-j-init : goal.loop-j-init
@@ -19,25 +18,16 @@ loop-j-init c =
 pub loop-j-preserved : goal.loop-j-preserved
 loop-j-preserved c =
     let i = c.loop-j.invariant in
-    let j = c.loop-j.j in
     let pass = c.args.pass.now in
-    let out = c.loop-j.out in
-    let total = c.bin_at.result in
     let shot = c.self.inside.frozen in
     record {
       looked = looked_more pass c.loop-j.pass c.bin_at.new.pass i.looked c.bin_at.ensures.looked;
-      long = length-set out j total ∙ i.long;
-      bins = λ pairs has k low.
-          (let h = subst (λ s. HasPairs pass s pairs) (sym c.self.view_is) has in
-          ⊎_elim
-          (λ (before : k < j). get_set_other out j k total (omega (arith, before)) ∙ i.bins pairs has k before)
-          (λ here. (let same : k ≡ j = omega (arith, here, low) in
-          let value = c.bin_at.ensures.total pairs (i.looked.pairs shot pairs h) in
-          ap (slice_get (slice_set out j total)) same
-          ∙ get_set_same out j total (omega (arith, c.loop-j-test.true))
-          ∙ ap Some (value
-          ∙ ap (λ n. total_of (pairs_in_bin pairs c.args.first c.args.width n)) (sym same))))
-          (cases_lt k j));
+      long = length-set c.loop-j.out c.loop-j.j c.bin_at.result ∙ i.long;
+      bins = λ pairs has.
+          let h = subst (λ s. HasPairs pass s pairs) (sym c.self.view_is) has in
+          totals_more (λ k. total_of (pairs_in_bin pairs c.args.first c.args.width k)) c.loop-j.out c.loop-j.j
+          c.bin_at.result (omega (arith, c.loop-j-test.true)) (c.bin_at.ensures.total pairs (i.looked.pairs shot pairs h))
+          (i.bins pairs has);
     }
 
 pub returns-clause-by_pairs : goal.returns-clause-by_pairs

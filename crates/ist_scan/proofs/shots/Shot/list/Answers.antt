@@ -1,38 +1,35 @@
-use Rattle.std.proofs.Common.{◌≡◌, ◌+◌, ap, ◌∙◌, subst, sym}
+use Rattle.std.proofs.Common.{List, ◌≡◌, ◌+◌, ap, ◌∙◌, subst, sym}
 use Rattle.std.proofs.lemmas.Result.{IfOk-weaker}
-use Rattle.ist_core.specs.Map.{pairs_of}
+use Rattle.ist_core.specs.declared.pairs.Pair.{Pair}
+use Rattle.ist_core.specs.Map.{pairs_of, pairs_between}
 use Rattle.ist_scan.specs.Shots.{HasPairs, map_seen}
 use Rattle.ist_scan.proofs.CutLemmas.{between_is, none_between}
 use Rattle.ist_scan.proofs.ShotLemmas.{looked_not, looked_more, of_pairs}
 use Rattle.ist_scan.proofs.shots.Shot.list.Goals as goal
 
-pub returns-then-first-last-clause-looked : goal.returns-then-first-last-clause-looked
-returns-then-first-last-clause-looked c = looked_not c.args.pass.now
-
-pub returns-then-first-last-clause-by_pairs : goal.returns-then-first-last-clause-by_pairs
-returns-then-first-last-clause-by_pairs c = λ pairs k.
-    c.new.ensures.items ∙ sym (none_between pairs c.args.first c.args.last c.if-first-last.true)
-
-pub returns-then-first-last-clause-list : goal.returns-then-first-last-clause-list
-returns-then-first-last-clause-list c = λ position o.
-    returns-then-first-last-clause-by_pairs c (pairs_of (map_seen c.args.pass.now position))
-    (of_pairs c.args.pass.now position c.args.self.now c.know.ensures.lawful o)
+-- there is nothing to list
+pub returns-then-first-last : goal.returns-then-first-last
+returns-then-first-last c =
+    let none : (pairs : List Pair) → c.new.result.items ≡ pairs_between c.args.first c.args.last pairs =
+    λ pairs. c.new.ensures.items ∙ sym (none_between pairs c.args.first c.args.last c.if-first-last.true) in
+    record {
+      looked = looked_not c.args.pass.now;
+      by_pairs = λ pairs k. none pairs;
+      list = λ position o. none (pairs_of (map_seen c.args.pass.now position));
+    }
 
 pub returns-clause-looked : goal.returns-clause-looked
 returns-clause-looked c =
-    looked_more c.args.pass.now c.ends_of-ends.new.pass c.list_at.new.pass
-    c.ends_of-ends.ensures.looked c.list_at.ensures.looked
+    looked_more c.args.pass.now _ _ c.ends_of-ends.ensures.looked c.list_at.ensures.looked
 
 pub returns-clause-by_pairs : goal.returns-clause-by_pairs
 returns-clause-by_pairs c =
     IfOk-weaker c.list_at.result _ _ (λ v list pairs k.
-    (let shot = c.self.inside.frozen in
-    let h = subst (λ s. HasPairs c.args.pass.now s pairs) (sym c.self.view_is) k in
-    let cut = c.ends_of-ends.ensures.cut pairs h in
-    let to : c.from-2.result + 1 ≡ c.args.last + 1 = ap (λ n. n + 1) c.from-2.ensures in
-    list pairs (c.ends_of-ends.ensures.looked.pairs shot pairs h)
+    (let h = subst (λ s. HasPairs c.args.pass.now s pairs) (sym c.self.view_is) k in
+    list pairs (c.ends_of-ends.ensures.looked.pairs c.self.inside.frozen pairs h)
     ∙ sym (between_is pairs c.args.first c.args.last c.from.result (c.from-2.result + 1)
-    c.ends_of-ends.result.low c.ends_of-ends.result.high c.from.ensures to cut)))
+    c.ends_of-ends.result.low c.ends_of-ends.result.high c.from.ensures (ap (λ n. n + 1) c.from-2.ensures)
+    (c.ends_of-ends.ensures.cut pairs h))))
     c.list_at.ensures.list
 
 pub returns-clause-list : goal.returns-clause-list

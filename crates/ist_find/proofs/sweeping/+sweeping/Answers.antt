@@ -1,0 +1,94 @@
+use Rattle.std.proofs.Common.{◌∙◌, ◌+◌, ap, subst, arith}
+use Rattle.ist_layout.specs.Meanings.{ref_meant}
+use Rattle.ist_rule.proofs.GoingOnLemmas.{goes_on_more}
+use Rattle.ist_find.specs.Sweeps.{HasSwept, starting}
+use Rattle.ist_find.proofs.SlotEndLemmas.{not_inner}
+use Rattle.ist_find.proofs.SlotSawLemmas.{led_node}
+use Rattle.ist_find.proofs.SweepTurnLemmas.{slot_leads, one_more, goes_on_after}
+use Rattle.ist_find.proofs.SweepingLemmas.{sweeps_none, row_is_swept, end_is_swept}
+use Rattle.ist_find.proofs.sweeping.+sweeping.Goals as goal
+
+-- ---- one slot
+
+-- the row lies above the node, and the keys led to it
+pub sweep_slot-sweep_below-requires : goal.sweep_slot-sweep_below-requires
+sweep_slot-sweep_below-requires t c =
+    let below = c.requires.below.inner c.in-Inner.base (ap ref_meant c.in-Inner.is) in
+    let up = below.0 in
+    let falls = c.decreases in
+    let small = c.ranges.node.fits in
+    (omega arith, (c.requires.same_table, (below.1, c.requires.some)))
+
+pub sweep_slot-returns-in-Inner-clause-swept : goal.sweep_slot-returns-in-Inner-clause-swept
+sweep_slot-returns-in-Inner-clause-swept t c =
+    row_is_swept _ _ c.args.from c.args.read.to c.in-Inner.base _ _ _ (ap ref_meant c.in-Inner.is)
+    c.sweep_below.result c.sweep_below.ensures.swept
+
+pub sweep_slot-sweep_end-requires-clause-end : goal.sweep_slot-sweep_end-requires-clause-end
+sweep_slot-sweep_end-requires-clause-end t c =
+    c.requires.below.end (not_inner c.args.read.reference c.in_default.not-Inner)
+
+pub sweep_slot-returns-in_default-clause-swept : goal.sweep_slot-returns-in_default-clause-swept
+sweep_slot-returns-in_default-clause-swept t c =
+    end_is_swept _ _ c.args.from c.args.read.to _ _ _ c.sweep_end.result c.sweep_end.ensures.read
+
+-- ---- slot after slot
+
+pub sweep_below-first_slot-place-requires-clause-node : goal.sweep_below-first_slot-place-requires-clause-node
+sweep_below-first_slot-place-requires-clause-node t c =
+    led_node _ c.know.ensures.sound c.args.first c.args.last c.args.node c.requires.some c.requires.led
+
+pub sweep_below-slots-init : goal.sweep_below-slots-init
+sweep_below-slots-init t c = record {
+  table = c.first_slot-place.ensures.same_table;
+  here = sweeps_none _ _ c.first_slot-place.ensures.seen c.args.node c.args.first c.args.last _ _ _ _
+      c.first_slot-place.ensures.loads c.first_slot-place.ensures.at c.requires.some c.requires.led;
+}
+
+-- what the slot holds was led to
+pub sweep_below-sweep_slot-requires : goal.sweep_below-sweep_slot-requires
+sweep_below-sweep_slot-requires t c =
+    let falls = c.decreases in
+    let small = c.ranges.node.fits in (
+      omega arith,
+      (
+        c.read_from-read.ensures.same_table ∙ c.slots.invariant.table ∙ c.requires.same_table,
+        (
+          slot_leads _ _ _ c.args.node c.args.first c.slots.from c.read_from-read.result.to c.args.last _ _ _ _
+              _ _ c.slots.invariant.here c.read_from-read.ensures.read,
+          c.read_from-read.ensures.read.ends.some,
+        ),
+      ),
+    )
+
+pub sweep_below-returns-in_err-sweep_slot-clause-seen : goal.sweep_below-returns-in_err-sweep_slot-clause-seen
+sweep_below-returns-in_err-sweep_slot-clause-seen t c =
+    goes_on_more _ _ _ (goes_on_more _ _ _ c.slots.invariant.here.seen c.read_from-read.ensures.read.seen)
+    c.sweep_slot.ensures.seen
+
+-- all keys were swept
+pub sweep_below-returns-then-read-last-clause-seen : goal.sweep_below-returns-then-read-last-clause-seen
+sweep_below-returns-then-read-last-clause-seen t c =
+    goes_on_more _ _ _ (goes_on_more _ _ _ c.slots.invariant.here.seen c.read_from-read.ensures.read.seen)
+    c.sweep_slot.ensures.seen
+
+pub sweep_below-returns-then-read-last-clause-swept : goal.sweep_below-returns-then-read-last-clause-swept
+sweep_below-returns-then-read-last-clause-swept t c =
+    subst (λ n. HasSwept c.args.seat.now.view c.sweep_slot.new.seat.view c.args.first (n + 1) c.args.last
+    c.args.node 0 (starting c.args.seat.now.view c.args.node c.args.first) c.args.found.now.items
+    c.sweep_slot.new.found.items) c.if-read-last.true
+    (one_more _ _ _ c.args.node c.args.first c.slots.from c.read_from-read.result.to c.args.last _ _ _ _ _ _
+    c.slots.invariant.here c.read_from-read.ensures.read _ _ c.sweep_slot.ensures.seen
+    c.in_ok-sweep_slot.ensures.swept)
+
+-- or the next key begins the next slot
+pub sweep_below-slots-preserved : goal.sweep_below-slots-preserved
+sweep_below-slots-preserved t c =
+    let top = c.read_from-read.ensures.read.ends.top in
+    let other = c.if-read-last.false in
+    record {
+      table = c.sweep_slot.ensures.same_table ∙ c.read_from-read.ensures.same_table ∙ c.slots.invariant.table;
+      here = goes_on_after _ _ _ c.args.node c.args.first c.slots.from c.read_from-read.result.to c.args.last _ _ _
+          _ _ _ c.slots.invariant.here c.read_from-read.ensures.read _ _ c.sweep_slot.ensures.seen
+          c.in_ok-sweep_slot.ensures.swept (omega arith);
+    }

@@ -1,0 +1,28 @@
+use Rattle.ist_find.proofs.PlaceLemmas.{at_on, slot_read}
+use Rattle.ist_find.proofs.SlotEndLemmas.{slot_within}
+use Rattle.std.proofs.Common.{arith}
+use Rattle.ist_find.proofs.sweeping.read_from.Goals as goal
+
+-- the slot is the key's still
+pub read_slot-reference-requires-clause-node : goal.read_slot-reference-requires-clause-node
+read_slot-reference-requires-clause-node c =
+    (at_on _ _ c.know.ensures.sound c.slot_end-to.ensures.seen c.args.node c.args.from _ _
+    c.requires.at).node_is
+
+pub read_slot-reference-requires-clause-count : goal.read_slot-reference-requires-clause-count
+read_slot-reference-requires-clause-count c =
+    (at_on _ _ c.know.ensures.sound c.slot_end-to.ensures.seen c.args.node c.args.from _ _
+    c.requires.at).count_is
+
+pub read_slot-reference-requires-clause-within : goal.read_slot-reference-requires-clause-within
+read_slot-reference-requires-clause-within c =
+    let within = slot_within c.args.seat.now.view c.args.node c.args.from c.args.place.index
+    c.requires.at.child in
+    let long = c.requires.at.count_is in
+    omega arith
+
+pub returns-clause-read : goal.returns-clause-read
+returns-clause-read c =
+    slot_read _ _ _ c.slot_end-to.ensures.seen c.read_slot-reference.ensures.seen c.slot_end-to.ensures.loads
+    c.read_slot-reference.ensures.loads c.args.node c.args.from _ c.args.last _ _ _ c.slot_end-to.ensures.ends
+    c.read_slot-reference.ensures.looked c.read_slot-reference.ensures.found

@@ -1,0 +1,181 @@
+-- Two lists of neighbouring keys, read one after the other, are one list. Serves whoever reads in pieces.
+use Rattle.std.proofs.Common.{◌≡◌, ℕ, suc, ◌+◌, ◌-◌, ◌<◌, ◌≤◌, ◌==◌, if◌then◌else◌, List, [], ◌∷◌, ◌++◌, map, get_or, Some, None, ⊎_elim, inl, inr, refl, sym, ap, ◌∙◌, subst, append-nil, append_assoc, arith}
+use Rattle.std.proofs.lemmas.Bool.{cases_lt}
+use Rattle.std.proofs.lemmas.Bool.Decides.{eqb_tells}
+use Rattle.std.specs.List.Sorted.{IsStrictlyIncreasing}
+use Rattle.ist_core.specs.declared.pairs.Pair.{Pair}
+use Rattle.ist_core.specs.Elements.{Among, Each}
+use Rattle.ist_core.proofs.ElementLemmas.{each_append, each-among, among-append}
+use Rattle.ist_tree.specs.Faces.{PassFace}
+use Rattle.ist_live.specs.Reading.{HasRead, Had}
+use Rattle.ist_live.specs.Lists.{value_among, AreLive, AreInTurn, HadInTurn}
+use Rattle.ist_live.proofs.ListLemmas.{other_first, each_higher, rises_on}
+use Rattle.ist_live.proofs.ReadLemmas.{read_more, had_before, had_after}
+use Rattle.ist_live.proofs.TurnLemmas.{turn_later}
+
+-- ---- keys that rise
+
+abbrev keys : List Pair → List ℕ
+keys pairs = map (λ (p : Pair). p.key) pairs
+
+-- what holds of each pair, by its key
+each_by : (P Q : ℕ → Type 0) → ((k : ℕ) → P k → Q k) → (pairs : List Pair) → Each (λ p. P p.key) pairs
+    → Each (λ p. Q p.key) pairs
+each_by P Q f [] h = tt
+each_by P Q f (p ∷ pairs) h = (f p.key h.0, each_by P Q f pairs h.1)
+
+-- the keys after the first one rise
+tail_rises : (x : Pair) (pairs : List Pair) → IsStrictlyIncreasing (keys (x ∷ pairs))
+    → IsStrictlyIncreasing (keys pairs)
+tail_rises x pairs h k less =
+    let place : suc k + 1 ≡ suc (k + 1) = omega arith in
+    subst (λ n. get_or (keys pairs) k 0 < get_or (keys (x ∷ pairs)) n 0) place (h (suc k) (omega arith))
+
+-- and lie above it
+tail_above : (x : Pair) (pairs : List Pair) → IsStrictlyIncreasing (keys (x ∷ pairs))
+    → Each (λ p. x.key < p.key) pairs
+tail_above x [] h = tt
+tail_above x (y ∷ pairs) h =
+    let up : x.key < y.key = h 0 (omega arith) in (
+      up,
+      each_by (λ k. y.key < k) (λ k. x.key < k) (λ k more. omega arith) pairs
+          (tail_above y pairs (tail_rises x (y ∷ pairs) h)),
+    )
+
+-- keys that rise below another one, and keys that rise from it on, rise together
+joined_rise : (ys xs : List Pair) (from : ℕ) → IsStrictlyIncreasing (keys xs) → Each (λ p. p.key < from) xs
+    → IsStrictlyIncreasing (keys ys) → Each (λ p. from ≤ p.key) ys → IsStrictlyIncreasing (keys (xs ++ ys))
+joined_rise [] xs from a low b high = subst (λ ps. IsStrictlyIncreasing (keys ps)) (sym (append-nil xs)) a
+joined_rise (y ∷ ys) xs from a low b high =
+    let least = high.0 in
+    subst (λ ps. IsStrictlyIncreasing (keys ps)) (append_assoc xs (y ∷ []) ys)
+    (joined_rise ys (xs ++ y ∷ []) (y.key + 1) (rises_on xs y from low least a)
+    (each_append (λ p. p.key < y.key + 1) xs (y ∷ [])
+    (each_higher xs from (y.key + 1) (omega arith) low) (omega arith, tt))
+    (tail_rises y ys b)
+    (each_by (λ k. y.key < k) (λ k. y.key + 1 ≤ k) (λ k more. omega arith) ys (tail_above y ys b)))
+
+-- ---- what they give a key
+
+-- pairs above a key give it nothing
+among_over : (pairs : List Pair) (from k : ℕ) → Each (λ p. from ≤ p.key) pairs → k < from
+    → value_among pairs k ≡ None
+among_over [] from k high h = refl
+among_over (p ∷ pairs) from k high h =
+    let more = high.0 in
+    other_first p pairs k (λ e. omega arith) ∙ among_over pairs from k high.1 h
+
+-- so below them the others decide
+among_left : (xs ys : List Pair) (from k : ℕ) → Each (λ p. from ≤ p.key) ys → k < from
+    → value_among (xs ++ ys) k ≡ value_among xs k
+among_left [] ys from k high h = among_over ys from k high h
+among_left (x ∷ xs) ys from k high h =
+    ap (λ o. if x.key == k then Some x.value else o) (among_left xs ys from k high h)
+
+-- and from there on they do
+among_right : (xs ys : List Pair) (from k : ℕ) → Each (λ p. p.key < from) xs → from ≤ k
+    → value_among (xs ++ ys) k ≡ value_among ys k
+among_right [] ys from k low h = refl
+among_right (x ∷ xs) ys from k low h =
+    let less = low.0 in
+    other_first x (xs ++ ys) k (λ e. omega arith) ∙ among_right xs ys from k low.1 h
+
+-- a pair of a list whose keys rise is what the list gives its key
+among_own : (pairs : List Pair) (x : Pair) → IsStrictlyIncreasing (keys pairs) → Among x pairs
+    → value_among pairs x.key ≡ Some x.value
+among_own [] x rise a = absurd a
+among_own (y ∷ pairs) x rise (inl e) =
+    subst (λ z. value_among (y ∷ pairs) z.key ≡ Some z.value) (sym e) (first_key y pairs)
+  where
+    first_key : (p : Pair) (ps : List Pair) → value_among (p ∷ ps) p.key ≡ Some p.value
+    first_key p ps =
+        ⊎_elim (λ a. ap (λ b. if b then Some p.value else value_among ps p.key) a.0)
+        (λ a. absurd (a.1 refl)) (eqb_tells p.key p.key)
+among_own (y ∷ pairs) x rise (inr a) =
+    let up = each-among (λ (p : Pair). y.key < p.key) x pairs (tail_above y pairs rise) a in
+    other_first y pairs x.key (λ e. omega arith) ∙ among_own pairs x (tail_rises y pairs rise) a
+
+-- ---- two lists
+
+-- a pair of a live list was in the map at a position
+live_had : (p q : PassFace) (first last : ℕ) (pairs : List Pair) → AreLive p q first last pairs → (x : Pair)
+    → Among x pairs → Had p q x.key (Some x.value)
+live_had p q first last pairs h x a =
+    let within = each-among (λ (y : Pair). (first ≤ y.key) × (y.key ≤ last)) x pairs h.within a in
+    subst (Had p q x.key) (among_own pairs x h.rise a) (h.values x.key within.0 within.1)
+
+module _ (p m q : PassFace) (first from last : ℕ) (xs ys : List Pair) (r : HasRead p m) (s : HasRead m q)
+    (low : first < from) (high : from ≤ last) (a : AreLive p m first (from - 1) xs)
+    (b : AreLive m q from last ys) where
+  below : Each (λ x. x.key < from) xs
+  below = under xs a.within
+    where
+      under : (zs : List Pair) → Each (λ z. (first ≤ z.key) × (z.key ≤ from - 1)) zs → Each (λ z. z.key < from) zs
+      under [] h = tt
+      under (z ∷ zs) h = let most = h.0.1 in (omega arith, under zs h.1)
+
+  above : Each (λ y. from ≤ y.key) ys
+  above = over ys b.within
+    where
+      over : (zs : List Pair) → Each (λ z. (from ≤ z.key) × (z.key ≤ last)) zs → Each (λ z. from ≤ z.key) zs
+      over [] h = tt
+      over (z ∷ zs) h = (h.0.0, over zs h.1)
+
+  -- the pairs of two neighbouring ranges, read one after the other, are those of both
+  pub live_join : AreLive p q first last (xs ++ ys)
+  live_join =
+      record {
+        rise = joined_rise ys xs from a.rise below b.rise above;
+        within = each_append (λ z. (first ≤ z.key) × (z.key ≤ last)) xs ys (wider xs a.within)
+            (wide ys b.within);
+        values = λ k least most. ⊎_elim
+            (λ (l : k < from). subst (Had p q k) (sym (among_left xs ys from k above l))
+            (had_after p m q s k (value_among xs k) (a.values k least (omega arith))))
+            (λ (l : from ≤ k). subst (Had p q k) (sym (among_right xs ys from k below l))
+            (had_before p m q r k (value_among ys k) (b.values k l most)))
+            (cases_lt k from);
+      }
+    where
+      wider : (zs : List Pair) → Each (λ z. (first ≤ z.key) × (z.key ≤ from - 1)) zs
+          → Each (λ z. (first ≤ z.key) × (z.key ≤ last)) zs
+      wider [] h = tt
+      wider (z ∷ zs) h = let most = h.0.1 in ((h.0.0, omega arith), wider zs h.1)
+
+      wide : (zs : List Pair) → Each (λ z. (from ≤ z.key) × (z.key ≤ last)) zs
+          → Each (λ z. (first ≤ z.key) × (z.key ≤ last)) zs
+      wide [] h = tt
+      wide (z ∷ zs) h = let least = h.0.0 in ((omega arith, h.0.1), wide zs h.1)
+
+  -- and time never goes back along all of them
+  pub turn_join : AreInTurn p m xs → AreInTurn m q ys → AreInTurn p q (xs ++ ys)
+  turn_join c d x y i j less =
+      ⊎_elim
+      (λ e. ⊎_elim (λ f. turn_later p m q x y s (c x y e f less)) (λ f. both e f) (among-append y xs ys j))
+      (λ e. ⊎_elim (λ f. absurd (wrong_way e f)) (λ f. earlier (d x y e f less)) (among-append y xs ys j))
+      (among-append x xs ys i)
+    where
+      both : Among x xs → Among y ys → HadInTurn p q x y
+      both e f =
+          record {
+            between = m;
+            before = r;
+            after = s;
+            one_had = live_had p m first (from - 1) xs a x e;
+            other_had = live_had m q from last ys b y f;
+          }
+
+      earlier : HadInTurn m q x y → HadInTurn p q x y
+      earlier t =
+          record {
+            between = t.between;
+            before = read_more p m t.between r t.before;
+            after = t.after;
+            one_had = had_before p m t.between r x.key (Some x.value) t.one_had;
+            other_had = t.other_had;
+          }
+
+      wrong_way : Among x ys → Among y xs → ⊥
+      wrong_way e f =
+          let more = each-among (λ (z : Pair). from ≤ z.key) x ys above e in
+          let under = each-among (λ (z : Pair). z.key < from) y xs below f in
+          omega arith
