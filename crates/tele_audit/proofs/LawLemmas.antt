@@ -16,7 +16,7 @@ use Rattle.ist_words.specs.RestingWords.{HasGoodBounds, AreLawful, AreListed, Br
 use Rattle.ist_words.specs.Walks.{first_visit}
 use Rattle.tele_audit.specs.declared.flaws.Flaw.{Flaw}
 use Rattle.tele_audit.specs.declared.flaws.Flaw.TheVariants.{Magic, Short, Size, Used, Long, Anchor, Row}
-use Rattle.tele_audit.specs.Dumps.{magic, number_bytes, used_words, dump_of, Told, IsLawfulDump}
+use Rattle.tele_audit.specs.Dumps.{magic, number_bytes, used_words, dump_of, DumpContent, IsLawfulDump}
 use Rattle.tele_audit.specs.Flaws.{number_of, numbers_in, count_told, used_told, dump_length}
 use Rattle.tele_audit.specs.Flaws.{words_told, table_told, is_out, head_flaw, length_flaw}
 use Rattle.tele_audit.specs.Flaws.{anchor_flaw, flaw_or, flaw_before_rows, BreaksAtRow, IsFirstFlaw}
@@ -219,7 +219,7 @@ one_flaw one bytes Used other h k = named_before bytes Used other h k
 one_flaw one bytes Long other h k = named_before bytes Long other h k
 one_flaw one bytes Anchor other h k = named_before bytes Anchor other h k
 
-module _ (bytes : List ℕ) (told : Told) (h : IsLawfulDump bytes told) where
+module _ (bytes : List ℕ) (told : DumpContent) (h : IsLawfulDump bytes told) where
   -- a dump gives back its table
   pub table_is : table_told bytes ≡ h.table
   table_is = ap table_told h.dumped ∙ table_back h.table h.lawful.holds.bounds h.fit
@@ -234,14 +234,14 @@ module _ (bytes : List ℕ) (told : Told) (h : IsLawfulDump bytes told) where
       (subst (λ xs. BreaksFirstAt xs [] (first_visit xs ∷ []) row.0) table_is row.2.breaks)
 
 -- a report is determined by its parts
-same_told : (a b : Told) → a.words ≡ b.words → a.used ≡ b.used → a.pairs ≡ b.pairs → a ≡ b
+same_told : (a b : DumpContent) → a.words ≡ b.words → a.used ≡ b.used → a.pairs ≡ b.pairs → a ≡ b
 same_told a b e f g =
     ap (λ n. record { words = n; used = a.used; pairs = a.pairs }) e
     ∙ ap (λ n. record { words = b.words; used = n; pairs = a.pairs }) f
     ∙ ap (λ ps. record { words = b.words; used = b.used; pairs = ps }) g
 
 -- a dump has only one report
-pub one_told : PairsAreOne → (bytes : List ℕ) (told other : Told) → IsLawfulDump bytes told
+pub one_told : PairsAreOne → (bytes : List ℕ) (told other : DumpContent) → IsLawfulDump bytes told
     → IsLawfulDump bytes other → told ≡ other
 one_told one bytes told other h k =
     let same : h.table ≡ k.table = sym (table_is bytes told h) ∙ table_is bytes other k in
@@ -252,7 +252,7 @@ one_told one bytes told other h k =
     (subst (λ xs. AreLawful xs told.pairs) same h.lawful).holds k.lawful.holds)
 
 -- the pairs of an interval by the dump of some words are those that the words hold
-pub listed_is : PairsAreOne → (words : List ℕ) (told : Told) (first last : ℕ) (found : List Pair)
+pub listed_is : PairsAreOne → (words : List ℕ) (told : DumpContent) (first last : ℕ) (found : List Pair)
     → ((place : ℕ) → word_at words place < 2 ^ 64)
     → IsLawfulDump (dump_of words) told → AreListed words first last found
     → found ≡ pairs_between first last told.pairs

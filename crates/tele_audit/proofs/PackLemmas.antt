@@ -36,7 +36,7 @@ use Rattle.tele_lines.specs.Progress.{Place, read_at, GoesTo}
 use Rattle.tele_audit.specs.declared.jobs.Job.TheVariants.{Pack, Tell}
 use Rattle.tele_audit.specs.declared.jobs.Question.TheVariants.{Between}
 use Rattle.tele_audit.specs.declared.outcomes.TheConstants.{DONE}
-use Rattle.tele_audit.specs.Dumps.{Told, IsLawfulDump}
+use Rattle.tele_audit.specs.Dumps.{DumpContent, IsLawfulDump}
 use Rattle.tele_audit.specs.Packing.{Left, Holds, Refuses, behind_lines, left_by, IsNewTable}
 use Rattle.tele_audit.specs.Runs.{IsPacked, IsDue}
 use Rattle.tele_audit.proofs.LawLemmas.{one_told, no_flaw}
@@ -235,7 +235,7 @@ same_left m n left e f = cc (e, f)
 -- the dump holds the pairs of the map
 pub packed_told : StandingWordsAreLawful → (bytes dump : List ℕ) (m : Map) → left_by bytes ≡ Holds m
     → IsDue Pack bytes dump DONE
-    → (told : Told) × IsLawfulDump dump told × (told.pairs ≡ pairs_of m)
+    → (told : DumpContent) × IsLawfulDump dump told × (told.pairs ≡ pairs_of m)
 packed_told law bytes dump m is due =
     let packed = due_packed bytes dump due in
     let words = packed.words in (
@@ -266,7 +266,7 @@ packed_listed law nowhere one bytes dump text m first last status is due answer 
       | inl a ↦ (
         a.status_is,
         a.text_is
-            ∙ ap (λ (t : Told). flat_map (pair_text One) (pairs_between first last t.pairs))
+            ∙ ap (λ (t : DumpContent). flat_map (pair_text One) (pairs_between first last t.pairs))
             (one_told one dump a.told told.0 a.lawful told.1)
             ∙ ap (λ ps. flat_map (pair_text One) (pairs_between first last ps)) told.2,
       )

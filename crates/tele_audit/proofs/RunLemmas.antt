@@ -12,7 +12,7 @@ use Rattle.tele_audit.specs.declared.jobs.Question.{Question}
 use Rattle.tele_audit.specs.declared.outcomes.Halt.{Halt}
 use Rattle.tele_audit.specs.declared.outcomes.TheConstants.{DONE, USAGE, BAD_LINE}
 use Rattle.tele_audit.specs.declared.outcomes.TheConstants.{FLAWED}
-use Rattle.tele_audit.specs.Dumps.{Told, IsLawfulDump, dump_of}
+use Rattle.tele_audit.specs.Dumps.{DumpContent, IsLawfulDump, dump_of}
 use Rattle.tele_audit.specs.Flaws.{IsFirstFlaw}
 use Rattle.tele_audit.specs.Packing.{Holds, Refuses, left_by, IsNewTable}
 use Rattle.tele_audit.specs.Runs.{IsDue, Writes, WritesPart, said, flaw_text}
@@ -98,7 +98,7 @@ module _ (before now : Option (List ℕ)) (n m : ℕ) (c d : Cause) (line : n �
       (subst (λ x. AppendsPart before now (bad_text x c)) line part)
 
 -- for a lawful dump, the text for the question is due
-pub answer_due : (left : Option (List ℕ)) (question : Question) (told : Told)
+pub answer_due : (left : Option (List ℕ)) (question : Question) (told : DumpContent)
     → IfSome left (λ bytes. IsLawfulDump bytes told)
     → IfSome left (λ bytes. IsDue (Tell question) bytes (said question told) DONE)
 answer_due None question told lawful = tt

@@ -25,13 +25,13 @@ dump_of words = magic ++ number_bytes (length words) ++ flat_map number_bytes (u
 
 -- what an audit reports of a dump: the number of words of the table, the number of used words, and
 -- the pairs that they hold
-pub record Told : Type 0 where
+pub record DumpContent : Type 0 where
   pub words : ℕ
   pub used : ℕ
   pub pairs : List Pair
 
 -- the bytes are the dump of a table whose words are lawful at rest, and this is the audit's report
-pub record IsLawfulDump (bytes : List ℕ) (told : Told) : Type 0 where
+pub record IsLawfulDump (bytes : List ℕ) (told : DumpContent) : Type 0 where
   pub table : List ℕ
   pub fit : (place : ℕ) → word_at table place < 2 ^ 64
   pub lawful : AreLawful table told.pairs

@@ -11,7 +11,7 @@ use Rattle.tele_audit.specs.declared.flaws.Flaw.{Flaw}
 use Rattle.tele_audit.specs.declared.jobs.Job.TheVariants.{Pack, Tell}
 use Rattle.tele_audit.specs.declared.jobs.Question.TheVariants.{Between}
 use Rattle.tele_audit.specs.declared.outcomes.TheConstants.{DONE}
-use Rattle.tele_audit.specs.Dumps.{Told, IsLawfulDump, dump_of}
+use Rattle.tele_audit.specs.Dumps.{DumpContent, IsLawfulDump, dump_of}
 use Rattle.tele_audit.specs.Flaws.{IsFirstFlaw}
 use Rattle.tele_audit.specs.Packing.{Holds, left_by}
 use Rattle.tele_audit.specs.Runs.{IsDue}
@@ -19,7 +19,7 @@ use Rattle.tele_audit.specs.Runs.{IsDue}
 -- a dump of lawful words has no flaw
 abbrev pub LawfulDumpsHaveNoFlaw : Type 0
 LawfulDumpsHaveNoFlaw =
-    (bytes : List ℕ) (told : Told) (flaw : Flaw) → IsLawfulDump bytes told
+    (bytes : List ℕ) (told : DumpContent) (flaw : Flaw) → IsLawfulDump bytes told
     → ¬ (IsFirstFlaw bytes flaw)
 
 -- bytes have at most one first flaw
@@ -31,13 +31,13 @@ FirstFlawsAreOne =
 -- a dump has only one possible report
 abbrev pub DumpsTellOneThing : Type 0
 DumpsTellOneThing =
-    (bytes : List ℕ) (told other : Told) → IsLawfulDump bytes told → IsLawfulDump bytes other
+    (bytes : List ℕ) (told other : DumpContent) → IsLawfulDump bytes told → IsLawfulDump bytes other
     → told ≡ other
 
 -- the pairs of an interval by the dump of some words are those that the words hold
 abbrev pub DumpsTellTheList : Type 0
 DumpsTellTheList =
-    (words : List ℕ) (told : Told) (first last : ℕ) (found : List Pair)
+    (words : List ℕ) (told : DumpContent) (first last : ℕ) (found : List Pair)
     → ((place : ℕ) → word_at words place < 2 ^ 64)
     → IsLawfulDump (dump_of words) told → AreListed words first last found
     → found ≡ pairs_between first last told.pairs
@@ -47,7 +47,7 @@ DumpsTellTheList =
 abbrev pub PackedDumpsTellTheMap : Type 0
 PackedDumpsTellTheMap =
     (bytes dump : List ℕ) (m : Map) → left_by bytes ≡ Holds m → IsDue Pack bytes dump DONE
-    → (told : Told) × IsLawfulDump dump told × (told.pairs ≡ pairs_of m)
+    → (told : DumpContent) × IsLawfulDump dump told × (told.pairs ≡ pairs_of m)
 
 -- what `list` writes for the output of `pack` is the interval of the map that the lines leave
 abbrev pub PackedLinesAreListed : Type 0

@@ -14,20 +14,20 @@ use Rattle.tele_audit.specs.declared.jobs.Question.{Question}
 use Rattle.tele_audit.specs.declared.jobs.Question.TheVariants.{Counts, Between}
 use Rattle.tele_audit.specs.declared.outcomes.TheConstants.{DONE, USAGE, BAD_LINE, READ_FAILED}
 use Rattle.tele_audit.specs.declared.outcomes.TheConstants.{WRITE_FAILED, NO_MEMORY, FLAWED}
-use Rattle.tele_audit.specs.Dumps.{Told, IsLawfulDump, dump_of}
+use Rattle.tele_audit.specs.Dumps.{DumpContent, IsLawfulDump, dump_of}
 use Rattle.tele_audit.specs.Flaws.{IsFirstFlaw}
 use Rattle.tele_audit.specs.Packing.{Holds, Refuses, left_by, IsNewTable}
 
 -- ---- texts
 
 -- the line with the numbers of keys, used words and words
-abbrev pub counts_text : Told → List ℕ
+abbrev pub counts_text : DumpContent → List ℕ
 counts_text told =
     codes "keys " ++ decimal (length told.pairs) ++ codes " used " ++ decimal told.used
     ++ codes " words " ++ decimal told.words ++ codes "\n"
 
 -- the text for a question about a dump
-abbrev pub said : Question → Told → List ℕ
+abbrev pub said : Question → DumpContent → List ℕ
 said Counts told = counts_text told
 said (Between first last) told = flat_map (pair_text One) (pairs_between first last told.pairs)
 
@@ -66,7 +66,7 @@ pub record IsBadLine (bytes text : List ℕ) (status : ℕ) : Type 0 where
 
 -- the bytes are the dump of lawful words, and the text answers the question from its report
 pub record IsAnswered (question : Question) (bytes text : List ℕ) (status : ℕ) : Type 0 where
-  pub told : Told
+  pub told : DumpContent
   pub lawful : IsLawfulDump bytes told
   pub text_is : text ≡ said question told
   pub status_is : status ≡ DONE

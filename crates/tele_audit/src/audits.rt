@@ -31,9 +31,9 @@ pub struct Audited {
 }
 
 impl Model for Audited {
-    ghost use Rattle.tele_audit.specs.Dumps.{Told};
+    ghost use Rattle.tele_audit.specs.Dumps.{DumpContent};
 
-    ghost Value = { Told };
+    ghost Value = { DumpContent };
 
     ghost view = { λ a. record { words = a.words; used = a.used; pairs = a.pairs } };
 }

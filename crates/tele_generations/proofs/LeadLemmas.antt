@@ -1,13 +1,13 @@
 -- The tables so far lead on to what is left. Serves `run_round`.
-use Rattle.std.proofs.Common.{◌≡◌, ℕ, List, [], ◌∷◌, ◌++◌, map, length, Option}
+use Rattle.std.proofs.Common.{◌≡◌, ℕ, List, [], ◌∷◌, ◌++◌, length, Option}
 use Rattle.std.proofs.Common.{Some, None, sym, ap, subst, ◌∙◌, arith}
-use Rattle.std.proofs.lemmas.List.{append_assoc, map-append, append-nil}
+use Rattle.std.proofs.lemmas.List.{append_assoc, append-nil}
 use Rattle.ist_core.specs.declared.pairs.Pair.{Pair}
 use Rattle.ist_core.specs.declared.ports.Full.{Full}
 use Rattle.tele_lanes.specs.declared.task_lists.Task.{Task}
 use Rattle.tele_rounds.specs.Runs.{LaneRun, AreWhole}
 use Rattle.tele_generations.specs.Sizes.{next_words}
-use Rattle.tele_generations.specs.Generations.{IsGeneration, RanFull, HandsOn, IsLarger}
+use Rattle.tele_generations.specs.Generations.{LanesRanOn, RanFull, HandsOn, IsLarger}
 use Rattle.tele_generations.specs.Generations.{IsGenerations}
 use Rattle.tele_generations.specs.Generations.IsGenerations.{whole, ran_full}
 use Rattle.tele_generations.specs.Shelves.{IsShelved}
@@ -33,7 +33,7 @@ lead_more : (workers : ℕ) (pairs now after : List Pair) (tasks left rest : Lis
     (tables : List (List ℕ)) (table : List ℕ) (fulls : List Full) (full : Full)
     (runs : List LaneRun)
     → LeadOn workers pairs tasks tables fulls now left → MayFollow tables table
-    → IsGeneration workers now left table runs → RanFull now table runs full
+    → LanesRanOn workers now left table runs → RanFull now table runs full
     → HandsOn now runs after rest
     → LeadOn workers pairs tasks (tables ++ table ∷ []) (fulls ++ full ∷ []) after rest
 lead_more workers pairs now after tasks left rest tables table fulls full runs lead may g f hands
@@ -75,11 +75,11 @@ next_is_larger : (table next : List ℕ) (words pairs : ℕ) → length table �
     → length next ≡ next_words words pairs → IsLarger table next
 next_is_larger table next words pairs sized long = omega arith
 
-module _ {C : Type 0} (words_of : C → List ℕ) (workers first : ℕ) (pairs : List Pair)
-    (tasks : List Task) (before : Option (List C)) where
+module _ (workers first : ℕ) (pairs : List Pair) (tasks : List Task)
+    (before : Option (List (List ℕ))) where
   -- before the first table
-  pub tables_begin : (words : ℕ) (told : Option (List C)) → before ≡ told → words ≡ first
-      → HasTables words_of workers first pairs tasks before told [] pairs tasks words
+  pub tables_begin : (words : ℕ) (told : Option (List (List ℕ))) → before ≡ told → words ≡ first
+      → HasTables workers first pairs tasks before told [] pairs tasks words
   tables_begin words told same is = record {
     given = [];
     shelved = at before told same;
@@ -88,61 +88,44 @@ module _ {C : Type 0} (words_of : C → List ℕ) (workers first : ℕ) (pairs :
     begins = is;
   }
     where
-      at : (x y : Option (List C)) → x ≡ y → IsShelved x [] y
+      at : (x y : Option (List (List ℕ))) → x ≡ y → IsShelved x [] y
       at x None e = tt
       at None (Some y) e = cc
       at (Some x) (Some y) e = (let same : x ≡ y = cc in sym same ∙ sym (append-nil x))
 
   -- the tables so far, with one more that ran full
-  pub tables_more : (middle after : Option (List C)) (fulls : List Full) (full : Full)
-      (now later : List Pair) (left rest : List Task) (words next : ℕ) (closed : C)
+  pub tables_more : (middle after : Option (List (List ℕ))) (fulls : List Full) (full : Full)
+      (now later : List Pair) (left rest : List Task) (words next : ℕ) (table : List ℕ)
       (runs : List LaneRun)
-      → HasTables words_of workers first pairs tasks before middle fulls now left words
-      → length (words_of closed) ≡ words
-      → IsGeneration workers now left (words_of closed) runs
-      → RanFull now (words_of closed) runs full → HandsOn now runs later rest
-      → IsShelved middle (closed ∷ []) after → next ≡ next_words words (length later)
-      → HasTables words_of workers first pairs tasks before after (fulls ++ full ∷ []) later rest
-      next
-  tables_more middle after fulls full now later left rest words next closed runs t sized g f hands
+      → HasTables workers first pairs tasks before middle fulls now left words
+      → length table ≡ words → LanesRanOn workers now left table runs
+      → RanFull now table runs full → HandsOn now runs later rest
+      → IsShelved middle (table ∷ []) after → next ≡ next_words words (length later)
+      → HasTables workers first pairs tasks before after (fulls ++ full ∷ []) later rest next
+  tables_more middle after fulls full now later left rest words next table runs t sized g f hands
       kept is =
-      let tables : List (List ℕ) = map words_of t.given in
-      let table : List ℕ = words_of closed in
-      let both : map words_of (t.given ++ closed ∷ []) ≡ tables ++ table ∷ []
-      = map-append words_of t.given (closed ∷ []) in
       record {
-        given = t.given ++ closed ∷ [];
-        shelved = shelved_more before t.given middle closed after t.shelved kept;
-        lead = subst (λ ts. LeadOn workers pairs tasks ts (fulls ++ full ∷ []) later rest)
-            (sym both)
-            (lead_more workers pairs now later tasks left rest tables table fulls full runs t.lead
-            (t.may_follow table sized) g f hands);
-        may_follow = λ table_next long. subst (λ ts. MayFollow ts table_next) (sym both)
-            (larger_follows tables table table_next
-            (next_is_larger table table_next words (length later) sized (long ∙ is)));
-        begins = subst (λ ts. BeginsWith first ts next) (sym both)
-            (begins_more first words next tables table t.begins sized);
+        given = t.given ++ table ∷ [];
+        shelved = shelved_more before t.given middle table after t.shelved kept;
+        lead = lead_more workers pairs now later tasks left rest t.given table fulls full runs
+            t.lead (t.may_follow table sized) g f hands;
+        may_follow = λ table_next long. larger_follows t.given table table_next
+            (next_is_larger table table_next words (length later) sized (long ∙ is));
+        begins = begins_more first words next t.given table t.begins sized;
       }
 
   -- the last table, which answered all
-  pub tables_end : (after : Option (List C)) (fulls : List Full) (now : List Pair)
-      (left : List Task) (words : ℕ) (closed : C) (runs : List LaneRun)
-      → HasTables words_of workers first pairs tasks before after fulls now left words
-      → length (words_of closed) ≡ words
-      → IsGeneration workers now left (words_of closed) runs → AreWhole runs
-      → RanInGenerations words_of workers first pairs tasks before after closed fulls
-  tables_end after fulls now left words closed runs t sized g all =
-      let tables : List (List ℕ) = map words_of t.given in
-      let table : List ℕ = words_of closed in
-      let both : map words_of (t.given ++ closed ∷ []) ≡ tables ++ table ∷ []
-      = map-append words_of t.given (closed ∷ []) in
+  pub tables_end : (after : Option (List (List ℕ))) (fulls : List Full) (now : List Pair)
+      (left : List Task) (words : ℕ) (table : List ℕ) (runs : List LaneRun)
+      → HasTables workers first pairs tasks before after fulls now left words
+      → length table ≡ words → LanesRanOn workers now left table runs → AreWhole runs
+      → RanInGenerations workers first pairs tasks before after table fulls
+  tables_end after fulls now left words table runs t sized g all =
       record {
         given = t.given;
         shelved = t.shelved;
-        are = subst (λ ts. IsGenerations workers pairs tasks ts fulls) (sym both)
-            (subst (λ fs. IsGenerations workers pairs tasks (tables ++ table ∷ []) fs)
+        are = subst (λ fs. IsGenerations workers pairs tasks (t.given ++ table ∷ []) fs)
             (append-nil fulls)
-            (t.lead table [] [] (t.may_follow table sized) (whole runs g all)));
-        first_is = subst (FirstHas first) (sym both)
-            (begins_last first words tables table t.begins sized);
+            (t.lead table [] [] (t.may_follow table sized) (whole runs g all));
+        first_is = begins_last first words t.given table t.begins sized;
       }

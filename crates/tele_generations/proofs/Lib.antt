@@ -5,3 +5,4 @@ pub mod TableLemmas
 pub mod WayLemmas
 pub mod RoundLemmas
 pub mod KeptLemmas
+pub mod CountLemmas

@@ -27,21 +27,11 @@ use Rattle.tele_generations.proofs.TableLemmas.{asks_more, table_map, turn, puts
 use Rattle.tele_generations.proofs.TableLemmas.{rest_none, behind_rises, few_behind}
 use Rattle.tele_generations.proofs.WayLemmas.{turn_ends, way_more}
 
--- a table ran on these very pairs and tasks
-pub ran_here : {workers words : ℕ} {ps qs : List Pair} {ts us : List Task} {table : List ℕ}
-    {more : List Answer} {rest : List Task} {full : Option Full}
-    → RanOnTable workers words ps ts table more rest full → ps ≡ qs → ts ≡ us
-    → RanOnTable workers words qs us table more rest full
-ran_here {workers = workers} {words = words} {qs = qs} {ts = ts} {table = table} {more = more}
-    {rest = rest} {full = full} r same_pairs same_tasks =
-    subst (λ xs. RanOnTable workers words qs xs table more rest full) same_tasks
-    (subst (λ xs. RanOnTable workers words xs ts table more rest full) same_pairs r)
-
 module _ {workers words : ℕ} {pairs now : List Pair} {tasks left : List Task}
     {fulls : List Full} {answers : List Answer} {table : List ℕ} {more : List Answer}
     {rest : List Task} {ended : Option Full}
     (o : IsOnItsWay workers pairs tasks fulls answers now left words)
-    (r : RanOnTable workers words now left table more rest ended) (some : 1 ≤ workers) where
+    (r : RanOnTable workers words now left table more rest ended) where
   -- the table ran full with the numbers that ended it
   ran_full : (full : Full) → ended ≡ Some full → RanFull now table r.runs full
   ran_full full is = subst (λ e. EndedWith now table r.runs e) is r.ended
@@ -49,16 +39,16 @@ module _ {workers words : ℕ} {pairs now : List Pair} {tasks left : List Task}
   -- if the table ran full, something is left
   pub some_left : (full : Full) → ended ≡ Some full → 0 < length rest
   some_left full is =
-      rest_some workers words now left table more rest ended r some o.rising full (ran_full full is)
+      rest_some workers words now left table more rest ended r o.some o.rising full (ran_full full is)
 
   module _ (behind : List Pair) (h : HasPairs table behind) where
     -- the pairs after the table are strictly increasing
     pub behind_rise : IsRising behind
-    behind_rise = behind_rises workers words now left table more rest ended r some o.rising behind h
+    behind_rise = behind_rises workers words now left table more rest ended r o.some o.rising behind h
 
     -- there are no more pairs after the table, with what is left, than pairs and tasks at first
     pub behind_few : length behind + length rest ≤ length pairs + length tasks
-    behind_few = few_behind workers words now left table more rest ended r some o.rising behind h
+    behind_few = few_behind workers words now left table more rest ended r o.some o.rising behind h
         (length pairs + length tasks) o.opens.rising o.few
 
     -- the round goes on after the turn
@@ -69,10 +59,10 @@ module _ {workers words : ℕ} {pairs now : List Pair} {tasks left : List Task}
         → IsOnItsWay workers pairs tasks (fulls ++ full ∷ []) (answers ++ given) later after next
     goes_on full given after later next is rests holds fits =
         let f = ran_full full is in
-        let ends = turn_ends workers words now left table more rest ended r some o.rising behind h
+        let ends = turn_ends workers words now left table more rest ended r o.some o.rising behind h
         given after later rests in
         let few = o.few in
-        let puts = puts_few workers words now left table more rest ended r some o.rising in
+        let puts = puts_few workers words now left table more rest ended r o.some o.rising in
         way_more workers pairs tasks fulls full answers given now later left after words next o
         ends.way ends.rising ends.pairs_rise ends.suffixes ends.some_given
         (asks_more _ _ full.asked (omega arith) f.may_ask) holds fits
@@ -81,7 +71,7 @@ module _ {workers words : ℕ} {pairs now : List Pair} {tasks left : List Task}
     pub less_left : (given : List Answer) (after : List Task) (later : List Pair)
         → Rests more rest behind given after later → length after < length left
     less_left given after later rests =
-        let ends = turn_ends workers words now left table more rest ended r some o.rising behind h
+        let ends = turn_ends workers words now left table more rest ended r o.some o.rising behind h
         given after later rests in
         let counted = tasks_counted (map_of now) (map_of later) left after given ends.way in
         let given_some = ends.some_given in
@@ -90,15 +80,15 @@ module _ {workers words : ℕ} {pairs now : List Pair} {tasks left : List Task}
   -- if the table answered all, the round is under way with nothing left
   ends_way : ended ≡ None
       → IsUnderWay (map_of pairs) tasks (answers ++ more) []
-      (table_map workers words now left table more rest ended r some o.rising)
+      (table_map workers words now left table more rest ended r o.some o.rising)
   ends_way is =
-      let m = table_map workers words now left table more rest ended r some o.rising in
+      let m = table_map workers words now left table more rest ended r o.some o.rising in
       let none : rest ≡ []
-      = rest_none workers words now left table more rest ended r some o.rising
+      = rest_none workers words now left table more rest ended r o.some o.rising
       (subst (λ e. EndedWith now table r.runs e) is r.ended) in
       round_goes_on (map_of pairs) (map_of now) m tasks left [] answers more o.way
       (subst (λ ts. IsUnderWay (map_of now) left more ts m) none
-      (turn workers words now left table more rest ended r some o.rising))
+      (turn workers words now left table more rest ended r o.some o.rising))
 
   -- the answers are what one thread would answer
   pub ends_plain : ended ≡ None → IsStrictlyIncreasing (task_lines tasks) → (all : List Answer)
@@ -106,7 +96,7 @@ module _ {workers words : ℕ} {pairs now : List Pair} {tasks left : List Task}
       → ArePlainAnswers (map_of pairs) tasks all
   ends_plain is up all same rise =
       (round_ends (map_of pairs)
-      (table_map workers words now left table more rest ended r some o.rising) tasks
+      (table_map workers words now left table more rest ended r o.some o.rising) tasks
       (answers ++ more) all up (ends_way is) same rise).plain
 
   -- if the table answered all, it ends the round
@@ -122,33 +112,31 @@ module _ {workers words : ℕ} {pairs now : List Pair} {tasks left : List Task}
     leaves = (ends_way is).leaves;
   }
 
-module _ {C : Type 0} {words_of : C → List ℕ} {workers first words : ℕ} {pairs now : List Pair}
-    {tasks left : List Task} {before middle : Option (List C)} {fulls : List Full}
-    (closed : C) {more : List Answer} {rest : List Task} {ended : Option Full}
-    (t : HasTables words_of workers first pairs tasks before middle fulls now left words)
-    (r : RanOnTable workers words now left (words_of closed) more rest ended) where
+module _ {workers first words : ℕ} {pairs now : List Pair} {tasks left : List Task}
+    {before middle : Option (List (List ℕ))} {fulls : List Full} {answers : List Answer}
+    (table : List ℕ) {more : List Answer} {rest : List Task} {ended : Option Full}
+    (t : HasTables workers first pairs tasks before middle fulls now left words)
+    (o : IsOnItsWay workers pairs tasks fulls answers now left words)
+    (r : RanOnTable workers words now left table more rest ended) where
   -- if the table ran full, it is one more table on the shelf
-  pub one_more_table : (full : Full) (after : Option (List C)) (some : 1 ≤ workers)
-      → IsStrictlyIncreasing (task_lines left)
-      → ended ≡ Some full → (behind : List Pair) → HasPairs (words_of closed) behind
-      → IsShelved middle (closed ∷ []) after
+  pub one_more_table : (full : Full) (after : Option (List (List ℕ))) → ended ≡ Some full
+      → (behind : List Pair) → HasPairs table behind → IsShelved middle (table ∷ []) after
       → (given : List Answer) (later : List Pair) (rest_left : List Task) (next : ℕ)
       → Rests more rest behind given rest_left later → next ≡ next_words words (length later)
-      → HasTables words_of workers first pairs tasks before after (fulls ++ full ∷ []) later
-      rest_left next
-  one_more_table full after some up is behind h kept given later rest_left next rests sized =
-      let ends = turn_ends workers words now left (words_of closed) more rest ended r some up behind
-      h given rest_left later rests in
-      tables_more words_of workers first pairs tasks before middle after fulls full now later left
-      rest_left words next closed r.runs t r.sized r.is
-      (subst (λ e. EndedWith now (words_of closed) r.runs e) is r.ended) ends.hands kept sized
+      → HasTables workers first pairs tasks before after (fulls ++ full ∷ []) later rest_left next
+  one_more_table full after is behind h kept given later rest_left next rests sized =
+      let ends = turn_ends workers words now left table more rest ended r o.some o.rising behind h
+      given rest_left later rests in
+      tables_more workers first pairs tasks before middle after fulls full now later left
+      rest_left words next table r.runs t r.sized r.is
+      (subst (λ e. EndedWith now table r.runs e) is r.ended) ends.hands kept sized
 
   -- if the table answered all, it is the last one
   pub last_table : ended ≡ None
-      → RanInGenerations words_of workers first pairs tasks before middle closed fulls
+      → RanInGenerations workers first pairs tasks before middle table fulls
   last_table is =
-      tables_end words_of workers first pairs tasks before middle fulls now left words closed r.runs
-      t r.sized r.is (subst (λ e. EndedWith now (words_of closed) r.runs e) is r.ended)
+      tables_end workers first pairs tasks before middle fulls now left words table r.runs t
+      r.sized r.is (subst (λ e. EndedWith now table r.runs e) is r.ended)
 
 -- ---- in the words of the code
 
@@ -160,66 +148,63 @@ pub way_goes_on : {workers : ℕ} {pairs : List Pair} {tasks : List Task} {way n
     way.left.items way.words
     → RanOnTable workers way.words way.pairs.items way.left.items table made.answers.items
     made.left.items ended
-    → 1 ≤ workers → HasPairs table made.pairs.items → ended ≡ Some full
+    → HasPairs table made.pairs.items → ended ≡ Some full
     → record {
       on : IsOnItsWay workers pairs tasks next.fulls.items next.answers.items next.pairs.items
           next.left.items next.words;
       less : length next.left.items < length way.left.items;
     }
 way_goes_on {workers = workers} {pairs = pairs} {tasks = tasks} {way = way} {next = next}
-    {made = made} {full = full} g o r some h is =
+    {made = made} {full = full} g o r h is =
     record {
       on = subst (λ fs. IsOnItsWay workers pairs tasks fs next.answers.items next.pairs.items
           next.left.items next.words) (sym g.fulls)
           (subst (λ xs. IsOnItsWay workers pairs tasks (way.fulls.items ++ full ∷ []) xs
           next.pairs.items next.left.items next.words) (sym g.answers)
-          (goes_on o r some made.pairs.items h full g.more next.left.items next.pairs.items
+          (goes_on o r made.pairs.items h full g.more next.left.items next.pairs.items
           next.words is g.rested g.holds g.fits));
-      less = less_left o r some made.pairs.items h g.more next.left.items next.pairs.items g.rested;
+      less = less_left o r made.pairs.items h g.more next.left.items next.pairs.items g.rested;
     }
 
 -- the shelf has one more table
-pub tables_go_on : {C : Type 0} {words_of : C → List ℕ} {workers first : ℕ} {pairs : List Pair}
-    {tasks : List Task} {before middle after : Option (List C)} {way next : Way} {made : Turn}
-    {full : Full} (closed : C) {ended : Option Full}
+pub tables_go_on : {workers first : ℕ} {pairs : List Pair} {tasks : List Task}
+    {before middle after : Option (List (List ℕ))} {way next : Way} {made : Turn} {full : Full}
+    (table : List ℕ) {ended : Option Full}
     → GoesOnBehind way made full next
-    → HasTables words_of workers first pairs tasks before middle way.fulls.items way.pairs.items
+    → HasTables workers first pairs tasks before middle way.fulls.items way.pairs.items
     way.left.items way.words
-    → RanOnTable workers way.words way.pairs.items way.left.items (words_of closed)
-    made.answers.items made.left.items ended
-    → 1 ≤ workers → IsStrictlyIncreasing (task_lines way.left.items)
-    → HasPairs (words_of closed) made.pairs.items → ended ≡ Some full
-    → IsShelved middle (closed ∷ []) after
-    → HasTables words_of workers first pairs tasks before after next.fulls.items next.pairs.items
+    → IsOnItsWay workers pairs tasks way.fulls.items way.answers.items way.pairs.items
+    way.left.items way.words
+    → RanOnTable workers way.words way.pairs.items way.left.items table made.answers.items
+    made.left.items ended
+    → HasPairs table made.pairs.items → ended ≡ Some full → IsShelved middle (table ∷ []) after
+    → HasTables workers first pairs tasks before after next.fulls.items next.pairs.items
     next.left.items next.words
-tables_go_on {words_of = words_of} {workers = workers} {first = first} {pairs = pairs}
-    {tasks = tasks} {before = before} {after = after} {next = next} {made = made} {full = full}
-    closed g t r some up h is kept =
-    subst (λ fs. HasTables words_of workers first pairs tasks before after fs next.pairs.items
+tables_go_on {workers = workers} {first = first} {pairs = pairs} {tasks = tasks}
+    {before = before} {after = after} {next = next} {made = made} {full = full} table g t o r h is
+    kept =
+    subst (λ fs. HasTables workers first pairs tasks before after fs next.pairs.items
     next.left.items next.words) (sym g.fulls)
-    (one_more_table closed t r full after some up is made.pairs.items h kept g.more next.pairs.items
+    (one_more_table table t o r full after is made.pairs.items h kept g.more next.pairs.items
     next.left.items next.words g.rested g.words)
 
 -- the round's end, of the very table and refusals that are handed out
-pub ends_with : {C : Type 0} {words_of : C → List ℕ} {workers first : ℕ} {pairs : List Pair}
-    {tasks : List Task} {before after : Option (List C)} {closed last : C} {fulls all : List Full}
-    → RanInGenerations words_of workers first pairs tasks before after closed fulls
-    → last ≡ closed → all ≡ fulls
-    → RanInGenerations words_of workers first pairs tasks before after last all
-ends_with {words_of = words_of} {workers = workers} {first = first} {pairs = pairs}
-    {tasks = tasks} {before = before} {after = after} {last = last} {fulls = fulls} g same_table
-    same_fulls =
-    subst (λ fs. RanInGenerations words_of workers first pairs tasks before after last fs)
-    (sym same_fulls)
-    (subst (λ x. RanInGenerations words_of workers first pairs tasks before after x fulls)
+pub ends_with : {workers first : ℕ} {pairs : List Pair} {tasks : List Task}
+    {before after : Option (List (List ℕ))} {table last : List ℕ} {fulls all : List Full}
+    → RanInGenerations workers first pairs tasks before after table fulls
+    → last ≡ table → all ≡ fulls
+    → RanInGenerations workers first pairs tasks before after last all
+ends_with {workers = workers} {first = first} {pairs = pairs} {tasks = tasks} {before = before}
+    {after = after} {last = last} {fulls = fulls} g same_table same_fulls =
+    subst (λ fs. RanInGenerations workers first pairs tasks before after last fs) (sym same_fulls)
+    (subst (λ x. RanInGenerations workers first pairs tasks before after x fulls)
     (sym same_table) g)
 
 -- the end of the round, in terms of the table and the refusals that are returned
-pub ends_for : {C : Type 0} (words_of : C → List ℕ) {workers : ℕ} {pairs : List Pair}
-    {tasks : List Task} (closed last : C) {fulls all : List Full}
-    → EndsTheRound workers pairs tasks (words_of closed) fulls → last ≡ closed → all ≡ fulls
-    → EndsTheRound workers pairs tasks (words_of last) all
-ends_for words_of {workers = workers} {pairs = pairs} {tasks = tasks} closed last {fulls = fulls} e
+pub ends_for : {workers : ℕ} {pairs : List Pair} {tasks : List Task} (table last : List ℕ)
+    {fulls all : List Full} → EndsTheRound workers pairs tasks table fulls → last ≡ table
+    → all ≡ fulls → EndsTheRound workers pairs tasks last all
+ends_for {workers = workers} {pairs = pairs} {tasks = tasks} table last {fulls = fulls} e
     same_table same_fulls =
-    subst (λ fs. EndsTheRound workers pairs tasks (words_of last) fs) (sym same_fulls)
-    (subst (λ x. EndsTheRound workers pairs tasks (words_of x) fulls) (sym same_table) e)
+    subst (λ fs. EndsTheRound workers pairs tasks last fs) (sym same_fulls)
+    (subst (λ x. EndsTheRound workers pairs tasks x fulls) (sym same_table) e)

@@ -30,10 +30,11 @@ use Rattle.tele_generations.proofs.TableLemmas.{answered_long, behind_is}
 use Rattle.tele_generations.proofs.TableLemmas.{behind_map, behind_rises}
 
 -- before the first table
-pub way_begins : (workers : ℕ) (pairs : List Pair) (tasks : List Task) (words : ℕ) → IsRising pairs
-    → IsStrictlyIncreasing (task_lines tasks) → least_words (length pairs) ≤ words
+pub way_begins : (workers : ℕ) (pairs : List Pair) (tasks : List Task) (words : ℕ) → 1 ≤ workers
+    → IsRising pairs → IsStrictlyIncreasing (task_lines tasks) → least_words (length pairs) ≤ words
     → words ≤ place_limit → IsOnItsWay workers pairs tasks [] [] pairs tasks words
-way_begins workers pairs tasks words rise up holds fits = record {
+way_begins workers pairs tasks words some rise up holds fits = record {
+  some = some;
   way = round_begins (map_of pairs) tasks;
   rising = up;
   opens = record { rising = rise; room = holds; within = fits };
@@ -161,6 +162,7 @@ way_more workers pairs tasks fulls full answers given now later left after words
     let new = ap length (pairs_of-map_of later rise) in
     let few = o.few in
     record {
+      some = o.some;
       way = round_goes_on (map_of pairs) (map_of now) (map_of later) tasks left after answers given
           o.way way;
       rising = up;

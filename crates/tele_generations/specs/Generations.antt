@@ -41,7 +41,7 @@ MayAsk keys asked =
 
 -- one generation: the words of the table stand for the pairs and for what the lanes of the tasks
 -- were told
-pub record IsGeneration (workers : ℕ) (pairs : List Pair) (tasks : List Task) (table : List ℕ)
+pub record LanesRanOn (workers : ℕ) (pairs : List Pair) (tasks : List Task) (table : List ℕ)
     (runs : List LaneRun) : Type 0 where
   pub lanes : LanesRan workers tasks runs
   pub stands : StandsFor table pairs (told_of_runs runs)
@@ -79,11 +79,11 @@ IsLarger table next = min place_limit (2 * length table) ≤ length next
 pub data IsGenerations (workers : ℕ) : List Pair → List Task → List (List ℕ) → List Full
     → Type 0 where
   whole : {pairs : List Pair} {tasks : List Task} {table : List ℕ} (runs : List LaneRun)
-      → IsGeneration workers pairs tasks table runs → AreWhole runs
+      → LanesRanOn workers pairs tasks table runs → AreWhole runs
       → IsGenerations workers pairs tasks (table ∷ []) []
   ran_full : {pairs after : List Pair} {tasks left : List Task} {table next : List ℕ}
       {more : List (List ℕ)} {full : Full} {fulls : List Full} (runs : List LaneRun)
-      → IsGeneration workers pairs tasks table runs → RanFull pairs table runs full
+      → LanesRanOn workers pairs tasks table runs → RanFull pairs table runs full
       → HandsOn pairs runs after left → IsLarger table next
       → IsGenerations workers after left (next ∷ more) fulls
       → IsGenerations workers pairs tasks (table ∷ next ∷ more) (full ∷ fulls)

@@ -1,4 +1,5 @@
 -- what the public contracts rest on, in the order to read them
+pub mod Counts
 pub mod Sizes
 pub mod Generations
 pub mod Tables

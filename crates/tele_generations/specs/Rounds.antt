@@ -1,5 +1,5 @@
 -- The result of a round in generations.
-use Rattle.std.specs.Prelude.{◌≡◌, ℕ, List, [], ◌∷◌, ◌++◌, map, length, Option}
+use Rattle.std.specs.Prelude.{◌≡◌, ℕ, List, [], ◌∷◌, ◌++◌, length, Option}
 use Rattle.ist_core.specs.declared.pairs.Pair.{Pair}
 use Rattle.ist_core.specs.declared.ports.Full.{Full}
 use Rattle.ist_core.specs.Map.{map_of, replay}
@@ -8,7 +8,7 @@ use Rattle.tele_lanes.specs.declared.task_lists.Task.{Task}
 use Rattle.tele_lanes.specs.Lines.{commands_of}
 use Rattle.tele_rounds.specs.Runs.{LaneRun, AreWhole}
 use Rattle.tele_rounds.specs.Suffixes.{LeavesSuffixes}
-use Rattle.tele_generations.specs.Generations.{IsGeneration, IsGenerations}
+use Rattle.tele_generations.specs.Generations.{LanesRanOn, IsGenerations}
 use Rattle.tele_generations.specs.Shelves.{IsShelved}
 
 -- the first of some tables has this many words
@@ -18,13 +18,12 @@ FirstHas words (table ∷ tables) = length table ≡ words
 
 -- the tables put on the shelf, followed by the last one, are the tables of the round's generations,
 -- each but the last with its numbers
-pub record RanInGenerations {C : Type 0} (words_of : C → List ℕ) (workers first : ℕ)
-    (pairs : List Pair) (tasks : List Task) (before after : Option (List C)) (last : C)
-    (fulls : List Full) : Type 0 where
-  pub given : List C
+pub record RanInGenerations (workers first : ℕ) (pairs : List Pair) (tasks : List Task)
+    (before after : Option (List (List ℕ))) (last : List ℕ) (fulls : List Full) : Type 0 where
+  pub given : List (List ℕ)
   pub shelved : IsShelved before given after
-  pub are : IsGenerations workers pairs tasks (map words_of (given ++ last ∷ [])) fulls
-  pub first_is : FirstHas first (map words_of (given ++ last ∷ []))
+  pub are : IsGenerations workers pairs tasks (given ++ last ∷ []) fulls
+  pub first_is : FirstHas first (given ++ last ∷ [])
 
 -- the words of the last table stand for the pairs at its opening and for what the lanes were told
 -- of their last tasks, which are all tasks if no table ran full; its map is the map after all tasks
@@ -33,7 +32,7 @@ pub record EndsTheRound (workers : ℕ) (pairs : List Pair) (tasks : List Task) 
   pub opening : List Pair
   pub left : List Task
   pub runs : List LaneRun
-  pub is : IsGeneration workers opening left table runs
+  pub is : LanesRanOn workers opening left table runs
   pub whole : AreWhole runs
   pub suffixes : LeavesSuffixes workers tasks left
   pub at_once : fulls ≡ [] → (opening ≡ pairs) × (left ≡ tasks)

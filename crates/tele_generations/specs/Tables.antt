@@ -10,7 +10,7 @@ use Rattle.tele_lanes.specs.declared.task_lists.Task.{Task}
 use Rattle.tele_lanes.specs.declared.answer_lists.Answer.{Answer}
 use Rattle.tele_lanes.specs.Lanes.{InLineOrder, TasksInLineOrder}
 use Rattle.tele_rounds.specs.Runs.{LaneRun, AreWhole, answers_of_runs, left_of_runs}
-use Rattle.tele_generations.specs.Generations.{IsGeneration, RanFull}
+use Rattle.tele_generations.specs.Generations.{LanesRanOn, RanFull}
 
 -- how the lanes ended: each answered all of its tasks, or the table ran full with these numbers
 abbrev pub EndedWith : List Pair → List ℕ → List LaneRun → Option Full → Type 0
@@ -22,7 +22,7 @@ EndedWith pairs table runs (Some full) = RanFull pairs table runs full
 pub record RanOnTable (workers words : ℕ) (pairs : List Pair) (tasks : List Task)
     (table : List ℕ) (answers : List Answer) (left : List Task) (full : Option Full) : Type 0 where
   pub runs : List LaneRun
-  pub is : IsGeneration workers pairs tasks table runs
+  pub is : LanesRanOn workers pairs tasks table runs
   pub sized : length table ≡ words
   pub answered : InLineOrder (answers_of_runs runs) answers
   pub left_are : TasksInLineOrder (left_of_runs runs) left

@@ -1,5 +1,5 @@
 -- What the loop over generations keeps, and what one turn at rest does.
-use Rattle.std.specs.Prelude.{◌≡◌, ℕ, ◌+◌, ◌<◌, ◌≤◌, List, [], ◌∷◌, ◌++◌, map, length, Option, All}
+use Rattle.std.specs.Prelude.{◌≡◌, ℕ, ◌+◌, ◌<◌, ◌≤◌, List, [], ◌∷◌, ◌++◌, length, Option, All}
 use Rattle.std.specs.List.Sorted.{IsStrictlyIncreasing}
 use Rattle.ist_core.specs.declared.pairs.Pair.{Pair}
 use Rattle.ist_core.specs.declared.ports.Full.{Full}
@@ -51,19 +51,20 @@ BeginsWith first (table ∷ tables) words = length table ≡ first
 
 -- the tables so far: they are on the shelf, they lead on to what is left, and the next one may
 -- follow
-pub record HasTables {C : Type 0} (words_of : C → List ℕ) (workers first : ℕ) (pairs : List Pair)
-    (tasks : List Task) (before after : Option (List C)) (fulls : List Full) (now : List Pair)
+pub record HasTables (workers first : ℕ) (pairs : List Pair) (tasks : List Task)
+    (before after : Option (List (List ℕ))) (fulls : List Full) (now : List Pair)
     (left : List Task) (words : ℕ) : Type 0 where
-  pub given : List C
+  pub given : List (List ℕ)
   pub shelved : IsShelved before given after
-  pub lead : LeadOn workers pairs tasks (map words_of given) fulls now left
-  pub may_follow : (next : List ℕ) → length next ≡ words → MayFollow (map words_of given) next
-  pub begins : BeginsWith first (map words_of given) words
+  pub lead : LeadOn workers pairs tasks given fulls now left
+  pub may_follow : (next : List ℕ) → length next ≡ words → MayFollow given next
+  pub begins : BeginsWith first given words
 
--- the round is under way: what was answered, what is left and from which pairs, and how many words
--- the next table has
+-- the round is under way, by some workers: what was answered, what is left and from which pairs, and
+-- how many words the next table has
 pub record IsOnItsWay (workers : ℕ) (pairs : List Pair) (tasks : List Task) (fulls : List Full)
     (answers : List Answer) (now : List Pair) (left : List Task) (words : ℕ) : Type 0 where
+  pub some : 1 ≤ workers
   pub way : IsUnderWay (map_of pairs) tasks answers left (map_of now)
   pub rising : IsStrictlyIncreasing (task_lines left)
   pub opens : CanOpen now words

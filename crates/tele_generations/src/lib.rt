@@ -1,11 +1,12 @@
 //! A round of tasks in generations: a table that runs full is followed by a larger one, until all
-//! tasks are answered. The definitions, and the parts of the loop; nothing here knows trees.
+//! tasks are answered. The definitions, and the parts of the loop; nothing here opens a table.
 //!
-//! Read `specs/Generations.antt` and `specs/Rounds.antt`, then `ways.rt` and `rounds.rt`. Builds on
-//! `ist_core`, `ist_math`, `plain_map`, `tele_lanes`, `tele_rounds` and the laws of `laws_histories`
-//! and `laws_rows`.
+//! Read `specs/Generations.antt` and `specs/Rounds.antt`, then `tables.rt`, `ways.rt` and
+//! `rounds.rt`. Builds on `ist_core`, `ist_math`, `ist_rest`, `plain_map`, `tele_lanes`,
+//! `tele_rounds` and the laws of `laws_histories` and `laws_rows`.
 #![tactic(auto)]
 
+mod counts;
 mod kept;
 mod rests;
 mod rounds;
@@ -14,6 +15,7 @@ mod sizes;
 mod tables;
 mod ways;
 
+pub use counts::{STOLEN_LANES, lane_count};
 pub use kept::Kept;
 pub use rests::Turn;
 pub use rounds::{Fulls, Round, finish};

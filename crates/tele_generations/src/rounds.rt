@@ -4,6 +4,7 @@ ghost use Rattle.std.specs.List.Sorted.{IsPermutation, IsNonDecreasingBy};
 
 use crate::ways::Way;
 use ist_core::Full;
+use ist_rest::Closed;
 use std::alloc::AllocError;
 use std::marker::Model;
 use tele_lanes::{Answer, Answers};
@@ -41,17 +42,17 @@ impl Fulls {
 
 /// The result of a round.
 #[derive(Drop)]
-pub struct Round<C> {
+pub struct Round {
     /// The answers to all tasks, by increasing line.
     pub answers: Answers,
     /// The table of the last generation.
-    pub closed: C,
+    pub closed: Closed,
     /// One refusal for each generation but the last.
     pub fulls: Fulls,
 }
 
 /// Ends the round with a table that answered all that was left. Fails only if memory runs out.
-pub fn finish<C: Drop>(way: Way, answers: &[Answer], closed: C) -> Result<Round<C>, AllocError>
+pub fn finish(way: Way, answers: &[Answer], closed: Closed) -> Result<Round, AllocError>
     ensures answers_same { IfOk result (λ r.
         IsPermutation (way.answers.items ++ answers.now) r.answers.list) }
     ensures answers_rise { IfOk result (λ r. IsNonDecreasingBy (λ a. a.line) r.answers.list) }

@@ -1,17 +1,15 @@
 //! The program as one call, from bytes to bytes.
 //!
-//! Read `specs/Rounds.antt`, then the contract of `run` in `runs.rt`. Builds on `tele_io`,
-//! `tele_lines`, `tele_made`, `tele_command`, `tele_lanes`, `tele_generations` and `tele_trees`,
-//! and on the crates below them.
+//! Read the contract of `run` in `runs.rt`, and the definitions that it cites in the specs of
+//! `tele_jobs`; then `works.rt`, `steps.rt` and `rounds.rt`. Builds on `tele_jobs` and `tele_trees`, and
+//! on the crates below them.
 #![tactic(auto)]
 
-mod jobs;
 mod made;
-mod outcomes;
-mod replies;
 mod rounds;
 mod runs;
 mod steps;
+mod works;
 
-pub use outcomes::{ANSWERED, BAD_LINE, NO_MEMORY, Outcome, READ_FAILED, USAGE, WRITE_FAILED};
 pub use runs::run;
+pub use tele_jobs::{ANSWERED, BAD_LINE, NO_MEMORY, Outcome, READ_FAILED, USAGE, WRITE_FAILED};

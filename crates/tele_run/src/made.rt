@@ -1,36 +1,33 @@
 //! A run over made lines: the same rounds, without replies, and a summary at the end.
-ghost use Rattle.std.specs.Prelude.{◌≡◌, ◌+◌, ◌≤◌, ◌^◌, ◌⊎◌, [], Err, is_some, length, IfOk, OnOk, OnErr};
+ghost use Rattle.std.specs.Prelude.{◌≡◌, ◌+◌, ◌≤◌, ◌^◌, ◌⊎◌, [], is_some, length, IfOk, OnOk};
 ghost use Rattle.std.specs.List.{count_by};
 ghost use Rattle.std.specs.List.Sorted.{IsStrictlyIncreasing};
 ghost use Rattle.ist_core.specs.Map.{replay, replies};
 ghost use Rattle.tele_io.specs.Bytes.{HaveRisen, Appends, AppendsPart};
 ghost use Rattle.tele_lanes.specs.Lines.{commands_of, task_lines};
 ghost use Rattle.tele_made.specs.Summaries.{summary_of, summary_text};
-ghost use Rattle.tele_run.specs.Causes.{IsAnswer, IsCutShort};
-ghost use Rattle.tele_run.specs.Rounds.{RanRounds, made_rounds};
-ghost use Rattle.tele_run.specs.Endings.{HasNoTable};
-ghost use Rattle.tele_run.specs.Open.{HasRun, RunsOn, fresh_round, map_in, round_for};
+ghost use Rattle.tele_jobs.specs.Causes.{IsAnswer, IsCutShort};
+ghost use Rattle.tele_jobs.specs.Rounds.{RanRounds, made_rounds};
+ghost use Rattle.tele_jobs.specs.Endings.{HasNoTable};
+ghost use Rattle.tele_jobs.specs.Open.{FollowsRounds, RunsOn, fresh_round, map_in, round_for};
 
-use crate::outcomes::{ANSWERED, NO_MEMORY, Outcome, WRITE_FAILED, ended};
-use crate::rounds::{Round, close};
-use crate::steps::refused;
+use crate::rounds::{Round, close, ended};
 use ist_rest::Closed;
 use std::alloc::{AllocError, Global};
 use std::sync::Wait;
 use std::thread::Threads;
 use tele_generations::Shelf;
-use tele_io::{Sink, SinkFault};
+use tele_io::Sink;
+use tele_jobs::{ANSWERED, NO_MEMORY, Outcome, WRITE_FAILED, end_with_summary, refused};
 use tele_lanes::{Answer, Gate, Task};
-use tele_made::{Maker, Summary, print_summary, sum_of};
+use tele_made::{Maker, Summary, sum_of};
 use tele_trees::TreeTables;
 
 /// Makes lines from a seed, answers them, and prints the summary.
 pub(crate) fn make_all<R: Threads + Wait + Sync, G: Gate + Sync, H: Shelf<Closed>, O: Sink>(
-    rt: &R,
-    gate: &G,
-    alloc: Global,
-    tables: &mut TreeTables,
+    tables: &mut TreeTables<'_, R, G>,
     shelf: &mut H,
+    alloc: Global,
     round: Round,
     count: u64,
     seed: u64,
@@ -41,7 +38,7 @@ pub(crate) fn make_all<R: Threads + Wait + Sync, G: Gate + Sync, H: Shelf<Closed
 
     ensures text { result.status ≡ ANSWERED → Appends (O.written out.old) (O.written out.new)
         (summary_text (summary_of count seed)) }
-    ensures ran { result.status ≡ ANSWERED → RanRounds (λ table. table) round.team round.words
+    ensures ran { result.status ≡ ANSWERED → RanRounds round.team round.words
         (made_rounds count seed) (H.kept shelf.old) (H.kept shelf.new)
         result.last result.fulls }
     ensures none { ¬ (IsAnswer result.status) → HasNoTable result }
@@ -56,7 +53,7 @@ pub(crate) fn make_all<R: Threads + Wait + Sync, G: Gate + Sync, H: Shelf<Closed
     ensures counted { O.faults out.old ≤ O.faults out.new }
 {
     let mut round = round;
-    let status = match summarize(rt, gate, tables, shelf, &mut round, count, seed) {
+    let status = match summarize(tables, shelf, &mut round, count, seed) {
         Ok(summary) => match end_with_summary(out, alloc, summary) {
             Ok(()) => ANSWERED,
             Err(fault) => refused(fault),
@@ -66,29 +63,9 @@ pub(crate) fn make_all<R: Threads + Wait + Sync, G: Gate + Sync, H: Shelf<Closed
     ended(status, round)
 }
 
-/// Prints a summary and passes it on.
-#[tactic(auto, using(crate::proofs::PassLemmas::passes))]
-fn end_with_summary<O: Sink>(out: &mut O, alloc: Global, summary: Summary) -> Result<(), SinkFault>
-    ensures printed { OnOk result (Appends (O.written out.old) (O.written out.new)
-        (summary_text summary)) }
-    ensures passed_on { OnOk result (O.held out.new ≡ []) }
-
-    ensures failed { result ≡ Err SinkFault.Failed →
-        HaveRisen (O.faults out.old) (O.faults out.new) }
-    ensures part { OnErr result (AppendsPart (O.written out.old) (O.written out.new)
-        (summary_text summary)) }
-
-    ensures counted { O.faults out.old ≤ O.faults out.new }
-{
-    print_summary(out, alloc, summary)?;
-    out.pass_on()
-}
-
 /// Makes lines from a seed, answers them in rounds, and sums up.
 fn summarize<R: Threads + Wait + Sync, G: Gate + Sync, H: Shelf<Closed>>(
-    rt: &R,
-    gate: &G,
-    tables: &mut TreeTables,
+    tables: &mut TreeTables<'_, R, G>,
     shelf: &mut H,
     round: &mut Round,
     count: u64,
@@ -97,7 +74,7 @@ fn summarize<R: Threads + Wait + Sync, G: Gate + Sync, H: Shelf<Closed>>(
     requires fresh { round.old ≡ fresh_round round.old.team round.old.words }
     requires few { count ≤ 2 ^ 24 }
     ensures value { IfOk result (λ summary. summary ≡ summary_of count seed) }
-    ensures ran { OnOk result (HasRun (λ table. table) round.old.team round.old.words
+    ensures ran { OnOk result (FollowsRounds round.old.team round.old.words
         (made_rounds count seed) (H.kept shelf.old) (H.kept shelf.new) round.new) }
 {
     let mut maker = Maker::new(seed);
@@ -108,10 +85,10 @@ fn summarize<R: Threads + Wait + Sync, G: Gate + Sync, H: Shelf<Closed>>(
             command: maker.make(),
         })?;
         if round.is_full() {
-            found += answer_made(rt, gate, tables, shelf, round)?;
+            found += answer_made(tables, shelf, round)?;
         }
     }
-    found += answer_made(rt, gate, tables, shelf, round)?;
+    found += answer_made(tables, shelf, round)?;
     Ok(Summary {
         made: count,
         keys: round.pairs().len() as u64,
@@ -122,9 +99,7 @@ fn summarize<R: Threads + Wait + Sync, G: Gate + Sync, H: Shelf<Closed>>(
 
 /// Answers the lines of the round and returns how many of the replies are values.
 fn answer_made<R: Threads + Wait + Sync, G: Gate + Sync, H: Shelf<Closed>>(
-    rt: &R,
-    gate: &G,
-    tables: &mut TreeTables,
+    tables: &mut TreeTables<'_, R, G>,
     shelf: &mut H,
     round: &mut Round,
 ) -> Result<u64, AllocError>
@@ -136,12 +111,12 @@ fn answer_made<R: Threads + Wait + Sync, G: Gate + Sync, H: Shelf<Closed>>(
     ensures behind { OnOk result
         (map_in round.new ≡ replay (map_in round.old) (commands_of round.old.tasks)) }
     ensures none { OnOk result (round.new.tasks ≡ []) }
-    ensures ran { OnOk result (RunsOn (λ table. table) round.old (H.kept shelf.old) round.new
+    ensures ran { OnOk result (RunsOn round.old (H.kept shelf.old) round.new
         (H.kept shelf.new) (round_for round.old.tasks)) }
     ensures few_pairs { OnOk result
         (length round.new.pairs ≤ length round.old.pairs + length round.old.tasks) }
 {
-    close(rt, gate, tables, shelf, round)?;
+    close(tables, shelf, round)?;
     Ok(count_values(round.answers()))
 }
 

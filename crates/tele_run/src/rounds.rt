@@ -1,11 +1,13 @@
 //! The open round: the point lines to answer next, and what the rounds before it left.
-ghost use Rattle.std.specs.Prelude.{◌≡◌, ◌+◌, ◌<◌, ◌≤◌, ◌^◌, ◌↔◌, [], ◌∷◌, ◌++◌, length, OnOk, IsTrue};
+ghost use Rattle.std.specs.Prelude.{◌≡◌, ◌+◌, ◌<◌, ◌≤◌, ◌^◌, ◌↔◌, length, OnOk, OnErr, IsTrue};
 ghost use Rattle.std.specs.List.Sorted.{IsStrictlyIncreasing};
 ghost use Rattle.ist_core.specs.Map.{pairs_of, listed};
 ghost use Rattle.tele_lanes.specs.Lines.{task_lines};
 ghost use Rattle.tele_generations.specs.Shelves.{IsShelved};
-ghost use Rattle.tele_run.specs.Rounds.{if_any, team_of};
-ghost use Rattle.tele_run.specs.Open.{Closes, RunsOn, fresh_round, map_in, round_for};
+ghost use Rattle.tele_jobs.specs.Rounds.{if_any, team_of};
+ghost use Rattle.tele_jobs.specs.Causes.{IsAnswer};
+ghost use Rattle.tele_jobs.specs.Endings.{HasNoTable};
+ghost use Rattle.tele_jobs.specs.Open.{ClosesRound, RunsOn, fresh_round, with_task, map_in, round_for};
 
 use ist_core::Pair;
 use ist_rest::Closed;
@@ -15,6 +17,7 @@ use std::marker::Model;
 use std::sync::Wait;
 use std::thread::Threads;
 use tele_generations::Shelf;
+use tele_jobs::{ANSWERED, BAD_LINE, Outcome, without_table};
 use tele_lanes::{Answer, Gate, Task};
 use tele_trees::{TreeTables, run_round};
 
@@ -37,11 +40,11 @@ pub(crate) struct Round {
 }
 
 impl Model for Round {
-    ghost use Rattle.std.specs.Prelude.{ℕ, ◌≤◌, ◌^◌, List};
-    ghost use Rattle.tele_run.specs.Rounds.{team_of};
-    ghost use Rattle.tele_run.specs.Open.{Open};
+    ghost use Rattle.std.specs.Prelude.{◌≤◌, ◌^◌};
+    ghost use Rattle.tele_jobs.specs.Rounds.{team_of};
+    ghost use Rattle.tele_jobs.specs.Open.{Open};
 
-    ghost Value = { Open (List ℕ) };
+    ghost Value = { Open };
 
     ghost view = { λ r. record {
       pairs = r.plain;
@@ -81,12 +84,8 @@ impl Round {
 
     /// Takes one more line into the round.
     pub(crate) fn ask(&mut self, task: Task) -> Result<(), AllocError>
-        ensures asked { OnOk result (self.new.tasks ≡ self.old.tasks ++ task ∷ []) }
-        ensures same { self.new.pairs ≡ self.old.pairs }
-        ensures last_same { self.new.last ≡ self.old.last }
-        ensures fulls_same { self.new.fulls ≡ self.old.fulls }
-        ensures team_same { self.new.team ≡ self.old.team }
-        ensures words_same { self.new.words ≡ self.old.words }
+        ensures asked { OnOk result (self.new ≡ with_task self.old task) }
+        ensures unchanged { OnErr result (self.new ≡ self.old) }
     {
         self.tasks.push(task)?;
         Ok(())
@@ -135,21 +134,19 @@ impl Round {
     }
 }
 
-/// Answers the lines of the round in order, on as many trees as needed, and leaves a round without
+/// Answers the lines of the round in order, on as many tables as needed, and leaves a round without
 /// lines. The last table of the rounds before goes to the shelf. If the round has no lines, no
 /// table is opened.
 pub(crate) fn close<R: Threads + Wait + Sync, G: Gate + Sync, H: Shelf<Closed>>(
-    rt: &R,
-    gate: &G,
-    tables: &mut TreeTables,
+    tables: &mut TreeTables<'_, R, G>,
     shelf: &mut H,
     round: &mut Round,
 ) -> Result<(), AllocError>
     requires rising { IsStrictlyIncreasing (task_lines round.old.tasks) }
     requires few { length round.old.pairs + length round.old.tasks ≤ 2 ^ 24 }
 
-    ensures closed { OnOk result (Closes round.old round.new) }
-    ensures ran { OnOk result (RunsOn (λ table. table) round.old (H.kept shelf.old) round.new
+    ensures closed { OnOk result (ClosesRound round.old round.new) }
+    ensures ran { OnOk result (RunsOn round.old (H.kept shelf.old) round.new
         (H.kept shelf.new) (round_for round.old.tasks)) }
     ensures few { OnOk result
         (length round.new.pairs ≤ length round.old.pairs + length round.old.tasks) }
@@ -158,14 +155,12 @@ pub(crate) fn close<R: Threads + Wait + Sync, G: Gate + Sync, H: Shelf<Closed>>(
         round.answers.clear();
         return Ok(());
     }
-    close_some(rt, gate, tables, shelf, round)
+    close_some(tables, shelf, round)
 }
 
 /// Answers the lines of a round that has at least one.
 fn close_some<R: Threads + Wait + Sync, G: Gate + Sync, H: Shelf<Closed>>(
-    rt: &R,
-    gate: &G,
-    tables: &mut TreeTables,
+    tables: &mut TreeTables<'_, R, G>,
     shelf: &mut H,
     round: &mut Round,
 ) -> Result<(), AllocError>
@@ -173,26 +168,24 @@ fn close_some<R: Threads + Wait + Sync, G: Gate + Sync, H: Shelf<Closed>>(
     requires rising { IsStrictlyIncreasing (task_lines round.old.tasks) }
     requires few { length round.old.pairs + length round.old.tasks ≤ 2 ^ 24 }
 
-    ensures closed { OnOk result (Closes round.old round.new) }
-    ensures ran { OnOk result (RunsOn (λ table. table) round.old (H.kept shelf.old) round.new
+    ensures closed { OnOk result (ClosesRound round.old round.new) }
+    ensures ran { OnOk result (RunsOn round.old (H.kept shelf.old) round.new
         (H.kept shelf.new) (round_for round.old.tasks)) }
     ensures few { OnOk result
         (length round.new.pairs ≤ length round.old.pairs + length round.old.tasks) }
 {
     shelve(shelf, round.last.take());
     let ran = run_round(
-        rt,
-        gate,
-        round.alloc,
         tables,
         shelf,
+        round.alloc,
         round.plain.pairs(),
         &round.tasks,
         round.workers,
         round.words,
         round.steal,
     )?;
-    let pairs = tables.pairs(round.alloc, &ran.closed)?;
+    let pairs = ran.closed.pairs(round.alloc)?;
     round.plain = Plain::of(pairs);
     round.answers = ran.answers.into_vec();
     round.fulls = ran.fulls.as_slice().len() as u64;
@@ -207,5 +200,23 @@ fn shelve<H: Shelf<Closed>>(shelf: &mut H, last: Option<Closed>)
 {
     if let Some(closed) = last {
         shelf.keep(closed);
+    }
+}
+
+/// Returns the outcome of a run that ended with this round.
+pub(crate) fn ended(status: u8, round: Round) -> Outcome
+    ensures status { result.status ≡ status }
+    ensures last { IsAnswer status → result.last ≡ round.last }
+    ensures fulls { IsAnswer status → result.fulls ≡ round.fulls }
+    ensures none { ¬ (IsAnswer status) → HasNoTable result }
+{
+    if status == ANSWERED || status == BAD_LINE {
+        Outcome {
+            status,
+            fulls: round.fulls(),
+            last: round.into_last(),
+        }
+    } else {
+        without_table(status)
     }
 }

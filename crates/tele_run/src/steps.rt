@@ -1,5 +1,5 @@
 //! One line: it is read and taken into the open round, and the round is answered if it ends there.
-ghost use Rattle.std.specs.Prelude.{◌≡◌, ◌+◌, ◌<◌, ◌≤◌, ◌^◌, [], ◌∷◌, ◌++◌, Some, None, Err, true, false, length, IsSome, IfSome, IfNone, OnOk, OnErr};
+ghost use Rattle.std.specs.Prelude.{◌≡◌, ◌+◌, ◌<◌, ◌≤◌, ◌^◌, [], ◌∷◌, ◌++◌, Some, None, Err, true, length, IsSome, IfSome, IfNone, OnOk, OnErr};
 ghost use Rattle.std.specs.List.Sorted.{IsStrictlyIncreasing};
 ghost use Rattle.ist_core.specs.Map.{replay};
 ghost use Rattle.tele_io.specs.Bytes.{HaveRisen, Appends, AppendsPart};
@@ -7,15 +7,11 @@ ghost use Rattle.tele_lanes.specs.Lines.{commands_of, task_lines};
 ghost use Rattle.tele_lines.specs.Lines.{line_limit};
 ghost use Rattle.tele_lines.specs.Rounds.{round_limit};
 ghost use Rattle.tele_lines.specs.Answer.{Good, Bad, text_of};
-ghost use Rattle.tele_lines.specs.Progress.{place_of, limit_of, count_of, stop_of, mode_of, kept_of, has_ended, unread, GoesTo, TellsEnd, Waits, TakesAsNeeded, ShowsBad};
-ghost use Rattle.tele_run.specs.declared.jobs.Job.TheVariants as job;
-ghost use Rattle.tele_run.specs.Causes.{IsAnswer, IsCutShort, IsStatus};
-ghost use Rattle.tele_run.specs.Open.{IsOpenBefore, RunsOn, asked, map_in, round_for};
-ghost use Rattle.tele_run.specs.Due.{due, rounds_due, moment_of, Takes, RunsTo, Ends};
-ghost use Rattle.tele_run.specs.Due.{TakesRounds, RunsRounds};
+ghost use Rattle.tele_lines.specs.Progress.{place_of, limit_of, count_of, stop_of, mode_of, kept_of, has_ended, TellsEnd, TakesAsNeeded};
+ghost use Rattle.tele_jobs.specs.Open.{IsOpenBefore, RunsOn, asked, map_in, round_for};
+ghost use Rattle.tele_jobs.specs.Due.{Takes, TakesRounds};
+ghost use Rattle.tele_jobs.specs.Steps.{StepsOn, EndsRun, standing};
 
-use crate::outcomes::{ANSWERED, BAD_LINE, NO_MEMORY, READ_FAILED, WRITE_FAILED};
-use crate::replies::{end_with_bad, end_with_pairs, print_answers};
 use crate::rounds::{Round, close};
 use ist_rest::Closed;
 use std::alloc::AllocError;
@@ -23,27 +19,18 @@ use std::sync::Wait;
 use std::thread::Threads;
 use tele_generations::Shelf;
 use tele_io::{Sink, SinkFault, Source};
+use tele_jobs::{
+    ANSWERED, BAD_LINE, READ_FAILED, WRITE_FAILED, end_with_bad, end_with_pairs, print_answers,
+    refused,
+};
 use tele_lanes::{Gate, Task};
 use tele_lines::{Cause, Item, Line, LineFault, Lines, Version};
 use tele_trees::TreeTables;
 
-/// Returns the status to end with if the sink failed or memory ran out.
-pub(crate) fn refused(fault: SinkFault) -> u8
-    ensures failed { result ≡ WRITE_FAILED → fault ≡ SinkFault.Failed }
-    ensures other { IsCutShort result }
-{
-    match fault {
-        SinkFault::Failed => WRITE_FAILED,
-        SinkFault::Memory => NO_MEMORY,
-    }
-}
-
 /// Reads the next line that asks for something, takes it into the open round, and answers the round
 /// if it ends there; then nothing is held back. If the run ends, returns its status.
 pub(crate) fn step<R: Threads + Wait + Sync, G: Gate + Sync, H: Shelf<Closed>, S: Source, O: Sink>(
-    rt: &R,
-    gate: &G,
-    tables: &mut TreeTables,
+    tables: &mut TreeTables<'_, R, G>,
     shelf: &mut H,
     lines: &mut Lines,
     round: &mut Round,
@@ -57,115 +44,59 @@ pub(crate) fn step<R: Threads + Wait + Sync, G: Gate + Sync, H: Shelf<Closed>, S
     requires before { IsOpenBefore (count_of lines.old + 1) round.old }
     requires allowed { count_of lines.old ≤ line_limit }
 
-    ensures goes_on { IfNone result (IfSome (unread lines.old (S.left source.old)) (λ bytes.
-        RunsTo (moment_of lines.old round.old) bytes (O.written out.old) (O.written out.new)
-        (has_ended lines.new) (unread lines.new (S.left source.new))
-        (moment_of lines.new round.new))) }
-    ensures ends { IfSome result (λ status. IsAnswer status →
-        IfSome (unread lines.old (S.left source.old)) (λ bytes.
-        Ends (due (moment_of lines.old round.old) bytes) (O.written out.old)
-        (O.written out.new) status)) }
-    ensures part { IfSome result (λ status. IsCutShort status →
-        IfSome (unread lines.old (S.left source.old)) (λ bytes.
-        AppendsPart (O.written out.old) (O.written out.new)
-        (due (moment_of lines.old round.old) bytes).text)) }
+    ensures goes_on { IfNone result (StepsOn
+        (standing lines.old round.old (S.left source.old) (O.written out.old) (H.kept shelf.old))
+        (standing lines.new round.new (S.left source.new) (O.written out.new) (H.kept shelf.new))
+        (O.held out.new)) }
+    ensures ends { IfSome result (EndsRun
+        (standing lines.old round.old (S.left source.old) (O.written out.old) (H.kept shelf.old))
+        (standing lines.new round.new (S.left source.new) (O.written out.new) (H.kept shelf.new))
+        (O.held out.new)) }
 
-    // After a round that ended, and after the run, nothing is held back.
-    ensures passed_on { IfNone result (round.new.tasks ≡ [] → O.held out.new ≡ []) }
-    ensures all_passed_on { IfSome result (λ status.
-        ¬ (IsCutShort status) → O.held out.new ≡ []) }
-
-    // The rounds that were run and the rounds still due are all rounds, in order.
-    ensures ran { IfNone result (IfSome (unread lines.old (S.left source.old)) (λ bytes.
-        RunsRounds (λ table. table) round.old (H.kept shelf.old) round.new (H.kept shelf.new)
-        (moment_of lines.old round.old) bytes (unread lines.new (S.left source.new))
-        (moment_of lines.new round.new))) }
-    ensures ran_all { IfSome result (λ status. IsAnswer status →
-        IfSome (unread lines.old (S.left source.old)) (λ bytes.
-        RunsOn (λ table. table) round.old (H.kept shelf.old) round.new (H.kept shelf.new)
-        (rounds_due (moment_of lines.old round.old) bytes))) }
-
-    ensures statuses { IfSome result (IsStatus job.Read) }
     ensures read_failed { result ≡ Some READ_FAILED →
         HaveRisen (S.faults source.old) (S.faults source.new) }
     ensures write_failed { result ≡ Some WRITE_FAILED →
         HaveRisen (O.faults out.old) (O.faults out.new) }
-
-    // A failed read leaves an unended line and an open round, and writes nothing.
-    ensures passed { result ≡ Some READ_FAILED →
-        IfSome (unread lines.old (S.left source.old)) (λ bytes.
-        RunsTo (moment_of lines.old round.old) bytes (O.written out.old) (O.written out.new)
-        (has_ended lines.new) (unread lines.new (S.left source.new))
-        (moment_of lines.new round.new)) }
-    ensures waits { result ≡ Some READ_FAILED → Waits lines.new }
-    ensures kept { result ≡ Some READ_FAILED → round.new ≡ round.old }
-
-    // Lines before a bad one were skipped, and it stays unread.
-    ensures skipped { result ≡ Some BAD_LINE →
-        IfSome (unread lines.old (S.left source.old)) (λ bytes.
-        GoesTo (place_of lines.old) (place_of lines.new) (has_ended lines.new) [] bytes
-        (unread lines.new (S.left source.new))) }
-    ensures shown { result ≡ Some BAD_LINE →
-        ShowsBad (place_of lines.new) (kept_of lines.new) (has_ended lines.new) }
 
     ensures sparing { IfSome (S.left source.old) (λ bytes.
         TakesAsNeeded (place_of lines.old) (kept_of lines.old) (has_ended lines.old) bytes
         (S.left source.new)) }
     ensures end { TellsEnd lines.old (S.left source.old) →
         TellsEnd lines.new (S.left source.new) }
-    ensures whole { result ≡ Some ANSWERED → has_ended lines.new ≡ true }
     ensures ended { has_ended lines.old ≡ true → has_ended lines.new ≡ true }
 
     ensures source_counted { S.faults source.old ≤ S.faults source.new }
     ensures sink_counted { O.faults out.old ≤ O.faults out.new }
 
     ensures limit { limit_of lines.new ≡ line_limit }
-    ensures going { IfNone result (stop_of lines.new ≡ None) }
-    ensures count { IfNone result (count_of lines.old < count_of lines.new) }
     ensures allowed { count_of lines.new ≤ line_limit }
-    ensures open { IfNone result (length round.new.tasks < round_limit) }
-    ensures chosen { IfNone result (IsSome (mode_of lines.new)) }
-    ensures before { IfNone result (IsOpenBefore (count_of lines.new + 1) round.new) }
 {
-    let fault = match lines.next(source) {
-        Ok(Some(line)) => match take(rt, gate, tables, shelf, round, lines.version(), line, out) {
-            Ok(()) => return None,
-            Err(fault) => fault,
+    match lines.next(source) {
+        Ok(Some(line)) => match take(tables, shelf, round, lines.version(), line, out) {
+            Ok(()) => None,
+            Err(fault) => Some(refused(fault)),
         },
-        Ok(None) => match end_round(rt, gate, tables, shelf, round, lines.version(), out) {
-            Ok(()) => return Some(ANSWERED),
-            Err(fault) => fault,
+        Ok(None) => match end_round(tables, shelf, round, lines.version(), out) {
+            Ok(()) => Some(ANSWERED),
+            Err(fault) => Some(refused(fault)),
         },
         Err(LineFault::Bad { line, cause }) => {
-            match name(
-                rt,
-                gate,
-                tables,
-                shelf,
-                round,
-                lines.version(),
-                line,
-                cause,
-                out,
-            ) {
-                Ok(()) => return Some(BAD_LINE),
-                Err(fault) => fault,
+            match name(tables, shelf, round, lines.version(), line, cause, out) {
+                Ok(()) => Some(BAD_LINE),
+                Err(fault) => Some(refused(fault)),
             }
         }
         Err(LineFault::Read) => match out.pass_on() {
-            Ok(()) => return Some(READ_FAILED),
-            Err(fault) => fault,
+            Ok(()) => Some(READ_FAILED),
+            Err(fault) => Some(refused(fault)),
         },
-    };
-    Some(refused(fault))
+    }
 }
 
 /// Takes a line into the round. If the round ends there, its lines are answered and the replies are
 /// passed on.
 fn take<R: Threads + Wait + Sync, G: Gate + Sync, H: Shelf<Closed>, O: Sink>(
-    rt: &R,
-    gate: &G,
-    tables: &mut TreeTables,
+    tables: &mut TreeTables<'_, R, G>,
     shelf: &mut H,
     round: &mut Round,
     version: Version,
@@ -180,7 +111,7 @@ fn take<R: Threads + Wait + Sync, G: Gate + Sync, H: Shelf<Closed>, O: Sink>(
         (asked version round.old.tasks ++ Good line.number version line.item ∷ [])
         (O.written out.old) (O.written out.new)
         (map_in round.new) (asked version round.new.tasks)) }
-    ensures ran { OnOk result (TakesRounds (λ table. table) round.old (H.kept shelf.old) round.new
+    ensures ran { OnOk result (TakesRounds round.old (H.kept shelf.old) round.new
         (H.kept shelf.new)
         (asked version round.old.tasks ++ Good line.number version line.item ∷ [])
         (asked version round.new.tasks)) }
@@ -206,13 +137,13 @@ fn take<R: Threads + Wait + Sync, G: Gate + Sync, H: Shelf<Closed>, O: Sink>(
                 return Err(SinkFault::Memory);
             }
             if round.is_full() {
-                end_round(rt, gate, tables, shelf, round, version, out)
+                end_round(tables, shelf, round, version, out)
             } else {
                 Ok(())
             }
         }
         Item::Interval { first, last } => {
-            answer(rt, gate, tables, shelf, round, version, out)?;
+            answer(tables, shelf, round, version, out)?;
             end_with_pairs(out, version, line.number, round.list(first, last))
         }
     }
@@ -220,9 +151,7 @@ fn take<R: Threads + Wait + Sync, G: Gate + Sync, H: Shelf<Closed>, O: Sink>(
 
 /// Answers the lines of the round, names the bad line after them, and passes all of it on.
 fn name<R: Threads + Wait + Sync, G: Gate + Sync, H: Shelf<Closed>, O: Sink>(
-    rt: &R,
-    gate: &G,
-    tables: &mut TreeTables,
+    tables: &mut TreeTables<'_, R, G>,
     shelf: &mut H,
     round: &mut Round,
     version: Version,
@@ -236,7 +165,7 @@ fn name<R: Threads + Wait + Sync, G: Gate + Sync, H: Shelf<Closed>, O: Sink>(
     ensures printed { OnOk result (Appends (O.written out.old) (O.written out.new)
         (text_of (map_in round.old) (asked version round.old.tasks ++ Bad line cause ∷ []))) }
     ensures passed_on { OnOk result (O.held out.new ≡ []) }
-    ensures ran { OnOk result (RunsOn (λ table. table) round.old (H.kept shelf.old) round.new
+    ensures ran { OnOk result (RunsOn round.old (H.kept shelf.old) round.new
         (H.kept shelf.new) (round_for round.old.tasks)) }
 
     ensures failed { result ≡ Err SinkFault.Failed →
@@ -246,16 +175,14 @@ fn name<R: Threads + Wait + Sync, G: Gate + Sync, H: Shelf<Closed>, O: Sink>(
 
     ensures counted { O.faults out.old ≤ O.faults out.new }
 {
-    answer(rt, gate, tables, shelf, round, version, out)?;
+    answer(tables, shelf, round, version, out)?;
     end_with_bad(out, line, cause)
 }
 
 /// Answers the lines of the round, which ends with them, and passes the replies on.
-#[tactic(auto, using(crate::proofs::PassLemmas::passes))]
+#[tactic(auto, using(tele_jobs::proofs::PassLemmas::passes))]
 fn end_round<R: Threads + Wait + Sync, G: Gate + Sync, H: Shelf<Closed>, O: Sink>(
-    rt: &R,
-    gate: &G,
-    tables: &mut TreeTables,
+    tables: &mut TreeTables<'_, R, G>,
     shelf: &mut H,
     round: &mut Round,
     version: Version,
@@ -270,7 +197,7 @@ fn end_round<R: Threads + Wait + Sync, G: Gate + Sync, H: Shelf<Closed>, O: Sink
     ensures behind { OnOk result
         (map_in round.new ≡ replay (map_in round.old) (commands_of round.old.tasks)) }
     ensures none { OnOk result (round.new.tasks ≡ []) }
-    ensures ran { OnOk result (RunsOn (λ table. table) round.old (H.kept shelf.old) round.new
+    ensures ran { OnOk result (RunsOn round.old (H.kept shelf.old) round.new
         (H.kept shelf.new) (round_for round.old.tasks)) }
     ensures few { OnOk result
         (length round.new.pairs ≤ length round.old.pairs + length round.old.tasks) }
@@ -282,15 +209,13 @@ fn end_round<R: Threads + Wait + Sync, G: Gate + Sync, H: Shelf<Closed>, O: Sink
 
     ensures counted { O.faults out.old ≤ O.faults out.new }
 {
-    answer(rt, gate, tables, shelf, round, version, out)?;
+    answer(tables, shelf, round, version, out)?;
     out.pass_on()
 }
 
 /// Answers the lines of the round, and prints the replies in order.
 fn answer<R: Threads + Wait + Sync, G: Gate + Sync, H: Shelf<Closed>, O: Sink>(
-    rt: &R,
-    gate: &G,
-    tables: &mut TreeTables,
+    tables: &mut TreeTables<'_, R, G>,
     shelf: &mut H,
     round: &mut Round,
     version: Version,
@@ -304,7 +229,7 @@ fn answer<R: Threads + Wait + Sync, G: Gate + Sync, H: Shelf<Closed>, O: Sink>(
     ensures behind { OnOk result
         (map_in round.new ≡ replay (map_in round.old) (commands_of round.old.tasks)) }
     ensures none { OnOk result (round.new.tasks ≡ []) }
-    ensures ran { OnOk result (RunsOn (λ table. table) round.old (H.kept shelf.old) round.new
+    ensures ran { OnOk result (RunsOn round.old (H.kept shelf.old) round.new
         (H.kept shelf.new) (round_for round.old.tasks)) }
     ensures few { OnOk result
         (length round.new.pairs ≤ length round.old.pairs + length round.old.tasks) }
@@ -316,7 +241,7 @@ fn answer<R: Threads + Wait + Sync, G: Gate + Sync, H: Shelf<Closed>, O: Sink>(
 
     ensures counted { O.faults out.old ≤ O.faults out.new }
 {
-    match close(rt, gate, tables, shelf, round) {
+    match close(tables, shelf, round) {
         Ok(()) => print_answers(out, version, round.answers()),
         Err(AllocError) => Err(SinkFault::Memory),
     }

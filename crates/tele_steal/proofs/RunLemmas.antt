@@ -47,6 +47,13 @@ put_back Fits before x old new at n from is long size kept fit rest =
     ∙ take_all n new (omega (arith, long, size)) in
     subst (All Fits) (sym whole) all
 
+-- what a vector has after a write to all of it
+pub written_back : {X : Type 0} (n : ℕ) (new old : List X) → n ≡ length old
+    → length new ≡ length old → take n (new ++ drop (length new) old) ≡ new
+written_back n new old long same =
+    ap (λ z. take n (new ++ z)) (drop_of_length-le old (omega (arith, same)))
+    ∙ ap (take n) (append-nil new) ∙ take_all n new (omega (arith, long, same))
+
 -- what is true of all is true of a first part
 pub All-rest : {X : Type 0} (Fits : X → Type 0) (xs ys zs : List X) → xs ≡ ys ++ zs → All Fits xs
     → All Fits ys

@@ -16,7 +16,7 @@ abbrev pub ticket : {P T : Type 0} → (P → T) → Lane P T → Ticket T
 ticket tie l = record { number = l.number; tasks = l.tasks; tie = tie l.port }
 
 -- the lane wasn't run: no answers, room for one per task, and a port without calls
-pub record IsFresh {P T : Type 0} (calls_of : P → List Answered) (refusal_of : P → Option Refused)
+pub record IsNewLane {P T : Type 0} (calls_of : P → List Answered) (refusal_of : P → Option Refused)
     (l : Lane P T) : Type 0 where
   pub empty : l.answers.list ≡ []
   pub room : length l.tasks ≤ l.answers.room
@@ -25,7 +25,7 @@ pub record IsFresh {P T : Type 0} (calls_of : P → List Answered) (refusal_of :
 
 -- the lane was run: its port made the calls of its first tasks and has an answer to each, and it
 -- stopped if its port refused the next
-pub record HasRun {P T : Type 0} (calls_of : P → List Answered) (refusal_of : P → Option Refused)
+pub record IsRunLane {P T : Type 0} (calls_of : P → List Answered) (refusal_of : P → Option Refused)
     (l : Lane P T) : Type 0 where
   pub calls : CallInOrder l.tasks (calls_of l.port)
   pub answers : AnswerInOrder l.tasks l.answers.list

@@ -14,7 +14,7 @@ pub record YardRoom : Type 0 where
   pub lanes : ℕ
 
 -- ready for a run: no lane is in it, no worker has a pass, and each bag has room for 64 lanes
-pub record IsReady {X V H : Type 0} (owner : Worker X Global (Tally X) V)
+pub record IsReadyYard {X V H : Type 0} (owner : Worker X Global (Tally X) V)
     (thief : Stealer X Global (Tally X) V)
     (bags : List (Vec X Global)) (hands : Vec H Global) (kept : Vec X Global) : Type 0 where
   pub same : stealer_deque thief ≡ worker_deque owner

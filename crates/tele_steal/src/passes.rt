@@ -2,7 +2,7 @@
 ghost use Rattle.std.specs.Prelude.{◌≡◌, ◌+◌, ◌-◌, ◌<◌, ◌≤◌, [], ◌∷◌, ◌++◌, length, IfSome, IfNone};
 ghost use Rattle.std.specs.List.Sorted.{IsPermutation};
 ghost use Rattle.crossbeam_deque.specs.Handles.{view, IsPassOf, SameWorker, worker_deque, worker_flavor, worker_view};
-ghost use Rattle.tele_steal.specs.Runs.{IsFresh};
+ghost use Rattle.tele_steal.specs.Runs.{IsNewLane};
 ghost use Rattle.tele_steal.specs.Tallies.{IsOwners, HasDrawn, of_owner, of_worker};
 
 use crate::tallies::{Count, Dismiss, Draw, Hire, Owner, Put, Tally};
@@ -25,7 +25,7 @@ pub(crate) fn hire<P: Port>(owner: &mut Owner<P>) -> Pass<Lane<P>, Tally<Lane<P>
 /// Puts a lane in, or gives it back if the deque has no memory for it.
 pub(crate) fn put<P: Port>(owner: &mut Owner<P>, lane: Lane<P>) -> Option<Lane<P>>
     requires owner { IsOwners (worker_view owner.old) }
-    requires fresh { IsFresh P.calls P.refused lane }
+    requires fresh { IsNewLane P.calls P.refused lane }
     requires few { length (worker_view owner.old).put < 64 }
     ensures same { SameWorker owner.old owner.new }
     ensures refused { IfSome result (λ l. l ≡ lane) }
@@ -58,7 +58,7 @@ pub(crate) fn draw<P: Port>(owner: &mut Owner<P>) -> Option<Lane<P>>
     requires owner { IsOwners (worker_view owner.old) }
     requires first_in { worker_flavor owner.old ≡ 0 }
     ensures same { SameWorker owner.old owner.new }
-    ensures drawn { IfSome result (λ l. HasDrawn (IsFresh P.calls P.refused)
+    ensures drawn { IfSome result (λ l. HasDrawn (IsNewLane P.calls P.refused)
         (worker_view owner.old) (l ∷ []) (worker_view owner.new)) }
     ensures unchanged { IfNone result (worker_view owner.new ≡ worker_view owner.old) }
     ensures settled { IfNone result ((worker_view owner.old).out ≡ 0

@@ -2,10 +2,10 @@
 ghost use Rattle.std.specs.Prelude.{◌≡◌, ◌<◌, ◌≤◌, [], map, All, length, None, Some, IfSome, IfNone, slice_get, option_map};
 ghost use Rattle.std.specs.List.Sorted.{IsPermutation, IsNonDecreasingBy, IsStrictlyIncreasing};
 ghost use Rattle.tele_lanes.specs.Lines.{commands_of, AnswerInOrder, CallInOrder, TellReplies};
-ghost use Rattle.tele_steal.specs.Runs.{IsFresh, HasRun, ticket};
-ghost use Rattle.tele_steal.specs.Yards.{IsReady};
+ghost use Rattle.tele_steal.specs.Runs.{IsNewLane, IsRunLane, ticket};
+ghost use Rattle.tele_steal.specs.Yards.{IsReadyYard};
 
-use crate::collecting::{draw_all, hire_all, put_in, run_kept, take_back};
+use crate::collecting::{get_back, hire_all, put_in, run_kept};
 use crate::tallies::{Hand, Owner, Thief};
 use crate::workers::work_hands;
 use crate::yards::Yard;
@@ -53,7 +53,7 @@ pub fn run_stolen<R: Threads + Wait + Sync, P: Port + Send, G: Gate + Sync>(
 
     ensures yard { yard.new ≡ yard.old }
 {
-    run_ordered(
+    let shared = run_shared(
         rt,
         gate,
         &mut yard.owner,
@@ -62,48 +62,7 @@ pub fn run_stolen<R: Threads + Wait + Sync, P: Port + Send, G: Gate + Sync>(
         &mut yard.hands,
         &mut yard.kept,
         lanes,
-    )
-}
-
-/// Does the same over the parts of a yard.
-fn run_ordered<R: Threads + Wait + Sync, P: Port + Send, G: Gate + Sync>(
-    rt: &R,
-    gate: &G,
-    owner: &mut Owner<P>,
-    thief: &Thief<P>,
-    bags: &mut Vec<Vec<Lane<P>>>,
-    hands: &mut Vec<Hand<P>>,
-    kept: &mut Vec<Lane<P>>,
-    lanes: Vec<Lane<P>>,
-) -> Vec<Lane<P>>
-    requires ready { IsReady owner.old thief.now bags.old.items hands.old kept.old }
-    requires empty { All (λ l. l.answers.list ≡ []) lanes.items }
-    requires room { All (λ l. length l.tasks ≤ l.answers.room) lanes.items }
-    requires no_calls { All (λ l. P.calls l.port ≡ []) lanes.items }
-    requires unrefused { All (λ l. P.refused l.port ≡ None) lanes.items }
-    requires numbers { IsStrictlyIncreasing (map (λ l. l.number) lanes.items) }
-    requires few { length lanes.items ≤ 64 }
-    ensures ready { IsReady owner.new thief.now bags.new.items hands.new kept.new }
-    ensures count { length bags.new.items ≡ length bags.old.items }
-    // Each lane is handed back once, at its own place.
-    ensures numbers { map (λ l. l.number) result.items ≡ map (λ l. l.number) lanes.items }
-    ensures tasks { map (λ l. l.tasks) result.items ≡ map (λ l. l.tasks) lanes.items }
-    ensures ties { map (λ l. P.tie l.port) result.items ≡ map (λ l. P.tie l.port) lanes.items }
-
-    // The calls were made for a first part of the tasks, in order, and each call has its answer.
-    ensures calls { All (λ l. CallInOrder l.tasks (P.calls l.port)) result.items }
-    ensures answers { All (λ l. AnswerInOrder l.tasks l.answers.list) result.items }
-    ensures replies { All (λ l. TellReplies (P.calls l.port) l.answers.list) result.items }
-
-    // A lane stops only if its port refuses the first task without an answer.
-    ensures stopped { All (λ l.
-        l.stopped ≡ option_map (λ r. r.full) (P.refused l.port)) result.items }
-    ensures refused { All (λ l. IfSome (P.refused l.port) (λ r.
-        slice_get (commands_of l.tasks) (length (P.calls l.port)) ≡ Some r.command)) result.items }
-    ensures whole { All (λ l. IfNone l.stopped
-        (length (P.calls l.port) ≡ length l.tasks)) result.items }
-{
-    let shared = run_shared(rt, gate, owner, thief, bags, hands, kept, lanes);
+    );
     in_order(shared)
 }
 
@@ -117,7 +76,7 @@ fn in_order<P: Port>(lanes: Vec<Lane<P>>) -> Vec<Lane<P>>
     lanes
 }
 
-/// Runs the lanes by the workers, and hands them back in any order.
+/// Runs the lanes by the workers over the parts of a yard, and hands them back in any order.
 fn run_shared<R: Threads + Wait + Sync, P: Port + Send, G: Gate + Sync>(
     rt: &R,
     gate: &G,
@@ -128,21 +87,20 @@ fn run_shared<R: Threads + Wait + Sync, P: Port + Send, G: Gate + Sync>(
     kept: &mut Vec<Lane<P>>,
     lanes: Vec<Lane<P>>,
 ) -> Vec<Lane<P>>
-    requires ready { IsReady owner.old thief.now bags.old.items hands.old kept.old }
-    requires fresh { All (IsFresh P.calls P.refused) lanes.items }
+    requires ready { IsReadyYard owner.old thief.now bags.old.items hands.old kept.old }
+    requires fresh { All (IsNewLane P.calls P.refused) lanes.items }
     requires few { length lanes.items ≤ 64 }
-    ensures ready { IsReady owner.new thief.now bags.new.items hands.new kept.new }
+    ensures ready { IsReadyYard owner.new thief.now bags.new.items hands.new kept.new }
     ensures count { length bags.new.items ≡ length bags.old.items }
     ensures tickets { IsPermutation (map (ticket P.tie) lanes.items)
         (map (ticket P.tie) result.items) }
-    ensures ran { All (HasRun P.calls P.refused) result.items }
+    ensures ran { All (IsRunLane P.calls P.refused) result.items }
 {
     let mut lanes = lanes;
     hire_all(owner, bags, hands);
     put_in(owner, &mut lanes, kept);
     run_kept(rt, gate, kept, &mut lanes);
     work_hands(rt, gate, thief, hands);
-    take_back(owner, hands, bags, &mut lanes);
-    draw_all(rt, gate, owner, &mut lanes);
+    get_back(rt, gate, owner, hands, bags, &mut lanes);
     lanes
 }

@@ -30,10 +30,10 @@ pub struct Balance;
 
 impl<P: Port> Protocol<Lane<P>, Tally<Lane<P>>> for Balance {
     ghost use Rattle.std.specs.Prelude.{[]};
-    ghost use Rattle.tele_steal.specs.Runs.{IsFresh};
+    ghost use Rattle.tele_steal.specs.Runs.{IsNewLane};
     ghost use Rattle.tele_steal.specs.Tallies.{of_owner, of_none, Balances};
 
-    ghost holds = { Balances (IsFresh P.calls P.refused) };
+    ghost holds = { Balances (IsNewLane P.calls P.refused) };
 
     ghost first = { of_owner 0 [] [] };
 
@@ -81,10 +81,10 @@ pub(crate) struct Take<L> {
 
 impl<P: Port, L: Lesson<Lane<P>, Tally<Lane<P>>>> Outcome<Lane<P>, Tally<Lane<P>>> for Take<L> {
     ghost use Rattle.std.specs.Prelude.{[]};
-    ghost use Rattle.tele_steal.specs.Runs.{IsFresh};
+    ghost use Rattle.tele_steal.specs.Runs.{IsNewLane};
     ghost use Rattle.tele_steal.specs.Tallies.{HasTaken};
 
-    ghost then = { HasTaken (IsFresh P.calls P.refused) };
+    ghost then = { HasTaken (IsNewLane P.calls P.refused) };
 
     ghost empty = { λ v. L.fact v [] };
 }
@@ -95,10 +95,10 @@ pub(crate) struct Draw;
 impl<P: Port> Outcome<Lane<P>, Tally<Lane<P>>> for Draw {
     ghost use Rattle.std.specs.Prelude.{◌≡◌, []};
     ghost use Rattle.std.specs.List.Sorted.{IsPermutation};
-    ghost use Rattle.tele_steal.specs.Runs.{IsFresh};
+    ghost use Rattle.tele_steal.specs.Runs.{IsNewLane};
     ghost use Rattle.tele_steal.specs.Tallies.{HasDrawn};
 
-    ghost then = { HasDrawn (IsFresh P.calls P.refused) };
+    ghost then = { HasDrawn (IsNewLane P.calls P.refused) };
 
     ghost empty = { λ v. v.out ≡ 0 → IsPermutation v.put v.back };
 }

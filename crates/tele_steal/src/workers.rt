@@ -3,7 +3,7 @@ ghost use Rattle.std.specs.Prelude.{◌≡◌, ◌<◌, ◌≤◌, ℕ, List, []
 ghost use mathlib.Core.Option.{some};
 ghost use lib.ListN.{get_elem?};
 ghost use Rattle.crossbeam_deque.specs.Handles.{view, IsPassOf, SamePass, stealer_deque, stealer_flavor};
-ghost use Rattle.tele_steal.specs.Runs.{IsFresh, HasRun, ticket};
+ghost use Rattle.tele_steal.specs.Runs.{IsNewLane, IsRunLane, ticket};
 ghost use Rattle.tele_steal.specs.Tallies.{Balances, HasTaken, of_worker, taken_by};
 ghost use Rattle.tele_steal.specs.declared.tallies.Tally.{Tally};
 ghost use Rattle.tele_lanes.specs.declared.lanes.Lane.{Lane};
@@ -25,10 +25,10 @@ pub(crate) fn run_behind<R: Threads + Wait + Sync, P: Port + Send, G: Gate + Syn
     at: usize,
 )
     requires within { at ≤ length lanes.old }
-    requires fresh { All (IsFresh P.calls P.refused) (drop at lanes.old) }
+    requires fresh { All (IsNewLane P.calls P.refused) (drop at lanes.old) }
     ensures kept { take at lanes.new ≡ take at lanes.old }
     ensures tickets { map (ticket P.tie) lanes.new ≡ map (ticket P.tie) lanes.old }
-    ensures ran { All (HasRun P.calls P.refused) (drop at lanes.new) }
+    ensures ran { All (IsRunLane P.calls P.refused) (drop at lanes.new) }
 {
     let (_, behind) = lanes.split_at_mut(at);
     run_lanes(rt, gate, behind);
@@ -44,11 +44,11 @@ pub(crate) fn steal_lane<R: Wait, P: Port, L: Lesson<Lane<P>, Tally<Lane<P>>>>(
     requires first_in { stealer_flavor thief.now ≡ 0 }
     requires worker { view pass.old ≡ of_worker (view pass.old).taken }
     requires lesson { (views : List (Tally (Lane P P.Tie))) (port : ℕ) (v : Tally (Lane P P.Tie))
-        → Balances (IsFresh P.calls P.refused) [] views
+        → Balances (IsNewLane P.calls P.refused) [] views
         → get_elem? views port ≡ some v → L.fact v [] }
     ensures table { IsPassOf (stealer_deque thief.now) pass.new }
     ensures taken { IfSome result (λ l.
-        HasTaken (IsFresh P.calls P.refused) (view pass.old) (l ∷ []) (view pass.new)) }
+        HasTaken (IsNewLane P.calls P.refused) (view pass.old) (l ∷ []) (view pass.new)) }
     ensures same { IfNone result (view pass.new ≡ view pass.old) }
     ensures over { IfNone result (L.fact (view pass.new) []) }
 {
@@ -71,11 +71,11 @@ pub(crate) fn run_into<R: Threads + Wait + Sync, P: Port + Send, G: Gate + Sync>
     lane: Lane<P>,
 )
     requires room { length bag.old.items < vec_capacity bag.old }
-    requires fresh { IsFresh P.calls P.refused lane }
+    requires fresh { IsNewLane P.calls P.refused lane }
     ensures tickets { map (ticket P.tie) bag.new.items
         ≡ map (ticket P.tie) bag.old.items ++ ticket P.tie lane ∷ [] }
-    ensures ran { All (HasRun P.calls P.refused) bag.old.items
-        → All (HasRun P.calls P.refused) bag.new.items }
+    ensures ran { All (IsRunLane P.calls P.refused) bag.old.items
+        → All (IsRunLane P.calls P.refused) bag.new.items }
     ensures room { vec_capacity bag.new ≡ vec_capacity bag.old }
 {
     let at = bag.len();
@@ -99,13 +99,13 @@ pub(crate) fn work<
     requires empty { hand.old.bag.items ≡ [] }
     requires room { 64 ≤ vec_capacity hand.old.bag }
     requires lesson { (views : List (Tally (Lane P P.Tie))) (port : ℕ) (v : Tally (Lane P P.Tie))
-        → Balances (IsFresh P.calls P.refused) [] views
+        → Balances (IsNewLane P.calls P.refused) [] views
         → get_elem? views port ≡ some v → L.fact v [] }
     ensures table { IsPassOf (stealer_deque thief.now) hand.new.pass }
     ensures worker { view hand.new.pass ≡ of_worker (view hand.new.pass).taken }
     ensures tickets { map (ticket P.tie) hand.new.bag.items
         ≡ map (ticket P.tie) (view hand.new.pass).taken }
-    ensures ran { All (HasRun P.calls P.refused) hand.new.bag.items }
+    ensures ran { All (IsRunLane P.calls P.refused) hand.new.bag.items }
     ensures room { vec_capacity hand.new.bag ≡ vec_capacity hand.old.bag }
     ensures over { L.fact (view hand.new.pass) [] }
 {
@@ -134,7 +134,7 @@ fn work_off<R: Threads + Wait + Sync, P: Port + Send, G: Gate + Sync>(
     ensures worker { view hand.new.pass ≡ of_worker (view hand.new.pass).taken }
     ensures tickets { map (ticket P.tie) hand.new.bag.items
         ≡ map (ticket P.tie) (view hand.new.pass).taken }
-    ensures ran { All (HasRun P.calls P.refused) hand.new.bag.items }
+    ensures ran { All (IsRunLane P.calls P.refused) hand.new.bag.items }
     ensures room { 64 ≤ vec_capacity hand.new.bag }
 {
     work::<R, P, G, Nothing>(rt, gate, thief, hand);
@@ -157,7 +157,7 @@ pub(crate) fn work_all<R: Threads + Wait + Sync, P: Port + Send, G: Gate + Sync>
     ensures workers { All (λ h. view h.pass ≡ of_worker (taken_by (view h.pass))) hands.new }
     ensures tickets { All (λ h. map (ticket P.tie) h.bag.items
         ≡ map (ticket P.tie) (taken_by (view h.pass))) hands.new }
-    ensures ran { All (λ h. All (HasRun P.calls P.refused) h.bag.items) hands.new }
+    ensures ran { All (λ h. All (IsRunLane P.calls P.refused) h.bag.items) hands.new }
     ensures room { All (λ h. 64 ≤ vec_capacity h.bag) hands.new }
 {
     if !hands.is_empty() {
@@ -196,7 +196,7 @@ pub(crate) fn work_hands<R: Threads + Wait + Sync, P: Port + Send, G: Gate + Syn
     ensures workers { All (λ h. view h.pass ≡ of_worker (taken_by (view h.pass))) hands.new.items }
     ensures tickets { All (λ h. map (ticket P.tie) h.bag.items
         ≡ map (ticket P.tie) (taken_by (view h.pass))) hands.new.items }
-    ensures ran { All (λ h. All (HasRun P.calls P.refused) h.bag.items) hands.new.items }
+    ensures ran { All (λ h. All (IsRunLane P.calls P.refused) h.bag.items) hands.new.items }
     ensures room { All (λ h. 64 ≤ vec_capacity h.bag) hands.new.items }
     ensures seats { vec_capacity hands.new ≡ vec_capacity hands.old }
 {

@@ -25,14 +25,14 @@ pub struct Yard<P: Port> {
 
 impl<P: Port> Model for Yard<P> {
     ghost use Rattle.std.specs.Prelude.{length, ◌≤◌};
-    ghost use Rattle.tele_steal.specs.Yards.{YardRoom, IsReady};
+    ghost use Rattle.tele_steal.specs.Yards.{YardRoom, IsReadyYard};
 
     ghost Value = { YardRoom };
 
     ghost view = { λ y. record { workers = length y.bags.items; lanes = y.lanes } };
 
     ghost invariant = { λ y.
-        IsReady y.owner y.thief y.bags.items y.hands y.kept × (y.lanes ≤ 64) };
+        IsReadyYard y.owner y.thief y.bags.items y.hands y.kept × (y.lanes ≤ 64) };
 }
 
 impl<P: Port + Drop> Yard<P> {

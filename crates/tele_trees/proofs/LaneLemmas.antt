@@ -1,40 +1,14 @@
--- Lists of lanes, and how many there are. Serves `make_lanes`, `work`, `run_tree` and `run_round`.
-use Rattle.std.proofs.Common.{◌≡◌, ℕ, zero, suc, ◌+◌, ◌<◌, ◌≤◌, List, [], ◌∷◌, ◌++◌, take, drop}
-use Rattle.std.proofs.Common.{Bool, true, false, length, map, refl, sym, ap, ◌∙◌, arith, All, subst}
-use Rattle.std.proofs.lemmas.List.{append-nil, length-append, length-map, map_push}
-use Rattle.std.proofs.lemmas.List.Elements.{All-cons, All-head, All-tail}
+-- Lists of lanes. Serves `make_lanes` and `run_tree`.
+use Rattle.std.proofs.Common.{◌≡◌, ℕ, zero, suc, ◌+◌, ◌<◌, ◌≤◌, List, [], ◌∷◌, ◌++◌}
+use Rattle.std.proofs.Common.{length, map, refl, sym, ap, ◌∙◌, arith, All, subst}
+use Rattle.std.proofs.lemmas.List.{length-append, length-map, map_push}
+use Rattle.std.proofs.lemmas.List.Elements.{All-cons, All-head, All-tail, All-push}
 use mathlib.Core.List.{map-id}
 use Rattle.std.specs.List.{range_with_len}
 use Rattle.std.specs.List.Sorted.{IsStrictlyIncreasing}
+use Rattle.ist_tree.specs.Faces.{TreeFace, MakerFace}
+use Rattle.tele_trees.specs.Ends.{TreeLane, IsNew, AreMade}
 use Rattle.tele_steal.proofs.OrderLemmas.{IsStrictlyIncreasing-from_0}
-use Rattle.tele_trees.specs.Counts.{lane_count}
-
-module _ {L : Type 0} where
-  -- nothing is left after dropping as many as there are
-  drop_whole : (n : ℕ) (xs : List L) → length xs ≤ n → drop n xs ≡ []
-  drop_whole zero [] le = refl
-  drop_whole (suc n) [] le = refl
-  drop_whole zero (x ∷ xs) le = absurd (omega arith)
-  drop_whole (suc n) (x ∷ xs) le = drop_whole n xs (omega arith)
-
-  -- taking as many as there are takes all
-  take_whole : (n : ℕ) (xs : List L) → length xs ≤ n → take n xs ≡ xs
-  take_whole zero [] le = refl
-  take_whole (suc n) [] le = refl
-  take_whole zero (x ∷ xs) le = absurd (omega arith)
-  take_whole (suc n) (x ∷ xs) le = ap (λ ys. x ∷ ys) (take_whole n xs (omega arith))
-
-  -- what a vector has after a write to all of it
-  pub put_back : (n : ℕ) (new old : List L) → n ≡ length old → length new ≡ length old
-      → take n (new ++ drop (length new) old) ≡ new
-  put_back n new old long same =
-      ap (λ xs. take n (new ++ xs)) (drop_whole (length new) old (omega arith))
-      ∙ ap (take n) (append-nil new) ∙ take_whole n new (omega arith)
-
--- lists with the same images have one length
-pub same_length : {A B : Type 0} (f : A → B) (xs ys : List A) → map f xs ≡ map f ys
-    → length xs ≡ length ys
-same_length f xs ys e = sym (length-map xs f) ∙ ap length e ∙ length-map ys f
 
 -- what holds of each image of one list holds of the same images of another
 pub all_same : {A B : Type 0} (P : B → Type 0) (f : A → B) (xs ys : List A) → map f xs ≡ map f ys
@@ -91,7 +65,21 @@ pub numbers_rise : (ns : List ℕ) (n : ℕ) → ns ≡ range_with_len 0 n → I
 numbers_rise ns n e = subst IsStrictlyIncreasing
     (map-id (range_with_len 0 n) ∙ sym e) (IsStrictlyIncreasing-from_0 n)
 
--- there is a lane if there is a worker
-pub some_lanes : (workers : ℕ) (steal : Bool) → 1 ≤ workers → 1 ≤ lane_count workers steal
-some_lanes workers true some = omega arith
-some_lanes workers false some = some
+-- one more lane was made, with the next number and the next pass
+pub one_made : (tree : TreeFace) (before maker next : MakerFace) (lanes : List TreeLane)
+    (lane : TreeLane) → AreMade tree before maker lanes → lane.number ≡ length lanes → IsNew lane
+    → lane.port.pass.tree ≡ tree → lane.port.pass.number ≡ maker.made → next.tree ≡ maker.tree
+    → next.made ≡ maker.made + 1 → next.taken ≡ maker.taken
+    → AreMade tree before next (lanes ++ lane ∷ [])
+one_made tree before maker next lanes lane m number new its_tree pass same made taken = record {
+  lane_numbers = numbers_push (λ (l : TreeLane). l.number) lanes lane m.lane_numbers number;
+  fresh = All-push IsNew lanes lane m.fresh new;
+  trees = All-push (λ (l : TreeLane). l.port.pass.tree ≡ tree) lanes lane m.trees its_tree;
+  numbers = numbers_push (λ (l : TreeLane). l.port.pass.number) lanes lane m.numbers
+      (pass ∙ m.made);
+  same_tree = same ∙ m.same_tree;
+  made = let more = length-append lanes (lane ∷ []) in
+      let was = m.made in
+      omega (arith, more, was, made);
+  taken = taken ∙ m.taken;
+}

@@ -35,9 +35,9 @@ use Rattle.tele_rounds.specs.Runs.{LaneRun, HasRun, LanesRan, AreWhole, told_of_
 use Rattle.tele_generations.specs.Generations.{RanFull, MayAsk, may_want_words}
 use Rattle.tele_generations.specs.Generations.{puts_done}
 use Rattle.tele_generations.specs.Tables.{RanOnTable, EndedWith}
-use Rattle.tele_trees.specs.Ends.{LaneEnd, run_of, HasEnded, CameTo}
+use Rattle.tele_trees.specs.Ends.{TreeLane, run_of, HasEnded, CameTo}
 use Rattle.tele_trees.proofs.NumberLemmas.{calls_in_order}
-use Rattle.tele_trees.proofs.PutLemmas.{puts_few, puts_rise, called_puts, called_puts-done}
+use Rattle.tele_trees.proofs.PutLemmas.{puts_few, puts_rise, has_run, called_puts, called_puts-done}
 use Rattle.tele_trees.proofs.LogLemmas.{spent_rise, word_there}
 use Rattle.tele_trees.proofs.RefusalLemmas.{none_stopped, one_stopped, refused_with, task_there}
 
@@ -48,7 +48,7 @@ wants_words (Remove key) other = refl
 wants_words (Get key) other = absurd (other key refl)
 
 -- a lane that didn't stop answered all
-whole_of : (e : LaneEnd) → HasEnded e → e.stopped ≡ None → length (run_of e).told ≡ length e.tasks
+whole_of : (e : TreeLane) → HasEnded e → e.stopped ≡ None → length (run_of e).told ≡ length e.tasks
 whole_of e h none = subst (λ o. IfNone o (length (run_of e).told ≡ length e.tasks)) none h.whole
 
 -- the image of an element is one of the images
@@ -103,7 +103,7 @@ module _ (workers words : ℕ) (pairs : List Pair) (tasks : List Task) (tree : T
   told_are : told_to maker ≡ told_of_runs runs
   told_are =
       ap (map (map told_by_call)) calls_are
-      ∙ map-map (map told_by_call) (λ (e : LaneEnd). e.port.pass.calls) came.ends
+      ∙ map-map (map told_by_call) (λ (e : TreeLane). e.port.pass.calls) came.ends
       ∙ sym (map-map (λ (r : LaneRun). r.told) run_of came.ends)
 
   -- the words stand for the pairs and for what the lanes were told
@@ -117,7 +117,7 @@ module _ (workers words : ℕ) (pairs : List Pair) (tasks : List Task) (tree : T
   lanes_are =
       record {
         lanes = map-map (λ (r : LaneRun). r.tasks) run_of came.ends ∙ came.lanes;
-        ran = All-map HasRun run_of came.ends (λ k d lt. (came.ran k d lt).run);
+        ran = All-map HasRun run_of came.ends (λ k d lt. has_run _ (came.ran k d lt));
       }
 
   -- if no lane stopped, each answered all
@@ -142,11 +142,11 @@ module _ (workers words : ℕ) (pairs : List Pair) (tasks : List Task) (tree : T
       omega arith
 
   -- a lane that its port refused
-  module _ (e : LaneEnd) (is_end : Contains came.ends e) (r : Refused)
+  module _ (e : TreeLane) (is_end : Contains came.ends e) (r : Refused)
       (was : e.port.refused ≡ Some r) where
     -- its pass is of the tree
     its_tree : e.port.pass.tree ≡ maker.tree
-    its_tree = All-contains (λ (x : LaneEnd). x.port.pass.tree ≡ tree) came.ends e came.trees is_end
+    its_tree = All-contains (λ (x : TreeLane). x.port.pass.tree ≡ tree) came.ends e came.trees is_end
         ∙ sym came.same_tree
 
     its_words : e.port.pass.tree.words ≡ length table
@@ -158,13 +158,13 @@ module _ (workers words : ℕ) (pairs : List Pair) (tasks : List Task) (tree : T
     -- why it was refused
     cause : WasRefused e.port.pass r
     cause = subst (λ o. IfSome o (WasRefused e.port.pass)) was
-        (All-contains (λ (x : LaneEnd). IfSome x.port.refused (WasRefused x.port.pass)) came.ends e
+        (All-contains (λ (x : TreeLane). IfSome x.port.refused (WasRefused x.port.pass)) came.ends e
         came.causes is_end)
 
     -- what its pass had seen is a prefix of the log
     seen : GoesOn e.port.pass.seen log
     seen = on_trans _ _ _
-        (All-contains (λ (x : LaneEnd). GoesOn x.port.pass.seen maker.seen) came.ends e came.seen
+        (All-contains (λ (x : TreeLane). GoesOn x.port.pass.seen maker.seen) came.ends e came.seen
         is_end) closes.goes_on
 
     -- at most as many words were spent then as in the end
@@ -203,10 +203,10 @@ module _ (workers words : ℕ) (pairs : List Pair) (tasks : List Task) (tree : T
         let ended = All-contains HasEnded came.ends e came.ran is_end in
         let refused = subst (λ o. IfSome o (λ x. slice_get (commands_of e.tasks)
         (length (run_of e).told) ≡ Some x.command)) was ended.refused in
-        let answered : length (run_of e).told ≡ length e.answers
-        = sym (length-map (run_of e).told (λ t. t.reply)) ∙ sym (ap length ended.run.replies)
-        ∙ length-map e.answers (λ a. a.reply) in
-        let next = task_there e.tasks (length e.answers) r.command
+        let answered : length (run_of e).told ≡ length e.answers.list
+        = sym (length-map (run_of e).told (λ t. t.reply)) ∙ sym (ap length ended.replies)
+        ∙ length-map e.answers.list (λ a. a.reply) in
+        let next = task_there e.tasks (length e.answers.list) r.command
         (subst (λ n. slice_get (commands_of e.tasks) n ≡ Some r.command) answered refused) in
         let few = cause.few.small in
         let its = its_words in

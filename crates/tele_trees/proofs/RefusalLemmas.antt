@@ -8,10 +8,10 @@ use Rattle.ist_core.specs.Replies.{Refused}
 use Rattle.tele_lanes.specs.declared.task_lists.Task.{Task}
 use Rattle.tele_lanes.specs.Lines.{commands_of}
 use Rattle.tele_lanes.specs.Lanes.{first_refusal}
-use Rattle.tele_trees.specs.Ends.{LaneEnd}
+use Rattle.tele_trees.specs.Ends.{TreeLane}
 
 -- if there is no refusal, no lane stopped
-pub none_stopped : (ends : List LaneEnd) → first_refusal (map (λ e. e.stopped) ends) ≡ None
+pub none_stopped : (ends : List TreeLane) → first_refusal (map (λ e. e.stopped) ends) ≡ None
     → All (λ e. e.stopped ≡ None) ends
 none_stopped [] h = λ k d lt. absurd (omega arith)
 none_stopped (e ∷ ends) h = at e.stopped refl h (none_stopped ends)
@@ -20,21 +20,21 @@ none_stopped (e ∷ ends) h = at e.stopped refl h (none_stopped ends)
         → first_refusal (o ∷ map (λ x. x.stopped) ends) ≡ None
         → (first_refusal (map (λ x. x.stopped) ends) ≡ None → All (λ x. x.stopped ≡ None) ends)
         → All (λ x. x.stopped ≡ None) (e ∷ ends)
-    at None is rest more = All-cons (λ (x : LaneEnd). x.stopped ≡ None) e ends is (more rest)
+    at None is rest more = All-cons (λ (x : TreeLane). x.stopped ≡ None) e ends is (more rest)
     at (Some full) is rest more = absurd (cc)
 
 -- if there is one, a lane stopped with it
-pub one_stopped : (ends : List LaneEnd) (full : Full)
+pub one_stopped : (ends : List TreeLane) (full : Full)
     → first_refusal (map (λ e. e.stopped) ends) ≡ Some full
-    → (e : LaneEnd) × Contains ends e × (e.stopped ≡ Some full)
+    → (e : TreeLane) × Contains ends e × (e.stopped ≡ Some full)
 one_stopped [] full h = absurd (cc)
 one_stopped (e ∷ ends) full h = at e.stopped refl h (one_stopped ends full)
   where
     at : (o : Option Full) → e.stopped ≡ o
         → first_refusal (o ∷ map (λ x. x.stopped) ends) ≡ Some full
         → (first_refusal (map (λ x. x.stopped) ends) ≡ Some full
-        → (x : LaneEnd) × Contains ends x × (x.stopped ≡ Some full))
-        → (x : LaneEnd) × Contains (e ∷ ends) x × (x.stopped ≡ Some full)
+        → (x : TreeLane) × Contains ends x × (x.stopped ≡ Some full))
+        → (x : TreeLane) × Contains (e ∷ ends) x × (x.stopped ≡ Some full)
     at None is rest more =
         let it = more rest in
         let place = it.1 in

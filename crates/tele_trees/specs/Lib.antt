@@ -1,4 +1,2 @@
--- what the public contracts rest on
-pub mod Counts
--- what the functions inside this crate promise each other
+-- what the functions of this crate promise each other
 pub mod Ends

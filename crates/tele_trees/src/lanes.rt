@@ -1,13 +1,12 @@
 //! The lanes of one tree: making them, gathering their answers, and taking their passes back.
-ghost use Rattle.std.specs.Prelude.{◌≡◌, ◌+◌, ◌++◌, ◌<◌, ◌≤◌, [], ◌∷◌, length, map, All};
-ghost use Rattle.std.specs.Prelude.{IfOk, IfSome, None};
-ghost use Rattle.std.specs.List.{range_with_len};
+ghost use Rattle.std.specs.Prelude.{◌≡◌, ◌+◌, ◌++◌, ◌<◌, ◌≤◌, ◌∷◌, map, All, IfOk, IfSome};
 ghost use Rattle.ist_core.specs.Logs.{GoesOn};
 ghost use Rattle.ist_tree.specs.Faces.{calls_in};
 ghost use Rattle.ist_tree.specs.Refusals.{WasRefused};
 ghost use Rattle.tele_lanes.specs.Lines.{AnswerInOrder};
 ghost use Rattle.tele_lanes.specs.Lanes.{all_lane_tasks, HaveOwnLines, unanswered, first_refusal};
 ghost use Rattle.tele_lanes.specs.Lanes.{InLineOrder, TasksInLineOrder};
+ghost use Rattle.tele_trees.specs.Ends.{AreMade, IsNew};
 
 use crate::runs::Came;
 use ist_tree::{Maker, Tree, TreePort};
@@ -27,20 +26,9 @@ pub(crate) fn make_lanes<'a>(
     requires no_passes { maker.old.made ≡ 0 }
     requires some { 1 ≤ count }
     requires at_most { count ≤ 64 }
-    ensures lane_numbers { IfOk result (λ v.
-        map (λ l. l.number) v.items ≡ range_with_len 0 count) }
     ensures tasks { IfOk result (λ v.
         map (λ l. l.tasks) v.items ≡ all_lane_tasks count tasks.now) }
-    ensures empty { IfOk result (λ v. All (λ l. l.answers.list ≡ []) v.items) }
-    ensures room { IfOk result (λ v. All (λ l. length l.tasks ≤ l.answers.room) v.items) }
-    ensures no_calls { IfOk result (λ v. All (λ l. l.port.pass.calls ≡ []) v.items) }
-    ensures unrefused { IfOk result (λ v. All (λ l. l.port.refused ≡ None) v.items) }
-    ensures trees { IfOk result (λ v. All (λ l. l.port.pass.tree ≡ tree.now) v.items) }
-    ensures numbers { IfOk result (λ v.
-        map (λ l. l.port.pass.number) v.items ≡ range_with_len 0 count) }
-    ensures same_tree { maker.new.tree ≡ maker.old.tree }
-    ensures made { IfOk result (λ v. maker.new.made ≡ count) }
-    ensures taken { maker.new.taken ≡ maker.old.taken }
+    ensures made { IfOk result (λ v. AreMade tree.now maker.old maker.new v.items) }
 {
     let parts = split(alloc, tasks, count)?;
     let mut lanes = Vec::new(alloc);
@@ -63,10 +51,7 @@ fn make_lane<'a>(
     requires few { maker.old.made < 64 }
     ensures lane_number { IfOk result (λ l. l.number ≡ number) }
     ensures tasks { IfOk result (λ l. l.tasks ≡ tasks) }
-    ensures empty { IfOk result (λ l. l.answers.list ≡ []) }
-    ensures room { IfOk result (λ l. length l.tasks ≤ l.answers.room) }
-    ensures no_calls { IfOk result (λ l. l.port.pass.calls ≡ []) }
-    ensures unrefused { IfOk result (λ l. l.port.refused ≡ None) }
+    ensures fresh { IfOk result IsNew }
     ensures tree { IfOk result (λ l. l.port.pass.tree ≡ tree.now) }
     ensures number { IfOk result (λ l. l.port.pass.number ≡ maker.old.made) }
     ensures same_tree { maker.new.tree ≡ maker.old.tree }

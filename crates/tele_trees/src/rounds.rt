@@ -1,14 +1,16 @@
 //! A round of tasks on trees, in as many generations as it needs.
 ghost use Rattle.std.specs.Prelude.{◌≡◌, ◌+◌, ◌≤◌, ◌^◌, All, IfOk, length};
 ghost use Rattle.std.specs.List.Sorted.{IsStrictlyIncreasing};
+ghost use Rattle.ist_core.specs.Lawful.{CanOpen};
 ghost use Rattle.ist_core.specs.Map.{map_of};
 ghost use Rattle.tele_lanes.specs.Lines.{task_lines};
 ghost use Rattle.tele_lanes.specs.Lanes.{ArePlainAnswers};
 ghost use Rattle.plain_map.specs.Rising.{IsRising};
+ghost use Rattle.tele_generations.specs.Counts.{lane_count};
 ghost use Rattle.tele_generations.specs.Sizes.{first_words};
 ghost use Rattle.tele_generations.specs.Generations.{MayAsk};
+ghost use Rattle.tele_generations.specs.Tables.{RanOnTable};
 ghost use Rattle.tele_generations.specs.Rounds.{RanInGenerations, EndsTheRound};
-ghost use Rattle.tele_trees.specs.Counts.{lane_count};
 
 use crate::tables::TreeTables;
 use ist_core::Pair;
@@ -16,31 +18,29 @@ use ist_rest::Closed;
 use std::alloc::{AllocError, Global};
 use std::sync::Wait;
 use std::thread::Threads;
-use tele_generations::{Generation, Round, Shelf, Turn, begin, finish, go_on};
+use tele_generations::{Generation, Round, Shelf, Turn, Way, begin, finish, go_on};
 use tele_lanes::{Gate, Task};
 
 /// Runs the tasks over these pairs until all are answered, one generation after another, each on a
 /// tree.
 ///
 /// A tree that ran full is put on the shelf and followed by a tree of at least twice its words. If
-/// it answered nothing, one thread answers the open task of the lowest line from the pairs at rest.
-/// `words` bounds the first tree, unless the pairs need more. If memory runs out, the shelf may
-/// have been given trees of this call.
+/// it answered nothing, one thread answers the open task of the lowest line from the pairs at
+/// rest. `words` bounds the first tree, unless the pairs need more. If memory runs out, the shelf
+/// may have been given trees of this call.
 ///
 /// The lines of a tree are split into one lane per worker. With `steal` they are split by their
 /// timestamps into `STOLEN_LANES` lanes, which the workers steal from one another.
 pub fn run_round<R: Threads + Wait + Sync, G: Gate + Sync, H: Shelf<Closed>>(
-    rt: &R,
-    gate: &G,
-    alloc: Global,
-    tables: &mut TreeTables,
+    tables: &mut TreeTables<'_, R, G>,
     shelf: &mut H,
+    alloc: Global,
     pairs: &[Pair],
     tasks: &[Task],
     workers: u32,
     words: u32,
     steal: bool,
-) -> Result<Round<Closed>, AllocError>
+) -> Result<Round, AllocError>
     requires keys { IsRising pairs.now }
     requires lines { IsStrictlyIncreasing (task_lines tasks.now) }
     requires few { length pairs.now + length tasks.now ≤ 2 ^ 24 }
@@ -54,8 +54,7 @@ pub fn run_round<R: Threads + Wait + Sync, G: Gate + Sync, H: Shelf<Closed>>(
         ArePlainAnswers (map_of pairs.now) tasks.now r.answers.list) }
 
     // The trees, and why each but the last was followed by another.
-    ensures generations { IfOk result (λ r. RanInGenerations (λ table. table)
-        (lane_count workers steal)
+    ensures generations { IfOk result (λ r. RanInGenerations (lane_count workers steal)
         (first_words words workers (length pairs.now) (length tasks.now))
         pairs.now tasks.now (H.kept shelf.old) (H.kept shelf.new) r.closed r.fulls) }
     ensures closed { IfOk result (λ r.
@@ -67,9 +66,7 @@ pub fn run_round<R: Threads + Wait + Sync, G: Gate + Sync, H: Shelf<Closed>>(
 {
     let mut way = begin(alloc, pairs, tasks, workers, words)?;
     loop {
-        let made = tables.run(
-            rt, gate, alloc, &way.pairs, &way.left, workers, way.words, steal,
-        )?;
+        let made = run_next(tables, &way, workers, steal)?;
         let Generation {
             answers,
             left,
@@ -79,7 +76,7 @@ pub fn run_round<R: Threads + Wait + Sync, G: Gate + Sync, H: Shelf<Closed>>(
         let Some(full) = full else {
             return finish(way, &answers, closed);
         };
-        let pairs = tables.pairs(alloc, &closed)?;
+        let pairs = closed.pairs(alloc)?;
         shelf.keep(closed);
         let turn = Turn {
             answers,
@@ -88,4 +85,21 @@ pub fn run_round<R: Threads + Wait + Sync, G: Gate + Sync, H: Shelf<Closed>>(
         };
         way = go_on(way, turn, full)?;
     }
+}
+
+// Runs what is left on the next table.
+fn run_next<R: Threads + Wait + Sync, G: Gate + Sync>(
+    tables: &mut TreeTables<'_, R, G>,
+    way: &Way,
+    workers: u32,
+    steal: bool,
+) -> Result<Generation, AllocError>
+    requires opens { CanOpen way.now.pairs.items way.now.words }
+    requires rising { IsStrictlyIncreasing (task_lines way.now.left.items) }
+    requires some { 1 ≤ workers }
+    requires at_most { workers ≤ 64 }
+    ensures ran { IfOk result (λ g. RanOnTable (lane_count workers steal) way.now.words
+        way.now.pairs.items way.now.left.items g.closed g.answers.items g.left.items g.full) }
+{
+    tables.run(&way.pairs, &way.left, workers, way.words, steal)
 }

@@ -2,18 +2,18 @@
 ghost use Rattle.std.specs.Prelude.{◌≡◌, ◌≤◌, [], IfOk};
 ghost use Rattle.std.specs.List.Sorted.{IsStrictlyIncreasing};
 ghost use Rattle.tele_lanes.specs.Lines.{task_lines};
-ghost use Rattle.tele_trees.specs.Counts.{lane_count};
+ghost use Rattle.tele_generations.specs.Counts.{lane_count};
 ghost use Rattle.tele_trees.specs.Ends.{CameTo};
 
-use crate::counts::lane_count;
 use crate::lanes::{gather_all, make_lanes, take_all_back};
-use crate::working::work;
 use ist_core::Full;
 use ist_tree::{Maker, Tree};
 use std::alloc::{AllocError, Global};
 use std::sync::Wait;
 use std::thread::Threads;
+use tele_generations::lane_count;
 use tele_lanes::{Answer, Gate, Task};
+use tele_steal::run_team;
 
 // What the lanes answered and left, and the refusal of the lowest lane that stopped.
 #[derive(Drop)]
@@ -45,7 +45,7 @@ pub(crate) fn run_tree<R: Threads + Wait + Sync, G: Gate + Sync>(
         c.full) }
 {
     let fresh = make_lanes(alloc, tree, maker, tasks, lane_count(workers, steal))?;
-    let lanes = work(rt, gate, alloc, fresh, workers, steal)?;
+    let lanes = run_team(rt, gate, alloc, fresh, workers, steal)?;
     let came = gather_all(alloc, &lanes);
     take_all_back(tree, maker, lanes);
     came

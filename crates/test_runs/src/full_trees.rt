@@ -52,15 +52,14 @@ struct Seen {
 // tree the last.
 fn see(
     alloc: Global,
-    tables: &TreeTables,
     shelf: &Kept<Closed>,
-    round: &Round<Closed>,
+    round: &Round,
     pairs: (&[Pair], &[Pair]),
 ) -> Result<Seen, AllocError> {
     let fulls = round.fulls.as_slice();
     let answers = round.answers.as_slice();
     let first = has_pairs(alloc, shelf.get(0), pairs.0)?;
-    let last = tables.pairs(alloc, &round.closed)?;
+    let last = round.closed.pairs(alloc)?;
     Ok(Seen {
         fulls: (fulls.len(), fulls.first().copied()),
         answers: (answers.len(), answers.last().copied()),
@@ -72,9 +71,8 @@ fn see(
 
 // Runs a round by one worker, whose first tree has 64 words at most.
 fn see_round<R: Threads + Wait + Sync>(
-    rt: &R,
     alloc: Global,
-    tables: &mut TreeTables,
+    tables: &mut TreeTables<'_, R, NoGate>,
     shelf: &mut Kept<Closed>,
     pairs: &[Pair],
     tasks: &[Task],
@@ -84,10 +82,8 @@ fn see_round<R: Threads + Wait + Sync>(
     requires lines { IsStrictlyIncreasing (task_lines tasks.now) }
     requires few { length pairs.now + length tasks.now ≤ 2 ^ 24 }
 {
-    let round = run_round(
-        rt, &NoGate, alloc, tables, shelf, pairs, tasks, 1, 64, false,
-    )?;
-    see(alloc, tables, shelf, &round, kept)
+    let round = run_round(tables, shelf, alloc, pairs, tasks, 1, 64, false)?;
+    see(alloc, shelf, &round, kept)
 }
 
 // Does the same with a new shelf.
@@ -102,9 +98,9 @@ fn see_small<R: Threads + Wait + Sync>(
     requires lines { IsStrictlyIncreasing (task_lines tasks.now) }
     requires few { length pairs.now + length tasks.now ≤ 2 ^ 24 }
 {
-    let mut tables = TreeTables::new(alloc);
+    let mut tables = TreeTables::new(rt, &NoGate, alloc);
     let mut shelf = Kept::new();
-    see_round(rt, alloc, &mut tables, &mut shelf, pairs, tasks, kept)
+    see_round(alloc, &mut tables, &mut shelf, pairs, tasks, kept)
 }
 
 #[test]

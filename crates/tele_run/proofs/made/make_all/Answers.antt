@@ -2,8 +2,8 @@ use Rattle.std.proofs.Common.{◌≡◌, ℕ, inl, inr, arith, sym, subst}
 use Rattle.tele_io.specs.Bytes.{AppendsPart}
 use Rattle.tele_io.proofs.AppendsLemmas.{AppendsPart-nothing}
 use Rattle.tele_made.specs.Summaries.{summary_of, summary_text}
-use Rattle.tele_run.specs.Causes.{IsCutShort}
-use Rattle.tele_run.specs.declared.outcomes.TheConstants.{ANSWERED}
+use Rattle.tele_jobs.specs.Causes.{IsCutShort}
+use Rattle.tele_jobs.specs.declared.outcomes.TheConstants.{ANSWERED}
 use Rattle.tele_run.proofs.made.make_all.Goals as goal
 use Rattle.tele_run.proofs.made.make_all.Goals.{in-Ok+in-Ok-end_with_summary, in-Ok+in-Err-end_with_summary, in-Err}
 
@@ -22,7 +22,8 @@ returns-clause-part g c cut =
       | in-Ok+in-Ok-end_with_summary w ↦ absurd (not_cut _ w.status-is was_cut)
       | in-Ok+in-Err-end_with_summary w ↦
           subst (λ out. AppendsPart before (g.O.Sink.written out) text) (sym w.out-is)
-          (subst (λ s. AppendsPart before (g.O.Sink.written w.end_with_summary.new.out) (summary_text s))
+          (subst (λ s. AppendsPart before (g.O.Sink.written w.end_with_summary.new.out)
+          (summary_text s))
           w.in-Ok.ensures.value w.in-Err-end_with_summary.ensures.part)
       | in-Err w ↦
           subst (λ out. AppendsPart before (g.O.Sink.written out) text) (sym w.out-is)

@@ -1,9 +1,9 @@
 use Rattle.std.proofs.Common.{ap, ◌∙◌, subst}
 use Rattle.tele_io.specs.Bytes.{Appends, AppendsPart}
 use Rattle.tele_io.proofs.AppendsLemmas.{AppendsPart-nothing}
-use Rattle.tele_run.specs.Open.{answers_text, map_in}
-use Rattle.tele_run.proofs.AnswerLemmas.{text-answered}
-use Rattle.tele_run.proofs.StepLemmas.{at_ok, on_ok, on_err}
+use Rattle.tele_jobs.specs.Open.{answers_text, map_in}
+use Rattle.tele_jobs.proofs.AnswerLemmas.{text-answered}
+use Rattle.tele_jobs.proofs.StepLemmas.{at_ok, on_ok, on_err}
 use Rattle.tele_run.proofs.steps.answer.Goals as goal
 
 -- the text of the answers is the text of the lines
@@ -13,9 +13,11 @@ returns-in-Ok-clause-printed g c =
     let tasks = c.args.round.now.tasks in
     let answers = c.close.new.round.answers in
     let text = ap (answers_text version) c.answers.ensures.value
-    ∙ text-answered version (map_in c.args.round.now) tasks answers c.in-Ok.ensures.closed.answered in
+    ∙ text-answered version (map_in c.args.round.now) tasks answers c.in-Ok.ensures.closed.answered
+    in
     on_ok c.print_answers.result c.print_answers.ensures.printed
-    (subst (Appends (g.O.Sink.written c.args.out.now) (g.O.Sink.written c.print_answers.new.out)) text)
+    (subst (Appends (g.O.Sink.written c.args.out.now) (g.O.Sink.written c.print_answers.new.out))
+    text)
 
 pub returns-in-Ok-clause-part : goal.returns-in-Ok-clause-part
 returns-in-Ok-clause-part g c =
@@ -23,9 +25,11 @@ returns-in-Ok-clause-part g c =
     let tasks = c.args.round.now.tasks in
     let answers = c.close.new.round.answers in
     let text = ap (answers_text version) c.answers.ensures.value
-    ∙ text-answered version (map_in c.args.round.now) tasks answers c.in-Ok.ensures.closed.answered in
+    ∙ text-answered version (map_in c.args.round.now) tasks answers c.in-Ok.ensures.closed.answered
+    in
     on_err c.print_answers.result c.print_answers.ensures.part
-    (subst (AppendsPart (g.O.Sink.written c.args.out.now) (g.O.Sink.written c.print_answers.new.out)) text)
+    (subst (AppendsPart (g.O.Sink.written c.args.out.now) (g.O.Sink.written
+    c.print_answers.new.out)) text)
 
 -- the round was closed, whether its answers are printed or not
 pub returns-in-Ok-clause-behind : goal.returns-in-Ok-clause-behind

@@ -1,11 +1,12 @@
-use Rattle.tele_run.proofs.StepLemmas.{at_ok, at_refusal}
-use Rattle.tele_run.proofs.PassLemmas.{whole_passed, part_passed}
+use Rattle.tele_jobs.proofs.StepLemmas.{at_ok, at_refusal}
+use Rattle.tele_jobs.proofs.PassLemmas.{whole_passed, part_passed}
 use Rattle.tele_run.proofs.steps.end_round.Goals as goal
 
 -- what was printed stays taken, whether it is passed on or not
 pub returns-clause-printed : goal.returns-clause-printed
 returns-clause-printed g c =
-    at_ok c.pass_on.result (whole_passed _ _ _ _ c.in_ok-answer.ensures.printed c.pass_on.ensures.same)
+    at_ok c.pass_on.result (whole_passed _ _ _ _ c.in_ok-answer.ensures.printed
+    c.pass_on.ensures.same)
 
 pub returns-clause-part : goal.returns-clause-part
 returns-clause-part g c =
@@ -14,4 +15,5 @@ returns-clause-part g c =
 
 -- if printing fails, a part was printed
 pub returns-in_err-answer-clause-part : goal.returns-in_err-answer-clause-part
-returns-in_err-answer-clause-part g c = at_refusal c.from_residual.result c.in_err-answer.ensures.part
+returns-in_err-answer-clause-part g c =
+    at_refusal c.from_residual.result c.in_err-answer.ensures.part

@@ -1,6 +1,6 @@
 use Rattle.std.proofs.Common.{[], ◌∷◌, length, ap, ◌∙◌, arith, rules, length-append}
 use Rattle.std.proofs.lemmas.List.Elements.{All-head}
-use Rattle.tele_steal.specs.Runs.{IsFresh, ticket}
+use Rattle.tele_steal.specs.Runs.{IsNewLane, ticket}
 use Rattle.tele_steal.proofs.OwnerLemmas.{is_owners, draw_step}
 use Rattle.tele_steal.proofs.RunLemmas.{behind, same_length}
 use Rattle.tele_steal.proofs.collecting.draw_all.Goals as goal
@@ -12,7 +12,7 @@ draw-requires-clause-owner g c = is_owners _ _ _ _ c.loop.invariant.owner
 -- the lane wasn't run
 pub run_into-requires-clause-fresh : goal.run_into-requires-clause-fresh
 run_into-requires-clause-fresh g c κs within =
-    All-head (IsFresh g.P.Port.calls g.P.Port.refused) _ [] c.in-Some-draw.ensures.drawn.fit
+    All-head (IsNewLane g.P.Port.calls g.P.Port.refused) _ [] c.in-Some-draw.ensures.drawn.fit
 
 -- there is room
 pub run_into-requires-clause-room : goal.run_into-requires-clause-room

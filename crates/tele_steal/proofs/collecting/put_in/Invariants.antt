@@ -1,6 +1,6 @@
 use Rattle.std.proofs.Common.{◌≡◌, ◌+◌, ◌≤◌, ◌++◌, All, length, vec_capacity, IsPermutation}
 use Rattle.crossbeam_deque.specs.Handles.{SameWorker, worker_view}
-use Rattle.tele_steal.specs.Runs.{IsFresh}
+use Rattle.tele_steal.specs.Runs.{IsNewLane}
 use Rattle.tele_steal.specs.Tallies.{of_owner}
 use Rattle.tele_steal.proofs.collecting.put_in.Given as goal
 
@@ -11,8 +11,8 @@ invariant-loop-lane g l = record {
       (worker_view l.initial.owner).back;
   shared : IsPermutation ((worker_view l.initial.owner).put ++ l.initial.lanes.items)
       (((worker_view l.owner).put ++ l.kept.items) ++ l.lanes.items);
-  fresh : All (IsFresh g.P.Port.calls g.P.Port.refused) l.lanes.items;
-  kept_fresh : All (IsFresh g.P.Port.calls g.P.Port.refused) l.kept.items;
+  fresh : All (IsNewLane g.P.Port.calls g.P.Port.refused) l.lanes.items;
+  kept_fresh : All (IsNewLane g.P.Port.calls g.P.Port.refused) l.kept.items;
   lane_room : vec_capacity l.lanes ≡ vec_capacity l.initial.lanes;
   room : vec_capacity l.kept ≡ vec_capacity l.initial.kept;
   few : length (worker_view l.owner).put + length l.lanes.items ≤ 64;

@@ -2,7 +2,7 @@ use Rattle.std.proofs.Common.{[], ◌∷◌, ◌++◌, All, IsPermutation, sym, 
 use Rattle.std.proofs.lemmas.List.Elements.{All-push}
 use Rattle.std.proofs.lemmas.List.Sorted.{IsPermutation-refl}
 use Rattle.crossbeam_deque.specs.Handles.{worker_view}
-use Rattle.tele_steal.specs.Runs.{IsFresh}
+use Rattle.tele_steal.specs.Runs.{IsNewLane}
 use Rattle.tele_steal.proofs.ShuffleLemmas.{joins_first}
 use Rattle.tele_steal.proofs.collecting.put_or_keep.Goals as goal
 
@@ -19,7 +19,7 @@ returns-in-None-clause-shared g c =
 -- the lane that is kept wasn't run
 pub returns-in-Some-clause-fresh : goal.returns-in-Some-clause-fresh
 returns-in-Some-clause-fresh g c before =
-    let Fresh = IsFresh g.P.Port.calls g.P.Port.refused in
+    let Fresh = IsNewLane g.P.Port.calls g.P.Port.refused in
     subst (All Fresh) (sym c.push_reserved.ensures.items)
     (All-push Fresh c.args.kept.now.items c.in-Some.lane before
     (subst Fresh (sym c.in-Some.ensures.refused) c.requires.fresh))

@@ -1,12 +1,12 @@
 use Rattle.std.proofs.Common.{[], ◌∷◌, map, ◌∙◌, arith}
-use Rattle.tele_steal.specs.Runs.{IsFresh, ticket}
+use Rattle.tele_steal.specs.Runs.{IsNewLane, ticket}
 use Rattle.tele_steal.proofs.RunLemmas.{All-rest, All-last, length_more, same_length, run_step}
 use Rattle.tele_steal.proofs.collecting.run_kept.Goals as goal
 
 -- the last lane wasn't run
 pub run_into-requires-clause-fresh : goal.run_into-requires-clause-fresh
 run_into-requires-clause-fresh g c κs within =
-    All-last (IsFresh g.P.Port.calls g.P.Port.refused) _ _ _ c.in-Some.ensures.items
+    All-last (IsNewLane g.P.Port.calls g.P.Port.refused) _ _ _ c.in-Some.ensures.items
     c.loop-lane.invariant.fresh
 
 -- one more kept lane was run
@@ -23,7 +23,7 @@ loop-lane-preserved g c =
       tickets = run_step t (map t c.args.kept.now.items) c.loop-lane.lanes.items
           c.run_into.new.bag.items
           c.loop-lane.kept.items c.pop.new.self.items c.in-Some.lane old.tickets popped now.tickets;
-      fresh = All-rest (IsFresh g.P.Port.calls g.P.Port.refused) _ _ _ popped old.fresh;
+      fresh = All-rest (IsNewLane g.P.Port.calls g.P.Port.refused) _ _ _ popped old.fresh;
       ran = now.ran old.ran;
       few = omega (arith, shorter, longer, old.few, now.room);
       lane_room = now.room ∙ old.lane_room;

@@ -3,7 +3,7 @@ use Rattle.std.proofs.lemmas.List.{length-map}
 use Rattle.crossbeam_deque.specs.Handles.{view, IsPassOf, worker_deque}
 use Rattle.tele_lanes.specs.declared.lanes.Lane.{Lane}
 use Rattle.tele_steal.specs.declared.tallies.Hand.{Hand}
-use Rattle.tele_steal.specs.Runs.{HasRun, ticket}
+use Rattle.tele_steal.specs.Runs.{IsRunLane, ticket}
 use Rattle.tele_steal.specs.Tallies.{of_worker, taken_by}
 use Rattle.tele_steal.proofs.RunLemmas.{All-rest, All-last, All-more, length_more, same_length, behind}
 use Rattle.tele_steal.proofs.OwnerLemmas.{is_owners, owner_step}
@@ -24,7 +24,7 @@ take_hand-bag-requires g c =
           (last (λ h. IsPassOf (worker_deque c.args.owner.now) h.pass) old.tables);
       worker = last (λ h. view h.pass ≡ of_worker (taken_by (view h.pass))) old.workers;
       tickets = last (λ h. map t h.bag.items ≡ map t (taken_by (view h.pass))) old.tickets;
-      ran = last (λ h. All (HasRun g.P.Port.calls g.P.Port.refused) h.bag.items) old.ran;
+      ran = last (λ h. All (IsRunLane g.P.Port.calls g.P.Port.refused) h.bag.items) old.ran;
       room = omega (arith, put, old.room);
     }
 
@@ -60,7 +60,7 @@ loop-hand-preserved g c =
           old.workers;
       tickets = All-rest (λ (h : H). map t h.bag.items ≡ map t (taken_by (view h.pass))) _ _ _
           popped old.tickets;
-      ran = All-rest (λ (h : H). All (HasRun g.P.Port.calls g.P.Port.refused) h.bag.items) _ _ _
+      ran = All-rest (λ (h : H). All (IsRunLane g.P.Port.calls g.P.Port.refused) h.bag.items) _ _ _
           popped old.ran;
       wide = All-rest (λ (h : H). 64 ≤ vec_capacity h.bag) _ _ _ popped old.wide;
       hand_room = c.pop.ensures.capacity ∙ old.hand_room;

@@ -1,10 +1,8 @@
 use Rattle.std.proofs.Common.{◌++◌, All, map, length, IsPermutation, sym, ap, ◌∙◌, subst, arith}
-use Rattle.std.proofs.lemmas.List.{length-map}
 use Rattle.crossbeam_deque.specs.Handles.{IsPassOf, worker_view}
 use Rattle.tele_steal.specs.declared.tallies.Hand.{Hand}
 use Rattle.tele_steal.specs.Runs.{ticket}
 use Rattle.tele_steal.proofs.OwnerLemmas.{is_owners}
-use Rattle.tele_steal.proofs.RunLemmas.{same_length}
 use Rattle.tele_steal.proofs.OrderLemmas.{all_home, as_many, as_many_ran}
 use Rattle.tele_steal.proofs.stealing.run_shared.Goals as goal
 
@@ -28,44 +26,21 @@ work_hands-requires-clause-tables g c κs within =
     c.hire_all.new.hands.items)
     (sym c.requires.ready.same) c.hire_all.ensures.tables
 
-pub take_back-requires-clause-tables : goal.take_back-requires-clause-tables
-take_back-requires-clause-tables g c =
+pub get_back-requires-clause-tables : goal.get_back-requires-clause-tables
+get_back-requires-clause-tables g c κs within =
     subst (λ d. All (λ (h : Hand g.row.P.Denot g.row.P-Tie.Denot). IsPassOf d h.pass)
     c.work_hands.new.hands.items)
     (c.requires.ready.same ∙ sym (c.put_in.ensures.same.0 ∙ c.hire_all.ensures.same.0))
     c.work_hands.ensures.tables
 
 -- there is room for all lanes
-pub take_back-requires-clause-lane_room : goal.take_back-requires-clause-lane_room
-take_back-requires-clause-lane_room g c =
+pub get_back-requires-clause-lane_room : goal.get_back-requires-clause-lane_room
+get_back-requires-clause-lane_room g c =
     let n = as_many_ran (ticket g.P.Port.tie) (worker_view c.hire_all.new.owner).put
     c.args.lanes.items (worker_view c.put_in.new.owner).put c.put_in.new.kept.items
     c.run_kept.new.lanes.items (ap (λ v. v.put) c.hire_all.ensures.owner) c.put_in.ensures.shared
     c.run_kept.ensures.tickets in
     omega (arith, n, c.put_in.ensures.lane_room, c.run_kept.ensures.lane_room, c.args.lanes.ok)
-
-pub draw_all-requires-clause-room : goal.draw_all-requires-clause-room
-draw_all-requires-clause-room g c =
-    let t = ticket g.P.Port.tie in
-    let n = as_many_ran t (worker_view c.hire_all.new.owner).put c.args.lanes.items
-    (worker_view c.put_in.new.owner).put c.put_in.new.kept.items c.run_kept.new.lanes.items
-    (ap (λ v. v.put) c.hire_all.ensures.owner) c.put_in.ensures.shared c.run_kept.ensures.tickets in
-    let put = ap (λ v. length v.put) c.take_back.ensures.owner in
-    let back = (worker_view c.take_back.new.owner).back in
-    let all = same_length t c.run_kept.new.lanes.items c.take_back.new.lanes.items
-    (map t back) c.take_back.ensures.tickets in
-    let room = c.take_back.ensures.lane_room in
-    omega (
-      arith,
-      n,
-      length-map back t,
-      put,
-      all,
-      c.put_in.ensures.lane_room,
-      c.run_kept.ensures.lane_room,
-      room,
-      c.args.lanes.ok,
-    )
 
 -- the yard is ready again
 pub returns-clause-ready : goal.returns-clause-ready
@@ -74,29 +49,21 @@ returns-clause-ready g c =
     let hired = c.hire_all.ensures in
     let put = c.put_in.ensures in
     let worked = c.work_hands.ensures in
-    let took = c.take_back.ensures in
-    let drew = c.draw_all.ensures in
+    let got = c.get_back.ensures in
+    let bags = got.bags ∙ worked.count ∙ hired.count in
     record {
-      same = was.same ∙ sym (drew.same.0 ∙ took.same.0 ∙ put.same.0 ∙ hired.same.0);
-      owner_first = drew.same.1 ∙ took.same.1 ∙ put.same.1 ∙ hired.same.1 ∙ was.owner_first;
+      same = was.same ∙ sym (got.same.0 ∙ put.same.0 ∙ hired.same.0);
+      owner_first = got.same.1 ∙ put.same.1 ∙ hired.same.1 ∙ was.owner_first;
       thief_first = was.thief_first;
-      owners = is_owners _ _ _ _ drew.owner;
-      alone = ap (λ v. v.out) drew.owner;
-      settled = drew.settled;
-      some = omega (arith, was.some, took.bags, worked.count, hired.count);
-      empty = took.empty;
-      wide = took.wide;
-      no_hands = took.no_hands;
-      seats = omega (
-        arith,
-        was.seats,
-        took.hand_room,
-        worked.seats,
-        hired.hand_room,
-        took.bags,
-        worked.count,
-        hired.count,
-      );
+      owners = is_owners _ _ _ _ got.owner;
+      alone = ap (λ v. v.out) got.owner;
+      settled = subst (λ l. IsPermutation l (worker_view c.get_back.new.owner).back)
+          (sym (ap (λ v. v.put) got.owner)) got.settled;
+      some = omega (arith, was.some, bags);
+      empty = got.empty;
+      wide = got.wide;
+      no_hands = got.no_hands;
+      seats = omega (arith, was.seats, got.hand_room, worked.seats, hired.hand_room, bags);
       no_kept = c.run_kept.ensures.none_kept;
       keeps = omega (arith, was.keeps, c.run_kept.ensures.room, put.room);
     }
@@ -104,17 +71,10 @@ returns-clause-ready g c =
 -- all came back
 pub returns-clause-tickets : goal.returns-clause-tickets
 returns-clause-tickets g c =
-    let t = ticket g.P.Port.tie in
     let put = (worker_view c.put_in.new.owner).put in
     let kept = c.put_in.new.kept.items in
-    let back = (worker_view c.draw_all.new.owner).back in
-    let one = c.run_kept.new.lanes.items in
-    let none = ap (λ v. v.put) c.hire_all.ensures.owner in
-    let same = ap (λ v. v.put) c.draw_all.ensures.owner ∙ ap
-    (λ v. v.put) c.take_back.ensures.owner in
-    all_home t c.args.lanes.items put kept back one c.draw_all.new.lanes.items
-    (subst (λ z. IsPermutation (z ++ c.args.lanes.items) (put ++ kept)) none
-    c.put_in.ensures.shared)
-    c.run_kept.ensures.tickets
-    (subst (λ z. IsPermutation z back) same c.draw_all.ensures.settled)
-    (c.draw_all.ensures.tickets (map t one) c.take_back.ensures.tickets)
+    all_home (ticket g.P.Port.tie) c.args.lanes.items put kept
+    (worker_view c.get_back.new.owner).back c.run_kept.new.lanes.items c.get_back.new.lanes.items
+    (subst (λ z. IsPermutation (z ++ c.args.lanes.items) (put ++ kept))
+    (ap (λ v. v.put) c.hire_all.ensures.owner) c.put_in.ensures.shared)
+    c.run_kept.ensures.tickets c.get_back.ensures.settled c.get_back.ensures.tickets

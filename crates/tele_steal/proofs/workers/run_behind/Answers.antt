@@ -1,7 +1,7 @@
 use Rattle.std.proofs.Common.{◌++◌, map, ap, ◌∙◌, sym, subst, drop, All}
 use lib.Seq.{drop-append_seam}
 use Rattle.std.proofs.lemmas.List.{map-append}
-use Rattle.tele_steal.specs.Runs.{ticket, HasRun}
+use Rattle.tele_steal.specs.Runs.{ticket, IsRunLane}
 use Rattle.tele_steal.proofs.RunLemmas.{same_tickets}
 use Rattle.tele_steal.proofs.workers.run_behind.Goals as goal
 
@@ -23,7 +23,7 @@ pub returns-clause-ran : goal.returns-clause-ran
 returns-clause-ran g c =
     let ran = c.run_lanes.ensures in
     let new = c.run_lanes.new.lanes in
-    let all : All (HasRun g.P.Port.calls g.P.Port.refused) new = λ k d h. record {
+    let all : All (IsRunLane g.P.Port.calls g.P.Port.refused) new = λ k d h. record {
       calls = ran.calls k d h;
       answers = ran.answers k d h;
       replies = ran.replies k d h;
@@ -32,7 +32,7 @@ returns-clause-ran g c =
       whole = ran.whole k d h;
     } in
     let parts = c.split_at_mut-behind in
-    subst (λ n. All (HasRun g.P.Port.calls g.P.Port.refused) (drop n (parts.result.0.now ++ new)))
+    subst (λ n. All (IsRunLane g.P.Port.calls g.P.Port.refused) (drop n (parts.result.0.now ++ new)))
     parts.ensures.front_len
-    (subst (All (HasRun g.P.Port.calls g.P.Port.refused))
+    (subst (All (IsRunLane g.P.Port.calls g.P.Port.refused))
     (sym (drop-append_seam parts.result.0.now new)) all)

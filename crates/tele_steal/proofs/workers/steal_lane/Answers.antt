@@ -3,7 +3,7 @@ use Rattle.std.proofs.Common.{◌≡◌, []}
 use Rattle.tele_steal.proofs.TallyLemmas.{takes}
 use Rattle.tele_steal.proofs.ViewLemmas.{no_elements}
 use Rattle.tele_steal.specs.Tallies.{Balances}
-use Rattle.tele_steal.specs.Runs.{IsFresh}
+use Rattle.tele_steal.specs.Runs.{IsNewLane}
 use Rattle.tele_steal.proofs.workers.steal_lane.Goals as goal
 
 -- the pass is a worker's
@@ -16,4 +16,4 @@ steal_as-requires-clause-empty g c items views few b at =
     let none : items ≡ [] = no_elements items
     (let first = c.requires.first_in in omega (arith, few, first)) in
     c.requires.lesson views _ _
-    (subst (λ z. Balances (IsFresh g.P.Port.calls g.P.Port.refused) z views) none b) at
+    (subst (λ z. Balances (IsNewLane g.P.Port.calls g.P.Port.refused) z views) none b) at

@@ -1,0 +1,205 @@
+-- Made lines, answered in rounds. Serves the summing up of made lines.
+use Rattle.std.proofs.Common.{◌≡◌, ℕ, suc, ◌+◌, ◌-◌, ◌<◌, ◌≤◌, List, [], ◌∷◌, ◌++◌, refl, sym, ◌∙◌, ap, subst, append_assoc, zero-add, length, arith}
+use Rattle.std.specs.Prelude.{is_some, if◌then◌else◌}
+use Rattle.std.specs.List.{count_by}
+use Rattle.std.proofs.lemmas.List.{map-append, length-append}
+use Rattle.std.proofs.lemmas.List.Sums.{sum_by-append}
+use Rattle.ist_core.specs.declared.commands.Command.{Command}
+use Rattle.ist_core.specs.Map.{Map, no_pairs, map_after, reply_to, replay, replies, pairs_of}
+use Rattle.tele_lanes.specs.declared.task_lists.Task.{Task}
+use Rattle.tele_lanes.specs.Lines.{commands_of}
+use Rattle.tele_jobs.specs.Rounds.{Team}
+use Rattle.tele_jobs.specs.Open.{Open, fresh_round, with_task, map_in}
+use Rattle.tele_made.specs.declared.summaries.Summary.{Summary}
+use Rattle.tele_made.specs.Summaries.{summary_of, value_sum}
+use Rattle.tele_made.specs.Made.{next_number, made_command, made_commands}
+
+-- how many of the replies to some commands are values
+abbrev pub values_in : Map → List Command → ℕ
+values_in m commands = count_by is_some (replies m commands)
+
+-- the map after two lists of commands
+replay-append : (m : Map) (xs ys : List Command) → replay m (xs ++ ys) ≡ replay (replay m xs) ys
+replay-append m [] ys = refl
+replay-append m (x ∷ xs) ys = replay-append (map_after m x) xs ys
+
+-- the replies to them
+replies-append : (m : Map) (xs ys : List Command) → replies m (xs ++ ys) ≡ replies m xs ++ replies
+    (replay m xs) ys
+replies-append m [] ys = refl
+replies-append m (x ∷ xs) ys = ap (λ rs. reply_to m x ∷ rs) (replies-append (map_after m x) xs ys)
+
+values-append : (m : Map) (xs ys : List Command) → values_in m (xs ++ ys) ≡ values_in m xs +
+    values_in (replay m xs) ys
+values-append m xs ys =
+    ap (count_by is_some) (replies-append m xs ys)
+    ∙ sum_by-append (λ r. if is_some r then 1 else 0) (replies m xs) (replies (replay m xs) ys)
+
+-- with the open lines and the lines left to be made, the values found and the map are the values
+-- and the map of all lines
+pub record HasMade (all : List Command) (m : Map) (tasks : List Task) (rest : List Command)
+    (found : ℕ) : Type 0 where
+  pub values : found + values_in m (commands_of tasks ++ rest) ≡ values_in no_pairs all
+  pub behind : replay m (commands_of tasks ++ rest) ≡ replay no_pairs all
+
+-- before the first line
+pub none_made : (all : List Command) (m : Map) (tasks : List Task) → m ≡ no_pairs → tasks ≡ [] →
+    HasMade all m tasks all 0
+none_made all m tasks is none = record {
+  values = zero-add (values_in m (commands_of tasks ++ all))
+      ∙ ap (λ n. values_in n (commands_of tasks ++ all)) is ∙ ap
+      (λ ts. values_in no_pairs (commands_of ts ++ all)) none;
+  behind = ap (λ n. replay n (commands_of tasks ++ all)) is ∙ ap
+      (λ ts. replay no_pairs (commands_of ts ++ all)) none;
+}
+
+-- one more line is open
+pub one_made : (all : List Command) (m : Map) (tasks now : List Task) (task : Task)
+    (rest others : List Command) (found : ℕ)
+    → rest ≡ task.command ∷ others → now ≡ tasks ++ task ∷ [] → HasMade all m tasks rest found →
+    HasMade all m now others found
+one_made all m tasks now task rest others found is more h =
+    let same : commands_of now ++ others ≡ commands_of tasks ++ rest =
+    ap (λ ts. commands_of ts ++ others) more ∙ ap (λ cs. cs ++ others)
+    (map-append (λ t. t.command) tasks (task ∷ []))
+    ∙ append_assoc {A = Command} (commands_of tasks) (task.command ∷ []) others
+    ∙ ap (λ cs. commands_of tasks ++ cs) (sym is) in
+    record {
+      values = ap (λ cs. found + values_in m cs) same ∙ h.values;
+      behind = ap (replay m) same ∙ h.behind;
+    }
+
+-- the open lines were answered
+pub round_made : (all : List Command) (m n : Map) (tasks left : List Task) (rest : List Command)
+    (found more later : ℕ)
+    → more ≡ values_in m (commands_of tasks) → n ≡ replay m (commands_of tasks) → left ≡ [] → later
+    ≡ found + more
+    → HasMade all m tasks rest found → HasMade all n left rest later
+round_made all m n tasks left rest found more later counts is none sum h =
+    let after = values_in (replay m (commands_of tasks)) rest in
+    let here : values_in n (commands_of left ++ rest) ≡ after =
+    ap (λ ts. values_in n (commands_of ts ++ rest)) none ∙ ap (λ k. values_in k rest) is in
+    let split = values-append m (commands_of tasks) rest in
+    record {
+      values = omega (arith, here, split, counts, sum, h.values);
+      behind = ap (λ ts. replay n (commands_of ts ++ rest)) none ∙ ap (λ k. replay k rest) is
+          ∙ sym (replay-append m (commands_of tasks) rest) ∙ h.behind;
+    }
+
+-- all lines were made and answered
+pub all_found : (all : List Command) (m : Map) (tasks : List Task) (rest : List Command) (found : ℕ)
+    → tasks ≡ [] → rest ≡ []
+    → HasMade all m tasks rest found → found ≡ values_in no_pairs all
+all_found all m tasks rest found none last h =
+    let nothing : values_in m (commands_of tasks ++ rest) ≡ 0 =
+    ap (λ ts. values_in m (commands_of ts ++ rest)) none ∙ ap (values_in m) last in
+    omega (arith, nothing, h.values)
+
+-- once all lines were made and answered, the map is the map after all lines
+pub all_behind : (all : List Command) (m : Map) (tasks : List Task) (rest : List Command)
+    (found : ℕ) → tasks ≡ [] → rest ≡ []
+    → HasMade all m tasks rest found → m ≡ replay no_pairs all
+all_behind all m tasks rest found none last h =
+    sym (ap (λ ts. replay m (commands_of ts ++ rest)) none ∙ ap (replay m) last) ∙ h.behind
+
+-- the lines that are left begin with the next
+pub next_made : (count line number : ℕ) → line < count
+    → made_commands (count - line) number
+    ≡ made_command (next_number number) ∷ made_commands (count - (line + 1)) (next_number number)
+next_made count line number lt =
+    let e : count - line ≡ suc (count - (line + 1)) = omega arith in
+    ap (λ n. made_commands n number) e
+
+-- at a moment between two made lines: what was found and what is left are what all lines find, and
+-- no more was found than made
+pub record Sums (count seed line number found : ℕ) (now : Open) : Type 0 where
+  pub made : HasMade (made_commands count seed) (map_in now) now.tasks
+      (made_commands (count - line) number) found
+  pub few : found + length now.tasks ≤ line
+
+-- before the first line
+pub sums_first : (count seed number : ℕ) (team : Team) (words : ℕ) (now : Open)
+    → number ≡ seed → now ≡ fresh_round team words
+    → Sums count seed 0 number 0 now
+sums_first count seed number team words now is empty =
+    subst (λ n. Sums count seed 0 n 0 now) (sym is)
+    (subst (λ (o : Open). Sums count seed 0 seed 0 o) (sym empty)
+    (record {
+      made = let e : count ≡ count - 0 = omega arith in
+          subst (λ n. HasMade (made_commands count seed) no_pairs [] (made_commands n seed) 0) e
+          (none_made (made_commands count seed) no_pairs [] refl refl);
+      few = omega arith;
+    }))
+
+-- one more line is open
+pub sums_asked : (count seed line number next found : ℕ) (before now : Open) (task : Task) → line <
+    count
+    → task.command ≡ made_command (next_number number) → next ≡ next_number number
+    → now ≡ with_task before task
+    → Sums count seed line number found before → Sums count seed (line + 1) next found now
+sums_asked count seed line number next found before now task lt command is asks h =
+    let more = ap (λ (o : Open). o.tasks) asks in
+    let rest = made_commands (count - (line + 1)) (next_number number) in
+    let left : made_commands (count - line) number ≡ task.command ∷ rest =
+    next_made count line number lt ∙ ap (λ c. c ∷ rest) (sym command) in
+    let m : map_in before ≡ map_in now = ap map_in (sym asks) in
+    record {
+      made = subst (λ n. HasMade (made_commands count seed) (map_in now) now.tasks
+          (made_commands (count - (line + 1)) n) found) (sym is)
+          (subst (λ m. HasMade (made_commands count seed) m now.tasks rest found) m
+          (one_made (made_commands count seed) (map_in before) before.tasks now.tasks task
+          (made_commands (count - line) number) rest
+          found left more h.made));
+      few = omega (arith, h.few, ap length more, length-append before.tasks (task ∷ []));
+    }
+
+-- the open lines were answered
+pub sums_closed : (count seed line number found more later : ℕ) (before now : Open)
+    → more ≡ values_in (map_in before) (commands_of before.tasks) → more ≤ length before.tasks
+    → map_in now ≡ replay (map_in before) (commands_of before.tasks) → now.tasks ≡ [] → later ≡
+    found + more
+    → Sums count seed line number found before → Sums count seed line number later now
+sums_closed count seed line number found more later before now counts few is none sum h = record {
+  made = round_made (made_commands count seed) (map_in before) (map_in now) before.tasks now.tasks
+      (made_commands (count - line) number) found more later counts is none sum h.made;
+  few = omega (arith, h.few, few, sum, ap length none);
+}
+
+-- all lines were made and answered
+pub sums_last : (count seed line number found : ℕ) (now : Open) → count ≤ line → now.tasks ≡ [] →
+    Sums count seed line number found now
+    → (found ≡ values_in no_pairs (made_commands count seed)) ×
+    (map_in now ≡ replay no_pairs (made_commands count seed))
+sums_last count seed line number found now le none h =
+    let nothing : made_commands (count - line) number ≡ [] = let e : count - line ≡ 0 = omega arith
+    in ap (λ n. made_commands n number) e in (
+      all_found (made_commands count seed) (map_in now) now.tasks
+          (made_commands (count - line) number) found none nothing h.made,
+      all_behind (made_commands count seed) (map_in now) now.tasks
+          (made_commands (count - line) number) found none nothing h.made,
+    )
+
+-- the summary, by the map after all lines and by how many values were found
+pub summary_is : (count seed keys found sum : ℕ) (m : Map) → m ≡ replay no_pairs
+    (made_commands count seed)
+    → keys ≡ length (pairs_of m) → found ≡ values_in no_pairs (made_commands count seed) → sum ≡
+    value_sum (pairs_of m)
+    → ◌≡◌ {A = Summary} (record { made = count; keys = keys; found = found; sum = sum })
+    (summary_of count seed)
+summary_is count seed keys found sum m is keys_is found_is sum_is =
+    ap (λ n. record { made = count; keys = n; found = found; sum = sum })
+    (keys_is ∙ ap (λ n. length (pairs_of n)) is)
+    ∙ ap (λ n. record {
+      made = count;
+      keys = length
+          (pairs_of (replay no_pairs (made_commands count seed)));
+      found = n;
+      sum = sum;
+    })
+    found_is
+    ∙ ap (λ n. record {
+      made = count;
+      keys = length (pairs_of (replay no_pairs (made_commands count seed)));
+      found = values_in no_pairs (made_commands count seed);
+      sum = n;
+    }) (sum_is ∙ ap (λ n. value_sum (pairs_of n)) is)

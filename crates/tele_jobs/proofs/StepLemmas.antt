@@ -1,0 +1,186 @@
+-- What the parts of a step say of the open round, joined. Serves the steps of a run.
+use Rattle.std.proofs.Common.{◌≡◌, ℕ, ◌<◌, List, [], ◌∷◌, ◌++◌, sym, ◌∙◌, ap, subst, length, append-nil}
+use Rattle.std.specs.Prelude.{Option, Result, Ok, Err, OnOk, OnErr, IsSome}
+use Rattle.ist_core.specs.declared.commands.Command.{Command}
+use Rattle.ist_core.specs.declared.pairs.Pair.{Pair}
+use Rattle.ist_core.specs.Map.{Map, replay, listed}
+use Rattle.tele_io.specs.Bytes.{Appends, AppendsPart}
+use Rattle.tele_io.proofs.AppendsLemmas.{Appends-append, AppendsPart-append, AppendsPart-longer}
+use Rattle.tele_lanes.specs.declared.task_lists.Task.{Task}
+use Rattle.tele_lanes.specs.Lines.{commands_of}
+use Rattle.tele_lines.specs.declared.items.Item.{Item}
+use Rattle.tele_lines.specs.declared.items.Item.TheVariants.{Point, Interval}
+use Rattle.tele_lines.specs.declared.items.Version.{Version}
+use Rattle.tele_lines.specs.declared.reader.Lines.{Lines}
+use Rattle.tele_lines.specs.Readings.{version_in}
+use Rattle.tele_lines.specs.Progress.{mode_of, version_of}
+use Rattle.tele_lines.specs.Answer.{Read, Good, text_of, interval_text, status_of}
+use Rattle.tele_lines.specs.Rounds.{round_limit}
+use Rattle.tele_jobs.specs.Open.{asked}
+use Rattle.tele_jobs.specs.Due.{Takes}
+use Rattle.tele_jobs.proofs.AnswerLemmas.{text-asked, status-asked, asked-version}
+use Rattle.tele_jobs.proofs.TakeLemmas.{stay_open, answered_full, answered_interval, asked-more}
+
+-- what follows if a call succeeds
+pub on_ok : {A E P Q : Type 0} (r : Result A E) → OnOk r P → (P → Q) → OnOk r Q
+on_ok (Ok a) p f = f p
+on_ok (Err e) p f = tt
+
+-- what follows if a call fails
+pub on_err : {A E P Q : Type 0} (r : Result A E) → OnErr r P → (P → Q) → OnErr r Q
+on_err (Ok a) p f = tt
+on_err (Err e) p f = f p
+
+-- what follows from two facts if a call succeeds
+pub on_ok2 : {A E P Q R : Type 0} (r : Result A E) → OnOk r P → OnOk r Q → (P → Q → R) → OnOk r R
+on_ok2 (Ok a) p q f = f p q
+on_ok2 (Err e) p q f = tt
+
+-- a fact holds if a call succeeds
+pub at_ok : {A E P : Type 0} (r : Result A E) → P → OnOk r P
+at_ok (Ok a) p = p
+at_ok (Err e) p = tt
+
+-- what follows from three facts if a call succeeds
+pub on_ok3 : {A E P Q R S : Type 0} (r : Result A E) → OnOk r P → OnOk r Q → OnOk r R →
+    (P → Q → R → S) → OnOk r S
+on_ok3 (Ok a) p q r f = f p q r
+on_ok3 (Err e) p q r f = tt
+
+-- a fact holds if a call fails
+pub at_refusal : {A E P : Type 0} (r : Result A E) → P → OnErr r P
+at_refusal (Ok a) p = tt
+at_refusal (Err e) p = p
+
+module _ (version : Version) (m : Map) (tasks : List Task) where
+  -- a part of the text of a round is a part of its text and more
+  pub part_before : (more : List Read) (before written : Option (List ℕ))
+      → AppendsPart before written (text_of m (asked version tasks))
+      → AppendsPart before written (text_of m (asked version tasks ++ more))
+  part_before more before written part =
+      subst (AppendsPart before written) (sym (text-asked version m tasks more))
+      (AppendsPart-longer before written (text_of m (asked version tasks))
+      (text_of (replay m (commands_of tasks)) more) part)
+
+  -- the text of a round, and then that of what follows
+  pub text_then : (more : List Read) (before mid written : Option (List ℕ)) → Appends before mid
+      (text_of m (asked version tasks))
+      → Appends mid written (text_of (replay m (commands_of tasks)) more)
+      → Appends before written (text_of m (asked version tasks ++ more))
+  text_then more before mid written first second =
+      subst (Appends before written) (sym (text-asked version m tasks more))
+      (Appends-append before mid written (text_of m (asked version tasks))
+      (text_of (replay m (commands_of tasks)) more) first second)
+
+  -- the text of a round, and then a part of what follows
+  pub part_then : (more : List Read) (before mid written : Option (List ℕ)) → Appends before mid
+      (text_of m (asked version tasks))
+      → AppendsPart mid written (text_of (replay m (commands_of tasks)) more)
+      → AppendsPart before written (text_of m (asked version tasks ++ more))
+  part_then more before mid written first second =
+      subst (AppendsPart before written) (sym (text-asked version m tasks more))
+      (AppendsPart-append before mid written (text_of m (asked version tasks))
+      (text_of (replay m (commands_of tasks)) more) first second)
+
+  module _ (number : ℕ) (item : Item) (command : Command) (now : List Task)
+      (is : item ≡ Point command)
+      (more : now ≡ tasks ++ record { line = number; command = command } ∷ []) where
+    -- a point line is one more task
+    pub taken_lines : asked version now ≡ asked version tasks ++ Good number version item ∷ []
+    taken_lines =
+        asked-more version tasks now (record { line = number; command = command }) more
+        ∙ ap (λ i. asked version tasks ++ Good number version i ∷ []) (sym is)
+
+    -- the line stays open, and nothing is written
+    pub taken_open : (n : Map) (before : Option (List ℕ)) → n ≡ m
+        → Takes m (asked version tasks ++ Good number version item ∷ []) before before n
+        (asked version now)
+    taken_open n before same =
+        subst (λ k. Takes m (asked version tasks ++ Good number version item ∷ []) before before k
+        (asked version now)) (sym same)
+        (subst (λ ls. Takes m ls before before m (asked version now)) taken_lines
+        (stay_open m (asked version now) before))
+
+    -- if the line fills the round, the round is answered
+    pub taken_full : (n later : Map) (left : List Task) (before written : Option (List ℕ)) → n ≡ m →
+        length now ≡ round_limit
+        → Appends before written (text_of n (asked version now)) → later ≡ replay n
+        (commands_of now) → left ≡ []
+        → Takes m (asked version tasks ++ Good number version item ∷ []) before written later
+        (asked version left)
+    taken_full n later left before written same full writes behind none =
+        subst (λ ls. Takes m (asked version tasks ++ Good number version item ∷ []) before written
+        later (asked version ls)) (sym none)
+        (subst (λ k. Takes m (asked version tasks ++ Good number version item ∷ []) before written k
+        []) (sym behind)
+        (subst (λ k. Takes k (asked version tasks ++ Good number version item ∷ []) before written
+        (replay n (commands_of now)) []) same
+        (subst (λ ls. Takes n ls before written (replay n (commands_of now)) []) taken_lines
+        (answered_full version n now before written full writes))))
+
+    -- if printing fails, a part of the round's text was written
+    pub taken_part : (n : Map) (before written : Option (List ℕ)) → n ≡ m → AppendsPart before
+        written (text_of n (asked version now))
+        → AppendsPart before written (text_of m
+        (asked version tasks ++ Good number version item ∷ []))
+    taken_part n before written same part =
+        subst (λ k. AppendsPart before written
+        (text_of k (asked version tasks ++ Good number version item ∷ []))) same
+        (subst (λ ls. AppendsPart before written (text_of n ls)) taken_lines part)
+
+  module _ (number first last : ℕ) (item : Item) (is : item ≡ Interval first last)
+      (listing : List Pair) (n : Map)
+      (behind : n ≡ replay m (commands_of tasks)) (lists : listing ≡ listed first last n) where
+    -- the pairs that are listed
+    listing_is : listing ≡ listed first last (replay m (commands_of tasks))
+    listing_is = lists ∙ ap (listed first last) behind
+
+    -- an interval line ends the round
+    pub taken_interval : (left : List Task) (before mid written : Option (List ℕ)) → length tasks <
+        round_limit → left ≡ []
+        → Appends before mid (text_of m (asked version tasks)) → Appends mid written
+        (interval_text version number listing)
+        → Takes m (asked version tasks ++ Good number version item ∷ []) before written n
+        (asked version left)
+    taken_interval left before mid written few none writes more_writes =
+        subst (λ ls. Takes m (asked version tasks ++ Good number version item ∷ []) before written n
+        (asked version ls)) (sym none)
+        (subst (λ k. Takes m (asked version tasks ++ Good number version item ∷ []) before written k
+        []) (sym behind)
+        (subst (λ i. Takes m (asked version tasks ++ Good number version i ∷ []) before written
+        (replay m (commands_of tasks)) []) (sym is)
+        (answered_interval version number first last m tasks before mid written few writes
+        (subst (λ ps. Appends mid written (interval_text version number ps)) listing_is
+        more_writes))))
+
+    -- if printing fails, a part of the listing was written
+    pub interval_part : (before mid written : Option (List ℕ)) → Appends before mid
+        (text_of m (asked version tasks))
+        → AppendsPart mid written (interval_text version number listing)
+        → AppendsPart before written (text_of m
+        (asked version tasks ++ Good number version item ∷ []))
+    interval_part before mid written writes part =
+        subst (λ i. AppendsPart before written
+        (text_of m (asked version tasks ++ Good number version i ∷ []))) (sym is)
+        (part_then (Good number version (Interval first last) ∷ []) before mid written writes
+        (AppendsPart-longer mid written
+        (interval_text version number (listed first last (replay m (commands_of tasks)))) []
+        (subst (λ ps. AppendsPart mid written (interval_text version number ps)) listing_is part)))
+
+-- the lines of the open round are the same by the version after the lines that were read
+pub same_lines : (old new : Lines) (version : Version) (tasks : List Task) → version ≡ version_of
+    new
+    → (0 < length tasks → IsSome (mode_of old)) → (IsSome (mode_of old) → mode_of new ≡ mode_of old)
+    → asked (version_of old) tasks ≡ asked version tasks
+same_lines old new version tasks is chosen steady =
+    asked-version (version_of old) version tasks (λ some. is ∙ ap version_in (steady (chosen some)))
+
+-- the open round at the end of the input
+pub at_end : (version : Version) (m : Map) (tasks : List Task) → text_of m (asked version tasks) ≡
+    text_of m (asked version tasks ++ [])
+at_end version m tasks = ap (text_of m) (sym (append-nil (asked version tasks)))
+
+-- open lines and a good one are good
+pub status-taken : (version : Version) (tasks : List Task) (number : ℕ) (item : Item)
+    → status_of (asked version tasks ++ Good number version item ∷ []) ≡ 0
+status-taken version tasks number item = status-asked version tasks (Good number version item ∷ [])

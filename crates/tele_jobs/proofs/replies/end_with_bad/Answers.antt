@@ -1,0 +1,17 @@
+use Rattle.tele_jobs.proofs.StepLemmas.{at_ok, at_refusal}
+use Rattle.tele_jobs.proofs.PassLemmas.{whole_passed, part_passed}
+use Rattle.tele_jobs.proofs.replies.end_with_bad.Goals as goal
+
+-- what was printed stays taken, whether it is passed on or not
+pub returns-clause-printed : goal.returns-clause-printed
+returns-clause-printed g c =
+    at_ok c.pass_on.result (whole_passed _ _ _ _ c.in_ok-print_bad.ensures.printed c.pass_on.ensures.same)
+
+pub returns-clause-part : goal.returns-clause-part
+returns-clause-part g c =
+    at_refusal c.pass_on.result
+    (part_passed _ _ _ _ c.in_ok-print_bad.ensures.printed c.pass_on.ensures.same)
+
+-- if printing fails, a part was printed
+pub returns-in_err-print_bad-clause-part : goal.returns-in_err-print_bad-clause-part
+returns-in_err-print_bad-clause-part g c = at_refusal c.from_residual.result c.in_err-print_bad.ensures.part
