@@ -1,5 +1,5 @@
 #!/usr/bin/env python3
-"""Small runs of the programs over the tree, try_stress and try_bench, and words that they must refuse.
+"""Small runs of the programs over the tree, try_stress, try_growth and try_bench, and words that they must refuse.
 
     python3 tests/tree_programs.py
 
@@ -92,6 +92,30 @@ def bench(path):
             holds(told[1] == 0 and figures and int(figures[1]) > 0, f"{name}: no time is told: {told}")
 
 
+GREW = re.compile(r"answered: (\d+) calls; at the end (\d+) keys and (\d+) words\n")
+
+# Runs, workers, calls of each in a run, keys, words of the first tree, whether it grows.
+GROWTHS = [
+    (3, 1, 500, 100, 64, True),
+    (2, 4, 500, 100, 64, True),
+    (2, 8, 200, 8, 1_000, True),
+    (2, 64, 20, 50, 64, True),
+    (2, 2, 10, 20, 1_000_000, False),
+]
+
+
+def growth(path):
+    for runs, workers, calls, span, words, grows in GROWTHS:
+        told = run(path, runs=runs, workers=workers, calls=calls, span=span, words=words)
+        grew = GREW.search(told[2])
+        holds(told[1] == 0 and grew and int(grew[1]) == runs * workers * calls, f"try_growth: {told}")
+        holds(grew and int(grew[2]) <= span and (int(grew[3]) > words) == grows, f"other keys or words: {told}")
+    for options in ({"workers": 0}, {"workers": 65}, {"span": 0}, {"span": 1_000_001}, {"words": 3}, {"words": 268_435_457}):
+        told = run(path, **options)
+        holds(told[1] == 2 and "answered" not in told[2], f"try_growth: not refused: {told}")
+
+
 stress(program("try_stress"))
+growth(program("try_growth"))
 bench(program("try_bench"))
 end()

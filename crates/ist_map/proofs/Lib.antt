@@ -7,3 +7,8 @@ pub mod SplitLemmas
 pub mod CountLemmas
 pub mod LaidLemmas
 pub mod PassLemmas
+pub mod NumberLemmas
+pub mod HandLemmas
+pub mod RunLemmas
+pub mod ScriptLemmas
+pub mod OwningLemmas

@@ -3,11 +3,13 @@ use Rattle.std.specs.Prelude.{◌≡◌, ℕ, List}
 use Rattle.ist_core.specs.declared.pairs.Pair.{Pair}
 use Rattle.ist_core.specs.Map.{map_of}
 use Rattle.ist_core.specs.Histories.{IsLegal}
+use Rattle.ist_core.specs.Replies.{Answered}
 use Rattle.ist_tree.specs.Faces.{MakerFace}
 use Rattle.ist_tree.specs.Closing.{ClosesWith}
 use Rattle.ist_map.specs.Generations.{Generation, generation_of, IsGeneration, FollowOn, history}
 use Rattle.ist_map.specs.Generations.{map_told}
 use Rattle.ist_map.specs.Interleaving.{IsMadeOf, told_over}
+use Rattle.ist_map.specs.Running.{HasRun, IsOneHistory}
 
 -- a tree that was closed is a generation
 abbrev pub ClosedTreesAreGenerations : Type 0
@@ -33,3 +35,9 @@ abbrev pub HistoriesAreMadeOfCalls : Type 0
 HistoriesAreMadeOfCalls =
     (first last : List Pair) (gs : List Generation) → FollowOn first gs last
     → IsMadeOf (told_over gs) (history gs)
+
+-- a run of workers is one legal history of their calls
+abbrev pub RunsAreOneHistory : Type 0
+RunsAreOneHistory =
+    (first last : List ℕ) (before after : List (List Answered))
+    → HasRun first last before after → IsOneHistory first last before after

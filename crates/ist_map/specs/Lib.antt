@@ -2,4 +2,8 @@
 pub mod Generations
 pub mod Interleaving
 pub mod Reopening
+pub mod Hands
+pub mod Running
+pub mod Scripts
+pub mod Owning
 pub mod Laws

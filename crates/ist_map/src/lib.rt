@@ -7,10 +7,16 @@
 #![tactic(auto)]
 
 mod faults;
+mod hands;
 pub mod laws;
 mod reopening;
+mod running;
+mod scripts;
 #[cfg(test)]
 mod tests;
 
 pub use faults::{NotReopened, ReopenFault};
+pub use hands::{Hand, Worker};
 pub use reopening::{MOST_WORDS, open_after, reopen};
+pub use running::Map;
+pub use scripts::Script;

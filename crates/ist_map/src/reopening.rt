@@ -1,5 +1,6 @@
 //! One tree after another.
-ghost use Rattle.std.specs.Prelude.{◌≡◌, length, IfOk, IfErr};
+ghost use Rattle.std.specs.Prelude.{◌≡◌, ◌≤◌, length, IfOk, IfErr, OnOk};
+ghost use Rattle.ist_core.specs.RowLayout.{place_limit};
 ghost use Rattle.ist_tree.specs.Closing.{ClosesWith};
 ghost use Rattle.ist_map.specs.Reopening.{OpensAfter, Follows, IsReopenFaultOf};
 
@@ -24,6 +25,7 @@ pub fn open_after(
     words: u32,
 ) -> Result<(Tree, Maker), ReopenFault>
     ensures new { IfOk result (λ t. OpensAfter closed.now words t.0 t.1) }
+    ensures within { OnOk result (words ≤ place_limit) }
     ensures fault { IfErr result (λ f. IsReopenFaultOf closed.now words f) }
 {
     if words > MOST_WORDS {

@@ -8,11 +8,13 @@
 
 mod counting;
 mod exchange;
+mod growing;
 mod many;
 mod paging;
 
 use crate::counting::count_in_two;
 use crate::exchange::exchange;
+use crate::growing::serve_many;
 use crate::many::put_by_many;
 use crate::paging::read_many;
 use ist_core::Pair;
@@ -56,7 +58,14 @@ fn main(rt: HostRuntime) -> io::Result<()> {
         Err(fault) => println!(rt; "refused: {fault:?}")?,
     }
     match read_many(rt.alloc(), KEYS) {
-        Ok(pairs) => println!(rt; "of {KEYS} keys {pairs} were read in pieces"),
+        Ok(pairs) => println!(rt; "of {KEYS} keys {pairs} were read in pieces")?,
+        Err(fault) => println!(rt; "refused: {fault:?}")?,
+    }
+    match serve_many(&rt, rt.alloc(), WORKERS) {
+        Ok(pairs) => println!(rt;
+            "{WORKERS} workers put, find and remove keys of their own, and the map has {} keys",
+            pairs.len()
+        ),
         Err(fault) => println!(rt; "refused: {fault:?}"),
     }
 }

@@ -1,0 +1,44 @@
+-- The calls of passes in the order of their numbers. Serves `TreeTables::run`.
+use Rattle.std.proofs.Common.{◌≡◌, ℕ, zero, suc, ◌+◌, ◌<◌, ◌==◌, ◌≢◌, ◌⊎◌, true, false, List, []}
+use Rattle.std.proofs.Common.{◌∷◌, length, map, refl, arith, inl, inr}
+use Rattle.std.proofs.lemmas.Bool.Decides.{eqb_tells}
+use Rattle.std.specs.List.{range_with_len}
+use Rattle.ist_core.specs.Histories.{PassCalls}
+use Rattle.ist_tree.specs.Closing.{calls_from}
+
+-- a test of two numbers that differ
+not_equal : (i j : ℕ) → i ≢ j → (i == j) ≡ false
+not_equal i j other = at (eqb_tells i j)
+  where
+    at : (((i == j) ≡ true) × (i ≡ j)) ⊎ (((i == j) ≡ false) × (i ≢ j)) → (i == j) ≡ false
+    at (inl t) = absurd (other t.1)
+    at (inr f) = f.0
+
+-- a test of two numbers that are the same
+equal : (i j : ℕ) → i ≡ j → (i == j) ≡ true
+equal i j same = at (eqb_tells i j)
+  where
+    at : (((i == j) ≡ true) × (i ≡ j)) ⊎ (((i == j) ≡ false) × (i ≢ j)) → (i == j) ≡ true
+    at (inl t) = t.0
+    at (inr f) = absurd (f.1 same)
+
+-- a pass with a lower number is passed over
+from_behind : (from count : ℕ) (pass : PassCalls) (more : List PassCalls) → pass.number < from
+    → calls_from from count (pass ∷ more) ≡ calls_from from count more
+from_behind from zero pass more lt = refl
+from_behind from (suc count) pass more lt =
+    let other : (pass.number == from) ≡ false = not_equal pass.number from (λ e. omega arith) in
+    let rest = from_behind (from + 1) count pass more (omega arith) in
+    rw (other, rest) refl
+
+-- passes in the order of their numbers have their calls in that order
+pub calls_in_order : (from : ℕ) (passes : List PassCalls)
+    → map (λ p. p.number) passes ≡ range_with_len from (length passes)
+    → calls_from from (length passes) passes ≡ map (λ p. p.calls) passes
+calls_in_order from [] e = refl
+calls_in_order from (pass ∷ passes) e =
+    let head : pass.number ≡ from = cc in
+    let tail : map (λ p. p.number) passes ≡ range_with_len (from + 1) (length passes) = cc in
+    let mine = equal pass.number from head in
+    let rest = from_behind (from + 1) (length passes) pass passes (omega arith) in
+    rw (mine, rest, calls_in_order (from + 1) passes tail) refl

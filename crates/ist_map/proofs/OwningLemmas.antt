@@ -1,0 +1,111 @@
+-- A key that one worker alone changes. Serves `laws.owners_read_back`.
+use Rattle.std.proofs.Common.{◌≡◌, ◌≢◌, ◌⊎◌, ℕ, ◌==◌, Bool, true, false, if◌then◌else◌, List, [], ◌∷◌, map, filter, Option, Some, None, refl, sym, ap, subst, ◌∙◌, ⊎_elim, inl, inr, arith}
+use Rattle.std.proofs.lemmas.Bool.Decides.{nat_tests, eqb_tells}
+use Rattle.std.specs.FinMap as fin
+use Rattle.std.specs.FinMap.{gets}
+use Rattle.ist_core.specs.declared.commands.Command.{Command}
+use Rattle.ist_core.specs.declared.commands.Command.TheVariants.{Put, Remove, Get}
+use Rattle.ist_core.specs.Elements.{Among, Each}
+use Rattle.ist_core.specs.Map.{Map, key_of, map_after}
+use Rattle.ist_core.specs.Histories.{IsLegal}
+use Rattle.ist_core.specs.Replies.{Answered}
+use Rattle.laws_histories.proofs.MapLemmas.{same_head, same_tail}
+use Rattle.ist_map.specs.Interleaving.{Owned, IsMadeOf, told_to_pass}
+use Rattle.ist_map.specs.Owning.{is_about, value_after, ReadBack, OnlyGets}
+
+-- a command about another key leaves this one's value
+get_other : (m : Map) (command : Command) (key : ℕ) → key_of command ≢ key
+    → fin.get (map_after m command) key ≡ fin.get m key
+get_other m (Put other value) key ne = grind (arith, nat_tests, gets)
+get_other m (Remove other) key ne = grind (arith, nat_tests, gets)
+get_other m (Get other) key ne = refl
+
+-- a command about the key leaves the value that it says
+get_same : (m : Map) (command : Command) (key : ℕ) → key_of command ≡ key
+    → fin.get (map_after m command) key ≡ value_after (fin.get m key) command
+get_same m (Put other value) key e = grind (arith, nat_tests, gets)
+get_same m (Remove other) key e = grind (arith, nat_tests, gets)
+get_same m (Get other) key e = refl
+
+module _ (key owner : ℕ) where
+  -- a call that may change the key is its owner's
+  abbrev pub IsFair : Owned → Type 0
+  IsFair x = x.owner ≢ owner → key_of x.told.command ≡ key → x.told.command ≡ Get key
+
+  -- a call of another leaves the value
+  left_by_other : (m : Map) (x : Owned) → (x.owner == owner) ≡ false → IsFair x
+      → fin.get (map_after m x.told.command) key ≡ fin.get m key
+  left_by_other m x other fair = ⊎_elim
+      (λ same. ap (λ c. fin.get (map_after m c) key) (fair (grind (arith, nat_tests)) same.1))
+      (λ away. get_other m x.told.command key away.1)
+      (eqb_tells (key_of x.told.command) key)
+
+  -- the owner reads back, if each call of another leaves the key
+  pub read_back : (m : Map) (owned : List Owned) → IsLegal m (map (λ x. x.told) owned)
+      → Each IsFair owned
+      → ReadBack (fin.get m key) (filter (is_about key) (told_to_pass owner owned))
+  read_back m [] legal fair = tt
+  read_back m (x ∷ owned) legal fair =
+      at (read_back (map_after m x.told.command) owned (same_tail _ _ _ _ legal) fair.1)
+      (x.owner == owner) refl (is_about key x.told) refl
+    where
+      at : ReadBack (fin.get (map_after m x.told.command) key)
+          (filter (is_about key) (told_to_pass owner owned))
+          → (mine : Bool) → (x.owner == owner) ≡ mine → (about : Bool)
+          → is_about key x.told ≡ about
+          → ReadBack (fin.get m key) (filter (is_about key) (told_to_pass owner (x ∷ owned)))
+      at rest false his about e = rw his
+          (subst (λ v. ReadBack v (filter (is_about key) (told_to_pass owner owned)))
+          (left_by_other m x his fair.0) rest)
+      at rest true mine true e =
+          let same : key_of x.told.command ≡ key = grind (arith, nat_tests) in
+          rw (mine, e) (
+            sym (same_head _ _ _ _ legal) ∙ ap (fin.get m) same,
+            subst (λ v. ReadBack v (filter (is_about key) (told_to_pass owner owned)))
+                (get_same m x.told.command key same) rest,
+          )
+      at rest true mine false e =
+          let other : key_of x.told.command ≢ key = grind (arith, nat_tests) in
+          rw (mine, e)
+          (subst (λ v. ReadBack v (filter (is_about key) (told_to_pass owner owned)))
+          (get_other m x.told.command key other) rest)
+
+-- what was told to one of these is among what the pass with its number was told
+told_among : (x : Owned) (owned : List Owned) → Among x owned
+    → Among x.told (told_to_pass x.owner owned)
+told_among x [] h = absurd h
+told_among x (y ∷ owned) (inl same) =
+    let mine : (y.owner == x.owner) ≡ true = grind (arith, nat_tests) in
+    rw mine (inl (ap (λ (o : Owned). o.told) same))
+told_among x (y ∷ owned) (inr more) = at (told_among x owned more) (y.owner == x.owner) refl
+  where
+    at : Among x.told (told_to_pass x.owner owned) → (v : Bool) → (y.owner == x.owner) ≡ v
+        → Among x.told (told_to_pass x.owner (y ∷ owned))
+    at rest true e = rw e (inr rest)
+    at rest false e = rw e rest
+
+-- what holds of each holds of one among them
+of_each : {A : Type 0} (P : A → Type 0) (x : A) (xs : List A) → Each P xs → Among x xs → P x
+of_each P x [] h i = absurd i
+of_each P x (y ∷ xs) h (inl same) = subst P (sym same) h.0
+of_each P x (y ∷ xs) h (inr i) = of_each P x xs h.1 i
+
+-- what holds of all among them holds of each
+each_among : {A : Type 0} (P : A → Type 0) (xs : List A) → ((x : A) → Among x xs → P x)
+    → Each P xs
+each_among P [] h = tt
+each_among P (x ∷ xs) h = (h x (inl refl), each_among P xs (λ y i. h y (inr i)))
+
+-- if all others only get the key, its owner reads back
+pub owner_reads : (m : Map) (lists : ℕ → List Answered) (history : List Answered)
+    → IsLegal m history → IsMadeOf lists history → (key owner : ℕ)
+    → ((other : ℕ) → other ≢ owner → OnlyGets key (lists other))
+    → ReadBack (fin.get m key) (filter (is_about key) (lists owner))
+owner_reads m lists history legal made key owner gets_only =
+    subst (λ ts. ReadBack (fin.get m key) (filter (is_about key) ts)) (made.each owner)
+    (read_back key owner m made.owned
+    (subst (IsLegal m) (sym made.told_are) legal)
+    (each_among (IsFair key owner) made.owned (λ x i ne.
+    of_each (λ it. key_of it.command ≡ key → it.command ≡ Get key) x.told (lists x.owner)
+    (gets_only x.owner ne)
+    (subst (λ ts. Among x.told ts) (made.each x.owner) (told_among x made.owned i)))))

@@ -1,0 +1,34 @@
+-- Commands with their replies, and with one reply more. Serves `Script`.
+use Rattle.std.proofs.Common.{◌≡◌, ◌∙◌, ℕ, suc, ◌<◌, List, [], ◌∷◌, ◌++◌, length, map, Option, slice_index_or, refl, sym, ap, arith}
+use Rattle.std.proofs.lemmas.List.{map_push, append_assoc, append-nil}
+use Rattle.ist_core.specs.declared.calls.Call.{Call}
+use Rattle.ist_core.specs.declared.commands.Command.{Command}
+use Rattle.ist_core.specs.Replies.{Answered, told}
+use Rattle.ist_core.specs.Resting.{told_by_call}
+use Rattle.ist_tree.specs.Faces.{PassFace}
+use Rattle.ist_tree.specs.Calls.{AddsCall}
+use Rattle.ist_map.specs.Scripts.{told_in}
+
+-- one reply more is one answered command more
+pub told_in-push : (commands : List Command) (replies : List (Option ℕ)) (reply : Option ℕ)
+    (d : Command) → length replies < length commands
+    → told_in commands (replies ++ reply ∷ [])
+    ≡ told_in commands replies ++ told (slice_index_or commands (length replies) d) reply ∷ []
+told_in-push [] replies reply d low = absurd (omega arith)
+told_in-push (c ∷ cs) [] reply d low = none cs
+  where
+    none : (cs : List Command) → told c reply ∷ told_in cs [] ≡ told c reply ∷ []
+    none [] = refl
+    none (x ∷ cs) = refl
+told_in-push (c ∷ cs) (r ∷ replies) reply d low =
+    ap (λ ts. told c r ∷ ts) (told_in-push cs replies reply d (omega arith))
+
+-- a call that was added is told last
+pub added_told : (p q : PassFace) (command : Command) (reply : Option ℕ) → AddsCall p q command reply
+    → map told_by_call q.calls ≡ map told_by_call p.calls ++ told command reply ∷ []
+added_told p q command reply a =
+    ap (map told_by_call) a.calls_are ∙ map_push told_by_call p.calls a.call
+    ∙ ap (λ t. map told_by_call p.calls ++ t ∷ []) same
+  where
+    same : told_by_call a.call ≡ told command reply
+    same = ap (λ c. told c a.call.reply) a.command_is ∙ ap (told command) a.reply_is

@@ -1,0 +1,35 @@
+-- Workers with their passes on one tree.
+use Rattle.std.specs.Prelude.{◌≡◌, ℕ, List, [], ◌++◌, map, Option, Some, None, slice_index_or}
+use Rattle.ist_core.specs.declared.calls.Call.{Call}
+use Rattle.ist_core.specs.Histories.{PassCalls}
+use Rattle.ist_core.specs.Replies.{Answered}
+use Rattle.ist_core.specs.Resting.{told_by_call}
+use Rattle.ist_tree.specs.Faces.{TreeFace, PassFace, calls_in}
+
+-- there is a pass, and it is on the tree
+pub record IsOn (tree : TreeFace) (pass : Option PassFace) : Type 0 where
+  pub is : PassFace
+  pub is_pass : pass ≡ Some is
+  pub same_tree : is.tree ≡ tree
+
+-- there is a pass on the tree, and it has made no call
+pub record IsHired (tree : TreeFace) (pass : Option PassFace) : Type 0 where
+  pub is : PassFace
+  pub is_pass : pass ≡ Some is
+  pub same_tree : is.tree ≡ tree
+  pub no_calls : is.calls ≡ []
+
+-- the calls of the pass, with its number
+abbrev pub calls_by : Option PassFace → PassCalls
+calls_by (Some pass) = calls_in pass
+calls_by None = record { number = 0; calls = [] }
+
+-- the number of the pass
+abbrev pub number_of : Option PassFace → ℕ
+number_of pass = (calls_by pass).number
+
+-- what each worker was told is what it had been told before, and then what its calls told it
+abbrev pub HaveWorked : List (List Answered) → List (List Call) → List (List Answered) → Type 0
+HaveWorked before calls after =
+    (number : ℕ) → slice_index_or after number []
+    ≡ slice_index_or before number [] ++ map told_by_call (slice_index_or calls number [])

@@ -1,0 +1,161 @@
+//! Workers and their passes: each gets the pass with its number on a tree, works, and gives it back.
+ghost use Rattle.std.specs.Prelude.{◌≡◌, ◌+◌, ◌++◌, ◌<◌, ◌≤◌, ◌∷◌, [], ℕ, List, length, map, max, false, All, None, OnOk};
+ghost use Rattle.std.specs.List.{range_with_len};
+ghost use Rattle.ist_core.specs.Enabled.{caller_limit};
+ghost use Rattle.ist_core.specs.Replies.{Answered};
+ghost use Rattle.ist_core.specs.Resting.{told_by_call};
+ghost use Rattle.ist_map.specs.Hands.{IsHired, IsOn, number_of, calls_by, HaveWorked};
+
+use ist_core::Full;
+use ist_tree::{Maker, Pass, Tree};
+use std::thread;
+use std::thread::Threads;
+
+/// What a worker does on a tree, and then on the next one if the tree runs full.
+pub trait Worker {
+    // what it was told by all calls that it has made, in order
+    ghost told: { Self → List Answered };
+    // it has nothing left to do
+    ghost is_done: { Self → Type 0 };
+
+    /// Makes calls by this pass, which has made none on this tree, until there is nothing left to
+    /// do or a call is refused.
+    ///
+    /// `Err` asks for another tree with the same pairs and more words. `work` is called again there,
+    /// with a new pass, and goes on with the call that was refused.
+    fn work(&mut self, tree: &Tree, pass: &mut Pass) -> Result<(), Full>
+        requires same_tree { pass.old.tree ≡ tree.now }
+        requires no_calls { pass.old.calls ≡ [] }
+        ensures same_tree { pass.new.tree ≡ pass.old.tree }
+        ensures number { pass.new.number ≡ pass.old.number }
+        ensures told { told self.new ≡ told self.old ++ map told_by_call pass.new.calls }
+        ensures done { OnOk result (is_done self.new) };
+}
+
+/// A worker, with its pass while there is a tree to work on.
+#[derive(Drop)]
+pub struct Hand<W: Worker> {
+    pub worker: W,
+    pass: Option<Pass>,
+    refused: Option<Full>,
+}
+
+impl<W: Worker> Hand<W> {
+    /// Takes on a worker. Allocates nothing.
+    pub fn new(worker: W) -> Hand<W>
+        ensures worker { result.worker ≡ worker }
+    {
+        Hand {
+            worker,
+            pass: None,
+            refused: None,
+        }
+    }
+
+    // Gives it the next pass of the tree.
+    fn hire(&mut self, tree: &Tree, maker: &mut Maker)
+        requires same_tree { maker.old.tree ≡ tree.now }
+        requires few { maker.old.made < caller_limit }
+        ensures worker { self.new.worker ≡ self.old.worker }
+        ensures hired { IsHired tree.now self.new.pass }
+        ensures number { number_of self.new.pass ≡ maker.old.made }
+        ensures same_tree { maker.new.tree ≡ maker.old.tree }
+        ensures made { maker.new.made ≡ maker.old.made + 1 }
+        ensures taken { maker.new.taken ≡ maker.old.taken }
+    {
+        self.pass = Some(tree.pass(maker));
+    }
+
+    // Lets the worker work on the tree.
+    fn work(&mut self, tree: &Tree)
+        requires hired { IsHired tree.now self.old.pass }
+        ensures on_tree { IsOn tree.now self.new.pass }
+        ensures number { number_of self.new.pass ≡ number_of self.old.pass }
+        ensures told { W.told self.new.worker
+            ≡ W.told self.old.worker ++ map told_by_call (calls_by self.new.pass).calls }
+        ensures done { self.new.refused ≡ None → W.is_done self.new.worker }
+    {
+        if let Some(pass) = &mut self.pass {
+            self.refused = match self.worker.work(tree, pass) {
+                Ok(()) => None,
+                Err(full) => Some(full),
+            };
+        }
+    }
+
+    // Gives its pass back to the maker.
+    fn dismiss(&mut self, tree: &Tree, maker: &mut Maker)
+        requires same_tree { maker.old.tree ≡ tree.now }
+        requires on_tree { IsOn tree.now self.old.pass }
+        ensures worker { self.new.worker ≡ self.old.worker }
+        ensures refused { self.new.refused ≡ self.old.refused }
+        ensures same_tree { maker.new.tree ≡ maker.old.tree }
+        ensures made { maker.new.made ≡ maker.old.made }
+        ensures taken { maker.new.taken ≡ calls_by self.old.pass ∷ maker.old.taken }
+    {
+        if let Some(pass) = self.pass.take() {
+            tree.take_back(maker, pass);
+        }
+    }
+}
+
+// Gives each its pass, in their order.
+pub(crate) fn hire_all<W: Worker>(tree: &Tree, maker: &mut Maker, hands: &mut [Hand<W>])
+    requires same_tree { maker.old.tree ≡ tree.now }
+    requires few { maker.old.made + length hands.old ≤ caller_limit }
+    ensures told { map (λ h. W.told h.worker) hands.new ≡ map (λ h. W.told h.worker) hands.old }
+    ensures hired { All (λ h. IsHired tree.now h.pass) hands.new }
+    ensures numbers { map (λ h. number_of h.pass) hands.new
+        ≡ range_with_len maker.old.made (length hands.old) }
+    ensures same_tree { maker.new.tree ≡ maker.old.tree }
+    ensures made { maker.new.made ≡ maker.old.made + length hands.old }
+    ensures taken { maker.new.taken ≡ maker.old.taken }
+{
+    if let Some((first, rest)) = hands.split_first_mut() {
+        first.hire(tree, maker);
+        hire_all(tree, maker, rest);
+    }
+}
+
+// Lets all work, each on its own thread if one can be started.
+pub(crate) fn work_all<R: Threads + Sync, W: Worker + Send>(
+    rt: &R,
+    tree: &Tree,
+    hands: &mut [Hand<W>],
+)
+    requires hired { All (λ h. IsHired tree.now h.pass) hands.old }
+    ensures on_tree { All (λ h. IsOn tree.now h.pass) hands.new }
+    ensures numbers { map (λ h. number_of h.pass) hands.new
+        ≡ map (λ h. number_of h.pass) hands.old }
+    ensures told { HaveWorked (map (λ h. W.told h.worker) hands.old)
+        (map (λ h. (calls_by h.pass).calls) hands.new) (map (λ h. W.told h.worker) hands.new) }
+    ensures done { All (λ h. h.refused ≡ None → W.is_done h.worker) hands.new }
+{
+    // `for_each_mut` requires at least one thread. It starts none if there are no workers.
+    let count = hands.len().max(1);
+    thread::for_each_mut(rt, hands, count, &|_, hand| hand.work(tree));
+}
+
+// Gives all passes back, the last one first.
+pub(crate) fn dismiss_all<W: Worker>(tree: &Tree, maker: &mut Maker, hands: &mut [Hand<W>])
+    requires same_tree { maker.old.tree ≡ tree.now }
+    requires on_tree { All (λ h. IsOn tree.now h.pass) hands.old }
+    ensures told { map (λ h. W.told h.worker) hands.new ≡ map (λ h. W.told h.worker) hands.old }
+    ensures done { All (λ h. h.refused ≡ None → W.is_done h.worker) hands.old
+        → All (λ h. h.refused ≡ None → W.is_done h.worker) hands.new }
+    ensures same_tree { maker.new.tree ≡ maker.old.tree }
+    ensures made { maker.new.made ≡ maker.old.made }
+    ensures taken { maker.new.taken ≡ map (λ h. calls_by h.pass) hands.old ++ maker.old.taken }
+{
+    if let Some((first, rest)) = hands.split_first_mut() {
+        dismiss_all(tree, maker, rest);
+        first.dismiss(tree, maker);
+    }
+}
+
+// Whether a worker stopped because a call was refused.
+pub(crate) fn has_refused<W: Worker>(hands: &[Hand<W>]) -> bool
+    ensures none { result ≡ false → All (λ h. h.refused ≡ None) hands.now }
+{
+    hands.iter().any(|hand| hand.refused.is_some())
+}

@@ -1,0 +1,188 @@
+//! A map that workers share, on one tree after another.
+ghost use Rattle.std.specs.Prelude.{◌≡◌, ◌*◌, ◌^◌, ◌<◌, ◌≤◌, ℕ, List, length, map, All, None, OnOk, IfOk, IfErr};
+ghost use Rattle.std.specs.List.Sorted.{IsStrictlyIncreasing};
+ghost use Rattle.ist_core.specs.Enabled.{caller_limit};
+ghost use Rattle.ist_core.specs.RowLayout.{place_limit};
+ghost use Rattle.ist_words.specs.RestingWords.{HoldPairs};
+ghost use Rattle.ist_tree.specs.Opening.{IsNewTree};
+ghost use Rattle.ist_map.specs.Running.{HasRun, OpensEnough, IsRunFault, IsOpenFaultOf};
+
+use crate::faults::ReopenFault;
+use crate::hands::{Hand, Worker, dismiss_all, has_refused, hire_all, work_all};
+use crate::reopening::{MOST_WORDS, open_after};
+use ist_core::Pair;
+use ist_image::Image;
+use ist_rest::Closed;
+use ist_tree::{Maker, OpenFault, Tree};
+use std::alloc::{AllocError, Global};
+use std::thread::Threads;
+
+/// A map that lives on: workers run on it, on one tree after another, each with at least twice the
+/// words of the one before.
+///
+/// Between runs no tree is open, and the pairs are those of the closed words. Contracts see these.
+#[derive(Drop)]
+pub struct Map {
+    closed: Closed,
+    image: Image,
+    words: u32,
+}
+
+impl Map {
+    /// A map of these pairs, whose keys are strictly increasing. The first tree of its first run has
+    /// this many words, or more if the pairs need more.
+    ///
+    /// It returns `Small` only if the pairs take more words than a tree may have, and `Memory` only
+    /// if allocation failed.
+    pub fn open(alloc: Global, words: u32, pairs: &[Pair]) -> Result<Map, OpenFault>
+        requires rising { IsStrictlyIncreasing (map (λ pair. pair.key) pairs.now) }
+        requires few { length pairs.now < 2 ^ 32 }
+        requires within { words ≤ place_limit }
+        ensures pairs { IfOk result (λ m. HoldPairs m.closed pairs.now) }
+        ensures words { IfOk result (λ m. m.words ≡ words) }
+        ensures fault { IfErr result (IsOpenFaultOf words pairs.now) }
+    {
+        let mut image = Image::new(alloc);
+        let (tree, maker) = open_pairs(alloc, &mut image, words, pairs)?;
+        Ok(Map {
+            closed: tree.close(maker),
+            image,
+            words,
+        })
+    }
+
+    /// A map of the pairs that a closed tree left. The first tree of its first run has this many
+    /// words, or more if the pairs need more. Allocates nothing.
+    pub fn new(alloc: Global, closed: Closed, words: u32) -> Map
+        ensures closed { result.closed ≡ closed }
+        ensures words { result.words ≡ words }
+    {
+        Map {
+            closed,
+            image: Image::new(alloc),
+            words,
+        }
+    }
+
+    /// Returns the words of the last tree.
+    pub fn closed(&self) -> &Closed
+        ensures value { result.now ≡ self.now.closed }
+    {
+        &self.closed
+    }
+
+    /// Ends the map, and returns the words of the last tree.
+    pub fn into_closed(self) -> Closed
+        ensures value { result ≡ self.closed }
+    {
+        self.closed
+    }
+
+    /// Lets the workers run side by side until none is refused, each on its own thread if one can be
+    /// started.
+    ///
+    /// They share one tree. If a worker's call is refused, the tree is closed as soon as all have
+    /// stopped, and all go on in a tree of at least twice the words that begins with the same pairs.
+    /// So with memory a run ends when the workers end, or when `MOST_WORDS` words are too few. Then,
+    /// and also if memory runs out, the map has all pairs that were put, each worker knows what it
+    /// was told, and `run` may be called again.
+    pub fn run<R: Threads + Sync, W: Worker + Send>(
+        &mut self,
+        rt: &R,
+        alloc: Global,
+        hands: &mut [Hand<W>],
+    ) -> Result<(), ReopenFault>
+        requires few { length hands.old ≤ caller_limit }
+        ensures ran { HasRun self.old.closed self.new.closed
+            (map (λ h. W.told h.worker) hands.old) (map (λ h. W.told h.worker) hands.new) }
+        ensures done { OnOk result (All (λ h. W.is_done h.worker) hands.new) }
+        ensures fault { IfErr result (IsRunFault self.new.closed self.old.words) }
+    {
+        self.closed.know();
+        loop {
+            self.run_once(rt, alloc, hands)?;
+            if !has_refused(hands) {
+                return Ok(());
+            }
+            self.words = doubled(self.words)?;
+        }
+    }
+
+    // Lets the workers run on one tree until each has stopped.
+    fn run_once<R: Threads + Sync, W: Worker + Send>(
+        &mut self,
+        rt: &R,
+        alloc: Global,
+        hands: &mut [Hand<W>],
+    ) -> Result<(), ReopenFault>
+        requires few { length hands.old ≤ caller_limit }
+        ensures ran { HasRun self.old.closed self.new.closed
+            (map (λ h. W.told h.worker) hands.old) (map (λ h. W.told h.worker) hands.new) }
+        ensures more { OnOk result (self.old.words ≤ self.new.words) }
+        ensures some { OnOk result (0 < self.new.words) }
+        ensures within { OnOk result (self.new.words ≤ MOST_WORDS) }
+        ensures fault { IfErr result (IsRunFault self.new.closed self.old.words) }
+        ensures done { OnOk result (All (λ h. h.refused ≡ None → W.is_done h.worker) hands.new) }
+        ensures same { length hands.new ≡ length hands.old }
+    {
+        self.closed.know();
+        let (tree, mut maker) = open_enough(alloc, &mut self.image, &self.closed, self.words)?;
+        self.words = tree.words() as u32;
+        hire_all(&tree, &mut maker, hands);
+        work_all(rt, &tree, hands);
+        dismiss_all(&tree, &mut maker, hands);
+        self.closed = tree.close(maker);
+        Ok(())
+    }
+}
+
+// Opens a tree of the pairs, of this many words, or of as many as they take.
+fn open_pairs(
+    alloc: Global,
+    image: &mut Image,
+    words: u32,
+    pairs: &[Pair],
+) -> Result<(Tree, Maker), OpenFault>
+    requires rising { IsStrictlyIncreasing (map (λ pair. pair.key) pairs.now) }
+    requires few { length pairs.now < 2 ^ 32 }
+    requires within { words ≤ place_limit }
+    ensures new { IfOk result (λ t. (w : ℕ) × IsNewTree w pairs.now t.0 t.1) }
+    ensures fault { IfErr result (IsOpenFaultOf words pairs.now) }
+{
+    match Tree::open_over(alloc, image, words, pairs) {
+        Err(OpenFault::Small { needed, .. }) if needed <= u64::from(MOST_WORDS) => {
+            Tree::open_over(alloc, image, needed as u32, pairs)
+        }
+        other => other,
+    }
+}
+
+// Opens a tree of this many words over the closed one, or of as many as its pairs take.
+fn open_enough(
+    alloc: Global,
+    image: &mut Image,
+    closed: &Closed,
+    words: u32,
+) -> Result<(Tree, Maker), ReopenFault>
+    ensures new { IfOk result (λ t. OpensEnough closed.now words t.0 t.1) }
+    ensures fault { IfErr result (IsRunFault closed.now words) }
+{
+    match open_after(alloc, image, closed, words) {
+        Err(ReopenFault::Small { needed, .. }) if needed <= u64::from(MOST_WORDS) => {
+            open_after(alloc, image, closed, needed as u32)
+        }
+        other => other,
+    }
+}
+
+// Returns twice as many words, if a tree may have so many.
+fn doubled(words: u32) -> Result<u32, ReopenFault>
+    ensures twice { IfOk result (λ w. w ≡ 2 * words) }
+    ensures fault { IfErr result (λ f. (closed : List ℕ) → IsRunFault closed words f) }
+{
+    let twice = words.saturating_mul(2);
+    if twice > MOST_WORDS {
+        return Err(ReopenFault::Beyond { words: twice });
+    }
+    Ok(twice)
+}

@@ -1,0 +1,80 @@
+//! The program `try_growth`: workers on a map that grows from tree to tree, and a judge of what each
+//! of them was told.
+//!
+//! Read `plans.rt` and `runs.rt`. Stands on `ist_core`, `ist_rest`, `ist_tree`, `ist_map`,
+//! `test_tales`, `try_draws` and `clap`.
+#![tactic(auto)]
+
+mod command;
+mod faults;
+mod plans;
+mod runs;
+mod scripts;
+
+use command::{Job, read_words};
+use faults::Fault;
+use plans::Plan;
+use runs::{Report, run_all};
+use std::process::ExitCode;
+use std::{env, io};
+
+/// The status if a check failed.
+const WRONG: u8 = 1;
+
+/// The status if the arguments are refused.
+const USAGE: u8 = 2;
+
+/// The status if memory ran out, or writing failed.
+const FAILED: u8 = 3;
+
+fn main(rt: HostRuntime) -> ExitCode {
+    let plan = match read_job(&rt) {
+        Ok(Job::Run(plan)) => plan,
+        Ok(Job::Done { status }) => return ExitCode::from(status),
+        Err(_) => return ExitCode::from(FAILED),
+    };
+    let outcome = run_all(&rt, rt.alloc(), plan);
+    match say(&rt, &plan, &outcome) {
+        Ok(status) => ExitCode::from(status),
+        Err(_) => ExitCode::from(FAILED),
+    }
+}
+
+/// What the words of the command line ask for.
+fn read_job(rt: &HostRuntime) -> io::Result<Job> {
+    let mut words = Vec::new(rt.alloc());
+    for word in env::args(rt)? {
+        words.push(word)?;
+    }
+    read_words(rt, words.as_slice())
+}
+
+/// Says what was run and what came of it, and returns the status.
+fn say(rt: &HostRuntime, plan: &Plan, outcome: &Result<Report, Fault>) -> io::Result<u8> {
+    println!(rt;
+        "seed {}: {} runs by {} workers, {} calls each, {} keys, from {} words on",
+        plan.seed, plan.runs, plan.workers, plan.calls, plan.span, plan.words
+    )?;
+    match outcome {
+        Ok(report) => {
+            println!(rt;
+                "answered: {} calls; at the end {} keys and {} words",
+                report.answered, report.keys, report.words
+            )?;
+            Ok(0)
+        }
+        Err(fault) => {
+            println!(rt; "failed: {fault:?}")?;
+            Ok(status_of(*fault))
+        }
+    }
+}
+
+/// The status for what ended the runs.
+fn status_of(fault: Fault) -> u8 {
+    match fault {
+        Fault::Wrong { .. } | Fault::Unanswered { .. } => WRONG,
+        Fault::Refused => USAGE,
+        Fault::Memory => FAILED,
+    }
+}
