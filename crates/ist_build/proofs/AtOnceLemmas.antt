@@ -1,6 +1,7 @@
 -- What holds of a build once all its rows are reserved, and once they are built. Serves
 -- `build_at_once`.
-use Rattle.std.proofs.Common.{◌≡◌, ℕ, ◌≤◌, List, ◌++◌, length, sym, ap, subst, arith}
+use Rattle.std.proofs.Common.{◌≡◌, ℕ, ◌≤◌, List, ◌++◌, length, Result, Ok, Err, IfOk, IfErr, sym, ap, subst, arith}
+use Rattle.ist_core.specs.declared.ports.Full.{Full}
 use Rattle.ist_core.specs.Arithmetic.{degree}
 use Rattle.ist_core.specs.Leaves.{PlacedLeaf}
 use Rattle.ist_core.specs.RowLayout.{inner_words, place_limit}
@@ -8,22 +9,22 @@ use Rattle.ist_core.specs.Shapes.{shape}
 use Rattle.ist_core.proofs.ShapeLemmas.{shape_many}
 use Rattle.ist_rule.specs.declared.view.View.{View}
 use Rattle.ist_rule.specs.Rule.{IsSound, own_at}
-use Rattle.ist_rule.specs.Learning.{now}
+use Rattle.ist_rule.specs.Learning.{now, GoesOnTo}
 use Rattle.ist_rows.specs.declared.callers.Caller.{Caller}
 use Rattle.ist_rows.specs.Rows.{IsCaller}
 use Rattle.ist_rows.specs.Building.{IsInBuild, HasTaken}
 use Rattle.ist_rows.specs.Block.{HoldsBlock, AreNext, ReservedAll}
 use Rattle.ist_rows.proofs.BlockLemmas.{holds_them}
 use Rattle.ist_rows.proofs.ReserveLemmas.{next_low}
-use Rattle.ist_build.specs.Laying.{BuiltOn, ArePlaced, HaveLeaves, AreKeysOf, IsDue, IsLaid, IsWritten, IsLaidBelow}
-use Rattle.ist_build.proofs.BuiltLemmas.{built_grow, rewritten_built}
+use Rattle.ist_build.specs.Laying.{BuiltOn, ArePlaced, HaveLeaves, AreKeysOf, IsDue, IsLaid, IsShort, IsWritten, IsLaidBelow}
+use Rattle.ist_build.proofs.BuiltLemmas.{built_grow, built_more, built_next, loads_built, rewritten_built}
 use Rattle.ist_build.proofs.MidwayLemmas.{published_on}
 use Rattle.ist_build.proofs.KeyLemmas.{keys_on}
 use Rattle.ist_build.proofs.LayingLemmas.{row_within}
 use Rattle.ist_build.proofs.RowOpenedLemmas.{at_rewritten}
 use Rattle.ist_build.proofs.StoringLemmas.{block_first}
 use Rattle.ist_build.proofs.ReservedLemmas.{IsFreshBlock, reserved_all_built, fresh_block}
-use Rattle.ist_build.proofs.ShareLemmas.{laid_lower}
+use Rattle.ist_build.proofs.ShareLemmas.{laid_lower, taken_on, short_on}
 
 -- several keys take a row at least
 pub some_rows : (n : ℕ) → 2 ≤ n → 1 ≤ length (shape n)
@@ -33,6 +34,14 @@ some_rows n two = let long = ap length (shape_many n two) in omega arith
 pub due_next : (who : Caller) (n : ℕ) → IsDue who n → AreNext who (shape n)
 due_next who n h = record { stuck = h.stuck; done = h.done; rest = h.rest; at = h.at }
 
+-- so they are for a list that is the shape
+pub shape_next : (who : Caller) (n : ℕ) (sizes : List ℕ) → sizes ≡ shape n → IsDue who n → 2 ≤ n
+    → AreNext who sizes × (1 ≤ length sizes)
+shape_next who n sizes is due two = (
+  subst (AreNext who) (sym is) (due_next who n due),
+  subst (λ xs. 1 ≤ length xs) (sym is) (some_rows n two),
+)
+
 -- leaves stay at their bases
 pub placed_on : (v w : View) → BuiltOn v w → (bases : List ℕ) (leaves : List PlacedLeaf)
     → ArePlaced (now v) bases leaves → ArePlaced (now w) bases leaves
@@ -41,9 +50,31 @@ placed_on v w b bases leaves a =
 
 -- ---- once the rows are reserved
 
+-- what was built in rows that were reserved together
+pub record BlockBuilt (old new : Caller) (leaves : List ℕ) (word : ℕ) : Type 0 where
+  pub built : BuiltOn old.seat.view new.seat.view
+  pub laid : (placed : List PlacedLeaf) → ArePlaced (now old.seat.view) leaves placed
+      → IsLaid new.seat.view new.number (now old.seat.view).next word placed
+  pub taken : HasTaken old (shape (length leaves)) new
+
+-- the rows are there to be laid, and what is known once they are
+pub record BlockReady (old new : Caller) (leaves keys : List ℕ) (base : ℕ) : Type 0 where
+  pub held : HoldsBlock (now new.seat.view) new.number base (shape (length leaves))
+  pub fresh : (place : ℕ) → base ≤ place → own_at new.seat.view.own place ≡ 0
+  pub low : base ≤ place_limit
+  pub leaves_are : HaveLeaves (now new.seat.view) leaves
+  pub keys_are : AreKeysOf (now new.seat.view) leaves keys
+  pub laid : (last : Caller) (end word : ℕ) → IsWritten new last base end
+      → ((placed : List PlacedLeaf) → ArePlaced (now new.seat.view) leaves placed
+      → IsLaidBelow last.seat.view last.number base end word placed)
+      → BlockBuilt old last leaves word
+
 module _ (old new : Caller) (leaves keys : List ℕ) (at base : ℕ) (base_is : base ≡ at)
     (s : IsSound old.seat.view) (c : IsCaller old) (two : 2 ≤ length leaves) (same : new ≡ record old { seat = new.seat })
-    (reserved : ReservedAll old.seat.view old.number at (shape (length leaves)) new.seat.view) where
+    (reserved : ReservedAll old.seat.view old.number at (shape (length leaves)) new.seat.view)
+    (was_taken : HasTaken old (shape (length leaves)) new)
+    (have : HaveLeaves (now old.seat.view) leaves)
+    (have_keys : AreKeysOf (now old.seat.view) leaves keys) where
   abbrev sizes : List ℕ
   sizes = shape (length leaves)
 
@@ -59,17 +90,13 @@ module _ (old new : Caller) (leaves keys : List ℕ) (at base : ℕ) (base_is : 
       fresh_block old.seat.view s old.number base sizes (some_rows (length leaves) two) new.seat.view r
 
   -- they are held
-  pub block_held : HoldsBlock (now new.seat.view) new.number base sizes
+  block_held : HoldsBlock (now new.seat.view) new.number base sizes
   block_held =
       subst (λ k. HoldsBlock (now new.seat.view) k base sizes) (sym (ap (λ (x : Caller). x.number) same))
       (holds_them old new.seat base sizes c r)
 
-  -- their words are 0
-  pub block_fresh : (place : ℕ) → base ≤ place → own_at new.seat.view.own place ≡ 0
-  block_fresh = fresh.zero_words
-
   -- they lie in the table
-  pub block_low : base ≤ place_limit
+  block_low : base ≤ place_limit
   block_low =
       let row = (block_first (now new.seat.view) new.number base (length leaves) two block_held).0 in
       let inside = (row_within new.seat.view reserved.reserved.sound new.number base
@@ -79,20 +106,9 @@ module _ (old new : Caller) (leaves keys : List ℕ) (at base : ℕ) (base_is : 
       let all = low.1 in
       omega arith
 
-  -- and the leaves and their keys are what they were
-  pub block_leaves : HaveLeaves (now old.seat.view) leaves → HaveLeaves (now new.seat.view) leaves
-  block_leaves have = (have.0, placed_on old.seat.view new.seat.view built leaves have.0 have.1)
-
-  pub block_keys : AreKeysOf (now old.seat.view) leaves keys → AreKeysOf (now new.seat.view) leaves keys
-  block_keys have =
-      keys_on (now old.seat.view) (now new.seat.view) (built_grow old.seat.view new.seat.view built) leaves
-      keys have
-
-  -- ---- once they are laid
-
   module _ (last : Caller) (end word : ℕ) (written : IsWritten new last base end) where
     -- the caller only reserved, and stored into what it reserved
-    pub block_built : BuiltOn old.seat.view last.seat.view
+    block_built : BuiltOn old.seat.view last.seat.view
     block_built =
         let high = fresh.high in
         subst (λ (x : Caller). BuiltOn old.seat.view x.seat.view) (sym written.same)
@@ -101,7 +117,7 @@ module _ (old new : Caller) (leaves keys : List ℕ) (at base : ℕ) (base_is : 
         (λ place low. written.below place (omega arith)))
 
     -- the word is laid
-    pub block_laid : ((placed : List PlacedLeaf) → ArePlaced (now new.seat.view) leaves placed
+    block_laid : ((placed : List PlacedLeaf) → ArePlaced (now new.seat.view) leaves placed
         → IsLaidBelow last.seat.view last.number base end word placed)
         → (placed : List PlacedLeaf) → ArePlaced (now old.seat.view) leaves placed
         → IsLaid last.seat.view last.number (now old.seat.view).next word placed
@@ -110,7 +126,66 @@ module _ (old new : Caller) (leaves keys : List ℕ) (at base : ℕ) (base_is : 
         (laid placed (placed_on old.seat.view new.seat.view built leaves placed a)).laid
 
     -- and the caller has taken all rows
-    pub block_taken : HasTaken old sizes new → HasTaken old sizes last
-    block_taken taken stuck done rest h =
+    block_taken : HasTaken old sizes last
+    block_taken stuck done rest h =
         subst (λ (x : Caller). IsInBuild x stuck (done ++ sizes) rest) (sym written.same)
-        (at_rewritten new last.seat.view.own stuck (done ++ sizes) rest (taken stuck done rest h))
+        (at_rewritten new last.seat.view.own stuck (done ++ sizes) rest (was_taken stuck done rest h))
+
+  -- the rows are there to be laid
+  pub block_ready : BlockReady old new leaves keys base
+  block_ready =
+      record {
+        held = block_held;
+        fresh = fresh.zero_words;
+        low = block_low;
+        leaves_are = (have.0, placed_on old.seat.view new.seat.view built leaves have.0 have.1);
+        keys_are = keys_on (now old.seat.view) (now new.seat.view)
+            (built_grow old.seat.view new.seat.view built) leaves keys have_keys;
+        laid = λ last end word written laid. record {
+          built = block_built last end word written;
+          laid = block_laid last end word written laid;
+          taken = block_taken last end word written;
+        };
+      }
+
+-- ---- if they don't fit
+
+-- what a build gives after loads
+pub record LaterBuilt (old new : Caller) (words : ℕ) (leaves : List ℕ) (answer : Result ℕ Full) : Type 0 where
+  pub built : BuiltOn old.seat.view new.seat.view
+  pub laid : IfOk answer (λ word. (placed : List PlacedLeaf)
+      → ArePlaced (now old.seat.view) leaves placed
+      → IsLaid new.seat.view new.number (now old.seat.view).next word placed)
+  pub taken : IfOk answer (λ word. HasTaken old (shape (length leaves)) new)
+  pub full : IfErr answer (λ full. IsShort old.seat.view words (length leaves) full new.seat.view)
+
+-- a build that began after loads
+pub later_built : (old mid new : Caller) (words : ℕ) (leaves : List ℕ) → IsCaller old
+    → mid ≡ record old { seat = mid.seat } → GoesOnTo old.seat.view mid.seat.view
+    → BuiltOn mid.seat.view new.seat.view → (answer : Result ℕ Full)
+    → IfOk answer (λ word. (placed : List PlacedLeaf)
+    → ArePlaced (now mid.seat.view) leaves placed
+    → IsLaid new.seat.view new.number (now mid.seat.view).next word placed)
+    → IfOk answer (λ word. HasTaken mid (shape (length leaves)) new)
+    → IfErr answer (λ full. IsShort mid.seat.view words (length leaves) full new.seat.view)
+    → LaterBuilt old new words leaves answer
+later_built old mid new words leaves c same g b (Ok word) laid taken full =
+    let v = old.seat.view in
+    let on = loads_built v mid.seat.view g in
+    record {
+      built = built_more v mid.seat.view new.seat.view on b;
+      laid = λ placed a. laid_lower new.seat.view new.number (now v).next (now mid.seat.view).next word
+          placed (built_next v mid.seat.view on)
+          (laid placed (placed_on v mid.seat.view on leaves placed a));
+      taken = taken_on old mid.seat (shape (length leaves)) new c g
+          (subst (λ (x : Caller). HasTaken x (shape (length leaves)) new) same taken);
+      full = tt;
+    }
+later_built old mid new words leaves c same g b (Err full) laid taken short =
+    let v = old.seat.view in
+    record {
+      built = built_more v mid.seat.view new.seat.view (loads_built v mid.seat.view g) b;
+      laid = tt;
+      taken = tt;
+      full = short_on v mid.seat.view g words (length leaves) full new.seat.view short;
+    }

@@ -1,5 +1,6 @@
 -- What a build requires and returns, from what it has built. Serves `build`.
-use Rattle.std.proofs.Common.{◌≡◌, ◌≢◌, ℕ, ◌+◌, ◌-◌, ◌<◌, ◌≤◌, ◌==◌, true, false, List, [], ◌∷◌, ◌++◌, length, take, drop, Some, slice_index_or, refl, sym, ap, ap₂, ◌∙◌, subst, append-nil, append_assoc, arith}
+use Rattle.std.proofs.Common.{◌≡◌, ◌≢◌, ℕ, ◌+◌, ◌-◌, ◌<◌, ◌≤◌, ◌==◌, true, false, List, [], ◌∷◌, ◌++◌, length, take, drop, Some, slice_index_or, refl, sym, ap, ap₂, ◌∙◌, subst, append-nil, append_assoc, ⊎_elim, arith}
+use Rattle.std.proofs.lemmas.Bool.{cases_lt}
 use Rattle.std.proofs.lemmas.Bool.Decides.{nat_tests}
 use Rattle.std.proofs.lemmas.List.{length-map}
 use Rattle.std.specs.List.{flat_map}
@@ -8,7 +9,7 @@ use Rattle.ist_core.specs.Arithmetic.{degree, part_len, part_start}
 use Rattle.ist_core.specs.Leaves.{PlacedLeaf}
 use Rattle.ist_core.specs.Parts.{first_keys}
 use Rattle.ist_core.specs.Pieces.{Leaf}
-use Rattle.ist_core.specs.References.{Empty, InnerAt, LeafAt, IsGoodBase, ref_of, word_of}
+use Rattle.ist_core.specs.References.{InnerAt, IsGoodBase, ref_of, word_of}
 use Rattle.ist_core.specs.RowLayout.{inner_words}
 use Rattle.ist_core.specs.Shapes.{shape}
 use Rattle.ist_core.specs.Snapshots.{HoldsRow}
@@ -25,12 +26,12 @@ use Rattle.ist_rule.specs.Learning.{now, GoesOnTo}
 use Rattle.ist_rule.proofs.GoingOnLemmas.{goes_on_more, looked_goes_on}
 use Rattle.ist_dcss.proofs.FieldLemmas.{good_base}
 use Rattle.ist_rows.specs.declared.callers.Caller.{Caller}
-use Rattle.ist_rows.specs.Rows.{IsFull}
-use Rattle.ist_rows.specs.Building.{IsInBuild, IsNext, HasTaken}
+use Rattle.ist_rows.specs.Rows.{IsCaller, IsFull, spares_of}
+use Rattle.ist_rows.specs.Building.{IsInBuild, IsNext, HasTaken, HasRefused}
 use Rattle.ist_build.specs.Laying.{BuiltOn, ArePlaced, HaveLeaves, IsLaid, IsDue, IsShort}
-use Rattle.ist_build.specs.Midway.{words_at, AreLaid, lens_from, IsOpened, IsMidway}
+use Rattle.ist_build.specs.Midway.{words_at, AreLaid, lens_from, IsOpened, IsMidway, IsRowRefused}
 use Rattle.ist_build.proofs.BuiltLemmas.{built_more, loads_built}
-use Rattle.ist_build.proofs.TogetherLemmas.{laid_none, laid_leaf, laid_top}
+use Rattle.ist_build.proofs.TogetherLemmas.{laid_top}
 use Rattle.ist_build.proofs.MidwayLemmas.{part_placed, length-share_of}
 use Rattle.ist_build.proofs.PartsLemmas.{lens_first, lens_last, sizes_left}
 use Rattle.ist_rows.proofs.ShortLemmas.{short_from}
@@ -38,31 +39,19 @@ use Rattle.ist_build.proofs.ShortLemmas.{short_for_more}
 
 -- ---- few leaves
 
+-- a subtree over at most one leaf has no row
+pub no_row : (n : ℕ) → n < 2 → shape n ≡ []
+no_row n few =
+    ⊎_elim (λ none. ap shape (let q : n ≡ 0 = omega arith in q) ∙ shape_none)
+    (λ one. ap shape (let q : n ≡ 1 = omega arith in q) ∙ shape_one) (cases_lt n 1)
+
 -- tests of the number of leaves
 pub is_none : (n : ℕ) → (n == 0) ≡ true → n ≡ 0
 is_none n e = grind (arith, nat_tests)
 
--- a number that is neither 0 nor 1 is at least 2
-pub is_several : (n : ℕ) → (n == 0) ≡ false → n ≢ 1 → 2 ≤ n
-is_several n e ne = let some : n ≢ 0 = grind (arith, nat_tests) in omega arith
-
--- no leaf
-pub none_laid : (v : View) (number word : ℕ) (leaves : List ℕ) → length leaves ≡ 0
-    → word ≡ word_of Empty → (placed : List PlacedLeaf) → ArePlaced (now v) leaves placed
-    → IsLaid v number (now v).next word placed
-none_laid v number word leaves none is [] a =
-    laid_none v number (now v).next word (ap ref_of is ∙ ref_of-word_of Empty tt)
-none_laid v number word leaves none is (leaf ∷ more) a =
-    absurd (let all = ap length a.bases_are in omega arith)
-
--- a build over no leaf takes no row
-pub none_taken : (who : Caller) (leaves : List ℕ) → length leaves ≡ 0
-    → HasTaken who (shape (length leaves)) who
-none_taken who leaves none stuck done rest h =
-    let e : shape (length leaves) ≡ [] = ap shape none ∙ shape_none in
-    subst (λ xs. IsInBuild who stuck (done ++ xs) rest) (sym e)
-    (subst (λ xs. IsInBuild who stuck xs rest) (sym (append-nil done))
-    (subst (λ xs. IsInBuild who stuck done (xs ++ rest)) e h))
+-- a number below 2 that isn't 0 is 1
+pub is_one : (n : ℕ) → (n == 0) ≡ false → n < 2 → n ≡ 1
+is_one n e less = let some : n ≢ 0 = grind (arith, nat_tests) in omega arith
 
 -- one leaf
 pub one_good : (v : View) → IsSound v → (leaves : List ℕ) → HaveLeaves (now v) leaves
@@ -76,27 +65,11 @@ one_good v s leaves have one = at leaves have.0 have.1 one
         subst (λ xs. IsGoodBase (slice_index_or xs 0 0)) a.bases_are
         (good_base v s leaf.base (Leaf leaf.row) a.published.0 (omega arith))
 
--- the word of a leaf is the ideal subtree over this leaf
-pub one_laid : (v : View) → IsSound v → (number word : ℕ) (leaves : List ℕ) → length leaves ≡ 1
-    → word ≡ word_of (LeafAt (slice_index_or leaves 0 0)) → (placed : List PlacedLeaf)
-    → ArePlaced (now v) leaves placed → IsLaid v number (now v).next word placed
-one_laid v s number word leaves one is [] a =
-    absurd (let all = ap length a.bases_are in omega arith)
-one_laid v s number word leaves one is (leaf ∷ []) a =
-    let first : slice_index_or leaves 0 0 ≡ leaf.base =
-    ap (λ xs. slice_index_or xs 0 0) (sym a.bases_are) in
-    laid_leaf v number (now v).next leaf.base word leaf refl a.published.0
-    (ap ref_of is ∙ ap (λ b. ref_of (word_of (LeafAt b))) first
-    ∙ ref_of-word_of (LeafAt leaf.base)
-    (good_base v s leaf.base (Leaf leaf.row) a.published.0 (omega arith)))
-one_laid v s number word leaves one is (leaf ∷ second ∷ more) a =
-    absurd (let all = ap length a.bases_are in omega arith)
-
--- a build over one leaf takes no row
-pub one_taken : (who : Caller) (leaves : List ℕ) → length leaves ≡ 1
+-- a build over at most one leaf takes no row
+pub small_taken : (who : Caller) (leaves : List ℕ) → length leaves < 2
     → HasTaken who (shape (length leaves)) who
-one_taken who leaves one stuck done rest h =
-    let e : shape (length leaves) ≡ [] = ap shape one ∙ shape_one in
+small_taken who leaves few stuck done rest h =
+    let e : shape (length leaves) ≡ [] = no_row (length leaves) few in
     subst (λ xs. IsInBuild who stuck (done ++ xs) rest) (sym e)
     (subst (λ xs. IsInBuild who stuck xs rest) (sym (append-nil done))
     (subst (λ xs. IsInBuild who stuck done (xs ++ rest)) e h))
@@ -104,8 +77,10 @@ one_taken who leaves one stuck done rest h =
 -- ---- the row
 
 -- its row is the next
-pub next_row : (who : Caller) (n : ℕ) → 2 ≤ n → IsDue who n → IsNext who (inner_words (degree n))
-next_row who n two h =
+pub next_row : (who : Caller) (n d : ℕ) → 2 ≤ n → d ≡ degree n → IsDue who n
+    → IsNext who (inner_words d)
+next_row who n d two same h =
+    subst (λ k. IsNext who (inner_words k)) (sym same)
     record {
       stuck = h.stuck;
       done = h.done;
@@ -132,6 +107,21 @@ pub full_built : (v : View) (words size : ℕ) (full : Full) (w : View) → IsFu
     → BuiltOn v w
 full_built v words size full w f =
     loads_built v w (goes_on_more _ _ _ f.short.seen (looked_goes_on _ _ _ _ f.short.looked))
+
+-- so no row of the build is there, and the caller is where it was
+pub row_refused : (old new : Caller) (words n d : ℕ) (full : Full) → 2 ≤ n → d ≡ degree n
+    → IsCaller new → new.number ≡ old.number → spares_of new ≡ spares_of old
+    → IsFull old.seat.view words (inner_words d) full new.seat.view → HasRefused new
+    → IsRowRefused old words n full new
+row_refused old new words n d full two same caller number rows f refused =
+    record {
+      caller = caller;
+      number = number;
+      rows = rows;
+      built = full_built old.seat.view words (inner_words d) full new.seat.view f;
+      short = row_short old.seat.view words n d full new.seat.view two same f;
+      refused = refused;
+    }
 
 -- a held row lies at a good base
 pub held_good : (v : View) → IsSound v → (number base size : ℕ) → HoldsRow (now v) number base size
@@ -170,6 +160,7 @@ module _ (old who : Caller) (leaves : List ℕ) (base d j : ℕ) (m : IsMidway o
         (part_placed old.seat.view who.seat.view m.built n j leaves have.0 have.1),
   )
 
+  -- it has the length of the part
   pub length_own : length own ≡ part_len n j
   length_own = ap length own_is ∙ length-share_of n j leaves refl less
 
@@ -215,6 +206,7 @@ module _ (old who : Caller) (leaves : List ℕ) (base d j : ℕ) (m : IsMidway o
       subst (λ k. IsMidway old leaves base k (degree (length leaves)) who) degree_is
       (subst (λ k. IsMidway old leaves base d k who) (all ∙ degree_is) m)
 
+  -- once all parts are set, the row is laid
   pub all_laid : (word : ℕ) → word ≡ word_of (InnerAt base) → (placed : List PlacedLeaf)
       → ArePlaced (now old.seat.view) leaves placed
       → IsLaid who.seat.view who.number (now old.seat.view).next word placed
@@ -248,6 +240,7 @@ module _ (old who : Caller) (leaves : List ℕ) (base d j : ℕ) (m : IsMidway o
           (parts_all placed) f.laid)
           (least_degree-le (length placed)) good
 
+  -- and all its rows are taken
   pub all_taken : HasTaken old (shape (length leaves)) who
   all_taken stuck done rest h =
       let n = length leaves in

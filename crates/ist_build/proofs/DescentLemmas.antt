@@ -29,10 +29,12 @@ few_loads v s node degree i loads more h less few two =
     omega arith
 
 -- in a row and what is below it
-pub few_below : (v : View) → IsSound v → (node degree i loads more base below : ℕ)
-    → HasSlots v node degree → i < degree → loads ≤ 4 * i + 1 → more ≤ 4 → node < base
-    → below ≤ (place_limit - base) * 2 ^ 31 → loads + more + below ≤ (place_limit - node) * 2 ^ 31
-few_below v s node degree i loads more base below h less few two rise rest =
+pub few_below : (v w : View) → IsSound v → (node degree i loads more base keys below : ℕ)
+    → HasSlots v node degree → i < degree → loads ≤ 4 * i + 1 → more ≤ 4 → (it : Below)
+    → it ≡ Row base keys → IsUnder w node i it → below ≤ (place_limit - base) * 2 ^ 31 → loads + more + below ≤ (place_limit - node) * 2 ^ 31
+few_below v w s node degree i loads more base keys below h less few two what is there rest =
+    let under : IsUnder w node i (Row base keys) = subst (IsUnder w node i) is there in
+    let rise = under.1 in
     let it = few_slots v s node degree h in
     let few_slots = it.0 in
     let low = it.1 in
@@ -76,8 +78,10 @@ module _ (leaves : List PlacedLeaf) (v w : View) (node degree j : ℕ) (s : IsSo
     (g : GoesOnTo v w) (h : HasSlots v node degree) (less : j < degree) (i skip : ℕ)
     (r : IsReading leaves (0 ∷ []) (before_one i) v node j (0 ∷ []) (before_one skip)) where
   -- it is this leaf
-  pub at_leaf : (base : ℕ) → IsUnder w node j (Leaf base) → skip ≡ 0 → HasReadOne i leaves base
-  at_leaf base under none =
+  pub at_leaf : (below : Below) (base : ℕ) → below ≡ Leaf base → IsUnder w node j below → skip ≡ 0
+      → HasReadOne i leaves base
+  at_leaf below base is found none =
+      let under = subst (IsUnder w node j) is found in
       reading_full leaves (0 ∷ []) (before_one i) w node (j + 1) (base ∷ []) behind_one
       (reading_more leaves (0 ∷ []) (before_one i) v w node degree j (0 ∷ []) (before_one skip)
       (base ∷ []) behind_one s g h less r
@@ -88,11 +92,13 @@ module _ (leaves : List PlacedLeaf) (v w : View) (node degree j : ℕ) (s : IsSo
       refl
 
   -- it is below this row
-  pub below_row : (base keys found : ℕ) → IsUnder w node j (Row base keys)
+  pub below_row : (below : Below) (base keys found : ℕ) → below ≡ Row base keys
+      → IsUnder w node j below
       → ((here : List PlacedLeaf) → HasLeaves (now w).pieces (Some (InnerAt base)) here
       → HasReadOne skip here found)
       → HasReadOne i leaves found
-  below_row base keys found under told =
+  below_row below base keys found is there told =
+      let under = subst (IsUnder w node j) is there in
       reading_full leaves (0 ∷ []) (before_one i) w node (j + 1) (found ∷ []) behind_one
       (reading_more leaves (0 ∷ []) (before_one i) v w node degree j (0 ∷ []) (before_one skip)
       (found ∷ []) behind_one s g h less r

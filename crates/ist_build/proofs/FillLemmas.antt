@@ -1,15 +1,13 @@
 -- Drawing parts, and filling slot by slot. Serves `filling`.
-use Rattle.std.proofs.Common.{◌≡◌, ℕ, ◌+◌, ◌-◌, ◌<◌, ◌==◌, not, List, [], ◌∷◌, Some, option_map, refl, sym, ap, ap₂, ◌∙◌, subst, append-nil, inl, inr, ⊎_elim, arith}
+use Rattle.std.proofs.Common.{◌≤◌, ◌≡◌, ℕ, ◌+◌, ◌-◌, ◌<◌, ◌==◌, not, List, [], ◌∷◌, Some, option_map, refl, sym, ap, ap₂, ◌∙◌, subst, append-nil, inl, inr, ⊎_elim, arith}
 use Rattle.std.specs.List.{list_any}
 use Rattle.std.proofs.lemmas.Bool.{cases_lt}
 use Rattle.ist_core.specs.declared.events.Event.{Event}
 use Rattle.ist_core.specs.declared.events.Event.TheVariants.{Draw}
 use Rattle.ist_core.specs.declared.lists.HeldRow.{HeldRow}
 use Rattle.ist_core.specs.declared.pairs.Pair.{Pair}
-use Rattle.ist_core.specs.declared.ports.Full.{Full}
 use Rattle.ist_core.specs.declared.states.RebuildRow.{RebuildRow}
 use Rattle.ist_core.specs.After.{after}
-use Rattle.ist_core.specs.Arithmetic.{degree}
 use Rattle.ist_core.specs.Building.{CanDraw}
 use Rattle.ist_core.specs.Lawful.{EachEnabled, state_of}
 use Rattle.ist_core.specs.Logs.{Log, Happened, Draws, same_log, one_event}
@@ -33,21 +31,22 @@ use Rattle.ist_rule.specs.Watching.{number_of}
 use Rattle.ist_rule.proofs.GoingOnLemmas.{looked_goes_on}
 use Rattle.ist_dcss.proofs.FieldLemmas.{looked_row, row_low}
 use Rattle.ist_rows.specs.declared.callers.Caller.{Caller}
-use Rattle.ist_rows.specs.Rows.{IsCaller, spares_of}
-use Rattle.ist_rows.specs.Building.{HasRefused, sizes_built}
+use Rattle.ist_rows.specs.Building.{sizes_built}
 use Rattle.laws_stability.proofs.SetLemmas.{set_by, set_later}
 use Rattle.laws_coming.proofs.AddingLemmas.{draw_comes}
 use Rattle.ist_rule.proofs.WentOnLemmas.{later_by-goes_on}
-use Rattle.ist_build.specs.Laying.{IsShort}
 use Rattle.ist_build.specs.Naming.{drawing}
-use Rattle.ist_build.specs.Calls.{IsTold}
-use Rattle.ist_build.specs.Putting.{PutOn, IsShared, IsSlotSet, IsFilling, IsStopped}
+use Rattle.ist_build.specs.Calls.{IsBuiltOut}
+use Rattle.ist_build.specs.declared.shared.Shared.{Shared}
+use Rattle.ist_build.specs.Putting.{PutOn, IsShared, IsSlotSet}
+use Rattle.ist_build.specs.Back.{IsFreeToBuild, IsBack, IsSharedAs, IsFilling}
 use Rattle.ist_build.proofs.RisingListLemmas.{keeps_all}
-use Rattle.ist_build.proofs.BackLemmas.{IsBack, back_logged, back_loads}
-use Rattle.ist_build.proofs.BuiltLemmas.{loads_built, built_same}
-use Rattle.ist_build.proofs.PartSlotLemmas.{shared_on}
+use Rattle.ist_build.proofs.BackLemmas.{back_logged, back_loads, back_same, back_more}
+use Rattle.ist_build.proofs.BuiltLemmas.{loads_built}
+use Rattle.ist_build.proofs.KeptLemmas.{shared_back}
+use Rattle.ist_build.proofs.FilledLemmas.{many_filled}
 use Rattle.ist_build.proofs.PartPutLemmas.{shared_now}
-use Rattle.ist_build.proofs.PutOnLemmas.{built_put, put_now, put_lawful, put_grow, put_more, short_stopped}
+use Rattle.ist_build.proofs.PutOnLemmas.{put_now, put_lawful}
 use Rattle.ist_build.proofs.TopBegunLemmas.{sizes_on}
 
 -- ---- draws
@@ -98,83 +97,107 @@ drawing_drops number rebuild part t =
     sym (keeps_all (λ (h : HeldRow). not (list_any (λ base. base == h.base) [])) t.held
     (λ h i. refl))
 
-module _ (old : Caller) (seat : SeatFace) (c : IsCaller old) (refused : HasRefused old)
-    (s : IsSound old.seat.view) (rebuild target root k d place word : ℕ)
-    (sh : IsShared (now old.seat.view) rebuild target root k) (d_is : d ≡ degree k)
-    (place_is : place ≡ rebuild + rebuild_draw_offset)
+-- the next part may be drawn, and where the caller is then
+pub record MayDraw (old : Caller) (seat : SeatFace) (place word d : ℕ) : Type 0 where
+  pub low : place < seat.view.words
+  pub looked : IsBack old (record old { seat = seat })
+  pub allowed : word < d → CanAdd seat.view place (drawing seat.view place)
+  pub back : (last : SeatFace) (part : ℕ)
+      → Logged seat.view (drawing seat.view place part) last.view
+      → IsBack old (record old { seat = last })
+
+module _ (old : Caller) (seat : SeatFace) (r : IsFreeToBuild old) (s : IsSound old.seat.view)
+    (shared : Shared) (sh : IsSharedAs (now old.seat.view) shared) (place word : ℕ)
+    (place_is : place ≡ shared.rebuild + rebuild_draw_offset)
     (l : Looked old.seat.view place word seat.view) where
   gone : GoesOnTo old.seat.view seat.view
   gone = looked_goes_on old.seat.view place word seat.view l
 
-  there : IsShared (now seat.view) rebuild target root k
-  there = shared_now old.seat.view seat.view gone rebuild target root k sh
+  there : IsShared (now seat.view) shared.rebuild shared.target shared.root shared.keys
+  there =
+      shared_now old.seat.view seat.view gone shared.rebuild shared.target shared.root shared.keys sh.is
 
   mine : seat.view.who ≡ CallerOf old.number
-  mine = ap (λ x. x.who) gone.same ∙ c.mine
+  mine = ap (λ x. x.who) gone.same ∙ r.caller.mine
 
   told_draw : word ≡ there.row.draw
   told_draw =
-      looked_row old.seat.view place word seat.view l rebuild (Rebuild there.row) 4 there.row.draw
+      looked_row old.seat.view place word seat.view l shared.rebuild (Rebuild there.row) 4 there.row.draw
       there.published refl place_is
 
-  pub draw_low : place < seat.view.words
+  draw_low : place < seat.view.words
   draw_low =
-      let low = (row_low seat.view gone.sound rebuild (Rebuild there.row) there.published 4
+      let low = (row_low seat.view gone.sound shared.rebuild (Rebuild there.row) there.published 4
       (omega arith)).0 in
       omega arith
 
-  can : word < d → CanDraw (now seat.view) seat.view.log old.number rebuild there.row.draw
+  can : word < shared.degree
+      → CanDraw (now seat.view) seat.view.log old.number shared.rebuild there.row.draw
   can less =
       record {
         known = gone.sound.is_true.low old.number mine;
         row = there.row;
         published = there.published;
         rooted = set_by there.row.root _ there.root_is (λ q. cc);
-        k = k;
-        finished = subst (λ n. IsFinishedWith (now seat.view) n k) (sym there.target_is)
+        k = shared.keys;
+        finished = subst (λ n. IsFinishedWith (now seat.view) n shared.keys) (sym there.target_is)
             there.finished;
         shared = there.shared;
         part_is = refl;
         not_past = λ earlier i.
-            let it = was_drawn seat.view.start seat.view.words old.number rebuild earlier
+            let it = was_drawn seat.view.start seat.view.words old.number shared.rebuild earlier
             seat.view.log
             gone.sound.lawful.enabled i in
             let below = it.below in
-            let same = ap (λ r. r.draw) (same_rebuild ((now seat.view).pieces rebuild) it.row
+            let same = ap (λ r. r.draw) (same_rebuild ((now seat.view).pieces shared.rebuild) it.row
             there.row
             it.published there.published) in
             let is = told_draw in
+            let slots = sh.degree_is in
             omega arith;
       }
 
-  drawing_is : drawing seat.view place ≡ (λ found. Draw old.number rebuild found)
+  drawing_is : drawing seat.view place ≡ (λ found. Draw old.number shared.rebuild found)
   drawing_is =
       ap₂ (λ n o. λ found. Draw n o found) (ap number_of mine)
-      (let q : place - rebuild_draw_offset ≡ rebuild = omega arith in q)
+      (let q : place - rebuild_draw_offset ≡ shared.rebuild = omega arith in q)
 
   -- the part may be drawn
-  pub draw_allowed : word < d → CanAdd seat.view place (drawing seat.view place)
+  draw_allowed : word < shared.degree → CanAdd seat.view place (drawing seat.view place)
   draw_allowed less =
       subst (CanAdd seat.view place) (sym drawing_is)
-      (subst (λ p. CanAdd seat.view p (λ found. Draw old.number rebuild found)) (sym place_is)
-      (draw_comes seat.view gone.sound old.number mine rebuild there.row.draw (can less)))
+      (subst (λ p. CanAdd seat.view p (λ found. Draw old.number shared.rebuild found)) (sym place_is)
+      (draw_comes seat.view gone.sound old.number mine shared.rebuild there.row.draw (can less)))
 
   -- and the caller is where it was
-  pub draw_back : (last : SeatFace) (part : ℕ) → Logged seat.view (drawing seat.view place part)
-      last.view
+  draw_back : (last : SeatFace) (part : ℕ)
+      → Logged seat.view (drawing seat.view place part) last.view
       → IsBack old (record old { seat = last })
   draw_back last part x =
-      let event = Draw old.number rebuild part in
+      let event = Draw old.number shared.rebuild part in
       let logged = subst (λ (e : Event). Logged seat.view e last.view)
       (ap (λ f. f part) drawing_is) x in
-      back_logged old (record old { seat = seat }) c refused s refl refl
-      (loads_built old.seat.view seat.view gone) []
+      back_logged old (record old { seat = seat })
+      record {
+        ready = r;
+        sound = s;
+        number = refl;
+        rows = refl;
+        built = loads_built old.seat.view seat.view gone;
+      } []
       record { stored = tt; held = tt; once = tt; rising = tt; high = tt }
-      (sizes_on old seat c gone ∙ sym (append-nil (sizes_built old))) event tt (λ n. refl)
-      (drawing_drops old.number rebuild part) last logged
+      (sizes_on old seat r.caller gone ∙ sym (append-nil (sizes_built old))) event tt (λ n. refl)
+      (drawing_drops old.number shared.rebuild part) last logged
 
-  pub draw_looked : IsBack old (record old { seat = seat })
-  draw_looked = back_loads old seat c refused gone
+  -- the next part may be drawn
+  pub may_draw : MayDraw old seat place word shared.degree
+  may_draw =
+      record {
+        low = draw_low;
+        looked = back_loads old seat r gone;
+        allowed = draw_allowed;
+        back = draw_back;
+      }
 
 -- ---- slot by slot
 
@@ -191,86 +214,28 @@ set_on v w b node j h =
     }
 
 -- at first no slot is filled
-pub filling_begun : (old : Caller) → IsCaller old → HasRefused old → IsSound old.seat.view
-    → (rebuild target root k : ℕ) → IsShared (now old.seat.view) rebuild target root k
-    → IsFilling old rebuild target root k 0 old
-filling_begun old c refused s rebuild target root k sh =
-    record {
-      caller = c;
-      refused = refused;
-      number = refl;
-      rows = refl;
-      put = built_put old.seat.view old.seat.view (built_same old.seat.view s);
-      shared = sh;
-      filled = λ j less. absurd (omega arith);
-    }
-
--- other slots
-filling_on : (old who new : Caller) (rebuild target root k i : ℕ)
-    → IsFilling old rebuild target root k i who → PutOn who.seat.view new.seat.view
-    → IsCaller new → HasRefused new → new.number ≡ who.number → spares_of new ≡ spares_of who
-    → IsFilling old rebuild target root k i new
-filling_on old who new rebuild target root k i f put caller refused number rows =
-    record {
-      caller = caller;
-      refused = refused;
-      number = number ∙ f.number;
-      rows = rows ∙ f.rows;
-      put = put_more old.seat.view who.seat.view new.seat.view f.put put;
-      shared = shared_on (now who.seat.view) (now new.seat.view)
-          (put_grow who.seat.view new.seat.view put) rebuild target root k f.shared;
-      filled = λ j less. set_on who.seat.view new.seat.view put root j (f.filled j less);
-    }
-
--- further steps of builds keep the state in which no slot is filled yet
-pub filling_same : (old who new : Caller) (rebuild target root k : ℕ)
-    → IsFilling old rebuild target root k 0 who → PutOn who.seat.view new.seat.view
-    → IsCaller new → HasRefused new → new.number ≡ who.number → spares_of new ≡ spares_of who
-    → IsFilling old rebuild target root k 0 new
-filling_same old who new rebuild target root k f put caller refused number rows =
-    filling_on old who new rebuild target root k 0 f put caller refused number rows
+pub filling_begun : (who : Caller) (s : Shared) → IsFreeToBuild who → IsSound who.seat.view
+    → IsSharedAs (now who.seat.view) s → IsFilling who s 0 who
+filling_begun who s r sound sh =
+    record { back = back_same who r sound; shared = sh; filled = λ j less. absurd (omega arith) }
 
 -- once slot i is set, one more slot is filled
-pub filling_more : (old who new : Caller) (rebuild target root k i : ℕ)
-    → IsFilling old rebuild target root k i who → PutOn who.seat.view new.seat.view
-    → IsCaller new → HasRefused new → new.number ≡ who.number → spares_of new ≡ spares_of who
-    → IsSlotSet (now new.seat.view) root i → IsFilling old rebuild target root k (i + 1) new
-filling_more old who new rebuild target root k i f put caller refused number rows set =
-    let on = filling_on old who new rebuild target root k i f put caller refused number rows in
+pub filling_more : (old who new : Caller) (s : Shared) (i : ℕ) → IsFilling old s i who
+    → IsBack who new → IsSlotSet (now new.seat.view) s.root i → IsFilling old s (i + 1) new
+filling_more old who new s i f b set =
     record {
-      caller = caller;
-      refused = refused;
-      number = on.number;
-      rows = on.rows;
-      put = on.put;
-      shared = on.shared;
-      filled = λ j less. ⊎_elim (λ low. on.filled j low)
-          (λ high. subst (IsSlotSet (now new.seat.view) root) (let q : i ≡ j = omega arith in q)
+      back = back_more old who new f.back b;
+      shared = shared_back who new s b f.shared;
+      filled = λ j less. ⊎_elim
+          (λ low. set_on who.seat.view new.seat.view b.put s.root j (f.filled j low))
+          (λ high. subst (IsSlotSet (now new.seat.view) s.root) (let q : i ≡ j = omega arith in q)
           set)
           (cases_lt j i);
     }
 
--- a build that was refused on the way
-pub shared_told : (t : Snapshot) (rebuild target root k : ℕ) → IsShared t rebuild target root k
-    → IsTold t rebuild k
-shared_told t rebuild target root k h =
-    record {
-      row = h.row;
-      published = h.published;
-      started = h.started;
-      finished = subst (λ n. IsFinishedWith t n k) (sym h.target_is) h.finished;
-    }
-
--- a build that is short of words stops the filling
-pub filling_stopped : (old who mid : Caller) (rebuild target root k i : ℕ) (w : View) (words : ℕ)
-    (full : Full) → IsShared (now old.seat.view) rebuild target root k
-    → IsFilling old rebuild target root k i who → PutOn who.seat.view mid.seat.view
-    → IsShort mid.seat.view words k full w → IsStopped old.seat.view rebuild words full w
-filling_stopped old who mid rebuild target root k i w words full sh f put short =
-    short_stopped old.seat.view mid.seat.view w rebuild words k full
-    (shared_told (now old.seat.view) rebuild target root k sh)
-    (put_more old.seat.view who.seat.view mid.seat.view f.put put) short
-
--- the relation holds from a view to itself
-pub put_same : (v : View) → IsSound v → PutOn v v
-put_same v s = built_put v v (built_same v s)
+-- once all are set, the rebuild is built out
+pub filling_done : (old who : Caller) (s : Shared) (i : ℕ) → IsFilling old s i who → s.degree ≤ i
+    → IsBuiltOut (now who.seat.view) s.rebuild
+filling_done old who s i f all =
+    many_filled who.seat.view f.back.put.sound s.rebuild s.target s.root s.keys f.shared.is
+    (λ j less. f.filled j (let q = f.shared.degree_is in omega arith))

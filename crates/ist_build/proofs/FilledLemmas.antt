@@ -1,5 +1,5 @@
 -- A root whose slots are all set is filled. Serves `filling`.
-use Rattle.std.proofs.Common.{le_refl, ◌≡◌, ◌≢◌, ℕ, ◌+◌, ◌/◌, ◌^◌, ◌<◌, ◌≤◌, slice_get, Some, None, refl, Result, Ok, Err, IfOk, sym, ap, ◌∙◌, subst, arith}
+use Rattle.std.proofs.Common.{le_refl, ◌≡◌, ◌≢◌, ℕ, ◌+◌, ◌/◌, ◌^◌, ◌<◌, ◌≤◌, slice_get, Some, None, refl, sym, ap, ◌∙◌, subst, arith}
 use Rattle.ist_core.specs.declared.ports.Full.{Full}
 use Rattle.ist_core.specs.declared.states.InnerRow.{InnerRow}
 use Rattle.ist_core.specs.declared.states.RebuildRow.{RebuildRow}
@@ -30,7 +30,6 @@ use Rattle.laws_coming.proofs.BeatenLemmas.{finished_once}
 use Rattle.ist_build.specs.Calls.{IsTold, IsRooted, IsBuiltOut}
 use Rattle.ist_build.specs.Putting.{PutOn, IsShared, IsSlotSet, IsStopped}
 use Rattle.ist_build.proofs.BuiltLemmas.{built_grow, loads_built}
-use Rattle.ist_build.proofs.PartSlotLemmas.{shared_on}
 use Rattle.ist_build.proofs.PutOnLemmas.{put_grow, put_more}
 use Rattle.ist_build.proofs.RootFormLemmas.{HasForm, IsRowSet, root_form}
 use Rattle.ist_build.proofs.RootReadyLemmas.{told_on, told_target}
@@ -128,16 +127,6 @@ many_filled v s rebuild target root k sh all =
         let h = all i (omega arith) in
         h.set (slot_once (now v) root i h.word word
         (anchor_free v.start v.words v.log s.lawful.enabled) h.holds (in_row r e got) ∙ is)
-
--- if each slot was set, the rebuild is built out
-pub ok_filled : (v w : View) → IsSound w → PutOn v w → (rebuild target root k : ℕ)
-    → IsShared (now v) rebuild target root k → (answer : Result (Unit {0}) Full)
-    → IfOk answer (λ done. (i : ℕ) → i < degree k → IsSlotSet (now w) root i)
-    → IfOk answer (λ done. IsBuiltOut (now w) rebuild)
-ok_filled v w s b rebuild target root k sh (Ok done) all =
-    many_filled w s rebuild target root k
-    (shared_on (now v) (now w) (put_grow v w b) rebuild target root k sh) all
-ok_filled v w s b rebuild target root k sh (Err full) all = tt
 
 -- ---- the shared root
 

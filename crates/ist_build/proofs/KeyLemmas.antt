@@ -1,7 +1,7 @@
 -- The keys of leaves, as they were loaded before anything was stored: of all leaves, and of a part.
 -- Serves `load_keys` and `build`.
-use Rattle.std.proofs.Common.{◌≡◌, ℕ, zero, suc, ◌+◌, ◌<◌, List, [], ◌∷◌, ◌++◌, length, map, take, drop, Some, slice_index_or, slice_set, refl, sym, ap, ◌∙◌, subst, arith}
-use Rattle.std.proofs.lemmas.List.{take_more_set}
+use Rattle.std.proofs.Common.{◌≡◌, ℕ, zero, suc, ◌+◌, ◌<◌, ◌≤◌, List, [], ◌∷◌, ◌++◌, length, map, take, drop, Some, slice_index_or, slice_set, refl, sym, ap, ◌∙◌, subst, arith}
+use Rattle.std.proofs.lemmas.List.{take_all, take_more_set}
 use Rattle.std.proofs.Math.Seq.{take-suc}
 use Rattle.ist_core.specs.declared.states.LeafRow.{LeafRow}
 use Rattle.ist_core.specs.Elements.{Each}
@@ -11,11 +11,12 @@ use Rattle.ist_core.specs.Pieces.{Leaf}
 use Rattle.ist_core.specs.Snapshots.{Snapshot}
 use Rattle.ist_core.specs.Arithmetic.{part_len, part_start}
 use Rattle.laws_rows.specs.Dividing.{share_of}
-use Rattle.ist_rule.specs.Learning.{now}
+use Rattle.ist_rule.specs.declared.view.View.{View}
+use Rattle.ist_rule.specs.Learning.{now, GoesOnTo}
 use Rattle.ist_rows.specs.declared.callers.Caller.{Caller}
 use Rattle.ist_build.specs.Laying.{ArePlaced, HaveLeaves, IsLeaf, IsKeyOf, AreKeysOf}
 use Rattle.ist_build.specs.Midway.{IsMidway}
-use Rattle.ist_build.proofs.BuiltLemmas.{leaf_grows, built_grow}
+use Rattle.ist_build.proofs.BuiltLemmas.{leaf_grows, leaf_goes_on, built_grow, loads_built}
 use Rattle.ist_build.proofs.MidwayLemmas.{part_placed}
 
 -- keys stay as rows grow
@@ -70,6 +71,37 @@ keys_set t u g leaves keys i key less many h k =
     (sym (take_more_set keys i key (omega arith)))
     (keys_last u (take i leaves) (take i keys) (slice_index_or leaves i 0) key
     (keys_on t u g (take i leaves) (take i keys) h) k))
+
+-- each of them is a leaf after loads too
+pub leaf_after : (v w : View) (leaves : List ℕ) (i : ℕ) → HaveLeaves (now v) leaves
+    → i < length leaves → GoesOnTo v w → IsLeaf (now w) (slice_index_or leaves i 0)
+leaf_after v w leaves i have less g =
+    let it = leaf_here (now v) leaves i have less in
+    record { row = it.row; published = leaf_goes_on v w g (slice_index_or leaves i 0) it.row it.published }
+
+-- the key of the next leaf was loaded, and is stored after those before it
+pub keys_more : (v u w : View) (leaves keys : List ℕ) (i key : ℕ) → HaveLeaves (now v) leaves
+    → i < length leaves → length keys ≡ length leaves → GoesOnTo v u → GoesOnTo u w
+    → AreKeysOf (now u) (take i leaves) (take i keys)
+    → ((row : LeafRow) → (now u).pieces (slice_index_or leaves i 0) ≡ Some (Leaf row)
+    → key ≡ row.key)
+    → AreKeysOf (now w) (take (i + 1) leaves) (take (i + 1) (slice_set keys i key))
+keys_more v u w leaves keys i key have less many first second before told =
+    let it = leaf_after v u leaves i have less first in
+    keys_set (now u) (now w) (built_grow u w (loads_built u w second)) leaves keys i key less many before
+    record {
+      row = it.row;
+      published = leaf_goes_on u w second (slice_index_or leaves i 0) it.row it.published;
+      key_is = told it.row it.published;
+    }
+
+-- after the last leaf all are loaded
+pub keys_all : (t : Snapshot) (leaves keys : List ℕ) (i : ℕ) → length leaves ≤ i
+    → length keys ≡ length leaves → AreKeysOf t (take i leaves) (take i keys)
+    → AreKeysOf t leaves keys
+keys_all t leaves keys i end many h =
+    subst (λ xs. AreKeysOf t xs keys) (take_all i leaves end)
+    (subst (AreKeysOf t (take i leaves)) (take_all i keys (omega arith)) h)
 
 -- the first ones, and those after them
 keys_take : (t : Snapshot) (n : ℕ) (bases keys : List ℕ) → AreKeysOf t bases keys

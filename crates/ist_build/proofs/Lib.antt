@@ -13,6 +13,7 @@ pub mod BuildingLemmas
 pub mod BlockLemmas
 pub mod StoringLemmas
 pub mod LayingPartLemmas
+pub mod SlicePartLemmas
 pub mod LaidBlockLemmas
 pub mod ReservedLemmas
 pub mod SlotLemmas
@@ -21,6 +22,7 @@ pub mod ReadingLemmas
 pub mod DescentLemmas
 pub mod UnderLemmas
 pub mod ShareLemmas
+pub mod ReadOutLemmas
 pub mod AtOnceLemmas
 pub mod RootLemmas
 pub mod UnsetLemmas
@@ -34,10 +36,12 @@ pub mod PutOnLemmas
 pub mod BackLemmas
 pub mod RootReadyLemmas
 pub mod RootPutLemmas
+pub mod RootBuiltLemmas
 pub mod RootFewLemmas
 pub mod RootFormLemmas
 pub mod PartSlotLemmas
 pub mod PartPutLemmas
-pub mod FillLemmas
 pub mod FilledLemmas
+pub mod KeptLemmas
+pub mod FillLemmas
 pub mod AnswerLemmas

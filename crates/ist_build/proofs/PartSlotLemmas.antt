@@ -40,14 +40,14 @@ use Rattle.std.proofs.lemmas.Option.{slice_get-get_or}
 use Rattle.ist_dcss.proofs.SlotPlaceLemmas.{has_degree}
 use Rattle.ist_dcss.proofs.FieldLemmas.{row_low}
 use Rattle.ist_mark.proofs.MarkLemmas.{before_enabled}
-use Rattle.ist_rows.specs.declared.callers.Caller.{Caller}
 use Rattle.laws_stability.proofs.SlotWordLemmas.{place_of_row}
 use Rattle.laws_coming.specs.Builds.{WasUnset}
 use Rattle.laws_coming.proofs.KnownLemmas.{IsFast, fast_known, in_piece}
 use Rattle.laws_coming.proofs.SeenLemmas.{unset_seen}
 use Rattle.ist_build.specs.Calls.{MayBuild, share_part}
-use Rattle.ist_build.specs.Putting.{IsSlotSet, IsShared, IsRowOfDegree}
-use Rattle.ist_build.proofs.BackLemmas.{IsBack}
+use Rattle.ist_build.specs.declared.shared.Shared.{Shared}
+use Rattle.ist_build.specs.Putting.{IsRowOfDegree, IsSlotSet, IsShared}
+use Rattle.ist_build.specs.Back.{IsSharedAs}
 use Rattle.ist_build.proofs.BuiltLemmas.{built_grow, loads_built}
 use Rattle.ist_core.proofs.DrawLemmas.{same_rebuild}
 use Rattle.ist_build.proofs.TopLeafLemmas.{degree_small}
@@ -165,6 +165,10 @@ shared_on t u g rebuild target root k h =
       node = degree_on t u g root (degree k) h.node;
     }
 
+-- its root has a slot for each part
+pub shared_slots : (t : Snapshot) (s : Shared) → IsSharedAs t s → IsRowOfDegree t s.root s.degree
+shared_slots t s h = subst (IsRowOfDegree t s.root) (sym h.degree_is) h.is.node
+
 -- each part may be built
 pub shared_share : (t : Snapshot) (rebuild target root k i start len : ℕ)
     → IsShared t rebuild target root k → i < degree k → start ≡ part_start k i → len ≡ part_len k i
@@ -196,11 +200,6 @@ part_two k i many =
     twice_div n d some le = (le-div_iff_mul-le (omega arith)).1 le
 
 -- ---- after the exchange
-
--- each build of which the caller holds rows was refused, and the slot is set
-pub record IsFilledAt (old new : Caller) (root i : ℕ) : Type 0 where
-  pub back : IsBack old new
-  pub set : IsSlotSet (now new.seat.view) root i
 
 one_base : (a b : ℕ) → Some (InnerAt a) ≡ Some (InnerAt b) → a ≡ b
 one_base a b e = cc

@@ -6,7 +6,9 @@ use Rattle.ist_core.specs.declared.ports.Full.{Full}
 use Rattle.ist_core.specs.Growing.{AllGrow}
 use Rattle.ist_core.specs.Lawful.{Lawful, state_of}
 use Rattle.ist_rule.specs.declared.view.View.{View}
+use Rattle.ist_rule.specs.Rule.{IsSound}
 use Rattle.ist_rule.specs.Learning.{now, GoesOnTo}
+use Rattle.ist_build.proofs.BuiltLemmas.{built_same}
 use Rattle.ist_build.proofs.LaidOnLemmas.{laid_now, laid_lawful, laid_who, laid_grow, laid_next, laid_more, laid_all, goes_on_laid}
 use Rattle.ist_build.specs.Laying.{Reserves, BuiltOn, IsShort}
 use Rattle.ist_build.specs.Calls.{Builds, IsTold}
@@ -49,6 +51,10 @@ built_put = laid_all Reserves Builds builds_reserving
 -- a seat that made loads has put on
 pub loads_put : (v w : View) → GoesOnTo v w → PutOn v w
 loads_put = goes_on_laid Builds
+
+-- a seat that did nothing has put on
+pub put_same : (v : View) → IsSound v → PutOn v v
+put_same v s = built_put v v (built_same v s)
 
 -- ---- refusals
 

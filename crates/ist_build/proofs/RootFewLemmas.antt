@@ -1,8 +1,7 @@
 -- A root over no key or over one, and what is known before a build. Serves `root`.
-use Rattle.std.proofs.Common.{◌≡◌, ◌≢◌, ℕ, ◌+◌, ◌-◌, ◌<◌, List, [], ◌∷◌, length, map, take, drop, Some, Result, Ok, Err, IfErr, refl, sym, ap, ap₂, ◌∙◌, subst, append-nil, arith}
+use Rattle.std.proofs.Common.{◌≡◌, ◌≢◌, ℕ, ◌+◌, ◌-◌, ◌<◌, List, [], ◌∷◌, length, map, take, drop, Some, refl, sym, ap, ap₂, ◌∙◌, subst, append-nil, arith}
 use Rattle.ist_core.specs.declared.events.Event.{Event}
 use Rattle.ist_core.specs.declared.events.Event.TheVariants.{Root}
-use Rattle.ist_core.specs.declared.ports.Full.{Full}
 use Rattle.ist_core.specs.Building.{IsRoot, root_whole, root_top}
 use Rattle.ist_core.specs.Elements.{Each}
 use Rattle.ist_core.specs.Growing.{AllGrow}
@@ -28,15 +27,12 @@ use Rattle.ist_rule.proofs.GoingOnLemmas.{looked_goes_on, goes_on_same, goes_on_
 use Rattle.ist_dcss.proofs.FieldLemmas.{row_low, good_base}
 use Rattle.ist_rows.specs.declared.callers.Caller.{Caller}
 use Rattle.ist_rows.specs.Rows.{IsCaller}
-use Rattle.ist_rows.specs.Building.{HasRefused, sizes_built}
+use Rattle.ist_rows.specs.Building.{sizes_built}
 use Rattle.laws_coming.specs.Builds.{IsRootBuilt, WasUnset}
 use Rattle.laws_coming.proofs.RootLemmas.{root_comes}
-use Rattle.ist_build.specs.Laying.{BuiltOn, IsRootLaid, IsTarget, IsLeaf, IsShort}
+use Rattle.ist_build.specs.Laying.{BuiltOn, IsRootLaid, IsTarget, IsLeaf}
 use Rattle.ist_build.specs.Naming.{rooting_few}
 use Rattle.ist_build.specs.Calls.{IsTold}
-use Rattle.ist_build.specs.Putting.{PutOn, IsStopped}
-use Rattle.ist_dcss.specs.Reading.{IsRebuildRow}
-use Rattle.ist_build.proofs.PutOnLemmas.{short_stopped}
 use Rattle.ist_build.proofs.BuiltLemmas.{built_grow, loads_built, leaf_goes_on}
 use Rattle.ist_build.proofs.ReadingLemmas.{leaves_number}
 use Rattle.laws_rebuilds.proofs.FinishedLeafLemmas.{finished_leaves}
@@ -46,8 +42,8 @@ use Rattle.laws_coming.proofs.BeatenLemmas.{finished_once}
 use Rattle.ist_build.proofs.TopBegunLemmas.{sizes_on}
 use Rattle.ist_build.proofs.TopLeafLemmas.{leaf_there}
 use Rattle.ist_build.proofs.UnsetLemmas.{unset_built}
-use Rattle.ist_build.proofs.BackLemmas.{IsBack, back_logged, back_loads}
-use Rattle.ist_build.proofs.RootPutLemmas.{IsRooted}
+use Rattle.ist_build.specs.Back.{IsFreeToBuild, IsBack, HasPutRoot}
+use Rattle.ist_build.proofs.BackLemmas.{back_logged, back_loads}
 use Rattle.ist_build.proofs.RootReadyLemmas.{told_on, told_target, root_looked, root_put, root_ready}
 
 -- ---- a root over no key or one
@@ -115,7 +111,18 @@ rooting_few_is v number rebuild place word mine at =
     ap₂ (λ n o. Root n o word []) (ap number_of mine)
     (let q : place - rebuild_root_offset ≡ rebuild = omega arith in q)
 
-module _ (old : Caller) (seat : SeatFace) (c : IsCaller old) (refused : HasRefused old)
+-- the exchange may be made, and what is known after it
+pub record MayRootFew (old : Caller) (seat : SeatFace) (rebuild word place : ℕ) : Type 0 where
+  pub low : place < seat.view.words
+  pub allowed : (unset : ℕ) → unset ≡ unset_word
+      → CanExchange seat.view place unset word (rooting_few seat.view place word)
+  pub hit : (last : SeatFace) → Logged seat.view (rooting_few seat.view place word) last.view
+      → HasPutRoot old (record old { seat = last }) rebuild word
+  pub missed : (last : SeatFace) (found : ℕ) → found ≢ unset_word
+      → Looked seat.view place found last.view
+      → HasPutRoot old (record old { seat = last }) rebuild found
+
+module _ (old : Caller) (seat : SeatFace) (r : IsFreeToBuild old)
     (s : IsSound old.seat.view) (gone : GoesOnTo old.seat.view seat.view)
     (rebuild target k word : ℕ) (told : IsTold (now old.seat.view) rebuild k)
     (g : HasTarget (now old.seat.view) rebuild target)
@@ -145,7 +152,7 @@ module _ (old : Caller) (seat : SeatFace) (c : IsCaller old) (refused : HasRefus
         rows = [];
         owns = record { stored = tt; held = tt; once = tt; rising = tt; high = tt };
         root = root some.0 some.1;
-        sizes = sizes_on old seat c gone ∙ sym (append-nil (sizes_built old));
+        sizes = sizes_on old seat r.caller gone ∙ sym (append-nil (sizes_built old));
       }
 
   ready : IsRootBuilt (now seat.view) old.number rebuild word []
@@ -153,9 +160,9 @@ module _ (old : Caller) (seat : SeatFace) (c : IsCaller old) (refused : HasRefus
   ready = root_ready old mid rebuild target k word s b told g some.0 some.1 few_laid
 
   mine : seat.view.who ≡ CallerOf old.number
-  mine = ap (λ x. x.who) gone.same ∙ c.mine
+  mine = ap (λ x. x.who) gone.same ∙ r.caller.mine
 
-  pub few_allowed : (unset : ℕ) → unset ≡ unset_word
+  few_allowed : (unset : ℕ) → unset ≡ unset_word
       → CanExchange seat.view place unset word (rooting_few seat.view place word)
   few_allowed unset is =
       subst (λ (e : Event). CanExchange seat.view place unset word e)
@@ -179,47 +186,51 @@ module _ (old : Caller) (seat : SeatFace) (c : IsCaller old) (refused : HasRefus
       at_root (root_top base row more e top unset one) f =
           absurd (let n = ap length one in omega arith)
 
-  pub few_hit : (last : SeatFace) → Logged seat.view (rooting_few seat.view place word) last.view
-      → IsRooted old (record old { seat = last }) rebuild word
+  few_hit : (last : SeatFace) → Logged seat.view (rooting_few seat.view place word) last.view
+      → HasPutRoot old (record old { seat = last }) rebuild word
   few_hit last l =
       let event = Root old.number rebuild word [] in
       let logged = subst (λ (e : Event). Logged seat.view e last.view)
       (rooting_few_is seat.view old.number rebuild place word mine at) l in
       record {
-        back = back_logged old mid c refused s refl refl b []
+        back = back_logged old mid
+            record { ready = r; sound = s; number = refl; rows = refl; built = b } []
             record { stored = tt; held = tt; once = tt; rising = tt; high = tt }
-            (sizes_on old seat c gone ∙ sym (append-nil (sizes_built old))) event tt (λ n. refl)
+            (sizes_on old seat r.caller gone ∙ sym (append-nil (sizes_built old))) event tt (λ n. refl)
             (λ x. refl) last logged;
         root = root_put seat.view last.view old.number rebuild word [] few_set logged;
       }
 
-  pub few_missed : (last : SeatFace) (found : ℕ) → found ≢ unset_word
+  few_missed : (last : SeatFace) (found : ℕ) → found ≢ unset_word
       → Looked seat.view place found last.view
-      → IsRooted old (record old { seat = last }) rebuild found
+      → HasPutRoot old (record old { seat = last }) rebuild found
   few_missed last found set l =
       record {
-        back = back_loads old last c refused
+        back = back_loads old last r
             (goes_on_more old.seat.view seat.view last.view gone
             (looked_goes_on seat.view place found last.view l));
         root = root_looked seat.view last.view rebuild place found ready.row ready.published at l
             set;
       }
 
-  pub few_low : place < seat.view.words
+  few_low : place < seat.view.words
   few_low =
       let low = (row_low seat.view gone.sound rebuild (Rebuild ready.row) ready.published 3
       (omega arith)).0 in
       omega arith
 
+  -- a root without rows may be put in place
+  pub may_root_few : MayRootFew old seat rebuild word place
+  may_root_few = record { low = few_low; allowed = few_allowed; hit = few_hit; missed = few_missed }
+
 -- ---- before the build
 
--- what was found of a rebuild without a root, after loads
+-- what was found of a rebuild by loads
 pub record IsFound (old new : Caller) (rebuild target k : ℕ) : Type 0 where
   pub back : IsBack old new
-  pub goes : GoesOnTo old.seat.view new.seat.view
+  pub seen : GoesOnTo old.seat.view new.seat.view
   pub told : IsTold (now new.seat.view) rebuild k
   pub target_is : HasTarget (now new.seat.view) rebuild target
-  pub before : IsTold (now old.seat.view) rebuild k
 
 target_on : (t u : Snapshot) → AllGrow t.pieces u.pieces → (rebuild target : ℕ)
     → HasTarget t rebuild target → HasTarget u rebuild target
@@ -235,12 +246,12 @@ target_done v w g rebuild target k told h =
     (k, (told_target (now w) rebuild target k on h).finished)
 
 -- what was found by loads, as one record
-pub found_so : (old : Caller) (seat last : SeatFace) → IsCaller old → HasRefused old
+pub found_so : (old : Caller) (seat last : SeatFace) → IsFreeToBuild old
     → (first : GoesOnTo old.seat.view seat.view) → (second : GoesOnTo seat.view last.view)
     → (rebuild target k n : ℕ) → IsTold (now old.seat.view) rebuild k
     → HasTarget (now seat.view) rebuild target → IsFinishedWith (now last.view) target n
     → IsFound old (record old { seat = last }) rebuild target n
-found_so old seat last c refused first second rebuild target k n told h f =
+found_so old seat last r first second rebuild target k n told h f =
     let v = old.seat.view in
     let goes = goes_on_more v seat.view last.view first second in
     let on = told_on (now v) (now last.view) (built_grow v last.view (loads_built v last.view goes))
@@ -250,31 +261,17 @@ found_so old seat last c refused first second rebuild target k n told h f =
     let t = told_target (now last.view) rebuild target k on there in
     let same : k ≡ n = finished_once (now last.view) target k n t.finished f in
     record {
-      back = back_loads old last c refused goes;
-      goes = goes;
+      back = back_loads old last r goes;
+      seen = goes;
       told = subst (IsTold (now last.view) rebuild) same on;
       target_is = there;
-      before = subst (IsTold (now v) rebuild) same told;
     }
 
--- the rebuild is published
-pub told_rebuild : (v w : View) → GoesOnTo v w → (rebuild k : ℕ) → IsTold (now v) rebuild k
-    → IsRebuildRow (now w) rebuild
-told_rebuild v w g rebuild k told =
-    let on = told_on (now v) (now w) (built_grow v w (loads_built v w g)) rebuild k told in
-    record { row = on.row; published = on.published }
-
--- the root was seen Unset
-pub found_unset : (u v w : View) → GoesOnTo v w → GoesOnTo u v → {number place : ℕ}
-    → u.who ≡ CallerOf number → WasUnset v number place → WasUnset w number place
-found_unset u v w g first {number = number} {place = place} mine was =
-    unset_built v w number place (ap (λ x. x.who) first.same ∙ mine) (loads_built v w g) was
-
--- a build that is short of words stops the call
-pub err_stopped : (u v w : View) (rebuild words k : ℕ) (answer : Result ℕ Full)
-    → IsTold (now u) rebuild k → PutOn u v
-    → IfErr answer (λ full. IsShort v words k full w)
-    → IfErr answer (λ full. IsStopped u rebuild words full w)
-err_stopped u v w rebuild words k (Ok word) told a short = tt
-err_stopped u v w rebuild words k (Err full) told a short =
-    short_stopped u v w rebuild words k full told a short
+-- a place that was seen Unset was seen so after loads too
+pub found_unset : (old new : Caller) → GoesOnTo old.seat.view new.seat.view → IsCaller old
+    → new.number ≡ old.number → (place : ℕ) → WasUnset old.seat.view old.number place
+    → WasUnset new.seat.view new.number place
+found_unset old new g c number place was =
+    subst (λ n. WasUnset new.seat.view n place) (sym number)
+    (unset_built old.seat.view new.seat.view old.number place c.mine
+    (loads_built old.seat.view new.seat.view g) was)

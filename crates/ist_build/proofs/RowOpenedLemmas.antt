@@ -61,6 +61,14 @@ fresh_row v s number base size w r =
           ∙ s.is_true.fresh place (omega arith);
     }
 
+-- who reserved a row holds it
+pub reserved_held : (old new : Caller) → IsSound old.seat.view → new.number ≡ old.number
+    → (base size : ℕ) → Reserved old.seat.view old.number base size new.seat.view
+    → HoldsRow (now new.seat.view) new.number base size
+reserved_held old new s number base size r =
+    subst (λ n. HoldsRow (now new.seat.view) n base size) (sym number)
+    (fresh_row old.seat.view s old.number base size new.seat.view r).held
+
 -- ---- the first row
 
 module _ (old new : Caller) (leaves : List ℕ) (base : ℕ) (s : IsSound old.seat.view)
@@ -81,6 +89,7 @@ module _ (old new : Caller) (leaves : List ℕ) (base : ℕ) (s : IsSound old.se
   fresh : IsFreshRow old.seat.view old.number base (inner_words d) new.seat.view
   fresh = fresh_row old.seat.view s old.number base (inner_words d) new.seat.view r
 
+  -- its first words are stored
   pub opened : IsOpened view.own base d (length leaves)
   opened =
       let o = new.seat.view.own in
@@ -109,6 +118,7 @@ module _ (old new : Caller) (leaves : List ℕ) (base : ℕ) (s : IsSound old.se
       (taken stuck done (flat_map shape (lens_from (length leaves) 0) ++ rest)
       (subst (λ xs. IsInBuild old stuck done (xs ++ rest)) whole h)))
 
+  -- no part of it is built yet
   pub midway_first : IsCaller who → IsSound view → IsMidway old leaves base d 0 who
   midway_first caller sound =
       let high = fresh.high in
@@ -151,6 +161,7 @@ module _ (v : View) (base d j key word : ℕ) (less : j < d) where
   setting_own : List OwnWord
   setting_own = (setting v base d j key word).own
 
+  -- a slot that is set holds its word
   pub at_slot : own_at (setting v base d j key word).own (base + 3 + d + j) ≡ word
   at_slot = cases (nat_lt 0 j)
     where
@@ -169,6 +180,7 @@ module _ (v : View) (base d j key word : ℕ) (less : j < d) where
           ap (own_at (record { place = base + (3 + d + j); word = word } ∷ v.own)) (sym slot)
           ∙ own_here v.own (base + (3 + d + j)) word
 
+  -- and its key lies in its place
   pub at_key : 1 ≤ j → own_at (setting v base d j key word).own (base + 3 + j) ≡ key
   at_key some = cases (nat_lt 0 j) refl
     where
@@ -184,6 +196,7 @@ module _ (v : View) (base d j key word : ℕ) (less : j < d) where
           ∙ own_here (record { place = base + (3 + d + j); word = word } ∷ v.own) (base + (3 + j)) key
       cases false e = absurd (let none : j ≤ 0 = grind (arith, nat_tests) in omega arith)
 
+  -- every other place is as it was
   pub elsewhere : (p : ℕ) → p ≢ base + 3 + d + j → (1 ≤ j → p ≢ base + 3 + j)
       → own_at (setting v base d j key word).own p ≡ own_at v.own p
   elsewhere p ne nk = cases (nat_lt 0 j) refl

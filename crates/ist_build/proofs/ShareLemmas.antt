@@ -136,6 +136,19 @@ short_on v w g words keys full x h =
     short_for_more BuiltOn BuiltOn v w (λ y. built_more v w y (loads_built v w g)) words keys keys
     full x (le_refl keys) h
 
+-- a row over no more than fewer keys is one over no more than many
+pub short_more : (v : View) (words few many : ℕ) (full : Full) (w : View) → few ≤ many
+    → IsShort v words few full w → IsShort v words many full w
+short_more v words few many full w le h =
+    let fewer = h.few in
+    record {
+      short = h.short;
+      some = h.some;
+      several = h.several;
+      few = omega arith;
+      asked = h.asked;
+    }
+
 -- ---- shares
 
 share_build : (k start len : ℕ) → IsShare k start len → 2 ≤ len → IsBuild k (shape len)

@@ -1,5 +1,5 @@
 -- What `lay` begins with: no leaf, one leaf, and the first row of a block.
-use Rattle.std.proofs.Common.{◌≡◌, ◌≢◌, ℕ, ◌+◌, ◌*◌, ◌≤◌, List, [], ◌∷◌, length, slice_index_or, refl, sym, ap, ◌∙◌, subst, arith}
+use Rattle.std.proofs.Common.{◌≡◌, ◌≢◌, ℕ, ◌+◌, ◌*◌, ◌<◌, ◌≤◌, List, [], ◌∷◌, length, slice_index_or, refl, sym, ap, ◌∙◌, subst, arith}
 use Rattle.std.specs.List.{sum, flat_map}
 use Rattle.ist_core.specs.Arithmetic.{degree}
 use Rattle.ist_core.specs.Ideals.{no_part, of_none, of_one}
@@ -11,7 +11,7 @@ use Rattle.ist_core.specs.Shapes.{shape}
 use Rattle.ist_core.specs.Snapshots.{Snapshot, HoldsRow}
 use Rattle.ist_core.proofs.RootLemmas.{least_degree-le}
 use Rattle.ist_core.proofs.ReferenceLemmas.{ref_of-word_of}
-use Rattle.ist_core.proofs.ShapeLemmas.{shape_none, shape_one, shape_many}
+use Rattle.ist_core.proofs.ShapeLemmas.{shape_many}
 use Rattle.ist_rule.specs.declared.view.View.{View}
 use Rattle.ist_rule.specs.declared.view.OwnWord.{OwnWord}
 use Rattle.ist_rule.specs.Rule.{IsSound, own_at}
@@ -21,21 +21,16 @@ use Rattle.ist_rows.specs.Rows.{IsCaller}
 use Rattle.ist_rows.proofs.ReserveLemmas.{next_low}
 use Rattle.ist_dcss.proofs.FieldLemmas.{good_base}
 use Rattle.ist_rows.specs.Block.{HoldsBlock}
+use Rattle.ist_build.proofs.BuildingLemmas.{no_row}
 use Rattle.ist_build.specs.Laying.{ArePlaced, IsLaidBelow}
 use Rattle.ist_build.specs.Midway.{lens_from, IsLaying, opening}
 use Rattle.ist_build.proofs.LayingLemmas.{row_within}
 use Rattle.ist_build.proofs.OwnWordLemmas.{own_here, own_else}
 use Rattle.ist_build.proofs.PartsLemmas.{lens_first}
 
--- few leaves take no row
-pub none_end : (n next : ℕ) → n ≡ 0 → next ≡ next + sum (shape n)
-none_end n next none =
-    let e : sum (shape n) ≡ 0 = ap (λ k. sum (shape k)) none ∙ ap sum shape_none in omega arith
-
--- a subtree over one leaf takes no place
-pub one_end : (n next : ℕ) → n ≡ 1 → next ≡ next + sum (shape n)
-one_end n next one =
-    let e : sum (shape n) ≡ 0 = ap (λ k. sum (shape k)) one ∙ ap sum shape_one in omega arith
+-- a subtree over at most one leaf takes no place
+pub small_end : (n next : ℕ) → n < 2 → next ≡ next + sum (shape n)
+small_end n next few = let e : sum (shape n) ≡ 0 = ap sum (no_row n few) in omega arith
 
 -- over no leaf, the Empty word is the ideal subtree, in no row
 pub none_below : (v : View) (number low word : ℕ) (leaves : List ℕ) → length leaves ≡ 0

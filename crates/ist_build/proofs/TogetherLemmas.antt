@@ -5,11 +5,11 @@ use Rattle.ist_core.specs.declared.lists.Row.{Row}
 use Rattle.ist_core.specs.declared.states.InnerRow.{InnerRow}
 use Rattle.ist_core.specs.Arithmetic.{degree}
 use Rattle.ist_core.specs.Elements.{Among, Each, Distinct}
-use Rattle.ist_core.specs.Ideals.{no_part, of_none, of_one, of_more}
+use Rattle.ist_core.specs.Ideals.{no_part, of_more}
 use Rattle.ist_core.specs.Leaves.{PlacedLeaf}
 use Rattle.ist_core.specs.Parts.{parts, first_keys}
-use Rattle.ist_core.specs.Pieces.{Inner, Leaf, inner_of, words_of, with_row, with_inners}
-use Rattle.ist_core.specs.References.{InnerAt, LeafAt, Empty, ref_of}
+use Rattle.ist_core.specs.Pieces.{Inner, inner_of, words_of, with_row, with_inners}
+use Rattle.ist_core.specs.References.{InnerAt, ref_of}
 use Rattle.ist_core.specs.RowLayout.{inner_words}
 use Rattle.ist_core.specs.Snapshots.{bases_of, HoldsRow, HoldsRows}
 use Rattle.ist_core.proofs.ElementLemmas.{each_append, each-among}
@@ -135,31 +135,6 @@ are_laid_none w number low above =
       rows = [];
       owns = record { stored = tt; held = tt; once = tt; rising = tt; high = tt };
       ideal = no_part;
-    }
-
--- a leaf is laid, and so is nothing
-pub laid_leaf : (w : View) (number low base word : ℕ) (leaf : PlacedLeaf) → leaf.base ≡ base
-    → (now w).pieces base ≡ Some (Leaf leaf.row) → ref_of word ≡ Some (LeafAt base)
-    → IsLaid w number low word (leaf ∷ [])
-laid_leaf w number low base word leaf same e is =
-    record {
-      rows = [];
-      owns = record { stored = tt; held = tt; once = tt; rising = tt; high = tt };
-      ref = LeafAt base;
-      ref_is = is;
-      ideal = λ above less. of_one same e;
-    }
-
--- the Empty word is the ideal subtree over no leaf
-pub laid_none : (w : View) (number low word : ℕ) → ref_of word ≡ Some Empty
-    → IsLaid w number low word []
-laid_none w number low word is =
-    record {
-      rows = [];
-      owns = record { stored = tt; held = tt; once = tt; rising = tt; high = tt };
-      ref = Empty;
-      ref_is = is;
-      ideal = λ above less. of_none;
     }
 
 -- the row over parts that were laid is laid

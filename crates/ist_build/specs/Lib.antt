@@ -3,6 +3,7 @@ pub mod Laying
 pub mod Calls
 -- what the functions inside this crate promise each other
 pub mod Putting
+pub mod Back
 pub mod Midway
 pub mod Reading
 pub mod Naming

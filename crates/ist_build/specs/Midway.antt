@@ -1,7 +1,8 @@
 -- Which of a row's parts are built. What the functions inside this crate promise each other.
-use Rattle.std.specs.Prelude.{◌≡◌, ℕ, zero, suc, ◌+◌, ◌-◌, ◌≤◌, List, [], ◌∷◌, ◌++◌, length, map, drop, replicate, Some, nat_lt, if◌then◌else◌}
+use Rattle.std.specs.Prelude.{◌≡◌, ℕ, zero, suc, ◌+◌, ◌-◌, ◌<◌, ◌≤◌, List, [], ◌∷◌, ◌++◌, length, map, drop, replicate, Some, nat_lt, if◌then◌else◌}
 use Rattle.std.specs.List.{flat_map, range_with_len, sum}
 use Rattle.ist_core.specs.declared.lists.Row.{Row}
+use Rattle.ist_core.specs.declared.ports.Full.{Full}
 use Rattle.ist_core.specs.Arithmetic.{degree, part_len}
 use Rattle.ist_core.specs.Elements.{Each}
 use Rattle.ist_core.specs.Ideals.{AreIdeal}
@@ -12,16 +13,16 @@ use Rattle.ist_core.specs.References.{InnerAt, unset_word}
 use Rattle.ist_core.specs.RowLayout.{inner_words, place_limit}
 use Rattle.ist_core.specs.Shapes.{shape}
 use Rattle.ist_core.specs.Snapshots.{bases_of, HoldsRow}
-use Rattle.laws_rows.specs.Dividing.{lens_to, parts_to}
+use Rattle.laws_rows.specs.Dividing.{lens_to, parts_to, share_of}
 use Rattle.ist_rule.specs.declared.view.View.{View}
 use Rattle.ist_rule.specs.declared.view.OwnWord.{OwnWord}
 use Rattle.ist_rule.specs.Rule.{own_at}
 use Rattle.ist_rule.specs.Learning.{now, storing}
 use Rattle.ist_rows.specs.declared.callers.Caller.{Caller}
 use Rattle.ist_rows.specs.Rows.{spares_of, IsCaller}
-use Rattle.ist_rows.specs.Building.{IsInBuild, sizes_built}
+use Rattle.ist_rows.specs.Building.{IsInBuild, HasRefused, sizes_built}
 use Rattle.ist_rows.specs.Block.{HoldsBlock}
-use Rattle.ist_build.specs.Laying.{BuiltOn, ArePlaced, OwnsRows, IsWritten}
+use Rattle.ist_build.specs.Laying.{BuiltOn, ArePlaced, OwnsRows, IsShort, IsWritten}
 
 -- the n stored words from the place on
 abbrev pub words_at : List OwnWord → ℕ → ℕ → List ℕ
@@ -67,6 +68,16 @@ pub record IsMidway (old : Caller) (leaves : List ℕ) (base d j : ℕ) (who : C
       (done ++ inner_words d ∷ flat_map shape (lens_to (length leaves) j))
       (flat_map shape (lens_from (length leaves) j) ++ rest)
 
+-- since its earlier state the caller has only made loads: too few words are left for the row over these
+-- keys, and each build of which it holds rows was refused
+pub record IsRowRefused (old : Caller) (words keys : ℕ) (full : Full) (who : Caller) : Type 0 where
+  pub caller : IsCaller who
+  pub number : who.number ≡ old.number
+  pub rows : spares_of who ≡ spares_of old
+  pub built : BuiltOn old.seat.view who.seat.view
+  pub short : IsShort old.seat.view words keys full who.seat.view
+  pub refused : HasRefused who
+
 -- the same as `AreLaid`, in rows that end at `high` or before
 pub record AreLaidBelow (w : View) (number low high above : ℕ) (words : List ℕ)
     (behind : List (List PlacedLeaf)) : Type 0 where
@@ -106,6 +117,15 @@ pub record IsTopMidway (old : Caller) (target k base d j : ℕ) (who : Caller) :
       → words_at who.seat.view.own (base + 4) (j - 1)
       ≡ first_keys (λ leaf. leaf.row.key) (drop 1 (parts_to k j leaves))
   pub sizes : sizes_built who ≡ sizes_built old ++ inner_words d ∷ []
+
+-- ---- a part
+
+-- the slices are part j of the leaves and of their keys, of n
+pub record IsPart (n j : ℕ) (leaves keys own own_keys : List ℕ) : Type 0 where
+  pub less : j < degree n
+  pub some : 1 ≤ part_len n j
+  pub own_is : own ≡ share_of n j leaves
+  pub keys_are : own_keys ≡ share_of n j keys
 
 -- ---- stores
 

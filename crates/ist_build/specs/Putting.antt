@@ -1,5 +1,5 @@
 -- What a caller's seat does while it builds, and puts in place what it has built.
-use Rattle.std.specs.Prelude.{◌≡◌, ◌≢◌, ℕ, ◌<◌, ◌≤◌, Some}
+use Rattle.std.specs.Prelude.{◌≡◌, ◌≢◌, ℕ, ◌≤◌, Some}
 use Rattle.ist_core.specs.declared.ports.Full.{Full}
 use Rattle.ist_core.specs.declared.states.InnerRow.{InnerRow}
 use Rattle.ist_core.specs.declared.states.RebuildRow.{RebuildRow}
@@ -12,9 +12,6 @@ use Rattle.ist_core.specs.Slots.{SlotHolds}
 use Rattle.ist_core.specs.Snapshots.{Snapshot}
 use Rattle.ist_rule.specs.declared.view.View.{View}
 use Rattle.ist_rule.specs.Learning.{now}
-use Rattle.ist_rows.specs.declared.callers.Caller.{Caller}
-use Rattle.ist_rows.specs.Rows.{IsCaller, spares_of}
-use Rattle.ist_rows.specs.Building.{HasRefused}
 use Rattle.ist_build.specs.Calls.{Builds, IsTold}
 use Rattle.ist_build.specs.Laying.{LaidOn, IsShortFor}
 
@@ -59,16 +56,6 @@ pub record IsShared (t : Snapshot) (rebuild target root k : ℕ) : Type 0 where
   pub shared : share_from ≤ k
   pub root_is : ref_of row.root ≡ Some (InnerAt root)
   pub node : IsRowOfDegree t root (degree k)
-
--- the caller is filling the slots of a shared root: the first i are set
-pub record IsFilling (old : Caller) (rebuild target root k i : ℕ) (who : Caller) : Type 0 where
-  pub caller : IsCaller who
-  pub refused : HasRefused who
-  pub number : who.number ≡ old.number
-  pub rows : spares_of who ≡ spares_of old
-  pub put : PutOn old.seat.view who.seat.view
-  pub shared : IsShared (now who.seat.view) rebuild target root k
-  pub filled : (j : ℕ) → j < i → IsSlotSet (now who.seat.view) root j
 
 -- ---- refusals
 

@@ -12,7 +12,7 @@ ghost use Rattle.ist_rows.specs.Building.{HasTaken, HasRefused};
 ghost use Rattle.ist_build.specs.Laying.{BuiltOn, HaveLeaves, AreKeysOf, ArePlaced, IsLaid, IsDue, IsShort, IsWritten, IsLaidBelow};
 ghost use Rattle.ist_rows.specs.Block.{HoldsBlock, ReservedAll};
 
-use crate::building::{build, open_row, set_part};
+use crate::building::{build, open_row, set_part, small_word};
 use ist_core::Full;
 use ist_layout::Ref;
 use ist_math::{degree, ideal_words, part};
@@ -47,11 +47,8 @@ pub(crate) fn lay(
         → IsLaidBelow who.new.seat.view who.new.number next.old next.new result placed }
 {
     know(&who.seat);
-    if leaves.is_empty() {
-        return Ref::Empty.to_word();
-    }
-    if leaves.len() == 1 {
-        return Ref::Leaf { base: leaves[0] }.to_word();
+    if leaves.len() < 2 {
+        return small_word(&who.seat, leaves);
     }
     let size = leaves.len() as u64;
     let degree = degree(size);

@@ -1,43 +1,45 @@
 //! The parts of a shared root: building those that are Unset, and putting them in place.
-ghost use Rattle.std.specs.Prelude.{◌≡◌, ◌≢◌, ℕ, ◌<◌, ◌≤◌, IfSome, IfOk, IfErr};
-ghost use Rattle.ist_core.specs.Arithmetic.{degree};
+ghost use Rattle.std.specs.Prelude.{◌≡◌, ◌≢◌, ℕ, ◌<◌, ◌≤◌, IfOk, IfErr};
 ghost use Rattle.ist_core.specs.Marking.{HasTarget};
 ghost use Rattle.ist_core.specs.References.{unset_word};
 ghost use Rattle.ist_core.specs.Shapes.{share_from};
 ghost use Rattle.ist_core.specs.RowLayout.{slot_place};
 ghost use Rattle.ist_rule.specs.Faces.{word_count_of};
-ghost use Rattle.ist_rule.specs.Learning.{now, GoesOnTo, ExchangedOrLost};
+ghost use Rattle.ist_rule.specs.Learning.{now, ExchangedOrLost};
 ghost use Rattle.ist_rule.specs.Conditions.{CanExchangeOrLose};
-ghost use Rattle.ist_rows.specs.Rows.{IsCaller, spares_of};
-ghost use Rattle.ist_rows.specs.Building.{HasRefused};
 ghost use Rattle.laws_coming.specs.Builds.{WasUnset};
-ghost use Rattle.ist_build.specs.Laying.{IsShort};
 ghost use Rattle.ist_build.specs.Naming.{placing, losing};
 ghost use Rattle.ist_build.specs.Calls.{IsTold, IsBuildable, IsRooted, IsBuiltOut};
-ghost use Rattle.ist_build.specs.Putting.{PutOn, IsShared, IsSlotSet, IsStopped, IsRowOfDegree};
+ghost use Rattle.ist_build.specs.Putting.{IsSlotSet, IsStopped};
+ghost use Rattle.ist_build.specs.Back.{IsFreeToBuild, IsBack, IsSharedAs, IsPartMade, PartWasMade, EndsPart};
 
 use crate::parts::build_share;
-use crate::reading::keys_of;
+use crate::shared::Shared;
+use crate::targets::{Target, find_target};
 use ist_core::Full;
-use ist_dcss::target_of;
 use ist_layout::{REBUILD_DRAW_OFFSET, REBUILD_ROOT_OFFSET, Ref, slot_place};
 use ist_math::{SHARE_FROM, degree, part};
 use ist_rows::Caller;
 use ist_rule::{TreeSeat, TreeTable, add, exchange_or_lose, know, load};
 
-// Returns the word in a slot of a node.
-fn slot_of(table: &TreeTable, seat: &mut TreeSeat, node: u32, degree: u64, i: u64) -> u64
-    requires same_table { seat.old.table ≡ table.now.table }
-    requires published { IsRowOfDegree (now seat.old.view) node degree }
-    requires within { i < degree }
-    ensures same_table { seat.new.table ≡ seat.old.table }
-    ensures seen { GoesOnTo seat.old.view seat.new.view }
-    ensures set { result ≢ unset_word → IsSlotSet (now seat.new.view) node i }
-    ensures unset { result ≡ unset_word → (number : ℕ)
-        → WasUnset seat.new.view number (slot_place node degree i) }
+// Returns the word in a slot of a shared root.
+fn slot_of(table: &TreeTable, who: &mut Caller, shared: Shared, i: u64) -> u64
+    requires same_table { who.old.seat.table ≡ table.now.table }
+    requires ready { IsFreeToBuild who.old }
+    requires shared { IsSharedAs (now who.old.seat.view) shared }
+    requires within { i < shared.degree }
+    ensures same_table { who.new.seat.table ≡ table.now.table }
+    ensures back { IsBack who.old who.new }
+    ensures set { result ≢ unset_word → IsSlotSet (now who.new.seat.view) shared.root i }
+    ensures unset { result ≡ unset_word → WasUnset who.new.seat.view who.new.number
+        (slot_place shared.root shared.degree i) }
 {
-    know(seat);
-    load(table, seat, slot_place(node, degree, i))
+    know(&who.seat);
+    load(
+        table,
+        &mut who.seat,
+        slot_place(shared.root, shared.degree, i),
+    )
 }
 
 // Puts the word, part `i` of the rebuild, into its slot if the slot is Unset.
@@ -62,163 +64,176 @@ fn put_part(
     exchange_or_lose(table, seat, place, Ref::Unset.to_word(), word)
 }
 
-// Builds part `i` of a shared root and puts it in place, if its slot is Unset.
-fn fill_slot(
-    table: &TreeTable,
-    who: &mut Caller,
-    rebuild: u32,
-    target: u32,
-    root: u32,
-    keys: u64,
-    i: u64,
-) -> Result<(), Full>
+// Puts part `i` of a shared root, which was built, into its slot if that is still Unset.
+fn put_slot(table: &TreeTable, who: &mut Caller, shared: Shared, i: u64, word: u64)
     requires same_table { who.old.seat.table ≡ table.now.table }
-    requires caller { IsCaller who.old }
-    requires refused { HasRefused who.old }
-    requires shared { IsShared (now who.old.seat.view) rebuild target root keys }
-    requires within { i < degree keys }
+    requires made { PartWasMade who.old shared i word }
     ensures same_table { who.new.seat.table ≡ table.now.table }
-    ensures caller { IsCaller who.new }
-    ensures number { who.new.number ≡ who.old.number }
-    ensures rows { spares_of who.new ≡ spares_of who.old }
-    ensures put { PutOn who.old.seat.view who.new.seat.view }
-    ensures set { IfOk result (λ done. IsSlotSet (now who.new.seat.view) root i) }
-    ensures full { IfErr result (λ full. IsShort who.old.seat.view (word_count_of table.now) keys
-        full who.new.seat.view) }
-    ensures refused { HasRefused who.new }
+    ensures put { EndsPart who.old shared i word who.new }
 {
     know(&who.seat);
-    let degree = degree(keys);
-    if slot_of(table, &mut who.seat, root, degree, i) != Ref::Unset.to_word() {
+    let place = slot_place(shared.root, shared.degree, i);
+    put_part(table, &mut who.seat, shared.rebuild, i, place, word);
+}
+
+// Builds part `i` of a shared root, whose slot was Unset, and returns its word.
+fn build_slot(table: &TreeTable, who: &mut Caller, shared: Shared, i: u64) -> Result<u64, Full>
+    requires same_table { who.old.seat.table ≡ table.now.table }
+    requires ready { IsFreeToBuild who.old }
+    requires shared { IsSharedAs (now who.old.seat.view) shared }
+    requires within { i < shared.degree }
+    requires unset { WasUnset who.old.seat.view who.old.number
+        (slot_place shared.root shared.degree i) }
+    ensures same_table { who.new.seat.table ≡ table.now.table }
+    ensures made { IfOk result (λ word. IsPartMade who.old who.new shared i word) }
+    ensures back { IfErr result (λ full. IsBack who.old who.new) }
+    ensures full { IfErr result (λ full. IsStopped who.old.seat.view shared.rebuild
+        (word_count_of table.now) full who.new.seat.view) }
+{
+    know(&who.seat);
+    let share = part(shared.keys, i);
+    build_share(table, who, shared.target, share.start, share.len)
+}
+
+// Builds part `i` of a shared root and puts it in place, if its slot is Unset.
+fn fill_slot(table: &TreeTable, who: &mut Caller, shared: Shared, i: u64) -> Result<(), Full>
+    requires same_table { who.old.seat.table ≡ table.now.table }
+    requires ready { IsFreeToBuild who.old }
+    requires shared { IsSharedAs (now who.old.seat.view) shared }
+    requires within { i < shared.degree }
+    ensures same_table { who.new.seat.table ≡ table.now.table }
+    ensures back { IsBack who.old who.new }
+    ensures set { IfOk result (λ done. IsSlotSet (now who.new.seat.view) shared.root i) }
+    ensures full { IfErr result (λ full. IsStopped who.old.seat.view shared.rebuild
+        (word_count_of table.now) full who.new.seat.view) }
+{
+    if slot_of(table, who, shared, i) != Ref::Unset.to_word() {
         return Ok(());
     }
-    let share = part(keys, i);
-    know(&who.seat);
-    let word = build_share(table, who, target, share.start, share.len)?;
-    know(&who.seat);
-    put_part(
-        table,
-        &mut who.seat,
-        rebuild,
-        i,
-        slot_place(root, degree, i),
-        word,
-    );
+    let word = build_slot(table, who, shared, i)?;
+    put_slot(table, who, shared, i, word);
     Ok(())
 }
 
-// Draws the next part of a rebuild, or none if the last was drawn. It loads the draw word before each
-// draw, so that a draw past the last part is the caller's last.
-fn draw(
-    table: &TreeTable,
-    who: &mut Caller,
-    rebuild: u32,
-    target: u32,
-    root: u32,
-    keys: u64,
-) -> Option<u64>
+// Draws the next part of a shared root, and returns its number: none is left if that isn't below the
+// number of slots. It loads the draw word before each draw, so that a draw past the last part is the
+// caller's last.
+fn draw(table: &TreeTable, who: &mut Caller, shared: Shared) -> u64
     requires same_table { who.old.seat.table ≡ table.now.table }
-    requires caller { IsCaller who.old }
-    requires refused { HasRefused who.old }
-    requires shared { IsShared (now who.old.seat.view) rebuild target root keys }
+    requires ready { IsFreeToBuild who.old }
+    requires shared { IsSharedAs (now who.old.seat.view) shared }
     ensures same_table { who.new.seat.table ≡ table.now.table }
-    ensures caller { IsCaller who.new }
-    ensures number { who.new.number ≡ who.old.number }
-    ensures rows { spares_of who.new ≡ spares_of who.old }
-    ensures put { PutOn who.old.seat.view who.new.seat.view }
-    ensures refused { HasRefused who.new }
-    ensures within { IfSome result (λ i. i < degree keys) }
+    ensures back { IsBack who.old who.new }
 {
     know(&who.seat);
-    let degree = degree(keys);
-    let place = u64::from(rebuild) + REBUILD_DRAW_OFFSET;
-    if load(table, &mut who.seat, place) >= degree {
-        return None;
+    let place = u64::from(shared.rebuild) + REBUILD_DRAW_OFFSET;
+    let next = load(table, &mut who.seat, place);
+    if next >= shared.degree {
+        return next;
     }
     // Draw. Meets the draws of other callers.
-    let part = add(table, &mut who.seat, place);
-    if part < degree { Some(part) } else { None }
+    add(table, &mut who.seat, place)
 }
 
 // Draws parts and fills them, as long as there are parts to draw.
-fn fill_drawn(
-    table: &TreeTable,
-    who: &mut Caller,
-    rebuild: u32,
-    target: u32,
-    root: u32,
-    keys: u64,
-) -> Result<(), Full>
+fn fill_drawn(table: &TreeTable, who: &mut Caller, shared: Shared) -> Result<(), Full>
     requires same_table { who.old.seat.table ≡ table.now.table }
-    requires caller { IsCaller who.old }
-    requires refused { HasRefused who.old }
-    requires shared { IsShared (now who.old.seat.view) rebuild target root keys }
+    requires ready { IsFreeToBuild who.old }
+    requires shared { IsSharedAs (now who.old.seat.view) shared }
     ensures same_table { who.new.seat.table ≡ table.now.table }
-    ensures caller { IsCaller who.new }
-    ensures number { who.new.number ≡ who.old.number }
-    ensures rows { spares_of who.new ≡ spares_of who.old }
-    ensures put { PutOn who.old.seat.view who.new.seat.view }
-    ensures full { IfErr result (λ full.
-        IsStopped who.old.seat.view rebuild (word_count_of table.now) full who.new.seat.view) }
-    ensures refused { HasRefused who.new }
+    ensures back { IsBack who.old who.new }
+    ensures full { IfErr result (λ full. IsStopped who.old.seat.view shared.rebuild
+        (word_count_of table.now) full who.new.seat.view) }
 {
     know(&who.seat);
-    for _ in 0..degree(keys) {
-        match draw(table, who, rebuild, target, root, keys) {
-            Some(i) => fill_slot(table, who, rebuild, target, root, keys, i)?,
-            None => return Ok(()),
+    for _ in 0..shared.degree {
+        let i = draw(table, who, shared);
+        if i >= shared.degree {
+            return Ok(());
         }
+        fill_slot(table, who, shared, i)?;
     }
-    know(&who.seat);
     Ok(())
 }
 
 // Fills each slot that is still Unset.
-fn fill_unset(
-    table: &TreeTable,
-    who: &mut Caller,
-    rebuild: u32,
-    target: u32,
-    root: u32,
-    keys: u64,
-) -> Result<(), Full>
+fn fill_unset(table: &TreeTable, who: &mut Caller, shared: Shared) -> Result<(), Full>
     requires same_table { who.old.seat.table ≡ table.now.table }
-    requires caller { IsCaller who.old }
-    requires refused { HasRefused who.old }
-    requires shared { IsShared (now who.old.seat.view) rebuild target root keys }
+    requires ready { IsFreeToBuild who.old }
+    requires shared { IsSharedAs (now who.old.seat.view) shared }
     ensures same_table { who.new.seat.table ≡ table.now.table }
-    ensures caller { IsCaller who.new }
-    ensures number { who.new.number ≡ who.old.number }
-    ensures rows { spares_of who.new ≡ spares_of who.old }
-    ensures put { PutOn who.old.seat.view who.new.seat.view }
-    ensures filled { IfOk result (λ done. (i : ℕ) → i < degree keys
-        → IsSlotSet (now who.new.seat.view) root i) }
-    ensures full { IfErr result (λ full.
-        IsStopped who.old.seat.view rebuild (word_count_of table.now) full who.new.seat.view) }
-    ensures refused { HasRefused who.new }
+    ensures back { IsBack who.old who.new }
+    ensures filled { IfOk result (λ done. IsBuiltOut (now who.new.seat.view) shared.rebuild) }
+    ensures full { IfErr result (λ full. IsStopped who.old.seat.view shared.rebuild
+        (word_count_of table.now) full who.new.seat.view) }
 {
     know(&who.seat);
-    for i in 0..degree(keys) {
-        fill_slot(table, who, rebuild, target, root, keys, i)?;
+    for i in 0..shared.degree {
+        fill_slot(table, who, shared, i)?;
     }
-    know(&who.seat);
     Ok(())
 }
 
-// Returns the row that is the shared root of a rebuild.
-fn root_node(table: &TreeTable, seat: &mut TreeSeat, rebuild: u32, target: u32, keys: u64) -> u32
-    requires same_table { seat.old.table ≡ table.now.table }
-    requires told { IsTold (now seat.old.view) rebuild keys }
-    requires target { HasTarget (now seat.old.view) rebuild target }
-    requires rooted { IsRooted (now seat.old.view) rebuild }
-    requires many { share_from ≤ keys }
-    ensures same_table { seat.new.table ≡ seat.old.table }
-    ensures seen { GoesOnTo seat.old.view seat.new.view }
-    ensures shared { IsShared (now seat.new.view) rebuild target result keys }
+// Fills a shared root: first the parts that it draws, and then what is left.
+fn fill_shared(table: &TreeTable, who: &mut Caller, shared: Shared) -> Result<(), Full>
+    requires same_table { who.old.seat.table ≡ table.now.table }
+    requires ready { IsFreeToBuild who.old }
+    requires shared { IsSharedAs (now who.old.seat.view) shared }
+    ensures same_table { who.new.seat.table ≡ table.now.table }
+    ensures back { IsBack who.old who.new }
+    ensures filled { IfOk result (λ done. IsBuiltOut (now who.new.seat.view) shared.rebuild) }
+    ensures full { IfErr result (λ full. IsStopped who.old.seat.view shared.rebuild
+        (word_count_of table.now) full who.new.seat.view) }
 {
-    know(seat);
+    fill_drawn(table, who, shared)?;
+    fill_unset(table, who, shared)
+}
+
+// Returns the shared root of a rebuild.
+fn shared_root(table: &TreeTable, who: &mut Caller, rebuild: u32, target: Target) -> Shared
+    requires same_table { who.old.seat.table ≡ table.now.table }
+    requires ready { IsFreeToBuild who.old }
+    requires told { IsTold (now who.old.seat.view) rebuild target.keys }
+    requires target { HasTarget (now who.old.seat.view) rebuild target.base }
+    requires rooted { IsRooted (now who.old.seat.view) rebuild }
+    requires many { share_from ≤ target.keys }
+    ensures same_table { who.new.seat.table ≡ table.now.table }
+    ensures back { IsBack who.old who.new }
+    ensures shared { IsSharedAs (now who.new.seat.view) result }
+    ensures rebuild { result.rebuild ≡ rebuild }
+{
+    know(&who.seat);
     // The word of an inner row is 8 * base + 2.
-    (load(table, seat, u64::from(rebuild) + REBUILD_ROOT_OFFSET) / 8) as u32
+    let root = load(
+        table,
+        &mut who.seat,
+        u64::from(rebuild) + REBUILD_ROOT_OFFSET,
+    ) / 8;
+    Shared {
+        rebuild,
+        target: target.base,
+        root: root as u32,
+        keys: target.keys,
+        degree: degree(target.keys),
+    }
+}
+
+// Fills the shared root of a rebuild.
+fn fill_many(table: &TreeTable, who: &mut Caller, rebuild: u32, target: Target) -> Result<(), Full>
+    requires same_table { who.old.seat.table ≡ table.now.table }
+    requires ready { IsFreeToBuild who.old }
+    requires told { IsTold (now who.old.seat.view) rebuild target.keys }
+    requires target { HasTarget (now who.old.seat.view) rebuild target.base }
+    requires rooted { IsRooted (now who.old.seat.view) rebuild }
+    requires many { share_from ≤ target.keys }
+    ensures same_table { who.new.seat.table ≡ table.now.table }
+    ensures back { IsBack who.old who.new }
+    ensures filled { IfOk result (λ done. IsBuiltOut (now who.new.seat.view) rebuild) }
+    ensures full { IfErr result (λ full.
+        IsStopped who.old.seat.view rebuild (word_count_of table.now) full who.new.seat.view) }
+{
+    let shared = shared_root(table, who, rebuild, target);
+    fill_shared(table, who, shared)
 }
 
 /// Fills the root of a rebuild: afterwards no slot of it is Unset.
@@ -229,27 +244,19 @@ fn root_node(table: &TreeTable, seat: &mut TreeSeat, rebuild: u32, target: u32, 
 /// a row of a part; its rows stay held.
 pub(crate) fn fill_root(table: &TreeTable, who: &mut Caller, rebuild: u32) -> Result<(), Full>
     requires same_table { who.old.seat.table ≡ table.now.table }
-    requires caller { IsCaller who.old }
-    requires refused { HasRefused who.old }
+    requires ready { IsFreeToBuild who.old }
     requires buildable { IsBuildable (now who.old.seat.view) rebuild }
     requires rooted { IsRooted (now who.old.seat.view) rebuild }
     ensures same_table { who.new.seat.table ≡ table.now.table }
-    ensures caller { IsCaller who.new }
-    ensures number { who.new.number ≡ who.old.number }
-    ensures rows { spares_of who.new ≡ spares_of who.old }
-    ensures put { PutOn who.old.seat.view who.new.seat.view }
+    ensures back { IsBack who.old who.new }
     ensures filled { IfOk result (λ done. IsBuiltOut (now who.new.seat.view) rebuild) }
     ensures full { IfErr result (λ full.
         IsStopped who.old.seat.view rebuild (word_count_of table.now) full who.new.seat.view) }
-    ensures refused { HasRefused who.new }
 {
-    let target = target_of(table, &mut who.seat, rebuild);
-    let keys = keys_of(table, &mut who.seat, target);
+    let target = find_target(table, who, rebuild);
     know(&who.seat);
-    if keys < SHARE_FROM {
+    if target.keys < SHARE_FROM {
         return Ok(());
     }
-    let root = root_node(table, &mut who.seat, rebuild, target, keys);
-    fill_drawn(table, who, rebuild, target, root, keys)?;
-    fill_unset(table, who, rebuild, target, root, keys)
+    fill_many(table, who, rebuild, target)
 }

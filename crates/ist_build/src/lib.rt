@@ -14,6 +14,8 @@ mod filling;
 mod parts;
 mod reading;
 mod root;
+mod shared;
+mod targets;
 mod top;
 
 pub use calls::{build_part, fill_parts, leaf_and_loads, leaf_at, set_root};

@@ -10,7 +10,8 @@ ghost use Rattle.ist_rule.specs.Learning.{now, GoesOnTo};
 ghost use Rattle.ist_rows.specs.Rows.{IsCaller, spares_of};
 ghost use Rattle.ist_rows.specs.Building.{HasTaken, HasRefused, IsInBuild, sizes_built};
 ghost use Rattle.ist_build.specs.Calls.{MayBuild, HasKeys};
-ghost use Rattle.ist_build.specs.Laying.{BuiltOn, IsLaid, IsDue, IsShort};
+ghost use Rattle.ist_build.specs.Laying.{BuiltOn, AreKeysOf, IsLaid, IsDue, IsShort};
+ghost use Rattle.ist_build.specs.Reading.{HasReadOut};
 
 use crate::block::build_at_once;
 use crate::building::load_keys;
@@ -24,6 +25,34 @@ const FEW: usize = 256;
 
 // No part is longer than this.
 const MANY: usize = 16388;
+
+// Reads the leaves from number `start` on, one per element of `leaves`, and then loads their keys.
+fn read_out(
+    table: &TreeTable,
+    seat: &mut TreeSeat,
+    target: u32,
+    start: u64,
+    leaves: &mut [u32],
+    keys: &mut [u64],
+)
+    requires same_table { seat.old.table ≡ table.now.table }
+    requires finished { HasKeys (now seat.old.view) target (start + length leaves.old) }
+    requires many { length keys.old ≡ length leaves.old }
+    ensures same_table { seat.new.table ≡ seat.old.table }
+    ensures read { HasReadOut seat.old.view target start (length leaves.old) leaves.new
+        seat.new.view }
+    ensures many { length keys.new ≡ length leaves.new }
+    ensures keys { AreKeysOf (now seat.new.view) leaves.new keys.new }
+{
+    know(seat);
+    let at = Cursor {
+        skip: start,
+        count: 0,
+    };
+    read_leaves(table, seat, target, leaves, at);
+    know(seat);
+    load_keys(table, seat, leaves, keys);
+}
 
 // Builds over the leaves from number `start` on, one per element of `leaves`. It reads all leaves,
 // and then all their keys, before it stores a word.
@@ -56,13 +85,7 @@ fn build_read(
     ensures refused { IfErr result (λ full. HasRefused who.new) }
 {
     know(&who.seat);
-    let at = Cursor {
-        skip: start,
-        count: 0,
-    };
-    read_leaves(table, &mut who.seat, target, leaves, at);
-    know(&who.seat);
-    load_keys(table, &mut who.seat, leaves, keys);
+    read_out(table, &mut who.seat, target, start, leaves, keys);
     build_at_once(table, who, leaves, keys)
 }
 

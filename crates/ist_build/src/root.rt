@@ -13,32 +13,36 @@ ghost use Rattle.ist_rows.specs.Building.{HasRefused};
 ghost use Rattle.laws_coming.specs.Builds.{WasUnset};
 ghost use Rattle.ist_build.specs.Laying.{BuiltOn, IsRootLaid, IsTarget, IsShort};
 ghost use Rattle.ist_build.specs.Calls.{IsTold, IsBuildable};
-ghost use Rattle.ist_build.specs.Putting.{PutOn, HasRoot, IsStopped};
-ghost use Rattle.ist_dcss.specs.Reading.{IsRebuildRow};
+ghost use Rattle.ist_build.specs.Putting.{HasRoot, IsStopped};
+ghost use Rattle.ist_build.specs.Back.{IsFreeToBuild, IsBack, RootWasMade, EndsRoot};
 
 use crate::descent::leaf_base;
 use crate::parts::build_share;
-use crate::reading::keys_of;
+use crate::targets::{Target, find_target};
 use crate::top::build_top;
 use ist_core::Full;
-use ist_dcss::target_of;
 use ist_layout::{REBUILD_ROOT_OFFSET, Ref};
 use ist_math::SHARE_FROM;
 use ist_rows::Caller;
 use ist_rule::{TreeSeat, TreeTable, exchange, exchange_or_lose, know, load};
 
 // Returns the word in a rebuild's root field.
-fn root_of(table: &TreeTable, seat: &mut TreeSeat, rebuild: u32) -> u64
-    requires same_table { seat.old.table ≡ table.now.table }
-    requires published { IsRebuildRow (now seat.old.view) rebuild }
-    ensures same_table { seat.new.table ≡ seat.old.table }
-    ensures seen { GoesOnTo seat.old.view seat.new.view }
-    ensures set { result ≢ unset_word → HasRoot (now seat.new.view) rebuild result }
-    ensures unset { result ≡ unset_word → (number : ℕ)
-        → WasUnset seat.new.view number (rebuild + rebuild_root_offset) }
+fn root_of(table: &TreeTable, who: &mut Caller, rebuild: u32) -> u64
+    requires same_table { who.old.seat.table ≡ table.now.table }
+    requires ready { IsFreeToBuild who.old }
+    requires buildable { IsBuildable (now who.old.seat.view) rebuild }
+    ensures same_table { who.new.seat.table ≡ table.now.table }
+    ensures back { IsBack who.old who.new }
+    ensures set { result ≢ unset_word → HasRoot (now who.new.seat.view) rebuild result }
+    ensures unset { result ≡ unset_word
+        → WasUnset who.new.seat.view who.new.number (rebuild + rebuild_root_offset) }
 {
-    know(seat);
-    load(table, seat, u64::from(rebuild) + REBUILD_ROOT_OFFSET)
+    know(&who.seat);
+    load(
+        table,
+        &mut who.seat,
+        u64::from(rebuild) + REBUILD_ROOT_OFFSET,
+    )
 }
 
 // Builds a root over the leaves of a finished target with two keys or more, and returns its word: the
@@ -68,42 +72,39 @@ fn build_root(table: &TreeTable, who: &mut Caller, target: u32, keys: u64) -> Re
     build_top(table, who, target, keys)
 }
 
-// Builds a root of inner rows and puts it in place, and returns the root that the rebuild then has.
-fn set_rows(
-    table: &TreeTable,
-    who: &mut Caller,
-    rebuild: u32,
-    target: u32,
-    keys: u64,
-) -> Result<u64, Full>
+// Puts a root that was built in place, if the rebuild has none yet, and returns the root that it then
+// has.
+fn put_root(table: &TreeTable, who: &mut Caller, rebuild: u32, word: u64) -> u64
     requires same_table { who.old.seat.table ≡ table.now.table }
-    requires caller { IsCaller who.old }
-    requires refused { HasRefused who.old }
-    requires told { IsTold (now who.old.seat.view) rebuild keys }
-    requires target { HasTarget (now who.old.seat.view) rebuild target }
-    requires several { 2 ≤ keys }
-    requires unset { WasUnset who.old.seat.view who.old.number (rebuild + rebuild_root_offset) }
+    requires made { RootWasMade who.old rebuild word }
     ensures same_table { who.new.seat.table ≡ table.now.table }
-    ensures caller { IsCaller who.new }
-    ensures number { who.new.number ≡ who.old.number }
-    ensures rows { spares_of who.new ≡ spares_of who.old }
-    ensures put { PutOn who.old.seat.view who.new.seat.view }
-    ensures root { IfOk result (λ word. HasRoot (now who.new.seat.view) rebuild word) }
-    ensures full { IfErr result (λ full. IsShort who.old.seat.view (word_count_of table.now) keys
-        full who.new.seat.view) }
-    ensures refused { HasRefused who.new }
+    ensures put { EndsRoot who.old rebuild word who.new result }
 {
-    know(&who.seat);
-    let word = build_root(table, who, target, keys)?;
     know(&who.seat);
     let unset = Ref::Unset.to_word();
     let place = u64::from(rebuild) + REBUILD_ROOT_OFFSET;
     // Root, or the Lose of these rows. Meets another caller's root.
     let stood = exchange_or_lose(table, &mut who.seat, place, unset, word);
-    if stood == unset {
-        return Ok(word);
-    }
-    Ok(stood)
+    if stood == unset { word } else { stood }
+}
+
+// Builds a root of inner rows and puts it in place, and returns the root that the rebuild then has.
+fn set_rows(table: &TreeTable, who: &mut Caller, rebuild: u32, target: Target) -> Result<u64, Full>
+    requires same_table { who.old.seat.table ≡ table.now.table }
+    requires ready { IsFreeToBuild who.old }
+    requires told { IsTold (now who.old.seat.view) rebuild target.keys }
+    requires target { HasTarget (now who.old.seat.view) rebuild target.base }
+    requires several { 2 ≤ target.keys }
+    requires unset { WasUnset who.old.seat.view who.old.number (rebuild + rebuild_root_offset) }
+    ensures same_table { who.new.seat.table ≡ table.now.table }
+    ensures back { IsBack who.old who.new }
+    ensures root { IfOk result (λ word. HasRoot (now who.new.seat.view) rebuild word) }
+    ensures full { IfErr result (λ full.
+        IsStopped who.old.seat.view rebuild (word_count_of table.now) full who.new.seat.view) }
+{
+    know(&who.seat);
+    let word = build_root(table, who, target.base, target.keys)?;
+    Ok(put_root(table, who, rebuild, word))
 }
 
 // Returns the root over no key or over one, which has no rows.
@@ -126,32 +127,24 @@ fn small_root(table: &TreeTable, seat: &mut TreeSeat, target: u32, keys: u64) ->
 }
 
 // Puts a root without rows in place, and returns the root that the rebuild then has.
-fn set_small(table: &TreeTable, who: &mut Caller, rebuild: u32, target: u32, keys: u64) -> u64
+fn set_small(table: &TreeTable, who: &mut Caller, rebuild: u32, target: Target) -> u64
     requires same_table { who.old.seat.table ≡ table.now.table }
-    requires caller { IsCaller who.old }
-    requires refused { HasRefused who.old }
-    requires told { IsTold (now who.old.seat.view) rebuild keys }
-    requires target { HasTarget (now who.old.seat.view) rebuild target }
-    requires few { keys < 2 }
+    requires ready { IsFreeToBuild who.old }
+    requires told { IsTold (now who.old.seat.view) rebuild target.keys }
+    requires target { HasTarget (now who.old.seat.view) rebuild target.base }
+    requires few { target.keys < 2 }
     ensures same_table { who.new.seat.table ≡ table.now.table }
-    ensures caller { IsCaller who.new }
-    ensures number { who.new.number ≡ who.old.number }
-    ensures rows { spares_of who.new ≡ spares_of who.old }
-    ensures put { PutOn who.old.seat.view who.new.seat.view }
+    ensures back { IsBack who.old who.new }
     ensures root { HasRoot (now who.new.seat.view) rebuild result }
-    ensures refused { HasRefused who.new }
 {
     know(&who.seat);
-    let word = small_root(table, &mut who.seat, target, keys);
+    let word = small_root(table, &mut who.seat, target.base, target.keys);
     know(&who.seat);
     let unset = Ref::Unset.to_word();
     let place = u64::from(rebuild) + REBUILD_ROOT_OFFSET;
     // Root. Meets another caller's: then there are no rows to lose, and it is a load.
     let stood = exchange(table, &mut who.seat, place, unset, word);
-    if stood == unset {
-        return word;
-    }
-    stood
+    if stood == unset { word } else { stood }
 }
 
 /// Gives a started rebuild with a finished target its root, and returns the root's word.
@@ -162,27 +155,21 @@ fn set_small(table: &TreeTable, who: &mut Caller, rebuild: u32, target: u32, key
 /// are left for a row of the build; its rows stay held.
 pub(crate) fn place_root(table: &TreeTable, who: &mut Caller, rebuild: u32) -> Result<u64, Full>
     requires same_table { who.old.seat.table ≡ table.now.table }
-    requires caller { IsCaller who.old }
-    requires refused { HasRefused who.old }
+    requires ready { IsFreeToBuild who.old }
     requires buildable { IsBuildable (now who.old.seat.view) rebuild }
     ensures same_table { who.new.seat.table ≡ table.now.table }
-    ensures caller { IsCaller who.new }
-    ensures number { who.new.number ≡ who.old.number }
-    ensures rows { spares_of who.new ≡ spares_of who.old }
-    ensures put { PutOn who.old.seat.view who.new.seat.view }
+    ensures back { IsBack who.old who.new }
     ensures root { IfOk result (λ word. HasRoot (now who.new.seat.view) rebuild word) }
     ensures full { IfErr result (λ full.
         IsStopped who.old.seat.view rebuild (word_count_of table.now) full who.new.seat.view) }
-    ensures refused { HasRefused who.new }
 {
-    let stood = root_of(table, &mut who.seat, rebuild);
+    let stood = root_of(table, who, rebuild);
     if stood != Ref::Unset.to_word() {
         return Ok(stood);
     }
-    let target = target_of(table, &mut who.seat, rebuild);
-    let keys = keys_of(table, &mut who.seat, target);
-    if keys < 2 {
-        return Ok(set_small(table, who, rebuild, target, keys));
+    let target = find_target(table, who, rebuild);
+    if target.keys < 2 {
+        return Ok(set_small(table, who, rebuild, target));
     }
-    set_rows(table, who, rebuild, target, keys)
+    set_rows(table, who, rebuild, target)
 }

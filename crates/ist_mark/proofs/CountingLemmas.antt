@@ -12,12 +12,12 @@ use Rattle.ist_rule.specs.Learning.{now}
 use Rattle.ist_rule.specs.Going.{WentOn}
 use Rattle.ist_rule.proofs.WentOnLemmas.{went_who}
 use Rattle.ist_mark.specs.declared.below.Below.TheVariants.{Keys, Node}
-use Rattle.ist_mark.specs.Marking.{MayMark, LeadsTo, to_row, to_target, LiesUnder, the_node, one_lower}
-use Rattle.ist_mark.specs.Passing.{MayPass, PassedWith, AreCounted, one_slot_more, MayFinish, IsSlotCounted}
+use Rattle.ist_mark.specs.Marking.{MayMark, LeadsTo, to_row, to_target, LiesUnder, the_node, one_lower, Marks}
+use Rattle.ist_mark.specs.Passing.{MayPass, MayGoOn, PassedWith, IsSlotCounted, AreCounted, one_slot_more, MayFinish}
 use Rattle.ist_mark.proofs.CountLemmas.{count_few, counted_few}
-use Rattle.ist_mark.proofs.KeepingLemmas.{happened_went, may_pass_went, counted_went}
+use Rattle.ist_mark.proofs.KeepingLemmas.{happened_went, may_mark_went, may_pass_went, counted_went}
 use Rattle.ist_mark.proofs.PassLemmas.{degree_low}
-use Rattle.ist_mark.proofs.SubtreeLemmas.{leads_later}
+use Rattle.ist_mark.proofs.SubtreeLemmas.{leads_later, under_later}
 
 -- ---- one slot
 
@@ -41,6 +41,18 @@ leads_counts t word child k (to_target rebuild is h) f =
 pub below_under : (v : View) (node i child : ℕ) → PassedWith v node i (Node child)
     → LiesUnder (now v) v.log node child
 below_under v node i child p = one_lower i p.word the_node p.frozen p.is.leads
+
+-- so marking may go on with it, after loads too
+pub may_go_on : {P : Event → Type 0} (v u w : View) (node degree i child : ℕ) → MayPass v node degree
+    → WentOn P v u → PassedWith u node i (Node child) → WentOn (Marks w node) u w
+    → MayGoOn w node child
+may_go_on v u w node degree i child m first p second =
+    let it = below_called v u node degree i child m first p in
+    record {
+      above = it.0;
+      may_mark = may_mark_went (Marks w node) u w second child it.1;
+      under = under_later u w second node child (below_under u node i child p);
+    }
 
 -- once the row is finished, the slot is counted
 pub row_counted : {P : Event → Type 0} (v w : View) → WentOn P v w → (node i child k : ℕ)

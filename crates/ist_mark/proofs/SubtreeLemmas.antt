@@ -1,20 +1,23 @@
 -- The rows of a subtree, and steps of marking it, as seats go on. Serves each function.
-use Rattle.std.proofs.Common.{◌≡◌, ℕ, sym, ap, ◌∙◌, subst}
+use Rattle.std.proofs.Common.{◌≡◌, ℕ, refl, sym, ap, ◌∙◌, subst}
 use Rattle.ist_core.specs.declared.events.Event.{Event}
 use Rattle.ist_core.specs.declared.events.Event.TheVariants.{Enter, Reserve, Install, Okay, Decide, Resolve, Count, Mark, Pass, Finish, Root, Draw, Place, Lose}
 use Rattle.ist_core.specs.Logs.{Log, Passes}
 use Rattle.ist_core.specs.Snapshots.{Snapshot}
 use Rattle.laws_links.proofs.FinishedLemmas.{target_grows}
 use Rattle.ist_rule.specs.declared.view.View.{View}
-use Rattle.ist_rule.specs.Learning.{now}
-use Rattle.ist_rule.specs.Going.{WentOn}
-use Rattle.ist_rule.proofs.WentOnLemmas.{went_grow, went_all, went_more}
+use Rattle.ist_rule.specs.Faces.{SeatFace}
+use Rattle.ist_rule.specs.Rule.{IsSound}
+use Rattle.ist_rule.specs.Learning.{now, GoesOnTo}
+use Rattle.ist_rule.specs.Going.{WentOn, KeepsSearch}
+use Rattle.ist_rule.proofs.WentOnLemmas.{went_grow, went_all, went_more, went_same, goes_on_went}
+use Rattle.ist_rule.proofs.KeptSearchLemmas.{keeps_more, keeps_same, goes_on_keeps}
 use Rattle.ist_rows.specs.CallerLaws.{KeepsRows}
 use Rattle.ist_dcss.specs.Helping.{Serves}
 use Rattle.ist_dcss.proofs.HelperLemmas.{went_row}
-use Rattle.ist_mark.specs.Marking.{LeadsTo, to_row, to_target, LiesUnder, the_node, one_lower, IsOnSubtree, Marks}
-use Rattle.ist_mark.specs.Passing.{IsMetAt}
-use Rattle.ist_mark.proofs.KeepingLemmas.{happened_went}
+use Rattle.ist_mark.specs.Marking.{MayMark, LeadsTo, to_row, to_target, LiesUnder, the_node, one_lower, IsOnSubtree, Marks}
+use Rattle.ist_mark.specs.Passing.{IsMetAt, MayPass, HasMarked}
+use Rattle.ist_mark.proofs.KeepingLemmas.{happened_went, may_mark_went, may_pass_went}
 
 -- ---- rows of a subtree
 
@@ -167,3 +170,65 @@ marked_help node base u v w a m h =
       published = on.1;
       under = subst (LiesUnder (now w) w.log node) node_is the_node;
     }) v w h)
+
+-- ---- seats that only mark
+
+-- marking on twice
+pub mark_more : (node : ℕ) (a b c : SeatFace) → HasMarked node a b → HasMarked node b c
+    → HasMarked node a c
+mark_more node a b c first second =
+    record {
+      same_table = second.same_table ∙ first.same_table;
+      went = marked_more node a.view b.view c.view first.went second.went;
+      search = keeps_more a.view b.view c.view first.search second.search;
+    }
+
+-- marking on below the node
+pub mark_lower : (node child : ℕ) (a b c : SeatFace) → HasMarked node a b
+    → LiesUnder (now b.view) b.view.log node child → HasMarked child b c → HasMarked node a c
+mark_lower node child a b c first under second =
+    record {
+      same_table = second.same_table ∙ first.same_table;
+      went = marked_lower node child a.view b.view c.view first.went under second.went;
+      search = keeps_more a.view b.view c.view first.search second.search;
+    }
+
+-- a seat that did nothing has only marked
+pub mark_same : (node : ℕ) (a : SeatFace) → IsSound a.view → HasMarked node a a
+mark_same node a s =
+    record {
+      same_table = refl;
+      went = went_same (Marks a.view node) a.view s;
+      search = keeps_same a.view;
+    }
+
+-- and so has one that made loads
+pub mark_loads : (node : ℕ) (a b : SeatFace) → b.table ≡ a.table → GoesOnTo a.view b.view
+    → HasMarked node a b
+mark_loads node a b same g =
+    record {
+      same_table = same;
+      went = goes_on_went (Marks b.view node) a.view b.view g;
+      search = goes_on_keeps a.view b.view g;
+    }
+
+-- and one that helped a change which it met in a slot of the node
+pub mark_help : (node base : ℕ) (a b c : SeatFace) → HasMarked node a b → IsMetAt b.view node base
+    → c.table ≡ b.table → WentOn (Serves base) b.view c.view → KeepsSearch b.view c.view
+    → HasMarked node a c
+mark_help node base a b c first met same went search =
+    record {
+      same_table = same ∙ first.same_table;
+      went = marked_help node base a.view b.view c.view first.went met went;
+      search = keeps_more a.view b.view c.view first.search search;
+    }
+
+-- a node that may be marked may be marked still
+pub may_mark_on : (node : ℕ) (a b : SeatFace) → HasMarked node a b → MayMark a.view node
+    → MayMark b.view node
+may_mark_on node a b h m = may_mark_went (Marks b.view node) a.view b.view h.went node m
+
+-- and so may its slots be passed
+pub may_pass_on : (node degree : ℕ) (a b : SeatFace) → HasMarked node a b → MayPass a.view node degree
+    → MayPass b.view node degree
+may_pass_on node degree a b h m = may_pass_went (Marks b.view node) a.view b.view h.went node degree m

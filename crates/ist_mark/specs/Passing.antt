@@ -9,11 +9,13 @@ use Rattle.ist_core.specs.Logs.{Happened, Log, Resolves}
 use Rattle.ist_core.specs.Marking.{IsCalled, IsFrozen, CountsFor}
 use Rattle.ist_rule.specs.declared.view.View.{View}
 use Rattle.ist_core.specs.declared.events.Who.TheVariants.{Caller}
+use Rattle.ist_rule.specs.Faces.{SeatFace}
+use Rattle.ist_rule.specs.Going.{WentOn, KeepsSearch}
 use Rattle.ist_rule.specs.Learning.{now}
 use Rattle.ist_dcss.specs.Helping.{MayHelp}
 use Rattle.ist_mark.specs.declared.below.Below.{Below}
 use Rattle.ist_mark.specs.declared.below.Below.TheVariants.{Keys, Node}
-use Rattle.ist_mark.specs.Marking.{LeadsTo}
+use Rattle.ist_mark.specs.Marking.{MayMark, LeadsTo, LiesUnder, Marks}
 
 -- the node is an inner row that isn't open
 pub record IsClosed (t : Snapshot) (node : ℕ) : Type 0 where
@@ -36,6 +38,12 @@ pub record IsMetAt (v : View) (node change : ℕ) : Type 0 where
   pub node_is : may_help.row.node ≡ node
   pub unresolved : ¬ (Happened (Resolves change) v.log)
 
+-- the seat only marked: it has made steps of marking the subtree of the node, and kept its search
+pub record HasMarked (node : ℕ) (old new : SeatFace) : Type 0 where
+  pub same_table : new.table ≡ old.table
+  pub went : WentOn (Marks new.view node) old.view new.view
+  pub search : KeepsSearch old.view new.view
+
 -- ---- what hangs below a slot
 
 -- an inner row hangs below the node: it lies above it, has a cause to be marked, and the word leads
@@ -49,6 +57,12 @@ pub record HangsBelow (v : View) (node word child : ℕ) : Type 0 where
 abbrev pub IsBelow : View → ℕ → ℕ → Below → Type 0
 IsBelow v node word (Keys keys) = CountsFor (now v) (ref_of word) keys
 IsBelow v node word (Node child) = HangsBelow v node word child
+
+-- an inner row below the node may be marked, as a row of the node's subtree
+pub record MayGoOn (v : View) (node child : ℕ) : Type 0 where
+  pub above : node < child
+  pub may_mark : MayMark v child
+  pub under : LiesUnder (now v) v.log node child
 
 -- slot i of the node was passed, and what hangs below it is this
 pub record PassedWith (v : View) (node i : ℕ) (below : Below) : Type 0 where

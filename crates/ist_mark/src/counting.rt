@@ -4,7 +4,7 @@ ghost use Rattle.ist_core.specs.Rebuilding.{IsFinishedWith};
 ghost use Rattle.ist_rule.specs.Learning.{now};
 ghost use Rattle.ist_rule.specs.Going.{WentOn, KeepsSearch};
 ghost use Rattle.ist_mark.specs.Marking.{MayMark, Marks};
-ghost use Rattle.ist_mark.specs.Passing.{MayPass, IsSlotCounted};
+ghost use Rattle.ist_mark.specs.Passing.{MayPass, HasMarked, IsSlotCounted};
 
 use crate::below::Below;
 use crate::passing::pass_slot;
@@ -17,9 +17,7 @@ fn count_slot(table: &TreeTable, seat: &mut TreeSeat, node: u32, degree: u64, in
     requires same_table { seat.old.table ≡ table.now.table }
     requires may_pass { MayPass seat.old.view node degree }
     requires within { index < degree }
-    ensures same_table { seat.new.table ≡ seat.old.table }
-    ensures went { WentOn (Marks seat.new.view node) seat.old.view seat.new.view }
-    ensures search { KeepsSearch seat.old.view seat.new.view }
+    ensures marked { HasMarked node seat.old seat.new }
     ensures counted { IsSlotCounted seat.new.view node index result }
 {
     match pass_slot(table, seat, node, degree, index) {

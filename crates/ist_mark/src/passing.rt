@@ -2,10 +2,8 @@
 ghost use Rattle.std.specs.Prelude.{◌≡◌, ℕ, ◌<◌, Some};
 ghost use Rattle.ist_core.specs.References.{ref_of, ChangeAt};
 ghost use Rattle.ist_core.specs.Marking.{IsFrozen};
-ghost use Rattle.ist_rule.specs.Going.{WentOn, KeepsSearch};
-ghost use Rattle.ist_mark.specs.Marking.{Marks};
 ghost use Rattle.ist_dcss.specs.Reading.{IsNoChange};
-ghost use Rattle.ist_mark.specs.Passing.{MayPass, IsMetAt, PassedWith};
+ghost use Rattle.ist_mark.specs.Passing.{HasMarked, MayPass, IsMetAt, PassedWith};
 
 use crate::below::Below;
 use ist_dcss::{change_in, help, target_of};
@@ -18,9 +16,7 @@ fn look(table: &TreeTable, seat: &mut TreeSeat, node: u32, degree: u64, index: u
     requires same_table { seat.old.table ≡ table.now.table }
     requires may_pass { MayPass seat.old.view node degree }
     requires within { index < degree }
-    ensures same_table { seat.new.table ≡ seat.old.table }
-    ensures went { WentOn (Marks seat.new.view node) seat.old.view seat.new.view }
-    ensures search { KeepsSearch seat.old.view seat.new.view }
+    ensures marked { HasMarked node seat.old seat.new }
     ensures change { (change : ℕ) → ref_of result ≡ Some (ChangeAt change)
         → IsMetAt seat.new.view node change }
     ensures frozen { IsNoChange result → IsFrozen seat.new.view.log node index result }
@@ -38,9 +34,7 @@ fn pass(table: &TreeTable, seat: &mut TreeSeat, node: u32, degree: u64, index: u
     requires same_table { seat.old.table ≡ table.now.table }
     requires may_pass { MayPass seat.old.view node degree }
     requires within { index < degree }
-    ensures same_table { seat.new.table ≡ seat.old.table }
-    ensures went { WentOn (Marks seat.new.view node) seat.old.view seat.new.view }
-    ensures search { KeepsSearch seat.old.view seat.new.view }
+    ensures marked { HasMarked node seat.old seat.new }
     ensures frozen { IsFrozen seat.new.view.log node index result }
 {
     know(seat);
@@ -64,9 +58,7 @@ pub(crate) fn pass_slot(
     requires same_table { seat.old.table ≡ table.now.table }
     requires may_pass { MayPass seat.old.view node degree }
     requires within { index < degree }
-    ensures same_table { seat.new.table ≡ seat.old.table }
-    ensures went { WentOn (Marks seat.new.view node) seat.old.view seat.new.view }
-    ensures search { KeepsSearch seat.old.view seat.new.view }
+    ensures marked { HasMarked node seat.old seat.new }
     ensures passed { PassedWith seat.new.view node index result }
 {
     let word = pass(table, seat, node, degree, index);

@@ -1,10 +1,10 @@
 //! Marking a subtree while other callers mark it, each from a place of its own.
-ghost use Rattle.std.specs.Prelude.{◌≡◌, ◌<◌, ◌^◌};
+ghost use Rattle.std.specs.Prelude.{◌≡◌, ◌<◌, ◌^◌, IfSome};
 ghost use Rattle.ist_core.specs.Rebuilding.{IsFinishedWith};
 ghost use Rattle.ist_rule.specs.Learning.{now};
 ghost use Rattle.ist_rule.specs.Going.{WentOn, KeepsSearch};
 ghost use Rattle.ist_mark.specs.Marking.{MayMark, Marks};
-ghost use Rattle.ist_mark.specs.Passing.{MayPass};
+ghost use Rattle.ist_mark.specs.Passing.{MayPass, MayGoOn, HasMarked};
 
 use crate::below::Below;
 use crate::counting::mark_and_count;
@@ -27,45 +27,88 @@ fn first_slot(turn: u32, degree: u64) -> u64
     degree.wrapping_mul(part) / 4_294_967_296
 }
 
+// Returns one of the node's slots: the slot number `k` after the first, around the end.
+fn nth_slot(first: u64, k: u64, degree: u64) -> u64
+    requires small { first < 2 ^ 32 }
+    requires few { degree < 2 ^ 32 }
+    requires within { k < degree }
+    ensures within { result < degree }
+{
+    (first + k) % degree
+}
+
+// Passes a slot of the node, and returns the inner row below it if that is still open.
+fn open_below(
+    table: &TreeTable,
+    seat: &mut TreeSeat,
+    node: u32,
+    degree: u64,
+    index: u64,
+) -> Option<u32>
+    requires same_table { seat.old.table ≡ table.now.table }
+    requires may_pass { MayPass seat.old.view node degree }
+    requires within { index < degree }
+    ensures marked { HasMarked node seat.old seat.new }
+    ensures below { IfSome result (λ child. MayGoOn seat.new.view node child) }
+{
+    match pass_slot(table, seat, node, degree, index) {
+        Below::Keys(_) => None,
+        Below::Node(child) => {
+            let status = own_word(table, seat, child, INNER_STATUS_OFFSET);
+            if status == Status::Clear.to_word() {
+                return Some(child);
+            }
+            None
+        }
+    }
+}
+
+// Marks the node if it has many slots, and returns their number, unless the node is finished.
+fn begin_wide(table: &TreeTable, seat: &mut TreeSeat, node: u32) -> Option<u64>
+    requires same_table { seat.old.table ≡ table.now.table }
+    requires may_mark { MayMark seat.old.view node }
+    ensures marked { HasMarked node seat.old seat.new }
+    ensures slots { IfSome result (λ degree. MayPass seat.new.view node degree) }
+    ensures few { IfSome result (λ degree. degree < 2 ^ 32) }
+{
+    if own_word(table, seat, node, INNER_DEGREE_OFFSET) < WIDE {
+        return None;
+    }
+    if mark(table, seat, node).is_some() {
+        return None;
+    }
+    let degree = degree_of(table, seat, node);
+    know(seat);
+    Some(degree)
+}
+
 // Passes a slot of the node. An inner row below it that is still open is marked and counted.
 #[cycle(spreading)]
 fn mark_slot(table: &TreeTable, seat: &mut TreeSeat, node: u32, degree: u64, index: u64, turn: u32)
     requires same_table { seat.old.table ≡ table.now.table }
     requires may_pass { MayPass seat.old.view node degree }
     requires within { index < degree }
-    ensures same_table { seat.new.table ≡ seat.old.table }
-    ensures went { WentOn (Marks seat.new.view node) seat.old.view seat.new.view }
-    ensures search { KeepsSearch seat.old.view seat.new.view }
+    ensures marked { HasMarked node seat.old seat.new }
 {
-    match pass_slot(table, seat, node, degree, index) {
-        Below::Keys(_) => {}
-        Below::Node(child) => {
-            let status = own_word(table, seat, child, INNER_STATUS_OFFSET);
-            if status != Status::Clear.to_word() {
-                return;
-            }
-            mark_and_count_from(table, seat, child, turn);
-        }
+    if let Some(child) = open_below(table, seat, node, degree, index) {
+        mark_and_count_from(table, seat, child, turn);
     }
 }
 
-// Marks the node, and goes once through its slots, starting from the slot that `turn` chooses.
+// Marks a node of many slots, and goes once through them, starting from the slot that `turn` chooses.
 #[cycle(spreading)]
 fn mark_ahead(table: &TreeTable, seat: &mut TreeSeat, node: u32, turn: u32)
     requires same_table { seat.old.table ≡ table.now.table }
     requires may_mark { MayMark seat.old.view node }
-    ensures same_table { seat.new.table ≡ seat.old.table }
-    ensures went { WentOn (Marks seat.new.view node) seat.old.view seat.new.view }
-    ensures search { KeepsSearch seat.old.view seat.new.view }
+    ensures marked { HasMarked node seat.old seat.new }
 {
-    if mark(table, seat, node).is_some() {
+    let Some(degree) = begin_wide(table, seat, node) else {
         return;
-    }
-    let degree = degree_of(table, seat, node);
+    };
     know(seat);
     let first = first_slot(turn, degree);
     for k in 0..degree {
-        mark_slot(table, seat, node, degree, (first + k) % degree, turn);
+        mark_slot(table, seat, node, degree, nth_slot(first, k, degree), turn);
     }
 }
 
@@ -83,10 +126,6 @@ pub fn mark_and_count_from(table: &TreeTable, seat: &mut TreeSeat, node: u32, tu
     ensures search { KeepsSearch seat.old.view seat.new.view }
     ensures finished { IsFinishedWith (now seat.new.view) node result }
 {
-    let degree = own_word(table, seat, node, INNER_DEGREE_OFFSET);
-    if degree < WIDE {
-        return mark_and_count(table, seat, node);
-    }
     mark_ahead(table, seat, node, turn);
     mark_and_count(table, seat, node)
 }

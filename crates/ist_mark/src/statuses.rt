@@ -3,9 +3,8 @@ ghost use Rattle.std.specs.Prelude.{◌≡◌, ◌+◌, ◌<◌, ℕ, None, Some
 ghost use Rattle.ist_core.specs.Statuses.{status_of, Finished};
 ghost use Rattle.ist_core.specs.Rebuilding.{IsFinishedWith};
 ghost use Rattle.ist_rule.specs.Learning.{now, GoesOnTo, Looked};
-ghost use Rattle.ist_rule.specs.Going.{WentOn, KeepsSearch};
-ghost use Rattle.ist_mark.specs.Marking.{MayMark, Marks};
-ghost use Rattle.ist_mark.specs.Passing.{IsClosed, MayPass, MayFinish};
+ghost use Rattle.ist_mark.specs.Marking.{MayMark};
+ghost use Rattle.ist_mark.specs.Passing.{HasMarked, IsClosed, MayPass, MayFinish};
 
 use ist_layout::{INNER_DEGREE_OFFSET, INNER_STATUS_OFFSET, Status};
 use ist_rule::{TreeSeat, TreeTable, exchange, know, load};
@@ -50,9 +49,7 @@ fn finished_keys(table: &TreeTable, seat: &mut TreeSeat, node: u32) -> Option<u6
 fn mark_open(table: &TreeTable, seat: &mut TreeSeat, node: u32) -> Option<u64>
     requires same_table { seat.old.table ≡ table.now.table }
     requires may_mark { MayMark seat.old.view node }
-    ensures same_table { seat.new.table ≡ seat.old.table }
-    ensures went { WentOn (Marks seat.new.view node) seat.old.view seat.new.view }
-    ensures search { KeepsSearch seat.old.view seat.new.view }
+    ensures marked { HasMarked node seat.old seat.new }
     ensures closed { IsClosed (now seat.new.view) node }
     ensures finished { (k : ℕ) → result ≡ Some k → IsFinishedWith (now seat.new.view) node k }
 {
@@ -73,9 +70,8 @@ fn mark_open(table: &TreeTable, seat: &mut TreeSeat, node: u32) -> Option<u64>
 pub(crate) fn mark(table: &TreeTable, seat: &mut TreeSeat, node: u32) -> Option<u64>
     requires same_table { seat.old.table ≡ table.now.table }
     requires may_mark { MayMark seat.old.view node }
-    ensures same_table { seat.new.table ≡ seat.old.table }
-    ensures went { WentOn (Marks seat.new.view node) seat.old.view seat.new.view }
-    ensures search { KeepsSearch seat.old.view seat.new.view }
+    ensures marked { HasMarked node seat.old seat.new }
+    ensures may_mark { MayMark seat.new.view node }
     ensures closed { IsClosed (now seat.new.view) node }
     ensures finished { (k : ℕ) → result ≡ Some k → IsFinishedWith (now seat.new.view) node k }
 {
@@ -101,9 +97,7 @@ pub(crate) fn degree_of(table: &TreeTable, seat: &mut TreeSeat, node: u32) -> u6
 pub(crate) fn finish(table: &TreeTable, seat: &mut TreeSeat, node: u32, keys: u64)
     requires same_table { seat.old.table ≡ table.now.table }
     requires may_finish { MayFinish seat.old.view node keys }
-    ensures same_table { seat.new.table ≡ seat.old.table }
-    ensures went { WentOn (Marks seat.new.view node) seat.old.view seat.new.view }
-    ensures search { KeepsSearch seat.old.view seat.new.view }
+    ensures marked { HasMarked node seat.old seat.new }
     ensures finished { IsFinishedWith (now seat.new.view) node keys }
 {
     know(seat);

@@ -3,7 +3,7 @@ use Rattle.std.proofs.Common.{[], ap, arith, inl, inr, refl, ◌++◌, ◌∷◌
 use Rattle.ist_core.specs.declared.events.Event.{Event}
 use Rattle.ist_core.specs.Authors.{GoesOnBy, no_more, one_more}
 use Rattle.ist_core.specs.Logs.{GoesOn, Happened, Log, one_event, same_log}
-use Rattle.laws_histories.proofs.LoadOnLemmas.{length_rises}
+use Rattle.ist_core.proofs.PrefixLemmas.{goes_on_length, goes_on-append}
 
 -- an event that satisfies P, after one log and within a longer one
 pub record Met (P : Event → Type 0) (rest log : Log) : Type 0 where
@@ -12,11 +12,6 @@ pub record Met (P : Event → Type 0) (rest log : Log) : Type 0 where
   pub before : Log
   pub since : GoesOn rest before
   pub until : GoesOn (event ∷ before) log
-
--- a log goes on to the same log with more events before it in the list
-pub goes_on_behind : (later rest : Log) → GoesOn rest (later ++ rest)
-goes_on_behind [] rest = same_log
-goes_on_behind (event ∷ later) rest = one_event event (goes_on_behind later rest)
 
 -- a longer log is its prefix with more events
 pub events_behind : (rest log : Log) → GoesOn rest log → (later : Log) × (log ≡ later ++ rest)
@@ -33,7 +28,7 @@ happened_met P (event ∷ later) rest (inl here) =
       event = event;
       here = here;
       before = later ++ rest;
-      since = goes_on_behind later rest;
+      since = goes_on-append later rest;
       until = same_log;
     }
 happened_met P (event ∷ later) rest (inr there) =
@@ -57,8 +52,8 @@ last_or_sooner P event _ before _ (one_event _ sooner) here again = again sooner
 pub event_by : (P : Event → Type 0) (earlier log : Log) → GoesOnBy P earlier log → (event : Event)
     → (before : Log) → GoesOn earlier before → GoesOn (event ∷ before) log → P event
 event_by P earlier _ no_more event before since until =
-    let longer = length_rises (event ∷ before) earlier until in
-    let low = length_rises earlier before since in
+    let longer = goes_on_length until in
+    let low = goes_on_length since in
     absurd (omega arith)
 event_by P earlier _ (one_more {log = log} last later p) event before since until =
     last_or_sooner P event last before log until p

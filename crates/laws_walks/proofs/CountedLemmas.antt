@@ -22,9 +22,9 @@ use Rattle.ist_core.specs.Statuses.{put_kind, remove_kind}
 use Rattle.ist_core.proofs.FateLemmas.{enabled_before, grow_between}
 use Rattle.ist_core.proofs.FreezingLemmas.{same_change}
 use Rattle.ist_core.proofs.GrowingLemmas.{change_there}
-use Rattle.laws_stability.proofs.LaterLemmas.{goes_on}
+use Rattle.ist_core.proofs.PrefixLemmas.{goes_on_more, goes_on_by}
 use Rattle.laws_links.proofs.OwnerLemmas.{owner_known}
-use Rattle.laws_histories.proofs.ChangeLemmas.{changes_on, on_trans}
+use Rattle.laws_histories.proofs.ChangeLemmas.{changes_on}
 use Rattle.laws_histories.proofs.DecisionLemmas.{Turning, turns_since}
 use Rattle.laws_walks.proofs.BetweenLemmas.{Met, event_by, events_behind, happened_met}
 use Rattle.laws_walks.specs.Counting.{CountsElsewhere, IsOneUpdate}
@@ -104,7 +104,7 @@ module _ (pairs : List Pair) (words : ℕ) where
       let whole = enabled_before (start pairs words) (Decide by base true ∷ before) log on h in
       let ps = (state_of pairs words before).pieces in
       let x = whole.1.change in
-      let from = on_trans before (Decide by base true ∷ before) log
+      let from = goes_on_more
       (one_event (Decide by base true) same_log) on in
       let it = change_there ps (state_of pairs words log).pieces
       (grow_between pairs words before log h from) base x whole.1.pending.published in
@@ -198,12 +198,12 @@ module _ (pairs : List Pair) (words : ℕ) (opens : CanOpen pairs words) where
             let m = subst (λ xs. Met (Counts caller node) whole xs) (sym behind.1)
             (happened_met (Counts caller node) behind.0 whole counted) in
             event_by (CountsElsewhere caller node) earlier log later m.event m.before
-            (on_trans earlier whole m.before since m.since) m.until m.here);
+            (goes_on_more since m.since) m.until m.here);
         on_chain = on;
       }
     where
       turn : Turning earlier log base
-      turn = turns_since pairs words earlier log (goes_on later) h base u.change u.since u.published
+      turn = turns_since pairs words earlier log (goes_on_by later) h base u.change u.since u.published
           u.decision
 
       whole : Log

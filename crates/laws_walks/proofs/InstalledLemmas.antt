@@ -9,7 +9,7 @@ use Rattle.ist_core.specs.Logs.{Log}
 use Rattle.ist_core.specs.Pieces.{Change}
 use Rattle.ist_core.specs.StartLayout.{start}
 use Rattle.ist_core.proofs.PlaceLemmas.{no_piece}
-use Rattle.laws_stability.proofs.LaterLemmas.{goes_on}
+use Rattle.ist_core.proofs.PrefixLemmas.{goes_on_by}
 use Rattle.laws_histories.specs.Calls.{MadeNoEntry}
 use Rattle.laws_walks.proofs.AcceptedLemmas.{resolved_no_entry}
 use Rattle.laws_walks.proofs.BetweenLemmas.{event_by}
@@ -26,11 +26,11 @@ module _ (pairs : List Pair) (words : ℕ) (opens : CanOpen pairs words) where
       → AllResolvedOf (state_of pairs words earlier) earlier number
       → MadeNoEntry pairs words number earlier log
   installed_no_entry earlier log h number later resolved =
-      resolved_no_entry pairs words opens earlier log (goes_on later) h number resolved since
+      resolved_no_entry pairs words opens earlier log (goes_on_by later) h number resolved since
     where
       since : NoneAcceptedSince pairs words number earlier log
       since base change command none e own is said =
-          by_origin (change_since pairs words earlier log (goes_on later) h base change e)
+          by_origin (change_since pairs words earlier log (goes_on_by later) h base change e)
         where
           by_origin : HasChange (state_of pairs words earlier) base
               ⊎ WasInstalled earlier log change.owner base → ⊥

@@ -22,12 +22,12 @@ use Rattle.ist_core.proofs.FreezingLemmas.{side_not_yes}
 use Rattle.ist_core.proofs.PlaceLemmas.{anchor_free}
 use Rattle.ist_core.proofs.ShownLemmas.{one_word}
 use Rattle.ist_core.proofs.SlotLemmas.{slot_once}
+use Rattle.ist_core.proofs.PrefixLemmas.{goes_on_more, goes_on_length}
 use Rattle.laws_links.proofs.ReadLemmas.{side_yes}
 use Rattle.laws_stability.proofs.SlotWordLemmas.{slot_later}
 use Rattle.laws_histories.specs.Loads.{IsLoad, log_at}
 use Rattle.laws_histories.specs.Searching.{LooksAt, ReadsSide, ReadsTarget, by_from, by_target, by_to, no_change, no_rebuild}
-use Rattle.laws_histories.proofs.ChangeLemmas.{on_trans}
-use Rattle.laws_histories.proofs.LoadOnLemmas.{at_prefix, length_rises}
+use Rattle.laws_histories.proofs.LoadOnLemmas.{at_prefix}
 use Rattle.laws_walks.specs.Walking.{ComesBy, WalksByKey, WalksTo, at_first, at_top, begins_by, goes_by, walks_down, walks_for}
 
 -- a walk by key is a walk
@@ -68,7 +68,7 @@ module _ (pairs : List Pair) (words : ℕ) (opens : CanOpen pairs words) (log : 
             (subst (λ xs. IsShown (state_of pairs words xs) place other) then_is shown);
         place_is = refl;
         since = since;
-        within = length_rises at log on;
+        within = goes_on_length on;
       }
 
   -- a word of a published row
@@ -217,6 +217,6 @@ module _ (pairs : List Pair) (words : ℕ) (opens : CanOpen pairs words) (log : 
   walk_comes _ on _ _
       (walks_for {before = before} {at = at} {node = node} {child = child} {rows = rows} i w more is
       c) =
-      goes_by (walk_comes before (on_trans before at log more on) node rows w)
+      goes_by (walk_comes before (goes_on_more more on) node rows w)
       (step_look pairs words opens log h at on key (length before) node i child
-      (length_rises before at more) is c)
+      (goes_on_length more) is c)

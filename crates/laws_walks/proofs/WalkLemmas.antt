@@ -12,16 +12,14 @@ use Rattle.ist_core.specs.Snapshots.{Snapshot}
 use Rattle.ist_core.specs.StartLayout.{start}
 use Rattle.ist_core.proofs.FateLemmas.{enabled_before}
 use Rattle.ist_core.proofs.MentionLemmas.{one_parent}
-use Rattle.ist_core.proofs.PrefixLemmas.{ever_from}
+use Rattle.ist_core.proofs.PrefixLemmas.{goes_on_more, ever_from, ever_later}
 use Rattle.laws_links.specs.Linking.{IsFinished}
 use Rattle.laws_links.proofs.ClosedLemmas.{closed_was_linked, linked_now}
 use Rattle.laws_links.proofs.FinishedLemmas.{finished_down}
 use Rattle.laws_links.proofs.LinkLemmas.{linked_or_finished}
 use Rattle.laws_links.proofs.UntouchedLemmas.{child_no_anchor}
-use Rattle.laws_stability.proofs.LaterLemmas.{ever_later}
 use Rattle.laws_histories.specs.Loads.{log_at}
 use Rattle.laws_histories.specs.Searching.{ComesTo, begins, goes_down}
-use Rattle.laws_histories.proofs.ChangeLemmas.{on_trans}
 use Rattle.laws_histories.proofs.DecisionLemmas.{prefixes}
 use Rattle.laws_histories.proofs.LoadLemmas.{comes_of, look_of}
 use Rattle.laws_histories.proofs.LoadOnLemmas.{at_on, look_on}
@@ -218,7 +216,7 @@ module _ (pairs : List Pair) (words : ℕ) (opens : CanOpen pairs words) where
       (log_at log last) log (at_on log last) h)
       (comes_of pairs words opens log h key began least node to)
       (look_of pairs words opens log h key least last node (InnerAt child) look) in
-      one_meeting s.at s.index (on_trans s.at (log_at log last) log s.until (at_on log last))
+      one_meeting s.at s.index (goes_on_more s.until (at_on log last))
       (comes_meets log h key began least node rows c)
       record { word = s.read.word; holds = s.read.holds; reads = s.read.reads }
 
@@ -238,7 +236,7 @@ module _ (pairs : List Pair) (words : ℕ) (opens : CanOpen pairs words) where
   walk_meets log _ g _ _ at_top = no_meeting
   walk_meets log _ g _ _ (walks_down {before = before} {at = at} {node = node} {child = child}
       {rows = rows} i w k c) =
-      one_meeting at i g (walk_meets log before (on_trans before at log k g) node rows w) c
+      one_meeting at i g (walk_meets log before (goes_on_more k g) node rows w) c
 
   -- the node that a walk reaches was linked
   walk_linked : (at : Log) → EachEnabled (start pairs words) at → (node : ℕ) (rows : List ℕ)

@@ -1,12 +1,10 @@
 -- The pairs of a piece, one by one, and pieces one after another. Serves `paging`.
-use Rattle.std.proofs.Common.{◌≡◌, ◌≢◌, ℕ, ◌+◌, ◌-◌, ◌^◌, ◌<◌, ◌≤◌, ◌==◌, if◌then◌else◌, List, [], ◌∷◌, ◌++◌, Option, Some, None, ⊎_elim, sym, ap, ◌∙◌, subst, append-nil, arith}
+use Rattle.std.proofs.Common.{◌≡◌, ℕ, ◌+◌, ◌-◌, ◌<◌, ◌≤◌, if◌then◌else◌, List, [], ◌∷◌, ◌++◌, Option, Some, None, ⊎_elim, sym, subst, append-nil, arith}
 use Rattle.std.specs.Prelude.{IfSome}
 use Rattle.std.proofs.lemmas.Bool.Decides.{eqb_tells}
 use Rattle.ist_core.specs.declared.pairs.Pair.{Pair}
-use Rattle.ist_find.specs.Spans.{pair_value}
 use Rattle.ist_tree.specs.Faces.{PassFace}
 use Rattle.ist_live.specs.Ends.{IsNextUp}
-use Rattle.ist_live.specs.Lists.{AreInTurn, AreLive}
 use Rattle.ist_live.specs.Reading.{HasRead, Had, HadNone}
 use Rattle.ist_live.proofs.JoinLemmas.{live_join, turn_join}
 use Rattle.ist_live.proofs.ListLemmas.{all_live}

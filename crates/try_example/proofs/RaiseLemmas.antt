@@ -1,5 +1,5 @@
 -- A counter that is raised after other calls. Serves `raise`.
-use Rattle.std.proofs.Common.{ℕ, ◌≤◌, ◌∙◌, refl, arith}
+use Rattle.std.proofs.Common.{◌∙◌, arith}
 use Rattle.ist_core.specs.Logs.{GoesOn, Log, one_event, same_log}
 use Rattle.ist_tree.specs.Calls.{HasSeenMore}
 use Rattle.ist_tree.specs.Faces.{PassFace}

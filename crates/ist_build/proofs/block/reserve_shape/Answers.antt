@@ -1,10 +1,9 @@
-use Rattle.std.proofs.Common.{◌≡◌, ◌*◌, ◌-◌, ◌<◌, ◌≤◌, ◌^◌, length, IfSome, sym, ap, ◌∙◌, subst, arith}
+use Rattle.std.proofs.Common.{◌≡◌, ◌*◌, ◌-◌, ◌<◌, ◌≤◌, ◌^◌, IfSome, ap, ◌∙◌, subst, arith}
 use Rattle.std.specs.List.{sum}
 use Rattle.ist_core.proofs.WordLemmas.{ideal_words_is}
 use Rattle.ist_rows.specs.Building.{HasTaken}
-use Rattle.ist_rows.specs.Block.{AreNext}
 use Rattle.ist_rows.proofs.ReserveLemmas.{read_on}
-use Rattle.ist_build.proofs.AtOnceLemmas.{some_rows, due_next}
+use Rattle.ist_build.proofs.AtOnceLemmas.{shape_next}
 use Rattle.ist_build.proofs.block.reserve_shape.Goals as goal
 
 -- leaves take two words each
@@ -22,21 +21,10 @@ reserve_block-requires g c =
     let most = c.ideal_words.ensures.most in
     let few = c.requires.1.1.1.1.1 in
     let asked : c.ideal_words.result - 2 * c.args.size ≡ sum g.sizes = omega arith in
-    let small : c.ideal_words.result - 2 * c.args.size < 2 ^ 32 = omega arith in (
-      c.requires.1.0,
-      (
-        c.requires.1.1.0,
-        (
-          subst (AreNext c.args.who.now) (sym c.requires.0)
-              (due_next c.args.who.now c.args.size c.requires.1.1.1.0),
-          (
-            subst (λ xs. 1 ≤ length xs) (sym c.requires.0)
-                (some_rows c.args.size c.requires.1.1.1.1.0),
-            (asked, small),
-          ),
-        ),
-      ),
-    )
+    let small : c.ideal_words.result - 2 * c.args.size < 2 ^ 32 = omega arith in
+    let next = shape_next c.args.who.now c.args.size g.sizes c.requires.0 c.requires.1.1.1.0
+    c.requires.1.1.1.1.0 in
+    (c.requires.1.0, (c.requires.1.1.0, (next.0, (next.1, (asked, small)))))
 
 -- they are taken in the order of the shape
 pub returns-clause-taken : goal.returns-clause-taken

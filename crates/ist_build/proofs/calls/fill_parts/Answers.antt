@@ -4,7 +4,7 @@ use Rattle.ist_build.proofs.LaidOnLemmas.{laid_words}
 use Rattle.ist_build.proofs.calls.fill_parts.Goals as goal
 
 pub returns-clause-went : goal.returns-clause-went
-returns-clause-went c = put_went _ _ c.fill_root.ensures.put
+returns-clause-went c = put_went _ _ c.fill_root.ensures.back.put
 
 -- what was refused
 pub returns-clause-full : goal.returns-clause-full
@@ -14,4 +14,4 @@ returns-clause-full c =
 
 -- the rows that the caller had keep their words
 pub returns-clause-words : goal.returns-clause-words
-returns-clause-words c = laid_words _ _ _ c.fill_root.ensures.put c.know.ensures.sound
+returns-clause-words c = laid_words _ _ _ c.fill_root.ensures.back.put c.know.ensures.sound

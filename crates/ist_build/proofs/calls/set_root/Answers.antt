@@ -5,7 +5,7 @@ use Rattle.ist_build.proofs.calls.set_root.Goals as goal
 
 -- a build that was refused
 pub returns-in_err-word-clause-went : goal.returns-in_err-word-clause-went
-returns-in_err-word-clause-went c = put_went _ _ c.place_root.ensures.put
+returns-in_err-word-clause-went c = put_went _ _ c.place_root.ensures.back.put
 
 pub returns-in_err-word-clause-full : goal.returns-in_err-word-clause-full
 returns-in_err-word-clause-full c =
@@ -20,12 +20,12 @@ named-requires c =
     }
 
 pub returns-clause-went : goal.returns-clause-went
-returns-clause-went c = put_went _ _ c.place_root.ensures.put
+returns-clause-went c = put_went _ _ c.place_root.ensures.back.put
 
 -- the rows that the caller had keep their words
 pub returns-in_err-word-clause-words : goal.returns-in_err-word-clause-words
 returns-in_err-word-clause-words c =
-    laid_words _ _ _ c.place_root.ensures.put c.know.ensures.sound
+    laid_words _ _ _ c.place_root.ensures.back.put c.know.ensures.sound
 
 pub returns-clause-words : goal.returns-clause-words
-returns-clause-words c = laid_words _ _ _ c.place_root.ensures.put c.know.ensures.sound
+returns-clause-words c = laid_words _ _ _ c.place_root.ensures.back.put c.know.ensures.sound

@@ -2,7 +2,7 @@ use Rattle.std.proofs.Common.{◌≡◌, ◌+◌, ◌*◌, ◌-◌, ◌^◌, ◌
 use Rattle.ist_core.specs.Leaves.{PlacedLeaf, HasLeaves}
 use Rattle.ist_core.specs.References.{InnerAt}
 use Rattle.ist_rule.specs.Learning.{now, GoesOnTo}
-use Rattle.ist_build.specs.Reading.{IsReading, before_one}
+use Rattle.ist_build.specs.Reading.{HasSlots, IsReading, before_one}
 use Rattle.ist_build.proofs.descent.+go_down.Given as goal
 
 -- bases rise on the way down
@@ -12,8 +12,9 @@ decreases-go_down l = 2 ^ 32 - l.node
 -- the leaves below the slots so far were left out, and few words loaded
 abbrev pub invariant-loop-index : goal.invariant-loop-index
 invariant-loop-index l =
-    (l.seat.table ≡ l.initial.seat.table)
-    × GoesOnTo l.initial.seat.view l.seat.view
+    (l.seat.table ≡ l.fn.seat.table)
+    × GoesOnTo l.fn.seat.view l.seat.view
+    × HasSlots l.seat.view l.node l.degree
     × (l.seat.view.loaded ≡ l.fn.seat.view.loaded + l.loads)
     × (l.loads ≤ 4 * l.index + 1)
     × ((leaves : List PlacedLeaf)

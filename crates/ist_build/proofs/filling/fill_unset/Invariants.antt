@@ -1,9 +1,7 @@
 use Rattle.std.proofs.Common.{◌≡◌}
-use Rattle.ist_build.specs.Putting.{IsFilling}
+use Rattle.ist_build.specs.Back.{IsFilling}
 use Rattle.ist_build.proofs.filling.fill_unset.Given as goal
 
 -- the slots so far are set
 abbrev pub invariant-loop-i : goal.invariant-loop-i
-invariant-loop-i l =
-    (l.who.seat.table ≡ l.table.table) × IsFilling l.fn.who l.rebuild l.target l.root l.keys l.i
-    l.who
+invariant-loop-i l = (l.who.seat.table ≡ l.table.table) × IsFilling l.fn.who l.shared l.i l.who

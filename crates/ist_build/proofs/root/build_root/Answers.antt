@@ -1,6 +1,6 @@
 use Rattle.std.proofs.Common.{arith}
 use Rattle.ist_core.specs.Shapes.{share_from_is}
-use Rattle.ist_build.proofs.RootPutLemmas.{whole_share, ok_whole, ok_top}
+use Rattle.ist_build.proofs.RootBuiltLemmas.{whole_share, ok_whole, ok_top}
 use Rattle.ist_build.proofs.root.build_root.Goals as goal
 
 pub build_share-requires-clause-share : goal.build_share-requires-clause-share

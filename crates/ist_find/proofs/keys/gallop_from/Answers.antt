@@ -1,4 +1,4 @@
-use Rattle.std.proofs.Common.{◌+◌, ◌∙◌, ◌-◌, ◌<◌, ◌^◌, nat_lt, cond, ap, subst, arith}
+use Rattle.std.proofs.Common.{◌∙◌, ◌-◌, ◌<◌, nat_lt, cond, ap, subst, arith}
 use Rattle.ist_find.proofs.KeyLemmas.{run_begins, run_on, run_fits, run_ends}
 use Rattle.ist_find.proofs.keys.gallop_from.Goals as goal
 

@@ -1,6 +1,5 @@
-use Rattle.std.proofs.Common.{◌≡◌, ◌+◌, ◌*◌, ◌-◌, ◌^◌}
-use Rattle.ist_rule.specs.Going.{WentOn, KeepsSearch}
-use Rattle.ist_mark.specs.Marking.{Marks}
+use Rattle.std.proofs.Common.{◌+◌, ◌*◌, ◌-◌, ◌^◌}
+use Rattle.ist_mark.specs.Passing.{HasMarked}
 use Rattle.ist_mark.proofs.spreading.+spreading.Given as goal
 
 -- bases rise on the way down
@@ -15,7 +14,4 @@ decreases-mark_and_count_from l = 3 * (2 ^ 32 - l.node) + 2
 
 -- each step so far was one of marking
 abbrev pub invariant-mark_ahead-loop-k : goal.invariant-mark_ahead-loop-k
-invariant-mark_ahead-loop-k l =
-    (l.seat.table ≡ l.initial.seat.table)
-    × WentOn (Marks l.seat.view l.node) l.initial.seat.view l.seat.view
-    × KeepsSearch l.initial.seat.view l.seat.view
+invariant-mark_ahead-loop-k l = HasMarked l.node l.initial.seat l.seat

@@ -1,4 +1,4 @@
-use Rattle.std.proofs.Common.{◌≡◌, ◌^◌, ◌+◌, ◌<◌, ap, arith}
+use Rattle.std.proofs.Common.{◌^◌, ◌+◌, ◌<◌, ap, arith}
 use Rattle.ist_rule.proofs.KnownPlaceLemmas.{known_low}
 use Rattle.ist_rule.proofs.KeptSearchLemmas.{exchanged_keeps}
 use Rattle.ist_mark.proofs.FinishLemmas.{keys_few, may_finish, finish_told}
@@ -15,32 +15,23 @@ overflow_cast-keys c =
 -- the node may be finished
 pub exchange-requires : goal.exchange-requires
 exchange-requires c =
-    let from = c.from.ensures in
-    let at : c.from.result + 0 ≡ c.args.node + 0 = omega arith in
     let can = may_finish c.args.seat.now.view c.know.ensures.sound c.args.node c.args.keys
-    c.requires.may_finish _ at _ _ c.to_word.ensures.value c.to_word-2.ensures.value in
+    c.requires.may_finish (c.from.result + 0) (omega (arith, c.from.ensures)) _ _
+    c.to_word.ensures.value c.to_word-2.ensures.value in
     let low = known_low c.args.seat.now.view _ c.know.ensures.sound can.known in
     let known = c.know.ensures.words in
     let same = ap (λ t. t.words) c.requires.same_table in
     (c.requires.same_table, (omega arith, can))
 
--- the seat made one step of marking
-pub returns-clause-went : goal.returns-clause-went
-returns-clause-went c =
-    let from = c.from.ensures in
-    let at : c.from.result + 0 ≡ c.args.node + 0 = omega arith in
-    (finish_told c.args.seat.now.view c.know.ensures.sound c.args.node c.args.keys
-    c.requires.may_finish _ at _ _ _ _ c.to_word.ensures.value c.to_word-2.ensures.value
-    c.exchange.ensures.exchanged).0
-
-pub returns-clause-search : goal.returns-clause-search
-returns-clause-search c = exchanged_keeps _ _ _ _ _ _ c.exchange.ensures.exchanged
-
--- and the node is finished
-pub returns-clause-finished : goal.returns-clause-finished
-returns-clause-finished c =
-    let from = c.from.ensures in
-    let at : c.from.result + 0 ≡ c.args.node + 0 = omega arith in
-    (finish_told c.args.seat.now.view c.know.ensures.sound c.args.node c.args.keys
-    c.requires.may_finish _ at _ _ _ _ c.to_word.ensures.value c.to_word-2.ensures.value
-    c.exchange.ensures.exchanged).1
+-- and is finished by this exchange, or was
+pub returns : goal.returns
+returns c =
+    let e = c.exchange.ensures in
+    let told = finish_told c.args.seat.now.view c.know.ensures.sound c.args.node c.args.keys
+    c.requires.may_finish (c.from.result + 0) (omega (arith, c.from.ensures)) _ _ _ _
+    c.to_word.ensures.value c.to_word-2.ensures.value e.exchanged in
+    let kept = exchanged_keeps _ _ _ _ _ _ e.exchanged in
+    record {
+      marked = record { same_table = e.same_table; went = told.0; search = kept };
+      finished = told.1;
+    }

@@ -1,0 +1,94 @@
+-- Leaves that were read out, and what is built over them. Serves `parts`.
+use Rattle.std.proofs.Common.{◌≡◌, ℕ, ◌+◌, ◌≤◌, List, length, take, drop, Some, Result, Ok, Err, IfOk, IfErr, sym, subst}
+use Rattle.ist_core.specs.declared.ports.Full.{Full}
+use Rattle.ist_core.specs.Leaves.{PlacedLeaf, HasLeaves}
+use Rattle.ist_core.specs.References.{InnerAt}
+use Rattle.ist_core.specs.Shapes.{shape}
+use Rattle.ist_rule.specs.declared.view.View.{View}
+use Rattle.ist_rule.specs.Faces.{SeatFace}
+use Rattle.ist_rule.specs.Rule.{IsSound}
+use Rattle.ist_rule.specs.Learning.{now, GoesOnTo}
+use Rattle.ist_rule.proofs.GoingOnLemmas.{goes_on_more}
+use Rattle.ist_rows.specs.declared.callers.Caller.{Caller}
+use Rattle.ist_rows.specs.Rows.{IsCaller}
+use Rattle.ist_rows.specs.Building.{HasTaken}
+use Rattle.ist_build.specs.declared.reading.Cursor.{Cursor}
+use Rattle.ist_build.specs.Calls.{HasKeys}
+use Rattle.ist_build.specs.Laying.{BuiltOn, ArePlaced, IsLaid, IsDue, IsShort}
+use Rattle.ist_build.specs.Reading.{HasRead, HasReadOut}
+use Rattle.ist_build.proofs.BuiltLemmas.{loads_built, built_more, built_next}
+use Rattle.ist_build.proofs.ShareLemmas.{read_whole, read_placed, some_leaves, enough_leaves, laid_lower, due_on, taken_on, short_on}
+
+-- what was read of a target with so many keys was read out
+pub has_read_out : (v u w : View) → IsSound v → (target : ℕ) (from to : Cursor) (old new : List ℕ)
+    → from.count ≡ 0 → HasKeys (now v) target (from.skip + length old) → GoesOnTo v u
+    → GoesOnTo u w
+    → ((leaves : List PlacedLeaf) → HasLeaves (now v).pieces (Some (InnerAt target)) leaves
+    → HasRead old from leaves new to)
+    → HasReadOut v target from.skip (length old) new w
+has_read_out v u w s target from to old new none h first second read =
+    let it = some_leaves v s target (from.skip + length old) h in
+    let on = goes_on_more v u w first second in
+    record {
+      seen = on;
+      size = (read it.0 it.1).size;
+      some = (take (length old) (drop from.skip it.0), placed on it.0 it.1);
+      placed = placed on;
+    }
+  where
+    placed : GoesOnTo v w → (all : List PlacedLeaf)
+        → HasLeaves (now v).pieces (Some (InnerAt target)) all
+        → ArePlaced (now w) new (take (length old) (drop from.skip all))
+    placed on all has =
+        read_placed v w on target all has from.skip (length old) new
+        (read_whole old new from to all none
+        (enough_leaves v s target (from.skip + length old) h all has) (read all has))
+
+-- the rows over what was read out are due
+pub out_due : (who : Caller) (seat : SeatFace) (target start len : ℕ) (bases : List ℕ)
+    → IsCaller who → HasReadOut who.seat.view target start len bases seat.view
+    → (2 ≤ len → IsDue who len) → 2 ≤ length bases
+    → IsDue (record who { seat = seat }) (length bases)
+out_due who seat target start len bases c r due two =
+    subst (IsDue (record who { seat = seat })) (sym r.size)
+    (due_on who seat len c r.seen (due (subst (λ n. 2 ≤ n) r.size two)))
+
+-- what a build over the leaves from number `start` on gives
+pub record OutBuilt (old new : Caller) (words target start len : ℕ) (answer : Result ℕ Full) : Type 0 where
+  pub built : BuiltOn old.seat.view new.seat.view
+  pub laid : IfOk answer (λ word. (all : List PlacedLeaf)
+      → HasLeaves (now old.seat.view).pieces (Some (InnerAt target)) all
+      → IsLaid new.seat.view new.number (now old.seat.view).next word (take len (drop start all)))
+  pub taken : IfOk answer (λ word. HasTaken old (shape len) new)
+  pub full : IfErr answer (λ full. IsShort old.seat.view words len full new.seat.view)
+
+-- what a build over leaves that were read out gives
+pub out_built : (who : Caller) (seat : SeatFace) (new : Caller) (words target start len : ℕ)
+    (bases : List ℕ) → IsCaller who → HasReadOut who.seat.view target start len bases seat.view
+    → BuiltOn seat.view new.seat.view → (answer : Result ℕ Full)
+    → IfOk answer (λ word. (placed : List PlacedLeaf) → ArePlaced (now seat.view) bases placed
+    → IsLaid new.seat.view new.number (now seat.view).next word placed)
+    → IfOk answer (λ word. HasTaken (record who { seat = seat }) (shape (length bases)) new)
+    → IfErr answer (λ full. IsShort seat.view words (length bases) full new.seat.view)
+    → OutBuilt who new words target start len answer
+out_built who seat new words target start len bases c r b (Ok word) laid taken full =
+    let v = who.seat.view in
+    let on = loads_built v seat.view r.seen in
+    record {
+      built = built_more v seat.view new.seat.view on b;
+      laid = λ all has. laid_lower new.seat.view new.number (now v).next (now seat.view).next word
+          (take len (drop start all)) (built_next v seat.view on)
+          (laid (take len (drop start all)) (r.placed all has));
+      taken = taken_on who seat (shape len) new c r.seen
+          (subst (λ n. HasTaken (record who { seat = seat }) (shape n) new) r.size taken);
+      full = tt;
+    }
+out_built who seat new words target start len bases c r b (Err full) laid taken short =
+    let v = who.seat.view in
+    record {
+      built = built_more v seat.view new.seat.view (loads_built v seat.view r.seen) b;
+      laid = tt;
+      taken = tt;
+      full = short_on v seat.view r.seen words len full new.seat.view
+          (subst (λ n. IsShort seat.view words n full new.seat.view) r.size short);
+    }

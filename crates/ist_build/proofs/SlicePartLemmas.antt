@@ -1,0 +1,175 @@
+-- One part of a row, as the loops of `build` and of `lay` meet it: the slices, what a part asks for, and
+-- the row once it is set.
+use Rattle.std.proofs.Common.{◌≡◌, ℕ, ◌+◌, ◌-◌, ◌<◌, ◌≤◌, List, length, take, drop, slice_index_or, refl, sym, ap, ◌∙◌, subst, arith}
+use Rattle.std.specs.List.{sum}
+use Rattle.ist_core.specs.declared.ports.Full.{Full}
+use Rattle.ist_core.specs.Arithmetic.{degree, part_len, part_start}
+use Rattle.ist_core.specs.Leaves.{PlacedLeaf}
+use Rattle.ist_core.specs.RowLayout.{inner_words, place_limit}
+use Rattle.ist_core.specs.Shapes.{shape}
+use Rattle.ist_core.specs.Snapshots.{HoldsRow}
+use Rattle.ist_core.proofs.PartLemmas.{part_end-le}
+use Rattle.ist_rule.specs.declared.view.View.{View}
+use Rattle.ist_rule.specs.Rule.{IsSound, own_at}
+use Rattle.ist_rule.specs.Learning.{now}
+use Rattle.ist_rows.specs.declared.callers.Caller.{Caller}
+use Rattle.ist_rows.specs.Rows.{IsCaller, spares_of}
+use Rattle.ist_rows.specs.Block.{HoldsBlock}
+use Rattle.ist_rows.specs.Building.{HasTaken}
+use Rattle.ist_build.specs.Laying.{BuiltOn, ArePlaced, HaveLeaves, AreKeysOf, IsDue, IsLaid, IsShort, IsWritten, IsLaidBelow}
+use Rattle.ist_build.specs.Midway.{IsPart, IsMidway, IsLaying, setting}
+use Rattle.ist_build.proofs.BuiltLemmas.{built_held}
+use Rattle.ist_build.proofs.BuildingLemmas.{slice_part, part_leaves, length_own, part_due, part_short}
+use Rattle.ist_build.proofs.KeyLemmas.{part_keys, part_key}
+use Rattle.ist_build.proofs.LayingPartLemmas.{long_part, long_keys, held_part, leaves_part, keys_part, key_part, laying_part}
+use Rattle.ist_build.proofs.MidwayLemmas.{length-share_of, midway_part}
+
+-- ---- the slices
+
+-- the slice from one place on, as code takes it
+abbrev pub slice : List ℕ → ℕ → ℕ → List ℕ
+slice xs start len = take (start + len - start) (drop start xs)
+
+-- the slices of a part are that part
+pub is_part : (n j d start len : ℕ) (leaves keys : List ℕ) → j < d → d ≡ degree n
+    → start ≡ part_start n j → len ≡ part_len n j → 1 ≤ len
+    → IsPart n j leaves keys (slice leaves start len) (slice keys start len)
+is_part n j d start len leaves keys less d_is start_is len_is some =
+    record {
+      less = omega arith;
+      some = omega arith;
+      own_is = slice_part leaves n j start len start_is len_is;
+      keys_are = slice_part keys n j start len start_is len_is;
+    }
+
+-- a part has no more leaves than all
+pub part_long : (n j : ℕ) (leaves keys own own_keys : List ℕ) → length leaves ≡ n
+    → IsPart n j leaves keys own own_keys → length own ≤ n
+part_long n j leaves keys own own_keys all p =
+    let long = ap length p.own_is ∙ length-share_of n j leaves all p.less in
+    let end = part_end-le n j p.less in
+    omega arith
+
+-- ---- a part of a row that is built row by row
+
+-- what a build of the part asks for
+pub record PartAsked (who : Caller) (n : ℕ) (own own_keys : List ℕ) : Type 0 where
+  pub due : IsDue who (length own)
+  pub leaves : HaveLeaves (now who.seat.view) own
+  pub keys : AreKeysOf (now who.seat.view) own own_keys
+  pub many : length own_keys ≡ length own
+  pub long : length own ≤ n
+
+-- it is there
+pub part_asked : (old who : Caller) (leaves keys : List ℕ) (base d j : ℕ) (own own_keys : List ℕ)
+    → IsMidway old leaves base d j who → IsPart (length leaves) j leaves keys own own_keys
+    → IsDue old (length leaves) → HaveLeaves (now old.seat.view) leaves
+    → AreKeysOf (now old.seat.view) leaves keys → length keys ≡ length leaves
+    → PartAsked who (length leaves) own own_keys
+part_asked old who leaves keys base d j own own_keys m p due have keys_have many =
+    record {
+      due = part_due old who leaves base d j m p.less p.some own p.own_is due;
+      leaves = part_leaves old who leaves base d j m p.less p.some own p.own_is have;
+      keys = part_keys old who leaves keys base d j m keys_have own_keys p.keys_are own p.own_is;
+      many = ap length p.keys_are ∙ length-share_of (length leaves) j keys many p.less
+          ∙ sym (length_own old who leaves base d j m p.less p.some own p.own_is);
+      long = part_long (length leaves) j leaves keys own own_keys refl p;
+    }
+
+-- the caller holds the row after the build of a part
+pub midway_held : (old who new : Caller) (leaves : List ℕ) (base d j : ℕ)
+    → IsMidway old leaves base d j who → new.number ≡ who.number
+    → BuiltOn who.seat.view new.seat.view → HoldsRow (now new.seat.view) new.number base (inner_words d)
+midway_held old who new leaves base d j m number b =
+    subst (λ n. HoldsRow (now new.seat.view) n base (inner_words d)) (sym number)
+    (built_held who.seat.view new.seat.view b who.number base (inner_words d) m.caller.mine m.held)
+
+-- what stops the build of the part stops the whole
+pub part_stops : (old who : Caller) (leaves keys : List ℕ) (base d j : ℕ) (own own_keys : List ℕ)
+    → IsMidway old leaves base d j who → IsPart (length leaves) j leaves keys own own_keys
+    → (words : ℕ) (full : Full) (w : View) → IsShort who.seat.view words (length own) full w
+    → IsShort old.seat.view words (length leaves) full w
+part_stops old who leaves keys base d j own own_keys m p words full w short =
+    part_short old who leaves base d j m p.less p.some own p.own_is words full w
+    (part_long (length leaves) j leaves keys own own_keys refl p) short
+
+-- the part was built, and its word and key were stored
+pub midway_more : (old who new last : Caller) (leaves keys : List ℕ) (base d j word : ℕ)
+    (own own_keys : List ℕ) → IsMidway old leaves base d j who
+    → IsPart (length leaves) j leaves keys own own_keys → AreKeysOf (now old.seat.view) leaves keys
+    → d ≡ degree (length leaves) → j < d → IsCaller new → new.number ≡ who.number
+    → spares_of new ≡ spares_of who → BuiltOn who.seat.view new.seat.view
+    → ((part : List PlacedLeaf) → ArePlaced (now who.seat.view) own part
+    → IsLaid new.seat.view new.number (now who.seat.view).next word part)
+    → HasTaken who (shape (length own)) new
+    → last ≡ record new {
+      seat = record new.seat {
+        view = setting new.seat.view base d j (slice_index_or own_keys 0 0) word;
+      };
+    }
+    → IsCaller last → IsSound last.seat.view → IsMidway old leaves base d (j + 1) last
+midway_more old who new last leaves keys base d j word own own_keys m p have d_is less caller number
+    rows b laid taken is caller_last sound =
+    midway_part old who new last leaves base d j (slice_index_or own_keys 0 0) word m.built.sound m
+    d_is less caller number rows b
+    (λ part a. laid part
+    (subst (λ bases. ArePlaced (now who.seat.view) bases part) (sym p.own_is) a))
+    (subst (λ k. HasTaken who (shape k) new)
+    (length_own old who leaves base d j m p.less p.some own p.own_is) taken)
+    (part_key old who leaves keys base d j m have own_keys p.keys_are) p.some is caller_last sound
+
+-- ---- a part of a row that is built by stores only
+
+-- what a laying of the part asks for
+pub record LayAsked (who : Caller) (n next : ℕ) (own own_keys : List ℕ) : Type 0 where
+  pub held : HoldsBlock (now who.seat.view) who.number next (shape (length own))
+  pub fresh : (place : ℕ) → next ≤ place → own_at who.seat.view.own place ≡ 0
+  pub leaves : HaveLeaves (now who.seat.view) own
+  pub keys : AreKeysOf (now who.seat.view) own own_keys
+  pub many : length own_keys ≡ length own
+  pub long : length own ≤ n
+
+-- it is there
+pub lay_asked : (old who : Caller) (leaves keys : List ℕ) (base d j next : ℕ) (own own_keys : List ℕ)
+    → IsLaying old leaves base d j next who → IsPart (length leaves) j leaves keys own own_keys
+    → ((place : ℕ) → base ≤ place → own_at old.seat.view.own place ≡ 0)
+    → HaveLeaves (now old.seat.view) leaves → AreKeysOf (now old.seat.view) leaves keys
+    → length keys ≡ length leaves → LayAsked who (length leaves) next own own_keys
+lay_asked old who leaves keys base d j next own own_keys m p fresh have keys_have many =
+    let next_is = m.next_is in
+    record {
+      held = held_part old who leaves keys base d j next m p.less own own_keys p.own_is p.keys_are;
+      fresh = λ place le. m.written.above place le ∙ fresh place (omega arith);
+      leaves = leaves_part old who leaves keys base d j next m p.less own own_keys p.own_is
+          p.keys_are have;
+      keys = keys_part old who leaves keys base d j next m p.less own own_keys p.own_is p.keys_are
+          keys_have;
+      many = long_keys old who leaves keys base d j next m p.less own own_keys p.own_is p.keys_are
+          many;
+      long = part_long (length leaves) j leaves keys own own_keys refl p;
+    }
+
+-- the part was laid, and its word and key were stored
+pub laying_more : (old who new last : Caller) (leaves keys : List ℕ) (base d j next end word : ℕ)
+    (own own_keys : List ℕ) → IsLaying old leaves base d j next who
+    → IsPart (length leaves) j leaves keys own own_keys → AreKeysOf (now old.seat.view) leaves keys
+    → d ≡ degree (length leaves) → j < d → IsWritten who new next end
+    → end ≡ next + sum (shape (length own)) → end ≤ place_limit
+    → ((part : List PlacedLeaf) → ArePlaced (now who.seat.view) own part
+    → IsLaidBelow new.seat.view new.number next end word part)
+    → last ≡ record new {
+      seat = record new.seat {
+        view = setting new.seat.view base d j (slice_index_or own_keys 0 0) word;
+      };
+    }
+    → IsCaller last → IsSound last.seat.view → IsLaying old leaves base d (j + 1) end last
+laying_more old who new last leaves keys base d j next end word own own_keys m p have d_is less written
+    end_is low laid is caller sound =
+    let long = long_part old who leaves keys base d j next m p.less own own_keys p.own_is p.keys_are
+    in
+    laying_part old who new last leaves base d j next end (slice_index_or own_keys 0 0) word m d_is
+    less p.some written (end_is ∙ ap (λ k. next + sum (shape k)) long) low
+    (λ part a. laid part
+    (subst (λ bases. ArePlaced (now who.seat.view) bases part) (sym p.own_is) a))
+    (key_part old who leaves keys base d j next m p.less own own_keys p.own_is p.keys_are have) is
+    caller sound

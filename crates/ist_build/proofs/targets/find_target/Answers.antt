@@ -1,0 +1,24 @@
+use Rattle.std.proofs.Common.{◌∙◌}
+use Rattle.ist_build.proofs.RootFewLemmas.{target_done, found_so}
+use Rattle.ist_build.proofs.targets.find_target.Goals as goal
+
+pub keys_of-keys-requires-clause-finished : goal.keys_of-keys-requires-clause-finished
+keys_of-keys-requires-clause-finished c =
+    target_done _ _ c.target_of-base.ensures.seen c.args.rebuild _ c.requires.buildable.k
+    c.requires.buildable.told c.target_of-base.ensures.target
+
+-- the number of keys that was read is the one that is known
+pub returns : goal.returns
+returns c =
+    let f = found_so c.args.who.now c.target_of-base.new.seat c.keys_of-keys.new.seat
+    c.requires.ready c.target_of-base.ensures.seen c.keys_of-keys.ensures.seen c.args.rebuild _
+    c.requires.buildable.k _ c.requires.buildable.told c.target_of-base.ensures.target
+    c.keys_of-keys.ensures.finished in
+    record {
+      same_table = c.keys_of-keys.ensures.same_table ∙ c.target_of-base.ensures.same_table
+          ∙ c.requires.same_table;
+      back = f.back;
+      seen = f.seen;
+      told = f.told;
+      target = f.target_is;
+    }

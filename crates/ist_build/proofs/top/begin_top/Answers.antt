@@ -1,0 +1,33 @@
+use Rattle.std.proofs.Common.{rules}
+use Rattle.ist_build.proofs.BuildingLemmas.{row_refused}
+use Rattle.ist_build.proofs.RowOpenedLemmas.{reserved_held}
+use Rattle.ist_build.proofs.TopBegunLemmas.{top_next, top_opened}
+use Rattle.ist_build.proofs.TopLeafLemmas.{many_two}
+use Rattle.ist_build.proofs.top.begin_top.Goals as goal
+
+pub reserve_inner-requires-clause-next : goal.reserve_inner-requires-clause-next
+reserve_inner-requires-clause-next c =
+    top_next c.args.who.now c.args.target c.args.keys _ c.requires.refused c.requires.target
+    c.requires.many c.requires.degree_is
+
+pub returns-in_err-base-clause-refused : goal.returns-in_err-base-clause-refused
+returns-in_err-base-clause-refused c =
+    let e = c.reserve_inner.ensures in
+    let r = row_refused c.args.who.now c.reserve_inner.new.who _ _ _ _ (many_two _ c.requires.many)
+    c.requires.degree_is e.caller e.number e.rows c.in_err-base.ensures.full
+    c.in_err-base.ensures.refused in
+    search rules
+
+pub open_row-requires-clause-held : goal.open_row-requires-clause-held
+open_row-requires-clause-held c =
+    reserved_held c.args.who.now c.reserve_inner.new.who c.know.ensures.sound
+    c.reserve_inner.ensures.number _ _ c.in_ok-base.ensures.reserved
+
+pub returns-clause-begun : goal.returns-clause-begun
+returns-clause-begun c =
+    let r = c.reserve_inner.ensures in
+    let e = c.open_row.ensures in
+    top_opened c.args.who.now c.reserve_inner.new.who c.args.target c.args.keys c.args.degree
+    c.in_ok-base.base c.know.ensures.sound c.requires.refused c.requires.target c.requires.many
+    c.requires.degree_is r.number r.rows c.in_ok-base.ensures.reserved c.in_ok-base.ensures.taken
+    c.open_row.new.who e.stored e.caller e.sound

@@ -1,0 +1,38 @@
+use Rattle.std.proofs.Common.{arith}
+use Rattle.ist_rule.proofs.GoingOnLemmas.{looked_goes_on}
+use Rattle.ist_mark.specs.Passing.{HasMarked}
+use Rattle.ist_mark.proofs.PassLemmas.{degree_low}
+use Rattle.ist_mark.proofs.SubtreeLemmas.{mark_more, mark_loads, may_mark_on}
+use Rattle.ist_mark.proofs.spreading.begin_wide.Goals as goal
+use Rattle.ist_mark.proofs.spreading.begin_wide.Goals.{After-own_word}
+
+loaded : (c : After-own_word) → HasMarked c.args.node c.args.seat.now c.own_word.new.seat
+loaded c =
+    mark_loads c.args.node _ _ c.own_word.ensures.same_table
+    (looked_goes_on _ _ _ _ c.own_word.ensures.looked)
+
+pub returns-then-own_word-lt-WIDE-clause-marked : goal.returns-then-own_word-lt-WIDE-clause-marked
+returns-then-own_word-lt-WIDE-clause-marked c =
+    loaded (goal.at.returns-then-own_word-lt-WIDE-clause-marked c).After-own_word
+
+pub mark-requires-clause-may_mark : goal.mark-requires-clause-may_mark
+mark-requires-clause-may_mark c =
+    may_mark_on c.args.node _ _ (loaded (goal.at.mark-requires-clause-may_mark c).After-own_word)
+    c.requires.may_mark
+
+pub returns-then-is_some-clause-marked : goal.returns-then-is_some-clause-marked
+returns-then-is_some-clause-marked c =
+    mark_more c.args.node _ _ _
+    (loaded (goal.at.returns-then-is_some-clause-marked c).After-own_word) c.mark.ensures.marked
+
+pub returns-clause-marked : goal.returns-clause-marked
+returns-clause-marked c =
+    let e = c.degree_of-degree.ensures in
+    mark_more c.args.node _ _ _ (mark_more c.args.node _ _ _
+    (loaded (goal.at.returns-clause-marked c).After-own_word) c.mark.ensures.marked)
+    (mark_loads c.args.node _ _ e.same_table e.seen)
+
+pub returns-clause-few : goal.returns-clause-few
+returns-clause-few c =
+    let low = degree_low _ c.know.ensures.sound c.args.node _ c.degree_of-degree.ensures.degree in
+    omega arith
