@@ -52,6 +52,7 @@ module _ (n j left : ℕ) (slots : List ℕ) (leaves : List PlacedLeaf) (above :
     abbrev AllBuild : List Row → Type 0
     AllBuild rs = BuildsAll slots (cut (part_lens_from n j left) leaves) above rs
 
+    -- if no slot and no part is left, none of the rows is needed
     pub parts_end : length slots < 1 → left ≡ 0 → CountsRows AllBuild rows (Some 0)
     parts_end none e =
         let no_slot = empty_list slots (omega arith) in
@@ -63,6 +64,7 @@ module _ (n j left : ℕ) (slots : List ℕ) (leaves : List PlacedLeaf) (above :
               (subst (λ ps. BuildsAll slots ps above used) no_part b))),
         )
 
+    -- if no slot but a part is left, no number of the rows builds the parts
     pub parts_left : length slots < 1 → left ≢ 0 → CountsRows AllBuild rows None
     parts_left none some used rest is b =
         let no_slot = empty_list slots (omega arith) in
@@ -74,6 +76,7 @@ module _ (n j left : ℕ) (slots : List ℕ) (leaves : List PlacedLeaf) (above :
         (part_lens_from n (j + 1) (left - 1)) (from leaves (min (part_len n j) (length leaves)))) above
         used) no_slot (subst (λ ps. BuildsAll slots ps above used) whole b))
 
+    -- if a slot but no part is left, no number of the rows builds the parts
     pub parts_over : 1 ≤ length slots → left ≡ 0 → CountsRows AllBuild rows None
     parts_over some e used rest is b =
         all_inverted (get_or slots 0 0 ∷ behind slots) [] above used

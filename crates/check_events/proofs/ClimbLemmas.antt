@@ -26,6 +26,7 @@ module _ (slots : BTreeMap ℕ Slot) (n : ℕ) (slot : Slot) (e : tree.get nat_c
         out _ (higher s i h) f j = let same : s ≡ slot = cc in subst (λ y. ClimbsBy slots x y.node)
             same h
 
+    -- if the node's slot is the key's, its way up is for the key exactly if its parent's is
     pub climbs_on : (t : Snapshot) (key : ℕ) → n ≢ anchor → IsChildFor t slot.node key slot.index
         → Climbs slots t key slot.node ↔ Climbs slots t key n
     climbs_on t key far child = ((λ h. up slot e child h), (λ h. out n h far e))
@@ -36,6 +37,7 @@ module _ (slots : BTreeMap ℕ Slot) (n : ℕ) (slot : Slot) (e : tree.get nat_c
         out _ (up s i g h) f j = let same : s ≡ slot = cc in subst (λ y. Climbs slots t key y.node)
             same h
 
+    -- if the node's slot is not the one for the key, its way up is not for the key
     pub climbs_off : (t : Snapshot) (key : ℕ) → n ≢ anchor → ¬ (IsChildFor t slot.node key slot.index)
         → ¬ (Climbs slots t key n)
     climbs_off t key far other h = out n h far e

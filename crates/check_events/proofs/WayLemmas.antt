@@ -94,12 +94,14 @@ module _ (first : Snapshot) (log : Log) (slots : BTreeMap ℕ Slot) (k : KnowsSl
       entry u m p i n l c,
     )
 
+    -- a node that was linked has a slot in the map, unless it is the anchor
     pub linked_in : (n : ℕ) → n ≢ anchor → WasLinked first log n
         → (slot : Slot) × (tree.get nat_cmp slots n ≡ Some slot)
     linked_in n far h =
         let w = ever_at first (λ t. Linked t n) log h in
         ⊎_elim (λ e. absurd (far e)) (λ s. s) (linked_entry w.0 w.1 n w.2)
 
+    -- a node with a slot in the map was linked
     pub linked_out : (n : ℕ) (slot : Slot) → tree.get nat_cmp slots n ≡ Some slot → WasLinked first
         log n
     linked_out n slot e =
@@ -145,6 +147,7 @@ module _ (first : Snapshot) (log : Log) (slots : BTreeMap ℕ Slot) (k : KnowsSl
         let child = subst (λ s. IsChildFor (state first log) s.node key s.index) (sym same) f in
         down i (again climbs) (for_then stay u m p key i c.word c.holds child) c
 
+    -- if the way up from a linked node is for a key, the key leads to the node
     pub linked_leads : KeysStay first log → (u : Snapshot) → IsMoment first log u → (key n : ℕ)
         → Linked u n
         → Climbs slots (state first log) key n → Leads u key n
@@ -162,6 +165,7 @@ module _ (first : Snapshot) (log : Log) (slots : BTreeMap ℕ Slot) (k : KnowsSl
         at_ever first (λ t. Leads t key n) log w.0 w.1 (linked_leads stay w.0 w.1 key n
         (below slot.index w.2.0 w.2.1) (up slot e f rest))
 
+    -- the way up from a node is for a key exactly if the key led to the node at some moment
     pub climbs_is : KeysStay first log → (key n : ℕ)
         → Climbs slots (state first log) key n ↔ WasLedTo first log key n
     climbs_is stay key n = (
@@ -205,11 +209,13 @@ module _ (first : Snapshot) (log : Log) (slots : BTreeMap ℕ Slot) (k : KnowsSl
         let r = linked_chain u m p l in
         (r.0 ++ n ∷ [], one_row i r.1 c, on_longer u m p i n l c r.0 r.2)
 
+    -- a node whose way up passes a row has a slot in the map
     pub comes_entry : (x n : ℕ) → ClimbsBy slots x n
         → (slot : Slot) × (tree.get nat_cmp slots n ≡ Some slot)
     comes_entry _ n (here slot e) = (slot, e)
     comes_entry x n (higher slot e rest) = (slot, e)
 
+    -- the way up from a node passes a row exactly if the row was on the node's chain
     pub comes_is : (n x : ℕ) → ClimbsBy slots x n ↔ WasOnChain first log n x
     comes_is n x = (
       out,

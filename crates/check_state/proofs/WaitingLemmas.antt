@@ -61,7 +61,9 @@ module _ (t : Snapshot) where
   -- how far the remembering has come of what hangs in or below a slot
   pub record Noted (old now : BTreeMap ℕ Slot) (node i : ℕ) (waiting : List Link) : Type 0 where
     pub once : HangsOnce now t
+    -- each link that waits is of a child in its slot
     pub links : (l : Link) → Among l waiting → IsChild t l.node l.index l.child
+    -- what was remembered before or hangs there is what is remembered now or hangs by what waits
     pub told : (under j child : ℕ)
         → (HasSlot old under j child ⊎ Hangs t node i under j child)
         ↔ (HasSlot now under j child ⊎ SomeHangs t waiting under j child)

@@ -195,6 +195,7 @@ module _ (who : Caller) (c : IsCaller who) (s : IsSound who.seat.view) (w : View
           at false e = ap not e
           at true e = absurd (let under : h.base < low = grind (arith, nat_tests) in omega arith)
 
+  -- the rows that the caller holds from the first built one on are exactly those that were built
   pub rows_named : (base : ℕ) → (now v).next ≤ base
       → ((b : ℕ) → Among b (bases_of rows) → base ≤ b) → rows_from w base ≡ rows
   rows_named base le first =
@@ -225,6 +226,7 @@ module _ (who : Caller) (c : IsCaller who) (s : IsSound who.seat.view) (w : View
     mine_later : Later (CallerOf number) w.log before
     mine_later = subst (λ k. Later k w.log before) (ap (λ y. y.who) b.same ∙ c.mine) later
 
+    -- after the event the caller holds what it held before the build
     pub held_back : held_by (now x) number ≡ held
     held_back =
         ap (λ t. held_by t number) now_x

@@ -85,6 +85,7 @@ module _ (pairs : List Pair) (words caller rebuild part : ℕ) where
       }))
   here log _ h is = absurd is
 
+  -- if a caller drew a part of a rebuild, the rebuild's draw word is beyond this part
   pub was_drawn : (log : Log) → EachEnabled (start pairs words) log
       → Happened (Draws caller rebuild part) log → WasDrawn (state_of pairs words log) rebuild part
   was_drawn [] h i = absurd i
@@ -125,6 +126,7 @@ module _ (old : Caller) (seat : SeatFace) (r : IsFreeToBuild old) (s : IsSound o
       looked_row old.seat.view place word seat.view l shared.rebuild (Rebuild there.row) 4 there.row.draw
       there.published refl place_is
 
+  -- the place of the draw word lies in the table
   draw_low : place < seat.view.words
   draw_low =
       let low = (row_low seat.view gone.sound shared.rebuild (Rebuild there.row) there.published 4

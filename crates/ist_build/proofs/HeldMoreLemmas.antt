@@ -38,6 +38,7 @@ use Rattle.ist_build.proofs.RisingListLemmas.{of_map, rises_last}
 pub record HoldsMore (pairs : List Pair) (words number : ℕ) (old log : Log) : Type 0 where
   pub fresh : List HeldRow
   pub is : held_by (state_of pairs words log) number ≡ held_by (state_of pairs words old) number ++ fresh
+  -- they lie at the former first free word or after it
   pub high : (h : HeldRow) → Among h fresh → (state_of pairs words old).next ≤ h.base
   pub rising : Rises (map (λ h. h.base) fresh)
 
@@ -97,6 +98,7 @@ module _ (pairs : List Pair) (words number : ℕ) where
                 (λ b i. below b (of_map b rest.fresh i)));
           }
 
+  -- after reservations only, the caller holds what it held and fresh rows above the first free word
   pub holds_more : (old log : Log) → EachEnabled (start pairs words) log
       → LaterBy (CallerOf number) Reserves old log → HoldsMore pairs words number old log
   holds_more old _ enabled no_more =

@@ -35,11 +35,13 @@ module _ (P : Event → Type 0) (v w : View) (b : LaidOn P v w) where
   pub laid_now : now w ≡ state_of v.start v.words w.log
   laid_now = ap₂ (λ p n. state_of p n w.log) (ap (λ x. x.start) b.same) (ap (λ x. x.words) b.same)
 
+  -- the later view's log is lawful from the start of the earlier one
   pub laid_lawful : Lawful v.start v.words w.log
   laid_lawful =
       subst (λ p. Lawful p v.words w.log) (ap (λ x. x.start) b.same)
       (subst (λ n. Lawful w.start n w.log) (ap (λ x. x.words) b.same) b.sound.lawful)
 
+  -- the seat is still the same one's
   pub laid_who : w.who ≡ v.who
   laid_who = ap (λ x. x.who) b.same
 
@@ -49,6 +51,7 @@ module _ (P : Event → Type 0) (v w : View) (b : LaidOn P v w) where
       subst (λ t. AllGrow (now v).pieces t.pieces) (sym laid_now)
       (grow_between v.start v.words v.log w.log laid_lawful.enabled (later_by-goes_on b.later))
 
+  -- the first free word only rises
   pub laid_next : (now v).next ≤ (now w).next
   laid_next =
       subst (λ t. (now v).next ≤ t.next) (sym laid_now)

@@ -80,6 +80,7 @@ module _ (old who : Caller) (leaves keys : List ℕ) (base d j next : ℕ)
   pub long_part : length own ≡ part_len (length leaves) j
   long_part = ap length own_is ∙ length-share_of (length leaves) j leaves refl less
 
+  -- if the keys are one per leaf, so are the keys of the part
   pub long_keys : length keys ≡ length leaves → length own_keys ≡ length own
   long_keys many =
       ap length keys_are ∙ length-share_of (length leaves) j keys many less ∙ sym long_part
@@ -99,6 +100,7 @@ module _ (old who : Caller) (leaves keys : List ℕ) (base d j next : ℕ)
             (share_placed (now old.seat.view) (length leaves) j leaves have.0 have.1),
       )
 
+  -- if the keys are the leaves' keys, the part's keys are the keys of the part's leaves
   pub keys_part : AreKeysOf (now old.seat.view) leaves keys → AreKeysOf (now who.seat.view) own own_keys
   keys_part have =
       subst (λ t. AreKeysOf t own own_keys) (sym same_state)
@@ -200,6 +202,7 @@ module _ (old who : Caller) (leaves : List ℕ) (base d j next end key word : �
             ∙ ap (λ k. first_keys (λ (leaf : PlacedLeaf). leaf.row.key)
             (drop 1 (parts_to n (k + 1) placed))) (sym e)
 
+    -- when the part's word and key are stored, one part more of the row is built
     pub laying_set : IsCaller last → IsSound (record v { own = words })
         → IsLaying old leaves base d (j + 1) end last
     laying_set caller sound_last =

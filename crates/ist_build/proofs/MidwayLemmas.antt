@@ -33,16 +33,19 @@ use Rattle.ist_build.proofs.RowOpenedLemmas.{at_key, at_rewritten, at_slot, else
 
 -- ---- the leaves of a part
 
+-- what holds for each element holds for each after the first n
 pub each_drop : {A : Type 0} (P : A → Type 0) (n : ℕ) (xs : List A) → Each P xs → Each P (drop n xs)
 each_drop P zero xs h = h
 each_drop P (suc n) [] h = tt
 each_drop P (suc n) (x ∷ xs) h = each_drop P n xs h.1
 
+-- what holds for each element holds for each of the first n
 pub each_take : {A : Type 0} (P : A → Type 0) (n : ℕ) (xs : List A) → Each P xs → Each P (take n xs)
 each_take P zero xs h = tt
 each_take P (suc n) [] h = tt
 each_take P (suc n) (x ∷ xs) h = (h.0, each_take P n xs h.1)
 
+-- leaves that are published in a view are published in each view that was built on it
 pub published_on : (v w : View) → BuiltOn v w → (leaves : List PlacedLeaf)
     → Each (λ leaf. (now v).pieces leaf.base ≡ Some (Leaf leaf.row)) leaves
     → Each (λ leaf. (now w).pieces leaf.base ≡ Some (Leaf leaf.row)) leaves
@@ -52,6 +55,7 @@ published_on v w b (leaf ∷ leaves) h = (
   published_on v w b leaves h.1,
 )
 
+-- the leaves at the bases of a part are the part of the leaves, in a later view too
 pub part_placed : (v w : View) → BuiltOn v w → (n j : ℕ) (bases : List ℕ)
     (leaves : List PlacedLeaf) → ArePlaced (now v) bases leaves
     → ArePlaced (now w) (share_of n j bases) (share_of n j leaves)
@@ -66,12 +70,14 @@ part_placed v w b n j bases leaves a =
           (each_drop _ (part_start n j) leaves a.published));
     }
 
+-- the share of child j of an ideal node has `part_len` elements
 pub length-share_of : {A : Type 0} (n j : ℕ) (xs : List A) → length xs ≡ n → j < degree n
     → length (share_of n j xs) ≡ part_len n j
 length-share_of n j xs many less =
     let all = part_end-le n j less in let rest = length-drop (part_start n j) xs in
     length-take-le (part_len n j) (drop (part_start n j) xs) (omega arith)
 
+-- a list with an element has a first one
 pub some_first : {A : Type 0} (xs : List A) → 1 ≤ length xs → (x : A) × (ys : List A) × (xs ≡ x ∷ ys)
 some_first [] some = absurd (omega arith)
 some_first (x ∷ xs) some = (x, xs, refl)
@@ -172,6 +178,7 @@ module _ (old who new : Caller) (leaves : List ℕ) (base d j key word : ℕ)
           (λ p low high. stays p (omega arith) (λ e. omega arith) (λ one e. omega arith)))
           (at_slot c base d j key word less)
 
+      -- with one more word the first j + 1 parts are laid
       pub laid_more : IsSound w → AreLaid w new.number (base + inner_words d) base
           (words_at words (base + 3 + d) (j + 1)) (parts_to n (j + 1) placed)
       laid_more sound =
@@ -235,6 +242,7 @@ module _ (old who new : Caller) (leaves : List ℕ) (base d j key word : ℕ)
         (taken stuck fore (next ++ rest)
         (subst (IsInBuild who stuck fore) behind (m.due stuck done rest h))))
 
+    -- when the part's word and key are stored, the half-built row has one part more
     pub midway_set : IsCaller last → IsSound w → IsMidway old leaves base d (j + 1) last
     midway_set caller_last sound =
         let up_first = m.high in

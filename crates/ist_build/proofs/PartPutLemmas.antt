@@ -56,6 +56,7 @@ use Rattle.ist_build.proofs.PartSlotLemmas.{degree_low, part_lost, part_put, par
 pub record MayPut (old mid : Caller) (s : Shared) (i place word : ℕ) : Type 0 where
   pub allowed : CanExchangeOrLose mid.seat.view place unset_word word
       (placing mid.seat.view s.rebuild i word) (losing mid.seat.view word)
+  -- after the exchange, whatever word it found, the slot is set
   pub behind : (seat : SeatFace) (found : ℕ)
       → ExchangedOrLost mid.seat.view (placing mid.seat.view s.rebuild i word)
       (losing mid.seat.view word) place unset_word found seat.view

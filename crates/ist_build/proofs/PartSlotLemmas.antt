@@ -92,6 +92,7 @@ module _ (pairs : List Pair) (words : ℕ) (log : Log) (enabled : EachEnabled (s
       let same = h.degree_is in
       omega arith
 
+  -- the row has a slot i
   pub within : i < length h.row.slots
   within =
       let it = has_degree pairs words log enabled node h.row h.published in
@@ -99,6 +100,7 @@ module _ (pairs : List Pair) (words : ℕ) (log : Log) (enabled : EachEnabled (s
       let same = h.degree_is in
       omega arith
 
+  -- slot i holds the word at i in the row's slots
   pub slot_holds : SlotHolds t node i (get_or h.row.slots i 0)
   slot_holds = in_row h.row h.published (slice_get-get_or h.row.slots i 0 within)
 
@@ -109,6 +111,7 @@ module _ (pairs : List Pair) (words : ℕ) (log : Log) (enabled : EachEnabled (s
       (shown_row node (Inner h.row) offset h.published
       (get-words_of_slot h.row i ∙ slice_get-get_or h.row.slots i 0 within))
 
+  -- all seats may read the slot's word, after each longer log too
   pub slot_fast : IsFast t (slot_place node d i)
   slot_fast =
       let both = length-append h.row.keys h.row.slots in
@@ -116,6 +119,7 @@ module _ (pairs : List Pair) (words : ℕ) (log : Log) (enabled : EachEnabled (s
       subst (IsFast t) (sym at_place)
       (in_piece node offset (Inner h.row) h.published (omega arith))
 
+  -- the place computed from the degree is the place of the slot
   pub slot_is_place : slot_place node d i ≡ place_of_slot t node i
   slot_is_place =
       ap (λ n. slot_place node n i) (sym h.degree_is)

@@ -45,6 +45,7 @@ module _ (ps qs : Pieces) (own : List ℕ)
         of_more r (top_over base r leaves above (i base (inl refl)) top)
         (parts_over r.slots (parts leaves) base bases under (λ b j. i b (inr j)))
 
+    -- and ideal subtrees over parts stay such in these pieces
     pub parts_over : (words : List ℕ) (behind : List (List PlacedLeaf)) (above : ℕ) (bases : List ℕ)
         → AreIdeal ps words behind above bases → ((base : ℕ) → Among base bases → Among base own)
         → AreIdeal qs words behind above bases
@@ -143,20 +144,24 @@ module _ (ps : Pieces) (xs ys : List Row)
       clash : (o : Option Piece) → o ≡ None → o ≡ Some (Leaf r) → ⊥
       clash o e f = cc
 
+  -- a leaf stays when the second rows are added to the first ones
   pub left_leaf : (base : ℕ) (r : LeafRow) → with_inners ps xs base ≡ Some (Leaf r)
       → with_inners ps (xs ++ ys) base ≡ Some (Leaf r)
   left_leaf base r e = leaf_beside base r (leaf_stood ps xs base r e)
 
+  -- a leaf stays when the first rows are added to the second ones
   pub right_leaf : (base : ℕ) (r : LeafRow) → with_inners ps ys base ≡ Some (Leaf r)
       → with_inners ps (xs ++ ys) base ≡ Some (Leaf r)
   right_leaf base r e = leaf_beside base r (leaf_stood ps ys base r e)
 
+  -- a row of the first rows is as it was when the second ones are added
   pub left_inner : (base : ℕ) (r : InnerRow) → Among base (bases_of xs)
       → with_inners ps xs base ≡ Some (Inner r) → with_inners ps (xs ++ ys) base ≡ Some (Inner r)
   left_inner base r i e =
       ap (λ qs. qs base) (with_both ps xs ys)
       ∙ put_stands ps (with_inners ps ys) xs base (Inner r) (left_free base i) e
 
+  -- a row of the second rows is as it was when the first ones are added
   pub right_inner : (base : ℕ) (r : InnerRow) → Among base (bases_of ys)
       → with_inners ps ys base ≡ Some (Inner r) → with_inners ps (xs ++ ys) base ≡ Some (Inner r)
   right_inner base r i e =

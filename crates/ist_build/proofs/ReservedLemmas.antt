@@ -61,6 +61,7 @@ reserved_all_built v number base sizes w r =
 -- where the rows lie: from the first free word on, and their words are 0
 pub record IsFreshBlock (v : View) (base : ℕ) (w : View) : Type 0 where
   pub high : (now v).next ≤ base
+  -- the seat's own word at each place from the first row on is 0
   pub zero_words : (place : ℕ) → base ≤ place → own_at w.own place ≡ 0
 
 -- rows reserved at one step are a fresh block

@@ -162,6 +162,7 @@ module _ (old : Caller) (seat : SeatFace) (r : IsFreeToBuild old)
   mine : seat.view.who ≡ CallerOf old.number
   mine = ap (λ x. x.who) gone.same ∙ r.caller.mine
 
+  -- an exchange of the Unset root for this word may be made, and is a Root without rows
   few_allowed : (unset : ℕ) → unset ≡ unset_word
       → CanExchange seat.view place unset word (rooting_few seat.view place word)
   few_allowed unset is =
@@ -186,6 +187,7 @@ module _ (old : Caller) (seat : SeatFace) (r : IsFreeToBuild old)
       at_root (root_top base row more e top unset one) f =
           absurd (let n = ap length one in omega arith)
 
+  -- if it was made, the rebuild has this word as its root
   few_hit : (last : SeatFace) → Logged seat.view (rooting_few seat.view place word) last.view
       → HasPutRoot old (record old { seat = last }) rebuild word
   few_hit last l =
@@ -201,6 +203,7 @@ module _ (old : Caller) (seat : SeatFace) (r : IsFreeToBuild old)
         root = root_put seat.view last.view old.number rebuild word [] few_set logged;
       }
 
+  -- if another word was found there, the rebuild has that word as its root
   few_missed : (last : SeatFace) (found : ℕ) → found ≢ unset_word
       → Looked seat.view place found last.view
       → HasPutRoot old (record old { seat = last }) rebuild found
@@ -213,6 +216,7 @@ module _ (old : Caller) (seat : SeatFace) (r : IsFreeToBuild old)
             set;
       }
 
+  -- the place of the root word lies in the table
   few_low : place < seat.view.words
   few_low =
       let low = (row_low seat.view gone.sound rebuild (Rebuild ready.row) ready.published 3

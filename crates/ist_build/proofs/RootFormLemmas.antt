@@ -39,6 +39,7 @@ use Rattle.laws_stability.proofs.SetLemmas.{set_later}
 pub record IsRowSet (t : Snapshot) (base : ℕ) : Type 0 where
   pub row : InnerRow
   pub published : t.pieces base ≡ Some (Inner row)
+  -- none of its slots is Unset
   pub set : (i : ℕ) → slice_get row.slots i ≢ Some unset_word
 
 -- the word names an inner row of this degree
@@ -53,7 +54,9 @@ pub record IsTopOf (t : Snapshot) (word d : ℕ) : Type 0 where
 pub record HasForm (t : Snapshot) (r : RebuildRow) : Type 0 where
   pub k : ℕ
   pub finished : IsFinishedWith t r.target k
+  -- if these are few, a row that the root names has no Unset slot
   pub few : k < share_from → (base : ℕ) → ref_of r.root ≡ Some (InnerAt base) → IsRowSet t base
+  -- if these are enough for a shared root, the root names a row with one slot per part
   pub many : share_from ≤ k → IsTopOf t r.root (degree k)
 
 module _ (pairs : List Pair) (words : ℕ) (opens : CanOpen pairs words) where

@@ -91,6 +91,7 @@ module _ (old new : Caller) (c : IsCaller old) (s : IsSound old.seat.view)
   mine_new : number_of new.seat.view.who ≡ new.number
   mine_new = ap number_of (ap (λ x. x.who) b.same ∙ c.mine) ∙ sym number
 
+  -- the exchange that puts the root in place is the Root with the rows that were built
   rooting_is : (rebuild place : ℕ) → place ≡ rebuild + rebuild_root_offset
       → rooting new.seat.view place word ≡ Root new.number rebuild word h.rows
   rooting_is rebuild place at =
@@ -98,15 +99,18 @@ module _ (old new : Caller) (c : IsCaller old) (s : IsSound old.seat.view)
       ∙ ap (λ o. Root new.number o word h.rows)
       (let q : place - rebuild_root_offset ≡ rebuild = omega arith in q)
 
+  -- an exchange that fails is the Lose of the rows that were built
   losing_is : losing new.seat.view word ≡ Lose new.number (bases_of h.rows)
   losing_is = ap₂ (λ n rows. Lose n (bases_of rows)) mine_new root_named
 
+  -- at least one row was built
   root_some : h.rows ≢ []
   root_some e =
       let none : bases_of h.rows ≡ [] = ap bases_of e in
       let long = ap length (sym topped.bases_are ∙ none) in
       absurd (omega arith)
 
+  -- the word of the root isn't Unset
   root_set : word ≢ unset_word
   root_set = topped_set word (bases_of h.rows) topped
 

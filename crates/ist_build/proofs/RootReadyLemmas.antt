@@ -160,9 +160,11 @@ module _ (old new : Caller) (target k word : ℕ) (s : IsSound old.seat.view) (n
     (b : BuiltOn old.seat.view new.seat.view) (t : IsTarget (now old.seat.view) target k)
     (leaves : List PlacedLeaf)
     (has : HasLeaves (now old.seat.view).pieces (Some (InnerAt target)) leaves) where
+  -- the target has k leaves
   pub many : length leaves ≡ k
   many = leaves_number old.seat.view s target k t.finished leaves has
 
+  -- the target lies below the first free word
   pub low : target < (now old.seat.view).next
   low = published_low old.seat.view s target k t.finished
 
@@ -174,6 +176,7 @@ module _ (old new : Caller) (target k word : ℕ) (s : IsSound old.seat.view) (n
       root_sizes (now new.seat.view).pieces rows word k leaves target o.once
       (rows_free new.seat.view b.sound new.number rows o.held) many root
 
+  -- an ideal subtree over all leaves of a target with few keys is a root for it
   pub whole_laid : k < share_from
       → IsLaid new.seat.view new.number (now old.seat.view).next word (take k (drop 0 leaves))
       → IsInBuild new (sizes_built old) (shape k) [] → IsRootLaid old new target k word leaves
@@ -192,6 +195,7 @@ module _ (old new : Caller) (target k word : ℕ) (s : IsSound old.seat.view) (n
       fit (of_whole less e) = e
       fit (of_top more e) = absurd (omega arith)
 
+  -- the top row with Unset slots is a root for a target with enough keys for a shared root
   pub top_root : share_from ≤ k
       → IsTopLaid new.seat.view new.number (now old.seat.view).next word leaves
       → sizes_built new ≡ sizes_built old ++ inner_words (degree k) ∷ []
@@ -253,6 +257,7 @@ pub record IsTopped (word : ℕ) (bases : List ℕ) : Type 0 where
   pub rest : List ℕ
   pub bases_are : bases ≡ base ∷ rest
 
+-- the word of a root over at least two leaves names a row, the first of its rows
 pub root_topped : (ps : Pieces) (word k : ℕ) (leaves : List PlacedLeaf) (target : ℕ)
     (bases : List ℕ) → 2 ≤ length leaves → IsRoot ps word k leaves target bases → IsTopped word bases
 root_topped ps word k leaves target bases two (root_whole ref few e ideal) =
@@ -274,6 +279,7 @@ topped_base word bases h =
     let is = it.same_word in
     omega arith
 
+-- a word that names a row isn't Unset
 pub topped_set : (word : ℕ) (bases : List ℕ) (h : IsTopped word bases) → word ≢ unset_word
 topped_set word bases h e =
     no (sym (ap ref_of e ∙ ref_of-unset) ∙ h.ref_is)

@@ -85,6 +85,7 @@ module _ (w : View) (s : IsSound w) (number low mid : ℕ) (le : low ≤ mid) (x
       let two = high_base mid base ys b.high j in
       omega arith
 
+  -- rows below a place and rows from it on, which the caller owns, are rows that it owns together
   pub owns_both : OwnsRows w number low (xs ++ ys)
   owns_both =
       record {
@@ -206,6 +207,7 @@ module _ (w : View) (s : IsSound w) (number first base word : ℕ) (leaves : Lis
       ap (λ o. with_row (with_inners (now w).pieces h.rows) base o base) read
       ∙ with_row-same (with_inners (now w).pieces h.rows) base (Inner r)
 
+  -- a row whose first words, keys and slots are stored over laid parts is a laid ideal subtree
   pub laid_top : IsLaid w number first word leaves
   laid_top =
       record {

@@ -149,6 +149,7 @@ module _ (old new : Caller) (target k d base : ℕ) (s : IsSound old.seat.view)
         sizes = sizes_taken;
       }
 
+  -- after the stores of its first words the top row is half-built, with no slot set yet
   pub top_opened : (last : Caller) → last ≡ who → IsCaller last → IsSound last.seat.view
       → IsTopMidway old target k base d 0 last
   top_opened last is caller sound =

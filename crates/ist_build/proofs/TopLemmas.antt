@@ -132,6 +132,7 @@ module _ (old who : Caller) (target k base d j key : ℕ) (s : IsSound old.seat.
         sizes = m.sizes;
       }
 
+  -- when slot j is set to Unset with its key, the half-built top row has one slot more
   pub top_set : (last : Caller) (word : ℕ) → word ≡ unset_word
       → last ≡ record who { seat = record who.seat { view = setting v base d j key word } }
       → IsCaller last → IsSound last.seat.view → IsTopMidway old target k base d (j + 1) last
@@ -187,6 +188,7 @@ module _ (w : View) (number low base word : ℕ) (leaves : List PlacedLeaf)
   size_is : length top_row.words ≡ inner_words d
   size_is = length-words_at w.own base (inner_words d)
 
+  -- when all slots are Unset, with their keys, the word is the top row over the leaves
   pub top_laid : IsTopLaid w number low word leaves
   top_laid =
       record {

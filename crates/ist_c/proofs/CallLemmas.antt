@@ -21,6 +21,7 @@ use Rattle.ist_c.specs.Closing.{Closes, listed, lost, is_busy, no_owner}
 
 -- ---- one call of a pass
 
+-- a get by a handle of a pass is one call more of this pass, with the reply of the result
 pub found : (held : Held) (p q : TreePass) (key : ℕ) (reply : Option ℕ) (said : CallResult)
     → held ≡ of.Pass p → arc_value q.tree ≡ arc_value p.tree → HasSeenMore p.pass q.pass
     → AddsCall p.pass q.pass (Get key) reply → said.status ≡ done
@@ -33,6 +34,7 @@ found held p q key reply said is tree seen added status says =
       added = subst (λ (r : Option ℕ). AddsCall p.pass q.pass (Get key) r) (sym says) added;
     }))
 
+-- an update by a handle of a pass that returns Ok is one call more, with the reply of the result
 pub updated : (held : Held) (p q : TreePass) (key : ℕ) (value : Option ℕ)
     (result : Result (Option ℕ) Full) (reply : Option ℕ) (said : CallResult) (short : Shortage)
     → held ≡ of.Pass p → result ≡ Ok reply → arc_value q.tree ≡ arc_value p.tree
@@ -51,6 +53,7 @@ updated held p q key value result reply said short is ok tree seen added status 
       added = subst (λ (r : Option ℕ). AddsCall p.pass q.pass command r) (sym says) it;
     }))
 
+-- an update that returns Err made no call, and was refused with the numbers of the shortage
 pub not_called : (p q : TreePass) (key : ℕ) (value : Option ℕ) (result : Result (Option ℕ) Full)
     (numbers : Full) (short : Shortage) → result ≡ Err numbers → arc_value q.tree ≡ arc_value p.tree
     → HasSeenMore p.pass q.pass → IfErr result (λ f. IsRefused p.pass q.pass key value f)
@@ -66,6 +69,7 @@ not_called p q key value result numbers short err tree seen cause calls says =
       cause = subst (λ (f : Full). IsRefused p.pass q.pass key value f) (sym says) why;
     }
 
+-- an update by a handle of a pass that returns Err leaves the pass's calls, and reports its numbers
 pub was_refused : (held : Held) (p q : TreePass) (key : ℕ) (value : Option ℕ)
     (result : Result (Option ℕ) Full) (numbers : Full) (said : CallResult) (before short : Shortage)
     → held ≡ of.Pass p → result ≡ Err numbers → arc_value q.tree ≡ arc_value p.tree
@@ -79,6 +83,7 @@ was_refused held p q key value result numbers said before short is err tree seen
 
 -- ---- closing
 
+-- a handle of an owner whose closing gives a list holds the pairs that are left
 pub closed_listed : (held : Held) (owner : TreeOwner) (result : Result (Option (Vec Pair)) TreeOwner)
     (list : Option (Vec Pair)) (pairs : Vec Pair) → held ≡ of.Owner owner → result ≡ Ok list
     → list ≡ Some pairs → IfOk result (λ l. IfSome l (λ p. AreLeft owner.maker p.items))
@@ -90,12 +95,14 @@ closed_listed held owner result list pairs is ok some left =
     subst (λ (l : Option (Vec Pair)). IfSome l (λ p. AreLeft owner.maker p.items)) some listed_left in
     subst (λ (h : Held). Closes h (of.Pairs pairs) done) (sym is) (listed owner pairs it)
 
+-- a handle of an owner without memory for the list holds nothing after closing
 pub closed_lost : (held left : Held) (owner : TreeOwner) → held ≡ of.Owner owner → left ≡ of.Nothing
     → Closes held left memory
 closed_lost held left owner is none =
     subst (λ (l : Held). Closes held l memory) (sym none)
     (subst (λ (h : Held). Closes h of.Nothing memory) (sym is) (lost owner))
 
+-- a handle of an owner still holds it if a pass or a note is out
 pub closed_busy : (held : Held) (owner kept : TreeOwner) (result : Result (Option (Vec Pair)) TreeOwner)
     → held ≡ of.Owner owner → result ≡ Err kept
     → IfErr result (λ o. o.maker ≡ owner.maker) → Closes held (of.Owner kept) busy
@@ -103,5 +110,6 @@ closed_busy held owner kept result is err same =
     subst (λ (h : Held). Closes h (of.Owner kept) busy) (sym is) (is_busy owner kept
     (subst (λ (r : Result (Option (Vec Pair)) TreeOwner). IfErr r (λ o. o.maker ≡ owner.maker)) err same))
 
+-- closing a handle of something else leaves it as it is
 pub closed_other : (held other : Held) → other ≡ held → Closes held other misuse
 closed_other held other is = subst (λ (h : Held). Closes held h misuse) (sym is) (no_owner held)

@@ -21,6 +21,7 @@ Says p q key expected value reply =
     (reply ≡ expected → AddsCall p.pass q.pass (command_for key value) reply)
     × (reply ≢ expected → AddsCall p.pass q.pass (Get key) reply)
 
+-- a conditional update that returns Ok is one update if the reply is as expected, and else one get
 pub updated_if : (held : Held) (p q : TreePass) (key : ℕ) (expected value : Option ℕ)
     (result : Result (Option ℕ) Full) (reply : Option ℕ) (said : CallResult) (short : Shortage)
     → held ≡ of.Pass p → result ≡ Ok reply → arc_value q.tree ≡ arc_value p.tree
@@ -43,6 +44,7 @@ updated_if held p q key expected value result reply said short is ok tree seen u
       got = both.1;
     }))
 
+-- a conditional update that returns Err leaves the pass's calls, and reports its numbers
 pub was_refused_if : (held : Held) (p q : TreePass) (key : ℕ) (expected value : Option ℕ)
     (result : Result (Option ℕ) Full) (numbers : Full) (said : CallResult) (before short : Shortage)
     → held ≡ of.Pass p → result ≡ Err numbers → arc_value q.tree ≡ arc_value p.tree

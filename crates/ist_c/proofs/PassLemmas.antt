@@ -9,6 +9,7 @@ use Rattle.ist_c.specs.declared.passes.TreePass.{TreePass}
 use Rattle.ist_c.specs.Results.{done, memory}
 use Rattle.ist_c.specs.Passes.{HasMade, HasTaken, Makes, TakesBack, makes_pass, makes_none, takes_pass}
 
+-- a handle of an owner that made a pass still holds the owner, and the other handle the pass
 pub made_one : (held : Held) (o q : TreeOwner) (p : TreePass) (before out : Handle)
     → held ≡ of.Owner o → HasMade o q p → out.full ≡ true → out.opaque.value ≡ of.Pass p
     → Makes held (of.Owner q) before out done
@@ -16,11 +17,13 @@ made_one held o q p before out is made full value =
     subst (λ (h : Held). Makes h (of.Owner q) before out done) (sym is)
     (makes_pass o q p before out made full value)
 
+-- if there is no memory for the pass, the owner's maker and the other handle are as before
 pub made_none : (held : Held) (o q : TreeOwner) (out : Handle) → held ≡ of.Owner o
     → arc_value q.tree ≡ arc_value o.tree → q.maker ≡ o.maker → Makes held (of.Owner q) out out memory
 made_none held o q out is tree same =
     subst (λ (h : Held). Makes h (of.Owner q) out out memory) (sym is) (makes_none o q out tree same)
 
+-- a handle of an owner that took a pass back still holds the owner
 pub took_one : (held given : Held) (o q : TreeOwner) (p : TreePass) → held ≡ of.Owner o
     → given ≡ of.Pass p → HasTaken o q p → TakesBack held (of.Owner q) given done
 took_one held given o q p is pass taken =

@@ -18,7 +18,9 @@ use Rattle.ist_core.proofs.FreshLemmas.{IsFresh, fresh_from}
 
 -- the second rows are the first, and some that are new
 pub record Adds (ps qs : Pieces) (Born : ℕ → Piece → Type 0) : Type 0 where
+  -- a row of the first is also in the second
   pub keeps : (base : ℕ) (p : Piece) → ps base ≡ Some p → qs base ≡ Some p
+  -- a row of the second is in the first, or is new
   pub from : (base : ℕ) (p : Piece) → qs base ≡ Some p → (ps base ≡ Some p) ⊎ Born base p
 
 -- no row is published at the base of a held row

@@ -34,11 +34,17 @@ IsPlainEvent _ = Unit {0}
 -- the field has one value in all rows that an event publishes, and only marks, finishes and roots
 -- change it
 pub record IsRare (field : Piece → ℕ) (none : ℕ) : Type 0 where
+  -- a word in a slot doesn't change the field
   pub slot : (i word : ℕ) (p : Piece) → field (with_slot i word p) ≡ field p
+  -- a decision doesn't change the field
   pub decision : (word : ℕ) (p : Piece) → field (with_decision word p) ≡ field p
+  -- a Count doesn't change the field
   pub count : (p : Piece) → field (counted p) ≡ field p
+  -- a Draw doesn't change the field
   pub draw : (p : Piece) → field (drawn p) ≡ field p
+  -- an open inner row has the field's first value
   pub inner : (r : InnerRow) → r.status ≡ open_word → field (Inner r) ≡ none
+  -- each row that an Install publishes has the field's first value
   pub install : (first : Snapshot) (log : Log) (at : ℕ) (change : ChangeRow) (fresh : List Row)
       (fits : FitsKind first log change fresh) (base : ℕ) (p : Piece)
       → IsInstalled first log at change fresh fits base p → field p ≡ none

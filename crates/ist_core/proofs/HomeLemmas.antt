@@ -37,6 +37,7 @@ Mentions t node i ref =
 
 -- an inner row is named for one slot only
 pub record HasOneHome (t : Snapshot) : Type 0 where
+  -- two slots for which the same inner row is named are one slot
   pub one : (n i k j child : ℕ) → Mentions t n i (InnerAt child) → Mentions t k j (InnerAt child)
       → (n ≡ k) × (i ≡ j)
 
@@ -94,7 +95,9 @@ AllCame of t New ps = (base : ℕ) (p : Piece) → ps base ≡ Some p → SaysCa
 
 -- new rows are published now, and named for one slot
 pub record AreNew (t : Snapshot) (New : ℕ → ℕ → ℕ → Type 0) : Type 0 where
+  -- a new row wasn't published before
   pub unpublished : (node i child : ℕ) → New node i child → t.pieces child ≡ None
+  -- two slots for which the same new row is named are one slot
   pub one : (n i k j child : ℕ) → New n i child → New k j child → (n ≡ k) × (i ≡ j)
 
 -- whatever the rows of a state name was named in it

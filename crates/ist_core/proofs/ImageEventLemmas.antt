@@ -130,6 +130,7 @@ image_draw t caller rebuild part words r e a image =
 -- what a state must satisfy for its slots to be written
 pub record SlotsReady (t : Snapshot) : Type 0 where
   pub free : t.pieces anchor ≡ None
+  -- an inner row has `degree` slots and one key less
   pub shaped : (base : ℕ) (r : InnerRow) → t.pieces base ≡ Some (Inner r) → HasDegree r
   pub sound : HeldLieApart t
 

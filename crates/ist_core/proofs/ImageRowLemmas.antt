@@ -80,7 +80,9 @@ installed_row first log at change fresh (a_finish f) base p (inr h) = absurd h
 -- rows lie within the table and apart
 pub record RowsApart (u : Snapshot) : Type 0 where
   pub low_next : first_row ≤ u.next
+  -- each row lies after the fixed words and below the first free word
   pub within : (base : ℕ) (p : Piece) → u.pieces base ≡ Some p → IsWithin u base (size_of p)
+  -- two rows at different bases share no word
   pub apart : (base other : ℕ) (p q : Piece) → u.pieces base ≡ Some p → u.pieces other ≡ Some q
       → base ≢ other → Apart base (size_of p) other (size_of q)
 

@@ -42,6 +42,7 @@ LeafLies t node i leaf = (r : LeafRow) → t.pieces leaf ≡ Some (Leaf r) → L
 
 -- all leaves of the table lie as their keys lead
 pub record LeavesLie (t : Snapshot) : Type 0 where
+  -- a leaf that is named for a slot lies where its key leads
   pub each : (node i leaf : ℕ) → Mentions t node i (LeafAt leaf) → LeafLies t node i leaf
 
 -- ---- one step up

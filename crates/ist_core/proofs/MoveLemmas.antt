@@ -14,9 +14,13 @@ use Rattle.ist_core.proofs.PublishingLemmas.{among_bases, tests_base, Stands}
 
 -- rows lie below the first free word, and what is held is not published, and is held once
 pub record HeldLieApart (t : Snapshot) : Type 0 where
+  -- a published row lies below the first free word
   pub below : (base : ℕ) (p : Piece) → t.pieces base ≡ Some p → base < t.next
+  -- a held row lies below the first free word
   pub held_below : (h : HeldRow) → Among h t.held → h.base < t.next
+  -- at the base of a held row nothing is published
   pub unpublished : (h : HeldRow) → Among h t.held → t.pieces h.base ≡ None
+  -- two held rows with the same base are the same
   pub once : (g h : HeldRow) → Among g t.held → Among h t.held → g.base ≡ h.base → g ≡ h
 
 -- there is a row of this size at the base
@@ -26,11 +30,16 @@ StandsWith ps base size = (p : Piece) × (ps base ≡ Some p) × (size_of p ≡ 
 -- an event that reserves nothing
 pub record Moves (t u : Snapshot) (event : Event) : Type 0 where
   pub next : u.next ≡ t.next
+  -- a row that is published after the event was published before, or was held
   pub from : (base : ℕ) (p : Piece) → u.pieces base ≡ Some p
       → Stands t.pieces base ⊎ ((h : HeldRow) × Among h t.held × (h.base ≡ base))
+  -- a row that is held after the event was held before
   pub kept : (h : HeldRow) → Among h u.held → Among h t.held
+  -- a row that is still held is still unpublished
   pub unpublished : (h : HeldRow) → Among h u.held → t.pieces h.base ≡ None → u.pieces h.base ≡ None
+  -- a row that was published is still published, with its size
   pub stays : (base : ℕ) (p : Piece) → t.pieces base ≡ Some p → StandsWith u.pieces base (size_of p)
+  -- a row that was held is still held, is published with its size, or is lost by the event
   pub fate : (h : HeldRow) → Among h t.held
       → (Among h u.held ⊎ StandsWith u.pieces h.base h.size) ⊎ Loses h.base event
 

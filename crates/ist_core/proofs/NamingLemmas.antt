@@ -79,6 +79,7 @@ AllName qs ps = (base : ℕ) (p : Piece) → ps base ≡ Some p → RowNames qs 
 
 -- each word of the table names what it may
 pub record WordsName (t : Snapshot) : Type 0 where
+  -- the words of each published row name what they may
   pub rows : (base : ℕ) (p : Piece) → t.pieces base ≡ Some p → RowNames t.pieces base p
   pub anchor_slot : SlotNames t.pieces anchor 0 (ref_of t.anchor)
 

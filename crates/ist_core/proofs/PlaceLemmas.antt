@@ -184,7 +184,9 @@ module _ (pairs : List Pair) (words : ℕ) where
 
   -- each published row and each held row was set aside
   pub record IsPlaced (log : Log) (t : Snapshot) : Type 0 where
+    -- the words of a published row were set aside for it
     pub published : (base : ℕ) (p : Piece) → t.pieces base ≡ Some p → Claimed log base (size_of p)
+    -- the words of a held row were set aside for it
     pub held : (h : HeldRow) → Among h t.held → Claimed log h.base h.size
 
   -- an event that moves rows publishes none at the base of a row that it loses

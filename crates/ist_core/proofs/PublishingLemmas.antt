@@ -71,10 +71,13 @@ stands_here ps base o p e = subst (λ x. Stands (with_row ps base x) base) (sym 
 -- the rows are published: each row afterwards was there before or is one of them, and each of them
 -- is there
 pub record Publishes (ps : Pieces) (rows : List Row) (qs : Pieces) : Type 0 where
+  -- a row that is there afterwards was there before, or is one of them, with its number of words
   pub from : (base : ℕ) (q : Piece) → qs base ≡ Some q
       → (ps base ≡ Some q) ⊎ ((row : Row) × Among row rows × (row.base ≡ base) ×
       (size_of q ≡ length row.words))
+  -- nothing changes at other bases
   pub others : (base : ℕ) → ¬ (Among base (bases_of rows)) → qs base ≡ ps base
+  -- each of them is there
   pub named : (row : Row) → Among row rows → Stands qs row.base
 
 -- inner rows are published if each of them is found afterwards
@@ -93,6 +96,7 @@ publishes-with_inners ps rows all =
 
 -- the inner rows of an ideal subtree are published
 mutual
+  -- there is a published row at each base of an ideal subtree's rows
   pub ideal_stands : (ps : Pieces) (ref : Ref) (leaves : List PlacedLeaf) (above : ℕ)
       (rows : List ℕ)
       → IsIdeal ps ref leaves above rows → Each (λ base. Stands ps base) rows

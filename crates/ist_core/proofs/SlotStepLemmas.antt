@@ -45,6 +45,7 @@ install_stands first log caller base rows h =
 pub record WritesSlot (t u : Snapshot) (node i new old : ℕ) : Type 0 where
   pub here : SlotHolds t node i old
   pub now : SlotHolds u node i new
+  -- what another slot held, it still holds
   pub others : (at j w : ℕ) → SlotHolds t at j w
       → ((w ≡ old) × (at ≡ node) × (j ≡ i)) ⊎ SlotHolds u at j w
 

@@ -90,6 +90,7 @@ pub record HangsAs (ps : Pieces) (ref : Ref) (pairs : List Pair) (above : ℕ)
   pub rows : List ℕ
   pub tree : IsTree ps ref above rows
   pub between : Between from rows to
+  -- each listed row is a leaf or one of them
   pub each : (base : ℕ) (p : Piece) → Among (base, p) listed → IsLeafRow p ⊎ Among base rows
   pub splits : Splits (λ pair. pair.key) ps ref pairs rows
 

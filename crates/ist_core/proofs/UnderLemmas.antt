@@ -23,13 +23,17 @@ use Rattle.ist_core.proofs.LeadingLemmas.{LiesIn, LeavesLie, lies_above, child_i
 -- at a slot
 pub record SaysWhere (ps : Pieces) (In : ℕ → ℕ → Option Ref → Type 0) (Lies : ℕ → ℕ → ℕ → Type 0) :
     Type 0 where
+  -- the key of a leaf that a slot reads as lies at that slot
   pub leaf : (node i base : ℕ) (r : LeafRow) → In node i (Some (LeafAt base)) → ps base ≡ Some
       (Leaf r) → Lies r.key node i
+  -- what a slot of a row reads as is in that slot
   pub slot : (base j word : ℕ) (r : InnerRow) → ps base ≡ Some (Inner r) → slice_get r.slots j ≡
       Some word
       → In base j (logical ps word)
+  -- a key at a slot of an inner row lies at the slot in which the row hangs
   pub up : (node i base j key : ℕ) → In node i (Some (InnerAt base)) → Lies key base j → Lies key
       node i
+  -- a key lies only at the slot for it
   pub child : (base j key : ℕ) (r : InnerRow) → ps base ≡ Some (Inner r) → Lies key base j → j ≡
       child_count r.keys key
 
@@ -110,7 +114,9 @@ module _ (ps : Pieces) (In : ℕ → ℕ → Option Ref → Type 0) (Lies : ℕ 
 
 -- what a slot reads as is named for it, if as a leaf or as an inner row
 pub record ReadsAs (t : Snapshot) (node i : ℕ) (ref : Option Ref) : Type 0 where
+  -- a leaf that the slot reads as is named for it
   pub a_leaf : (base : ℕ) → ref ≡ Some (LeafAt base) → Mentions t node i (LeafAt base)
+  -- an inner row that the slot reads as is named for it
   pub a_row : (base : ℕ) → ref ≡ Some (InnerAt base) → Mentions t node i (InnerAt base)
 
 -- a leaf that a slot reads as is named for it

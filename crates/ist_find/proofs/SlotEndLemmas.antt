@@ -64,6 +64,7 @@ module _ (keys : List ℕ) (rises : IsStrictlyIncreasing keys) (from i to last :
   -- and the key after it has the next one
   module _ (most : (k : ℕ) → k ≤ last → (i < length keys → k < get_or keys i 0) → k ≤ to)
       (more : to < last) where
+    -- if keys are left after its end, the slot isn't the node's last one
     pub slot_more : i < length keys
     slot_more =
         ⊎_elim (λ l. l)
@@ -80,6 +81,7 @@ module _ (keys : List ℕ) (rises : IsStrictlyIncreasing keys) (from i to last :
         (λ (ge : get_or keys i 0 ≤ to + 1). omega arith)
         (cases_lt (to + 1) (get_or keys i 0))
 
+    -- the slot for the key after its end is the next one
     pub slot_next : child_count keys (to + 1) ≡ i + 1
     slot_next =
         let less = slot_more in

@@ -54,6 +54,7 @@ pub record SlotSaw (w : View) (floor : Log) (first last low high node : ℕ) (re
   pub until : GoesOn at (log_at w.log load)
   pub led : AllLed w at first last node
   pub index : ℕ
+  -- it is the node's slot for each key from `low` to `high`
   pub for : (k : ℕ) → low ≤ k → k ≤ high → IsChildFor (state_of w.start w.words at) node k index
   pub read : ReadsAs (state_of w.start w.words at) node index (Some ref)
 
@@ -160,6 +161,7 @@ module _ (w : View) (s : IsSound w) (floor : Log) (first last low high node : �
   saw_child base e =
       record { word = h.read.word; holds = h.read.holds; reads = h.read.reads ∙ ap Some e }
 
+  -- an inner row that the slot held lies above the node
   pub saw_above : (base : ℕ) → ref ≡ InnerAt base → node < base
   saw_above base e =
       child_above (state_of w.start w.words h.at) node h.index base

@@ -40,6 +40,7 @@ module _ (opened : List Pair) (words : ℕ) where
   module _ (first above : ℕ) (from middle : Log) (low middle_row loads : ℕ) (before : List Pair)
       (a : Swept opened words first above from middle low middle_row loads before)
       (b : (low ≡ first) ⊎ IsEdge (state_of opened words middle) low) where
+    -- a sweep from where the first one ended makes both into one, with the loads and pairs of both
     pub swept_more : (at : Log) (behind row more : ℕ) (found : List Pair)
         → EachEnabled (start opened words) at
         → Swept opened words low middle_row middle at behind row more found

@@ -19,6 +19,7 @@ other_key pair k ne =
     ⊎_elim (λ a. absurd (ne a.1)) (λ a. ap (λ b. if b then Some pair.value else None) a.0)
     (eqb_tells pair.key k)
 
+-- a list of one pair gives the pair's key the pair's value
 pub own_key : (pair : Pair) → value_among (pair ∷ []) pair.key ≡ Some pair.value
 own_key pair =
     ⊎_elim (λ a. ap (λ b. if b then Some pair.value else None) a.0) (λ a. absurd (a.1 refl))
@@ -50,6 +51,7 @@ pub record NoneRead (p m : PassFace) (from behind : ℕ) : Type 0 where
   pub under : from ≤ behind
   pub none : HadNone p m from behind
 
+-- if keys were read downwards without finding a pair, each of them had no value at some position
 pub none_read : (p : PassFace) (behind : ℕ) (m : PassFace) (from : ℕ) (pairs : List Pair) → pairs ≡ []
     → ReadsDown p behind m from pairs → NoneRead p m from behind
 none_read p behind _ _ pairs e none_down =

@@ -69,6 +69,7 @@ push_rises xs y rises low k within =
     omega arith)
     (cases_lt (k + 1) (length xs))
 
+-- appending a pair with a greater key keeps the keys strictly increasing
 pub rises_on : (pairs : List Pair) (pair : Pair) (from : ℕ) → Each (λ p. p.key < from) pairs
     → from ≤ pair.key → IsStrictlyIncreasing (map (λ (p : Pair). p.key) pairs)
     → IsStrictlyIncreasing (map (λ (p : Pair). p.key) (pairs ++ pair ∷ []))
@@ -86,6 +87,7 @@ pub record Listed (p q : PassFace) (first behind : ℕ) (pairs : List Pair) : Ty
   pub rise : IsStrictlyIncreasing (map (λ (x : Pair). x.key) pairs)
   pub low : Each (λ x. x.key < behind) pairs
   pub within : Each (λ x. first ≤ x.key) pairs
+  -- each key of the range had the value that the pairs give it, at a position of its own
   pub values : (k : ℕ) → first ≤ k → k < behind → Had p q k (value_among pairs k)
 
 -- no key yet

@@ -13,6 +13,7 @@ pub record HasReadSlot (p q : PassFace) (first behind : ℕ) (pair : Option Pair
   pub read : HasRead p q
   pub some : first < behind
   pub within : IfSome pair (λ x. (first ≤ x.key) × (x.key < behind))
+  -- each key of the range had the value that the pair gives it, at a position of its own
   pub values : (k : ℕ) → first ≤ k → k < behind → Had p q k (pair_value pair k)
 
 -- the keys from the first up to a slot's end were read upwards, one slot after another, and the pairs were

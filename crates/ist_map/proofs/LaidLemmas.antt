@@ -22,8 +22,10 @@ module _ (number : ℕ) where
     pub order : AllFollow calls
     pub low : Each (λ call. first ≤ call.position) calls
     pub high : Each (λ call. call.position ≤ first + length entries) calls
+    -- a call that changes the map is the entry at its position
     pub made : Each (λ call. is_change call ≡ true → MadeAt number first entries call) calls
     pub exactly : entries_by number entries ≡ map (entry_by number) (filter is_change calls)
+    -- its readings at a position are its calls there that change nothing, in their order
     pub reads : (position : ℕ) → first ≤ position
         → at_position position (mine number xs) ≡ map (read_by number) (reads_at number position calls)
 

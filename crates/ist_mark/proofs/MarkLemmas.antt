@@ -86,6 +86,7 @@ marking_is v number node place who at = ap₂ Mark (ap number_of who) at
 pub record MarkTells (v w : View) (node found : ℕ) : Type 0 where
   pub went : WentOn (Marks w node) v w
   pub closed : IsClosed (now w) node
+  -- if a finished status was found, the node is finished with its number of keys
   pub finished : (k : ℕ) → status_of found ≡ Some (Finished k) → IsFinishedWith (now w) node k
 
 -- the word of a finished status isn't an open status's word
@@ -136,6 +137,8 @@ module _ (v : View) (number node place found : ℕ) (w : View) (row : InnerRow)
           };
         }
 
+    -- after an exchange of an open status for a marked one the node isn't open, and a finished
+    -- status that was found is the node's
     pub mark_tells : Exchanged v (Mark number node) place open_word found w
         → MarkTells v w node found
     mark_tells x =

@@ -124,7 +124,9 @@ unset_by_test false b c e f g = absurd (cc)
 -- what is known of a slot after a load of it
 pub record LookTells (v w : View) (node i word : ℕ) : Type 0 where
   pub went : WentOn (Marks w node) v w
+  -- a change that the word names is met in a slot of the node, so that it may be helped
   pub change : (change : ℕ) → ref_of word ≡ Some (ChangeAt change) → IsMetAt w node change
+  -- if the word is no change, the slot is frozen with it
   pub frozen : IsNoChange word → IsFrozen w.log node i word
 
 module _ (v : View) (node degree i place word : ℕ) (m : MayPass v node degree) (less : i < degree)
@@ -229,6 +231,7 @@ module _ (v : View) (node degree i place word : ℕ) (m : MayPass v node degree)
           (plain_test (ref_of word) plain) in
           eq_true word unset_word c
 
+  -- after the load of a slot of a marked node the change found is known, or the slot is frozen
   pub look_tells : LoadedAs v (pass_of v node i) place word w → LookTells v w node i word
   look_tells (as_event event l named) = passed_now event l named
   look_tells (as_load l none) = passed_before l none

@@ -33,10 +33,12 @@ serving_keeps change _ is = absurd is
 
 module _ (who : Caller) (seat : SeatFace) (c : IsCaller who) (g : GoesOnTo who.seat.view seat.view)
   where
+    -- after loads each build of which the caller holds rows is still refused
     pub loads_refused : HasRefused who → HasRefused (record who { seat = seat })
     loads_refused r =
         refused_went who seat c r (goes_on_went KeepsRows who.seat.view seat.view g)
 
+    -- after loads a quiet caller is still quiet
     pub loads_quiet : IsQuiet who → IsQuiet (record who { seat = seat })
     loads_quiet q =
         record {

@@ -114,6 +114,7 @@ module _ {pairs : List Pair} {words : List ℕ} {log : Log} (s : IsStood pairs w
   -- the slot is one of the table, and a key that leads to it leads by its ways
   pub record IsAt (visit : Visit) (i : ℕ) : Type 0 where
     pub slot : SlotHolds t visit.node i visit.word
+    -- a key that leads to this slot leads by each of the ways
     pub led : (key : ℕ) → LiesIn t key visit.node i → Each (LeadsBy key) visit.ways
 
   -- what is known of a reference in a slot

@@ -53,12 +53,14 @@ module _ {pairs : List Pair} {words : List ℕ} {log : Log} (s : IsStood pairs w
   pub record Longer (visits : List Visit) (found : List Pair) (old : List Span) (n i : ℕ) : Type 0
     where
       pub finds : Finds visits found
+      -- each row that it reads is one of the old ones, or is read below the slot
       pub from : (b : ℕ) → Among b (bases finds.rows) → Among b (bases old) ⊎ IsUnder t n i b
 
   -- or below one of the slots of the node from number j on
   pub record LongerBy (visits : List Visit) (found : List Pair) (old : List Span) (n j : ℕ) : Type 0
     where
       pub finds : Finds visits found
+      -- each row that it reads is one of the old ones, or is read below such a slot
       pub from : (b : ℕ) → Among b (bases finds.rows) → Among b (bases old) ⊎ ((m : ℕ) × (j ≤ m)
           × IsUnder t n m b)
 
@@ -123,6 +125,7 @@ module _ {pairs : List Pair} {words : List ℕ} {log : Log} (s : IsStood pairs w
   -- the rows that a slot leads through, before others
   pub record Through (visit : Visit) (i : ℕ) (rows all : List Span) : Type 0 where
     pub are : AreRows t all
+    -- each is one of the former ones, or is read below the slot
     pub from : (b : ℕ) → Among b (bases all) → Among b (bases rows) ⊎ IsUnder t visit.node i b
 
   -- the rows that a slot leads through, before rows without its rebuild, are published and distinct

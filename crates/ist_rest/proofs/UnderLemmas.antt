@@ -111,6 +111,7 @@ module _ (t : Snapshot) (o : WordsName t) (home : HasOneHome t) (free : t.pieces
     child_once n key i j (of_row r e is) (of_row s f also) = is ∙ ap (λ x. child_count x.keys key)
         (same_inner (t.pieces n) r s e f) ∙ sym also
 
+    -- a row is read below one slot of a node only
     pub one_under : (n i j b : ℕ) → IsUnder t n i b → IsUnder t n j b → i ≡ j
     one_under n i j b (row_under {m = m} {k = k} h u) (row_under {m = q} {k = l} g v) =
         let same = home_once m k q l b h g in one_up n i m k u n j q l v refl same.0 same.1
@@ -136,6 +137,7 @@ module _ (t : Snapshot) (o : WordsName t) (home : HasOneHome t) (free : t.pieces
     up_from n i c child j _ _ up_here = up_down j up_here child
     up_from n i c child j _ _ (up_down l u other) = up_down l (up_from n i c child j _ _ u) other
 
+    -- what is read below a slot of a child is read below the slot in which the child hangs
     pub under_child : (n i c j b : ℕ) → IsChild t n i c
         → ((key : ℕ) → LiesIn t key c j → LiesIn t key n i) → IsUnder t c j b → IsUnder t n i b
     under_child n i c j b child lift (row_under {m = m} {k = k} h u) =

@@ -55,6 +55,7 @@ comes_behind pairs words number old log lawful l =
 
 -- what the rows of a caller are in a state
 pub record IsCallerIn (t : Snapshot) (number : ℕ) (own : Spares) : Type 0 where
+  -- the caller holds each of its spare rows, with the size of its kind
   pub rows : (kind : Kind) (base : ℕ) → row_of kind own ≡ Some base
       → HoldsRow t number base (kind_words kind)
   pub builds : AreBuilds t (build_sizes t number own)

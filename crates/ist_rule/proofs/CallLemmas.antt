@@ -37,7 +37,9 @@ installs_not number event other base rows e = other (ap whose e)
 pub record MayBring (pairs : List Pair) (words : ℕ) (log : Log) (number : ℕ) (calls : List Call)
     (command : Option Command) (change : ChangeRow) : Type 0 where
   pub resolved : AllResolvedOf (state_of pairs words log) log number
+  -- a put or remove is the command of the call
   pub its_command : IsUpdate change.kind → command_of change ≡ command
+  -- before a put or remove the caller's entries are those that its calls make
   pub none_yet : IsUpdate change.kind → HasMade pairs words log number calls
 
 module _ (pairs : List Pair) (words : ℕ) (number : ℕ) (calls : List Call) where

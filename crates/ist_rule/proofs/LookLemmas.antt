@@ -166,10 +166,15 @@ looks_moves k slots id me place live s r _ mine fits =
 
 -- the view that the seat takes fits, whatever it then sees
 pub record CanTurn (v : View) (turn : Log → View) : Type 0 where
+  -- it is still the same seat's
   pub who : (log : Log) → (turn log).who ≡ v.who
+  -- the number of callers that have their seats is as before
   pub given : (log : Log) → (turn log).given ≡ v.given
+  -- the calls that were taken back are as before
   pub taken : (log : Log) → (turn log).taken ≡ v.taken
+  -- it has seen the whole log
   pub log_is : (log : Log) → (turn log).log ≡ log
+  -- if the view before fits the words and a lawful log, the new one does too
   pub fits : (k : About) (log : Log) (image : List ℕ) → Lawful k.start.value.items k.words log
       → Fits k log image v → Fits k log image (turn log)
 

@@ -28,6 +28,7 @@ use Rattle.ist_core.proofs.TouchLemmas.{touches}
 pub record IsLoose (t : Snapshot) (place : ℕ) : Type 0 where
   pub low : first_row ≤ place
   pub below : place < t.next
+  -- it is in no published row
   pub out : (base : ℕ) (p : Piece) → t.pieces base ≡ Some p → (k : ℕ) → k < size_of p
       → place ≢ base + k
 

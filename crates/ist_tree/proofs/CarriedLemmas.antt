@@ -61,6 +61,7 @@ pub record Applies (old mid : Caller) (command : Command) (reply : Option ℕ)
   pub went : SearchedOn Updates old.seat.view mid.seat.view
   pub few_walks : HasWalkedFew old.seat.view mid.seat.view
   pub may : MayEnd mid command reply
+  -- an update that took effect was counted in the call at each row of its chain
   pub counted : let v = old.seat.view in makes_entry command reply ≡ true
       → IsCounted v.start v.words v.log mid.seat.view.log old.number command
   pub due : LeavesDue old.seat.view mid.seat.view old.number of

@@ -37,6 +37,7 @@ record EndsIn (m : MakerFace) (image : List ℕ) (log : Log) (words : ℕ) : Typ
   pub callers : (state_of m.tree.start words log).callers ≡ length (calls_taken m)
   pub stand : AllStandIn m.tree.start words log 0 (calls_taken m)
   pub owners : Each (λ (e : Entry). e.owner < m.made) (changes_of m.tree.start words log)
+  -- if no rebuild was refused, each linked inner row is open and below its limit
   pub settled : m.refused ≡ false → IsSettled (state_of m.tree.start words log)
 
 -- the last words of a table whose maker took all passes back

@@ -110,6 +110,7 @@ pub record UpdateEnds (old : PassFace) (new : Caller) (seat : SeatFace) (q : Opt
   pub pass : IsPassWith (record new { seat = seat }) q
   pub seen : HasSeenMore old (face_as seat new.number q)
   pub added : AddsCall old (face_as seat new.number q) command reply
+  -- a command that took effect is counted at each row on the chain of its change
   pub counted : makes_entry command reply ≡ true
       → HasCounted old (face_as seat new.number q) command
   pub due : LeavesNoneDue old (face_as seat new.number q)

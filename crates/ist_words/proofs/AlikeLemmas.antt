@@ -21,7 +21,9 @@ use Rattle.ist_words.specs.RestingWords.{read_on, BreaksFirstAt, breaks, later}
 
 -- the words agree at each place, and in each range that is in use
 pub record AreAlike (a b : List ℕ) : Type 0 where
+  -- the words at a place are equal, and those beyond an end count as 0
   pub same : (place : ℕ) → word_at a place ≡ word_at b place
+  -- ranges that end at the first free word or before are equal
   pub range : (from to : ℕ) → to ≤ word_at a next_place → slice_range a from to ≡ slice_range b
       from to
 

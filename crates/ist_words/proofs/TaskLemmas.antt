@@ -33,6 +33,7 @@ ltb_tells a b = at (nat_lt a b) refl
 -- a child is determined by the keys on both its sides
 module _ (keys : List ℕ) (rises : IsStrictlyIncreasing keys) (x i : ℕ) (within : i ≤ length keys)
   where
+    -- if x has child i, the key before that child is at most x, and the key after it is greater
     pub count_told : child_count keys x ≡ i → (0 < i → get_or keys (i - 1) 0 ≤ x)
         × (i < length keys → x < get_or keys i 0)
     count_told e = (low, high)
@@ -65,6 +66,7 @@ module _ (keys : List ℕ) (rises : IsStrictlyIncreasing keys) (x i : ℕ) (with
             (omega arith)) in
             child_count_tells keys x k (omega arith)
 
+    -- if the key before child i is at most x, and the key after it is greater, x has child i
     pub count_by : (0 < i → get_or keys (i - 1) 0 ≤ x) → (i < length keys → x < get_or keys i 0)
         → child_count keys x ≡ i
     count_by low high = child_count_is keys x i rises within high low

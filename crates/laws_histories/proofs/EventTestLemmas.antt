@@ -112,6 +112,7 @@ mark_by t log caller node _ e = None
 
 -- a word that is neither a change nor Unset
 pub record IsPlain (word : ℕ) : Type 0 where
+  -- the word names no change
   pub no_change : (change : ℕ) → ref_of word ≢ Some (ChangeAt change)
   pub set : word ≢ unset_word
 

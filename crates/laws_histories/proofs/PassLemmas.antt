@@ -10,6 +10,7 @@ use Rattle.laws_links.proofs.PassLemmas.{passing}
 -- a word with which a slot may be passed: it is set, and no change
 pub record IsPlain (word : ℕ) : Type 0 where
   pub set : ref_of word ≢ Some Unset
+  -- it names no change
   pub no_change : (base : ℕ) → ref_of word ≢ Some (ChangeAt base)
 
 -- a slot is passed with such a word

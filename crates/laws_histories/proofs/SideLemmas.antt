@@ -107,7 +107,9 @@ pub record Makes (change : ChangeRow) (new : Option ℕ) : Type 0 where
   pub command : Command
   pub command_is : command_of change ≡ Some command
   pub key_is : key_of command ≡ change.key
+  -- after the command a map has the new value at that key
   pub made : (m : Map) → fin.get (map_after m command) change.key ≡ new
+  -- at each other key the map is as before
   pub others : (m : Map) (key : ℕ) → key ≢ change.key
       → fin.get (map_after m command) key ≡ fin.get m key
 
@@ -149,18 +151,25 @@ remove_makes change new kind is =
 
 -- what both sides of an update give each key: `from` before it, and `to` after it
 pub record Sides (t u : Snapshot) (change : ChangeRow) : Type 0 where
+  -- the value of each key before the change
   pub old : ℕ → Option ℕ
+  -- the value of each key after it
   pub new : ℕ → Option ℕ
+  -- a search for a key in what the change takes out finds its old value
   pub from_finds : (key : ℕ)
       → Finds t.pieces key (past_rebuild t.pieces (ref_of change.from)) (old key)
+  -- a search for a key in what the change puts in finds its new value
   pub to_finds : (key : ℕ) → Finds u.pieces key (past_rebuild t.pieces (ref_of change.to)) (new key)
+  -- each key but the change's keeps its value
   pub others : (key : ℕ) → key ≢ change.key → new key ≡ old key
   pub reply : old change.key ≡ reply_of t.pieces change
   pub makes : Makes change (new change.key)
 
 -- leaves and inner rows stay
 pub record RowsStay (ps qs : Pieces) : Type 0 where
+  -- a leaf of the first is also in the second
   pub leaves : (base : ℕ) (r : LeafRow) → ps base ≡ Some (Leaf r) → qs base ≡ Some (Leaf r)
+  -- an inner row of the first is also in the second
   pub inners : (base : ℕ) (r : InnerRow) → ps base ≡ Some (Inner r) → qs base ≡ Some (Inner r)
 
 -- a pair row stays if rows stay

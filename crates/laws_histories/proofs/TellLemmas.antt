@@ -48,6 +48,7 @@ same_base a b c d e = cc
 
 -- what the tree gives and the changes reply after a log
 pub record Told (pairs : List Pair) (words : ℕ) (log : Log) : Type 0 where
+  -- the tree gives each key the value that the map after the changes has for it
   pub gives : (key : ℕ)
       → Gives (state_of pairs words log) key (fin.get (map_behind (map_of pairs) (changes_of pairs words log)) key)
   pub legal : AreLegal (map_of pairs) (changes_of pairs words log)

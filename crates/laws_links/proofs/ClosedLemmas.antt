@@ -51,8 +51,10 @@ pub record HasLinkedTarget (pairs : List Pair) (words : ℕ) (log : Log) (rebuil
 
 -- the row that the word leads to was linked
 pub record IsLinkedBehind (pairs : List Pair) (words : ℕ) (log : Log) (word : ℕ) : Type 0 where
+  -- an inner row that the word names was linked
   pub inner : (child : ℕ) → ref_of word ≡ Some (InnerAt child)
       → WasLinked (start pairs words) log child
+  -- a rebuild that the word names has a target that was linked
   pub target : (rebuild : ℕ) → ref_of word ≡ Some (RebuildAt rebuild)
       → HasLinkedTarget pairs words log rebuild
 

@@ -290,6 +290,7 @@ module _ (pairs : List Pair) (words : ℕ) (opens : CanOpen pairs words) where
       let same = as_many log in
       omega arith
 
+  -- progress is at most `most_progress`, whatever number of words the table has
   pub bounded : (log : Log) → EachEnabled (start pairs words) log → progress log ≤ most_progress
   bounded log h =
       let few = within_words log h in

@@ -32,7 +32,10 @@ AlikeEnough ps qs old new =
 
 -- each row is also in the second table, with such slots
 pub record IsAlikeEnough (ps qs : Pieces) : Type 0 where
+  -- a leaf is also in the second table
   pub leaf : (base : ℕ) (r : LeafRow) → ps base ≡ Some (Leaf r) → qs base ≡ Some (Leaf r)
+  -- an inner row is also there, with the same number of slots, each of which has leaves if the
+  -- first one's has
   pub row : (base : ℕ) (r : InnerRow) → ps base ≡ Some (Inner r)
       → (s : InnerRow) × (qs base ≡ Some (Inner s))
       × (length s.slots ≡ length r.slots) × AlikeEnough ps qs r.slots s.slots

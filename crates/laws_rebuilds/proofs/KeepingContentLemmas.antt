@@ -49,7 +49,10 @@ AlikeSlots ps qs old new =
 
 -- each row is also in the second table, with such slots
 pub record Alike (ps qs : Pieces) : Type 0 where
+  -- a leaf is also in the second table
   pub leaf : (base : ℕ) (r : LeafRow) → ps base ≡ Some (Leaf r) → qs base ≡ Some (Leaf r)
+  -- an inner row is also there, with the same number of slots, each of which has the leaves of
+  -- the first one's
   pub row : (base : ℕ) (r : InnerRow) → ps base ≡ Some (Inner r)
       → (s : InnerRow) × (qs base ≡ Some (Inner s))
       × (length s.slots ≡ length r.slots) × AlikeSlots ps qs r.slots s.slots

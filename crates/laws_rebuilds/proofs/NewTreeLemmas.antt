@@ -16,7 +16,9 @@ use Rattle.ist_core.proofs.ReferenceLemmas.{ref_of-unset}
 
 -- the leaves of one table are also in the other, and so are these inner rows
 pub record StandsIn (ps qs : Pieces) (rows : List ℕ) : Type 0 where
+  -- a leaf of the first is also in the second
   pub leaf : (base : ℕ) (r : LeafRow) → ps base ≡ Some (Leaf r) → qs base ≡ Some (Leaf r)
+  -- one of these inner rows is in the second as it is in the first
   pub inner : (base : ℕ) (r : InnerRow) → Among base rows → ps base ≡ Some (Inner r)
       → qs base ≡ Some (Inner r)
 
@@ -90,6 +92,7 @@ parts_set ps _ _ above _
 pub record StandsWhole (ps : Pieces) (base : ℕ) : Type 0 where
   pub row : InnerRow
   pub published : ps base ≡ Some (Inner row)
+  -- none of its slots is Unset
   pub set : (i : ℕ) → slice_get row.slots i ≢ Some unset_word
 
 mutual

@@ -88,6 +88,7 @@ module _ (xs ys : List ℕ) (long : 24 ≤ length xs) where
   pub count_front : count_told (xs ++ ys) ≡ count_told xs
   count_front = number_of_inside 8 xs ys (omega arith)
 
+  -- the number of used words is determined by the first bytes
   pub used_front : used_told (xs ++ ys) ≡ used_told xs
   used_front = number_of_inside 16 xs ys (omega arith)
 

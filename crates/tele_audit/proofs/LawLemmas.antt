@@ -87,6 +87,7 @@ module _ (table : List ℕ) (bounds : HasGoodBounds table)
       (sym (append-nil (flat_map number_bytes (used_words table))))
       ∙ numbers_of_bytes (used_words table) [] fit_used
 
+  -- the dump of a table gives the number of the table's used words
   pub used_back : used_told (dump_of table) ≡ word_at table next_place
   used_back =
       let low = bounds.low in

@@ -61,8 +61,10 @@ Contains-in_lists (xs ∷ more) (suc k) d x lt c =
 -- each part has only tasks of its lane, with strictly increasing lines
 pub record AreParts (workers : ℕ) (parts : List (List Task)) : Type 0 where
   pub len : length parts ≡ workers
+  -- the commands of part k have lane k
   pub of_lane : (k : ℕ) (d : List Task) → k < workers
       → All (λ t. lane_of workers t.command ≡ k) (get_or parts k d)
+  -- the lines of part k are strictly increasing
   pub rising : (k : ℕ) (d : List Task) → k < workers
       → IsStrictlyIncreasing (task_lines (get_or parts k d))
 

@@ -17,10 +17,13 @@ use Rattle.ist_core.proofs.ElementLemmas.{each-among}
 -- the calls belong to the entries, the first of which has this position
 pub record StandFrom (m : Map) (es : List Entry) (number from : ℕ)
     (calls : List Call) : Type 0 where
+  -- no call is before that position
   pub low : (call : Call) → Among call calls → from ≤ call.position
+  -- a call that changes the map is the entry at its position
   pub made : (call : Call) (j : ℕ) → Among call calls → is_change call ≡ true
       → call.position ≡ from + j
       → slice_get es j ≡ Some (entry_by number call)
+  -- another call is at a position within the entries, and has the reply of the map there
   pub read : (call : Call) (j : ℕ) → Among call calls → is_change call ≡ false
       → call.position ≡ from + j
       → (j ≤ length es) × (call.reply ≡ reply_to (map_at m es j) call.command)

@@ -46,6 +46,7 @@ module _ {X : Type 0} where
   pub record Others {Y : Type 0} (f : X → List Y) (l : List X) (i : ℕ) (u : X) : Type 0 where
     pub rest : List Y
     pub before : IsPermutation (flat_map f l) (f u ++ rest)
+    -- with another element in place of the one, it is what f makes of that one and this
     pub after : (w : X) → IsPermutation (flat_map f (set l i w)) (f w ++ rest)
 
   -- each element has such others

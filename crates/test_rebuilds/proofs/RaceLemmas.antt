@@ -151,6 +151,7 @@ module _ (old new : Caller) (rebuild target keys word : ℕ) (ref : Ref) (two : 
       root_topped (with_inners (now w).pieces p.rows) word 2 some.0 target (bases_of p.rows)
       (let n = some.2 in omega arith) root
 
+  -- the caller holds the one row of the root that it has built
   pub has_laid : HasLaid w new.number rebuild word
   has_laid =
       record {
@@ -206,6 +207,7 @@ module _ (v w : View) (number rebuild place word stood : ℕ) (s : IsSound v)
       record { later = g.later; lawful = goes_on_lawful v w g }
       (subst (λ t. IsShown t root_place unset_word) (goes_on_now v w g) shown)).enabled
 
+  -- and it has seen that the rebuild had no root yet
   pub has_built : HasBuilt w number rebuild word
   has_built =
       record {

@@ -32,9 +32,11 @@ the_one owner only es is e among own =
 -- a put, and a find after it
 module _ (put find : Call) (p : Pair) (key : ℕ) (put_is : put.command ≡ Put p.key p.value)
     (find_is : find.command ≡ Get key) where
+  -- the put changes the map
   pub changes : is_change put ≡ true
   changes = ap (λ c. makes_entry c put.reply) put_is
 
+  -- the find does not change the map
   pub reads : is_change find ≡ false
   reads = ap (λ c. makes_entry c find.reply) find_is
 
@@ -46,6 +48,7 @@ module _ (put find : Call) (p : Pair) (key : ℕ) (put_is : put.command ≡ Put 
       let few : filter is_change (put ∷ find ∷ []) ≡ put ∷ [] = rw changes (rw reads refl) in
       s.exactly ∙ ap (map (entry_by number)) few
 
+  -- each entry of their pass puts the pair
   pub puts_own : (m : Map) (es : List Entry) (number : ℕ)
       → StandAmong m es number (put ∷ find ∷ [])
       → (e : Entry) → Among e es → e.owner ≡ number → e.command ≡ Put p.key p.value
