@@ -1,5 +1,5 @@
 -- What the calls of this crate return, in terms of references and of the one relation between a
--- seat's views. Serves `calls`.
+-- caller's views. Serves `calls`.
 use Rattle.std.proofs.Common.{le_refl, ◌≡◌, ◌≢◌, ℕ, zero, suc, List, [], ◌∷◌, map, take, drop, Option, None, Some, refl, ap, sym, subst, ◌∙◌}
 use Rattle.ist_core.specs.declared.ports.Full.{Full}
 use Rattle.ist_core.specs.Ideals.{IsIdeal}
@@ -44,11 +44,11 @@ leaf_number (leaf ∷ leaves) (suc i) base e =
 
 -- ---- going on
 
--- a seat that built went on by events of builds
+-- a caller that built went on by events of builds
 pub built_went : (v w : View) → BuiltOn v w → WentOn Builds v w
 built_went v w b = laid_went Builds v w (built_put v w b)
 
--- a seat that puts a build in place makes only events of builds
+-- a caller that puts a build in place makes only events of builds
 pub put_went : (v w : View) → PutOn v w → WentOn Builds v w
 put_went v w b = laid_went Builds v w b
 

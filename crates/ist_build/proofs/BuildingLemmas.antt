@@ -29,7 +29,7 @@ use Rattle.ist_rows.specs.declared.callers.Caller.{Caller}
 use Rattle.ist_rows.specs.Rows.{IsCaller, IsFull, spares_of}
 use Rattle.ist_rows.specs.Building.{IsInBuild, IsNext, HasTaken, HasRefused}
 use Rattle.ist_build.specs.Laying.{BuiltOn, ArePlaced, HaveLeaves, IsLaid, IsDue, IsShort}
-use Rattle.ist_build.specs.Midway.{words_at, AreLaid, lens_from, IsOpened, IsMidway, IsRowRefused}
+use Rattle.ist_build.specs.Midway.{words_at, AreLaid, lens_from, IsOpened, IsMidway, IsTopRowRefused}
 use Rattle.ist_build.proofs.BuiltLemmas.{built_more, loads_built}
 use Rattle.ist_build.proofs.TogetherLemmas.{laid_top}
 use Rattle.ist_build.proofs.MidwayLemmas.{part_placed, length-share_of}
@@ -112,7 +112,7 @@ full_built v words size full w f =
 pub row_refused : (old new : Caller) (words n d : ℕ) (full : Full) → 2 ≤ n → d ≡ degree n
     → IsCaller new → new.number ≡ old.number → spares_of new ≡ spares_of old
     → IsFull old.seat.view words (inner_words d) full new.seat.view → HasRefused new
-    → IsRowRefused old words n full new
+    → IsTopRowRefused old words n full new
 row_refused old new words n d full two same caller number rows f refused =
     record {
       caller = caller;

@@ -1,4 +1,4 @@
--- What a seat does while it builds. Serves `building` and `parts`.
+-- What a caller does while it builds. Serves `building` and `parts`.
 use Rattle.std.proofs.Common.{inl, inr, ◌≡◌, ℕ, ◌<◌, ◌≤◌, List, [], ◌∷◌, Some, refl, sym, ap, ◌∙◌, subst, arith}
 use Rattle.ist_core.specs.declared.events.Event.{Event}
 use Rattle.ist_core.specs.declared.events.Event.TheVariants.{Reserve}
@@ -76,7 +76,7 @@ built_now = laid_now Reserves
 pub built_lawful : (v w : View) → BuiltOn v w → Lawful v.start v.words w.log
 built_lawful = laid_lawful Reserves
 
--- a build keeps the seat's author
+-- a build keeps the caller's author
 pub built_who : (v w : View) → BuiltOn v w → w.who ≡ v.who
 built_who = laid_who Reserves
 
@@ -109,11 +109,11 @@ built_same v s = laid_same Reserves v s
 pub built_more : (u v w : View) → BuiltOn u v → BuiltOn v w → BuiltOn u w
 built_more = laid_more Reserves
 
--- a seat that went on by loads has built on
+-- a caller that went on by loads has built on
 pub loads_built : (v w : View) → GoesOnTo v w → BuiltOn v w
 loads_built = goes_on_laid Reserves
 
--- a seat that reserved a row has built on
+-- a caller that reserved a row has built on
 pub reserved_built : (v : View) (number base size : ℕ) (w : View) → Reserved v number base size w
     → BuiltOn v w
 reserved_built v number base size w r =

@@ -1,5 +1,5 @@
--- What a caller holds while it reserves, and the words that it stored there. Serves the calls that put
--- a build in place.
+-- What a caller holds while it reserves, and the words that it stored there. Serves the calls that
+-- put a build in place.
 use Rattle.std.proofs.Common.{◌≡◌, ◌≢◌, ℕ, suc, ◌+◌, ◌<◌, ◌≤◌, ◌==◌, slice_get, true, if◌then◌else◌, List, [], ◌∷◌, ◌++◌, length, map, Some, refl, sym, ap, ap₂, ◌∙◌, subst, inl, inr, ⊎_elim, append-nil, append_assoc, arith}
 use Rattle.std.proofs.lemmas.Bool.Decides.{eqb_tells}
 use Rattle.std.proofs.lemmas.List.{map-append}
@@ -137,7 +137,7 @@ cancel (x ∷ xs) ys zs e = cancel xs ys zs (tail (xs ++ ys) (xs ++ zs) e)
     tail : (ms bs : List ℕ) → x ∷ ms ≡ x ∷ bs → ms ≡ bs
     tail ms bs f = cc
 
--- words that a seat stored one after another
+-- words that a caller stored one after another
 words_stored : (own : List OwnWord) (place : ℕ) (words : List ℕ)
     → ((k : ℕ) → k < length words → slice_get words k ≡ Some (own_at own (place + k)))
     → words_at own place (length words) ≡ words
@@ -153,7 +153,7 @@ words_stored own place (x ∷ xs) h =
         ap (own_at own) (let q : place ≡ place + 0 = omega arith in q)
         ∙ (let same : own_at own (place + 0) ≡ x = cc in same)
 
--- the rows that a seat stored, by what it holds there
+-- the rows that a caller stored, by what it holds there
 pub stored_rows : (w : View) (number : ℕ) → IsSound w → (rows : List Row) (fresh : List HeldRow)
     → bases_of rows ≡ map (λ h. h.base) fresh → StoredAll w rows → HoldsRows (now w) number rows
     → ((h : HeldRow) → Among h fresh → Among h (now w).held)

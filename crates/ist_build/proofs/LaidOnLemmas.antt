@@ -1,4 +1,4 @@
--- How a seat goes on while its caller lays rows of its own: the same for each kind of event that it
+-- How a caller goes on while it lays rows of its own: the same for each kind of event that it
 -- makes meanwhile. Serves `BuiltOn` and `PutOn`.
 use Rattle.std.proofs.Common.{◌≡◌, ℕ, ◌+◌, ◌≤◌, List, ◌∷◌, refl, sym, ap, ap₂, ◌∙◌, subst, inr, le_refl, arith}
 use Rattle.std.proofs.Math.Nat.{le_trans}
@@ -41,7 +41,7 @@ module _ (P : Event → Type 0) (v w : View) (b : LaidOn P v w) where
       subst (λ p. Lawful p v.words w.log) (ap (λ x. x.start) b.same)
       (subst (λ n. Lawful w.start n w.log) (ap (λ x. x.words) b.same) b.sound.lawful)
 
-  -- the seat is still the same one's
+  -- the caller is still the same one's
   pub laid_who : w.who ≡ v.who
   laid_who = ap (λ x. x.who) b.same
 

@@ -111,7 +111,7 @@ module _ (pairs : List Pair) (words : ℕ) (log : Log) (enabled : EachEnabled (s
       (shown_row node (Inner h.row) offset h.published
       (get-words_of_slot h.row i ∙ slice_get-get_or h.row.slots i 0 within))
 
-  -- all seats may read the slot's word, after each longer log too
+  -- all callers may read the slot's word, after each longer log too
   pub slot_fast : IsFast t (slot_place node d i)
   slot_fast =
       let both = length-append h.row.keys h.row.slots in

@@ -1,4 +1,4 @@
--- What a seat does while its caller builds and puts in place. Serves `root`.
+-- What a caller does while it builds and puts in place. Serves `root`.
 use Rattle.std.proofs.Common.{le_refl, ◌≡◌, ℕ, ◌≤◌}
 use Rattle.ist_core.specs.declared.events.Event.{Event}
 use Rattle.ist_core.specs.declared.events.Event.TheVariants.{Reserve}
@@ -23,7 +23,7 @@ put_now = laid_now Builds
 pub put_lawful : (v w : View) → PutOn v w → Lawful v.start v.words w.log
 put_lawful = laid_lawful Builds
 
--- the author of the seat stays
+-- the author of the caller stays
 pub put_who : (v w : View) → PutOn v w → w.who ≡ v.who
 put_who = laid_who Builds
 
@@ -44,15 +44,15 @@ builds_reserving : (event : Event) → Reserves event → Builds event
 builds_reserving (Reserve c base size) is = tt
 builds_reserving _ is = absurd is
 
--- a seat that only reserved has put on
+-- a caller that only reserved has put on
 pub built_put : (v w : View) → BuiltOn v w → PutOn v w
 built_put = laid_all Reserves Builds builds_reserving
 
--- a seat that made loads has put on
+-- a caller that made loads has put on
 pub loads_put : (v w : View) → GoesOnTo v w → PutOn v w
 loads_put = goes_on_laid Builds
 
--- a seat that did nothing has put on
+-- a caller that did nothing has put on
 pub put_same : (v : View) → IsSound v → PutOn v v
 put_same v s = built_put v v (built_same v s)
 

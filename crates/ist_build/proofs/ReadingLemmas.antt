@@ -124,7 +124,7 @@ module _ (v w : View) (s : IsSound v) (g : GoesOnTo v w) (node degree : ℕ)
       (λ k x e. subst (λ m. SlotHolds (now w) node m x) (let q : i + suc k ≡ i + 1 + k = omega arith in q) (b (suc k) x e))
       more)
 
-  -- the leaves from slot i on are the same after the seat went on
+  -- the leaves from slot i on are the same after the caller went on
   pub from_on : (i : ℕ) (leaves : List PlacedLeaf) → i ≤ degree → SlotsFrom (now v) node i leaves
       → SlotsFrom (now w) node i leaves
   from_on i leaves le f =

@@ -1,4 +1,5 @@
--- A seat that reserved rows at one step has built on, and where the rows lie. Serves `build_at_once`.
+-- A caller that reserved rows at one step has built on, and where the rows lie. Serves
+-- `build_at_once`.
 use Rattle.std.proofs.Common.{◌≡◌, ℕ, ◌+◌, ◌≤◌, List, [], ◌∷◌, length, sym, ap, ◌∙◌, subst, inr, arith}
 use Rattle.ist_core.specs.declared.events.Event.{Event}
 use Rattle.ist_core.specs.declared.events.Who.{Who}
@@ -24,7 +25,7 @@ later_all : {who : Who} {P : Event → Type 0} {a : Log} (events : List Event) (
 later_all [] log l h = l
 later_all (event ∷ more) log l h = later_all more (event ∷ log) (one_more event l (inr h.0)) h.1
 
--- a seat laid on by several events
+-- a caller laid on by several events
 pub logged_all_laid : (P : Event → Type 0) (v : View) (events : List Event) (w : View)
     → LoggedAll v events w → Each P events → made_behind_all events v.made ≡ v.made → LaidOn P v w
 logged_all_laid P v events w l is made =
@@ -50,7 +51,7 @@ are_reservings : (number base : ℕ) (sizes : List ℕ) → Each Reserves (reser
 are_reservings number base [] = tt
 are_reservings number base (size ∷ more) = (tt, are_reservings number (base + size) more)
 
--- a seat that reserved rows at one step has built on
+-- a caller that reserved rows at one step has built on
 pub reserved_all_built : (v : View) (number base : ℕ) (sizes : List ℕ) (w : View)
     → ReservedAll v number base sizes w → BuiltOn v w
 reserved_all_built v number base sizes w r =
@@ -61,7 +62,7 @@ reserved_all_built v number base sizes w r =
 -- where the rows lie: from the first free word on, and their words are 0
 pub record IsFreshBlock (v : View) (base : ℕ) (w : View) : Type 0 where
   pub high : (now v).next ≤ base
-  -- the seat's own word at each place from the first row on is 0
+  -- the caller's own word at each place from the first row on is 0
   pub zero_words : (place : ℕ) → base ≤ place → own_at w.own place ≡ 0
 
 -- rows reserved at one step are a fresh block

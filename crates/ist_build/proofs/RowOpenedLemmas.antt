@@ -40,7 +40,7 @@ holds_place who base d at held less = record { size = inner_words d; held = held
 pub record IsFreshRow (v : View) (number base size : ℕ) (w : View) : Type 0 where
   pub high : (now v).next ≤ base
   pub held : HoldsRow (now w) number base size
-  -- the seat's own word at each place from the row's base on is 0
+  -- the caller's own word at each place from the row's base on is 0
   pub zero_words : (place : ℕ) → base ≤ place → own_at w.own place ≡ 0
 
 -- a reserved row is a fresh row

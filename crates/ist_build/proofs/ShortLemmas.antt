@@ -6,7 +6,7 @@ use Rattle.ist_rule.specs.declared.view.View.{View}
 use Rattle.ist_rows.proofs.ShortLemmas.{short_from}
 use Rattle.ist_build.specs.Laying.{IsShortFor}
 
--- too few words were left since one view, so they were since another from which the seat came
+-- too few words were left since one view, so they were since another from which the caller came
 -- there, and for a row over more keys
 pub short_for_more : (S T : View → View → Type 0) (u v : View) → ((x : View) → S v x → T u x)
     → (words keys more : ℕ) (full : Full) (w : View) → keys ≤ more

@@ -27,7 +27,8 @@ pub record HasKeys (t : Snapshot) (target least : ℕ) : Type 0 where
   pub finished : IsFinishedWith t target k
   pub enough : least ≤ k
 
--- the `len` leaves from number `start` on are a whole target with few keys, or a part of one with many
+-- the `len` leaves from number `start` on are a whole target with few keys, or a part of one with
+-- many
 pub data IsShare (k start len : ℕ) : Type 0 where
   share_whole : k < share_from → start ≡ 0 → len ≡ k → IsShare k start len
   share_part : (j : ℕ) → share_from ≤ k → j < degree k → start ≡ part_start k j → len ≡ part_len k j
@@ -62,7 +63,7 @@ pub record IsRooted (t : Snapshot) (rebuild : ℕ) : Type 0 where
   pub published : t.pieces rebuild ≡ Some (Rebuild row)
   pub set : row.root ≢ unset_word
 
--- ---- what the seat does
+-- ---- what the caller does
 
 -- the event belongs to a build: a reservation, a draw, or what puts the build in place or loses it
 abbrev pub Builds : Event → Type 0
@@ -81,8 +82,8 @@ pub record IsLeafAmong (leaves : List PlacedLeaf) (i : ℕ) (ref : Ref) : Type 0
   pub there : slice_get leaves i ≡ Some leaf
   pub ref_is : ref ≡ LeafAt leaf.base
 
--- the reference is the ideal subtree over these leaves, in rows that the caller took since its earlier
--- state: above each row that was published then
+-- the reference is the ideal subtree over these leaves, in rows that the caller took since its
+-- earlier state: above each row that was published then
 pub record IsPartLaid (old new : Caller) (ref : Ref) (leaves : List PlacedLeaf) : Type 0 where
   pub rows : List Row
   pub owns : OwnsRows new.seat.view new.number (now old.seat.view).next rows
@@ -103,7 +104,7 @@ pub record IsBuiltOut (t : Snapshot) (rebuild : ℕ) : Type 0 where
   pub built : IsBuilt t row.root
 
 -- too few words are left for a row over at least two keys and no more than `keys`; until then the
--- seat made only steps of building
+-- caller made only steps of building
 abbrev pub IsOutOfWords : View → ℕ → ℕ → Full → View → Type 0
 IsOutOfWords v words keys full w = IsShortFor (WentOn Builds) v words keys full w
 

@@ -1,4 +1,4 @@
--- Ideal subtrees in rows that a caller holds, and what its seat does while it builds them.
+-- Ideal subtrees in rows that a caller holds, and what it does while it builds them.
 use Rattle.std.specs.Prelude.{◌≡◌, ℕ, ◌+◌, ◌<◌, ◌≤◌, List, [], ◌∷◌, ◌++◌, length, map, replicate, Some}
 use Rattle.ist_core.specs.declared.events.Event.{Event}
 use Rattle.ist_core.specs.declared.events.Event.TheVariants.{Reserve}
@@ -27,15 +27,15 @@ use Rattle.ist_rows.specs.declared.callers.Caller.{Caller}
 use Rattle.ist_rows.specs.Building.{IsInBuild, sizes_built}
 use Rattle.ist_core.specs.Authors.{LaterBy}
 
--- ---- what the seat does
+-- ---- what the caller does
 
 -- the event is a reservation
 abbrev pub Reserves : Event → Type 0
 Reserves (Reserve caller base size) = Unit {0}
 Reserves _ = ⊥
 
--- from v to w the seat has only made loads, made events for which P holds, and stored words into rows
--- that it reserved since
+-- from v to w the caller has only made loads, made events for which P holds, and stored words into
+-- rows that it reserved since
 pub record LaidOn (P : Event → Type 0) (v w : View) : Type 0 where
   pub later : LaterBy v.who P v.log w.log
   pub sound : IsSound w
@@ -82,7 +82,8 @@ abbrev pub Rises : List ℕ → Type 0
 Rises [] = Unit {0}
 Rises (x ∷ xs) = Each (λ y. x < y) xs × Rises xs
 
--- the caller holds these rows, which lie from `low` on in their order, with the words that it stored
+-- the caller holds these rows, which lie from `low` on in their order, with the words that it
+-- stored
 pub record OwnsRows (w : View) (number low : ℕ) (rows : List Row) : Type 0 where
   pub stored : StoredAll w rows
   pub held : HoldsRows (now w) number rows
@@ -112,8 +113,8 @@ pub record IsTopLaid (w : View) (number low word : ℕ) (leaves : List PlacedLea
   pub unset : row.slots ≡ replicate (degree (length leaves)) unset_word
   pub one : bases_of rows ≡ base ∷ []
 
--- the word is a root over these leaves of a target with k keys, in rows that the caller took since its
--- earlier state; its other rows are the ones that it had then
+-- the word is a root over these leaves of a target with k keys, in rows that the caller took since
+-- its earlier state; its other rows are the ones that it had then
 pub record IsRootLaid (old new : Caller) (target k word : ℕ) (leaves : List PlacedLeaf) : Type 0 where
   pub rows : List Row
   pub owns : OwnsRows new.seat.view new.number (now old.seat.view).next rows
@@ -130,7 +131,7 @@ pub record IsDue (who : Caller) (keys : ℕ) : Type 0 where
   pub at : IsInBuild who stuck done (shape keys ++ rest)
 
 -- too few words are left for a row over at least two keys and no more than `keys`; until then the
--- seat went on as `Seen` says
+-- caller went on as `Seen` says
 pub record IsShortFor (Seen : View → View → Type 0) (v : View) (words keys : ℕ) (full : Full)
     (w : View) : Type 0 where
   pub short : RanShort Seen v words full w
@@ -139,7 +140,7 @@ pub record IsShortFor (Seen : View → View → Type 0) (v : View) (words keys :
   pub few : some ≤ keys
   pub asked : full.asked ≡ inner_words (degree some)
 
--- the same for a seat that built until then
+-- the same for a caller that built until then
 abbrev pub IsShort : View → ℕ → ℕ → Full → View → Type 0
 IsShort v words keys full w = IsShortFor BuiltOn v words keys full w
 

@@ -70,7 +70,7 @@ pub record IsMidway (old : Caller) (leaves : List ℕ) (base d j : ℕ) (who : C
 
 -- since its earlier state the caller has only made loads: too few words are left for the row over these
 -- keys, and each build of which it holds rows was refused
-pub record IsRowRefused (old : Caller) (words keys : ℕ) (full : Full) (who : Caller) : Type 0 where
+pub record IsTopRowRefused (old : Caller) (words keys : ℕ) (full : Full) (who : Caller) : Type 0 where
   pub caller : IsCaller who
   pub number : who.number ≡ old.number
   pub rows : spares_of who ≡ spares_of old

@@ -1,4 +1,4 @@
--- What a caller's seat does while it builds, and puts in place what it has built.
+-- What a caller does while it builds, and puts in place what it has built.
 use Rattle.std.specs.Prelude.{◌≡◌, ◌≢◌, ℕ, ◌≤◌, Some}
 use Rattle.ist_core.specs.declared.ports.Full.{Full}
 use Rattle.ist_core.specs.declared.states.InnerRow.{InnerRow}
@@ -15,10 +15,10 @@ use Rattle.ist_rule.specs.Learning.{now}
 use Rattle.ist_build.specs.Calls.{Builds, IsTold}
 use Rattle.ist_build.specs.Laying.{LaidOn, IsShortFor}
 
--- ---- what the seat does
+-- ---- what the caller does
 
--- from the first view to the second the seat has only made loads, made events of builds, and stored
--- words into rows that it reserved since
+-- from the first view to the second the caller has only made loads, made events of builds, and
+-- stored words into rows that it reserved since
 abbrev pub PutOn : View → View → Type 0
 PutOn = LaidOn Builds
 
@@ -45,8 +45,8 @@ pub record IsSlotSet (t : Snapshot) (node i : ℕ) : Type 0 where
   pub holds : SlotHolds t node i word
   pub set : word ≢ unset_word
 
--- the rebuild is started, its target is finished with enough keys for a shared root, and this is the
--- root, with a slot for each part
+-- the rebuild is started, its target is finished with enough keys for a shared root, and this is
+-- the root, with a slot for each part
 pub record IsShared (t : Snapshot) (rebuild target root k : ℕ) : Type 0 where
   pub row : RebuildRow
   pub published : t.pieces rebuild ≡ Some (Rebuild row)
@@ -60,7 +60,7 @@ pub record IsShared (t : Snapshot) (rebuild target root k : ℕ) : Type 0 where
 -- ---- refusals
 
 -- too few words are left for a row over no more keys than the target of the rebuild has; until then
--- the seat put on
+-- the caller put on
 pub record IsStopped (v : View) (rebuild words : ℕ) (full : Full) (w : View) : Type 0 where
   pub k : ℕ
   pub told : IsTold (now v) rebuild k

@@ -11,7 +11,7 @@ ghost use Rattle.ist_rows.specs.Rows.{IsCaller, spares_of};
 ghost use Rattle.ist_rows.specs.Building.{HasRefused, sizes_built};
 ghost use Rattle.ist_build.specs.Calls.{HasKeys};
 ghost use Rattle.ist_build.specs.Laying.{BuiltOn, IsTopLaid, IsTarget, IsShort};
-ghost use Rattle.ist_build.specs.Midway.{IsTopMidway, IsRowRefused};
+ghost use Rattle.ist_build.specs.Midway.{IsTopMidway, IsTopRowRefused};
 
 use crate::building::{key_of, open_row, set_part};
 use crate::descent::leaf_base;
@@ -55,7 +55,7 @@ fn begin_top(
     requires small { degree < place_limit }
     ensures same_table { who.new.seat.table ≡ table.now.table }
     ensures begun { IfOk result (λ base. IsTopMidway who.old target keys base degree 0 who.new) }
-    ensures refused { IfErr result (λ full. IsRowRefused who.old (word_count_of table.now) keys full
+    ensures refused { IfErr result (λ full. IsTopRowRefused who.old (word_count_of table.now) keys full
         who.new) }
 {
     know(&who.seat);

@@ -15,7 +15,7 @@ use Rattle.ist_c.specs.declared.held.Held.TheVariants as of
 use Rattle.ist_c.specs.declared.owners.TreeOwner.{TreeOwner}
 use Rattle.ist_c.specs.declared.passes.TreePass.{TreePass}
 use Rattle.ist_c.specs.Results.{done, memory, busy, misuse, full, reply_of, full_of}
-use Rattle.ist_c.specs.Calls.{HasNotCalled, Finds, Updates, pass_finds, pass_updates, pass_refused}
+use Rattle.ist_c.specs.Calls.{HasNotCalled, FindsBy, UpdatesBy, pass_finds, pass_updates, pass_refused}
 use Rattle.ist_c.specs.Leaving.{AreLeft}
 use Rattle.ist_c.specs.Closing.{Closes, listed, lost, is_busy, no_owner}
 
@@ -25,9 +25,9 @@ use Rattle.ist_c.specs.Closing.{Closes, listed, lost, is_busy, no_owner}
 pub found : (held : Held) (p q : TreePass) (key : ℕ) (reply : Option ℕ) (said : CallResult)
     → held ≡ of.Pass p → arc_value q.tree ≡ arc_value p.tree → HasSeenMore p.pass q.pass
     → AddsCall p.pass q.pass (Get key) reply → said.status ≡ done
-    → reply_of said.some said.value ≡ reply → Finds held (of.Pass q) key said
+    → reply_of said.some said.value ≡ reply → FindsBy held (of.Pass q) key said
 found held p q key reply said is tree seen added status says =
-    subst (λ (h : Held). Finds h (of.Pass q) key said) (sym is)
+    subst (λ (h : Held). FindsBy h (of.Pass q) key said) (sym is)
     (pass_finds p q key said status (record {
       same_tree = tree;
       seen = seen;
@@ -41,12 +41,12 @@ pub updated : (held : Held) (p q : TreePass) (key : ℕ) (value : Option ℕ)
     → HasSeenMore p.pass q.pass
     → IfOk result (λ r. AddsCall p.pass q.pass (command_for key value) r) → said.status ≡ done
     → reply_of said.some said.value ≡ reply
-    → Updates held (of.Pass q) key value said short short
+    → UpdatesBy held (of.Pass q) key value said short short
 updated held p q key value result reply said short is ok tree seen added status says =
     let command = command_for key value in
     let it : AddsCall p.pass q.pass command reply =
     subst (λ (r : Result (Option ℕ) Full). IfOk r (λ r. AddsCall p.pass q.pass command r)) ok added in
-    subst (λ (h : Held). Updates h (of.Pass q) key value said short short) (sym is)
+    subst (λ (h : Held). UpdatesBy h (of.Pass q) key value said short short) (sym is)
     (pass_updates p q key value said short status (record {
       same_tree = tree;
       seen = seen;
@@ -75,9 +75,9 @@ pub was_refused : (held : Held) (p q : TreePass) (key : ℕ) (value : Option ℕ
     → held ≡ of.Pass p → result ≡ Err numbers → arc_value q.tree ≡ arc_value p.tree
     → HasSeenMore p.pass q.pass → IfErr result (λ f. IsRefused p.pass q.pass key value f)
     → OnErr result (q.pass.calls ≡ p.pass.calls) → said.status ≡ full → full_of short ≡ numbers
-    → Updates held (of.Pass q) key value said before short
+    → UpdatesBy held (of.Pass q) key value said before short
 was_refused held p q key value result numbers said before short is err tree seen cause calls status says =
-    subst (λ (h : Held). Updates h (of.Pass q) key value said before short) (sym is)
+    subst (λ (h : Held). UpdatesBy h (of.Pass q) key value said before short) (sym is)
     (pass_refused p q key value said before short status
     (not_called p q key value result numbers short err tree seen cause calls says))
 

@@ -7,7 +7,7 @@ use Rattle.ist_c.specs.declared.held.Held.TheVariants as of
 use Rattle.ist_c.specs.declared.owners.TreeOwner.{TreeOwner}
 use Rattle.ist_c.specs.declared.passes.TreePass.{TreePass}
 use Rattle.ist_c.specs.Results.{done, memory}
-use Rattle.ist_c.specs.Passes.{HasMade, HasTaken, Makes, TakesBack, makes_pass, makes_none, takes_pass}
+use Rattle.ist_c.specs.Passes.{HasMade, HasTakenBack, Makes, TakesBack, makes_pass, makes_none, takes_pass}
 
 -- a handle of an owner that made a pass still holds the owner, and the other handle the pass
 pub made_one : (held : Held) (o q : TreeOwner) (p : TreePass) (before out : Handle)
@@ -25,7 +25,7 @@ made_none held o q out is tree same =
 
 -- a handle of an owner that took a pass back still holds the owner
 pub took_one : (held given : Held) (o q : TreeOwner) (p : TreePass) → held ≡ of.Owner o
-    → given ≡ of.Pass p → HasTaken o q p → TakesBack held (of.Owner q) given done
+    → given ≡ of.Pass p → HasTakenBack o q p → TakesBack held (of.Owner q) given done
 took_one held given o q p is pass taken =
     subst (λ (h : Held). TakesBack h (of.Owner q) given done) (sym is)
     (subst (λ (g : Held). TakesBack (of.Owner o) (of.Owner q) g done) (sym pass) (takes_pass o q p taken))

@@ -35,25 +35,25 @@ pub record HasNotCalled (p q : TreePass) (key : ℕ) (value : Option ℕ) (numbe
 
 -- a handle of a pass holds this pass still, which made a get with the reply in the result; a handle of
 -- something else is as before
-pub data Finds : Held → Held → ℕ → CallResult → Type 0 where
+pub data FindsBy : Held → Held → ℕ → CallResult → Type 0 where
   pass_finds : (p q : TreePass) (key : ℕ) (said : CallResult) → said.status ≡ done
       → HasCalled p q (Get key) (reply_of said.some said.value)
-      → Finds (of.Pass p) (of.Pass q) key said
+      → FindsBy (of.Pass p) (of.Pass q) key said
   none_finds : (held : Held) (key : ℕ) (said : CallResult) → said.status ≡ misuse
-      → Finds held held key said
+      → FindsBy held held key said
 
 -- a handle of a pass holds this pass still, which made a put of the value, or a remove if there is none,
 -- with the reply in the result, or was refused, and then the numbers are there; a handle of something
 -- else is as before
-pub data Updates : Held → Held → ℕ → Option ℕ → CallResult → Shortage → Shortage → Type 0 where
+pub data UpdatesBy : Held → Held → ℕ → Option ℕ → CallResult → Shortage → Shortage → Type 0 where
   pass_updates : (p q : TreePass) (key : ℕ) (value : Option ℕ) (said : CallResult) (short : Shortage)
       → said.status ≡ done → HasCalled p q (command_for key value) (reply_of said.some said.value)
-      → Updates (of.Pass p) (of.Pass q) key value said short short
+      → UpdatesBy (of.Pass p) (of.Pass q) key value said short short
   pass_refused : (p q : TreePass) (key : ℕ) (value : Option ℕ) (said : CallResult) (before short : Shortage)
       → said.status ≡ full → HasNotCalled p q key value (full_of short)
-      → Updates (of.Pass p) (of.Pass q) key value said before short
+      → UpdatesBy (of.Pass p) (of.Pass q) key value said before short
   none_updates : (held : Held) (key : ℕ) (value : Option ℕ) (said : CallResult) (short : Shortage)
-      → said.status ≡ misuse → Updates held held key value said short short
+      → said.status ≡ misuse → UpdatesBy held held key value said short short
 
 -- ---- two handles of one tree
 

@@ -19,7 +19,7 @@ pub record HasMade (o q : TreeOwner) (p : TreePass) : Type 0 where
   pub taken : q.maker.taken ≡ o.maker.taken
 
 -- the owner is of the same tree, and took this pass back with its calls
-pub record HasTaken (o q : TreeOwner) (p : TreePass) : Type 0 where
+pub record HasTakenBack (o q : TreeOwner) (p : TreePass) : Type 0 where
   pub same_tree : arc_value q.tree ≡ arc_value o.tree
   pub made : q.maker.made ≡ o.maker.made
   pub taken : q.maker.taken ≡ calls_in p.pass ∷ o.maker.taken
@@ -37,6 +37,6 @@ pub data Makes : Held → Held → Handle → Handle → ℕ → Type 0 where
 -- a handle of an owner holds it still, and it took the pass back, if that is one; a handle of something
 -- else is as before
 pub data TakesBack : Held → Held → Held → ℕ → Type 0 where
-  takes_pass : (o q : TreeOwner) (p : TreePass) → HasTaken o q p
+  takes_pass : (o q : TreeOwner) (p : TreePass) → HasTakenBack o q p
       → TakesBack (of.Owner o) (of.Owner q) (of.Pass p) done
   takes_none : (held given : Held) → TakesBack held held given misuse

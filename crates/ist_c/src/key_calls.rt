@@ -1,15 +1,15 @@
 //! The exports that find and update a key by a pass.
 ghost use Rattle.std.specs.Prelude.{◌≡◌, true, Some, None};
-ghost use Rattle.ist_c.specs.Calls.{Finds, Updates};
+ghost use Rattle.ist_c.specs.Calls.{FindsBy, UpdatesBy};
 
 use crate::handles::Handle;
 use crate::held::Held;
 use crate::results::{CallResult, Shortage, misused, refused, replied};
 use std::alloc::Global;
 
-// Finds the key by the pass.
+// FindsBy the key by the pass.
 fn find_in(held: &mut Held, key: u64) -> CallResult
-    ensures finds { Finds held.old held.new key result }
+    ensures finds { FindsBy held.old held.new key result }
 {
     match held {
         Held::Pass(pass) => replied(pass.find(key)),
@@ -17,12 +17,12 @@ fn find_in(held: &mut Held, key: u64) -> CallResult
     }
 }
 
-/// Finds the key by the pass.
+/// FindsBy the key by the pass.
 #[unsafe(no_mangle)]
 pub extern "C" fn ist_find(alloc: Global, pass: &mut Handle, key: u64) -> CallResult
     ensures full { pass.new.full ≡ pass.old.full }
     ensures finds { pass.old.full ≡ true
-        → Finds pass.old.opaque.value pass.new.opaque.value key result }
+        → FindsBy pass.old.opaque.value pass.new.opaque.value key result }
 {
     match pass.open(alloc) {
         Some(mut held) => {
@@ -36,7 +36,7 @@ pub extern "C" fn ist_find(alloc: Global, pass: &mut Handle, key: u64) -> CallRe
 
 // Puts the value at the key by the pass, or removes the key if there is no value.
 fn update_in(held: &mut Held, key: u64, value: Option<u64>, short: &mut Shortage) -> CallResult
-    ensures updates { Updates held.old held.new key value result short.old short.new }
+    ensures updates { UpdatesBy held.old held.new key value result short.old short.new }
 {
     match held {
         Held::Pass(pass) => match pass.update(key, value) {
@@ -56,7 +56,7 @@ fn update(
     short: &mut Shortage,
 ) -> CallResult
     ensures full { pass.new.full ≡ pass.old.full }
-    ensures updates { pass.old.full ≡ true → Updates pass.old.opaque.value
+    ensures updates { pass.old.full ≡ true → UpdatesBy pass.old.opaque.value
         pass.new.opaque.value key value result short.old short.new }
 {
     match pass.open(alloc) {
@@ -80,7 +80,7 @@ pub extern "C" fn ist_put(
     short: &mut Shortage,
 ) -> CallResult
     ensures full { pass.new.full ≡ pass.old.full }
-    ensures updates { pass.old.full ≡ true → Updates pass.old.opaque.value
+    ensures updates { pass.old.full ≡ true → UpdatesBy pass.old.opaque.value
         pass.new.opaque.value key (Some value) result short.old short.new }
 {
     update(alloc, pass, key, Some(value), short)
@@ -95,7 +95,7 @@ pub extern "C" fn ist_remove(
     short: &mut Shortage,
 ) -> CallResult
     ensures full { pass.new.full ≡ pass.old.full }
-    ensures updates { pass.old.full ≡ true → Updates pass.old.opaque.value
+    ensures updates { pass.old.full ≡ true → UpdatesBy pass.old.opaque.value
         pass.new.opaque.value key None result short.old short.new }
 {
     update(alloc, pass, key, None, short)

@@ -1,4 +1,4 @@
--- How a seat gets what an install or a help asks: from a call that it began, from a node that it
+-- How a caller gets what an install or a help asks: from a call that it began, from a node that it
 -- saw open, from a word that it met in a slot. Serves the crates above.
 use Rattle.std.proofs.Common.{◌≡◌, ℕ, [], ◌∷◌, length, Option, Some, None, refl, sym, ap, ◌∙◌, subst, inl, inr, arith}
 use Rattle.ist_core.specs.declared.commands.Command.{Command}

@@ -1,4 +1,4 @@
--- Deciding: when it may be made, and what it lets its seat know. Serves `decide`.
+-- Deciding: when it may be made, and what it lets it know. Serves `decide`.
 use Rattle.std.proofs.Common.{◌≡◌, ◌≢◌, ℕ, ◌+◌, ◌<◌, ◌⊎◌, ◌&&◌, ◌==◌, Bool, true, false, if◌then◌else◌, Some, None, refl, sym, ap, ap₂, ◌∙◌, subst, inl, inr, arith}
 use Rattle.std.proofs.lemmas.Bool.Decides.{eqb_tells}
 use Rattle.ist_core.specs.declared.states.InnerRow.{InnerRow}
@@ -140,7 +140,7 @@ not_named : {A : Type 0} (b : Bool) (x : A) → (if b then Some x else None) ≡
 not_named true x e = absurd (cc)
 not_named false x e = refl
 
--- a seat that loaded the status helped
+-- a caller that loaded the status helped
 pub okay_went : (v : View) (change place word : ℕ) (w : View)
     → LoadedAs v (okay_of v change) place word w → WentOn (Serves change) v w
 okay_went v change place word w (as_event event l named) =

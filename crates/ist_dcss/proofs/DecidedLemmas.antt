@@ -28,7 +28,7 @@ said_set false e = let two : ◌≡◌ {A = ℕ} 2 0 = e in omega arith
 
 -- ---- what the exchange of the decision says
 
--- a seat that exchanged the decision helped, and the change has the decision that holds
+-- a caller that exchanged the decision helped, and the change has the decision that holds
 pub decide_tells : (v : View) (change number : ℕ) (said : Bool) (place stood : ℕ) (w : View)
     (row : ChangeRow) → (now v).pieces change ≡ Some (Change row)
     → place ≡ change + change_decision_offset

@@ -86,7 +86,7 @@ field_is v change offset word i f at stays w h row there =
 
 -- ---- the place of a slot
 
--- what a seat needs of the inner row in which a slot lies
+-- what a caller needs of the inner row in which a slot lies
 pub record HasPlace (v : View) (node i : ℕ) : Type 0 where
   pub row : InnerRow
   pub published : (now v).pieces node ≡ Some (Inner row)

@@ -1,4 +1,4 @@
--- An installed change stays installed, and who might help it may help it, as seats go on. Serves
+-- An installed change stays installed, and who might help it may help it, as callers go on. Serves
 -- `helping`.
 use Rattle.std.proofs.Common.{◌≡◌, ℕ, Some, ◌∙◌}
 use Rattle.ist_core.specs.declared.events.Event.{Event}

@@ -47,7 +47,7 @@ use Rattle.ist_dcss.proofs.FitsLemmas.{ever_later, fits_later}
 
 -- ---- rows that a caller has filled
 
--- a held row is held still once the seat made loads
+-- a held row is held still once the caller made loads
 pub held_on : (v w : View) → GoesOnTo v w → (h : HeldRow) → v.who ≡ Caller h.caller
     → Among h (now v).held → Among h (now w).held
 held_on v w g h who i =
@@ -161,7 +161,7 @@ unrefused_later pairs words number node old log before h l all none base r e own
 
 -- ---- the exchange
 
--- a seat that may install a change may still once it made loads, whatever others do meanwhile
+-- a caller that may install a change may still once it made loads, whatever others do meanwhile
 module _ (v : View) (base : ℕ) (f : Filling) (m : IsInstallable v base f) (sv : IsSound v) (l : Log)
     (ls : Loads) (k : ℕ) (seen : Later v.who v.log l)
     (s : IsSound (record v { log = l; loads = ls; loaded = k })) where
@@ -281,7 +281,7 @@ module _ (v : View) (base : ℕ) (f : Filling) (m : IsInstallable v base f) (sv 
             };
       }
 
--- the exchange of the slot may be the Install, for a seat that went on
+-- the exchange of the slot may be the Install, for a caller that went on
 pub can_install : (v : View) (base : ℕ) (f : Filling) (m : IsInstallable v base f) → IsSound v
     → (w : View) → GoesOnTo v w → (place old new : ℕ)
     → place ≡ place_of_slot (now w) f.change.node f.change.index → old ≡ f.change.from

@@ -79,7 +79,7 @@ installed_tells v base f m u g w l =
           (subst (λ s. Among h s.held) is i)).1;
     }
 
--- the place of a slot stays while the seat makes loads
+-- the place of a slot stays while the caller makes loads
 pub place_on : (v w : View) → IsSound v → GoesOnTo v w → (node i word : ℕ)
     → SlotHolds (now v) node i word → place_of_slot (now w) node i ≡ place_of_slot (now v) node i
 place_on v w s g node i word slot =
@@ -130,7 +130,7 @@ good_held v s base words f some =
 
 -- ---- the words that were loaded
 
--- the seat has gone on, and the words that name the slot and its word are the change's
+-- the caller has gone on, and the words that name the slot and its word are the change's
 pub record HasLoaded (v : View) (f : Filling) (node index from : ℕ) (w : View) : Type 0 where
   pub seen : GoesOnTo v w
   pub node_is : f.change.node ≡ node

@@ -1,4 +1,4 @@
--- Resolving: when it may be made, and what it lets its seat know. Serves `resolve`.
+-- Resolving: when it may be made, and what it lets it know. Serves `resolve`.
 use Rattle.std.proofs.Common.{◌≡◌, ◌≢◌, ℕ, ◌+◌, ◌*◌, ◌/◌, ◌⊎◌, ◌==◌, Bool, true, false, if◌then◌else◌, [], ◌∷◌, Some, refl, sym, ap, ap₂, ◌∙◌, subst, inl, inr, ⊎_elim, arith}
 use Rattle.std.proofs.lemmas.Bool.Decides.{eqb_tells}
 use Rattle.ist_core.specs.declared.states.ChangeRow.{ChangeRow}
@@ -152,7 +152,7 @@ module _ (v : View) (s : IsSound v) (change number : ℕ) (mine : v.who ≡ Call
             };
       }
 
--- a seat that exchanged the slot helped, and the change is out
+-- a caller that exchanged the slot helped, and the change is out
 pub resolve_tells : (v : View) (s : IsSound v) (change number place old found : ℕ) (w : View)
     (row : ChangeRow) → (now v).pieces change ≡ Some (Change row)
     → place ≡ place_of_slot (now v) row.node row.index → old ≡ word_of (ChangeAt change)

@@ -1,4 +1,4 @@
--- Helping a change: when a seat may, what it does to the seat's log, and what becomes of the
+-- Helping a change: when a caller may, what it does to its log, and what becomes of the
 -- change.
 use Rattle.std.specs.Prelude.{◌≡◌, ℕ, Bool, true, false, List, Some}
 use Rattle.ist_core.specs.declared.states.ChangeRow.{ChangeRow}
@@ -25,7 +25,7 @@ pub record MayHelp (v : View) (change : ℕ) : Type 0 where
   pub row : ChangeRow
   pub installed : (now v).pieces change ≡ Some (Change row)
 
--- ---- what a seat adds to its log
+-- ---- what a caller adds to its log
 
 -- the event is an Okay, a Decide or a Resolve of the change
 abbrev pub Serves : ℕ → Event → Type 0
@@ -56,11 +56,11 @@ pub record WasSeen (P : Snapshot → ℕ → Type 0) (pairs : List Pair) (words 
   pub installed : (state_of pairs words prefix).pieces change ≡ Some (Change row)
   pub node : P (state_of pairs words prefix) row.node
 
--- the node of the change was open after its installing, at some step that the seat has seen
+-- the node of the change was open after its installing, at some step that the caller has seen
 abbrev pub WasOpen : View → ℕ → Type 0
 WasOpen v change = WasSeen IsOpen v.start v.words v.log change
 
--- the node of the change wasn't open at some step that the seat has seen
+-- the node of the change wasn't open at some step that the caller has seen
 abbrev pub WasClosed : View → ℕ → Type 0
 WasClosed v change = WasSeen (λ t node. ¬ (IsOpen t node)) v.start v.words v.log change
 

@@ -1,4 +1,4 @@
--- Installing a change: when a seat may, and what comes of it.
+-- Installing a change: when a caller may, and what comes of it.
 use Rattle.std.specs.Prelude.{◌≡◌, ◌≢◌, ℕ, List, ◌∷◌}
 use Rattle.ist_core.specs.declared.states.ChangeRow.{ChangeRow}
 use Rattle.ist_core.specs.declared.lists.HeldRow.{HeldRow}
@@ -44,7 +44,7 @@ pub record IsInstallable (v : View) (base : ℕ) (f : Filling) : Type 0 where
   pub fits : FitsKind (start v.start v.words) v.log f.change f.fresh
   pub allowed : MayInstall v number f.change
 
--- the change is installed: the Install is the last event, and before it the seat only made loads;
+-- the change is installed: the Install is the last event, and before it the caller only made loads;
 -- the change is in its slot, and none of its rows is held any more
 pub record IsInstalled (v : View) (base : ℕ) (f : Filling) (w : View) : Type 0 where
   pub before : View
@@ -55,7 +55,7 @@ pub record IsInstalled (v : View) (base : ℕ) (f : Filling) (w : View) : Type 0
   pub in_slot : SlotHolds (now w) f.change.node f.change.index (word_of (ChangeAt base))
   pub unheld : (h : HeldRow) → Among h (now w).held → ¬ (Among h.base (bases_of (rows_of f base)))
 
--- the slot held this other word at a load; the seat only made loads, and still holds the rows
+-- the slot held this other word at a load; the caller only made loads, and still holds the rows
 pub record IsOther (v : View) (base : ℕ) (f : Filling) (word : ℕ) (w : View) : Type 0 where
   pub seen : GoesOnTo v w
   pub in_slot : SlotHolds (now w) f.change.node f.change.index word

@@ -25,8 +25,8 @@ deciding v change word = Decide (number_of v.who) change (word == decided_yes)
 abbrev pub resolving : View → ℕ → Event
 resolving v change = Resolve (number_of v.who) change
 
--- what a Decide needs from the seat's log: that the change is decided already, or an Okay for yes,
--- or for no that the node isn't open
+-- what a Decide needs from the caller's log: that the change is decided already, or an Okay for
+-- yes, or for no that the node isn't open
 pub data IsDecidable (v : View) (change : ℕ) (row : ChangeRow) : Bool → Type 0 where
   settled : {said : Bool} → row.decision ≢ undecided → IsDecidable v change row said
   okayed : Happened (Okays change) v.log → IsDecidable v change row true
@@ -37,13 +37,13 @@ pub record IsSlot (v : View) (node i : ℕ) : Type 0 where
   pub word : ℕ
   pub holds : SlotHolds (now v) node i word
 
--- the place is the place of the slot of a change that is installed in the seat's log
+-- the place is the place of the slot of a change that is installed in the caller's log
 pub record IsSlotOf (v : View) (change place : ℕ) : Type 0 where
   pub row : ChangeRow
   pub published : (now v).pieces change ≡ Some (Change row)
   pub at : place ≡ place_of_slot (now v) row.node row.index
 
--- the word is at this offset from the base of a change that is installed in the seat's log
+-- the word is at this offset from the base of a change that is installed in the caller's log
 pub record IsField (v : View) (change offset word : ℕ) : Type 0 where
   pub row : ChangeRow
   pub published : (now v).pieces change ≡ Some (Change row)
@@ -60,7 +60,7 @@ outcome_offset_of false = change_from_offset
 
 -- ---- installing
 
--- the seat's caller holds a row of this many words at the base, and has stored these words there
+-- the caller holds a row of this many words at the base, and has stored these words there
 pub record HasFilled (v : View) (base : ℕ) (words : List ℕ) : Type 0 where
   pub number : ℕ
   pub mine : v.who ≡ Caller number
@@ -68,7 +68,7 @@ pub record HasFilled (v : View) (base : ℕ) (words : List ℕ) : Type 0 where
   pub stored : (k : ℕ) → k < length words
       → slice_get words k ≡ Some (own_at v.own (base + k))
 
--- the seat made loads; the slot of the change lies at the place, and the change expects `from`
+-- the caller made loads; the slot of the change lies at the place, and the change expects `from`
 -- there
 pub record IsAimed (v : View) (f : Filling) (place from : ℕ) (w : View) : Type 0 where
   pub seen : GoesOnTo v w

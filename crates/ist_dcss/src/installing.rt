@@ -10,7 +10,7 @@ use crate::slots::slot_at;
 use ist_layout::{CHANGE_FROM_OFFSET, CHANGE_INDEX_OFFSET, CHANGE_NODE_OFFSET, Ref};
 use ist_rule::{TreeSeat, TreeTable, exchange, know, load};
 
-// Loads a word of a row that the seat's caller holds and has filled.
+// Loads a word of a row that the caller holds and has filled.
 fn own_word(table: &TreeTable, seat: &mut TreeSeat, base: u32, offset: u64) -> u64
     ghost words: { List ℕ }
     requires same_table { seat.old.table ≡ table.now.table }

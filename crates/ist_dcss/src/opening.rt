@@ -22,7 +22,7 @@ pub(crate) fn status_place(node: u64) -> u64
 
 /// Returns whether the node is open, by a load of its status. The anchor always is.
 ///
-/// This is so in the log that the seat has seen after the load. A node that isn't open is never
+/// This is so in the log that the caller has seen after the load. A node that isn't open is never
 /// open again (`laws::nodes_close_once`). If it is open, none of the caller's changes on it was
 /// decided no.
 pub fn is_open(table: &TreeTable, seat: &mut TreeSeat, node: u32) -> bool

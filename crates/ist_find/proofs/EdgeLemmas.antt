@@ -15,7 +15,7 @@ key_among [] i x less is = absurd (omega arith)
 key_among (key ∷ keys) zero x less is = inl is
 key_among (key ∷ keys) (suc i) x less is = inr (key_among keys i x (omega arith) is)
 
--- an edge stays one when the seat goes on by loads
+-- an edge stays one when the caller goes on by loads
 edge_on : (v w : View) → GoesOnTo v w → (key : ℕ) → IsEdge (now v) key → IsEdge (now w) key
 edge_on v w g key e =
     let row : IsRow v e.base = record { row = e.row; published = e.published } in
@@ -28,7 +28,7 @@ edge_on v w g key e =
           ∙ keys_are w e.base on) e.among;
     }
 
--- a range that ends at edges still does when the seat goes on by loads
+-- a range that ends at edges still does when the caller goes on by loads
 pub edges_on : (v w : View) → GoesOnTo v w → (first last : ℕ) → EndAtEdges (now v) first last
     → EndAtEdges (now w) first last
 edges_on v w g first last h =

@@ -1,4 +1,4 @@
--- A seat's loads in terms of one log, as the laws on searches need them. Serves `reading` and
+-- A caller's loads in terms of one log, as the laws on searches need them. Serves `reading` and
 -- `finding`.
 use Rattle.std.proofs.Common.{◌≡◌, ℕ, ◌≤◌, List, length, refl, sym, ap, subst, le_refl, arith}
 use Rattle.ist_core.specs.declared.pairs.Pair.{Pair}
@@ -12,7 +12,7 @@ use Rattle.laws_histories.specs.Loads.{IsLoad}
 use Rattle.laws_histories.proofs.LoadOnLemmas.{at_prefix, load_on}
 use Rattle.ist_find.specs.Reads.{loaded_in}
 
--- ---- the table and the log of a seat that went on
+-- ---- the table and the log of a caller that went on
 
 -- what holds for the first view's table holds for the second's
 pub by_table : (v w : View) → GoesOnTo v w → (P : List Pair → ℕ → Type 0) → P v.start v.words
@@ -37,7 +37,7 @@ goes_length v w g = length_rises v.log w.log (goes_log v w g)
 
 -- ---- loads
 
--- a word that is the only one shown after a seat's log is a load of that log
+-- a word that is the only one shown after a caller's log is a load of that log
 pub shown_load : (pairs : List Pair) (words : ℕ) (log : Log) (place word least : ℕ)
     → ((shown : ℕ) → IsShown (state_of pairs words log) place shown → word ≡ shown)
     → least ≤ length log
@@ -52,7 +52,7 @@ shown_load pairs words log place word least stood low =
       within = le_refl (length log);
     }
 
--- what a load of the seat gave is a load of that log
+-- what a load of the caller gave is a load of that log
 pub looked_load : (v : View) (place word : ℕ) (w : View) → Looked v place word w → (at : ℕ)
     → place ≡ at → (least : ℕ) → least ≤ length w.log
     → IsLoad w.start w.words w.log at least (loaded_in w at word)
@@ -60,7 +60,7 @@ looked_load v place word w l at is least low =
     shown_load w.start w.words w.log at word least
     (λ x s. l.stood x (subst (λ p. IsShown (state_of w.start w.words w.log) p x) (sym is) s)) low
 
--- a load stays one when the seat goes on
+-- a load stays one when the caller goes on
 pub load_later : (v w : View) → GoesOnTo v w → (at word least : ℕ)
     → IsLoad v.start v.words v.log at least (loaded_in v at word)
     → IsLoad w.start w.words w.log at least (loaded_in v at word)

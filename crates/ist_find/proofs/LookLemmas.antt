@@ -1,4 +1,5 @@
--- Looks at slots and the nodes that a search reaches, by what a seat has loaded. Serves `finding`.
+-- Looks at slots and the nodes that a search reaches, by what a caller has loaded. Serves
+-- `finding`.
 use Rattle.std.proofs.Common.{◌≡◌, ◌≢◌, ℕ, ◌<◌, ◌≤◌, ◌⊎◌, List, [], ◌∷◌, ◌++◌, length, Option, Some, refl, sym, subst, inl, inr}
 use Rattle.std.proofs.Math.Nat.{le_trans}
 use Rattle.ist_core.specs.declared.loads.Load.{Load}
@@ -82,7 +83,7 @@ holds_named v s node i word h =
 
 -- ---- the look
 
--- a search that reached a node has still reached it after loads of its seat
+-- a search that reached a node has still reached it after loads of it
 pub comes_later : (v w : View) → GoesOnTo v w → (key last node : ℕ) (rows : List ℕ)
     → ComesBy v.start v.words v.log key v.loads.since last node rows
     → ComesBy w.start w.words w.log key w.loads.since last node rows

@@ -1,5 +1,5 @@
--- The slot of a key in a node: it stays the key's slot, and where its keys end. Serves `children` and
--- `sweeping`.
+-- The slot of a key in a node: it stays the key's slot, and where its keys end. Serves `children`
+-- and `sweeping`.
 use Rattle.std.proofs.Common.{◌≡◌, ◌≢◌, ℕ, ◌+◌, ◌<◌, ◌≤◌, length, get_or, refl, sym, ap, ◌∙◌, le_refl, arith}
 use Rattle.std.proofs.Math.Nat.{le_trans}
 use Rattle.ist_core.specs.Arithmetic.{child_count}
@@ -16,7 +16,7 @@ use Rattle.ist_rule.proofs.GoingOnLemmas.{goes_on_more}
 use Rattle.ist_find.specs.Searches.{IsRow, keys_at}
 use Rattle.ist_find.specs.Reads.{IsFoundAs}
 use Rattle.ist_find.specs.Sweeps.{LookedSince, starting}
-use Rattle.ist_find.specs.Turns.{IsAt, SlotEnds, HasReadSlot}
+use Rattle.ist_find.specs.Turns.{IsSlotForKey, SlotEnds, HasReadSlot}
 use Rattle.ist_find.proofs.LoadLemmas.{goes_length}
 use Rattle.ist_find.proofs.RowLemmas.{row_on, keys_on, keys_rise, count_on, child_is}
 use Rattle.ist_find.proofs.SpanLemmas.{anchor_child, node_row, row_child, node_later, child_on, child_below}
@@ -24,9 +24,9 @@ use Rattle.ist_find.proofs.SlotEndLemmas.{no_keys, node_keys_on, slot_shared, sl
 
 -- ---- the slot of a key
 
--- it stays the key's slot when the seat goes on by loads
-pub at_on : (v w : View) → IsSound v → GoesOnTo v w → (node key i count : ℕ) → IsAt v node key i count
-    → IsAt w node key i count
+-- it stays the key's slot when the caller goes on by loads
+pub at_on : (v w : View) → IsSound v → GoesOnTo v w → (node key i count : ℕ) → IsSlotForKey v node key i count
+    → IsSlotForKey w node key i count
 at_on v w s g node key i count a =
     record {
       node_is = node_later v w g node a.node_is;
@@ -35,7 +35,7 @@ at_on v w s g node key i count a =
     }
 
 -- the anchor has one slot, and no keys
-pub anchor_at : (v : View) → IsSound v → (node key : ℕ) → node ≡ anchor → IsAt v node key 0 0
+pub anchor_at : (v : View) → IsSound v → (node key : ℕ) → node ≡ anchor → IsSlotForKey v node key 0 0
 anchor_at v s node key e =
     record {
       node_is = is_anchor e;
@@ -45,7 +45,7 @@ anchor_at v s node key e =
 
 -- in a row it is the number of the row's keys that are at most the key
 pub row_at : (v u w : View) → GoesOnTo v u → GoesOnTo u w → (node key i count : ℕ) → IsRow v node
-    → count ≡ length (keys_at v node) → i ≡ child_count (keys_at u node) key → IsAt w node key i count
+    → count ≡ length (keys_at v node) → i ≡ child_count (keys_at u node) key → IsSlotForKey w node key i count
 row_at v u w g h node key i count r long is =
     let there = row_on v u g node r in
     let later = row_on u w h node there in
@@ -58,7 +58,7 @@ row_at v u w g h node key i count r long is =
 
 -- and it takes few loads to find it
 pub few_to_start : (v w : View) → GoesOnTo v w → (node key i count loads : ℕ) → node ≢ anchor → IsRow v node
-    → IsAt w node key i count → loads ≤ distance (guess_in (keys_at v node) key) i + 6
+    → IsSlotForKey w node key i count → loads ≤ distance (guess_in (keys_at v node) key) i + 6
     → loads ≤ starting v node key
 few_to_start v w g node key i count loads other r a few =
     let is = row_child w node key i other a.child
@@ -72,7 +72,7 @@ few_to_start v w g node key i count loads other r a few =
 
 -- all keys share the slot of the anchor
 pub anchor_ends : (v : View) → IsSound v → (node key last i count : ℕ) → node ≡ anchor
-    → IsAt v node key i count → key ≤ last → SlotEnds v node key last last i count
+    → IsSlotForKey v node key i count → key ≤ last → SlotEnds v node key last last i count
 anchor_ends v s node key last i count e a some =
     record {
       some = some;
@@ -85,7 +85,7 @@ anchor_ends v s node key last i count e a some =
 
 -- those of a row end below the key after its child
 pub keys_end : (v : View) → IsSound v → (node key end last i count : ℕ) → node ≢ anchor
-    → IsAt v node key i count → key ≤ last → end ≤ last
+    → IsSlotForKey v node key i count → key ≤ last → end ≤ last
     → (i < length (keys_at v node) → end < get_or (keys_at v node) i 0)
     → (end < last → Among (end + 1) (keys_at v node))
     → ((k : ℕ) → k ≤ last → (i < length (keys_at v node) → k < get_or (keys_at v node) i 0) → k ≤ end)

@@ -24,7 +24,7 @@ use Rattle.ist_find.proofs.LoadLemmas.{goes_length, looked_load, load_later}
 
 -- ---- rows stay
 
--- a published change stays published when the seat goes on by loads
+-- a published change stays published when the caller goes on by loads
 pub change_on : (v w : View) → GoesOnTo v w → (base : ℕ) → SeesChange v base → SeesChange w base
 change_on v w g base r =
     let on = change_there (now v).pieces (now w).pieces (goes_grow v w g) base r.row r.published in

@@ -1,4 +1,5 @@
--- Which keys have one child of a row, by the keys beside it, while a seat goes on by loads. Serves `spans`.
+-- Which keys have one child of a row, by the keys beside it, while a caller goes on by loads.
+-- Serves `spans`.
 use Rattle.std.proofs.Common.{◌≡◌, ℕ, ◌-◌, ◌<◌, ◌≤◌, length, get_or, sym, ap, subst, arith}
 use Rattle.ist_core.specs.Arithmetic.{child_count}
 use Rattle.ist_math.proofs.ChildLemmas.{child_count_is}

@@ -1,4 +1,4 @@
--- Published rows stay when a seat goes on by loads, and where their words lie. Serves `keys` and
+-- Published rows stay when a caller goes on by loads, and where their words lie. Serves `keys` and
 -- `children`.
 use Rattle.std.proofs.Common.{◌≡◌, ℕ, zero, suc, ◌+◌, ◌<◌, ◌≤◌, List, [], ◌∷◌, ◌++◌, length, slice_get, get_or, Some, refl, sym, ap, ◌∙◌, subst, arith, length-append}
 use Rattle.std.proofs.lemmas.Option.{slice_get-get_or}
@@ -22,7 +22,7 @@ use Rattle.ist_dcss.proofs.SlotPlaceLemmas.{has_degree}
 use Rattle.ist_dcss.proofs.FieldLemmas.{row_low, looked_row}
 use Rattle.ist_find.specs.Searches.{IsRow, keys_in, keys_at}
 
--- rows grow as a seat goes on
+-- rows grow as a caller goes on
 pub goes_grow : (v w : View) → GoesOnTo v w → AllGrow (now v).pieces (now w).pieces
 goes_grow v w g = goes_on_grow v w g
 
@@ -50,7 +50,7 @@ behind_fields [] slots j h = absurd (omega arith)
 behind_fields (k ∷ keys) slots zero h = refl
 behind_fields (k ∷ keys) slots (suc j) h = behind_fields keys slots j (omega arith)
 
--- what a seat knows of an inner row
+-- what a caller knows of an inner row
 pub record KnowsRow (v : View) (node count : ℕ) : Type 0 where
   pub row : IsRow v node
   pub count_is : count ≡ length row.row.keys
@@ -142,7 +142,7 @@ pub child_is : (v : View) (node : ℕ) → IsRow v node → (key i : ℕ)
 child_is v node r key i is =
     of_row r.row r.published (is ∙ ap (λ ks. child_count ks key) (keys_are v node r))
 
--- the number of its keys stays when the seat goes on by loads
+-- the number of its keys stays when the caller goes on by loads
 pub count_on : (v w : View) → GoesOnTo v w → (node : ℕ) → IsRow v node → (count : ℕ)
     → count ≡ length (keys_at v node) → count ≡ length (keys_at w node)
 count_on v w g node r count is = is ∙ sym (ap length (keys_on v w g node r))

@@ -1,4 +1,4 @@
--- A search from its begin to its end, as its seat knows it. Serves `find_from_anchor`.
+-- A search from its begin to its end, as it knows it. Serves `find_from_anchor`.
 use Rattle.std.proofs.Common.{◌≡◌, ℕ, suc, ◌-◌, ◌≤◌, List, [], ◌∷◌, drop, length, Option, refl, sym, ap, ◌∙◌, subst, arith}
 use Rattle.std.proofs.Math.Nat.{le_trans}
 use Rattle.ist_core.specs.declared.pairs.Pair.{Pair}
@@ -38,7 +38,7 @@ pub begun_comes : (v w : View) (key : ℕ) → Turned v (searching v) w → HasC
 begun_comes v w key t =
     record { last = w.loads.since; until = t.sound.well_made.since; comes = begins_by }
 
--- a seat that has begun a search and gone on by loads has searched
+-- a caller that has begun a search and gone on by loads has searched
 pub has_searched : (v b w : View) → Turned v (searching v) b → GoesOnTo b w → HasSearched v w
 has_searched v b w t g =
     let since : w.loads.since ≡ length b.log = g.since ∙ ap (λ x. x.loads.since) t.view in

@@ -26,7 +26,7 @@ no_keys v s node e =
     ap (λ p. keys_in (as_inner p))
     (ap (now v).pieces e ∙ anchor_free v.start v.words v.log s.lawful.enabled)
 
--- a node's keys stay when the seat goes on by loads
+-- a node's keys stay when the caller goes on by loads
 pub node_keys_on : (v w : View) → IsSound v → GoesOnTo v w → (node : ℕ) → IsNode (now v) node
     → keys_at w node ≡ keys_at v node
 node_keys_on v w s g node (is_anchor e) = no_keys w g.sound node e ∙ sym (no_keys v s node e)

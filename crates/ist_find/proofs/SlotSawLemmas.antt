@@ -1,4 +1,4 @@
--- What a seat saw in a slot, for all keys that led to the slot's node. Serves `sweeping`.
+-- What a caller saw in a slot, for all keys that led to the slot's node. Serves `sweeping`.
 use Rattle.std.proofs.Common.{◌≡◌, ◌≢◌, ℕ, ◌+◌, ◌<◌, ◌≤◌, ◌⊎◌, length, Option, Some, None, refl, sym, ap, ◌∙◌, subst, inl, inr, ⊎_elim, arith}
 use Rattle.std.specs.Prelude.{IfSome}
 use Rattle.std.specs.FinMap as fin
@@ -44,8 +44,8 @@ use Rattle.ist_find.proofs.SearchLemmas.{look_later, log_stays}
 use Rattle.ist_find.proofs.SpanLemmas.{child_on}
 use Rattle.ist_find.proofs.SweepLemmas.{child_back, leads_later, saw_since, value_then, had_at}
 
--- at one moment since the first log all keys up to the last led to the node, and its slot for the keys from
--- `low` to `high` read as the reference
+-- at one moment since the first log all keys up to the last led to the node, and its slot for the
+-- keys from `low` to `high` read as the reference
 pub record SlotSaw (w : View) (floor : Log) (first last low high node : ℕ) (ref : Ref) : Type 0 where
   pub at : Log
   pub load : ℕ
@@ -74,7 +74,7 @@ led_node v s first last node some h =
     at (inl e) = is_anchor e
     at (inr e) = is_inner e.0 e.1
 
--- keys that were led to a node are so still when the seat goes on by loads
+-- keys that were led to a node are so still when the caller goes on by loads
 pub led_on : (v w : View) → GoesOnTo v w → (at : Log) (first last node : ℕ) → AllLed v at first last node
     → AllLed w at first last node
 led_on v w g at first last node led k low high =
@@ -91,7 +91,7 @@ were_led_on v w g first last node h =
 
 -- ---- the look
 
--- a look stays one when the seat goes on by loads
+-- a look stays one when the caller goes on by loads
 pub since_later : (v w : View) → GoesOnTo v w → (key least node i : ℕ) (ref : Ref)
     → LookedSince v key least node i ref → LookedSince w key least node i ref
 since_later v w g key least node i ref h =
@@ -141,7 +141,7 @@ slot_saw u w g floor f first last low high node i ref led from some to child h =
 module _ (w : View) (s : IsSound w) (floor : Log) (first last low high node : ℕ) (ref : Ref)
     (from : first ≤ low) (some : low ≤ high) (to : high ≤ last)
     (h : SlotSaw w floor first last low high node ref) where
-  -- the seat has seen that moment
+  -- the caller has seen that moment
   pub saw_until : GoesOn h.at w.log
   saw_until = on_trans h.at (log_at w.log h.load) w.log h.until (at_on w.log h.load)
 

@@ -89,7 +89,7 @@ child_shared u w s g node key k i (of_row r e f) (of_row q d h) =
 
 -- ---- a look, later
 
--- a look stays one when the seat goes on by loads
+-- a look stays one when the caller goes on by loads
 pub looked_later : (v w : View) → GoesOnTo v w → (key node i : ℕ) (rows : List ℕ) (ref : Ref)
     → HasLooked v key node i rows ref → HasLooked w key node i rows ref
 looked_later v w g key node i rows ref h =
@@ -226,7 +226,7 @@ row_child v node key i other (of_anchor e f) = absurd (other e)
 row_child v node key i other (of_row r e f) =
     f ∙ ap (λ ks. child_count ks key) (sym (keys_are v node record { row = r; published = e }))
 
--- a node stays one when the seat goes on by loads, with the same child for a key
+-- a node stays one when the caller goes on by loads, with the same child for a key
 pub node_later : (v w : View) → GoesOnTo v w → (node : ℕ) → IsNode (now v) node
     → IsNode (now w) node
 node_later v w g node (is_anchor e) = is_anchor e

@@ -16,7 +16,7 @@ use Rattle.ist_rule.specs.Rule.{IsSound}
 use Rattle.ist_find.specs.Reads.{TellsValue}
 use Rattle.ist_find.specs.Spans.{pair_value}
 use Rattle.ist_find.specs.Sweeps.{Swept, none_swept, starting, WereLed, HasSwept, SweptBetween, one_of}
-use Rattle.ist_find.specs.Turns.{IsAt, HasReadEnd, HasSweptSlot, row_below, end_there, HasSweptTo}
+use Rattle.ist_find.specs.Turns.{IsSlotForKey, HasReadEnd, HasSweptSlot, row_below, end_there, HasSweptTo}
 use Rattle.ist_find.proofs.LoadLemmas.{goes_log}
 use Rattle.ist_find.proofs.SlotEndLemmas.{no_keys}
 use Rattle.ist_find.proofs.SlotSawLemmas.{led_on, were_led_on}
@@ -25,7 +25,7 @@ use Rattle.ist_find.proofs.SlotSawLemmas.{led_on, were_led_on}
 
 -- nothing was swept yet
 pub sweeps_none : (v w : View) → GoesOnTo v w → (node first last i count spent : ℕ) (old : List Pair)
-    → w.loaded ≤ v.loaded + spent → IsAt w node first i count → first ≤ last → WereLed v first last node
+    → w.loaded ≤ v.loaded + spent → IsSlotForKey w node first i count → first ≤ last → WereLed v first last node
     → HasSweptTo v w node first first last i count spent old old
 sweeps_none v w g node first last i count spent old few a some led =
     record {

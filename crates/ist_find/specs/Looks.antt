@@ -13,9 +13,9 @@ use Rattle.ist_find.specs.Spans.{AllLooked, EndAtEdges, LooksFewOver}
 
 -- ---- the child for a key
 
--- between both views the child for the key was found among the keys of the row, by loads that are few if
--- it is near the guess: at most 3, as many as it is away from there, and some more; and at most 2 k + 2 and some
--- more if it is less than 2^k away
+-- between both views the child for the key was found among the keys of the row, by loads that are
+-- few if it is near the guess: at most 3, as many as it is away from there, and some more; and at
+-- most 2 k + 2 and some more if it is less than 2^k away
 pub record FindsChild (v w : View) (node key count guess more child loads : ℕ) : Type 0 where
   pub seen : GoesOnTo v w
   pub counted : w.loaded ≡ v.loaded + loads
@@ -27,8 +27,8 @@ pub record FindsChild (v w : View) (node key count guess more child loads : ℕ)
 
 -- ---- a look
 
--- between both views the seat read the slot of the node for the key, by these loads, which are a look for each
--- key that has this slot
+-- between both views the caller read the slot of the node for the key, by these loads, which are a
+-- look for each key that has this slot
 pub record ReadsChild (v w : View) (node key index loads : ℕ) (ref : Ref) : Type 0 where
   pub seen : GoesOnTo v w
   pub child : IsChildFor (now w) node key index
@@ -40,7 +40,7 @@ pub record ReadsChild (v w : View) (node key index loads : ℕ) (ref : Ref) : Ty
   pub row_loads : IsRow v node → loads ≤ row_cost v key node
   pub fits : loads < 2 ^ 31
 
--- the same, if the seat's search for the key has come to the node
+-- the same, if the caller's search for the key has come to the node
 pub record LooksAtChild (v w : View) (node key index loads : ℕ) (ref : Ref) : Type 0 where
   pub seen : GoesOnTo v w
   pub looked : (rows : List ℕ) → HasCome v key node rows → HasLooked w key node index rows ref
@@ -50,7 +50,8 @@ pub record LooksAtChild (v w : View) (node key index loads : ℕ) (ref : Ref) : 
   pub fits : loads < 2 ^ 31
   pub reached : IsReached w node ref
 
--- the same at once for all keys of the slot, from `low` to `high`, among those from `first` to `last`
+-- the same at once for all keys of the slot, from `low` to `high`, among those from `first` to
+-- `last`
 pub record LooksForAll (v w : View) (node key first last index low high : ℕ) (ref : Ref)
     : Type 0 where
   pub seen : GoesOnTo v w
@@ -73,7 +74,8 @@ pub record HasSpent (v w : View) (node loads : ℕ) : Type 0 where
   pub few : loads ≤ node * 2 ^ 31
   pub low : node < 2 ^ 28
 
--- the seat began a search for the key at the first view, and has looked at this slot of the node last
+-- the caller began a search for the key at the first view, and has looked at this slot of the node
+-- last
 pub record SearchIsAt (v w : View) (key node index loads : ℕ) (ref : Ref) : Type 0 where
   pub begun : View
   pub turned : Turned v (searching v) begun

@@ -22,8 +22,8 @@ IsFoundAs v (LeafAt base) = SeesLeaf v base
 IsFoundAs v (InnerAt base) = IsRow v base
 IsFoundAs v _ = ⊥
 
--- what a slot of a node that a search has reached reads as: nothing, a leaf, or an inner row above the
--- node
+-- what a slot of a node that a search has reached reads as: nothing, a leaf, or an inner row above
+-- the node
 abbrev pub IsReached : View → ℕ → Ref → Type 0
 IsReached v node Empty = Unit {0}
 IsReached v node (LeafAt base) = SeesLeaf v base
@@ -38,7 +38,7 @@ IsEnd v _ = ⊥
 
 -- ---- how a slot reads
 
--- a load of the word, made when the seat had seen this view's log
+-- a load of the word, made when the caller had seen this view's log
 abbrev pub loaded_in : View → ℕ → ℕ → Load
 loaded_in v place word = record { place = place; word = word; length = length v.log }
 
@@ -48,8 +48,8 @@ pub record HasSideRead (v w : View) (word side : ℕ) : Type 0 where
   pub until : last ≤ length w.log
   pub side_is : (place : ℕ) → ReadsSide w.start w.words w.log (loaded_in v place word) side last
 
--- the seat made only loads, by which the word reads so: as a published row other than a change, or as
--- no row
+-- the caller made only loads, by which the word reads so: as a published row other than a change,
+-- or as no row
 pub record TellsSide (v w : View) (word side : ℕ) : Type 0 where
   pub seen : GoesOnTo v w
   pub has : HasSideRead v w word side
@@ -66,20 +66,21 @@ abbrev pub HasValueRead : View → View → ℕ → Ref → Option ℕ → Type 
 HasValueRead v w key ref value =
     (least : ℕ) → least ≤ length v.log → ReadsValue w.start w.words w.log key least ref value
 
--- the seat made only loads, by which a word that names no change reads so, and not as a rebuild
+-- the caller made only loads, by which a word that names no change reads so, and not as a rebuild
 pub record TellsTarget (v w : View) (word : ℕ) (ref : Ref) : Type 0 where
   pub seen : GoesOnTo v w
   pub has : HasTargetRead v w word ref
   pub found : IsFoundAs w ref
 
--- the seat made only loads, by which the reference gives the key this value
+-- the caller made only loads, by which the reference gives the key this value
 pub record TellsValue (v w : View) (key : ℕ) (ref : Ref) (value : Option ℕ) : Type 0 where
   pub seen : GoesOnTo v w
   pub has : HasValueRead v w key ref value
 
 -- ---- where a search is
 
--- the seat's search for the key has come to the node through these rows, and looked at this slot of it
+-- the caller's search for the key has come to the node through these rows, and looked at this slot
+-- of it
 pub record HasLooked (v : View) (key node index : ℕ) (rows : List ℕ) (ref : Ref) : Type 0 where
   pub least : ℕ
   pub last : ℕ

@@ -1,4 +1,4 @@
--- What a search promises: by which words it found its result, and what the seat knows after it.
+-- What a search promises: by which words it found its result, and what the caller knows after it.
 use Rattle.std.specs.Prelude.{◌≡◌, ℕ, ◌+◌, ◌≤◌, List, [], length, Option, Some, None}
 use Rattle.std.specs.List.{sum_by}
 use Rattle.ist_core.specs.declared.states.ChangeRow.{ChangeRow}
@@ -18,7 +18,7 @@ use Rattle.laws_walks.specs.Walking.{ComesBy, IsChainOf}
 
 -- ---- nodes
 
--- the node is an inner row that is published in the seat's log
+-- the node is an inner row that is published in the caller's log
 pub record IsRow (v : View) (node : ℕ) : Type 0 where
   pub row : InnerRow
   pub published : (now v).pieces node ≡ Some (Inner row)
@@ -28,7 +28,7 @@ abbrev pub keys_in : Option InnerRow → List ℕ
 keys_in (Some row) = row.keys
 keys_in None = []
 
--- the keys of the node in the seat's log
+-- the keys of the node in the caller's log
 abbrev pub keys_at : View → ℕ → List ℕ
 keys_at v node = keys_in (as_inner ((now v).pieces node))
 
@@ -49,7 +49,7 @@ pub record SeesRebuild (v : View) (base : ℕ) : Type 0 where
   pub row : RebuildRow
   pub published : (now v).pieces base ≡ Some (Rebuild row)
 
--- the word is a reference: to no row, or to a row of its kind that is published in the seat's log
+-- the word is a reference: to no row, or to a row of its kind that is published in the caller's log
 abbrev pub Names : View → Option Ref → Type 0
 Names v None = ⊥
 Names v (Some Empty) = Unit {0}
@@ -61,13 +61,13 @@ Names v (Some (RebuildAt base)) = SeesRebuild v base
 
 -- ---- where a search is
 
--- the seat's search for the key has come to the node through these rows, the node last
+-- the caller's search for the key has come to the node through these rows, the node last
 pub record HasCome (v : View) (key node : ℕ) (rows : List ℕ) : Type 0 where
   pub last : ℕ
   pub until : last ≤ length v.log
   pub comes : ComesBy v.start v.words v.log key v.loads.since last node rows
 
--- the seat's search for the key has come to the node
+-- the caller's search for the key has come to the node
 abbrev pub Came : View → ℕ → ℕ → Type 0
 Came v key node = (rows : List ℕ) × HasCome v key node rows
 
@@ -83,8 +83,8 @@ cost_of v key = sum_by (row_cost v key)
 
 -- ---- a search
 
--- the seat began one search and made only loads: it may have seen more events of others, and the rest
--- of its view is unchanged
+-- the caller began one search and made only loads: it may have seen more events of others, and the
+-- rest of its view is unchanged
 pub record HasSearched (v w : View) : Type 0 where
   pub later : Later v.who v.log w.log
   pub sound : IsSound w
@@ -98,14 +98,14 @@ pub record HasSearched (v w : View) : Type 0 where
   pub since : length v.log ≤ w.loads.since
   pub loaded : v.loaded ≤ w.loaded
 
--- the seat's search for the key ended at this slot of the node, with the value that a word loaded from
--- the slot gives the key
+-- the caller's search for the key ended at this slot of the node, with the value that a word loaded
+-- from the slot gives the key
 pub record HasFound (v : View) (key node index : ℕ) (value : Option ℕ) : Type 0 where
   pub searched : Searched v.start v.words v.log key v.loads.since node value
   pub index_is : searched.look.index ≡ index
 
--- a search that ended at the node made few loads: at most 10 plus the cost of the rows on the node's
--- chain
+-- a search that ended at the node made few loads: at most 10 plus the cost of the rows on the
+-- node's chain
 pub record HasFewLoads (v w : View) (key node : ℕ) : Type 0 where
   pub rows : List ℕ
   pub chain : IsChainOf w.start w.words w.log node rows

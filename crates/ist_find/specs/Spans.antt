@@ -16,24 +16,24 @@ abbrev pub pair_value : Option Pair → ℕ → Option ℕ
 pair_value (Some pair) key = if pair.key == key then Some pair.value else None
 pair_value None key = None
 
--- the seat's search for each key between these has come to the node
+-- the caller's search for each key between these has come to the node
 abbrev pub AllCome : View → ℕ → ℕ → ℕ → Type 0
 AllCome v first last node = (k : ℕ) → first ≤ k → k ≤ last → Came v k node
 
--- the seat's search for each key between these has looked at this slot of the node
+-- the caller's search for each key between these has looked at this slot of the node
 abbrev pub AllLooked : View → ℕ → ℕ → ℕ → ℕ → Ref → Type 0
 AllLooked v first last node index ref =
     (k : ℕ) → first ≤ k → k ≤ last → (rows : List ℕ) × HasLooked v k node index rows ref
 
--- the seat's search for the key has looked at the slot, with no more loads since the first view than
--- its rows cost, plus three for each row
+-- the caller's search for the key has looked at the slot, with no more loads since the first view
+-- than its rows cost, plus three for each row
 pub record LooksFewOver (v w : View) (key node index : ℕ) (ref : Ref) : Type 0 where
   pub rows : List ℕ
   pub looked : HasLooked w key node index rows ref
   pub few : w.loaded ≤ v.loaded + cost_of w key rows + 3 * length rows
 
--- the search ended with this value for the key, and made few loads: at most 10 plus, for each row on
--- the chain of its node, the row's cost and 3
+-- the search ended with this value for the key, and made few loads: at most 10 plus, for each row
+-- on the chain of its node, the row's cost and 3
 pub record HasFewSpanLoads (v w : View) (key : ℕ) (value : Option ℕ) : Type 0 where
   pub node : ℕ
   pub index : ℕ

@@ -1,4 +1,5 @@
--- Reading keys in order: each at a position of its own, and none at an earlier one than a lesser key.
+-- Reading keys in order: each at a position of its own, and none at an earlier one than a lesser
+-- key.
 use Rattle.std.specs.Prelude.{◌≡◌, ℕ, ◌+◌, ◌<◌, ◌≤◌, ◌⊎◌, List, [], ◌∷◌, ◌++◌, length, Option, Some, None, IfSome}
 use Rattle.ist_core.specs.declared.pairs.Pair.{Pair}
 use Rattle.ist_core.specs.declared.states.InnerRow.{InnerRow}
@@ -22,12 +23,13 @@ one_of None = []
 
 -- ---- slot after slot
 
--- how many loads it takes at most to read the slot of an inner row, and to find its child for the key
+-- how many loads it takes at most to read the slot of an inner row, and to find its child for the
+-- key
 abbrev pub entering : List ℕ → ℕ → ℕ
 entering keys key = distance (guess_in keys key) (child_count keys key) + 11
 
--- the keys of one slot, from the first up to its end, were read between these logs: each had what the
--- pair gives it at a position of its own
+-- the keys of one slot, from the first up to its end, were read between these logs: each had what
+-- the pair gives it at a position of its own
 pub record SlotWasRead (opened : List Pair) (words : ℕ) (earlier later : Log) (first behind : ℕ)
     (pair : Option Pair) : Type 0 where
   pub on : GoesOn earlier later
@@ -37,10 +39,10 @@ pub record SlotWasRead (opened : List Pair) (words : ℕ) (earlier later : Log) 
       → HasPosition opened words earlier later k (pair_value pair k)
 
 -- the keys from the first up to a slot's end were read upwards, slot after slot, and the pairs were
--- found, by this many loads at most: 7 for each slot that held no row, and for each row that was entered
--- 11 and the distance of the guess from the child. What a later slot held isn't older than what an
--- earlier one held, and a slot begins at the first key or at an edge. `row` is the last row that was
--- entered since the last such slot: below it only greater ones are entered
+-- found, by this many loads at most: 7 for each slot that held no row, and for each row that was
+-- entered 11 and the distance of the guess from the child. What a later slot held isn't older than
+-- what an earlier one held, and a slot begins at the first key or at an edge. `row` is the last row
+-- that was entered since the last such slot: below it only greater ones are entered
 pub data Swept (opened : List Pair) (words first above : ℕ) (from : Log)
     : Log → ℕ → ℕ → ℕ → List Pair → Type 0 where
   none_swept : Swept opened words first above from from first above 0 []
@@ -64,7 +66,7 @@ abbrev pub AllLed : View → Log → ℕ → ℕ → ℕ → Type 0
 AllLed v at first last node =
     (k : ℕ) → first ≤ k → k ≤ last → Leads (state_of v.start v.words at) k node
 
--- after some log that the seat has seen each of the keys led to the node
+-- after some log that the caller has seen each of the keys led to the node
 pub record WereLed (v : View) (first last node : ℕ) : Type 0 where
   pub at : Log
   pub until : GoesOn at v.log
@@ -75,9 +77,9 @@ abbrev pub starting : View → ℕ → ℕ → ℕ
 starting v node key =
     let keys = keys_at v node in distance (guess_in keys key) (child_count keys key) + 6
 
--- since the first view the seat has swept the keys from the first up to a slot's end, beginning at this
--- log, and found the pairs, by no more loads than the sweep says and some spent apart. At the end the keys
--- up to the last led to the node
+-- since the first view the caller has swept the keys from the first up to a slot's end, beginning
+-- at this log, and found the pairs, by no more loads than the sweep says and some spent apart. At
+-- the end the keys up to the last led to the node
 pub record Sweeps (v w : View) (from : Log) (first behind last node limit spent : ℕ)
     (found : List Pair) : Type 0 where
   pub at : Log
@@ -99,8 +101,8 @@ pub record HasSwept (v w : View) (first behind last node limit spent : ℕ)
 
 -- ---- a slot
 
--- the slot of the node for the key was loaded when the log had at least `least` events, and read as the
--- reference
+-- the slot of the node for the key was loaded when the log had at least `least` events, and read as
+-- the reference
 pub record LookedSince (v : View) (key least node index : ℕ) (ref : Ref) : Type 0 where
   pub last : ℕ
   pub until : last ≤ length v.log
@@ -109,8 +111,8 @@ pub record LookedSince (v : View) (key least node index : ℕ) (ref : Ref) : Typ
 
 -- ---- a whole sweep
 
--- the keys from the first to the last were read upwards from the first view on, up to a log that the
--- second one has seen, and the pairs were appended
+-- the keys from the first to the last were read upwards from the first view on, up to a log that
+-- the second one has seen, and the pairs were appended
 pub record SweptBetween (v w : View) (first last : ℕ) (old new : List Pair) : Type 0 where
   pub found : List Pair
   pub are : new ≡ old ++ found

@@ -1,4 +1,5 @@
--- Slot after slot of one node: where a sweep is, what it read in a slot, and what the slot's keys gave.
+-- Slot after slot of one node: where a sweep is, what it read in a slot, and what the slot's keys
+-- gave.
 use Rattle.std.specs.Prelude.{◌≡◌, ◌≢◌, ℕ, ◌+◌, ◌<◌, ◌≤◌, ◌⊎◌, List, ◌++◌, length, Option, IfSome}
 use Rattle.ist_core.specs.declared.pairs.Pair.{Pair}
 use Rattle.ist_core.specs.Elements.{Among}
@@ -15,13 +16,13 @@ use Rattle.ist_find.specs.Sweeps.{WereLed, HasSwept, LookedSince, starting, one_
 -- ---- a slot
 
 -- this is the slot of the node for the key, and the node has this many keys
-pub record IsAt (v : View) (node key index count : ℕ) : Type 0 where
+pub record IsSlotForKey (v : View) (node key index count : ℕ) : Type 0 where
   pub node_is : IsNode (now v) node
   pub count_is : count ≡ length (keys_at v node)
   pub child : IsChildFor (now v) node key index
 
--- the keys from this one to the end share the slot. If there are more up to the last key, the next one has
--- the next slot
+-- the keys from this one to the end share the slot. If there are more up to the last key, the next
+-- one has the next slot
 pub record SlotEnds (v : View) (node key end last index count : ℕ) : Type 0 where
   pub some : key ≤ end
   pub top : end ≤ last
@@ -30,8 +31,8 @@ pub record SlotEnds (v : View) (node key end last index count : ℕ) : Type 0 wh
   pub next : end < last → IsChildFor (now v) node (end + 1) (index + 1)
   pub within : end < last → index < count
 
--- between both views the seat read the slot, by loads that are a look for each of its keys, and saw where
--- these end
+-- between both views the caller read the slot, by loads that are a look for each of its keys, and
+-- saw where these end
 pub record HasReadSlot (v w : View) (node key end last index count : ℕ) (ref : Ref) : Type 0 where
   pub seen : GoesOnTo v w
   pub loads : w.loaded ≤ v.loaded + 5
@@ -47,7 +48,7 @@ pub record LeadsBelow (v : View) (node first last : ℕ) (ref : Ref) : Type 0 wh
 
 -- ---- what its keys gave
 
--- between both views the seat read the pair of an end, and appended it if its key is one of these
+-- between both views the caller read the pair of an end, and appended it if its key is one of these
 pub record HasReadEnd (v w : View) (first last : ℕ) (ref : Ref) (old new : List Pair) : Type 0 where
   pub loads : w.loaded ≤ v.loaded + 2
   pub pair : Option Pair
@@ -57,7 +58,8 @@ pub record HasReadEnd (v w : View) (first last : ℕ) (ref : Ref) (old new : Lis
   pub same : (k : ℕ) → first ≤ k → k ≤ last → pair_value own k ≡ pair_value pair k
   pub pushed : new ≡ old ++ one_of own
 
--- between both views the seat swept the keys of a slot that reads as the reference, and appended the pairs
+-- between both views the caller swept the keys of a slot that reads as the reference, and appended
+-- the pairs
 pub data HasSweptSlot (v w : View) (first last : ℕ) (ref : Ref) (old new : List Pair) : Type 0 where
   row_below : (base : ℕ) → ref ≡ InnerAt base
       → HasSwept v w first (last + 1) last base 0 (starting v base first) old new
@@ -66,11 +68,12 @@ pub data HasSweptSlot (v w : View) (first last : ℕ) (ref : Ref) (old new : Lis
 
 -- ---- where a sweep of a node is
 
--- since the first view the keys below this one were swept, and it is the first one or a key of the row
+-- since the first view the keys below this one were swept, and it is the first one or a key of the
+-- row
 pub record HasSweptTo (v w : View) (node first key last index count spent : ℕ) (old new : List Pair)
     : Type 0 where
   pub seen : GoesOnTo v w
-  pub at : IsAt w node key index count
+  pub at : IsSlotForKey w node key index count
   pub from : first ≤ key
   pub some : key ≤ last
   pub begins : (key ≡ first) ⊎ Among key (keys_at w node)

@@ -8,7 +8,7 @@ ghost use Rattle.ist_math.specs.Guess.{guess_in, distance};
 ghost use Rattle.ist_rule.specs.Watching.{IsNode};
 ghost use Rattle.ist_find.specs.Searches.{IsRow, keys_at};
 ghost use Rattle.ist_find.specs.Looks.{ReadsChild};
-ghost use Rattle.ist_find.specs.Turns.{IsAt};
+ghost use Rattle.ist_find.specs.Turns.{IsSlotForKey};
 
 use crate::answers::{Child, Counted, Look, Place};
 use crate::keys::{child_for, key_count};
@@ -29,7 +29,7 @@ pub(crate) fn place_in_row(
     ensures same_table { seat.new.table ≡ seat.old.table }
     ensures seen { GoesOnTo seat.old.view seat.new.view }
     ensures at { let place = result.value in
-        IsAt seat.new.view node key place.index place.count }
+        IsSlotForKey seat.new.view node key place.index place.count }
     ensures counted { seat.new.view.loaded ≡ seat.old.view.loaded + result.loads }
     ensures loads { let guess = guess_in (keys_at seat.old.view node) key in
         result.loads ≤ distance guess result.value.index + 6 }
@@ -71,12 +71,12 @@ pub(crate) fn slot_of_row(
     load(table, seat, slot_place(node, count + 1, index))
 }
 
-/// Returns the child for the key of an inner row that is published in the seat's log, and the word
-/// that its slot holds at the last step of this call.
+/// Returns the child for the key of an inner row that is published in the caller's log, and the
+/// word that its slot holds at the last step of this call.
 ///
 /// If the row has at most four keys, it loads each. Otherwise it looks first where linear
-/// interpolation between the end keys points, and gallops from there: it goes on by steps of one, two,
-/// four, .. keys, and halves what lies between once it passed the child.
+/// interpolation between the end keys points, and gallops from there: it goes on by steps of one,
+/// two, four, .. keys, and halves what lies between once it passed the child.
 ///
 /// Source: Perl, Itai and Avni, "Interpolation search", CACM 1978.
 pub fn child_at(table: &TreeTable, seat: &mut TreeSeat, node: u32, key: u64) -> Child

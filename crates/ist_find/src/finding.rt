@@ -32,12 +32,12 @@ fn look_at(table: &TreeTable, seat: &mut TreeSeat, node: u32, key: u64) -> Count
 /// Searches for the key from the anchor down, only by loads, and returns its value, if it has one.
 ///
 /// A change is read by its decision, and a rebuild by its target. An inner row is entered at the
-/// child for the key. The map has this value for the key after some number of changes, no fewer than
-/// those that the seat had seen when the call began.
+/// child for the key. The map has this value for the key after some number of changes, no fewer
+/// than those that the caller had seen when the call began.
 ///
-/// Never blocks: each row lies above the one before it. The rows that it enters are the chain of the
-/// node in which it ends. It makes at most 10 loads, plus for each of these rows 12 and the distance
-/// of the guess from the child for the key.
+/// Never blocks: each row lies above the one before it. The rows that it enters are the chain of
+/// the node in which it ends. It makes at most 10 loads, plus for each of these rows 12 and the
+/// distance of the guess from the child for the key.
 pub fn find_from_anchor(table: &TreeTable, seat: &mut TreeSeat, key: u64) -> Found
     requires same_table { seat.old.table ≡ table.now.table }
     ensures same_table { seat.new.table ≡ seat.old.table }

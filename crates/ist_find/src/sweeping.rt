@@ -7,7 +7,7 @@ ghost use Rattle.ist_rule.specs.Watching.{IsNode};
 ghost use Rattle.ist_find.specs.Searches.{keys_at};
 ghost use Rattle.ist_find.specs.Reads.{IsFoundAs, IsEnd};
 ghost use Rattle.ist_find.specs.Sweeps.{WereLed, HasSwept, SweptBetween, LookedSince, starting, one_of};
-ghost use Rattle.ist_find.specs.Turns.{IsAt, SlotEnds, HasReadSlot, LeadsBelow, HasReadEnd, HasSweptSlot};
+ghost use Rattle.ist_find.specs.Turns.{IsSlotForKey, SlotEnds, HasReadSlot, LeadsBelow, HasReadEnd, HasSweptSlot};
 
 use crate::answers::{Ends, Place};
 use crate::children::{place_in_row, slot_of_row};
@@ -32,7 +32,7 @@ fn first_slot(table: &TreeTable, seat: &mut TreeSeat, node: u32, key: u64) -> Pl
     ensures same_table { seat.new.table ≡ seat.old.table }
     ensures seen { GoesOnTo seat.old.view seat.new.view }
     ensures loads { seat.new.view.loaded ≤ seat.old.view.loaded + starting seat.old.view node key }
-    ensures at { IsAt seat.new.view node key result.index result.count }
+    ensures at { IsSlotForKey seat.new.view node key result.index result.count }
 {
     know(seat);
     if node == ANCHOR {
@@ -51,7 +51,7 @@ fn slot_end(
     last: u64,
 ) -> u64
     requires same_table { seat.old.table ≡ table.now.table }
-    requires at { IsAt seat.old.view node from place.index place.count }
+    requires at { IsSlotForKey seat.old.view node from place.index place.count }
     requires some { from ≤ last }
     ensures same_table { seat.new.table ≡ seat.old.table }
     ensures seen { GoesOnTo seat.old.view seat.new.view }
@@ -115,7 +115,7 @@ fn read_from(
     last: u64,
 ) -> SlotRead
     requires same_table { seat.old.table ≡ table.now.table }
-    requires at { IsAt seat.old.view node from place.index place.count }
+    requires at { IsSlotForKey seat.old.view node from place.index place.count }
     requires some { from ≤ last }
     ensures same_table { seat.new.table ≡ seat.old.table }
     ensures read { HasReadSlot seat.old.view seat.new.view node from result.to last

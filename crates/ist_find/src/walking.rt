@@ -9,13 +9,13 @@ use crate::answers::Child;
 use crate::children::slot_for;
 use ist_rule::{TreeSeat, TreeTable, know};
 
-/// Returns the child for the key of a node that the seat's search has reached, and the word that its
-/// slot held at the last step of this call.
+/// Returns the child for the key of a node that the caller's search has reached, and the word that
+/// its slot held at the last step of this call.
 ///
 /// The node may be the anchor, whose one child is for all keys. If the word names an inner row, the
-/// search has reached that row too, by one more row, and it lies above the node. Any other word, which
-/// may name a change or a rebuild, ends the walk: the search has come as far as the node. The word is
-/// never Unset.
+/// search has reached that row too, by one more row, and it lies above the node. Any other word,
+/// which may name a change or a rebuild, ends the walk: the search has come as far as the node. The
+/// word is never Unset.
 pub fn step_down(table: &TreeTable, seat: &mut TreeSeat, node: u32, key: u64) -> Child
     requires same_table { seat.old.table ≡ table.now.table }
     requires come { Came seat.old.view key node }

@@ -3,13 +3,13 @@ use Rattle.std.proofs.Common.{◌≡◌, ◌∙◌, ◌+◌, ◌-◌, ◌<◌, �
 use Rattle.ist_core.specs.declared.pairs.Pair.{Pair}
 use Rattle.ist_core.specs.Arithmetic.{degree, part_len, part_start}
 use Rattle.ist_core.proofs.PartLemmas.{part_start-suc, part_len-lt}
-use Rattle.ist_image.specs.Placing.{IsPart, part_of}
+use Rattle.ist_image.specs.Placing.{IsPartOfPairs, part_of}
 use Rattle.ist_image.proofs.PlacedLemmas.{length-part_of}
 
 -- it is a part of them
 pub part_cut : (pairs : List Pair) (m d j start end : ℕ) → 2 ≤ m → m ≡ length pairs → d ≡ degree m → j < d
     → start ≡ part_start (length pairs) j → end ≡ part_start m (j + 1) → end ≤ m
-    → IsPart pairs j start (take (end - start) (drop start pairs))
+    → IsPartOfPairs pairs j start (take (end - start) (drop start pairs))
 part_cut pairs m d j start end several same is less begin ends within =
     let n = length pairs in
     let count = is ∙ ap degree same in

@@ -19,7 +19,7 @@ abbrev pub part_of : List Pair → ℕ → List Pair
 part_of pairs j = take (part_len (length pairs) j) (drop (part_start (length pairs) j) pairs)
 
 -- this is part j of the pairs, which begins at this number, and is shorter than the whole
-pub record IsPart (pairs : List Pair) (j start : ℕ) (part : List Pair) : Type 0 where
+pub record IsPartOfPairs (pairs : List Pair) (j start : ℕ) (part : List Pair) : Type 0 where
   pub is : part ≡ part_of pairs j
   pub long : length part ≡ part_len (length pairs) j
   pub fewer : length part < length pairs

@@ -25,7 +25,7 @@ impl Cut {
     ghost use Rattle.std.specs.Prelude.{◌≡◌, ◌+◌, ◌≤◌, ◌<◌, ◌^◌, length};
     ghost use Rattle.ist_core.specs.Arithmetic.{part_len, part_start};
     ghost use Rattle.ist_core.specs.Shapes.{ideal_words};
-    ghost use Rattle.ist_image.specs.Placing.{IsPart, part_base};
+    ghost use Rattle.ist_image.specs.Placing.{IsPartOfPairs, part_base};
 
     /// Says how `count` pairs are cut.
     pub(crate) fn of(count: u64) -> Cut
@@ -79,7 +79,7 @@ impl Cut {
         requires cut { self.now.count ≡ length pairs.now }
         requires within { j < self.now.children }
         requires start { start ≡ part_start (length pairs.now) j }
-        ensures part { IsPart pairs.now j start result.now }
+        ensures part { IsPartOfPairs pairs.now j start result.now }
     {
         &pairs[start..self.next_start(j, start)]
     }

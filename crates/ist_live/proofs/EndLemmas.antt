@@ -7,7 +7,7 @@ use Rattle.ist_find.specs.Spans.{IsEdge}
 use Rattle.ist_find.specs.Sweeps.{one_of}
 use Rattle.ist_tree.specs.Faces.{PassFace}
 use Rattle.ist_tree.specs.Spans.{state_seen}
-use Rattle.ist_live.specs.Reading.{Begins, HasRead, Had, HadNone, HasReadSpan, ReadsUp, ReadsDown, none_up, span_up, none_down, span_down}
+use Rattle.ist_live.specs.Reading.{Begins, HasOnlyRead, Had, HadNone, HasReadSpan, ReadsUp, ReadsDown, none_up, span_up, none_down, span_down}
 use Rattle.ist_live.specs.Lists.{value_among}
 use Rattle.ist_live.specs.Ends.{IsNextUp, IsNextDown, end_up, end_down}
 use Rattle.ist_live.proofs.ReadLemmas.{read_not, read_more, had_before, had_after, up_to_pair, down_to_pair}
@@ -47,7 +47,7 @@ next_up p q first pair r = next_listed p q first pair (all_up p first q (end_up 
 
 -- what is so where no pair was found yet
 pub record NoneRead (p m : PassFace) (from behind : ℕ) : Type 0 where
-  pub read : HasRead p m
+  pub read : HasOnlyRead p m
   pub under : from ≤ behind
   pub none : HadNone p m from behind
 
@@ -97,13 +97,13 @@ next_down p m q asked from behind None r s =
 
 -- a read found this as the next pair upwards, span after span
 pub record FoundUp (p q : PassFace) (key : ℕ) (pair : Option Pair) : Type 0 where
-  pub read : HasRead p q
+  pub read : HasOnlyRead p q
   pub next : IsNextUp p q key pair
   pub spans : ReadsUp p key q (end_up pair) (one_of pair)
 
 -- the keys from this one up to another were read, and none had a value
 pub record IsUpTo (p m : PassFace) (key from : ℕ) : Type 0 where
-  pub read : HasRead p m
+  pub read : HasOnlyRead p m
   pub reads : ReadsUp p key m from []
   pub begins : Begins m key from
   pub small : from < 2 ^ 64
@@ -143,13 +143,13 @@ module _ (p m q : PassFace) (key from to : ℕ) (o : Option Pair) (h : IsUpTo p 
 
 -- a read found this as the next pair downwards, span after span
 pub record FoundDown (p q : PassFace) (behind : ℕ) (pair : Option Pair) : Type 0 where
-  pub read : HasRead p q
+  pub read : HasOnlyRead p q
   pub next : IsNextDown p q behind pair
   pub spans : ReadsDown p behind q (end_down pair) (one_of pair)
 
 -- the keys below this one down to another were read, and none had a value
 pub record IsDownTo (p m : PassFace) (behind from : ℕ) : Type 0 where
-  pub read : HasRead p m
+  pub read : HasOnlyRead p m
   pub reads : ReadsDown p behind m from []
   pub begins : Begins m behind from
 

@@ -7,7 +7,7 @@ use Rattle.ist_core.specs.declared.pairs.Pair.{Pair}
 use Rattle.ist_core.specs.Elements.{Among, Each}
 use Rattle.ist_core.proofs.ElementLemmas.{each_append, each-among, among-append}
 use Rattle.ist_tree.specs.Faces.{PassFace}
-use Rattle.ist_live.specs.Reading.{HasRead, Had}
+use Rattle.ist_live.specs.Reading.{HasOnlyRead, Had}
 use Rattle.ist_live.specs.Lists.{value_among, AreLive, AreInTurn, HadInTurn}
 use Rattle.ist_live.proofs.ListLemmas.{other_first, each_higher, rises_on}
 use Rattle.ist_live.proofs.ReadLemmas.{read_more, had_before, had_after}
@@ -104,7 +104,7 @@ live_had p q first last pairs h x a =
     let within = each-among (λ (y : Pair). (first ≤ y.key) × (y.key ≤ last)) x pairs h.within a in
     subst (Had p q x.key) (among_own pairs x h.rise a) (h.values x.key within.0 within.1)
 
-module _ (p m q : PassFace) (first from last : ℕ) (xs ys : List Pair) (r : HasRead p m) (s : HasRead m q)
+module _ (p m q : PassFace) (first from last : ℕ) (xs ys : List Pair) (r : HasOnlyRead p m) (s : HasOnlyRead m q)
     (low : first < from) (high : from ≤ last) (a : AreLive p m first (from - 1) xs)
     (b : AreLive m q from last ys) where
   below : Each (λ x. x.key < from) xs

@@ -9,7 +9,7 @@ use Rattle.ist_core.specs.Elements.{Each}
 use Rattle.ist_core.proofs.ElementLemmas.{each_append}
 use Rattle.ist_tree.specs.Faces.{PassFace}
 use Rattle.ist_find.specs.Sweeps.{one_of}
-use Rattle.ist_live.specs.Reading.{HasRead, Had, ReadsUp}
+use Rattle.ist_live.specs.Reading.{HasOnlyRead, Had, ReadsUp}
 use Rattle.ist_live.specs.Lists.{value_among, AreLive}
 use Rattle.ist_live.proofs.SlotLemmas.{HasReadSlot, SweepsUp, none_up, later_up, slot_up, slots_of}
 use Rattle.ist_live.proofs.ReadLemmas.{read_not, read_more, had_before, had_after}
@@ -82,7 +82,7 @@ rises_on pairs pair from low h rises =
 
 -- each key before `behind` had what the pairs give it, at a position of its own
 pub record Listed (p q : PassFace) (first behind : ℕ) (pairs : List Pair) : Type 0 where
-  pub read : HasRead p q
+  pub read : HasOnlyRead p q
   pub above : first ≤ behind
   pub rise : IsStrictlyIncreasing (map (λ (x : Pair). x.key) pairs)
   pub low : Each (λ x. x.key < behind) pairs
@@ -111,7 +111,7 @@ each_higher (x ∷ pairs) from to h e = let less = e.0 in (omega arith, each_hig
 -- those of one span more
 module _ (p m q : PassFace) (first from behind : ℕ) (pairs : List Pair)
     (h : Listed p m first from pairs) where
-  before : HasRead m q → (k : ℕ) → first ≤ k → k < from → Had p q k (value_among pairs k)
+  before : HasOnlyRead m q → (k : ℕ) → first ≤ k → k < from → Had p q k (value_among pairs k)
   before r k low high = had_after p m q r k (value_among pairs k) (h.values k low high)
 
   listed_on : (pair : Option Pair) → HasReadSlot m q from behind pair
@@ -151,7 +151,7 @@ module _ (p m q : PassFace) (first from behind : ℕ) (pairs : List Pair)
 
 -- the same keys at a later moment
 listed_later : (p m q : PassFace) (first behind : ℕ) (pairs : List Pair)
-    → Listed p m first behind pairs → HasRead m q → Listed p q first behind pairs
+    → Listed p m first behind pairs → HasOnlyRead m q → Listed p q first behind pairs
 listed_later p m q first behind pairs h r =
     record {
       read = read_more p m q h.read r;

@@ -6,8 +6,8 @@ use Rattle.ist_core.specs.RowLayout.{anchor}
 use Rattle.ist_find.specs.Sweeps.{Swept, none_swept, later_swept, row_swept, slot_swept}
 use Rattle.ist_tree.specs.Faces.{PassFace}
 use Rattle.ist_tree.specs.Sweeps.{HasSweptOver}
-use Rattle.ist_live.specs.Reading.{HasRead}
-use Rattle.ist_live.specs.Lists.{HasListed}
+use Rattle.ist_live.specs.Reading.{HasOnlyRead}
+use Rattle.ist_live.specs.Lists.{HasListedLive}
 use Rattle.ist_live.proofs.SlotLemmas.{SweepsUp, none_up, later_up, slot_up}
 
 -- the moment of the pass at which it would have seen this log
@@ -15,7 +15,7 @@ abbrev moment : PassFace → Log → PassFace
 moment p log = record p { seen = log }
 
 -- from one log to a longer one
-moments : (p : PassFace) (a b : Log) → GoesOn a b → HasRead (moment p a) (moment p b)
+moments : (p : PassFace) (a b : Log) → GoesOn a b → HasOnlyRead (moment p a) (moment p b)
 moments p a b g =
     record {
       seen = record { tree = refl; number = refl; seen = g; stamp = omega arith };
@@ -25,7 +25,7 @@ moments p a b g =
     }
 
 -- and from a log to what the pass has seen in the end
-to_end : (p q : PassFace) → HasRead p q → (a : Log) → GoesOn a q.seen → HasRead (moment p a) q
+to_end : (p q : PassFace) → HasOnlyRead p q → (a : Log) → GoesOn a q.seen → HasOnlyRead (moment p a) q
 to_end p q r a g =
     record {
       seen = record { tree = r.seen.tree; number = r.seen.number; seen = g; stamp = r.seen.stamp };
@@ -52,7 +52,7 @@ slots_at p first above _ _ _ _ _ (slot_swept {at = at} {later = later} {low = lo
     }
 
 -- so the pass has read the keys
-pub swept_up : (p q : PassFace) → HasRead p q → (first last : ℕ) (old new : List Pair) → old ≡ []
+pub swept_up : (p q : PassFace) → HasOnlyRead p q → (first last : ℕ) (old new : List Pair) → old ≡ []
     → HasSweptOver p q first last old new → SweepsUp p first q (last + 1) new
 swept_up p q r first last old new none h =
     subst (SweepsUp p first q (last + 1)) (sym (h.are ∙ ap (λ xs. xs ++ h.found) none))
@@ -61,7 +61,7 @@ swept_up p q r first last old new none h =
 
 -- and listed them
 pub has_listed : (p q : PassFace) (first last : ℕ) (old new : List Pair) → old ≡ []
-    → HasSweptOver p q first last old new → HasListed p q first last new
+    → HasSweptOver p q first last old new → HasListedLive p q first last new
 has_listed p q first last old new none h =
     record {
       behind = last + 1;
@@ -77,7 +77,7 @@ has_listed p q first last old new none h =
     }
 
 -- if there is no key to read, it listed none
-pub none_listed : (p : PassFace) (first last : ℕ) → last < first → HasListed p p first last []
+pub none_listed : (p : PassFace) (first last : ℕ) → last < first → HasListedLive p p first last []
 none_listed p first last less =
     record {
       behind = first;

@@ -10,7 +10,7 @@ use Rattle.ist_find.specs.Spans.{pair_value}
 use Rattle.ist_tree.specs.Calls.{HasSeenMore}
 use Rattle.ist_tree.specs.Faces.{PassFace}
 use Rattle.ist_tree.specs.Spans.{AllHave, HasLoadedFewOver}
-use Rattle.ist_live.specs.Reading.{HasRead, Had, HasReadSpan}
+use Rattle.ist_live.specs.Reading.{HasOnlyRead, Had, HasReadSpan}
 
 goes_on_trans : (a b c : Log) → GoesOn a b → GoesOn b c → GoesOn a c
 goes_on_trans a b _ x same_log = x
@@ -28,7 +28,7 @@ seen_more p m q a b =
     }
 
 -- nothing was read yet
-pub read_not : (p : PassFace) → HasRead p p
+pub read_not : (p : PassFace) → HasOnlyRead p p
 read_not p =
     record {
       seen = record { tree = refl; number = refl; seen = same_log; stamp = omega arith };
@@ -38,7 +38,7 @@ read_not p =
     }
 
 -- two reads are one
-pub read_more : (p m q : PassFace) → HasRead p m → HasRead m q → HasRead p q
+pub read_more : (p m q : PassFace) → HasOnlyRead p m → HasOnlyRead m q → HasOnlyRead p q
 read_more p m q a b =
     record {
       seen = seen_more p m q a.seen b.seen;
@@ -48,20 +48,20 @@ read_more p m q a b =
     }
 
 -- what a key had after what was read so far, it had since the beginning
-pub had_before : (p m q : PassFace) → HasRead p m → (k : ℕ) (value : Option ℕ) → Had m q k value
+pub had_before : (p m q : PassFace) → HasOnlyRead p m → (k : ℕ) (value : Option ℕ) → Had m q k value
     → Had p q k value
 had_before p m q r k value h =
     position_on p.tree.start p.tree.words p.seen m.seen q.seen q.seen r.seen.seen same_log k value
     (subst (λ t. HasPosition t.start t.words m.seen q.seen k value) r.seen.tree h)
 
 -- what it had so far, it has had still
-pub had_after : (p m q : PassFace) → HasRead m q → (k : ℕ) (value : Option ℕ) → Had p m k value
+pub had_after : (p m q : PassFace) → HasOnlyRead m q → (k : ℕ) (value : Option ℕ) → Had p m k value
     → Had p q k value
 had_after p m q r k value h =
     position_on p.tree.start p.tree.words p.seen p.seen m.seen q.seen same_log r.seen.seen k value h
 
 -- the part of a span that was asked for
-pub part_read : (p q : PassFace) (s : Span) (asked from to : ℕ) (pair : Option Pair) → HasRead p q
+pub part_read : (p q : PassFace) (s : Span) (asked from to : ℕ) (pair : Option Pair) → HasOnlyRead p q
     → AllHave p q s.first s.last s.pair → HasLoadedFewOver p q asked (pair_value s.pair asked)
     → s.first ≤ from → to ≤ s.last → from ≤ asked → asked ≤ to
     → IfSome pair (λ x. (from ≤ x.key) × (x.key ≤ to))

@@ -5,12 +5,12 @@ use Rattle.ist_find.specs.Spans.{pair_value}
 use Rattle.ist_find.specs.Sweeps.{one_of}
 use Rattle.ist_tree.specs.Faces.{PassFace}
 use Rattle.ist_live.specs.Reading as spans
-use Rattle.ist_live.specs.Reading.{HasRead, Had, ReadsUp}
+use Rattle.ist_live.specs.Reading.{HasOnlyRead, Had, ReadsUp}
 
 -- between these moments the keys of one slot were read, from the first up to its end: each had what the
 -- pair gives it at a position of its own
 pub record HasReadSlot (p q : PassFace) (first behind : ℕ) (pair : Option Pair) : Type 0 where
-  pub read : HasRead p q
+  pub read : HasOnlyRead p q
   pub some : first < behind
   pub within : IfSome pair (λ x. (first ≤ x.key) × (x.key < behind))
   -- each key of the range had the value that the pair gives it, at a position of its own
@@ -21,7 +21,7 @@ pub record HasReadSlot (p q : PassFace) (first behind : ℕ) (pair : Option Pair
 pub data SweepsUp (p : PassFace) (first : ℕ) : PassFace → ℕ → List Pair → Type 0 where
   none_up : SweepsUp p first p first []
   later_up : {m q : PassFace} {from : ℕ} {pairs : List Pair}
-      → SweepsUp p first m from pairs → HasRead m q → SweepsUp p first q from pairs
+      → SweepsUp p first m from pairs → HasOnlyRead m q → SweepsUp p first q from pairs
   slot_up : {m q : PassFace} {from behind : ℕ} {pairs : List Pair} (pair : Option Pair)
       → SweepsUp p first m from pairs → HasReadSlot m q from behind pair
       → SweepsUp p first q behind (pairs ++ one_of pair)

@@ -5,7 +5,7 @@ use Rattle.ist_core.specs.Elements.{Among}
 use Rattle.ist_core.proofs.ElementLemmas.{among-append, each-among}
 use Rattle.ist_tree.specs.Faces.{PassFace}
 use Rattle.ist_find.specs.Sweeps.{one_of}
-use Rattle.ist_live.specs.Reading.{HasRead, Had}
+use Rattle.ist_live.specs.Reading.{HasOnlyRead, Had}
 use Rattle.ist_live.specs.Lists.{HadInTurn}
 use Rattle.ist_live.proofs.SlotLemmas.{HasReadSlot, SweepsUp, none_up, later_up, slot_up}
 use Rattle.ist_live.proofs.ReadLemmas.{read_more, had_before, had_after}
@@ -30,7 +30,7 @@ span_had m q from behind (Some y) s x (inr a) = absurd a
 span_had m q from behind None s x a = absurd a
 
 -- both were in turn at a later moment too
-pub turn_later : (p m q : PassFace) (x y : Pair) → HasRead m q → HadInTurn p m x y → HadInTurn p q x y
+pub turn_later : (p m q : PassFace) (x y : Pair) → HasOnlyRead m q → HadInTurn p m x y → HadInTurn p q x y
 turn_later p m q x y r t =
     record {
       between = t.between;

@@ -7,7 +7,7 @@ use Rattle.ist_core.specs.Logs.{Log, GoesOn}
 use Rattle.ist_core.specs.RowLayout.{anchor}
 use Rattle.ist_tree.specs.Faces.{PassFace}
 use Rattle.ist_find.specs.Sweeps.{Swept}
-use Rattle.ist_live.specs.Reading.{HasRead, Had}
+use Rattle.ist_live.specs.Reading.{HasOnlyRead, Had}
 
 -- the value that the first of the pairs with this key gives it
 abbrev pub value_among : List Pair → ℕ → Option ℕ
@@ -24,7 +24,7 @@ pub record AreLive (p q : PassFace) (first last : ℕ) (pairs : List Pair) : Typ
 -- the pass read all of these keys upwards, slot after slot, and found the pairs. Each key had what the
 -- pairs give it at a position of its own, and no earlier than the keys below it. It made few loads: 6 at
 -- most, and those that the sweep says
-pub record HasListed (p q : PassFace) (first last : ℕ) (pairs : List Pair) : Type 0 where
+pub record HasListedLive (p q : PassFace) (first last : ℕ) (pairs : List Pair) : Type 0 where
   pub behind : ℕ
   pub past : last < behind
   pub at : Log
@@ -38,8 +38,8 @@ pub record HasListed (p q : PassFace) (first last : ℕ) (pairs : List Pair) : T
 -- second at one after it
 pub record HadInTurn (p q : PassFace) (one other : Pair) : Type 0 where
   pub between : PassFace
-  pub before : HasRead p between
-  pub after : HasRead between q
+  pub before : HasOnlyRead p between
+  pub after : HasOnlyRead between q
   pub one_had : Had p between one.key (Some one.value)
   pub other_had : Had between q other.key (Some other.value)
 

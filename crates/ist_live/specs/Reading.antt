@@ -9,7 +9,7 @@ use Rattle.ist_tree.specs.Faces.{PassFace}
 use Rattle.ist_tree.specs.Spans.{HasLoadedFewOver, state_seen}
 
 -- the pass has seen more, and is otherwise unchanged: a read is no call of the map
-pub record HasRead (p q : PassFace) : Type 0 where
+pub record HasOnlyRead (p q : PassFace) : Type 0 where
   pub seen : HasSeenMore p q
   pub calls : q.calls ≡ p.calls
   pub stamp : q.stamp ≡ p.stamp
@@ -28,7 +28,7 @@ HadNone p q first behind = (k : ℕ) → first ≤ k → k < behind → Had p q 
 -- by one search for the key that was asked for, the pass read all keys from the first to before `behind`:
 -- each had what the pair gives it at a position of its own
 pub record HasReadSpan (p q : PassFace) (asked first behind : ℕ) (pair : Option Pair) : Type 0 where
-  pub read : HasRead p q
+  pub read : HasOnlyRead p q
   pub low : first ≤ asked
   pub high : asked < behind
   pub within : IfSome pair (λ x. (first ≤ x.key) × (x.key < behind))

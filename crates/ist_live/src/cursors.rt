@@ -1,6 +1,6 @@
 //! A cursor over the pairs of a tree that others change.
 ghost use Rattle.std.specs.Prelude.{◌≡◌, ◌+◌, ◌^◌};
-ghost use Rattle.ist_live.specs.Reading.{HasRead};
+ghost use Rattle.ist_live.specs.Reading.{HasOnlyRead};
 ghost use Rattle.ist_live.specs.Ends.{IsNextUp, IsNextDown, end_up, end_down};
 
 use crate::ends::{at_least, at_most};
@@ -54,7 +54,7 @@ impl Live {
     /// had at positions of their own, as of `at_least`.
     pub fn up(&mut self, tree: &Tree, pass: &mut Pass) -> Option<Pair>
         requires same_tree { pass.old.tree ≡ tree.now }
-        ensures read { HasRead pass.old pass.new }
+        ensures read { HasOnlyRead pass.old pass.new }
         ensures next { IsNextUp pass.old pass.new self.old result }
         ensures place { self.new ≡ end_up result }
     {
@@ -77,7 +77,7 @@ impl Live {
     /// Otherwise as `up`, in decreasing order of keys.
     pub fn down(&mut self, tree: &Tree, pass: &mut Pass) -> Option<Pair>
         requires same_tree { pass.old.tree ≡ tree.now }
-        ensures read { HasRead pass.old pass.new }
+        ensures read { HasOnlyRead pass.old pass.new }
         ensures next { IsNextDown pass.old pass.new self.old result }
         ensures place { self.new ≡ end_down result }
     {

@@ -1,7 +1,7 @@
 //! The next pair above or below a key.
 ghost use Rattle.std.specs.Prelude.{◌≡◌, ◌+◌};
 ghost use Rattle.ist_find.specs.Sweeps.{one_of};
-ghost use Rattle.ist_live.specs.Reading.{HasRead, ReadsUp, ReadsDown};
+ghost use Rattle.ist_live.specs.Reading.{HasOnlyRead, ReadsUp, ReadsDown};
 ghost use Rattle.ist_live.specs.Ends.{IsNextUp, IsNextDown, end_up, end_down};
 
 use crate::parts::{Part, read_down, read_up};
@@ -16,7 +16,7 @@ use ist_tree::{Pass, Tree};
 /// it takes as many searches as there are empty slots on its way, and one more.
 pub fn at_least(tree: &Tree, pass: &mut Pass, key: u64) -> Option<Pair>
     requires same_tree { pass.old.tree ≡ tree.now }
-    ensures read { HasRead pass.old pass.new }
+    ensures read { HasOnlyRead pass.old pass.new }
     ensures next { IsNextUp pass.old pass.new key result }
     ensures spans { ReadsUp pass.old key pass.new (end_up result) (one_of result) }
 {
@@ -39,7 +39,7 @@ pub fn at_least(tree: &Tree, pass: &mut Pass, key: u64) -> Option<Pair>
 /// `at_least`.
 pub fn at_most(tree: &Tree, pass: &mut Pass, key: u64) -> Option<Pair>
     requires same_tree { pass.old.tree ≡ tree.now }
-    ensures read { HasRead pass.old pass.new }
+    ensures read { HasOnlyRead pass.old pass.new }
     ensures next { IsNextDown pass.old pass.new (key + 1) result }
     ensures spans { ReadsDown pass.old (key + 1) pass.new (end_down result) (one_of result) }
 {

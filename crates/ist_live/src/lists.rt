@@ -1,7 +1,7 @@
 //! The pairs between two keys.
 ghost use Rattle.std.specs.Prelude.{◌≡◌, IfOk};
-ghost use Rattle.ist_live.specs.Reading.{HasRead};
-ghost use Rattle.ist_live.specs.Lists.{AreInTurn, AreLive, HasListed};
+ghost use Rattle.ist_live.specs.Reading.{HasOnlyRead};
+ghost use Rattle.ist_live.specs.Lists.{AreInTurn, AreLive, HasListedLive};
 
 use ist_core::Pair;
 use ist_tree::{Pass, Tree};
@@ -22,10 +22,10 @@ pub fn list_live(
     last: u64,
 ) -> Result<Vec<Pair>, AllocError>
     requires same_tree { pass.old.tree ≡ tree.now }
-    ensures read { HasRead pass.old pass.new }
+    ensures read { HasOnlyRead pass.old pass.new }
     ensures live { IfOk result (λ found. AreLive pass.old pass.new first last found.items) }
     ensures in_turn { IfOk result (λ found. AreInTurn pass.old pass.new found.items) }
-    ensures spans { IfOk result (λ found. HasListed pass.old pass.new first last found.items) }
+    ensures spans { IfOk result (λ found. HasListedLive pass.old pass.new first last found.items) }
 {
     let mut found = Vec::new(alloc);
     if last < first {

@@ -9,7 +9,7 @@ use Rattle.ist_words.specs.RestingWords.{HoldPairs}
 use Rattle.ist_tree.specs.Faces.{TreeFace, MakerFace}
 use Rattle.ist_tree.specs.Opening.{IsNewTree}
 use Rattle.ist_tree.specs.Closing.{ClosesWith, told_to}
-use Rattle.ist_map.specs.Reopening.{OpensAfter, Follows}
+use Rattle.ist_map.specs.Reopening.{OpensAfter, BeginsAfter}
 
 -- a new tree of the pairs that were found in closed words
 pub opens_after : (closed : List ℕ) (words : ℕ) (given found : List Pair) (tree : TreeFace)
@@ -28,7 +28,7 @@ opens_after closed words given found tree maker new same holds of_map =
 -- if the words were closed with this maker, it begins with what the maker's passes left
 pub follows : (m : MakerFace) (closed : List ℕ) (words : ℕ) (tree : TreeFace) (maker : MakerFace)
     → length closed ≡ m.tree.words → ClosesWith m closed → OpensAfter closed words tree maker
-    → Follows m words tree maker
+    → BeginsAfter m words tree maker
 follows m closed words tree maker size closes opened = record {
   closed = closed;
   size = size;

@@ -20,7 +20,7 @@ use Rattle.ist_map.specs.Generations.{Generation, generation_of, IsGeneration, F
 use Rattle.ist_map.specs.Interleaving.{calls_of, told_over}
 use Rattle.ist_map.specs.Hands.{HaveWorked}
 use Rattle.ist_map.specs.declared.faults.ReopenFault.{ReopenFault}
-use Rattle.ist_map.specs.Running.{HasRun, IsOneHistory, IsRunFault}
+use Rattle.ist_map.specs.Running.{HasRunOn, IsOneHistory, IsRunFault}
 use Rattle.ist_map.proofs.GenerationLemmas.{closed_is, history_legal, history_leads}
 use Rattle.ist_map.proofs.PassLemmas.{made_over}
 
@@ -48,7 +48,7 @@ holds_some words s = hold_map words s.0 s.1 s.2
 
 -- a run of no tree: the words and what was told are as they were
 pub run_none : (words : List ℕ) (told : List (List Answered)) → Stands words
-    → HasRun words words told told
+    → HasRunOn words words told told
 run_none words told s = record {
   began = pairs_of (map_now s.0 (length words) s.2.log);
   began_held = holds_some words s;
@@ -61,8 +61,8 @@ run_none words told s = record {
 
 -- a run that goes on from where another ended is one run with it
 pub run_on : (first middle last : List ℕ) (before between after : List (List Answered))
-    → HasRun first middle before between → HasRun middle last between after
-    → HasRun first last before after
+    → HasRunOn first middle before between → HasRunOn middle last between after
+    → HasRunOn first last before after
 run_on first middle last before between after a b =
     let same : a.ended ≡ b.began = same_pairs middle a.ended b.began a.ended_held b.began_held in
     record {
@@ -85,7 +85,7 @@ run_on first middle last before between after a b =
 -- a run on one tree, which begins with the pairs of the words and was closed with this maker
 pub run_one : (first last : List ℕ) (before after : List (List Answered)) (m : MakerFace)
     → HoldPairs first m.tree.start → ClosesWith m last
-    → HaveWorked before (calls_taken m) after → HasRun first last before after
+    → HaveWorked before (calls_taken m) after → HasRunOn first last before after
 run_one first last before after m holds c worked = record {
   began = m.tree.start;
   began_held = holds;
@@ -100,7 +100,7 @@ run_one first last before after m holds c worked = record {
 
 -- the calls of a run are one legal history
 pub run_is_one : (first last : List ℕ) (before after : List (List Answered))
-    → HasRun first last before after → IsOneHistory first last before after
+    → HasRunOn first last before after → IsOneHistory first last before after
 run_is_one first last before after r = record {
   began = r.began;
   began_held = r.began_held;

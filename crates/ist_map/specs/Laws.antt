@@ -9,7 +9,7 @@ use Rattle.ist_tree.specs.Closing.{ClosesWith}
 use Rattle.ist_map.specs.Generations.{Generation, generation_of, IsGeneration, FollowOn, history}
 use Rattle.ist_map.specs.Generations.{map_told}
 use Rattle.ist_map.specs.Interleaving.{IsMadeOf, told_over}
-use Rattle.ist_map.specs.Running.{HasRun, IsOneHistory}
+use Rattle.ist_map.specs.Running.{HasRunOn, IsOneHistory}
 
 -- a tree that was closed is a generation
 abbrev pub ClosedTreesAreGenerations : Type 0
@@ -40,4 +40,4 @@ HistoriesAreMadeOfCalls =
 abbrev pub RunsAreOneHistory : Type 0
 RunsAreOneHistory =
     (first last : List ℕ) (before after : List (List Answered))
-    → HasRun first last before after → IsOneHistory first last before after
+    → HasRunOn first last before after → IsOneHistory first last before after

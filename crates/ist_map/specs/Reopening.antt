@@ -27,7 +27,7 @@ pub record OpensAfter (closed : List ℕ) (words : ℕ) (tree : TreeFace) (maker
 
 -- the tree begins with exactly the pairs that an earlier one left, which was closed with this
 -- maker: the pairs of the map after all calls of its passes, from the pairs that it began with
-pub record Follows (m : MakerFace) (words : ℕ) (tree : TreeFace) (maker : MakerFace)
+pub record BeginsAfter (m : MakerFace) (words : ℕ) (tree : TreeFace) (maker : MakerFace)
     : Type 0 where
   pub closed : List ℕ
   pub size : length closed ≡ m.tree.words

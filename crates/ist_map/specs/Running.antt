@@ -18,7 +18,7 @@ use Rattle.ist_map.specs.Reopening.{OpensAfter, IsReopenFaultOf}
 -- words `first` hold, each other one with those that the tree before it left, and `last` holds what
 -- the last one left. Worker number w made exactly the calls of the pass with number w on each tree,
 -- and was told their replies, in order
-pub record HasRun (first last : List ℕ) (before after : List (List Answered)) : Type 0 where
+pub record HasRunOn (first last : List ℕ) (before after : List (List Answered)) : Type 0 where
   pub began : List Pair
   pub began_held : HoldPairs first began
   pub ended : List Pair

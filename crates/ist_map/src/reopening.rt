@@ -2,7 +2,7 @@
 ghost use Rattle.std.specs.Prelude.{◌≡◌, ◌≤◌, length, IfOk, IfErr, OnOk};
 ghost use Rattle.ist_core.specs.RowLayout.{place_limit};
 ghost use Rattle.ist_tree.specs.Closing.{ClosesWith};
-ghost use Rattle.ist_map.specs.Reopening.{OpensAfter, Follows, IsReopenFaultOf};
+ghost use Rattle.ist_map.specs.Reopening.{OpensAfter, BeginsAfter, IsReopenFaultOf};
 
 use crate::faults::{NotReopened, ReopenFault};
 use ist_image::Image;
@@ -51,7 +51,7 @@ pub fn reopen(
 ) -> Result<(Tree, Maker), NotReopened>
     requires same_tree { maker.tree ≡ tree }
     requires all_back { length maker.taken ≡ maker.made }
-    ensures follows { IfOk result (λ t. Follows maker words t.0 t.1) }
+    ensures follows { IfOk result (λ t. BeginsAfter maker words t.0 t.1) }
     ensures kept { IfErr result (λ n. ClosesWith maker n.closed) }
     ensures fault { IfErr result (λ n. IsReopenFaultOf n.closed words n.fault) }
 {

@@ -5,7 +5,7 @@ ghost use Rattle.ist_core.specs.Enabled.{caller_limit};
 ghost use Rattle.ist_core.specs.RowLayout.{place_limit};
 ghost use Rattle.ist_words.specs.RestingWords.{HoldPairs};
 ghost use Rattle.ist_tree.specs.Opening.{IsNewTree};
-ghost use Rattle.ist_map.specs.Running.{HasRun, OpensEnough, IsRunFault, IsOpenFaultOf};
+ghost use Rattle.ist_map.specs.Running.{HasRunOn, OpensEnough, IsRunFault, IsOpenFaultOf};
 
 use crate::faults::ReopenFault;
 use crate::hands::{Hand, Worker, dismiss_all, has_refused, hire_all, work_all};
@@ -93,7 +93,7 @@ impl Map {
         hands: &mut [Hand<W>],
     ) -> Result<(), ReopenFault>
         requires few { length hands.old ≤ caller_limit }
-        ensures ran { HasRun self.old.closed self.new.closed
+        ensures ran { HasRunOn self.old.closed self.new.closed
             (map (λ h. W.told h.worker) hands.old) (map (λ h. W.told h.worker) hands.new) }
         ensures done { OnOk result (All (λ h. W.is_done h.worker) hands.new) }
         ensures fault { IfErr result (IsRunFault self.new.closed self.old.words) }
@@ -116,7 +116,7 @@ impl Map {
         hands: &mut [Hand<W>],
     ) -> Result<(), ReopenFault>
         requires few { length hands.old ≤ caller_limit }
-        ensures ran { HasRun self.old.closed self.new.closed
+        ensures ran { HasRunOn self.old.closed self.new.closed
             (map (λ h. W.told h.worker) hands.old) (map (λ h. W.told h.worker) hands.new) }
         ensures more { OnOk result (self.old.words ≤ self.new.words) }
         ensures some { OnOk result (0 < self.new.words) }

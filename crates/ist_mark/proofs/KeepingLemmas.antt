@@ -1,4 +1,4 @@
--- What a seat knows of nodes stays true in later views. Serves each function.
+-- What a caller knows of nodes stays true in later views. Serves each function.
 use Rattle.std.proofs.Common.{◌≡◌, ℕ, Option, Some, ◌∙◌}
 use Rattle.ist_core.specs.declared.events.Event.{Event}
 use Rattle.ist_core.specs.declared.states.InnerRow.{InnerRow}
@@ -75,7 +75,7 @@ module _ (P : Event → Type 0) (v w : View) (g : WentOn P v w) where
       behind_rebuild above i word rebuild (happened_went (Passes above i word) p) is
       (target_grows (now v) (now w) (went_grow P v w g) rebuild node t)
 
-  -- a seat that may mark a node still may after it went on
+  -- a caller that may mark a node still may after it went on
   pub may_mark_went : (node : ℕ) → MayMark v node → MayMark w node
   may_mark_went node m =
       record {

@@ -35,7 +35,7 @@ use Rattle.ist_mark.specs.Passing.{IsClosed, MayPass}
 use Rattle.ist_mark.proofs.KeepingLemmas.{inner_went, closed_went}
 use Rattle.ist_mark.proofs.NodeLemmas.{called_inner}
 
--- the log before an event of the seat is lawful
+-- the log before an event of the caller is lawful
 pub before_enabled : (v : View) (event : Event) (w : View) (l : Logged v event w)
     → EachEnabled (start v.start v.words) l.before
 before_enabled v event w l =

@@ -1,4 +1,4 @@
--- The rows of a subtree, and steps of marking it, as seats go on. Serves each function.
+-- The rows of a subtree, and steps of marking it, as callers go on. Serves each function.
 use Rattle.std.proofs.Common.{◌≡◌, ℕ, refl, sym, ap, ◌∙◌, subst}
 use Rattle.ist_core.specs.declared.events.Event.{Event}
 use Rattle.ist_core.specs.declared.events.Event.TheVariants.{Enter, Reserve, Install, Okay, Decide, Resolve, Count, Mark, Pass, Finish, Root, Draw, Place, Lose}
@@ -140,7 +140,7 @@ marks_keep v node (Root caller rebuild word rows) is = absurd is
 marks_keep v node (Place caller rebuild i word rows) is = absurd is
 marks_keep v node (Lose caller bases) is = absurd is
 
--- ---- seats that mark
+-- ---- callers that mark
 
 -- marking on
 pub marked_more : (node : ℕ) (u v w : View) → WentOn (Marks v node) u v → WentOn (Marks w node) v w
@@ -171,7 +171,7 @@ marked_help node base u v w a m h =
       under = subst (LiesUnder (now w) w.log node) node_is the_node;
     }) v w h)
 
--- ---- seats that only mark
+-- ---- callers that only mark
 
 -- marking on twice
 pub mark_more : (node : ℕ) (a b c : SeatFace) → HasMarked node a b → HasMarked node b c
@@ -193,7 +193,7 @@ mark_lower node child a b c first under second =
       search = keeps_more a.view b.view c.view first.search second.search;
     }
 
--- a seat that did nothing has only marked
+-- a caller that did nothing has only marked
 pub mark_same : (node : ℕ) (a : SeatFace) → IsSound a.view → HasMarked node a a
 mark_same node a s =
     record {

@@ -1,4 +1,4 @@
--- Marking a subtree: when a seat may, which rows are of it, and what it does to the seat's log.
+-- Marking a subtree: when a caller may, which rows are of it, and what it does to its log.
 use Rattle.std.specs.Prelude.{◌≡◌, ℕ, Some}
 use Rattle.ist_core.specs.declared.events.Event.{Event}
 use Rattle.ist_core.specs.declared.events.Event.TheVariants.{Okay, Decide, Resolve, Mark, Pass, Finish}
@@ -27,8 +27,8 @@ pub data LeadsTo (t : Snapshot) (word child : ℕ) : Type 0 where
   to_target : (rebuild : ℕ) → ref_of word ≡ Some (RebuildAt rebuild) → HasTarget t rebuild child
       → LeadsTo t word child
 
--- the row is the node, or hangs below it: a slot of such a row was passed, with a word that leads to
--- the row. A passed slot reads as this word from then on
+-- the row is the node, or hangs below it: a slot of such a row was passed, with a word that leads
+-- to the row. A passed slot reads as this word from then on
 pub data LiesUnder (t : Snapshot) (log : Log) (node : ℕ) : ℕ → Type 0 where
   the_node : LiesUnder t log node node
   one_lower : {above row : ℕ} (i word : ℕ) → LiesUnder t log node above → IsFrozen log above i word

@@ -38,7 +38,7 @@ pub record IsMetAt (v : View) (node change : ℕ) : Type 0 where
   pub node_is : may_help.row.node ≡ node
   pub unresolved : ¬ (Happened (Resolves change) v.log)
 
--- the seat only marked: it has made steps of marking the subtree of the node, and kept its search
+-- the caller only marked: it has made steps of marking the subtree of the node, and kept its search
 pub record HasMarked (node : ℕ) (old new : SeatFace) : Type 0 where
   pub same_table : new.table ≡ old.table
   pub went : WentOn (Marks new.view node) old.view new.view
@@ -82,8 +82,8 @@ pub data AreCounted (t : Snapshot) (log : Log) (node : ℕ) : ℕ → ℕ → Ty
   one_slot_more : {i k here : ℕ} (word : ℕ) → AreCounted t log node i k → IsFrozen log node i word
       → CountsFor t (ref_of word) here → AreCounted t log node (i + 1) (k + here)
 
--- a caller may finish a node that isn't open with `keys` keys: all its slots were passed, with words
--- that count for that many in all
+-- a caller may finish a node that isn't open with `keys` keys: all its slots were passed, with
+-- words that count for that many in all
 pub record MayFinish (v : View) (node keys : ℕ) : Type 0 where
   pub number : ℕ
   pub mine : v.who ≡ Caller number

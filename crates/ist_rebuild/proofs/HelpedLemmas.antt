@@ -56,7 +56,7 @@ started_went P v w g rebuild s = started_grows (now v) (now w) (went_grow P v w 
 
 -- ---- events that keep the caller's rows
 
--- a caller whose seat went on by such events has helped
+-- a caller that went on by such events has helped
 kept_helped : (who : Caller) (seat : SeatFace) → IsReady who → (P : Event → Type 0)
     → ((event : Event) → P event → KeepsRows event) → ((event : Event) → P event → Serves event)
     → WentOn P who.seat.view seat.view → HasHelped who (record who { seat = seat })

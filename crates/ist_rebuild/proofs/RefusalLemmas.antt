@@ -49,7 +49,7 @@ row_refused old new rebuild words full h =
       asked = for_change h.cause.asked;
     }
 
--- the refusal of a call holds from an earlier view too, if the seat helped in between
+-- the refusal of a call holds from an earlier view too, if the caller helped in between
 pub refused_more : (u v w : View) (rebuild words : ℕ) (full : Full) → WentOn Serves u v
     → IsHelpRefused v rebuild words full w → IsHelpRefused u rebuild words full w
 refused_more u v w rebuild words full g h =

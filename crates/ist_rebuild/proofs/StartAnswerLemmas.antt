@@ -89,7 +89,7 @@ module _ (who : Caller) (parent index target rebuild change : ℕ) (f : Filling)
   good : IsGoodBase rebuild
   good = rebuild_good who rebuild change ready.rows ready.caller s
 
-  -- ---- how the seat went on
+  -- ---- how the caller went on
 
   -- putting a start in only makes steps of a start
   pub put_begins : (said : Bool) → HasPutIn v change plan said w → WentOn Begins v w

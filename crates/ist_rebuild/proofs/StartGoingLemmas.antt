@@ -1,4 +1,4 @@
--- How a seat goes on while its caller starts a rebuild. Serves `start`.
+-- How a caller goes on while it starts a rebuild. Serves `start`.
 use Rattle.std.proofs.Common.{◌≡◌, ℕ, Bool, Some, refl, ap, ◌∙◌}
 use Rattle.ist_build.specs.Laying.{Reserves}
 use Rattle.ist_core.specs.declared.events.Event.{Event}
@@ -47,7 +47,7 @@ pub record HasPutIn (v : View) (change : ℕ) (f : Filling) (said : Bool) (w : V
   pub helped : WentOn (Serves change) between w
   pub decided : IsDecided w change said
 
--- the seat of one that installed a start, and helped it, went on by these events
+-- the caller of one that installed a start, and helped it, went on by these events
 pub put_went : (P : Event → Type 0) (v : View) (change : ℕ) (f : Filling) (said : Bool) (w : View)
     → HasPutIn v change f said w → ((number : ℕ) → P (Install number change (rows_of f change)))
     → ((event : Event) → Serves change event → P event) → WentOn P v w

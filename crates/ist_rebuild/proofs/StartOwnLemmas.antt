@@ -97,7 +97,7 @@ module _ (pairs : List Pair) (words : ℕ) (opens : CanOpen pairs words) where
           (enabled_before (start pairs words) earlier log (goes_on later) all.0) base can.change old
           can.pending.unset (resolved base can.change old mine))
 
--- ---- of a seat that went on
+-- ---- of a caller that went on
 
 module _ (P : Event → Type 0) (v w : View) (g : WentOn P v w) (number but : ℕ)
     (mine : v.who ≡ Caller number) (only : (event : Event) → P event → InstallsBut number but event)
@@ -127,7 +127,7 @@ module _ (P : Event → Type 0) (v w : View) (g : WentOn P v w) (number but : �
       (done base x old own kind said rebuild to))))
       (eqb_tells base but)
 
--- if a seat has only reserved, no change on the node was decided no since
+-- if a caller has only reserved, no change on the node was decided no since
 pub unrefused_reserving : (v w : View) → WentOn Reserves v w → (number node : ℕ)
     → v.who ≡ Caller number → IsResolved v number → IsUnrefused (now v) number node
     → IsUnrefused (now w) number node
@@ -136,7 +136,7 @@ unrefused_reserving v w g number node mine resolved none base x e own on =
     (own_was Reserves v w g number (base + 1) mine (reserves_but number (base + 1)) resolved base x
     e own (λ same. let more : base ≡ base + 1 = same in omega arith)) own on
 
--- if a seat has only reserved, the starts that were decided yes are done, if all were
+-- if a caller has only reserved, the starts that were decided yes are done, if all were
 pub starts_reserving : (v w : View) → WentOn Reserves v w → (number : ℕ) → v.who ≡ Caller number
     → IsResolved v number → StartsAreDone (now v) number → StartsAreDone (now w) number
 starts_reserving v w g number mine resolved done base x e own kind said rebuild to =
@@ -144,7 +144,7 @@ starts_reserving v w g number mine resolved done base x e own kind said rebuild 
     (starts_but Reserves v w g number (base + 1) mine (reserves_but number (base + 1)) resolved done
     base x e own kind said rebuild to)
 
--- if a seat has only reserved, none was started
+-- if a caller has only reserved, none was started
 pub starts_none_reserving : (v w : View) → WentOn Reserves v w → (number : ℕ)
     → v.who ≡ Caller number → IsResolved v number → StartsNone (now v) (now w) number
 starts_none_reserving v w g number mine resolved base x e own kind said =

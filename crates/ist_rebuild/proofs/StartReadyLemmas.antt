@@ -103,7 +103,7 @@ reserved_quiet old new c same g q =
           (went_all Reserves InstallsNone reserving_installs old.seat.view new.seat.view g));
     }
 
--- a seat that may start may do so still once it made loads
+-- a caller that may start may do so still once it made loads
 pub may_start_on : (v w : View) (parent index target : ℕ) → GoesOnTo v w
     → MayStart v parent index target → MayStart w parent index target
 may_start_on v w parent index target g m =

@@ -181,7 +181,7 @@ refused_beside old new kind base c none r number_is rows_are h =
 
 -- ---- one reserving
 
--- the seat goes on by its reserving
+-- the caller goes on by its reserving
 reserved_went : (v : View) (number base size : ℕ) (w : View) → Reserved v number base size w
     → WentOn Reserves v w
 reserved_went v number base size w r =
@@ -193,7 +193,7 @@ module _ (words : ℕ) (kind : Kind) (old new : Caller) (answer : Result ℕ Ful
     (held : IfSome (row_of kind (spares_of old)) (λ base. (answer ≡ Ok base) × (new ≡ old)))
     (fresh : IsFreshRow kind old new answer)
     (full : IfErr answer (λ f. IsKindRefused words kind old new f)) where
-  -- the seat has reserved at most
+  -- the caller has reserved at most
   pub reserve_went : IsSound old.seat.view → WentOn Reserves old.seat.view new.seat.view
   reserve_went s = at (row_of kind (spares_of old)) refl held answer refl fresh full
     where

@@ -1,4 +1,4 @@
--- The change that a seat has stored into a row, read back. Serves `prepare`.
+-- The change that a caller has stored into a row, read back. Serves `prepare`.
 use Rattle.std.proofs.Common.{◌≡◌, ℕ, ◌+◌, ◌<◌, slice_get, Some, refl, sym, ap, ◌∙◌, arith}
 use Rattle.ist_core.specs.declared.states.ChangeRow.{ChangeRow}
 use Rattle.ist_core.specs.Pieces.{Change, words_of}

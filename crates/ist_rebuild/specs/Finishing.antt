@@ -52,7 +52,7 @@ pub record IsPlan (v : View) (plan : Plan) : Type 0 where
   pub started : IsStarted (now v) plan.rebuild
   pub fits : (owner : ℕ) → FitsKind (start v.start v.words) v.log (finish_row plan owner) []
 
--- the change that the seat has stored at the base, without fresh rows
+-- the change that the caller has stored at the base, without fresh rows
 abbrev pub filling_at : View → ℕ → Filling
 filling_at v base =
     record {

@@ -1,4 +1,4 @@
--- How the seat of a caller goes on while it starts or helps a rebuild.
+-- How a caller goes on while it starts or helps a rebuild.
 use Rattle.std.specs.Prelude.{◌≡◌, ℕ, List, Some}
 use Rattle.ist_core.specs.declared.events.Event.{Event}
 use Rattle.ist_core.specs.declared.events.Event.TheVariants.{Enter, Reserve, Install, Okay, Count, Decide, Resolve}
@@ -9,7 +9,7 @@ use Rattle.ist_core.specs.Statuses.{start_kind, finish_kind}
 use Rattle.ist_core.specs.Writing.{first_change}
 use Rattle.ist_rows.specs.declared.callers.Caller.{Caller}
 
--- ---- how the seat goes on
+-- ---- how the caller goes on
 
 -- the rows are those of a change of this kind
 abbrev pub IsOfKind : ℕ → List Row → Type 0

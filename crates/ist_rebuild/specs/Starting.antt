@@ -27,8 +27,8 @@ use Rattle.ist_rows.specs.Rows.{RanShort}
 
 -- ---- when
 
--- the seat has seen the target in this slot of the parent, which was linked; and the target is due,
--- or the parent is the anchor
+-- the caller has seen the target in this slot of the parent, which was linked; and the target is
+-- due, or the parent is the anchor
 pub record MayStart (v : View) (parent index target : ℕ) : Type 0 where
   pub prefix : Log
   pub goes_on : GoesOn prefix v.log

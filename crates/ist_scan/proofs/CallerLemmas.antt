@@ -10,13 +10,13 @@ use Rattle.ist_tree.specs.Calls.{HasSeenMore, HasLearnt, AddsCall}
 use Rattle.ist_tree.specs.Faces.{PassFace, noted}
 use Rattle.ist_scan.specs.declared.totals.Total.{Total}
 use Rattle.ist_scan.specs.Callers.{IsTotalBefore, IsListOnce}
-use Rattle.ist_scan.specs.Shots.{IsOf, HasPairs, HasTaken, HasLooked, map_seen}
+use Rattle.ist_scan.specs.Shots.{IsOf, HasPairs, HasTaken, HasOnlyLooked, map_seen}
 use Rattle.ist_scan.specs.Totals.{total_of}
 use Rattle.ist_scan.proofs.ShotLemmas.{GoesOnWell, has_on, of_on, of_pairs, map_on, later_calls}
 
 -- a pass that took a shot, made a call and then looked
 module _ (p taken made q : PassFace) (seen : HasSeenMore taken made)
-    (lawful : Lawful made.tree.start made.tree.words made.seen) (looked : HasLooked made q)
+    (lawful : Lawful made.tree.start made.tree.words made.seen) (looked : HasOnlyLooked made q)
     (lawful_now : Lawful q.tree.start q.tree.words q.seen) where
   on : GoesOnWell taken made
   on = record { tree = seen.tree; seen = seen.seen; lawful = lawful }
@@ -45,7 +45,7 @@ module _ (p taken made q : PassFace) (seen : HasSeenMore taken made)
 
 -- a pass that took a shot and then looked at it, which gave this list
 module _ (p taken q : PassFace) (shot : Frozen) (h : HasTaken p taken shot)
-    (lawful : Lawful taken.tree.start taken.tree.words taken.seen) (looked : HasLooked taken q)
+    (lawful : Lawful taken.tree.start taken.tree.words taken.seen) (looked : HasOnlyLooked taken q)
     (lawful_now : Lawful q.tree.start q.tree.words q.seen) (first last : ℕ) (mine : List Pair)
     (value : (position : ℕ) → IsOf taken position shot
     → mine ≡ listed first last (map_seen taken position)) where
@@ -87,7 +87,7 @@ told_well took taken note other noted_is same l lawful =
 -- one pass took a shot and listed it, and another met its note and listed it too
 module _ (p took taken q note other : PassFace) (shot : Frozen) (h : HasTaken p took shot)
     (noted_is : note ≡ noted took) (same : taken ≡ took)
-    (lawful : Lawful taken.tree.start taken.tree.words taken.seen) (looked : HasLooked taken q)
+    (lawful : Lawful taken.tree.start taken.tree.words taken.seen) (looked : HasOnlyLooked taken q)
     (lawful_now : Lawful q.tree.start q.tree.words q.seen) (learnt : HasLearnt other note)
     (lawful_other : Lawful other.tree.start other.tree.words other.seen) (first last : ℕ)
     (mine theirs : List Pair) (value : (position : ℕ) → IsOf taken position shot

@@ -5,12 +5,12 @@ use Rattle.std.proofs.Math.Nat.{mul-le-mul_left, pow-suc}
 use Rattle.std.proofs.lemmas.Option.{slice_get_within}
 use Rattle.std.proofs.lemmas.Bool.Decides.{eqb_tells}
 use Rattle.ist_core.specs.declared.pairs.Pair.{Pair}
-use Rattle.ist_scan.specs.Cuts.{IsBetween, IsHalved}
+use Rattle.ist_scan.specs.Cuts.{IsSearchBetween, IsHalved}
 use Rattle.ist_scan.proofs.PairLemmas.{rise}
 
 -- at first the search is between 0 and the number of pairs
 pub between_all : (pairs : List Pair) (key keys : ℕ) → length pairs ≡ keys
-    → IsBetween pairs key 0 keys
+    → IsSearchBetween pairs key 0 keys
 between_all pairs key keys long =
     record {
       below = λ i pair low at. absurd (omega arith);
@@ -28,10 +28,10 @@ at_or_above i m high =
     ⊎_elim (λ t. inl t.1) (λ f. inr (let differ = f.1 in omega arith)) (eqb_tells i m)
 
 module _ (pairs : List Pair) (rising : IsStrictlyIncreasing (map (λ p. p.key) pairs))
-    (key low high middle : ℕ) (x : Pair) (b : IsBetween pairs key low high)
+    (key low high middle : ℕ) (x : Pair) (b : IsSearchBetween pairs key low high)
     (at : slice_get pairs middle ≡ Some x) where
   -- the middle pair has a lower key
-  pub go_up : x.key < key → IsBetween pairs key (middle + 1) high
+  pub go_up : x.key < key → IsSearchBetween pairs key (middle + 1) high
   go_up less =
       record {
         below = λ i pair lower here. ⊎_elim
@@ -44,7 +44,7 @@ module _ (pairs : List Pair) (rising : IsStrictlyIncreasing (map (λ p. p.key) p
       }
 
   -- if the bound is at most the key in the middle, the search goes down
-  pub go_down : key ≤ x.key → IsBetween pairs key low middle
+  pub go_down : key ≤ x.key → IsSearchBetween pairs key low middle
   go_down more =
       record {
         below = b.below;

@@ -13,7 +13,7 @@ use Rattle.ist_tree.specs.Calls.{HasSeenMore}
 use Rattle.ist_tree.specs.Faces.{TreeFace, PassFace, changes_seen}
 use Rattle.ist_tree.specs.Freezing.{IsFrozen, IsFrozenFor, HasFrozenPairs, HasFrozen}
 use Rattle.ist_tree.proofs.FreezingLemmas.{frozen_pairs_are_one, frozen_pairs_stay, frozen_stays, has_its_pairs}
-use Rattle.ist_scan.specs.Shots.{HasPairs, map_seen, IsOf, HasTaken, HasLooked, ShotsStay, LaterCallsComeBehind}
+use Rattle.ist_scan.specs.Shots.{HasPairs, map_seen, IsOf, HasTaken, HasOnlyLooked, ShotsStay, LaterCallsComeBehind}
 
 -- the pass has seen more, and what it has seen is lawful
 pub record GoesOnWell (p q : PassFace) : Type 0 where
@@ -91,7 +91,7 @@ later_calls p q position shot command reply o added =
 
 -- a pass that looked
 pub looked : (p q : PassFace) → HasSeenMore p q → q.calls ≡ p.calls → q.refused ≡ p.refused
-    → Lawful q.tree.start q.tree.words q.seen → HasLooked p q
+    → Lawful q.tree.start q.tree.words q.seen → HasOnlyLooked p q
 looked p q seen calls refused lawful =
     let on : GoesOnWell p q = record { tree = seen.tree; seen = seen.seen; lawful = lawful } in
     record {
@@ -156,7 +156,7 @@ one_pairs p shot found others h k =
     frozen_pairs_are_one p.tree.start p.tree.words p.seen shot found others h.has k.has
 
 -- a pass that did nothing, and one that looked twice
-pub looked_not : (p : PassFace) → HasLooked p p
+pub looked_not : (p : PassFace) → HasOnlyLooked p p
 looked_not p =
     record {
       seen = record { tree = refl; number = refl; seen = same_log; stamp = omega arith };
@@ -173,7 +173,7 @@ further a b _ g same_log = g
 further a b _ g (one_event event h) = one_event event (further a b _ g h)
 
 -- a pass that looked twice has looked
-pub looked_more : (p q r : PassFace) → HasLooked p q → HasLooked q r → HasLooked p r
+pub looked_more : (p q r : PassFace) → HasOnlyLooked p q → HasOnlyLooked q r → HasOnlyLooked p r
 looked_more p q r a b =
     let low = a.seen.stamp in
     let high = b.seen.stamp in

@@ -11,7 +11,7 @@ use Rattle.ist_core.specs.Map.{pairs_between}
 use Rattle.ist_tree.specs.declared.freezing.Frozen.{Frozen}
 use Rattle.ist_tree.specs.Faces.{PassFace}
 use Rattle.ist_scan.specs.Cuts.{CutsAt, IsCut, part_of}
-use Rattle.ist_scan.specs.Shots.{HasLooked, HasPairs}
+use Rattle.ist_scan.specs.Shots.{HasOnlyLooked, HasPairs}
 use Rattle.ist_scan.specs.Walks.{WalkFace, AreOneWalk, HasBegun, HasWalked, WalksStay}
 use Rattle.ist_scan.proofs.CutLemmas.{cut_is, between_is, none_between}
 use Rattle.ist_scan.proofs.PairLemmas.{rise}
@@ -150,7 +150,7 @@ module _ (pairs : List Pair) (rising : IsStrictlyIncreasing (map (λ p. p.key) p
 -- ---- walks
 
 -- a walk that has begun, for a pass that looked
-pub begun_on : (p q : PassFace) (w : WalkFace) → HasLooked p q → HasBegun p w → HasBegun q w
+pub begun_on : (p q : PassFace) (w : WalkFace) → HasOnlyLooked p q → HasBegun p w → HasBegun q w
 begun_on p q w looked b =
     record {
       pairs = b.pairs;
@@ -179,7 +179,7 @@ walked p w begun b =
     record { fresh = λ not. absurd (false≢true (sym not ∙ begun)); way = λ _. b }
 
 -- the pairs of a shot, for a pass that has looked and a walk that goes on
-pub pairs_now : (p q : PassFace) (shot : Frozen) (v w : WalkFace) → HasLooked p q → AreOneWalk v w
+pub pairs_now : (p q : PassFace) (shot : Frozen) (v w : WalkFace) → HasOnlyLooked p q → AreOneWalk v w
     → v.shot ≡ shot → (pairs : List Pair) → HasPairs p shot pairs → HasPairs q w.shot pairs
 pairs_now p q shot v w looked one its pairs h =
     subst (λ s. HasPairs q s pairs) (sym (one.shot ∙ its)) (looked.pairs shot pairs h)

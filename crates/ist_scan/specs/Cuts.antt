@@ -22,7 +22,7 @@ pub record IsCut (pairs : List Pair) (from to low high : ℕ) : Type 0 where
 
 -- a search for the place of a key is between two numbers: the pairs below the first have lower
 -- keys, and the pairs from the second on don't
-pub record IsBetween (pairs : List Pair) (key low high : ℕ) : Type 0 where
+pub record IsSearchBetween (pairs : List Pair) (key low high : ℕ) : Type 0 where
   pub below : (i : ℕ) (pair : Pair) → i < low → slice_get pairs i ≡ Some pair → pair.key < key
   pub above : (i : ℕ) (pair : Pair) → high ≤ i → slice_get pairs i ≡ Some pair → key ≤ pair.key
 

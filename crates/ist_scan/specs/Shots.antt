@@ -39,7 +39,7 @@ pub record HasPairs (p : PassFace) (shot : Frozen) (pairs : List Pair) : Type 0 
 
 -- the pass looked at a shot: it has seen more, its calls and refusals are as before, and each shot
 -- keeps its positions and its pairs
-pub record HasLooked (p q : PassFace) : Type 0 where
+pub record HasOnlyLooked (p q : PassFace) : Type 0 where
   pub seen : HasSeenMore p q
   pub calls : q.calls ≡ p.calls
   pub refused : q.refused ≡ p.refused

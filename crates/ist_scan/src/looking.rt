@@ -3,7 +3,7 @@ ghost use Rattle.std.specs.Prelude.{◌≡◌, ◌+◌, ◌*◌, ◌^◌, ◌<�
 ghost use Rattle.ist_core.specs.declared.pairs.Pair.{Pair};
 ghost use Rattle.ist_tree.specs.Freezing.{IsFrozenFor};
 ghost use Rattle.ist_scan.specs.Cuts.{CutsAt, IsCut};
-ghost use Rattle.ist_scan.specs.Shots.{HasLooked, HasPairs};
+ghost use Rattle.ist_scan.specs.Shots.{HasOnlyLooked, HasPairs};
 
 use ist_core::Pair;
 use ist_tree::{Frozen, Pass, Tree};
@@ -27,7 +27,7 @@ pub(crate) fn pair_at(tree: &Tree, pass: &mut Pass, shot: Frozen, i: u64) -> Pai
     requires same_tree { pass.old.tree ≡ tree.now }
     requires frozen { IsFrozenFor pass.old shot }
     requires within { i < shot.keys }
-    ensures looked { HasLooked pass.old pass.new }
+    ensures looked { HasOnlyLooked pass.old pass.new }
     ensures pair { (pairs : List Pair) → HasPairs pass.old shot pairs
         → slice_get pairs i ≡ Some result }
 {
@@ -49,7 +49,7 @@ fn keys_of(shot: Frozen) -> u64
 pub(crate) fn count_below(tree: &Tree, pass: &mut Pass, shot: Frozen, bound: u128) -> Cut
     requires same_tree { pass.old.tree ≡ tree.now }
     requires frozen { IsFrozenFor pass.old shot }
-    ensures looked { HasLooked pass.old pass.new }
+    ensures looked { HasOnlyLooked pass.old pass.new }
     ensures within { result.count ≤ shot.keys }
     ensures cuts { (pairs : List Pair) → HasPairs pass.old shot pairs
         → CutsAt pairs bound result.count }
@@ -75,7 +75,7 @@ pub(crate) fn ends_of(tree: &Tree, pass: &mut Pass, shot: Frozen, from: u128, to
     requires same_tree { pass.old.tree ≡ tree.now }
     requires frozen { IsFrozenFor pass.old shot }
     requires some { from < to }
-    ensures looked { HasLooked pass.old pass.new }
+    ensures looked { HasOnlyLooked pass.old pass.new }
     ensures cut { (pairs : List Pair) → HasPairs pass.old shot pairs
         → IsCut pairs from to result.low result.high }
     ensures order { result.low ≤ result.high }

@@ -8,7 +8,7 @@ ghost use Rattle.ist_tree.specs.Calls.{HasSeenMore};
 ghost use Rattle.ist_tree.specs.Freezing.{IsFrozenFor, IsFreezeRefused, HasStartedNone};
 ghost use Rattle.ist_tree.specs.Refusals.{KeepsRefusal};
 ghost use Rattle.ist_scan.specs.Cuts.{part_of};
-ghost use Rattle.ist_scan.specs.Shots.{HasPairs, IsOf, HasTaken, HasLooked, map_seen};
+ghost use Rattle.ist_scan.specs.Shots.{HasPairs, IsOf, HasTaken, HasOnlyLooked, map_seen};
 ghost use Rattle.ist_scan.specs.Totals.{total_of, in_bin, pairs_in_bin};
 
 use crate::looking::{Ends, ends_of, pair_at};
@@ -44,7 +44,7 @@ fn total_at(tree: &Tree, pass: &mut Pass, shot: Frozen, ends: Ends) -> Total
     requires frozen { IsFrozenFor pass.old shot }
     requires order { ends.low ≤ ends.high }
     requires within { ends.high ≤ shot.keys }
-    ensures looked { HasLooked pass.old pass.new }
+    ensures looked { HasOnlyLooked pass.old pass.new }
     ensures total { (pairs : List Pair) → HasPairs pass.old shot pairs
         → result ≡ total_of (part_of pairs ends.low ends.high) }
 {
@@ -68,7 +68,7 @@ fn list_at(
     requires frozen { IsFrozenFor pass.old shot }
     requires order { ends.low ≤ ends.high }
     requires within { ends.high ≤ shot.keys }
-    ensures looked { HasLooked pass.old pass.new }
+    ensures looked { HasOnlyLooked pass.old pass.new }
     ensures list { IfOk result (λ v. (pairs : List Pair) → HasPairs pass.old shot pairs
         → v.items ≡ part_of pairs ends.low ends.high) }
 {
@@ -84,7 +84,7 @@ fn bin_at(tree: &Tree, pass: &mut Pass, shot: Frozen, first: u64, width: u64, j:
     requires same_tree { pass.old.tree ≡ tree.now }
     requires frozen { IsFrozenFor pass.old shot }
     requires some { 1 ≤ width }
-    ensures looked { HasLooked pass.old pass.new }
+    ensures looked { HasOnlyLooked pass.old pass.new }
     ensures total { (pairs : List Pair) → HasPairs pass.old shot pairs → result ≡ total_of
         (pairs_between (first + j * width) (first + (j + 1) * width - 1) pairs) }
 {
@@ -144,7 +144,7 @@ impl Shot {
     ) -> Result<Vec<Pair>, AllocError>
         requires same_tree { pass.old.tree ≡ tree.now }
         requires frozen { IsFrozenFor pass.old self.now }
-        ensures looked { HasLooked pass.old pass.new }
+        ensures looked { HasOnlyLooked pass.old pass.new }
         ensures list { IfOk result (λ v. (position : ℕ) → IsOf pass.old position self.now
             → v.items ≡ listed first last (map_seen pass.old position)) }
         ensures by_pairs { IfOk result (λ v. (pairs : List Pair)
@@ -164,7 +164,7 @@ impl Shot {
     pub fn total(&self, tree: &Tree, pass: &mut Pass, first: u64, last: u64) -> Total
         requires same_tree { pass.old.tree ≡ tree.now }
         requires frozen { IsFrozenFor pass.old self.now }
-        ensures looked { HasLooked pass.old pass.new }
+        ensures looked { HasOnlyLooked pass.old pass.new }
         ensures total { (position : ℕ) → IsOf pass.old position self.now
             → result ≡ total_of (listed first last (map_seen pass.old position)) }
         ensures by_pairs { (pairs : List Pair) → HasPairs pass.old self.now pairs
@@ -186,7 +186,7 @@ impl Shot {
         requires same_tree { pass.old.tree ≡ tree.now }
         requires frozen { IsFrozenFor pass.old self.now }
         requires some { 1 ≤ width }
-        ensures looked { HasLooked pass.old pass.new }
+        ensures looked { HasOnlyLooked pass.old pass.new }
         ensures same { length out.new ≡ length out.old }
         ensures bins { (position : ℕ) → IsOf pass.old position self.now
             → (j : ℕ) → j < length out.old

@@ -3,7 +3,7 @@ ghost use Rattle.std.specs.Prelude.{◌≡◌, ℕ, ◌+◌, ◌*◌, ◌^◌, �
 ghost use Rattle.ist_core.specs.declared.pairs.Pair.{Pair};
 ghost use Rattle.ist_core.specs.Map.{listed, pairs_between};
 ghost use Rattle.ist_tree.specs.Freezing.{IsFrozenFor};
-ghost use Rattle.ist_scan.specs.Shots.{HasPairs, IsOf, HasLooked, map_seen};
+ghost use Rattle.ist_scan.specs.Shots.{HasPairs, IsOf, HasOnlyLooked, map_seen};
 ghost use Rattle.ist_scan.specs.Walks.{HasWalked, HasBegun, AreOneWalk};
 
 use crate::looking::{count_below, pair_at};
@@ -70,7 +70,7 @@ impl Walk {
         requires its_shot { self.old.shot ≡ shot }
         requires frozen { IsFrozenFor pass.old shot }
         requires way { HasWalked pass.old self.old }
-        ensures looked { HasLooked pass.old pass.new }
+        ensures looked { HasOnlyLooked pass.old pass.new }
         ensures one_walk { AreOneWalk self.old self.new }
         ensures given { self.new.given ≡ self.old.given }
         ensures begun { self.new.begun ≡ true }
@@ -99,7 +99,7 @@ impl Walk {
         requires its_shot { self.old.shot ≡ shot.now }
         requires frozen { IsFrozenFor pass.old shot.now }
         requires way { HasWalked pass.old self.old }
-        ensures looked { HasLooked pass.old pass.new }
+        ensures looked { HasOnlyLooked pass.old pass.new }
         ensures one_walk { AreOneWalk self.old self.new }
         ensures pair { (position : ℕ) → IsOf pass.old position shot.now → result ≡ slice_get
             (listed self.old.first self.old.last (map_seen pass.old position)) self.old.given }

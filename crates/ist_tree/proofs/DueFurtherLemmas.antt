@@ -20,7 +20,7 @@ use Rattle.laws_links.proofs.LinkLemmas.{open_unfinished}
 use Rattle.laws_links.proofs.FinishedLemmas.{target_grows}
 use Rattle.laws_settling.proofs.DueLemmas.{due_was_linked}
 use Rattle.laws_stability.proofs.LaterLemmas.{ever_later}
-use Rattle.laws_progress.specs.Standing.{StandsFor, by_change, by_rebuild, its_own}
+use Rattle.laws_progress.specs.Standing.{StandsAtRow, by_change, by_rebuild, its_own}
 use Rattle.laws_progress.proofs.StandingLemmas.{open_stands_for}
 use Rattle.ist_rule.specs.declared.view.View.{View}
 use Rattle.ist_rule.specs.Going.{WentOn}
@@ -101,7 +101,7 @@ due_further P Q v w x y parent index target word m first stood then helped last 
     open_x : IsOpen (now x) target
     open_x = open_earlier (λ event. ⊥) x y (goes_on_went (λ event. ⊥) x y last) target k.row k.published opened
 
-    stands : StandsFor (now w) word target
+    stands : StandsAtRow (now w) word target
     stands =
         open_stands_for w.start w.words first.sound.lawful.opens n.prefix w.log
         first.sound.lawful.enabled n.goes_on parent index target (word_of (InnerAt target)) word n.stood
@@ -109,7 +109,7 @@ due_further P Q v w x y parent index target word m first stood then helped last 
         (may_start_linked w first.sound parent index target n)
         (open_earlier Q w x then target n.row n.published open_x) stood.holds
 
-    at : StandsFor (now w) word target → CameFurther w x
+    at : StandsAtRow (now w) word target → CameFurther w x
     at (its_own is) = absurd (stood.differs (sym (word_of-ref_of word (InnerAt target) is).same_word))
     at (by_change base is) =
         helped_further Q w x first.sound then parent index word base stood.holds is

@@ -1,5 +1,5 @@
--- A caller that was asked an update is still asked it after loads, and after it began a search. Serves
--- `descend` and `apply`.
+-- A caller that was asked an update is still asked it after loads, and after it began a search.
+-- Serves `descend` and `apply`.
 use Rattle.std.proofs.Common.{ℕ, ◌≡◌, sym, ap, ◌∙◌, subst, inl, inr}
 use Rattle.ist_core.specs.declared.commands.Command.{Command}
 use Rattle.ist_core.specs.declared.events.Event.{Event}
@@ -80,7 +80,7 @@ module _ (who : Caller) (seat : SeatFace) (command : Command) (a : IsAsked who c
             (subst (λ calls. HasMade v.start v.words w.log who.number calls) (sym calls_are) made);
       }
 
--- what is asked doesn't depend on how many searches the seat began
+-- what is asked doesn't depend on how many searches the caller began
 pub recounted : (who : Caller) (command : Command) (n : ℕ) → IsAsked who command
     → IsAsked (record who { seat = record who.seat { view = record who.seat.view { searches = n } } }) command
 recounted who command n a =

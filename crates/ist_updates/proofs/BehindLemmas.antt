@@ -1,5 +1,5 @@
--- What a longer log of the same table keeps, and what it keeps while the table comes no further. Serves
--- `FurtherLemmas`.
+-- What a longer log of the same table keeps, and what it keeps while the table comes no further.
+-- Serves `FurtherLemmas`.
 use Rattle.std.proofs.Common.{◌≡◌, ◌≢◌, ◌⊎◌, ℕ, ◌≤◌, sym, ap, ap₂, ◌∙◌, subst, inl, inr, ⊎_elim, arith}
 use Rattle.std.proofs.lemmas.Bool.Decides.{leb_tells}
 use Rattle.ist_core.specs.declared.events.Event.{Event}
@@ -22,7 +22,7 @@ use Rattle.laws_histories.proofs.ChangeLemmas.{on_trans}
 
 -- ---- one view after another
 
--- a seat that went on by these events has seen no less
+-- a caller that went on by these events has seen no less
 pub behind_went : (P : Event → Type 0) (v w : View) → WentOn P v w → IsBehind v w
 behind_went P v w g =
     record {

@@ -163,7 +163,7 @@ module _ (old mid : Caller) (seat : SeatFace) (plan : Plan) (c : IsCaller old)
   number_is : m.number ≡ old.number
   number_is = one_caller m.number old.number (sym m.mine ∙ c.mine)
 
-  -- ---- how the seat went on
+  -- ---- how the caller went on
 
   -- by loads and the Install, and then by help
   went_by : (P : Event → Type 0) → P event → ((e : Event) → Serves base e → P e) → WentOn P v w
@@ -181,7 +181,7 @@ module _ (old mid : Caller) (seat : SeatFace) (plan : Plan) (c : IsCaller old)
       one_change : (a b : ChangeRow) → Some a ≡ Some b → a ≡ b
       one_change a b e = cc
 
-  -- the caller's seat went on by tries only
+  -- the caller went on by tries only
   pub carried_gone : HasGone Tries old new
   carried_gone =
       let it = caller_gone (Serves base) (help_keeps base) mid seat caller refused g in

@@ -95,7 +95,7 @@ module _ (v : View) (s : IsSound v) (row : ℕ) (m : MayCount v row) where
         let is = found_is in
         omega arith
 
-    -- the seat went on by Counts of its caller at the row only
+    -- the caller went on by its Counts at the row only
     pub count_went : WentOn (IsCountAt (number_of v.who) row) v w
     count_went =
         logged_went (IsCountAt (number_of v.who) row) v

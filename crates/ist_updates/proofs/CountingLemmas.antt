@@ -1,4 +1,4 @@
--- A caller whose seat made one Count is still well-formed, and has counted its update at one row more.
+-- A caller that made one Count is still well-formed, and has counted its update at one row more.
 -- Serves `count_update`.
 use Rattle.std.proofs.Common.{◌≡◌, ℕ, Bool, true, false, List, [], ◌∷◌, ◌++◌, Some, refl, sym, ap, ◌∙◌, subst}
 use Rattle.ist_core.specs.declared.commands.Command.{Command}
@@ -39,7 +39,7 @@ module _ (who : Caller) (row : ℕ) (c : IsCaller who) (q : IsQuiet who) where
     by_count P is =
         went_all (IsCountAt (number_of v.who) row) P (λ event e. subst P (sym e) is) v seat.view g
 
-    -- the seat went on by steps of an update
+    -- the caller went on by steps of an update
     pub counted_went : WentOn Updates v seat.view
     counted_went = by_count Updates tt
 

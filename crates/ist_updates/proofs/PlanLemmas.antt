@@ -70,7 +70,7 @@ module _ (v : View) (aim : Aim) (at : WasAtSlot v aim) where
   pub slot_holds : IsSlot v aim.node aim.index
   slot_holds = slot_on at.before v at.seen aim.node aim.index aim.word at.at.holds
 
-  -- after more loads, the seat has still made only loads since it was at the slot
+  -- after more loads, the caller has still made only loads since it was at the slot
   pub slot_loads : (w : View) → GoesOnTo v w → WasAtSlot w aim
   slot_loads w g =
       record {
@@ -80,7 +80,7 @@ module _ (v : View) (aim : Aim) (at : WasAtSlot v aim) where
         seen = goes_on_more at.before v w at.seen g;
       }
 
--- a change that fits its kind still does when the seat went on
+-- a change that fits its kind still does when the caller went on
 pub fits_went : (P : Event → Type 0) (v w : View) → WentOn P v w → (row : ChangeRow)
     (fresh : List Row) → FitsKind (start v.start v.words) v.log row fresh
     → FitsKind (start w.start w.words) w.log row fresh

@@ -82,7 +82,7 @@ module _ (old new : Caller) (kind : Kind) (base : ℕ) (c : IsCaller old)
       (subst (λ x. AreStuck x (build_sizes x old.number (with_row kind base (spares_of old))))
       (sym now_is) there))
 
-  -- its seat went on by the reserving
+  -- it went on by the reserving
   pub reserved_went : WentOn Prepares old.seat.view new.seat.view
   reserved_went =
       went_more Prepares v r.before new.seat.view (goes_on_went Prepares v r.before r.seen)

@@ -32,7 +32,7 @@ use Rattle.ist_updates.proofs.NextRowLemmas.{may_count_next}
 use Rattle.ist_updates.proofs.TriedWalkLemmas.{went_table}
 use Rattle.ist_rows.specs.Going.{StaysReady}
 
--- a seat that went down by a load
+-- a caller that went down by a load
 module _ (old : Caller) (seat : SeatFace) (g : GoesOnTo old.seat.view seat.view) where
   abbrev v : View
   v = old.seat.view

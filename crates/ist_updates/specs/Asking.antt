@@ -1,4 +1,4 @@
--- A put or a remove that a caller was asked: how its seat goes on, and what its call may return.
+-- A put or a remove that a caller was asked: how it goes on, and what its call may return.
 use Rattle.std.specs.Prelude.{◌≡◌, ◌≢◌, ℕ, length, Option, Some, None}
 use Rattle.ist_core.specs.declared.calls.Call.{Call}
 use Rattle.ist_core.specs.declared.commands.Command.{Command}
@@ -22,9 +22,9 @@ abbrev pub command_for : ℕ → Option ℕ → Command
 command_for key (Some value) = Put key value
 command_for key None = Remove key
 
--- the caller is in a call with this command, which began after its earlier calls and has had no effect
--- yet; each change that the caller installed is resolved, and each build of which it holds rows was
--- refused
+-- the caller is in a call with this command, which began after its earlier calls and has had no
+-- effect yet; each change that the caller installed is resolved, and each build of which it holds
+-- rows was refused
 pub record IsAsked (who : Caller) (command : Command) : Type 0 where
   pub caller : IsCaller who
   pub refused : HasRefused who

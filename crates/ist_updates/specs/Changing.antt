@@ -24,8 +24,7 @@ use Rattle.ist_rows.specs.declared.callers.Caller.{Caller}
 use Rattle.ist_rows.specs.declared.kinds.Kind.{Kind}
 use Rattle.ist_rows.specs.declared.kinds.Kind.TheVariants as kind
 use Rattle.ist_rows.specs.CallerLaws.{AreBasesOf}
-use Rattle.ist_rows.specs.Building.{HasRefused}
-use Rattle.ist_rows.specs.Rows.{spares_of, IsCaller, RanShort}
+use Rattle.ist_rows.specs.Rows.{spares_of, RanShort}
 use Rattle.ist_dcss.specs.Installing.{Filling, rows_of}
 use Rattle.ist_updates.specs.Trying.{IsAtSlot}
 use Rattle.ist_updates.specs.declared.plans.Aim.{Aim}
@@ -37,7 +36,7 @@ use Rattle.ist_updates.specs.declared.plans.Way.TheVariants as way
 
 -- ---- at the slot
 
--- the seat has made only loads since it was at the slot, which held the word then
+-- the caller has made only loads since it was at the slot, which held the word then
 pub record WasAtSlot (v : View) (aim : Aim) : Type 0 where
   pub before : View
   pub at : IsAtSlot before aim.key aim.node aim.index aim.word
@@ -51,14 +50,6 @@ abbrev pub Prepares : Event → Type 0
 Prepares (Reserve caller base size) = Unit {0}
 Prepares (Lose caller bases) = Unit {0}
 Prepares _ = ⊥
-
--- the caller's seat went on by such events only; the caller is still well-formed, and the builds whose
--- rows it holds are still refused
-pub record HasGone (P : Event → Type 0) (old new : Caller) : Type 0 where
-  pub caller : IsCaller new
-  pub number : new.number ≡ old.number
-  pub refused : HasRefused new
-  pub went : WentOn P old.seat.view new.seat.view
 
 -- ---- what is put into the slot
 
@@ -142,7 +133,7 @@ pub record IsPlanFor (number : ℕ) (aim : Aim) (w : Way) (plan : Plan) : Type 0
   pub update : IsUpdate plan.row.kind
   pub command : command_of plan.row ≡ Some (command_by aim.key w)
 
--- the caller holds the rows of such a plan, and the change fits its kind in the seat's log
+-- the caller holds the rows of such a plan, and the change fits its kind in its log
 pub record IsPlanned (who : Caller) (aim : Aim) (w : Way) (plan : Plan) : Type 0 where
   pub rows : HasRows who plan
   pub good : AreGood plan.fresh

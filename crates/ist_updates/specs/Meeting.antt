@@ -1,4 +1,5 @@
--- An update that should take effect only if the key has a certain value: what each result says of it.
+-- An update that should take effect only if the key has a certain value: what each result says of
+-- it.
 use Rattle.std.specs.Prelude.{◌≡◌, ◌≢◌, ℕ, Option, None}
 use Rattle.laws_histories.specs.Searching.{Searched, HasPosition}
 use Rattle.ist_rule.specs.declared.view.View.{View}
@@ -44,7 +45,7 @@ IsWalkMet when walked.Unmet = Unit {0}
 
 -- ---- the value at which it took no effect
 
--- the seat's search, which began when the first view's did, found a value at which the update
+-- the caller's search, which began when the first view's did, found a value at which the update
 -- shouldn't take effect
 pub record HasMissed (v w : View) (key : ℕ) (when : When) : Type 0 where
   pub node : ℕ
@@ -53,7 +54,8 @@ pub record HasMissed (v w : View) (key : ℕ) (when : When) : Type 0 where
   pub searched : Searched w.start w.words w.log key w.loads.since node had
   pub since : w.loads.since ≡ v.loads.since
 
--- the key had such a value at a position no earlier than the first view and no later than the second
+-- the key had such a value at a position no earlier than the first view and no later than the
+-- second
 pub record WasMissed (v w : View) (key : ℕ) (when : When) : Type 0 where
   pub had : Option ℕ
   pub missed : IsMissedBy when had

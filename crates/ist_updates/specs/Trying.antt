@@ -19,13 +19,13 @@ abbrev pub Tries : Event → Type 0
 Tries (Count caller node) = ⊥
 Tries event = Updates event
 
--- the seat came here from the first view by steps of an update, and began its search since
+-- the caller came here from the first view by steps of an update, and began its search since
 pub record BeganSince (first v : View) : Type 0 where
   pub went : WentOn Updates first v
   pub since : length first.log ≤ v.loads.since
 
--- the seat's search came to the node, whose child for the key is in this slot, and the slot holds the
--- word, which names no inner row
+-- the caller's search came to the node, whose child for the key is in this slot, and the slot holds
+-- the word, which names no inner row
 pub record IsAtSlot (v : View) (key node index word : ℕ) : Type 0 where
   pub came : Came v key node
   pub child : IsChildFor (now v) node key index
@@ -34,7 +34,8 @@ pub record IsAtSlot (v : View) (key node index word : ℕ) : Type 0 where
   pub set : ref_of word ≢ Some Unset
   pub low : (child : ℕ) → ref_of word ≢ Some (InnerAt child)
 
--- since the first view the caller's command took effect once, by a change on the node, with this reply
+-- since the first view the caller's command took effect once, by a change on the node, with this
+-- reply
 pub record HasTakenEffect (v w : View) (caller : ℕ) (command : Command) (node : ℕ)
     (reply : Option ℕ) : Type 0 where
   pub base : ℕ
@@ -44,7 +45,7 @@ pub record HasTakenEffect (v w : View) (caller : ℕ) (command : Command) (node 
   pub node_is : update.change.node ≡ node
   pub reply_is : reply ≡ reply_of (now w).pieces update.change
 
--- the seat's search ended and found no value for the key
+-- the caller's search ended and found no value for the key
 pub record HasFoundNone (v : View) (key : ℕ) : Type 0 where
   pub node : ℕ
   pub searched : Searched v.start v.words v.log key v.loads.since node None

@@ -120,7 +120,8 @@ pub record HasCounted (pairs : List Pair) (words : ℕ) (earlier log : Log) (cal
 
 -- ---- the walk
 
--- the seat came here from the first view only by tries, and its call had no effect before that view
+-- the caller came here from the first view only by tries, and its call had no effect before that
+-- view
 pub record HasTriedSince (first v : View) (caller : ℕ) : Type 0 where
   pub went : WentOn Tries first v
   pub none_yet : HasMade first.start first.words first.log caller first.calls

@@ -75,8 +75,8 @@ fn try_at(
     }
 }
 
-/// Goes down from a node that the seat's search has reached, and tries the update at the slot of its
-/// key. If the update took effect, it is counted at each row on the way back.
+/// Goes down from a node that the caller's search has reached, and tries the update at the slot of
+/// its key. If the update took effect, it is counted at each row on the way back.
 ///
 /// The walk ends, since bases rise on the way down. It takes no memory.
 pub(crate) fn descend(

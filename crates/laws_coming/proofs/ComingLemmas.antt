@@ -1,4 +1,4 @@
--- An event that is enabled in the seat's log may be made, whatever others do meanwhile. Serves
+-- An event that is enabled in the caller's log may be made, whatever others do meanwhile. Serves
 -- `laws.enabled_events_come`.
 use Rattle.std.proofs.Common.{◌≡◌, ℕ, Option, Some, refl, ap, ◌∙◌, subst, sym, arith}
 use Rattle.ist_core.specs.declared.events.Event.{Event}
@@ -93,7 +93,7 @@ module _ (v : View) (s : IsSound v) where
     abbrev u : Snapshot
     u = state_of v.start v.words log
 
-    -- the further events are made by others than the seat
+    -- the further events are made by others than the caller
     others : {who : Who} → who ≡ v.who → Later who v.log log
     others mine = subst (λ who. Later who v.log log) (sym mine) m.later
 

@@ -1,5 +1,5 @@
--- When a seat has seen its table make progress, and that it sees that only so often. Serves the loops of
--- the crates above.
+-- When a caller has seen its table make progress, and that it sees that only so often. Serves the
+-- loops of the crates above.
 use Rattle.std.proofs.Common.{◌≡◌, ℕ, ◌-◌, ◌<◌, Some, sym, subst, arith}
 use Rattle.ist_core.specs.declared.events.Event.{Event}
 use Rattle.ist_core.specs.Logs.{GoesOn, Happened, Resolves}

@@ -1,4 +1,5 @@
--- Places whose words all seats know, and words that are gone. Serves `laws.gone_words_are_missed`.
+-- Places whose words all callers know, and words that are gone. Serves
+-- `laws.gone_words_are_missed`.
 use Rattle.std.proofs.Common.{◌≡◌, ◌≢◌, ℕ, ◌+◌, ◌<◌, ◌++◌, suc, length, get_or, Some, refl, sym, ap, ◌∙◌, subst, length-append, arith}
 use Rattle.std.proofs.lemmas.Option.{slice_get-get_or}
 use Rattle.ist_core.specs.declared.events.Event.{Event}
@@ -79,7 +80,7 @@ slot_fast v s node i word (in_row r e at) =
 
 -- ---- words that are gone
 
--- an exchange whose word is gone fails, so that it may be named for any event of the seat
+-- an exchange whose word is gone fails, so that it may be named for any event of the caller
 pub gone_missed : (v : View) (event : Event) → CanMake v event → (place old new : ℕ)
     → IsKnown v place → IsGone v place old → CanExchange v place old new event
 gone_missed v event make place old new known gone =

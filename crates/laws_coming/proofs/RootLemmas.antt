@@ -74,7 +74,7 @@ root_build k rows some (of_top many e) = subst (IsBuild k) (sym e) (build_top ma
 module _ (v : View) (s : IsSound v) (number rebuild word : ℕ) (rows : List Row)
     (mine : v.who ≡ Caller number) (stored : StoredAll v rows)
     (b : IsRootBuilt (now v) number rebuild word rows) where
-  -- the seat may make the Root
+  -- the caller may make the Root
   make_root : CanMake v (Root number rebuild word rows)
   make_root = record { mine = sym mine; stored = stored; allowed = tt }
 

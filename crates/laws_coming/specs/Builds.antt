@@ -1,4 +1,4 @@
--- Which Root or Place a seat may come to make for what it has built, or else lose its rows.
+-- Which Root or Place a caller may come to make for what it has built, or else lose its rows.
 -- `src/laws.rt` lists the clauses.
 use Rattle.std.specs.Prelude.{◌≡◌, ◌≢◌, ℕ, ◌+◌, ◌<◌, ◌≤◌, List, [], slice_get, Some}
 use Rattle.ist_core.specs.declared.events.Event.{Event}
@@ -29,7 +29,7 @@ use Rattle.ist_rule.specs.Learning.{now, Looked}
 use Rattle.ist_rule.specs.Conditions.{IsKnown, StoredAll, CanExchange, CanExchangeOrLose}
 use Rattle.ist_rule.specs.Going.{WentOn}
 
--- ---- what a seat has built
+-- ---- what a caller has built
 
 -- the caller holds the rows of a root for the rebuild, over the leaves of its finished target; that
 -- the rebuild has no root yet isn't part of this
@@ -81,8 +81,8 @@ EndsBuild caller _ = ⊥
 abbrev pub EndsNone : ℕ → Log → Log → Type 0
 EndsNone caller = GoesOnBy (λ event. ¬ (EndsBuild caller event))
 
--- the place was Unset after a prefix of the seat's log, and since then the caller has made no Root,
--- Place or Lose
+-- the place was Unset after a prefix of the caller's log, and since then the caller has made no
+-- Root, Place or Lose
 pub record WasUnset (v : View) (caller place : ℕ) : Type 0 where
   pub prefix : Log
   pub since : EndsNone caller prefix v.log

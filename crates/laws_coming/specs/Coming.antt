@@ -1,4 +1,4 @@
--- Which event a seat may come to make: what it knows of its own log is enough, whatever others do
+-- Which event a caller may come to make: what it knows of its own log is enough, whatever others do
 -- meanwhile. `src/laws.rt` lists the clauses.
 use Rattle.std.specs.Prelude.{◌≡◌, ◌≢◌, ℕ, ◌+◌, ◌<◌, Some}
 use Rattle.ist_core.specs.declared.events.Event.{Event}
@@ -31,7 +31,7 @@ IsExchange (Draw caller rebuild part) = ⊥
 IsExchange (Lose caller bases) = ⊥
 IsExchange _ = Unit {0}
 
--- an exchange may be an event that is enabled in the seat's log and touches the place there
+-- an exchange may be an event that is enabled in the caller's log and touches the place there
 abbrev pub EnabledEventsCome : Type 0
 EnabledEventsCome =
     (v : View) → IsSound v → (event : Event) → IsExchange event → CanMake v event
@@ -45,7 +45,7 @@ abbrev pub IsGone : View → ℕ → ℕ → Type 0
 IsGone v place old =
     (log : Log) → MayCome v log → ¬ (IsShown (state_of v.start v.words log) place old)
 
--- an exchange may be any event of the seat's own if the word that it must find is gone
+-- an exchange may be any event of the caller's own if the word that it must find is gone
 abbrev pub GoneWordsAreMissed : Type 0
 GoneWordsAreMissed =
     (v : View) (event : Event) → CanMake v event → (place old new : ℕ) → IsKnown v place
@@ -71,8 +71,8 @@ MarkIsGone =
 
 -- ---- adds
 
--- an add to a count may be a Count that is enabled in the seat's log, if all changes of the caller
--- are resolved there
+-- an add to a count may be a Count that is enabled in the caller's log, if all changes of the
+-- caller are resolved there
 abbrev pub CountsCome : Type 0
 CountsCome =
     (v : View) → IsSound v → (number node : ℕ) → v.who ≡ Caller number → IsResolved v number
@@ -80,7 +80,7 @@ CountsCome =
     → CanAdd v (node + inner_count_offset) (λ found. Count number node)
 
 -- an add to a draw word may be the Draw of the part that it finds, if a Draw is enabled in the
--- seat's log
+-- caller's log
 abbrev pub DrawsCome : Type 0
 DrawsCome =
     (v : View) → IsSound v → (number rebuild part : ℕ) → v.who ≡ Caller number

@@ -1,4 +1,4 @@
--- A seat that has seen its table make progress.
+-- A caller that has seen its table make progress.
 use Rattle.std.specs.Prelude.{◌<◌}
 use Rattle.ist_rule.specs.declared.view.View.{View}
 use Rattle.laws_progress.specs.Progress.{progress}

@@ -1,11 +1,11 @@
-//! Laws over what a seat knows. The functions take no steps and return nothing: their contracts are
-//! the laws.
+//! Laws over what a caller knows. The functions take no steps and return nothing: their contracts
+//! are the laws.
 ghost use Rattle.laws_coming.specs.Coming.{EnabledEventsCome, CountsCome, DrawsCome};
 ghost use Rattle.laws_coming.specs.Coming.{GoneWordsAreMissed, RowsAreKnown, OpenIsGone, MarkIsGone};
 ghost use Rattle.laws_coming.specs.Builds.{RootsCome, RootsComeOrLose, PartsCome, PartsComeOrLose};
 ghost use Rattle.laws_coming.specs.Builds.{UnsetIsSeen, UnsetStaysSeen};
 
-/// A seat may come to make what is enabled in the log that it has seen, whatever others do
+/// A caller may come to make what is enabled in the log that it has seen, whatever others do
 /// meanwhile: an exchange if its word is still at the place, and a Count or a Draw whatever word is
 /// there.
 ///
@@ -18,8 +18,8 @@ pub fn enabled_events_come()
 {}
 
 /// If the word that an exchange must find is gone for good, the exchange may be named for any event
-/// of the seat's own: it fails. The words of published rows are known. An open node that was closed
-/// is never open again, and a finished node is never marked again.
+/// of the caller's own: it fails. The words of published rows are known. An open node that was
+/// closed is never open again, and a finished node is never marked again.
 pub fn gone_words_are_missed()
     ensures missed { GoneWordsAreMissed }
     ensures known { RowsAreKnown }

@@ -17,7 +17,7 @@ use Rattle.ist_core.proofs.PlaceLemmas.{anchor_free}
 use Rattle.ist_core.proofs.SlotLemmas.{slot_once}
 use Rattle.laws_links.proofs.LinkLemmas.{open_linked}
 use Rattle.laws_links.proofs.UntouchedLemmas.{not_the_anchor}
-use Rattle.laws_progress.specs.Standing.{StandsFor, by_change, by_rebuild, its_own}
+use Rattle.laws_progress.specs.Standing.{StandsAtRow, by_change, by_rebuild, its_own}
 
 -- a row's word is no change's, and set
 no_change : (row base : ℕ) → InnerAt row ≢ ChangeAt base
@@ -32,7 +32,7 @@ same_row a b e = cc
 -- what a word that reads as the row stands for
 stands_for : (t : Snapshot) (node i word row : ℕ) (ref : Option Ref) → ref_of word ≡ ref
     → SlotNames t.pieces node i ref
-    → past_rebuild t.pieces (past_change t.pieces ref) ≡ Some (InnerAt row) → StandsFor t word row
+    → past_rebuild t.pieces (past_change t.pieces ref) ≡ Some (InnerAt row) → StandsAtRow t word row
 stands_for t node i word row (Some (InnerAt base)) is named reads = its_own (is ∙ reads)
 stands_for t node i word row (Some (ChangeAt base)) is named reads = by_change base is
 stands_for t node i word row (Some (RebuildAt base)) is named reads =
@@ -53,7 +53,7 @@ module _ (pairs : List Pair) (words : ℕ) (opens : CanOpen pairs words) where
       → SlotHolds (state_of pairs words earlier) node i old → ref_of old ≡ Some (InnerAt row)
       → WasLinked (start pairs words) log row → IsOpen (state_of pairs words log) row
       → SlotHolds (state_of pairs words log) node i word
-      → StandsFor (state_of pairs words log) word row
+      → StandsAtRow (state_of pairs words log) word row
   open_stands_for earlier log h g node i row old word stood was_it was is here =
       at row refl (open_linked pairs words opens log h row was is)
     where
@@ -67,7 +67,7 @@ module _ (pairs : List Pair) (words : ℕ) (opens : CanOpen pairs words) where
           (slot_mentions (state_of pairs words earlier) node i old (InnerAt row) stood was_it)
 
       at : (child : ℕ) → child ≡ row → Linked (state_of pairs words log) child
-          → StandsFor (state_of pairs words log) word row
+          → StandsAtRow (state_of pairs words log) word row
       at _ same at_anchor =
           let it = mentioned_here (state_of pairs words log) node i row (names pairs words opens log h) named in
           absurd (not_the_anchor pairs words opens log h row it.0 it.1 (sym same))

@@ -46,7 +46,7 @@ use Rattle.ist_build.specs.Calls.{Builds, IsPartLaid, MayBuild, share_whole}
 use Rattle.ist_build.proofs.HeldMoreLemmas.{stored_rows}
 use Rattle.ist_build.proofs.LayingLemmas.{rows_free}
 use Rattle.ist_build.proofs.RootReadyLemmas.{root_topped, topped_base, IsTopped}
-use Rattle.test_rebuilds.specs.Races.{HasLaid, HasBuilt, row_named, racing}
+use Rattle.test_rebuilds.specs.Races.{HasLaid, HoldsRoot, row_named, racing}
 use Rattle.test_rebuilds.specs.Steps.{IsMarked}
 
 -- ---- what is built
@@ -208,7 +208,7 @@ module _ (v w : View) (number rebuild place word stood : ℕ) (s : IsSound v)
       (subst (λ t. IsShown t root_place unset_word) (goes_on_now v w g) shown)).enabled
 
   -- and it has seen that the rebuild had no root yet
-  pub has_built : HasBuilt w number rebuild word
+  pub has_built : HoldsRoot w number rebuild word
   has_built =
       record {
         laid = record {
@@ -268,7 +268,7 @@ named v number word mine s (row ∷ other ∷ rows) bases sizes stored held =
 
 -- the exchange may be the Root, or the Lose
 pub may_race : (v : View) (number rebuild place word unset : ℕ) → IsSound v
-    → place ≡ rebuild + rebuild_root_offset → unset ≡ unset_word → HasBuilt v number rebuild word
+    → place ≡ rebuild + rebuild_root_offset → unset ≡ unset_word → HoldsRoot v number rebuild word
     → CanExchangeOrLose v place unset word (racing v place word).0 (racing v place word).1
 may_race v number rebuild place word unset s at is h =
     subst (λ (e : Event). CanExchangeOrLose v place unset word e (racing v place word).1) (sym root_is)

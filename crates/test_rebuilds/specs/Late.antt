@@ -16,7 +16,7 @@ use Rattle.ist_updates.specs.Trying.{IsAtSlot}
 -- ---- the slot
 
 -- the seat has begun a search, made loads, and reached this slot, which held the word then
-pub record HasWalked (v : View) (key node index word : ℕ) (w : View) : Type 0 where
+pub record HasReachedSlot (v : View) (key node index word : ℕ) (w : View) : Type 0 where
   pub went : SearchedOn (λ event. ⊥) v w
   pub at : IsAtSlot w key node index word
 

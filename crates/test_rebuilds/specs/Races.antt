@@ -35,6 +35,6 @@ pub record HasLaid (v : View) (number rebuild word : ℕ) : Type 0 where
   pub built : IsRootBuilt (now v) number rebuild word rows
 
 -- the caller holds such a row, and has seen that the rebuild had no root yet
-pub record HasBuilt (v : View) (number rebuild word : ℕ) : Type 0 where
+pub record HoldsRoot (v : View) (number rebuild word : ℕ) : Type 0 where
   pub laid : HasLaid v number rebuild word
   pub unset : WasUnset v number (rebuild + rebuild_root_offset)

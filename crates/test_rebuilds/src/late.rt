@@ -1,6 +1,6 @@
 //! Puts whose change is filled while the node is open, and installed whenever the test says.
 ghost use Rattle.std.specs.Prelude.{◌≡◌, true, ℕ, Some, None, IfOk, IfSome};
-ghost use Rattle.test_rebuilds.specs.Late.{put_of, row_of_put, HasBoth, HasWalked, IsFilled, WasAt};
+ghost use Rattle.test_rebuilds.specs.Late.{put_of, row_of_put, HasBoth, HasReachedSlot, IsFilled, WasAt};
 ghost use Rattle.ist_core.specs.declared.commands.Command.TheVariants.{Put};
 ghost use Rattle.ist_core.specs.Installing.{HasRoomFor, IsLeafOf};
 ghost use Rattle.ist_core.specs.References.{ref_of, InnerAt, IsGoodBase};
@@ -61,7 +61,7 @@ fn walk(table: &TreeTable, seat: &mut TreeSeat, key: u64) -> Option<Slot>
     requires same_table { seat.old.table ≡ table.now.table }
     ensures same_table { seat.new.table ≡ table.now.table }
     ensures walked { IfSome result (λ slot.
-        HasWalked seat.old.view key slot.node slot.index slot.word seat.new.view) }
+        HasReachedSlot seat.old.view key slot.node slot.index slot.word seat.new.view) }
 {
     know(seat);
     begin_search(table, seat);

@@ -1,7 +1,7 @@
 //! Two callers that build a root for one rebuild, one after another: the first one's is set, and
 //! the other caller loses its row.
 ghost use Rattle.std.specs.Prelude.{◌≡◌, ◌+◌, IfSome};
-ghost use Rattle.test_rebuilds.specs.Races.{racing, HasBuilt};
+ghost use Rattle.test_rebuilds.specs.Races.{racing, HoldsRoot};
 ghost use Rattle.test_rebuilds.specs.Steps.{IsMarked};
 ghost use Rattle.ist_core.specs.Rebuilding.{IsStarted};
 ghost use Rattle.ist_core.specs.References.{unset_word};
@@ -28,7 +28,7 @@ fn build(table: &TreeTable, who: &mut Caller, rebuild: u32, marked: Marked) -> O
     requires ready { IsReady who.old }
     requires marked { IsMarked (now who.old.seat.view) rebuild marked.target marked.keys }
     ensures same_table { who.new.seat.table ≡ table.now.table }
-    ensures built { IfSome result (HasBuilt who.new.seat.view who.new.number rebuild) }
+    ensures built { IfSome result (HoldsRoot who.new.seat.view who.new.number rebuild) }
 {
     know(&who.seat);
     if marked.keys != 2 {
@@ -54,7 +54,7 @@ fn build(table: &TreeTable, who: &mut Caller, rebuild: u32, marked: Marked) -> O
 // the word found there.
 fn root_or_lose(table: &TreeTable, who: &mut Caller, rebuild: u32, word: u64) -> u64
     requires same_table { who.old.seat.table ≡ table.now.table }
-    requires built { HasBuilt who.old.seat.view who.old.number rebuild word }
+    requires built { HoldsRoot who.old.seat.view who.old.number rebuild word }
     ensures same_table { who.new.seat.table ≡ table.now.table }
     ensures rooted_or_lost { let v = who.old.seat.view in
         let place = rebuild + rebuild_root_offset in

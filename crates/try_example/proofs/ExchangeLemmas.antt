@@ -12,7 +12,7 @@ use Rattle.ist_core.specs.Standing.{is_change, makes_entry, entry_by, entries_by
 use Rattle.ist_core.proofs.ElementLemmas.{each-among, among_filter}
 use Rattle.ist_tree.specs.Closing.{ClosesWith, calls_from}
 use Rattle.ist_tree.specs.Faces.{PassFace, MakerFace, calls_in, noted}
-use Rattle.try_example.specs.Turns.{HasPut, HasFound}
+use Rattle.try_example.specs.Turns.{HasPut, HasFoundNext}
 use Rattle.try_example.proofs.MapLemmas.{PutsOneOf, has_it}
 
 -- what is true of whatever is an element is true of each element
@@ -92,7 +92,7 @@ module _ (one two : PassFace) (first : one.number ≡ 0) (second : two.number �
 
 -- a pass that put its pair, and then found a key
 module _ (p q r : PassFace) (pair : Pair) (note : PassFace) (key : ℕ) (reply : Option ℕ)
-    (put : HasPut p pair q) (found : HasFound q note key reply r) where
+    (put : HasPut p pair q) (found : HasFoundNext q note key reply r) where
   two_calls : r.calls ≡ put.call ∷ found.call ∷ []
   two_calls = found.calls_are ∙ ap (λ calls. calls ++ found.call ∷ []) put.call_is
 
@@ -101,8 +101,8 @@ pub both_find : (m : MakerFace) (words : List ℕ) → ClosesWith m words
     → (left right : Pair) → left.key ≢ right.key
     → (one two putter other end last : PassFace) (mine theirs : Option ℕ)
     → HasPut one left putter → HasPut two right other
-    → HasFound putter (noted other) right.key mine end
-    → HasFound other (noted putter) left.key theirs last
+    → HasFoundNext putter (noted other) right.key mine end
+    → HasFoundNext other (noted putter) left.key theirs last
     → one.number ≡ 0 → two.number ≡ 1 → m.made ≡ 2
     → m.taken ≡ calls_in last ∷ calls_in end ∷ []
     → (mine ≡ Some right.value) × (theirs ≡ Some left.value)

@@ -5,7 +5,7 @@ use Rattle.std.proofs.lemmas.Bool.Decides.{eqb_tells}
 use Rattle.ist_core.specs.declared.pairs.Pair.{Pair}
 use Rattle.ist_tree.specs.Faces.{PassFace}
 use Rattle.ist_live.specs.Ends.{IsNextUp}
-use Rattle.ist_live.specs.Reading.{HasRead, Had, HadNone}
+use Rattle.ist_live.specs.Reading.{HasOnlyRead, Had, HadNone}
 use Rattle.ist_live.proofs.JoinLemmas.{live_join, turn_join}
 use Rattle.ist_live.proofs.ListLemmas.{all_live}
 use Rattle.ist_live.proofs.ReadLemmas.{read_not, read_more}
@@ -17,7 +17,7 @@ use Rattle.try_example.specs.Pieces.{IsPiece, end_of}
 
 -- the keys from the first up to this one were read, and these pairs found
 pub record IsReadTo (p q : PassFace) (first from last : ℕ) (pairs : List Pair) : Type 0 where
-  pub read : HasRead p q
+  pub read : HasOnlyRead p q
   pub swept : SweepsUp p first q from pairs
   pub low : first ≤ from
   pub high : from ≤ last
@@ -45,9 +45,9 @@ swept_piece p q first last next pairs goes_on s =
     }
 
 module _ (p m q : PassFace) (first from last : ℕ) (pairs : List Pair) (h : IsReadTo p m first from last pairs)
-    (r : HasRead m q) where
+    (r : HasOnlyRead m q) where
   -- more was read
-  pub read_on : HasRead p q
+  pub read_on : HasOnlyRead p q
   read_on = read_more p m q h.read r
 
   -- if there is no pair up to the last key, it is the last piece
@@ -103,7 +103,7 @@ module _ (p m q : PassFace) (first from last : ℕ) (pairs : List Pair) (h : IsR
 
 -- a piece and the next one are one piece
 pub pieces_join : (p m q : PassFace) (first from last : ℕ) (next : Option ℕ) (xs ys all : List Pair)
-    → all ≡ xs ++ ys → HasRead p m → HasRead m q → IsPiece p m first last (Some from) xs
+    → all ≡ xs ++ ys → HasOnlyRead p m → HasOnlyRead m q → IsPiece p m first last (Some from) xs
     → IsPiece m q from last next ys → IsPiece p q first last next all
 pieces_join p m q first from last next xs ys all is r s a b =
     subst (IsPiece p q first last next) (sym is) record {

@@ -17,7 +17,7 @@ pub record HasPut (p : PassFace) (pair : Pair) (q : PassFace) : Type 0 where
 
 -- the last is the first after one more call, a find of the key with this reply, which comes after each
 -- call that the note tells of
-pub record HasFound (p note : PassFace) (key : ℕ) (reply : Option ℕ) (q : PassFace) : Type 0 where
+pub record HasFoundNext (p note : PassFace) (key : ℕ) (reply : Option ℕ) (q : PassFace) : Type 0 where
   pub tree : q.tree ≡ p.tree
   pub number : q.number ≡ p.number
   pub call : Call

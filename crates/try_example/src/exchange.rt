@@ -1,6 +1,6 @@
 //! Two passes on one tree, each in a thread of its own, that tell each other what they did.
 ghost use Rattle.std.specs.Prelude.{◌≡◌, ◌≢◌, [], Some, IfOk};
-ghost use Rattle.try_example.specs.Turns.{HasPut, HasFound};
+ghost use Rattle.try_example.specs.Turns.{HasPut, HasFoundNext};
 ghost use Rattle.ist_tree.specs.Faces.{noted};
 
 use ist_core::{Full, Pair, Reply};
@@ -63,7 +63,7 @@ fn put_own(tree: &Tree, pass: Pass, pair: Pair) -> Result<Pass, Full>
 fn find_told(tree: &Tree, pass: Pass, note: Note, key: u64) -> Found
     requires same_tree { pass.tree ≡ tree.now }
     requires its_tree { note.tree ≡ tree.now }
-    ensures found { HasFound pass note key result.reply result.pass }
+    ensures found { HasFoundNext pass note key result.reply result.pass }
 {
     let mut pass = pass;
     tree.meet(&mut pass, note);
@@ -109,8 +109,8 @@ fn find_both<R: Threads + Sync>(
     right: u64,
 ) -> (Found, Found)
     requires same_tree { (one.tree ≡ tree.now) × (two.tree ≡ tree.now) }
-    ensures left { HasFound one (noted two) left result.0.reply result.0.pass }
-    ensures right { HasFound two (noted one) right result.1.reply result.1.pass }
+    ensures left { HasFoundNext one (noted two) left result.0.reply result.0.pass }
+    ensures right { HasFoundNext two (noted one) right result.1.reply result.1.pass }
 {
     let (mut one, mut two) = (one, two);
     let from_one = tree.note(&mut one);

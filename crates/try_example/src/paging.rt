@@ -1,6 +1,6 @@
 //! The pairs between two keys in pieces, while others change the tree.
 ghost use Rattle.std.specs.Prelude.{◌≡◌, ◌≤◌, IfOk};
-ghost use Rattle.ist_live.specs.Reading.{HasRead};
+ghost use Rattle.ist_live.specs.Reading.{HasOnlyRead};
 ghost use Rattle.ist_live.specs.Lists.{AreInTurn, AreLive};
 ghost use Rattle.try_example.specs.Pieces.{IsPiece};
 
@@ -38,7 +38,7 @@ pub fn read_piece(
 ) -> Result<Piece, AllocError>
     requires same_tree { pass.old.tree ≡ tree.now }
     requires some { first ≤ last }
-    ensures read { HasRead pass.old pass.new }
+    ensures read { HasOnlyRead pass.old pass.new }
     ensures piece { IfOk result (λ piece.
         IsPiece pass.old pass.new first last piece.next piece.pairs.items) }
 {
@@ -79,7 +79,7 @@ pub fn read_in_pieces(
 ) -> Result<Vec<Pair>, AllocError>
     requires same_tree { pass.old.tree ≡ tree.now }
     requires some { first ≤ last }
-    ensures read { HasRead pass.old pass.new }
+    ensures read { HasOnlyRead pass.old pass.new }
     ensures live { IfOk result (λ found. AreLive pass.old pass.new first last found.items) }
     ensures in_turn { IfOk result (λ found. AreInTurn pass.old pass.new found.items) }
 {

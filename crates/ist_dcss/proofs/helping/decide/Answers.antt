@@ -42,7 +42,7 @@ exchange-stood-requires c =
       ),
     )
 
--- the seat only made steps that serve the change
+-- the caller only made steps that serve the change
 pub returns-clause-went : goal.returns-clause-went
 returns-clause-went c =
     let v = c.load_okay-status.new.seat.view in

@@ -47,7 +47,7 @@ exchange-requires c =
       ),
     )
 
--- the seat only made steps that serve the change
+-- the caller only made steps that serve the change
 pub returns-clause-went : goal.returns-clause-went
 returns-clause-went c =
     let v = c.field-side.new.seat.view in

@@ -1,6 +1,6 @@
 use Rattle.std.proofs.Common.{◌+◌, sym, subst}
-use Rattle.ist_live.specs.Lists.{HasListed}
-use Rattle.ist_live.specs.Reading.{HasRead}
+use Rattle.ist_live.specs.Lists.{HasListedLive}
+use Rattle.ist_live.specs.Reading.{HasOnlyRead}
 use Rattle.ist_live.proofs.ReadLemmas.{read_not}
 use Rattle.ist_live.proofs.ListLemmas.{all_live}
 use Rattle.ist_live.proofs.TurnLemmas.{in_turn}
@@ -13,7 +13,7 @@ returns-then-last-first-clause-read c = read_not c.args.pass.now
 
 pub returns-then-last-first-clause-spans : goal.returns-then-last-first-clause-spans
 returns-then-last-first-clause-spans c =
-    subst (HasListed c.args.pass.now c.args.pass.now c.args.first c.args.last) (sym c.new-found.ensures.items)
+    subst (HasListedLive c.args.pass.now c.args.pass.now c.args.first c.args.last) (sym c.new-found.ensures.items)
     (none_listed c.args.pass.now c.args.first c.args.last c.if-last-first.true)
 
 -- all keys were swept
@@ -22,7 +22,7 @@ returns c =
     let e = c.in_ok-sweep.ensures in
     let p = c.args.pass.now in
     let q = c.sweep.new.pass in
-    let read : HasRead p q =
+    let read : HasOnlyRead p q =
     record { seen = e.seen; calls = e.calls; stamp = e.stamp; refused = e.refused } in
     let none = c.new-found.ensures.items in
     let up = swept_up p q read c.args.first c.args.last _ _ none e.swept in

@@ -10,7 +10,7 @@ use Rattle.ist_rebuild.proofs.StartPutLemmas.{loads_quiet, loads_refused, put_ca
 use Rattle.ist_rebuild.proofs.StartResultLemmas.{other_stood}
 use Rattle.ist_rebuild.proofs.starting.put_in.Goals as goal
 
--- ---- the slot held another word: the seat only made loads
+-- ---- the slot held another word: the caller only made loads
 
 pub returns-in-Other-clause-caller : goal.returns-in-Other-clause-caller
 returns-in-Other-clause-caller g c =

@@ -1,7 +1,7 @@
 use Rattle.ist_rule.proofs.GoingOnLemmas.{goes_on_same}
 use Rattle.ist_updates.proofs.trying.try_word.Goals as goal
 
--- the seat is at the slot
+-- the caller is at the slot
 pub try_empty-requires-clause-at_slot : goal.try_empty-requires-clause-at_slot
 try_empty-requires-clause-at_slot c =
     record {

@@ -1,11 +1,11 @@
-use Rattle.ist_live.specs.Reading.{HasRead}
+use Rattle.ist_live.specs.Reading.{HasOnlyRead}
 use Rattle.try_example.specs.Pieces.{IsPiece, keys_left}
 use Rattle.try_example.proofs.paging.read_in_pieces.Given as goal
 
 -- the pieces so far are one piece
 abbrev pub invariant-loop-next : goal.invariant-loop-next
 invariant-loop-next l = record {
-  read : HasRead l.fn.pass l.pass;
+  read : HasOnlyRead l.fn.pass l.pass;
   piece : IsPiece l.fn.pass l.pass l.first l.last l.next l.pairs.items;
 }
 

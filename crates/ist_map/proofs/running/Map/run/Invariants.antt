@@ -1,14 +1,14 @@
 use Rattle.std.proofs.Common.{◌≤◌, ◌-◌, ◌*◌, length, map}
 use Rattle.ist_core.specs.Enabled.{caller_limit}
 use Rattle.ist_core.specs.RowLayout.{place_limit}
-use Rattle.ist_map.specs.Running.{HasRun}
+use Rattle.ist_map.specs.Running.{HasRunOn}
 use Rattle.ist_map.proofs.running.Map.run.Given as goal
 
 -- the trees so far are a run, and the words don't become fewer
 abbrev pub invariant-loop-hands : goal.invariant-loop-hands
 invariant-loop-hands g l = record {
   few : length l.hands ≤ caller_limit;
-  ran : HasRun l.fn.self.closed l.self.closed (map (λ h. g.W.Worker.told h.worker) l.fn.hands)
+  ran : HasRunOn l.fn.self.closed l.self.closed (map (λ h. g.W.Worker.told h.worker) l.fn.hands)
       (map (λ h. g.W.Worker.told h.worker) l.hands);
   words : l.fn.self.words ≤ l.self.words;
 }
