@@ -1,5 +1,5 @@
 -- Runs on trees that follow one another, joined and told as one history. Serves `Map::run`.
-use Rattle.std.proofs.Common.{◌≡◌, ◌∙◌, ℕ, ◌+◌, List, [], ◌∷◌, ◌<◌, ◌≤◌, ◌++◌, length, map, slice_index_or, refl, sym, ap, subst, arith}
+use Rattle.std.proofs.Common.{◌≡◌, ◌∙◌, ℕ, List, [], ◌∷◌, ◌<◌, ◌≤◌, ◌++◌, length, map, slice_index_or, refl, sym, ap, subst, arith}
 use Rattle.std.proofs.lemmas.List.{append-nil, append_assoc}
 use Rattle.ist_core.specs.declared.pairs.Pair.{Pair}
 use Rattle.ist_core.specs.Map.{map_of, pairs_of}
@@ -16,7 +16,7 @@ use Rattle.ist_rest.specs.Standings.{Stands}
 use Rattle.ist_rest.proofs.MapLemmas.{hold_map}
 use Rattle.ist_tree.specs.Faces.{MakerFace}
 use Rattle.ist_tree.specs.Closing.{ClosesWith, calls_taken, told_to}
-use Rattle.ist_map.specs.Generations.{Generation, generation_of, IsGeneration, FollowOn, pairs_left, history}
+use Rattle.ist_map.specs.Generations.{Generation, generation_of, FollowOn, pairs_left, history}
 use Rattle.ist_map.specs.Interleaving.{calls_of, told_over}
 use Rattle.ist_map.specs.Hands.{HaveWorked}
 use Rattle.ist_map.specs.declared.faults.ReopenFault.{ReopenFault}

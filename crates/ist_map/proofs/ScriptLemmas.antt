@@ -1,7 +1,6 @@
 -- Commands with their replies, and with one reply more. Serves `Script`.
-use Rattle.std.proofs.Common.{◌≡◌, ◌∙◌, ℕ, suc, ◌<◌, List, [], ◌∷◌, ◌++◌, length, map, Option, slice_index_or, refl, sym, ap, arith}
-use Rattle.std.proofs.lemmas.List.{map_push, append_assoc, append-nil}
-use Rattle.ist_core.specs.declared.calls.Call.{Call}
+use Rattle.std.proofs.Common.{◌≡◌, ◌∙◌, ℕ, ◌<◌, List, [], ◌∷◌, ◌++◌, length, map, Option, slice_index_or, refl, sym, ap, arith}
+use Rattle.std.proofs.lemmas.List.{map_push, append_assoc}
 use Rattle.ist_core.specs.declared.commands.Command.{Command}
 use Rattle.ist_core.specs.Replies.{Answered, told}
 use Rattle.ist_core.specs.Resting.{told_by_call}
@@ -22,6 +21,20 @@ told_in-push (c ∷ cs) [] reply d low = none cs
     none (x ∷ cs) = refl
 told_in-push (c ∷ cs) (r ∷ replies) reply d low =
     ap (λ ts. told c r ∷ ts) (told_in-push cs replies reply d (omega arith))
+
+-- if one command more has its reply, what was told is what had been told, and then this reply
+pub told_more : (commands : List Command) (replies after : List (Option ℕ)) (reply : Option ℕ)
+    (command : Command) (before old new : List Answered) → after ≡ replies ++ reply ∷ []
+    → length replies < length commands
+    → slice_index_or commands (length replies) command ≡ command
+    → told_in commands replies ≡ before ++ old → new ≡ old ++ told command reply ∷ []
+    → told_in commands after ≡ before ++ new
+told_more commands replies after reply command before old new items low is was added =
+    ap (told_in commands) items ∙ told_in-push commands replies reply command low
+    ∙ ap (λ x. told_in commands replies ++ told x reply ∷ []) is
+    ∙ ap (λ ts. ts ++ told command reply ∷ []) was
+    ∙ append_assoc before old (told command reply ∷ [])
+    ∙ ap (λ ts. before ++ ts) (sym added)
 
 -- a call that was added is told last
 pub added_told : (p q : PassFace) (command : Command) (reply : Option ℕ) → AddsCall p q command reply

@@ -1,4 +1,4 @@
--- A key that one worker alone changes.
+-- A key that only one worker changes.
 use Rattle.std.specs.Prelude.{◌≡◌, ◌≢◌, ℕ, ◌==◌, Bool, List, [], ◌∷◌, filter, Option, Some, None}
 use Rattle.std.specs.FinMap as fin
 use Rattle.ist_core.specs.declared.commands.Command.{Command}

@@ -44,15 +44,15 @@ pub record IsOneHistory (first last : List ℕ) (before after : List (List Answe
   pub told_are : (number : ℕ) → slice_index_or after number []
       ≡ slice_index_or before number [] ++ told number
 
--- a tree of at least so many words, and no more than a tree may have, is opened over the pairs that the closed words hold
+-- a tree of at least this many words, and no more than a tree may have, is opened over the pairs that the closed words hold
 abbrev pub OpensEnough : List ℕ → ℕ → TreeFace → MakerFace → Type 0
 OpensEnough closed words tree maker =
     (w : ℕ) × (words ≤ w) × (w ≤ place_limit) × OpensAfter closed w tree maker
 
--- no tree of at least so many words is opened over them, for this fault
+-- no tree of at least this many words is opened over them, for this fault
 abbrev pub IsRunFault : List ℕ → ℕ → ReopenFault → Type 0
 IsRunFault closed words fault = (w : ℕ) × (words ≤ w) × IsReopenFaultOf closed w fault
 
--- no tree of at least so many words is opened of these pairs, for this fault
+-- no tree of at least this many words is opened of these pairs, for this fault
 abbrev pub IsOpenFaultOf : ℕ → List Pair → OpenFault → Type 0
 IsOpenFaultOf words pairs fault = (w : ℕ) × (words ≤ w) × IsFaultOf w pairs fault

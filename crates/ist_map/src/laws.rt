@@ -33,8 +33,8 @@ pub fn runs_are_one_history()
     ensures one { RunsAreOneHistory }
 {}
 
-/// If only one worker changes a key, its calls about the key get the replies that they would get if it
-/// were alone: it reads back what it wrote last, at any time, also on a later tree.
+/// If only one worker changes a key, its calls about the key get the replies that they would get if no
+/// one else made a call: it reads back what it wrote last, at any time, also on a later tree.
 #[tactic(auto, using(crate::proofs::OwningLemmas::owner_reads))]
 pub fn owners_read_back()
     ensures reads { OwnersReadBack }

@@ -10,7 +10,8 @@ use ist_tree::{Pass, Tree};
 use std::alloc::{AllocError, Global};
 use std::marker::Model;
 
-/// Makes given calls in their order, and keeps the reply of each.
+/// Makes given calls in their order, and keeps the reply of each. It asks for a tree with more words
+/// when a call is refused, or a rebuild was.
 ///
 /// Contracts see its commands and the replies so far.
 #[derive(Drop)]
@@ -41,6 +42,9 @@ impl Worker for Script {
             let command = self.commands[self.replies.len()];
             let reply = call(tree, pass, command)?;
             self.replies.push_reserved(reply);
+            if let Some(full) = pass.rebuild_refused() {
+                return Err(full);
+            }
         }
         Ok(())
     }

@@ -31,6 +31,8 @@ mod scan_ends;
 #[cfg(test)]
 mod scan_threads;
 #[cfg(test)]
+mod scan_words;
+#[cfg(test)]
 mod scans;
 #[cfg(test)]
 mod shapes;

@@ -2,3 +2,4 @@
 pub mod Turns
 pub mod Raises
 pub mod Pieces
+pub mod Owners

@@ -1,12 +1,13 @@
 //! Workers, as many as are asked for, that share a map which grows.
-ghost use Rattle.std.specs.Prelude.{◌≡◌, ◌≤◌, length, map, All, IfOk, OnOk};
+ghost use Rattle.std.specs.Prelude.{◌≡◌, ◌≤◌, [], length, map, All, IfOk, OnOk};
 ghost use Rattle.ist_core.specs.Enabled.{caller_limit};
 ghost use Rattle.ist_words.specs.RestingWords.{HoldPairs};
 ghost use Rattle.ist_map.specs.Running.{IsOneHistory};
 ghost use Rattle.ist_map.specs.Scripts.{told_in};
+ghost use Rattle.try_example.specs.Owners.{ReadsOwn};
 
 use ist_core::{Command, Pair};
-use ist_map::laws::runs_are_one_history;
+use ist_map::laws::{owners_read_back, runs_are_one_history};
 use ist_map::{Hand, Map, ReopenFault, Script};
 use std::alloc::{AllocError, Global};
 use std::thread::Threads;
@@ -41,6 +42,24 @@ pub fn serve<R: Threads + Sync>(
     runs_are_one_history();
     shared.run(rt, alloc, hands)?;
     Ok(shared.closed().pairs(alloc)?)
+}
+
+/// The same for workers that begin, and for a key that only one of them changes: its calls about the key
+/// get the replies that they would get if no one else made a call, on all trees.
+pub fn serve_owner<R: Threads + Sync>(
+    rt: &R,
+    alloc: Global,
+    shared: &mut Map,
+    hands: &mut [Hand<Script>],
+    key: u64,
+) -> Result<Vec<Pair>, ReopenFault>
+    requires few { length hands.old ≤ caller_limit }
+    requires begin { All (λ h. h.worker.replies ≡ []) hands.old }
+    ensures reads { ReadsOwn shared.old.closed key
+        (map (λ h. told_in h.worker.commands h.worker.replies) hands.new) }
+{
+    owners_read_back();
+    serve(rt, alloc, shared, hands)
 }
 
 // The calls of a worker: it puts keys of its own, finds each, and removes every second one.

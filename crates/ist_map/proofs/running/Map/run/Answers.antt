@@ -1,4 +1,4 @@
-use Rattle.std.proofs.Common.{◌≤◌, ◌<◌, ◌*◌, length, map, subst, sym, arith, rules}
+use Rattle.std.proofs.Common.{arith, rules}
 use Rattle.ist_map.proofs.RunLemmas.{run_none, run_on, fault_of_more}
 use Rattle.ist_map.proofs.running.Map.run.Goals as goal
 

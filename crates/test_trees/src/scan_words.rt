@@ -1,0 +1,162 @@
+//! How many words shots take, and shots that are taken only if enough words are left.
+ghost use Rattle.std.specs.Prelude.{◌≡◌, ◌≤◌};
+
+use crate::asking::ask;
+use crate::openings::{numbered, open_with, two_pairs};
+use ist_core::{Full, Reply};
+use ist_image::needed_words;
+use ist_scan::{Shot, shot_words};
+use ist_tree::{OpenFault, Pass, Tree};
+use std::alloc::Global;
+use std::test::Fail;
+use test_tales::Asked::{Find, Put, Remove};
+
+// How many words a shot of a new tree of so many keys takes: by the words left before and after it, and
+// by the words of the closed tree.
+fn words_taken(alloc: Global, keys: u64) -> Result<(u64, u64), OpenFault>
+    requires few { keys ≤ 100000 }
+{
+    let plain = numbered(alloc, 1, keys + 1, 0)?;
+    let (tree, mut maker) = open_with(alloc, 2_000_000, &plain)?;
+    let mut pass = tree.pass(&mut maker);
+    let before = tree.room(&mut pass);
+    let taken = Shot::take(&tree, &mut pass).is_ok();
+    let after = tree.room(&mut pass);
+    tree.take_back(&mut maker, pass);
+    let closed = tree.close(maker);
+    if !taken || !closed.settled() {
+        return Ok((0, 0));
+    }
+    let used = closed.used();
+    Ok((
+        before.wrapping_sub(after),
+        used.wrapping_sub(needed_words(keys)),
+    ))
+}
+
+#[test]
+fn a_shot_takes_the_words_that_are_said(rt: HostRuntime) -> Result<(), Fail> {
+    // the keys, and 23 words more than those of the inner rows
+    let cases = [(2, 30), (3, 37), (10, 81), (16, 118), (400, 2526)];
+    for (keys, words) in cases {
+        let taken = words_taken(rt.alloc(), keys)?;
+        assert_eq!(rt;
+            (taken, shot_words(keys)),
+            ((words, words), words),
+            "{keys} keys"
+        );
+    }
+    Ok(())
+}
+
+#[test]
+fn so_does_a_shot_of_many_keys(rt: HostRuntime) -> Result<(), Fail> {
+    for keys in [100, 255, 256, 257, 1_000, 95_023] {
+        let words = shot_words(keys);
+        assert_eq!(rt;
+            words_taken(rt.alloc(), keys)?,
+            (words, words),
+            "{keys} keys"
+        );
+    }
+    Ok(())
+}
+
+#[test]
+fn an_empty_tree_and_a_leaf_are_shot_without_words(rt: HostRuntime) -> Result<(), Fail> {
+    for keys in [0, 1] {
+        assert_eq!(rt; words_taken(rt.alloc(), keys)?, (0, 0), "{keys} keys");
+    }
+    Ok(())
+}
+
+#[test]
+fn one_key_left_below_a_row_costs_the_start_and_the_finish(rt: HostRuntime) -> Result<(), Fail> {
+    let (tree, mut maker) = two_pairs(rt.alloc(), 100)?;
+    let mut pass = tree.pass(&mut maker);
+    let removed = ask(&tree, &mut pass, Remove(9));
+    let before = tree.room(&mut pass);
+    let keys = keys_taken(&tree, &mut pass, true, 1);
+    let words = before.wrapping_sub(tree.room(&mut pass));
+    assert_eq!(rt; (removed, keys, words), (Ok(Some(1)), Ok(1), shot_words(1)));
+    Ok(())
+}
+
+// How many keys a shot has that is taken if there is room for so many keys, or without a look.
+fn keys_taken(tree: &Tree, pass: &mut Pass, looks: bool, keys: u32) -> Result<u64, Full>
+    requires same_tree { pass.old.tree ≡ tree.now }
+    ensures same_tree { pass.new.tree ≡ tree.now }
+{
+    if looks {
+        let shot = Shot::take_if_room(tree, pass, shot_words(u64::from(keys)))?;
+        Ok(shot.keys())
+    } else {
+        let shot = Shot::take(tree, pass)?;
+        Ok(shot.keys())
+    }
+}
+
+// What a tree is told after two shots.
+#[derive(Clone, Copy, Debug, PartialEq, Eq, Drop)]
+struct Told {
+    two: (Result<u64, Full>, Result<u64, Full>),
+    third: Result<u64, Full>,
+    kept: Option<Full>,
+    put: Result<Reply, Full>,
+    find: Result<Reply, Full>,
+}
+
+// What a tree of two pairs and 100 words is told of a third shot, and of a put and a find after it.
+fn third_shot(alloc: Global, looks: bool) -> Result<Told, OpenFault> {
+    let (tree, mut maker) = two_pairs(alloc, 100)?;
+    let mut pass = tree.pass(&mut maker);
+    let first = keys_taken(&tree, &mut pass, looks, 2);
+    let second = keys_taken(&tree, &mut pass, looks, 2);
+    let third = keys_taken(&tree, &mut pass, looks, 2);
+    let kept = pass.rebuild_refused();
+    let put = ask(&tree, &mut pass, Put(7, 3));
+    let find = ask(&tree, &mut pass, Find(9));
+    Ok(Told {
+        two: (first, second),
+        third,
+        kept,
+        put,
+        find,
+    })
+}
+
+#[test]
+fn a_shot_without_room_is_refused_and_puts_go_on(rt: HostRuntime) -> Result<(), Fail> {
+    let full = Full {
+        next: 75,
+        asked: 30,
+        words: 100,
+    };
+    let wanted = Told {
+        two: (Ok(2), Ok(2)),
+        third: Err(full),
+        kept: None,
+        put: Ok(None),
+        find: Ok(Some(1)),
+    };
+    assert_eq!(rt; third_shot(rt.alloc(), true)?, wanted);
+    Ok(())
+}
+
+#[test]
+fn without_the_look_it_is_taken_and_no_put_is(rt: HostRuntime) -> Result<(), Fail> {
+    let full = Full {
+        next: 96,
+        asked: 9,
+        words: 100,
+    };
+    let wanted = Told {
+        two: (Ok(2), Ok(2)),
+        third: Ok(2),
+        kept: Some(full),
+        put: Err(full),
+        find: Ok(Some(1)),
+    };
+    assert_eq!(rt; third_shot(rt.alloc(), false)?, wanted);
+    Ok(())
+}
