@@ -8,9 +8,10 @@ on. One whose status isn't 0 is named with its words and what it wrote. Then com
 calls that were answered, and the words of the largest last tree. The status is 0 where each run's was.
 """
 import re
-import subprocess
 import sys
 import time
+
+from stress import run
 
 # runs, workers, calls of each in a run, keys, words of the first tree
 PLANS = [
@@ -26,32 +27,19 @@ OPTIONS = ("--runs", "--workers", "--calls", "--span", "--words")
 SAID = re.compile(r"answered: (\d+) calls; at the end (\d+) keys and (\d+) words")
 
 
-def run(program, plan, seed):
-    """Returns how many calls were answered and the words of the last tree, or None if the run failed."""
-    words = [program, "--seed", str(seed)]
-    for option, number in zip(OPTIONS, plan):
-        words += [option, str(number)]
-    done = subprocess.run(words, capture_output=True, text=True)
-    said = SAID.search(done.stdout)
-    if done.returncode or not said:
-        print(f"status {done.returncode}: {' '.join(words)}\n{done.stdout}{done.stderr}", flush=True)
-        return None
-    return int(said[1]), int(said[3])
-
-
 def main(program, minutes, seed=1):
     end = time.monotonic() + float(minutes) * 60
     sums = {plan: [0, 0, 0] for plan in PLANS}
     number, failed = int(seed), 0
     while time.monotonic() < end:
         plan = PLANS[number % len(PLANS)]
-        said = run(program, plan, number)
+        said = run(program, plan, number, OPTIONS, SAID)
         number += 1
         if said is None:
             failed += 1
             continue
         row = sums[plan]
-        sums[plan] = [row[0] + 1, row[1] + said[0], max(row[2], said[1])]
+        sums[plan] = [row[0] + 1, row[1] + said[0], max(row[2], said[2])]
     print("| runs | workers | calls | keys | words | times | answered | last words |\n" + "|---" * 8 + "|")
     for plan in PLANS:
         print("| " + " | ".join(f"{it:,}" for it in (*plan, *sums[plan])) + " |")

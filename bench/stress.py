@@ -40,13 +40,13 @@ SAID = re.compile(
 HEAD = ("passes", "rounds", "calls", "keys", "words", "runs", "answered", "refused", "full", "rebuilds", "used", "seconds", "processor")
 
 
-def run(program, plan, seed):
-    """Runs the plan, and gives what it said as numbers, or none where it failed."""
+def run(program, plan, seed, options=OPTIONS, says=SAID):
+    """Runs the plan, and returns what it said as numbers, or None if it failed."""
     words = [program, "--seed", str(seed)]
-    for option, number in zip(OPTIONS, plan):
+    for option, number in zip(options, plan):
         words += [option, str(number)]
     done = subprocess.run(words, capture_output=True, text=True)
-    said = SAID.search(done.stdout)
+    said = says.search(done.stdout)
     if done.returncode or not said:
         print(f"status {done.returncode}: {' '.join(words)}\n{done.stdout}{done.stderr}", flush=True)
         return None
