@@ -1,5 +1,6 @@
 -- What an attempt to rebuild a row results in. Serves `try_due` and `rebuild_due`.
 use Rattle.std.proofs.Common.{◌≡◌, ℕ, ◌⊎◌, Result, Ok, refl, sym, ap, ◌∙◌, subst, inl, inr, ⊎_elim}
+use Rattle.ist_core.specs.declared.events.Event.{Event}
 use Rattle.ist_core.specs.declared.ports.Full.{Full}
 use Rattle.ist_core.specs.Rebuilding.{IsReplaced}
 use Rattle.ist_core.specs.Snapshots.{Snapshot}
@@ -7,7 +8,10 @@ use Rattle.ist_rule.specs.declared.view.View.{View}
 use Rattle.ist_core.specs.declared.events.Who.TheVariants.{Caller as CallerOf}
 use Rattle.ist_rule.specs.Conditions.{IsResolved}
 use Rattle.ist_rule.specs.Going.{WentOn}
-use Rattle.ist_rule.specs.Learning.{now}
+use Rattle.ist_rule.specs.Faces.{SeatFace}
+use Rattle.ist_rule.specs.Learning.{GoesOnTo, now}
+use Rattle.ist_rule.specs.Rule.{IsSound}
+use Rattle.ist_rule.proofs.WentOnLemmas.{goes_on_went, went_all, went_more, went_same}
 use Rattle.ist_rows.specs.declared.callers.Caller.{Caller}
 use Rattle.ist_rows.specs.Building.{HasRefused}
 use Rattle.ist_rows.specs.Rows.{IsCaller}
@@ -16,14 +20,16 @@ use Rattle.ist_rebuild.specs.declared.answers.Helped.{Helped}
 use Rattle.ist_rebuild.specs.declared.answers.Helped.TheVariants.{Replaced, ParentMarked}
 use Rattle.ist_rebuild.specs.declared.answers.Started.{Started}
 use Rattle.ist_rebuild.specs.declared.answers.Started.TheVariants.{Yes, Other, Marked}
-use Rattle.ist_rebuild.specs.Going.{Begins, Serves}
+use Rattle.ist_rebuild.specs.Going.{Begins, Serves, StartsAt}
 use Rattle.ist_rows.specs.Going.{IsQuiet, IsReady, StaysReady}
 use Rattle.ist_rebuild.specs.Helping.{HasHelped, IsLeftToParent}
 use Rattle.ist_rebuild.specs.Starting.{IsStartedAt, LeavesDone, StartsAreDoneBut}
+use Rattle.ist_tree.specs.Attempts.{GoesFor}
 use Rattle.ist_tree.specs.Working.{Rebuilds, IsShut, KeepsDone}
-use Rattle.ist_tree.proofs.EventLemmas.{begins_rebuild, serves_rebuild}
+use Rattle.ist_tree.proofs.EventLemmas.{IsPlainHelp, begins_rebuild, serves_aims, serves_rebuild}
+use Rattle.ist_tree.proofs.RebuildLemmas.{load_plain, plain_on}
 use Rattle.ist_tree.proofs.ShutLemmas.{all_done, left_is_shut, replaced_is_shut}
-use Rattle.ist_rows.proofs.GoneLemmas.{ready_all}
+use Rattle.ist_rows.proofs.GoneLemmas.{ready_all, ready_more, ready_same}
 
 -- ---- going on
 
@@ -40,6 +46,59 @@ begins_on old new r c refused quiet went number =
 -- so did one that helped one
 pub serves_on : (old new : Caller) → HasHelped old new → StaysReady Rebuilds old new
 serves_on old new h = ready_all Serves Rebuilds serves_rebuild old new h.on
+
+-- a caller that began a rebuild of the target went on for it
+pub begins_for : (old new : Caller) (target : ℕ) → IsReady old → IsCaller new
+    → (HasRefused old → HasRefused new) → IsQuiet new → WentOn Begins old.seat.view new.seat.view
+    → new.number ≡ old.number → WentOn (StartsAt target) old.seat.view new.seat.view
+    → GoesFor old new target
+begins_for old new target r c refused quiet went number aims =
+    record { on = begins_on old new r c refused quiet went number; aims = aims }
+
+-- a caller that helped a rebuild started none
+pub helped_for : (old new : Caller) (target : ℕ) → HasHelped old new → GoesFor old new target
+helped_for old new target h =
+    record {
+      on = serves_on old new h;
+      aims = went_all Serves (StartsAt target) (serves_aims target) old.seat.view new.seat.view
+          h.on.gone.went;
+    }
+
+-- nor did one that made only plain steps of help
+pub plain_for : (P : Event → Type 0) → ((event : Event) → P event → IsPlainHelp event)
+    → (target : ℕ) → ((event : Event) → P event → StartsAt target event) → (who : Caller)
+    → (seat : SeatFace) → IsReady who → WentOn P who.seat.view seat.view
+    → GoesFor who (record who { seat = seat }) target
+plain_for P all target aims who seat r went =
+    record {
+      on = plain_on P all who seat r went;
+      aims = went_all P (StartsAt target) aims who.seat.view seat.view went;
+    }
+
+-- nor one that loaded a word
+pub loaded_for : (who : Caller) (seat : SeatFace) (target : ℕ) → IsReady who
+    → GoesOnTo who.seat.view seat.view → GoesFor who (record who { seat = seat }) target
+loaded_for who seat target r seen =
+    plain_for (λ event. ⊥) load_plain target (λ event never. absurd never) who seat r
+    (goes_on_went (λ event. ⊥) who.seat.view seat.view seen)
+
+-- nor one that did nothing
+pub goes_none : (who : Caller) (target : ℕ) → IsSound who.seat.view → IsReady who
+    → GoesFor who who target
+goes_none who target s r =
+    record {
+      on = ready_same Rebuilds who s r;
+      aims = went_same (StartsAt target) who.seat.view s;
+    }
+
+-- two such steps are one
+pub goes_more : (a b c : Caller) (target : ℕ) → GoesFor a b target → GoesFor b c target
+    → GoesFor a c target
+goes_more a b c target one two =
+    record {
+      on = ready_more Rebuilds a b c one.on two.on;
+      aims = went_more (StartsAt target) a.seat.view b.seat.view c.seat.view one.aims two.aims;
+    }
 
 -- ---- what starting left done
 

@@ -34,7 +34,7 @@ abbrev pub is_owned : ℕ → Option Entry → Bool
 is_owned number (Some entry) = entry.owner == number
 is_owned number None = false
 
--- is the entry at this place one of the caller whose seat it is
+-- is the entry at this place one of this caller
 abbrev pub owned_at : List Entry → Who → ℕ → Bool
 owned_at entries (CallerOf number) i = is_owned number (slice_get entries i)
 owned_at entries _ i = false

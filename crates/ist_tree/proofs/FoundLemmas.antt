@@ -62,7 +62,7 @@ ended_view v log last call loads loaded searches =
       pending = None;
     }
 
--- the seat began a get and searched
+-- the caller began a get and searched
 module _ (who : Caller) (key : ℕ) (value : Option ℕ) (b w : View) (s : IsSound who.seat.view)
     (p : IsPass who) (begun : Turned who.seat.view (beginning who.seat.view (Some (Get key))) b)
     (seen : HasSearched b w) (has : HasPosition w.start w.words b.log w.log key value) where

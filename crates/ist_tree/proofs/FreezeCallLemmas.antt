@@ -84,6 +84,23 @@ pub record IsWay (who began new : Caller) (seat : SeatFace) : Type 0 where
   pub on : StaysReady Rebuilds began new
   pub given : Turned new.seat.view (giving_up new.seat.view) seat.view
 
+-- so it goes
+pub way_of : (who began new : Caller) (seat : SeatFace) → IsSound who.seat.view → IsPass who
+    → began.number ≡ who.number
+    → Turned who.seat.view (beginning who.seat.view None) began.seat.view → IsReady began
+    → StaysReady Rebuilds began new → Turned new.seat.view (giving_up new.seat.view) seat.view
+    → IsWay who began new seat
+way_of who began new seat s p number begun ready on given =
+    record {
+      sound = s;
+      pass = p;
+      began_number = number;
+      begun = begun;
+      ready = ready;
+      on = on;
+      given = given;
+    }
+
 -- its call may be given up: nothing of it is an entry
 pub may_give_up : (who began new : Caller) → IsSound who.seat.view → IsPass who
     → began.number ≡ who.number

@@ -29,9 +29,9 @@ use Rattle.ist_rows.specs.declared.callers.Caller.{Caller}
 use Rattle.ist_tree.specs.declared.freezing.Frozen.{Frozen}
 use Rattle.ist_tree.specs.declared.freezing.Outcome.{Outcome}
 use Rattle.ist_tree.specs.FreezeSteps.{Freezes, IsTopShort, IsFreezeStopped}
-use Rattle.ist_tree.specs.Calls.{HasSeenMore}
+use Rattle.ist_tree.specs.FreezeCalls.{FreezesAll, StopsFreeze}
 use Rattle.ist_tree.specs.Faces.{PassFace}
-use Rattle.ist_tree.specs.Freezing.{HasFrozen, HasStartedNone, HeldInnerRow, IsFreezeRefused, LeavesRebuilt, IsFrozen, IsFrozenFor, WasFrozen}
+use Rattle.ist_tree.specs.Freezing.{HasFrozen, HeldInnerRow, IsFreezeRefused, IsFrozen, IsFrozenFor, WasFrozen}
 use Rattle.ist_tree.specs.Insides.{IsPassWith, face_as, pass_face}
 use Rattle.ist_tree.specs.Refusals.{HadTooFew, IsForRebuild, IsTopRefused, KeepsRefusal, LeavesTooFew}
 use Rattle.ist_tree.proofs.AskedLemmas.{asked_grows, held_on}
@@ -226,12 +226,7 @@ module _ (who began new : Caller) (seat : SeatFace) (it : IsWay who began new se
 pub record FreezeEnds (old : PassFace) (new : Caller) (seat : SeatFace) (q : Option Full)
     (frozen : Frozen) : Type 0 where
   pub pass : IsPassWith (record new { seat = seat }) q
-  pub seen : HasSeenMore old (face_as seat new.number q)
-  pub still : IsFrozenFor (face_as seat new.number q) frozen
-  pub pairs : HasFrozen old (face_as seat new.number q) frozen
-  pub rebuilt : LeavesRebuilt (face_as seat new.number q) frozen
-  pub calls : seat.view.calls ≡ old.calls
-  pub refused : KeepsRefusal old (face_as seat new.number q)
+  pub froze : FreezesAll old (face_as seat new.number q) frozen
 
 -- a freeze that succeeds ends so
 pub freeze_ends : (who began new : Caller) (seat : SeatFace) (it : IsWay who began new seat)
@@ -242,30 +237,33 @@ pub freeze_ends : (who began new : Caller) (seat : SeatFace) (it : IsWay who beg
 freeze_ends who began new seat it r q all words same table outcome f is old view =
     let had = has_frozen who began new seat it r (option_or r outcome.refused) outcome.frozen
     f.frozen in
+    let all_now = way.ended_pass_with who began new seat it r (option_or r outcome.refused) all
+    (λ none. (both r outcome.refused none).0) (λ none. f.done (both r outcome.refused none).1) in
     subst (λ (o : PassFace). FreezeEnds o new seat q outcome.frozen) view
     (subst (λ o. FreezeEnds (pass_face who r) new seat o outcome.frozen) (sym is) record {
-      pass = way.ended_pass_with who began new seat it r (option_or r outcome.refused) all
-          (λ none. (both r outcome.refused none).0)
-          (λ none. f.done (both r outcome.refused none).1);
-      seen = way.has_seen_more who began new seat it r (option_or r outcome.refused) table;
-      still = frozen_for who began new seat it (option_or r outcome.refused) outcome.frozen
-          had.frozen_is;
-      pairs = had;
-      rebuilt = λ row e.
-          (let k = f.rebuilt row e in
-          record {
-            rebuild = k.rebuild;
-            started = in_last who began new seat it (λ t. IsStarted t k.rebuild)
-                (λ t u g. started_grows t u g k.rebuild) k.of.started;
-            target = in_last who began new seat it (λ t. HasTarget t k.rebuild row)
-                (λ t u g. target_grows t u g k.rebuild row) k.of.target_is;
-            replaced = λ none.
-                in_last who began new seat it (λ t. IsReplaced t k.rebuild)
-                (λ t u g. replaced_grows t u g k.rebuild)
-                (k.replaced (both r outcome.refused none).1);
-          });
-      calls = way.calls_are who began new seat it;
-      refused = keeps_refusal who began new seat it r outcome.refused words same f.refused;
+      pass = all_now;
+      froze = record {
+        seen = way.has_seen_more who began new seat it r (option_or r outcome.refused) table;
+        still = frozen_for who began new seat it (option_or r outcome.refused) outcome.frozen
+            had.frozen_is;
+        pairs = had;
+        rebuilt = λ row e.
+            (let k = f.rebuilt row e in
+            record {
+              rebuild = k.rebuild;
+              started = in_last who began new seat it (λ t. IsStarted t k.rebuild)
+                  (λ t u g. started_grows t u g k.rebuild) k.of.started;
+              target = in_last who began new seat it (λ t. HasTarget t k.rebuild row)
+                  (λ t u g. target_grows t u g k.rebuild row) k.of.target_is;
+              replaced = λ none.
+                  in_last who began new seat it (λ t. IsReplaced t k.rebuild)
+                  (λ t u g. replaced_grows t u g k.rebuild)
+                  (k.replaced (both r outcome.refused none).1);
+            });
+        calls = way.calls_are who began new seat it;
+        refused = keeps_refusal who began new seat it r outcome.refused words same f.refused;
+        done = λ none. (all_now.settled none).starts;
+      };
     })
   where
     both : (a c : Option Full) → option_or a c ≡ None → (a ≡ None) × (c ≡ None)
@@ -276,12 +274,7 @@ freeze_ends who began new seat it r q all words same table outcome f is old view
 pub record StopEnds (old : PassFace) (new : Caller) (seat : SeatFace) (r : Option Full) (full : Full)
     : Type 0 where
   pub pass : IsPassWith (record new { seat = seat }) r
-  pub seen : HasSeenMore old (face_as seat new.number r)
-  pub full_is : IsFreezeRefused old (face_as seat new.number r) full
-  pub calls : seat.view.calls ≡ old.calls
-  pub none : HasStartedNone old (face_as seat new.number r)
-  pub unrefused : r ≡ old.refused
-  pub refused : KeepsRefusal old (face_as seat new.number r)
+  pub stopped : StopsFreeze old (face_as seat new.number r) full
 
 -- a freeze that is refused ends so
 pub stop_ends : (who began new : Caller) (seat : SeatFace) (it : IsWay who began new seat)
@@ -289,12 +282,17 @@ pub stop_ends : (who began new : Caller) (seat : SeatFace) (it : IsWay who began
     → seat.table ≡ who.seat.table → (full : Full) → IsFreezeStopped began new words full
     → (old : PassFace) → pass_face who r ≡ old → StopEnds old new seat r full
 stop_ends who began new seat it r all words same table full s old view =
+    let all_now = way.ended_pass_with who began new seat it r r all (λ none. none)
+    (λ none. s.idle.done) in
     subst (λ (o : PassFace). StopEnds o new seat r full) view record {
-      pass = way.ended_pass_with who began new seat it r r all (λ none. none) (λ none. s.idle.done);
-      seen = way.has_seen_more who began new seat it r r table;
-      full_is = freeze_refused who began new seat it r r words full same s.short s.asked s.held;
-      calls = way.calls_are who began new seat it;
-      none = has_started_none who began new seat it s.idle.none;
-      unrefused = refl;
-      refused = record { stays = λ first e. e; cause = λ first e. inl e };
+      pass = all_now;
+      stopped = record {
+        seen = way.has_seen_more who began new seat it r r table;
+        cause = freeze_refused who began new seat it r r words full same s.short s.asked s.held;
+        unstarted = has_started_none who began new seat it s.idle.none;
+        calls = way.calls_are who began new seat it;
+        unrefused = refl;
+        refused = record { stays = λ first e. e; cause = λ first e. inl e };
+        done = λ none. (all_now.settled none).starts;
+      };
     }

@@ -14,7 +14,7 @@ use Rattle.ist_core.specs.Snapshots.{Snapshot}
 use Rattle.ist_core.proofs.GrowingLemmas.{leaf_there}
 use Rattle.ist_core.proofs.LeafLemmas.{same_leaves}
 use Rattle.ist_build.specs.Calls.{IsLeafAmong}
-use Rattle.ist_dcss.proofs.FieldLemmas.{looked_row}
+use Rattle.ist_dcss.proofs.FieldLemmas.{looked_row, row_low}
 use Rattle.ist_find.specs.Searches.{SeesLeaf}
 use Rattle.ist_find.proofs.ReadLemmas.{leaf_on}
 use Rattle.ist_layout.specs.Meanings.{ref_meant}
@@ -37,6 +37,10 @@ use Rattle.ist_tree.specs.FreezeSteps.{IsLeafNumber, IsPairOf}
 use Rattle.ist_tree.specs.Insides.{IsPassWith, face_as, pass_face}
 use Rattle.ist_tree.proofs.FreezingLemmas.{pairs_rise, still_leaves, still_stays}
 use Rattle.ist_tree.proofs.GoingLemmas.{IsLaterView, goes_later, pass_with_later}
+
+-- the words of a leaf lie within the table
+pub leaf_low : (v : View) → IsSound v → (base k : ℕ) → SeesLeaf v base → k < 2 → base + k < v.words
+leaf_low v s base k r less = (row_low v s base (Leaf r.row) r.published k less).0
 
 -- ---- the leaf
 

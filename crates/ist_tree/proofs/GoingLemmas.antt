@@ -20,7 +20,7 @@ use Rattle.ist_tree.specs.Faces.{TreeFace, PassFace}
 use Rattle.ist_tree.specs.Insides.{pass_face, IsPass, IsPassWith, HasSettled}
 use Rattle.ist_tree.proofs.SettlingLemmas.{settled_later}
 
--- the second view is a later one of the same seat, of whose caller there was no event since
+-- the second view is a later one of the same caller, which made no event since
 pub record IsLaterView (v w : View) : Type 0 where
   pub who_is : w.who ≡ v.who
   pub start_is : w.start ≡ v.start
@@ -28,7 +28,7 @@ pub record IsLaterView (v w : View) : Type 0 where
   pub later : Later v.who v.log w.log
   pub sound : IsSound w
 
--- it is one once the seat made loads
+-- it is one after loads
 pub goes_later : (v w : View) → GoesOnTo v w → IsLaterView v w
 goes_later v w g =
     record {
@@ -112,8 +112,14 @@ pass_with_later who seat refused p l none =
 
 -- ---- one table
 
--- the seat of a pass is of the table of its tree
+-- a pass steps on the table of its tree
 pub table_is : (who : Caller) (refused : Option Full) (p : PassFace) (t u : TreeFace)
     → pass_face who refused ≡ p → p.tree ≡ t → u ≡ t → who.seat.table ≡ u.table
 table_is who refused p t u view same tree =
     ap (λ (x : PassFace). x.tree.table) view ∙ ap (λ (x : TreeFace). x.table) (same ∙ sym tree)
+
+-- the tree has as many words as its pass knows
+pub words_are : (who : Caller) (refused : Option Full) (p : PassFace) (t u : TreeFace)
+    → pass_face who refused ≡ p → p.tree ≡ t → u ≡ t → u.words ≡ who.seat.view.words
+words_are who refused p t u view same tree =
+    sym (ap (λ (x : PassFace). x.tree.words) view ∙ ap (λ (x : TreeFace). x.words) (same ∙ sym tree))

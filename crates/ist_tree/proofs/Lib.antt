@@ -40,6 +40,11 @@ pub mod FreezeReadLemmas
 pub mod FreezeMarkLemmas
 pub mod FurtherLemmas
 pub mod WalkCountLemmas
+pub mod UpdateCallLemmas
+mod AttemptLemmas
+mod MeetLemmas
+mod RoundEndLemmas
+mod FindCallLemmas
 pub mod DueFurtherLemmas
 pub mod InsteadLemmas
 pub mod SpanLemmas

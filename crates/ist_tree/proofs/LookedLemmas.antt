@@ -31,6 +31,7 @@ use Rattle.ist_tree.proofs.FindingLemmas.{searched_view}
 use Rattle.ist_tree.proofs.FoundLemmas.{before, its_position, later, lawful, w_is}
 use Rattle.laws_histories.proofs.PositionOnLemmas.{position_on}
 use Rattle.ist_tree.proofs.GoingLemmas.{IsLaterView, pass_with_later}
+use Rattle.ist_tree.proofs.RoundWalkLemmas.{one_search}
 
 -- what a find that is given up results in, for a pass with this face
 pub record FindLeaves (old : PassFace) (who : Caller) (refused : Option Full) (seat : SeatFace)
@@ -41,8 +42,9 @@ pub record FindLeaves (old : PassFace) (who : Caller) (refused : Option Full) (s
   pub calls : seat.view.calls ≡ old.calls
   pub stamp : seat.view.stamp ≡ old.stamp
   pub position : HadValue old (face_as seat who.number refused) key value
+  pub one_walk : seat.view.searches ≡ old.searches + 1
 
--- the seat began a get and searched
+-- the caller began a get and searched
 module _ (who : Caller) (key : ℕ) (value : Option ℕ) (b w : View) (s : IsSound who.seat.view)
     (p : IsPass who) (begun : Turned who.seat.view (beginning who.seat.view (Some (Get key))) b)
     (seen : HasSearched b w) (has : HasPosition w.start w.words b.log w.log key value) where
@@ -123,6 +125,8 @@ module _ (who : Caller) (key : ℕ) (value : Option ℕ) (b w : View) (s : IsSou
           position = position_on v.start v.words v.log b.log w.log x.log (later-goes_on to_b)
               (later-goes_on w_to_x) key value
               (its_position who key value b w s p begun seen has);
+          one_walk = one_search v b w x v.searches begun seen
+              (ap (λ (y : View). y.searches) given.view) refl;
         }
 
 -- ---- what only saw more had no effect

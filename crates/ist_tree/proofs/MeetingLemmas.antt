@@ -57,7 +57,7 @@ weaves p other lawful mine theirs learnt =
       ),
     )
 
--- the seat took in a note
+-- the caller took in a note
 module _ (who : Caller) (n seat : SeatFace) (refused : Option Full)
     (p : IsPassWith who refused) (note : IsNote n.view) (word : ℕ)
     (same_table : seat.table ≡ who.seat.table)

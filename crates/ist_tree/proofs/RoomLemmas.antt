@@ -1,5 +1,5 @@
--- A pass whose seat loaded the first free word, in no call of its own. Serves `room`.
-use Rattle.std.proofs.Common.{◌≡◌, ℕ, ◌+◌, ◌≤◌, Option, refl, ap, ap₂, ◌∙◌, subst, arith}
+-- A pass that loaded the first free word, in no call of its own. Serves `room`.
+use Rattle.std.proofs.Common.{◌≡◌, ℕ, ◌+◌, ◌-◌, ◌≤◌, Option, refl, ap, ap₂, ◌∙◌, subst, arith}
 use Rattle.ist_core.specs.declared.ports.Full.{Full}
 use Rattle.ist_core.specs.RowLayout.{next_place}
 use Rattle.ist_core.specs.Shown.{shown_next}
@@ -29,6 +29,13 @@ next_fits v next w l =
     let low = next_within w.start w.words l.sound.lawful.opens w.log l.sound.lawful.enabled in
     let all = words_same w.start w.words l.sound.lawful.opens w.log in
     omega arith
+
+-- so it and the words after it are all words of the table
+pub room_sum : (v : View) (next count : ℕ) (w : View) → Looked v next_place next w
+    → w.words ≡ count → (next ≤ count) × (next + (count - next) ≡ w.words)
+room_sum v next count w l all =
+    let low = next_fits v next w l in
+    (omega arith, omega arith)
 
 -- what it results in, for a pass with this face
 pub record RoomEnds (old : PassFace) (who : Caller) (refused : Option Full) (seat : SeatFace)

@@ -1,10 +1,10 @@
 -- Starts and helps that were refused because too few words were left. Serves `rebuild_due` and
 -- `freeze`.
-use Rattle.std.proofs.Common.{◌≡◌, ℕ, Some, Result, Ok, Err, IsErrAnd, IfErr, OnErr, sym, ap, ◌∙◌, subst}
+use Rattle.std.proofs.Common.{◌≡◌, ℕ, Option, Some, Result, Ok, Err, IsErrAnd, IfErr, OnErr, sym, ap, ◌∙◌, subst}
+use Rattle.std.specs.Prelude.{IfSome}
 use Rattle.ist_core.specs.declared.events.Event.{Event}
 use Rattle.ist_core.specs.declared.ports.Full.{Full}
 use Rattle.ist_core.specs.Growing.{AllGrow}
-use Rattle.ist_core.specs.Rebuilding.{IsStarted}
 use Rattle.ist_core.specs.References.{RebuildAt, ref_of}
 use Rattle.ist_core.specs.Shown.{shown_next}
 use Rattle.ist_core.specs.Slots.{SlotHolds, past_change}
@@ -26,6 +26,7 @@ use Rattle.ist_rebuild.specs.Helping.{IsHelpRefused}
 use Rattle.ist_rebuild.specs.Starting.{IsStartRefused, IsStartedAt, StoodInstead}
 use Rattle.ist_tree.specs.Working.{IsAskedToRebuild, IsDueRefused, for_other, for_own, for_start}
 use Rattle.ist_tree.specs.Refusals.{LeavesTooFew}
+use Rattle.ist_tree.proofs.ShutLemmas.{other_started}
 
 -- ---- too few words
 
@@ -63,13 +64,14 @@ own_refused s v w rebuild parent index target words full at went r =
 -- helping another rebuild, which stood in the slot, was refused
 pub other_refused : (v w : View) → IsSound v → (parent index target word rebuild words : ℕ)
     (full : Full) → StoodInstead v parent index target word → ref_of word ≡ Some (RebuildAt rebuild)
-    → IsStarted (now v) rebuild → WentOn Serves v w → IsHelpRefused v rebuild words full w
+    → WentOn Serves v w → IsHelpRefused v rebuild words full w
     → IsDueRefused (now v) w target words full
-other_refused v w s parent index target word rebuild words full stood is started went r =
+other_refused v w s parent index target word rebuild words full stood is went r =
     record {
       short = short_now Serves v words full w r.short;
       asked = for_other rebuild
-          (started_grows (now v) (now w) (went_grow Serves v w went) rebuild started)
+          (started_grows (now v) (now w) (went_grow Serves v w went) rebuild
+          (other_started v s parent index target word rebuild stood is))
           (λ replaced.
           read_unreplaced v.start v.words s.lawful.opens v.log s.lawful.enabled rebuild named.row
           named.published record {
@@ -112,3 +114,7 @@ passed_on (Err e) full P same p = subst P (sym same) p
 pub on_any : {A : Type 0} (answer : Result A Full) (P : Type 0) → P → OnErr answer P
 on_any (Ok a) P p = tt
 on_any (Err e) P p = p
+
+-- what is true of a value, if there is one, is true of the value that there is
+pub some_is : {A : Type 0} (o : Option A) (a : A) (P : A → Type 0) → o ≡ Some a → IfSome o P → P a
+some_is o a P is h = subst (λ o. IfSome o P) is h

@@ -1,4 +1,4 @@
--- A pass whose seat searched, in no call of its own. Serves `span`.
+-- A pass that searched, in no call of its own. Serves `span`.
 use Rattle.std.proofs.Common.{◌≡◌, ℕ, ◌≤◌, Option, refl, ap, ap₂, ◌∙◌, subst, arith}
 use Rattle.ist_core.specs.declared.pairs.Pair.{Pair}
 use Rattle.ist_core.specs.declared.ports.Full.{Full}

@@ -1,4 +1,4 @@
--- A pass whose seat swept a range of keys, in no call of its own. Serves `sweeping`.
+-- A pass that swept a range of keys, in no call of its own. Serves `sweeping`.
 use Rattle.std.proofs.Common.{◌≡◌, ℕ, ◌+◌, List, Option, Result, Ok, Err, refl, ap, ap₂, ◌∙◌, subst, arith}
 use Rattle.std.specs.Prelude.{OnOk}
 use Rattle.ist_core.specs.declared.pairs.Pair.{Pair}

@@ -175,7 +175,7 @@ learnt v w x word refused m note l =
       taken_is,
     )
 
--- no caller waits for its seat in the view of one
+-- in the view of a caller no other waits for its token
 awaits_none : (v : View) (number : ℕ) → v.who ≡ CallerOf number → awaits_seat v ≡ false
 awaits_none v number mine =
     subst (λ (x : Who). (is_maker x && nat_lt v.given v.made) ≡ false) (sym mine) refl

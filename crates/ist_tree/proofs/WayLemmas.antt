@@ -123,11 +123,11 @@ module _ (who began new : Caller) (seat : SeatFace) (command : Command)
         enabled = enabled_before (start v.start v.words) w.log x.log w_to_x lawful_x.enabled;
       }
 
-  -- the seat is still the caller's after the work
+  -- the view is still the caller's after the work
   pub w_mine : w.who ≡ CallerOf who.number
   w_mine = way.caller.mine ∙ ap CallerOf number_is
 
-  -- the seat is the caller's when the call has begun
+  -- the view is the caller's when the call has begun
   pub b_mine : b.who ≡ CallerOf who.number
   b_mine = b_view.who_is ∙ way.pass.caller.mine
 

@@ -22,7 +22,7 @@ use Rattle.ist_rule.specs.declared.view.View.{View}
 use Rattle.ist_rule.specs.Learning.{now}
 use Rattle.ist_rows.specs.declared.callers.Caller.{Caller}
 use Rattle.ist_rebuild.specs.Helping.{IsAskedFor}
-use Rattle.ist_rebuild.specs.Starting.{StartsAreDoneBut, StartsNone}
+use Rattle.ist_rebuild.specs.Starting.{MayStart, StartsAreDoneBut, StartsNone}
 use Rattle.ist_tree.specs.declared.freezing.Frozen.{Frozen}
 use Rattle.ist_tree.specs.declared.freezing.Outcome.{Outcome}
 use Rattle.ist_tree.specs.declared.freezing.Site.{Site}
@@ -56,6 +56,18 @@ pub record WasTop (v : View) (log : Log) (target : ℕ) : Type 0 where
   pub since : GoesOn v.log at
   pub until : GoesOn at log
   pub child : IsChild (state_of v.start v.words at) anchor 0 target
+
+-- an inner row is the anchor's child, and a rebuild of it may be started
+pub record IsTopRow (v : View) (target : ℕ) : Type 0 where
+  pub top : WasTop v v.log target
+  pub may_start : MayStart v anchor 0 target
+  pub held : HeldInnerRow v.start v.words v.log v.log
+
+-- a started rebuild is below the anchor, and its target is the anchor's child
+pub record IsTopRebuild (v : View) (rebuild : ℕ) : Type 0 where
+  pub started : IsStarted (now v) rebuild
+  pub below : IsBelowAnchor (now v) rebuild
+  pub top : (target : ℕ) → HasTarget (now v) rebuild target → WasTop v v.log target
 
 -- what a look at the anchor's slot found: a tree that is frozen, or a rebuild of what was there
 abbrev pub IsSite : View → View → Site → Type 0

@@ -1,4 +1,5 @@
--- What the tokens of a tree are inside: which seat each has, and what contracts see of it.
+-- What makers, passes and notes are inside: the token by which each steps on the table, and what
+-- contracts see of it.
 use Rattle.std.specs.Prelude.{◌≡◌, ℕ, Bool, false, List, length, map, Option, Some, None, IfSome}
 use Rattle.ist_core.specs.declared.commands.Command.{Command}
 use Rattle.ist_core.specs.declared.pairs.Pair.{Pair}
@@ -23,11 +24,11 @@ use Rattle.ist_rows.specs.Building.{HasRefused}
 use Rattle.ist_tree.specs.Faces.{TreeFace, PassFace, MakerFace}
 use Rattle.ist_tree.specs.Refusals.{WasRefused}
 
--- the tree that a seat is of
+-- the tree on whose table the token steps
 abbrev pub tree_of : SeatFace → TreeFace
 tree_of s = record { table = s.table; start = s.view.start; words = s.view.words }
 
--- what a seat knows, as the face of the pass with this number, which met this refusal
+-- what a token knows, as the face of the pass with this number, which met this refusal
 abbrev pub face_as : SeatFace → ℕ → Option Full → PassFace
 face_as s number refused =
     record {
@@ -70,16 +71,16 @@ pub record IsPassWith (who : Caller) (refused : Option Full) : Type 0 where
   pub settled : refused ≡ None
       → HasSettled who.seat.view.start who.seat.view.words who.seat.view.log who.number
 
--- the number of the pass of which a seat is a note
+-- the number of the pass of which this is a note
 abbrev pub noted_number : Who → ℕ
 noted_number (Note (Some number)) = number
 noted_number _ = 0
 
--- what a note's seat keeps of its pass
+-- what a note keeps of its pass
 abbrev pub note_face : SeatFace → PassFace
 note_face s = face_as s (noted_number s.view.who) None
 
--- the seat is a note of a pass, in no call, and the calls that it keeps are in its log
+-- this is the view of a note of a pass, in no call, and the calls that it keeps are in its log
 pub record IsNote (v : View) : Type 0 where
   pub number : ℕ
   pub of_pass : v.who ≡ Note (Some number)
@@ -90,7 +91,7 @@ pub record IsNote (v : View) : Type 0 where
 abbrev pub taken_pass : Taken → PassCalls
 taken_pass t = record { number = t.number; calls = t.calls }
 
--- what a maker's seat knows, and whether a pass that it took back had met a refused rebuild
+-- what a maker knows, and whether a pass that it took back had met a refused rebuild
 abbrev pub maker_face : SeatFace → Bool → MakerFace
 maker_face s refused =
     record {
@@ -102,19 +103,19 @@ maker_face s refused =
       refused = refused;
     }
 
--- the seat is the maker's, and each caller that it entered has its seat
+-- this is the view of the maker, and each caller that it entered has its token
 pub record IsMaker (v : View) : Type 0 where
   pub maker : v.who ≡ Maker
   pub given : v.given ≡ v.made
 
--- the seat is the maker's, and if no pass that was taken back had met a refused rebuild, all
+-- this is the view of the maker, and if no pass that was taken back had met a refused rebuild, all
 -- changes, starts and due rows of each were settled
 pub record IsMakerWith (v : View) (refused : Bool) : Type 0 where
   pub maker : IsMaker v
   pub settled : refused ≡ false
       → Each (λ t. HasSettled v.start v.words t.log t.number) v.taken
 
--- the seat is such a maker's, and these are how many passes it made and how many it took back
+-- this is the view of such a maker, and these are how many passes it made and how many it took back
 pub record IsMakerCounted (v : View) (refused : Bool) (made taken_back : ℕ) : Type 0 where
   pub with : IsMakerWith v refused
   pub made_is : made ≡ v.made

@@ -14,5 +14,9 @@ pub mod Walks
 pub mod Insides
 -- what the functions inside this crate promise each other
 pub mod Rounds
+pub mod Updates
+pub mod Finding
 pub mod Working
+pub mod Attempts
 pub mod FreezeSteps
+pub mod FreezeCalls

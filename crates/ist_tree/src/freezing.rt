@@ -1,7 +1,5 @@
 //! Freezing the whole tree, and reading what was frozen.
 ghost use Rattle.std.specs.Prelude.{◌≡◌, ◌+◌, ◌<◌, ◌≤◌, ◌^◌, ℕ, None, Ok, Some, IfOk, IfErr, OnErr};
-ghost use Rattle.ist_core.specs.Marking.{HasTarget};
-ghost use Rattle.ist_core.specs.Rebuilding.{IsStarted};
 ghost use Rattle.ist_core.specs.References.{InnerAt, LeafAt, ref_of};
 ghost use Rattle.ist_dcss.specs.Helping.{IsOut};
 ghost use Rattle.laws_coming.specs.Further.{CameFurther};
@@ -9,16 +7,15 @@ ghost use Rattle.ist_core.specs.RowLayout.{anchor};
 ghost use Rattle.ist_core.specs.Slots.{SlotHolds};
 ghost use Rattle.ist_find.specs.Searches.{SeesChange, SeesLeaf};
 ghost use Rattle.ist_layout.specs.Meanings.{ref_meant};
-ghost use Rattle.ist_rebuild.specs.Starting.{MayStart};
 ghost use Rattle.ist_rule.specs.Faces.{word_count_of};
 ghost use Rattle.ist_rule.specs.Learning.{now, GoesOnTo, Turned, beginning};
 ghost use Rattle.ist_rule.specs.Rule.{IsSound};
-ghost use Rattle.ist_tree.specs.FreezeSteps.{IsBelowAnchor, IsRebuildOf, WasTop, HasBegun, HasMet, MayHaveMet, IsFreezeStopped};
-ghost use Rattle.ist_tree.specs.FreezeSteps.{GoesIdle, FreezesTarget, Freezes};
-ghost use Rattle.ist_tree.specs.FreezeSteps.{IsLeafNumber, IsPairOf};
+ghost use Rattle.ist_tree.specs.FreezeSteps.{IsRebuildOf, IsTopRebuild, IsTopRow, HasBegun, HasMet, MayHaveMet, IsFreezeStopped};
+ghost use Rattle.ist_tree.specs.FreezeSteps.{GoesIdle, FreezesTarget, Freezes, IsLeafNumber, IsPairOf};
+ghost use Rattle.ist_tree.specs.FreezeCalls.{FreezesAll, StopsFreeze};
 ghost use Rattle.ist_tree.specs.Calls.{HasSeenMore};
 ghost use Rattle.ist_tree.specs.Freezing.{IsStill, IsFrozenFor, HasFrozen, IsPairAt};
-ghost use Rattle.ist_tree.specs.Freezing.{HasStartedNone, HeldInnerRow, IsFreezeRefused, IsFrozenPair, LeavesRebuilt};
+ghost use Rattle.ist_tree.specs.Freezing.{HasStartedNone, IsFreezeRefused, IsFrozenPair, LeavesRebuilt};
 ghost use Rattle.ist_tree.specs.Insides.{IsPass};
 ghost use Rattle.ist_tree.specs.Refusals.{HasStartsDone, KeepsRefusal};
 ghost use Rattle.ist_rows.specs.Going.{IsReady};
@@ -60,23 +57,22 @@ struct Outcome {
 }
 
 // The word in the anchor's slot.
-pub(crate) fn anchor_word(table: &TreeTable, seat: &mut TreeSeat) -> u64
-    requires same_table { seat.old.table ≡ table.now.table }
-    ensures same_table { seat.new.table ≡ seat.old.table }
-    ensures seen { GoesOnTo seat.old.view seat.new.view }
-    ensures holds { SlotHolds (now seat.new.view) anchor 0 result }
+pub(crate) fn anchor_word(table: &TreeTable, token: &mut TreeSeat) -> u64
+    requires same_table { token.old.table ≡ table.now.table }
+    ensures same_table { token.new.table ≡ token.old.table }
+    ensures seen { GoesOnTo token.old.view token.new.view }
+    ensures holds { SlotHolds (now token.new.view) anchor 0 result }
 {
-    know(seat);
+    know(token);
     // A load. Meets an install in the slot, and what a helper leaves there.
-    load(table, seat, ANCHOR_SLOT_PLACE)
+    load(table, token, ANCHOR_SLOT_PLACE)
 }
 
 // Starts a rebuild of the row below the anchor, or finds that something else got there meanwhile.
 fn begin_rebuild(table: &TreeTable, who: &mut Caller, target: u32) -> Result<Option<u32>, Full>
     requires same_table { who.old.seat.table ≡ table.now.table }
     requires ready { IsReady who.old }
-    requires may_start { MayStart who.old.seat.view anchor 0 target }
-    requires held { let v = who.old.seat.view in HeldInnerRow v.start v.words v.log v.log }
+    requires row { IsTopRow who.old.seat.view target }
     ensures same_table { who.new.seat.table ≡ table.now.table }
     ensures begun { IfOk result (HasBegun who.old who.new target) }
     ensures further { result ≡ Ok None → (word : ℕ) → ref_of word ≡ Some (InnerAt target)
@@ -96,9 +92,7 @@ fn begin_rebuild(table: &TreeTable, who: &mut Caller, target: u32) -> Result<Opt
 fn met_row(table: &TreeTable, who: &mut Caller, target: u32) -> Result<Option<Site>, Full>
     requires same_table { who.old.seat.table ≡ table.now.table }
     requires ready { IsReady who.old }
-    requires top { WasTop who.old.seat.view who.old.seat.view.log target }
-    requires may_start { MayStart who.old.seat.view anchor 0 target }
-    requires held { let v = who.old.seat.view in HeldInnerRow v.start v.words v.log v.log }
+    requires row { IsTopRow who.old.seat.view target }
     ensures same_table { who.new.seat.table ≡ table.now.table }
     ensures met { IfOk result (MayHaveMet who.old who.new) }
     ensures further { result ≡ Ok None → (word : ℕ) → ref_of word ≡ Some (InnerAt target)
@@ -116,10 +110,7 @@ fn met_row(table: &TreeTable, who: &mut Caller, target: u32) -> Result<Option<Si
 fn met_rebuild(table: &TreeTable, who: &mut Caller, rebuild: u32) -> Site
     requires same_table { who.old.seat.table ≡ table.now.table }
     requires ready { IsReady who.old }
-    requires started { IsStarted (now who.old.seat.view) rebuild }
-    requires below { IsBelowAnchor (now who.old.seat.view) rebuild }
-    requires top { (target : ℕ) → HasTarget (now who.old.seat.view) rebuild target
-        → WasTop who.old.seat.view who.old.seat.view.log target }
+    requires row { IsTopRebuild who.old.seat.view rebuild }
     ensures same_table { who.new.seat.table ≡ table.now.table }
     ensures met { HasMet who.old who.new result }
 {
@@ -141,17 +132,16 @@ fn met_change(table: &TreeTable, who: &mut Caller, change: u32)
     help(table, &mut who.seat, change);
 }
 
-// Looks below the anchor once.
-fn look(table: &TreeTable, who: &mut Caller) -> Result<Option<Site>, Full>
+// Meets what the word in the anchor's slot names.
+fn meet(table: &TreeTable, who: &mut Caller, word: u64) -> Result<Option<Site>, Full>
     requires same_table { who.old.seat.table ≡ table.now.table }
     requires ready { IsReady who.old }
+    requires holds { SlotHolds (now who.old.seat.view) anchor 0 word }
     ensures same_table { who.new.seat.table ≡ table.now.table }
     ensures met { IfOk result (MayHaveMet who.old who.new) }
     ensures further { result ≡ Ok None → CameFurther who.old.seat.view who.new.seat.view }
     ensures full { IfErr result (IsFreezeStopped who.old who.new (word_count_of table.now)) }
 {
-    know(&who.seat);
-    let word = anchor_word(table, &mut who.seat);
     know(&who.seat);
     match Ref::from_word(word) {
         Some(Ref::Inner { base }) => met_row(table, who, base),
@@ -171,6 +161,20 @@ fn look(table: &TreeTable, who: &mut Caller) -> Result<Option<Site>, Full>
         Some(Ref::Unset) => Ok(None),
         None => Ok(None),
     }
+}
+
+// Looks below the anchor once.
+fn look(table: &TreeTable, who: &mut Caller) -> Result<Option<Site>, Full>
+    requires same_table { who.old.seat.table ≡ table.now.table }
+    requires ready { IsReady who.old }
+    ensures same_table { who.new.seat.table ≡ table.now.table }
+    ensures met { IfOk result (MayHaveMet who.old who.new) }
+    ensures further { result ≡ Ok None → CameFurther who.old.seat.view who.new.seat.view }
+    ensures full { IfErr result (IsFreezeStopped who.old who.new (word_count_of table.now)) }
+{
+    know(&who.seat);
+    let word = anchor_word(table, &mut who.seat);
+    meet(table, who, word)
 }
 
 // Looks below the anchor until it finds a frozen tree or a rebuild there.
@@ -250,22 +254,21 @@ fn base_of(reference: Ref) -> u32
     }
 }
 
-// The leaf number `i` below the root of a frozen tree, and how many words were loaded on the way to
-// it.
-fn frozen_leaf(table: &TreeTable, seat: &mut TreeSeat, frozen: Frozen, i: u64) -> (u32, u64)
-    requires same_table { seat.old.table ≡ table.now.table }
-    requires frozen { IsStill (now seat.old.view) (ref_meant frozen.root) frozen.keys }
+// The leaf number `i` below the root of a frozen tree, and how many words were loaded for it.
+fn frozen_leaf(table: &TreeTable, token: &mut TreeSeat, frozen: Frozen, i: u64) -> (u32, u64)
+    requires same_table { token.old.table ≡ table.now.table }
+    requires frozen { IsStill (now token.old.view) (ref_meant frozen.root) frozen.keys }
     requires within { i < frozen.keys }
-    ensures same_table { seat.new.table ≡ seat.old.table }
-    ensures seen { GoesOnTo seat.old.view seat.new.view }
-    ensures leaf { IsLeafNumber (now seat.old.view) (ref_meant frozen.root) i result.0 }
-    ensures counted { seat.new.view.loaded ≡ seat.old.view.loaded + result.1 }
+    ensures same_table { token.new.table ≡ token.old.table }
+    ensures seen { GoesOnTo token.old.view token.new.view }
+    ensures leaf { IsLeafNumber (now token.old.view) (ref_meant frozen.root) i result.0 }
+    ensures counted { token.new.view.loaded ≡ token.old.view.loaded + result.1 }
     ensures fits { result.1 ≤ 2 ^ 59 }
 {
-    know(seat);
+    know(token);
     match frozen.root {
         Ref::Inner { base } => {
-            let leaf = leaf_and_loads(table, seat, base, i);
+            let leaf = leaf_and_loads(table, token, base, i);
             (base_of(leaf.0), leaf.1)
         }
         other => (base_of(other), 0),
@@ -273,40 +276,40 @@ fn frozen_leaf(table: &TreeTable, seat: &mut TreeSeat, frozen: Frozen, i: u64) -
 }
 
 // The pair of a leaf.
-fn pair_in(table: &TreeTable, seat: &mut TreeSeat, base: u32) -> Pair
-    requires same_table { seat.old.table ≡ table.now.table }
-    requires leaf { SeesLeaf seat.old.view base }
-    ensures same_table { seat.new.table ≡ seat.old.table }
-    ensures seen { GoesOnTo seat.old.view seat.new.view }
-    ensures pair { IsPairOf (now seat.old.view) base result }
-    ensures counted { seat.new.view.loaded ≡ seat.old.view.loaded + 2 }
+fn pair_in(table: &TreeTable, token: &mut TreeSeat, base: u32) -> Pair
+    requires same_table { token.old.table ≡ table.now.table }
+    requires leaf { SeesLeaf token.old.view base }
+    ensures same_table { token.new.table ≡ token.old.table }
+    ensures seen { GoesOnTo token.old.view token.new.view }
+    ensures pair { IsPairOf (now token.old.view) base result }
+    ensures counted { token.new.view.loaded ≡ token.old.view.loaded + 2 }
 {
-    know(seat);
-    let key = load(table, seat, u64::from(base) + LEAF_KEY_OFFSET);
-    know(seat);
-    let value = load(table, seat, u64::from(base) + LEAF_VALUE_OFFSET);
+    know(token);
+    let key = load(table, token, u64::from(base) + LEAF_KEY_OFFSET);
+    know(token);
+    let value = load(table, token, u64::from(base) + LEAF_VALUE_OFFSET);
     Pair { key, value }
 }
 
 // The pair number `i` of a frozen tree, and how many words were loaded for it.
 pub(crate) fn pair_and_loads(
     table: &TreeTable,
-    seat: &mut TreeSeat,
+    token: &mut TreeSeat,
     frozen: Frozen,
     i: u64,
 ) -> (Pair, u64)
-    requires same_table { seat.old.table ≡ table.now.table }
-    requires frozen { IsStill (now seat.old.view) (ref_meant frozen.root) frozen.keys }
+    requires same_table { token.old.table ≡ table.now.table }
+    requires frozen { IsStill (now token.old.view) (ref_meant frozen.root) frozen.keys }
     requires within { i < frozen.keys }
-    ensures same_table { seat.new.table ≡ seat.old.table }
-    ensures seen { GoesOnTo seat.old.view seat.new.view }
-    ensures pair { let v = seat.old.view in IsPairAt v.start v.words v.log frozen i result.0 }
-    ensures counted { seat.new.view.loaded ≡ seat.old.view.loaded + result.1 }
+    ensures same_table { token.new.table ≡ token.old.table }
+    ensures seen { GoesOnTo token.old.view token.new.view }
+    ensures pair { let v = token.old.view in IsPairAt v.start v.words v.log frozen i result.0 }
+    ensures counted { token.new.view.loaded ≡ token.old.view.loaded + result.1 }
 {
-    know(seat);
-    let leaf = frozen_leaf(table, seat, frozen, i);
-    know(seat);
-    let pair = pair_in(table, seat, leaf.0);
+    know(token);
+    let leaf = frozen_leaf(table, token, frozen, i);
+    know(token);
+    let pair = pair_in(table, token, leaf.0);
     (pair, leaf.1 + 2)
 }
 
@@ -334,6 +337,18 @@ impl Tree {
         ensures unrefused { OnErr result (pass.new.refused ≡ pass.old.refused) }
         ensures refused { KeepsRefusal pass.old pass.new }
         ensures done { HasStartsDone pass.new }
+    {
+        match self.freeze_all(pass) {
+            Ok(frozen) => Ok(frozen),
+            Err(full) => Err(full),
+        }
+    }
+
+    // Freezes the whole tree in a call without a command, which is given up at its end.
+    fn freeze_all(&self, pass: &mut Pass) -> Result<Frozen, Full>
+        requires same_tree { pass.old.tree ≡ self.now }
+        ensures froze { IfOk result (FreezesAll pass.old pass.new) }
+        ensures stopped { IfErr result (StopsFreeze pass.old pass.new) }
     {
         begin(&self.table, &mut pass.caller);
         match freeze_below(&self.table, &mut pass.caller) {

@@ -6,6 +6,7 @@
 #![tactic(auto)]
 
 mod faults;
+mod finding;
 mod freezing;
 pub mod laws;
 mod passes;

@@ -14,7 +14,7 @@ use std::marker::Model;
 /// it took back, and whether one of these passes had met a refused rebuild.
 #[derive(Drop)]
 pub struct Maker {
-    pub(crate) seat: TreeSeat,
+    pub(crate) token: TreeSeat,
     pub(crate) refused: bool,
     pub(crate) made: u64,
     pub(crate) taken_back: u64,
@@ -26,9 +26,9 @@ impl Model for Maker {
 
     ghost Value = { MakerFace };
 
-    ghost view = { λ m. maker_face m.seat m.refused };
+    ghost view = { λ m. maker_face m.token m.refused };
 
-    ghost invariant = { λ m. IsMakerCounted m.seat.view m.refused m.made m.taken_back };
+    ghost invariant = { λ m. IsMakerCounted m.token.view m.refused m.made m.taken_back };
 }
 
 impl Maker {
@@ -54,7 +54,7 @@ impl Maker {
         ensures back { length self.now.taken ≤ self.now.made }
         ensures few { self.now.made ≤ caller_limit }
     {
-        know(&self.seat);
+        know(&self.token);
     }
 }
 
@@ -108,7 +108,7 @@ impl Pass {
 /// Contracts see what they see of a pass.
 #[derive(Drop)]
 pub struct Note {
-    pub(crate) seat: TreeSeat,
+    pub(crate) token: TreeSeat,
 }
 
 impl Model for Note {
@@ -117,7 +117,7 @@ impl Model for Note {
 
     ghost Value = { PassFace };
 
-    ghost view = { λ n. note_face n.seat };
+    ghost view = { λ n. note_face n.token };
 
-    ghost invariant = { λ n. IsNote n.seat.view };
+    ghost invariant = { λ n. IsNote n.token.view };
 }

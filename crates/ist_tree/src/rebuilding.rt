@@ -1,14 +1,15 @@
 //! Rebuilding a row that reached its limit.
-ghost use Rattle.std.specs.Prelude.{◌≡◌, false, Ok, IfOk, IfErr, OnOk};
+ghost use Rattle.std.specs.Prelude.{◌≡◌, ℕ, Ok, IfErr};
 ghost use Rattle.ist_core.specs.References.{ref_of};
+ghost use Rattle.ist_core.specs.Slots.{IsOpen};
+ghost use Rattle.laws_settling.specs.Settling.{StartsAreDone};
 ghost use Rattle.ist_rule.specs.Faces.{word_count_of};
-ghost use Rattle.ist_rule.specs.Going.{WentOn};
 ghost use Rattle.ist_rule.specs.Learning.{now};
-ghost use Rattle.laws_coming.specs.Further.{CameFurther};
-ghost use Rattle.ist_rebuild.specs.Going.{StartsAt};
-ghost use Rattle.ist_rebuild.specs.Starting.{MayStart, StoodInstead};
-ghost use Rattle.ist_tree.specs.Working.{Rebuilds, KeepsDone, IsShut, IsLastFor, IsHelpedWord, IsDueRefused, instead_of};
-ghost use Rattle.ist_rows.specs.Going.{IsReady, StaysReady};
+ghost use Rattle.ist_rows.specs.Going.{IsReady};
+ghost use Rattle.ist_rebuild.specs.declared.answers.Started.TheVariants.{Yes, Other, Marked};
+ghost use Rattle.ist_rebuild.specs.Starting.{IsStartedAt, LeavesDone, MayStart, StoodInstead};
+ghost use Rattle.ist_tree.specs.Attempts.{GoesFor, HelpsOther, HelpsOwn, RebuildsRow, Tries};
+ghost use Rattle.ist_tree.specs.Working.{IsDueRefused, instead_of};
 
 use ist_core::Full;
 use ist_dcss::{help, is_open};
@@ -44,32 +45,63 @@ fn instead_in(word: u64) -> Instead
     }
 }
 
+// Starts a rebuild of the row, or finds what stops it.
+fn start_due(table: &TreeTable, who: &mut Caller, due: Due) -> Result<Started, Full>
+    requires same_table { who.old.seat.table ≡ table.now.table }
+    requires ready { IsReady who.old }
+    requires may_start { MayStart who.old.seat.view due.parent due.index due.target }
+    ensures same_table { who.new.seat.table ≡ table.now.table }
+    ensures on { GoesFor who.old who.new due.target }
+    ensures yes { (rebuild : ℕ) → result ≡ Ok (Yes rebuild)
+        → IsStartedAt (now who.new.seat.view) rebuild due.parent due.index due.target }
+    ensures other { (word : ℕ) → result ≡ Ok (Other word)
+        → StoodInstead who.new.seat.view due.parent due.index due.target word }
+    ensures marked { result ≡ Ok Marked → ¬ (IsOpen (now who.new.seat.view) due.parent) }
+    ensures done { StartsAreDone (now who.old.seat.view) who.old.number
+        → LeavesDone (now who.new.seat.view) who.old.number result }
+    ensures full { IfErr result (λ full.
+        IsDueRefused (now who.old.seat.view) who.new.seat.view due.target
+        (word_count_of table.now) full) }
+{
+    // Install, Okay, Decide and Resolve of a start. Meets whoever changes the row's slot.
+    start(table, who, due.parent, due.index, due.target)
+}
+
+// Helps the rebuild that was started of the row.
+fn help_own(table: &TreeTable, who: &mut Caller, due: Due, rebuild: u32) -> Result<(), Full>
+    requires same_table { who.old.seat.table ≡ table.now.table }
+    requires ready { IsReady who.old }
+    requires started { IsStartedAt (now who.old.seat.view) rebuild due.parent due.index due.target }
+    ensures same_table { who.new.seat.table ≡ table.now.table }
+    ensures helped { HelpsOwn who.old who.new due (word_count_of table.now) rebuild result }
+{
+    match help_rebuild(table, who, rebuild) {
+        Ok(_) => Ok(()),
+        Err(full) => Err(full),
+    }
+}
+
 // Helps what the slot holds instead of the row that was due for a rebuild: a rebuild, or a change.
 fn help_other(table: &TreeTable, who: &mut Caller, due: Due, word: u64) -> Result<(), Full>
     requires same_table { who.old.seat.table ≡ table.now.table }
     requires ready { IsReady who.old }
     requires stood { StoodInstead who.old.seat.view due.parent due.index due.target word }
     ensures same_table { who.new.seat.table ≡ table.now.table }
-    ensures on { StaysReady Rebuilds who.old who.new }
-    ensures aims { WentOn (StartsAt due.target) who.old.seat.view who.new.seat.view }
-    ensures done { OnOk result (KeepsDone who.old who.new) }
-    ensures settled { OnOk result (IsHelpedWord who.new.seat.view word) }
-    ensures full { IfErr result (λ full.
-        IsDueRefused (now who.old.seat.view) who.new.seat.view due.target
-        (word_count_of table.now) full) }
+    ensures helped { HelpsOther who.old who.new due (word_count_of table.now) word result }
 {
     know(&who.seat);
     match instead_in(word) {
-        Instead::Rebuild(base) => {
-            help_rebuild(table, who, base)?;
-        }
+        Instead::Rebuild(base) => match help_rebuild(table, who, base) {
+            Ok(_) => Ok(()),
+            Err(full) => Err(full),
+        },
         Instead::Change(base) => {
             // Okay, Decide and Resolve. Meets another helper's, and a mark of the node.
             help(table, &mut who.seat, base);
+            Ok(())
         }
-        Instead::Other => {}
+        Instead::Other => Ok(()),
     }
-    Ok(())
 }
 
 // Tries once to rebuild the row. Returns whether that was the last try: the row or its parent isn't
@@ -79,19 +111,11 @@ fn try_due(table: &TreeTable, who: &mut Caller, due: Due) -> Result<bool, Full>
     requires ready { IsReady who.old }
     requires may_start { MayStart who.old.seat.view due.parent due.index due.target }
     ensures same_table { who.new.seat.table ≡ table.now.table }
-    ensures on { StaysReady Rebuilds who.old who.new }
-    ensures aims { WentOn (StartsAt due.target) who.old.seat.view who.new.seat.view }
-    ensures last { IfOk result (λ last.
-        IsLastFor last (now who.new.seat.view) due.parent due.target) }
-    ensures further { result ≡ Ok false → CameFurther who.old.seat.view who.new.seat.view }
-    ensures done { OnOk result (KeepsDone who.old who.new) }
-    ensures full { IfErr result (λ full.
-        IsDueRefused (now who.old.seat.view) who.new.seat.view due.target
-        (word_count_of table.now) full) }
+    ensures tried { Tries who.old who.new due (word_count_of table.now) result }
 {
-    match start(table, who, due.parent, due.index, due.target)? {
+    match start_due(table, who, due)? {
         Started::Yes { rebuild } => {
-            help_rebuild(table, who, rebuild)?;
+            help_own(table, who, due, rebuild)?;
             Ok(true)
         }
         Started::Marked => Ok(true),
@@ -109,13 +133,7 @@ pub(crate) fn rebuild_due(table: &TreeTable, who: &mut Caller, due: Due) -> Resu
     requires ready { IsReady who.old }
     requires may_start { MayStart who.old.seat.view due.parent due.index due.target }
     ensures same_table { who.new.seat.table ≡ table.now.table }
-    ensures on { StaysReady Rebuilds who.old who.new }
-    ensures aims { WentOn (StartsAt due.target) who.old.seat.view who.new.seat.view }
-    ensures shut { OnOk result (IsShut (now who.new.seat.view) due.parent due.target) }
-    ensures done { OnOk result (KeepsDone who.old who.new) }
-    ensures full { IfErr result (λ full.
-        IsDueRefused (now who.old.seat.view) who.new.seat.view due.target
-        (word_count_of table.now) full) }
+    ensures rebuilt { RebuildsRow who.old who.new due (word_count_of table.now) result }
 {
     know(&who.seat);
     'turns: loop {

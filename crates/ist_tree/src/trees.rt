@@ -20,14 +20,15 @@ ghost use Rattle.ist_tree.specs.Rounds.{BeginsFewRounds};
 ghost use Rattle.ist_tree.specs.Spans.{AllHave, HasLoadedFewOver, state_seen};
 
 use crate::faults::OpenFault;
+use crate::finding::begin_find;
 use crate::passes::{Maker, Note, Pass};
 use crate::updating::{update, update_if};
-use ist_core::{Command, Full, Pair, Reply};
-use ist_find::{Span, find_from_anchor, find_span};
+use ist_core::{Full, Pair, Reply};
+use ist_find::{Span, find_span};
 use ist_image::{Image, needed_words};
 use ist_rest::Closed;
 use ist_rows::{Caller, enter};
-use ist_rule::{TreeTable, begin_call, close, end_call, join, know, open_table_over, split};
+use ist_rule::{TreeTable, close, end_call, join, know, open_table_over, split};
 use std::alloc::Global;
 use std::marker::Model;
 
@@ -86,12 +87,12 @@ impl Tree {
         }
         let kept = pairs.to_vec(alloc)?;
         image.lay(words, pairs)?;
-        let (table, seat) = open_table_over(alloc, image.words(), &kept)?;
-        know(&seat);
+        let (table, token) = open_table_over(alloc, image.words(), &kept)?;
+        know(&token);
         Ok((
             Tree { table },
             Maker {
-                seat,
+                token,
                 refused: false,
                 made: 0,
                 taken_back: 0,
@@ -115,7 +116,7 @@ impl Tree {
         ensures stamp { maker.new.stamp ≡ maker.old.stamp }
         ensures refused { maker.new.refused ≡ maker.old.refused }
     {
-        let caller = enter(&self.table, &mut maker.seat);
+        let caller = enter(&self.table, &mut maker.token);
         maker.made = u64::from(caller.number) + 1;
         know(&caller.seat);
         Pass {
@@ -140,7 +141,7 @@ impl Tree {
     {
         let Pass { caller, refused } = pass;
         let Caller { seat, .. } = caller;
-        join(&self.table, &mut maker.seat, seat);
+        join(&self.table, &mut maker.token, seat);
         maker.taken_back += 1;
         maker.refused |= refused.is_some();
     }
@@ -153,8 +154,8 @@ impl Tree {
         ensures unchanged { pass.new ≡ pass.old }
     {
         know(&pass.caller.seat);
-        let seat = split(&self.table, &mut pass.caller.seat);
-        Note { seat }
+        let token = split(&self.table, &mut pass.caller.seat);
+        Note { token }
     }
 
     /// Lets the pass learn what the note holds. Its calls are as before.
@@ -170,8 +171,8 @@ impl Tree {
         ensures woven { WeavesWith pass.new note }
         ensures refused { pass.new.refused ≡ pass.old.refused }
     {
-        let Note { seat } = note;
-        join(&self.table, &mut pass.caller.seat, seat);
+        let Note { token } = note;
+        join(&self.table, &mut pass.caller.seat, token);
     }
 
     /// Lets the maker learn what the note holds. Each pass that it makes from then on has seen all
@@ -188,8 +189,8 @@ impl Tree {
         ensures note_stamp { note.stamp ≤ maker.new.stamp }
         ensures refused { maker.new.refused ≡ maker.old.refused }
     {
-        let Note { seat } = note;
-        join(&self.table, &mut maker.seat, seat);
+        let Note { token } = note;
+        join(&self.table, &mut maker.token, token);
     }
 
     /// Returns the value of the key, if it has one. Never allocates, always returns.
@@ -205,14 +206,11 @@ impl Tree {
         ensures loads { HasLoadedFew pass.old pass.new key result }
         ensures refused { pass.new.refused ≡ pass.old.refused }
     {
-        let seat = &mut pass.caller.seat;
-        know(seat);
-        begin_call(&self.table, seat, Some(Command::Get { key }));
-        know(seat);
-        let found = find_from_anchor(&self.table, seat, key);
-        know(seat);
-        end_call(&self.table, seat, found.value);
-        know(seat);
+        let token = &mut pass.caller.seat;
+        let found = begin_find(&self.table, token, key);
+        know(token);
+        end_call(&self.table, token, found.value);
+        know(token);
         found.value
     }
 
@@ -372,7 +370,7 @@ impl Tree {
         ensures stands { ClosesWith maker result }
     {
         let Tree { table } = self;
-        let Maker { seat, .. } = maker;
-        Closed::new(close(table, seat))
+        let Maker { token, .. } = maker;
+        Closed::new(close(table, token))
     }
 }

@@ -1,8 +1,6 @@
 //! A put or a remove of a pass, from the beginning of its call to its end.
 ghost use Rattle.std.specs.Prelude.{◌≡◌, ◌≢◌, ◌+◌, true, Option, Some, None, Result, Ok, IfOk, IfErr, IfSome, OnSome, OnOk, OnErr};
 ghost use Rattle.ist_core.specs.declared.commands.Command.TheVariants.{Get};
-ghost use Rattle.ist_core.specs.declared.events.Who.TheVariants.{Caller as CallerOf};
-ghost use Rattle.ist_core.specs.Authors.{Later};
 ghost use Rattle.ist_core.specs.Standing.{makes_entry};
 ghost use Rattle.ist_rule.specs.Faces.{word_count_of};
 ghost use Rattle.ist_rule.specs.Learning.{Turned, beginning};
@@ -14,14 +12,16 @@ ghost use Rattle.ist_tree.specs.DueRows.{CountsNowhere, HasCounted, LeavesNoneDu
 ghost use Rattle.ist_tree.specs.Faces.{HasItsCalls};
 ghost use Rattle.ist_tree.specs.Insides.{IsPass};
 ghost use Rattle.ist_tree.specs.Refusals.{HasStartsDone, IsRefused, KeepsRowRefusal};
-ghost use Rattle.ist_tree.specs.Rounds.{BeginsFewRounds, HadMissed, HadValue, HasLetGo};
+ghost use Rattle.ist_tree.specs.Rounds.{BeginsFewRounds};
+ghost use Rattle.ist_tree.specs.Updates.{HasAnswered, HasMetAt, HasMissedAt, HasRun, HasUpdated, HasWorked};
+ghost use Rattle.ist_tree.specs.Updates.{IsTurnedAway, OnlyFinds};
 ghost use Rattle.ist_tree.specs.Working.{CarriesOut, IsLetGo, IsTurnedDown, StartsDue};
 
+use crate::finding::begin_find;
 use crate::passes::Pass;
 use crate::rebuilding::rebuild_due;
 use crate::trees::Tree;
 use ist_core::{Command, Full, Reply};
-use ist_find::find_from_anchor;
 use ist_rows::Caller;
 use ist_rule::{TreeTable, begin_call, end_call, give_up, know};
 use ist_updates::{When, apply_when};
@@ -119,15 +119,18 @@ pub(crate) fn update(
     ensures refused { KeepsRowRefusal pass.old pass.new }
     ensures done { HasStartsDone pass.new }
 {
-    match update_when(tree, pass, key, value, When::Always)? {
-        Some(reply) => Ok(reply),
-        None => unreachable!(),
+    match update_when(tree, pass, key, value, When::Always) {
+        Ok(done) => match done {
+            Some(reply) => Ok(reply),
+            None => unreachable!(),
+        },
+        Err(full) => Err(full),
     }
 }
 
-/// As `update`, if `when` allows the value that the key has. Otherwise the call is given up and it
-/// returns `None`: at a position of this call, the key had a value that `when` doesn't allow.
-pub(crate) fn update_when(
+// As `update`, if `when` allows the value that the key has. Otherwise the call is given up and it
+// returns `None`: at a position of this call, the key had a value that `when` doesn't allow.
+fn update_when(
     tree: &Tree,
     pass: &mut Pass,
     key: u64,
@@ -135,25 +138,12 @@ pub(crate) fn update_when(
     when: When,
 ) -> Result<Option<Reply>, Full>
     requires same_tree { pass.old.tree ≡ tree.now }
-    ensures seen { HasSeenMore pass.old pass.new }
-    ensures added { IfOk result (λ o. IfSome o (λ reply.
-        AddsCall pass.old pass.new (command_for key value) reply)) }
+    ensures worked { HasWorked pass.old pass.new }
+    ensures updated { IfOk result (λ o. IfSome o
+        (HasUpdated pass.old pass.new (command_for key value))) }
     ensures met { IfOk result (λ o. IfSome o (λ reply. IsMetBy when reply)) }
-    ensures counted { IfOk result (λ o. IfSome o (λ reply.
-        makes_entry (command_for key value) reply ≡ true
-        → HasCounted pass.old pass.new (command_for key value))) }
-    ensures due { IfOk result (λ o. IfSome o (λ reply. LeavesNoneDue pass.old pass.new)) }
-    ensures let_go { result ≡ Ok None → HasLetGo pass.old pass.new }
-    ensures missed { result ≡ Ok None → HadMissed pass.old pass.new key when }
-    ensures starts { StartsOnlyDue pass.old pass.new }
-    ensures few_walks { BeginsFewWalks pass.old pass.new }
-    ensures full { IfErr result (λ full. IsRefused pass.old pass.new key value full) }
-    ensures calls { OnErr result (pass.new.calls ≡ pass.old.calls) }
-    ensures placed { OnErr result (HasItsCalls pass.new) }
-    ensures uncounted { OnErr result (CountsNowhere pass.old pass.new) }
-    ensures unrefused { OnErr result (pass.new.refused ≡ pass.old.refused) }
-    ensures refused { KeepsRowRefusal pass.old pass.new }
-    ensures done { HasStartsDone pass.new }
+    ensures missed { result ≡ Ok None → HasMissedAt pass.old pass.new key when }
+    ensures turned_away { IfErr result (IsTurnedAway pass.old pass.new key value) }
 {
     begin(&tree.table, &mut pass.caller, command_of(key, value));
     match carry_out_when(&tree.table, &mut pass.caller, key, value, when) {
@@ -182,37 +172,54 @@ pub(crate) fn update_when(
 /// call is given up: the map had that value at a position of the call.
 fn find_unless(tree: &Tree, pass: &mut Pass, key: u64, expected: Reply) -> Option<Reply>
     requires same_tree { pass.old.tree ≡ tree.now }
-    ensures seen { HasSeenMore pass.old pass.new }
-    ensures others { Later (CallerOf pass.old.number) pass.old.seen pass.new.seen }
-    ensures refused { pass.new.refused ≡ pass.old.refused }
-    ensures done { HasStartsDone pass.new }
-    ensures one_walk { pass.new.searches ≡ pass.old.searches + 1 }
+    ensures finds { OnlyFinds pass.old pass.new }
     ensures other { IfSome result (λ reply. reply ≢ expected) }
     ensures added { IfSome result (AddsCall pass.old pass.new (Get key)) }
-    ensures calls { result ≡ None → pass.new.calls ≡ pass.old.calls }
-    ensures stamp { result ≡ None → pass.new.stamp ≡ pass.old.stamp }
-    ensures value { result ≡ None → HadValue pass.old pass.new key expected }
+    ensures met { result ≡ None → HasMetAt pass.old pass.new key expected }
 {
-    let seat = &mut pass.caller.seat;
-    know(seat);
-    begin_call(&tree.table, seat, Some(Command::Get { key }));
-    know(seat);
-    let found = find_from_anchor(&tree.table, seat, key);
-    know(seat);
+    let token = &mut pass.caller.seat;
+    let found = begin_find(&tree.table, token, key);
+    know(token);
     if found.value == expected {
-        give_up(&tree.table, seat);
-        know(seat);
+        give_up(&tree.table, token);
+        know(token);
         return None;
     }
-    end_call(&tree.table, seat, found.value);
-    know(seat);
+    end_call(&tree.table, token, found.value);
+    know(token);
     Some(found.value)
 }
 
+// Rounds of an update and a find, until one of both returns a reply.
+//
+// Each round tries the update, and finds the key if it met another value. If the find meets the
+// expected value, the map was changed in between, and the next round begins.
+fn run_rounds(
+    tree: &Tree,
+    pass: &mut Pass,
+    key: u64,
+    value: Option<u64>,
+    expected: Reply,
+) -> Result<Reply, Full>
+    requires same_tree { pass.old.tree ≡ tree.now }
+    ensures run { HasRun pass.old pass.new }
+    ensures answered { IfOk result
+        (HasAnswered pass.old pass.new key (command_for key value) expected) }
+    ensures turned_away { IfErr result (IsTurnedAway pass.old pass.new key value) }
+{
+    pass.know();
+    'rounds: loop {
+        if let Some(reply) = update_when(tree, pass, key, value, When::Had(expected))? {
+            return Ok(reply);
+        }
+        if let Some(reply) = find_unless(tree, pass, key, expected) {
+            return Ok(reply);
+        }
+        pass.know();
+    }
+}
+
 /// As `update`, if the key has the value that is expected; otherwise finds what it has.
-///
-/// Each round tries the update, and finds the key if it met another value. If the find meets the
-/// expected value, the map was changed in between, and the next round begins.
 pub(crate) fn update_if(
     tree: &Tree,
     pass: &mut Pass,
@@ -241,14 +248,8 @@ pub(crate) fn update_if(
     ensures refused { KeepsRowRefusal pass.old pass.new }
     ensures done { HasStartsDone pass.new }
 {
-    pass.know();
-    'rounds: loop {
-        if let Some(reply) = update_when(tree, pass, key, value, When::Had(expected))? {
-            return Ok(reply);
-        }
-        if let Some(reply) = find_unless(tree, pass, key, expected) {
-            return Ok(reply);
-        }
-        pass.know();
+    match run_rounds(tree, pass, key, value, expected) {
+        Ok(reply) => Ok(reply),
+        Err(full) => Err(full),
     }
 }

@@ -1,9 +1,8 @@
 -- A start puts a rebuild below the anchor, or finds another word there.
-use Rattle.std.proofs.Common.{Ok, ap}
+use Rattle.std.proofs.Common.{Ok, ap, refl}
 use Rattle.ist_tree.proofs.DueLemmas.{begins_on, marked_leaves, other_leaves, yes_leaves}
 use Rattle.ist_tree.proofs.FreezeGoingLemmas.{begins_idle, begun_of, marked_unstarted, other_unstarted, start_stopped}
 use Rattle.ist_tree.proofs.ShortLemmas.{passed_on}
-use Rattle.std.proofs.Common.{refl}
 use Rattle.ist_core.specs.RowLayout.{anchor}
 use Rattle.ist_core.specs.Slots.{anchor_is}
 use Rattle.ist_rebuild.specs.Going.{Begins}
@@ -18,7 +17,7 @@ returns-in_err-rebuild-clause-full c =
     (begins_on _ _ c.requires.ready c.start.ensures.caller c.start.ensures.refused
     c.start.ensures.quiet c.start.ensures.went c.start.ensures.number)
     c.in_err-rebuild.ensures.done c.in_err-rebuild.ensures.unstarted)
-    c.requires.held c.in_err-rebuild.ensures.full)
+    c.requires.row.held c.in_err-rebuild.ensures.full)
 
 -- a rebuild was started
 pub returns-in-Yes-clause-begun : goal.returns-in-Yes-clause-begun

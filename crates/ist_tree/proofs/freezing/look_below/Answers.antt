@@ -1,16 +1,14 @@
 -- What is below the anchor is looked at until it is met.
-use Rattle.std.proofs.Common.{subst}
+use Rattle.std.proofs.Common.{Ok, ap, subst, ◌∙◌}
 use Rattle.ist_tree.specs.FreezeSteps.{MayHaveMet}
 use Rattle.ist_tree.proofs.FreezeGoingLemmas.{idle_more, idle_same, met_more, none_met, stopped_more}
 use Rattle.ist_tree.proofs.ShortLemmas.{passed_on}
-use Rattle.std.proofs.Common.{Ok, ap, ◌∙◌}
 use Rattle.laws_coming.proofs.FurtherLemmas.{fewer_left}
 use Rattle.ist_tree.proofs.freezing.look_below.Goals as goal
 
 -- before the first look nothing was done
 pub turns-init : goal.turns-init
-turns-init c =
-    (c.requires.same_table, idle_same c.args.who.now c.know.ensures.sound c.requires.ready)
+turns-init c = (c.requires.same_table, idle_same _ c.know.ensures.sound c.requires.ready)
 
 pub returns-in_err-site-clause-full : goal.returns-in_err-site-clause-full
 returns-in_err-site-clause-full c =

@@ -7,7 +7,7 @@ use Rattle.ist_tree.proofs.freezing.met_row.Goals as goal
 -- the rebuild that was started is met
 pub returns-in-Some-clause-met : goal.returns-in-Some-clause-met
 returns-in-Some-clause-met c =
-    begun_met c.args.who.now c.begin_rebuild.new.who c.args.target c.in-Some.rebuild c.requires.top
+    begun_met c.args.who.now c.begin_rebuild.new.who c.args.target c.in-Some.rebuild c.requires.row.top
     (subst (HasBegun c.args.who.now c.begin_rebuild.new.who c.args.target) c.in-Some.is
     c.in_ok-rebuild.ensures.begun)
 

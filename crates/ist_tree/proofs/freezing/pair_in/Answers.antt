@@ -1,17 +1,14 @@
+-- The words of a leaf are loaded one after the other.
 use Rattle.std.proofs.Common.{◌+◌, ◌∙◌, ap, arith}
-use Rattle.ist_core.specs.Pieces.{Leaf}
-use Rattle.ist_dcss.proofs.FieldLemmas.{row_low}
 use Rattle.ist_find.proofs.ReadLemmas.{leaf_on}
 use Rattle.ist_rule.proofs.GoingOnLemmas.{goes_on_more, looked_goes_on}
-use Rattle.ist_tree.proofs.FreezeReadLemmas.{pair_told}
+use Rattle.ist_tree.proofs.FreezeReadLemmas.{leaf_low, pair_told}
 use Rattle.ist_tree.proofs.freezing.pair_in.Goals as goal
 
 -- the leaf lies within the table
 pub load-key-requires-clause-within : goal.load-key-requires-clause-within
 load-key-requires-clause-within c =
-    let r = c.requires.leaf in
-    let low = (row_low _ c.know.ensures.sound c.args.base (Leaf r.row) r.published 0
-    (omega arith)).0 in
+    let low = leaf_low _ c.know.ensures.sound c.args.base 0 c.requires.leaf (omega arith) in
     let from = c.from.ensures in
     let known = c.know.ensures.words in
     let same = ap (λ t. t.words) c.requires.same_table in
@@ -21,8 +18,7 @@ pub load-value-requires-clause-within : goal.load-value-requires-clause-within
 load-value-requires-clause-within c =
     let g = looked_goes_on _ _ _ _ c.load-key.ensures.looked in
     let r = leaf_on _ _ g c.args.base c.requires.leaf in
-    let low = (row_low _ c.know-2.ensures.sound c.args.base (Leaf r.row) r.published 1
-    (omega arith)).0 in
+    let low = leaf_low _ c.know-2.ensures.sound c.args.base 1 r (omega arith) in
     let from = c.from-2.ensures in
     let known = c.know-2.ensures.words in
     let same = ap (λ t. t.words) (c.load-key.ensures.same_table ∙ c.requires.same_table) in

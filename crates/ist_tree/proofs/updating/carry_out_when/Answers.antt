@@ -34,8 +34,9 @@ returns-in-Some-due-clause-carried c =
     c.in_ok-done.ensures.refused c.in_ok-done.ensures.quiet c.in_ok-done.ensures.number
     c.in_ok-done.ensures.went c.in_ok-done.ensures.few_walks c.in_ok-done.ensures.answered c.in_ok-done.ensures.counted
     c.in_ok-done.ensures.due)
-    c.rebuild_due.ensures.on c.rebuild_due.result c.err-refused.result c.err-refused.ensures.value
-    c.rebuild_due.ensures.shut c.rebuild_due.ensures.done c.rebuild_due.ensures.full
+    c.rebuild_due.ensures.rebuilt.on.on c.rebuild_due.result c.err-refused.result c.err-refused.ensures.value
+    c.rebuild_due.ensures.rebuilt.shut c.rebuild_due.ensures.rebuilt.done
+    c.rebuild_due.ensures.rebuilt.full
 
 pub returns-in-Some-due-clause-starts : goal.returns-in-Some-due-clause-starts
 returns-in-Some-due-clause-starts c =
@@ -47,7 +48,7 @@ returns-in-Some-due-clause-starts c =
     c.in_ok-done.ensures.refused c.in_ok-done.ensures.quiet c.in_ok-done.ensures.number
     c.in_ok-done.ensures.went c.in_ok-done.ensures.few_walks c.in_ok-done.ensures.answered c.in_ok-done.ensures.counted
     c.in_ok-done.ensures.due).due
-    c.rebuild_due.ensures.aims
+    c.rebuild_due.ensures.rebuilt.on.aims
 
 -- it made none
 pub returns-in-None-due-clause-carried : goal.returns-in-None-due-clause-carried

@@ -9,7 +9,7 @@ pub new-requires-clause-stands : goal.new-requires-clause-stands
 new-requires-clause-stands c =
     let back = subst (λ (m : MakerFace). length m.taken ≡ m.made) (sym c.maker.view_is)
     c.requires.all_back in
-    let it = closes_with c.maker.inside.seat _ c.maker.inside.refused c.maker.invariant.with back c.close.ensures.words in
+    let it = closes_with c.maker.inside.token _ c.maker.inside.refused c.maker.invariant.with back c.close.ensures.words in
     (_, _, it.stands)
 
 pub returns-clause-stands : goal.returns-clause-stands
@@ -18,4 +18,4 @@ returns-clause-stands c =
     c.requires.all_back in
     subst (λ (m : MakerFace). ClosesWith m c.new.result) c.maker.view_is
     (subst (ClosesWith _) (sym c.new.ensures.value)
-    (closes_with c.maker.inside.seat _ c.maker.inside.refused c.maker.invariant.with back c.close.ensures.words))
+    (closes_with c.maker.inside.token _ c.maker.inside.refused c.maker.invariant.with back c.close.ensures.words))

@@ -7,9 +7,9 @@ use Rattle.ist_tree.proofs.trees.Tree.counted_pair.Goals.{After-pair_and_loads}
 
 -- what the reading results in
 ends : (c : After-pair_and_loads) → ReadEnds c.args.pass.now c.pass.inside.caller c.pass.inside.refused
-    c.pair_and_loads.new.seat c.args.frozen.now
+    c.pair_and_loads.new.token c.args.frozen.now
 ends c =
-    read_ends c.pass.inside.caller c.pass.inside.refused c.pair_and_loads.new.seat c.pass.invariant
+    read_ends c.pass.inside.caller c.pass.inside.refused c.pair_and_loads.new.token c.pass.invariant
     c.pair_and_loads.ensures.seen c.pair_and_loads.ensures.same_table c.args.frozen.now c.args.pass.now
     c.pass.view_is c.requires.frozen
 

@@ -11,9 +11,9 @@ use Rattle.ist_tree.proofs.trees.Tree.learn.Goals.{After-join}
 
 -- the maker with what the note holds
 with : (c : After-join) → IsMakerWith c.join.new.seat.view c.maker.inside.refused
-    × (c.join.new.seat.view.taken ≡ c.maker.inside.seat.view.taken)
+    × (c.join.new.seat.view.taken ≡ c.maker.inside.token.view.taken)
 with c =
-    learnt c.maker.inside.seat.view c.note.inside.seat.view c.join.new.seat.view
+    learnt c.maker.inside.token.view c.note.inside.token.view c.join.new.seat.view
     c.join.ensures.joined.0 c.maker.inside.refused c.maker.invariant.with c.note.invariant
     c.join.ensures.joined.1
 

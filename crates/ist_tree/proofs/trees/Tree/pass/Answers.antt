@@ -13,7 +13,7 @@ invariant_of-result c =
 
 pub invariant_of-maker : goal.invariant_of-maker
 invariant_of-maker c =
-    entered_counted c.maker.inside.seat.view _ c.enter-caller.new.maker.view c.maker.inside.refused
+    entered_counted c.maker.inside.token.view _ c.enter-caller.new.maker.view c.maker.inside.refused
     c.enter-caller.ensures.entered c.enter-caller.ensures.made.0 c.enter-caller.ensures.made.1
     c.enter-caller.ensures.given c.maker.inside.made c.maker.inside.taken_back c.maker.invariant
     (c.from.result + 1) (omega (arith, c.from.ensures, c.enter-caller.ensures.number))

@@ -1,39 +1,28 @@
 -- The first free word is loaded in no call.
-use Rattle.std.proofs.Common.{◌≡◌, ◌-◌, ◌≤◌, ap, sym, ◌∙◌, arith}
+use Rattle.std.proofs.Common.{◌≡◌, ◌-◌, ap, sym, ◌∙◌}
 use Rattle.ist_rule.specs.declared.view.View.{View}
-use Rattle.ist_tree.specs.Faces.{TreeFace, PassFace}
-use Rattle.ist_tree.proofs.RoomLemmas.{RoomEnds, next_fits, room_ends}
+use Rattle.ist_tree.proofs.GoingLemmas.{words_are}
+use Rattle.ist_tree.proofs.RoomLemmas.{RoomEnds, room_ends, room_sum}
 use Rattle.ist_tree.proofs.trees.Tree.room.Goals as goal
 use Rattle.ist_tree.proofs.trees.Tree.room.Goals.{After-word_count}
 
--- the seat's view has as many words as the table
+-- the pass's view has as many words as the table
 all_words : (c : After-word_count) → c.load-next.new.seat.view.words ≡ c.word_count.result
 all_words c =
     ap (λ (y : View). y.words) c.load-next.ensures.looked.view
-    ∙ ap (λ (p : PassFace). p.tree.words) c.pass.view_is
-    ∙ ap (λ (t : TreeFace). t.words) c.requires.same_tree
-    ∙ sym (ap (λ (t : TreeFace). t.words) c.self.view_is) ∙ sym c.word_count.ensures.value
-
--- the first free word isn't beyond the table
-fits : (c : After-word_count) → c.load-next.result ≤ c.word_count.result
-fits c =
-    let all = all_words c in
-    let low = next_fits _ _ _ c.load-next.ensures.looked in
-    omega arith
+    ∙ sym (words_are c.pass.inside.caller _ _ _ _ c.pass.view_is c.requires.same_tree c.self.view_is)
+    ∙ sym c.word_count.ensures.value
 
 pub overflow_sub-result : goal.overflow_sub-result
-overflow_sub-result c = fits c
+overflow_sub-result c = (room_sum _ _ _ _ c.load-next.ensures.looked (all_words c)).0
 
 -- what the load results in
 ends : (c : After-word_count) → RoomEnds c.args.pass.now c.pass.inside.caller c.pass.inside.refused
     c.load-next.new.seat (c.word_count.result - c.load-next.result)
 ends c =
-    let all = all_words c in
-    let low = fits c in
-    room_ends c.pass.inside.caller c.pass.inside.refused c.load-next.new.seat c.pass.invariant
-    c.know.ensures.sound c.load-next.result (c.word_count.result - c.load-next.result)
-    c.load-next.ensures.looked c.load-next.ensures.same_table (omega arith) c.args.pass.now
-    c.pass.view_is
+    room_ends c.pass.inside.caller _ c.load-next.new.seat c.pass.invariant c.know.ensures.sound
+    c.load-next.result _ c.load-next.ensures.looked c.load-next.ensures.same_table
+    (room_sum _ _ _ _ c.load-next.ensures.looked (all_words c)).1 _ c.pass.view_is
 
 pub invariant_of-pass : goal.invariant_of-pass
 invariant_of-pass c = (ends c).pass

@@ -1,0 +1,229 @@
+-- Attempts to rebuild a row, and what several come to. Serves `help_own`, `help_other`, `try_due` and
+-- `rebuild_due`.
+use Rattle.std.proofs.Common.{◌≡◌, ◌⊎◌, ◌↔◌, ℕ, Bool, true, not, IsTrue, Some, Result, Ok, Err, IsErrAnd, inl, inr, sym, subst}
+use Rattle.ist_core.specs.declared.ports.Full.{Full}
+use Rattle.ist_core.specs.Logs.{Happened, Resolves}
+use Rattle.ist_core.specs.Rebuilding.{IsReplaced}
+use Rattle.ist_core.specs.References.{ChangeAt, RebuildAt, ref_of}
+use Rattle.ist_core.specs.Slots.{IsOpen}
+use Rattle.laws_settling.specs.Settling.{StartsAreDone}
+use Rattle.ist_rule.specs.Faces.{SeatFace}
+use Rattle.ist_rule.specs.Going.{WentOn}
+use Rattle.ist_rule.specs.Learning.{GoesOnTo, now}
+use Rattle.ist_rule.specs.Rule.{IsSound}
+use Rattle.ist_rule.proofs.WentOnLemmas.{goes_on_went, went_grow}
+use Rattle.ist_rows.specs.declared.callers.Caller.{Caller}
+use Rattle.ist_rows.specs.Going.{IsReady}
+use Rattle.ist_rows.proofs.GoneLemmas.{still_ready}
+use Rattle.ist_dcss.specs.Helping as dcss
+use Rattle.ist_build.specs.Calls.{IsBuildable}
+use Rattle.ist_rebuild.specs.Going.{Serves}
+use Rattle.ist_rebuild.specs.Helping.{HasHelped, IsHelpRefused, IsLeftToParent}
+use Rattle.ist_rebuild.specs.Starting.{IsStartedAt, MayStart, StartsAreDoneBut, StoodInstead}
+use Rattle.ist_updates.specs.declared.updates.Due.{Due}
+use Rattle.ist_tree.specs.declared.rebuilding.Instead.TheVariants.{Other}
+use Rattle.ist_tree.specs.Attempts.{GoesFor, HelpsOther, HelpsOwn, RebuildsRow, Tries}
+use Rattle.ist_tree.specs.Working.{IsDueRefused, KeepsDone, Rebuilds, instead_of}
+use Rattle.ist_tree.proofs.DueFurtherLemmas.{due_further}
+use Rattle.ist_tree.proofs.DueLemmas.{done_more, goes_more, goes_none, helped_for, helped_shut, loaded_for, plain_for}
+use Rattle.ist_tree.proofs.EventLemmas.{help_aims, help_plain, serves_start_none}
+use Rattle.ist_tree.proofs.InsteadLemmas.{change_helped, none_helped, rebuild_helped}
+use Rattle.ist_tree.proofs.RebuildLemmas.{load_plain, plain_done, starts_went}
+use Rattle.ist_tree.proofs.ShortLemmas.{due_refused_more, other_refused, own_refused}
+use Rattle.ist_tree.proofs.ShutLemmas.{all_done, not_open_shut, not_shut_open, same_ok}
+
+-- ---- helping the rebuild that was started
+
+module _ (old new : Caller) (due : Due) (words rebuild : ℕ) (h : HasHelped old new)
+    (at : IsStartedAt (now old.seat.view) rebuild due.parent due.index due.target) where
+  -- it was helped to its end
+  pub own_helped : IsReady old
+      → IsReplaced (now new.seat.view) rebuild ⊎ IsLeftToParent (now new.seat.view) rebuild
+      → HelpsOwn old new due words rebuild (Ok tt)
+  own_helped r either =
+      record {
+        on = helped_for old new due.target h;
+        shut = helped_shut old.seat.view new.seat.view h.on.gone.went rebuild due.parent due.index
+            due.target at either;
+        done = λ but. all_done old.number old.seat.view new.seat.view r.caller.mine r.quiet.resolved
+            h.on.gone.went rebuild but either;
+        full = tt;
+      }
+
+  -- too few words were left to help it
+  pub own_short : (full : Full) → IsHelpRefused old.seat.view rebuild words full new.seat.view
+      → HelpsOwn old new due words rebuild (Err full)
+  own_short full refused =
+      record {
+        on = helped_for old new due.target h;
+        shut = tt;
+        done = tt;
+        full = own_refused (now old.seat.view) old.seat.view new.seat.view rebuild due.parent
+            due.index due.target words full at h.on.gone.went refused;
+      }
+
+-- ---- helping what the slot holds instead of the row
+
+module _ (old new : Caller) (due : Due) (words word base : ℕ) (h : HasHelped old new)
+    (is : ref_of word ≡ Some (RebuildAt base)) where
+  -- another rebuild was helped to its end
+  pub other_rebuilt : IsReady old → IsBuildable (now new.seat.view) base
+      → HelpsOther old new due words word (Ok tt)
+  other_rebuilt r finished =
+      record {
+        on = helped_for old new due.target h;
+        done = starts_went Serves old.number old.seat.view new.seat.view r.caller.mine
+            h.on.gone.went (serves_start_none old.number) r.quiet.resolved;
+        settled = rebuild_helped new.seat.view word base is finished;
+        full = tt;
+      }
+
+  -- too few words were left to help it
+  pub other_short : IsSound old.seat.view
+      → StoodInstead old.seat.view due.parent due.index due.target word → (full : Full)
+      → IsHelpRefused old.seat.view base words full new.seat.view
+      → HelpsOther old new due words word (Err full)
+  other_short s stood full refused =
+      record {
+        on = helped_for old new due.target h;
+        done = tt;
+        settled = tt;
+        full = other_refused old.seat.view new.seat.view s due.parent due.index due.target word base
+            words full stood is h.on.gone.went refused;
+      }
+
+-- a change was helped
+pub other_changed : (who : Caller) (seat : SeatFace) (due : Due) (words word base : ℕ) → IsReady who
+    → WentOn (dcss.Serves base) who.seat.view seat.view → ref_of word ≡ Some (ChangeAt base)
+    → Happened (Resolves base) seat.view.log
+    → HelpsOther who (record who { seat = seat }) due words word (Ok tt)
+other_changed who seat due words word base r went is resolved =
+    record {
+      on = plain_for (dcss.Serves base) (help_plain base) due.target (help_aims due.target base) who
+          seat r went;
+      done = plain_done (dcss.Serves base) (help_plain base) who seat r went;
+      settled = change_helped seat.view word base is resolved;
+      full = tt;
+    }
+
+-- nothing was there that can be helped
+pub other_none : (who : Caller) (due : Due) (words word : ℕ) → IsSound who.seat.view → IsReady who
+    → instead_of (ref_of word) ≡ Other → HelpsOther who who due words word (Ok tt)
+other_none who due words word s r is =
+    record {
+      on = goes_none who due.target s r;
+      done = λ done. done;
+      settled = none_helped who.seat.view word is;
+      full = tt;
+    }
+
+-- ---- one attempt
+
+-- an attempt that was refused, which is handed on
+pub tried_short : (old new : Caller) (due : Due) (words : ℕ) (answer : Result Bool Full)
+    (full : Full) → IsErrAnd answer (λ x. x ≡ full) → GoesFor old new due.target
+    → IsDueRefused (now old.seat.view) new.seat.view due.target words full
+    → Tries old new due words answer
+tried_short old new due words (Ok a) full same on refused = absurd same
+tried_short old new due words (Err e) full same on refused =
+    record {
+      on = on;
+      last = tt;
+      further = λ is. absurd (cc);
+      done = tt;
+      full = subst (IsDueRefused (now old.seat.view) new.seat.view due.target words) (sym same) refused;
+    }
+
+-- the same, after a start that wasn't refused
+pub later_short : (a b c : Caller) (due : Due) (words : ℕ) (answer : Result Bool Full)
+    (full : Full) → IsErrAnd answer (λ x. x ≡ full) → GoesFor a b due.target
+    → GoesFor b c due.target → IsDueRefused (now b.seat.view) c.seat.view due.target words full
+    → Tries a c due words answer
+later_short a b c due words answer full same one two refused =
+    tried_short a c due words answer full same (goes_more a b c due.target one two)
+    (due_refused_more (now a.seat.view) (now b.seat.view)
+    (went_grow Rebuilds a.seat.view b.seat.view one.on.gone.went) c.seat.view due.target words full
+    refused)
+
+-- the rebuild that was started was helped to its end
+pub own_tried : (a b c : Caller) (due : Due) (words rebuild : ℕ) → GoesFor a b due.target
+    → (StartsAreDone (now a.seat.view) a.number → StartsAreDoneBut (now b.seat.view) a.number rebuild)
+    → HelpsOwn b c due words rebuild (Ok tt) → Tries a c due words (Ok true)
+own_tried a b c due words rebuild one but h =
+    record {
+      on = goes_more a b c due.target one h.on;
+      last = λ is. h.shut;
+      further = λ is. absurd (cc);
+      done = λ done. subst (StartsAreDone (now c.seat.view)) one.on.gone.number
+          (h.done (subst (λ n. StartsAreDoneBut (now b.seat.view) n rebuild)
+          (sym one.on.gone.number) (but done)));
+      full = tt;
+    }
+
+-- the parent was marked
+pub marked_tried : (old new : Caller) (due : Due) (words : ℕ) → GoesFor old new due.target
+    → ¬ (IsOpen (now new.seat.view) due.parent) → KeepsDone old new → Tries old new due words (Ok true)
+marked_tried old new due words on closed done =
+    record {
+      on = on;
+      last = λ is. inr closed;
+      further = λ is. absurd (cc);
+      done = done;
+      full = tt;
+    }
+
+-- what the slot held instead was helped, and then it was looked if the row is open
+pub other_tried : (a b c : Caller) (seat : SeatFace) (due : Due) (words word : ℕ) (opened : Bool)
+    → MayStart a.seat.view due.parent due.index due.target → GoesFor a b due.target
+    → StoodInstead b.seat.view due.parent due.index due.target word → KeepsDone a b
+    → HelpsOther b c due words word (Ok tt) → GoesOnTo c.seat.view seat.view
+    → IsTrue opened ↔ IsOpen (now seat.view) due.target
+    → Tries a (record c { seat = seat }) due words (Ok (not opened))
+other_tried a b c seat due words word opened may one stood kept h seen iff =
+    record {
+      on = goes_more a b last due.target one
+          (goes_more b c last due.target h.on (loaded_for c seat due.target (still_ready h.on.on) seen));
+      last = λ is. inl (not_open_shut opened (IsOpen (now seat.view) due.target) iff is);
+      further = λ is.
+          due_further Rebuilds Rebuilds a.seat.view b.seat.view c.seat.view seat.view due.parent
+          due.index due.target word may one.on.gone.went stood h.on.on.gone.went h.settled seen
+          (not_shut_open opened (IsOpen (now seat.view) due.target) iff (same_ok _ _ is));
+      done = done_more a b last one.on.gone.number kept
+          (done_more b c last h.on.on.gone.number h.done
+          (plain_done (λ event. ⊥) load_plain c seat (still_ready h.on.on)
+          (goes_on_went (λ event. ⊥) c.seat.view seat.view seen)));
+      full = tt;
+    }
+  where
+    last : Caller
+    last = record c { seat = seat }
+
+-- ---- attempt after attempt
+
+module _ (a b c : Caller) (due : Due) (words : ℕ) (one : GoesFor a b due.target) where
+  -- the last attempt was refused, which is handed on
+  pub rebuilt_short : (answer : Result (Unit {0}) Full) (full : Full)
+      → IsErrAnd answer (λ x. x ≡ full) → Tries b c due words (Err full)
+      → RebuildsRow a c due words answer
+  rebuilt_short (Ok a) full same t = absurd same
+  rebuilt_short (Err e) full same t =
+      record {
+        on = goes_more a b c due.target one t.on;
+        shut = tt;
+        done = tt;
+        full = subst (IsDueRefused (now a.seat.view) c.seat.view due.target words) (sym same)
+            (due_refused_more (now a.seat.view) (now b.seat.view)
+            (went_grow Rebuilds a.seat.view b.seat.view one.on.gone.went) c.seat.view due.target
+            words full t.full);
+      }
+
+  -- the last attempt found the row or its parent not open
+  pub rebuilt_last : (last : Bool) → KeepsDone a b → Tries b c due words (Ok last) → last ≡ true
+      → RebuildsRow a c due words (Ok tt)
+  rebuilt_last last kept t is =
+      record {
+        on = goes_more a b c due.target one t.on;
+        shut = t.last is;
+        done = done_more a b c one.on.gone.number kept t.done;
+        full = tt;
+      }

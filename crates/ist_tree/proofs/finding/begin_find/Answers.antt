@@ -1,0 +1,14 @@
+-- The views of a find, from its beginning to the end of its search.
+use Rattle.ist_tree.proofs.finding.begin_find.Goals as goal
+
+pub returns-clause-found : goal.returns-clause-found
+returns-clause-found c =
+    record {
+      sound = c.know.ensures.sound;
+      began = c.begin_call.new.seat.view;
+      begun = c.begin_call.ensures.begun;
+      seen = c.find_from_anchor.ensures.seen;
+      position = c.find_from_anchor.ensures.value;
+      slot = c.find_from_anchor.ensures.found;
+      few = c.find_from_anchor.ensures.loads;
+    }

@@ -1,0 +1,54 @@
+-- A freeze in a call of its own, which is given up.
+use Rattle.std.proofs.Common.{sym, ◌∙◌}
+use Rattle.ist_tree.proofs.FreezeCallLemmas.{may_give_up, way_of}
+use Rattle.ist_tree.proofs.FreezeEndLemmas.{FreezeEnds, StopEnds, freeze_ends, stop_ends}
+use Rattle.ist_tree.proofs.GoingLemmas.{table_is, words_are}
+use Rattle.ist_tree.proofs.trees.Tree.freeze_all.Goals as goal
+
+-- the tree is frozen
+pub give_up-requires-clause-may_give_up : goal.give_up-requires-clause-may_give_up
+give_up-requires-clause-may_give_up c =
+    may_give_up c.pass.inside.caller c.begin.new.who _ c.begin.ensures.sound c.pass.invariant.pass
+    c.begin.ensures.number c.begin.ensures.begun c.begin.ensures.ready c.in-Ok.ensures.froze.on
+
+ends : (c : goal.After-result-1) → FreezeEnds c.args.pass.now c.freeze_below.new.who
+    c.give_up.new.seat c.or-pass-inside.result c.in-Ok.outcome.frozen
+ends c =
+    freeze_ends _ _ _ _
+    (way_of c.pass.inside.caller c.begin.new.who _ c.give_up.new.seat c.begin.ensures.sound
+    c.pass.invariant.pass c.begin.ensures.number c.begin.ensures.begun c.begin.ensures.ready
+    c.in-Ok.ensures.froze.on c.give_up.ensures.given_up) _ _ c.pass.invariant _
+    (words_are c.pass.inside.caller _ _ _ _ c.pass.view_is c.requires.same_tree c.self.view_is)
+    (c.give_up.ensures.same_table ∙ c.freeze_below.ensures.same_table ∙ sym
+    (table_is c.pass.inside.caller _ _ _ _ c.pass.view_is c.requires.same_tree c.self.view_is))
+    c.in-Ok.outcome c.in-Ok.ensures.froze c.or-pass-inside.ensures _ c.pass.view_is
+
+pub invariant_of-pass : goal.invariant_of-pass
+invariant_of-pass c = (ends c).pass
+
+pub returns-in-Ok-clause-froze : goal.returns-in-Ok-clause-froze
+returns-in-Ok-clause-froze c = (ends c).froze
+
+-- the start of its rebuild is refused
+pub give_up-requires-in-Err-clause-may_give_up : goal.give_up-requires-in-Err-clause-may_give_up
+give_up-requires-in-Err-clause-may_give_up c =
+    may_give_up c.pass.inside.caller c.begin.new.who _ c.begin.ensures.sound c.pass.invariant.pass
+    c.begin.ensures.number c.begin.ensures.begun c.begin.ensures.ready c.in-Err.ensures.full.idle.on
+
+stops : (c : goal.After-give_up-in-Err) → StopEnds c.args.pass.now c.freeze_below.new.who
+    c.give_up-in-Err.new.seat c.pass.inside.refused c.in-Err.full
+stops c =
+    stop_ends _ _ _ _
+    (way_of c.pass.inside.caller c.begin.new.who _ c.give_up-in-Err.new.seat c.begin.ensures.sound
+    c.pass.invariant.pass c.begin.ensures.number c.begin.ensures.begun c.begin.ensures.ready
+    c.in-Err.ensures.full.idle.on c.give_up-in-Err.ensures.given_up) _ c.pass.invariant _
+    (words_are c.pass.inside.caller _ _ _ _ c.pass.view_is c.requires.same_tree c.self.view_is)
+    (c.give_up-in-Err.ensures.same_table ∙ c.freeze_below.ensures.same_table ∙ sym
+    (table_is c.pass.inside.caller _ _ _ _ c.pass.view_is c.requires.same_tree c.self.view_is))
+    _ c.in-Err.ensures.full _ c.pass.view_is
+
+pub invariant_of-pass-in-Err : goal.invariant_of-pass-in-Err
+invariant_of-pass-in-Err c = (stops c).pass
+
+pub returns-in-Err-clause-stopped : goal.returns-in-Err-clause-stopped
+returns-in-Err-clause-stopped c = (stops c).stopped

@@ -1,0 +1,20 @@
+//! The first half of a find: its call begins, and its key is searched for.
+ghost use Rattle.std.specs.Prelude.{◌≡◌};
+ghost use Rattle.ist_rule.specs.Conditions.{CanBegin};
+ghost use Rattle.ist_tree.specs.Finding.{Finds};
+
+use ist_core::Command;
+use ist_find::{Found, find_from_anchor};
+use ist_rule::{TreeSeat, TreeTable, begin_call, know};
+
+/// Begins a call that gets the key, and searches for the key.
+pub(crate) fn begin_find(table: &TreeTable, token: &mut TreeSeat, key: u64) -> Found
+    requires same_table { token.old.table ≡ table.now.table }
+    requires may_begin { CanBegin token.old.view }
+    ensures same_table { token.new.table ≡ token.old.table }
+    ensures found { Finds token.old.view token.new.view key result }
+{
+    know(token);
+    begin_call(table, token, Some(Command::Get { key }));
+    find_from_anchor(table, token, key)
+}
