@@ -1,10 +1,10 @@
 -- A change that was installed and helped, and what came of it. Serves `carry_out`.
-use Rattle.std.proofs.Common.{◌≡◌, ℕ, ◌+◌, ◌≤◌, true, false, List, [], ◌∷◌, ◌++◌, length, length-append, Some, None, refl, sym, ap, ◌∙◌, subst, inl, inr, arith}
+use Rattle.std.proofs.Common.{◌≡◌, ℕ, ◌+◌, ◌≤◌, true, false, [], ◌∷◌, ◌++◌, length, Some, None, refl, sym, ap, ◌∙◌, subst, inl, inr, arith}
 use Rattle.ist_core.specs.declared.commands.Command.{Command}
 use Rattle.ist_core.specs.declared.events.Event.{Event}
 use Rattle.ist_core.specs.declared.events.Event.TheVariants.{Install}
 use Rattle.ist_core.specs.declared.states.ChangeRow.{ChangeRow}
-use Rattle.ist_core.specs.Changes.{Entry, changes_of, command_of, reply_of}
+use Rattle.ist_core.specs.Changes.{changes_of, command_of, reply_of}
 use Rattle.ist_core.specs.Growing.{ChangeGrows}
 use Rattle.ist_core.specs.Installing.{CanInstall}
 use Rattle.ist_core.specs.Lawful.{Lawful, state_of}
@@ -47,21 +47,9 @@ use Rattle.ist_updates.proofs.AskedLemmas.{none_no_yes, no_yes_by, asked_still, 
 use Rattle.ist_rows.proofs.GoneLemmas.{caller_gone}
 use Rattle.ist_updates.proofs.StepLemmas.{help_keeps, help_tries, help_installs_none}
 use Rattle.ist_updates.proofs.StandingLemmas.{no_start, fits_stands, reply_stays}
+use Rattle.ist_updates.proofs.EntryLemmas.{one_entry, one_more_entry}
 use Rattle.ist_updates.proofs.PairLemmas.{sound_now}
 use Rattle.ist_updates.proofs.PublishLemmas.{installed_row}
-
--- ---- one entry at most
-
--- a call made at most one
-one_entry : (number : ℕ) (xs made : List Entry) → xs ≡ made → length xs ≤ length made + 1
-one_entry number xs made e = let same = ap length e in omega arith
-
-one_more_entry : (number : ℕ) (xs made : List Entry) (entry : Entry) → xs ≡ made ++ entry ∷ []
-    → length xs ≤ length made + 1
-one_more_entry number xs made entry e =
-    let same = ap length e in
-    let more = length-append made (entry ∷ []) in
-    omega arith
 
 -- ---- a change that wasn't installed
 
@@ -244,9 +232,9 @@ module _ (old mid : Caller) (seat : SeatFace) (plan : Plan) (c : IsCaller old)
           → length (entries_by old.number (changes_of v.start v.words w.log))
           ≤ length (entries_by old.number (changes_of v.start v.words v.log)) + 1
       at before (inl work) =
-          one_entry old.number _ _ (work.made ∙ sym before)
+          one_entry _ _ (work.made ∙ sym before)
       at before (inr entered) =
-          one_more_entry old.number _ _ entered.entry
+          one_more_entry _ _ entered.entry
           (entered.made ∙ ap (λ es. es ++ entered.entry ∷ []) (sym before))
 
   -- if the change was decided yes, the command took effect

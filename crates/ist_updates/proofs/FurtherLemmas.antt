@@ -1,5 +1,5 @@
 -- Each walk that is to begin again has seen the table come further. Serves `try_slot` and `apply`.
-use Rattle.std.proofs.Common.{◌≡◌, ◌≢◌, ℕ, List, Some, Result, Ok, sym, ap, ◌∙◌, subst, inl, inr, ⊎_elim, refl}
+use Rattle.std.proofs.Common.{◌≡◌, ◌≢◌, ℕ, List, Some, sym, ap, ◌∙◌, subst, inl, inr, ⊎_elim, refl}
 use Rattle.ist_core.specs.declared.events.Event.{Event}
 use Rattle.ist_core.specs.declared.states.ChangeRow.{ChangeRow}
 use Rattle.ist_core.specs.Lawful.{state_of}
@@ -35,9 +35,6 @@ use Rattle.laws_coming.specs.Further.{CameFurther}
 use Rattle.ist_rebuild.specs.Helping.{IsLeftToParent}
 use Rattle.laws_coming.proofs.FurtherLemmas.{helped_further}
 use Rattle.ist_updates.specs.declared.plans.Aim.{Aim}
-use Rattle.ist_updates.specs.declared.updates.Tried.{Tried}
-use Rattle.ist_updates.specs.declared.updates.Tried.TheVariants.{Again}
-use Rattle.ist_core.specs.declared.ports.Full.{Full}
 use Rattle.ist_rebuild.specs.declared.answers.Helped.{Helped}
 use Rattle.ist_rebuild.specs.declared.answers.Helped.TheVariants.{ParentMarked, Replaced}
 use Rattle.ist_find.specs.Searches.{HasCome}
@@ -199,10 +196,6 @@ slot_aimed first v key node i word s at f =
       set = λ e. at.set (ap ref_of e ∙ ref_of-unset);
       behind = record { later = same_log; start_is = refl; words_is = refl };
     }
-
--- a result of `Again`
-pub ok_again : (t : Tried) → ◌≡◌ {A = Result Tried Full} (Ok t) (Ok Again) → t ≡ Again
-ok_again t e = cc
 
 -- a change that stood in the slot is resolved
 pub change_further : (P : Event → Type 0) (first v w : View) (node i word change : ℕ) → IsSound v

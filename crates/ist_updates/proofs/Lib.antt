@@ -20,6 +20,7 @@ pub mod PublishLemmas
 pub mod AskedLemmas
 pub mod GivenLemmas
 pub mod StandingLemmas
+pub mod EntryLemmas
 pub mod CarriedLemmas
 pub mod SinceLemmas
 pub mod SlotLemmas
@@ -29,4 +30,10 @@ pub mod TriedLemmas
 pub mod MissLemmas
 pub mod BehindLemmas
 pub mod FurtherLemmas
+pub mod ResultLemmas
+pub mod CarriedOutLemmas
+pub mod ChangedLemmas
+pub mod TryResultLemmas
+pub mod DescentLemmas
 pub mod WalkCountLemmas
+pub mod TurnLemmas

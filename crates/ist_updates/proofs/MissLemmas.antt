@@ -1,5 +1,5 @@
 -- An update that met a value at which it shouldn't take effect: which value its search found, and at
--- which position. Serves `try_empty`, `try_leaf` and `apply_when`.
+-- which position. Serves `trying`, `descend` and `walk_to_end`.
 use Rattle.std.proofs.Common.{◌≡◌, ℕ, ◌∙◌, Option, Some, None, length, if◌then◌else◌, sym, ap, subst, ⊎_elim}
 use Rattle.std.proofs.Math.Nat.{le_trans}
 use Rattle.std.proofs.lemmas.Bool.Decides.{eqb_tells}
@@ -60,6 +60,18 @@ module _ (v w : View) (g : GoesOnTo v w) (aim : Aim) (at : WasAtSlot w aim) (whe
         since = g.since;
       })
       (eqb_tells row.key aim.key)
+
+-- a search that missed a value after loads missed it with them
+pub missed_loads : (v w x : View) (key : ℕ) (when : When) → GoesOnTo v w → HasMissed w x key when
+    → HasMissed v x key when
+missed_loads v w x key when g m =
+    record {
+      node = m.node;
+      had = m.had;
+      missed = m.missed;
+      searched = m.searched;
+      since = m.since ∙ g.since;
+    }
 
 -- the value that a search missed has a position, if the search began after the first view
 pub missed_since : (P : Event → Type 0) (first v w : View) (key : ℕ) (when : When)

@@ -1,5 +1,6 @@
 -- Refusals, seen from earlier views. Serves each step of a change.
-use Rattle.std.proofs.Common.{◌≡◌, ℕ}
+use Rattle.std.proofs.Common.{◌≡◌, ℕ, Result, Ok, Err}
+use Rattle.std.specs.Prelude.{IfErr}
 use Rattle.ist_core.specs.declared.events.Event.{Event}
 use Rattle.ist_core.specs.declared.ports.Full.{Full}
 use Rattle.ist_rule.specs.declared.view.View.{View}
@@ -41,3 +42,10 @@ pub refused_behind : (u v : View) (x : Way) (words : ℕ) (full : Full) (w : Vie
     → WentOn Prepares u v → IsWayRefused v x words full w → IsWayRefused u x words full w
 refused_behind u v x words full w a r =
     record { short = short_behind Prepares u v words full w a r.short; asked = r.asked }
+
+-- and so for any result after such steps
+pub err_refused : {A : Type 0} (u v : View) (x : Way) (words : ℕ) (w : View) (r : Result A Full)
+    → WentOn Prepares u v → IfErr r (λ full. IsWayRefused v x words full w)
+    → IfErr r (λ full. IsWayRefused u x words full w)
+err_refused u v x words w (Ok a) g h = tt
+err_refused u v x words w (Err full) g h = refused_behind u v x words full w g h

@@ -22,10 +22,11 @@ use Rattle.ist_rule.specs.declared.view.View.{View}
 use Rattle.ist_core.specs.declared.events.Who.TheVariants.{Caller as CallerOf}
 use Rattle.ist_core.specs.Authors.{whose}
 use Rattle.ist_rule.specs.Conditions.{IsResolved, StoredAll}
+use Rattle.ist_rule.specs.Faces.{SeatFace}
 use Rattle.ist_rule.specs.Going.{WentOn}
-use Rattle.ist_rule.specs.Learning.{now}
+use Rattle.ist_rule.specs.Learning.{now, GoesOnTo}
 use Rattle.ist_rule.specs.Rule.{IsSound}
-use Rattle.ist_rule.proofs.WentOnLemmas.{later_by-goes_on, went_grow, went_lawful, went_now}
+use Rattle.ist_rule.proofs.WentOnLemmas.{goes_on_grow, later_by-goes_on, went_grow, went_lawful, went_now}
 use Rattle.ist_rows.specs.declared.callers.Caller.{Caller}
 use Rattle.ist_rows.specs.declared.kinds.Kind.TheVariants as kind
 use Rattle.ist_rows.specs.Building.{HasRefused}
@@ -48,8 +49,8 @@ use Rattle.ist_updates.specs.Trying.{HasTakenEffect}
 use Rattle.ist_updates.proofs.AskedLemmas.{asked_gone}
 use Rattle.ist_updates.proofs.StepLemmas.{prepares_none}
 use Rattle.ist_updates.proofs.SinceLemmas.{taken_since}
-use Rattle.ist_updates.proofs.StandingLemmas.{planned_reply}
-use Rattle.ist_rows.proofs.GoneLemmas.{own_went, gone_more}
+use Rattle.ist_updates.proofs.StandingLemmas.{planned_reply, reply_stays, way_stands}
+use Rattle.ist_rows.proofs.GoneLemmas.{own_went, gone_more, loads_gone}
 use Rattle.ist_updates.proofs.PlanLemmas.{slot_met, slot_holds, fits_went}
 
 -- a caller that filled its rows has gone on so
@@ -212,22 +213,21 @@ pub record IsPrepared (old new : Caller) (aim : Aim) (x : Way) (plan : Plan) : T
   pub is_for : IsPlanFor new.number aim x plan
 
 -- a planned change whose rows are stored is prepared
-pub prepared : (old first mid new : Caller) (aim : Aim) (x : Way) (plan : Plan)
-    → IsAsked old (command_by aim.key x) → HasGone Prepares old first
-    → WasAtSlot first.seat.view aim → IsUnrefused (now first.seat.view) first.number aim.node
-    → HasGone Prepares first mid → IsPlanned mid aim x plan → IsCaller new → IsSound new.seat.view
+pub prepared : (old mid new : Caller) (aim : Aim) (x : Way) (plan : Plan)
+    → IsAsked old (command_by aim.key x) → WasAtSlot old.seat.view aim
+    → IsUnrefused (now old.seat.view) old.number aim.node → HasGone Prepares old mid
+    → IsPlanned mid aim x plan → IsCaller new → IsSound new.seat.view
     → new ≡ with_own mid new.seat.view.own
     → StoredAll new.seat.view (rows_of (filling_of plan) plan.base)
     → IsPrepared old new aim x plan
-prepared old first mid new aim x plan a o at unrefused h planned c s same stored =
-    let b = asked_gone Prepares old first (command_by aim.key x) a o prepares_none in
+prepared old mid new aim x plan a at unrefused h planned c s same stored =
     let f = filled_gone mid new h.refused c s same in
-    let all = gone_more Prepares first mid new h f in
+    let all = gone_more Prepares old mid new h f in
     record {
-      gone = gone_more Prepares old first new o all;
-      asked = prepared_asked first mid new aim x plan b at h planned f same all;
-      rows = prepared_rows first mid new aim x plan b at h planned f same all;
-      installable = prepared_installable first mid new aim x plan b at h planned f same all unrefused
+      gone = all;
+      asked = prepared_asked old mid new aim x plan a at h planned f same all;
+      rows = prepared_rows old mid new aim x plan a at h planned f same all;
+      installable = prepared_installable old mid new aim x plan a at h planned f same all unrefused
           stored;
       is_for = subst (λ n. IsPlanFor n aim x plan) (sym f.number) planned.is_for;
     }
@@ -249,3 +249,19 @@ prepared_taken old new aim x plan a p room w t =
     p.is_for.from p.is_for.key)
     (subst (λ n. HasTakenEffect new.seat.view w new.number (command_by aim.key x) n told)
     p.is_for.node t)
+
+-- if it took effect since a load, it took effect since the view before the load
+pub loads_taken : (old : Caller) (seat : SeatFace) (key word : ℕ) (x : Way)
+    → GoesOnTo old.seat.view seat.view → IsAsked old (command_by key x)
+    → IsWay old.seat.view key word x → (w : View) (node : ℕ)
+    → HasTakenEffect seat.view w old.number (command_by key x) node
+    (value_at (now seat.view).pieces (ref_of word) key)
+    → HasTakenEffect old.seat.view w old.number (command_by key x) node
+    (value_at (now old.seat.view).pieces (ref_of word) key)
+loads_taken old seat key word x g a room w node t =
+    let v = old.seat.view in
+    let mid : Caller = record old { seat = seat } in
+    let gone = loads_gone Prepares old seat a.caller a.refused g in
+    taken_since old mid (command_by key x) a (asked_gone Prepares old mid _ a gone prepares_none) gone
+    w node _ _ (reply_stays (now v) (now seat.view) (goes_on_grow v seat.view g) key word
+    (way_stands v key word x room)) t

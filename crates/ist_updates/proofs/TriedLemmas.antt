@@ -1,6 +1,6 @@
 -- What a try shows: that the key was or wasn't found, and why the update is refused.
--- Serves `try_empty`, `put_at` and `remove_at`.
-use Rattle.std.proofs.Common.{◌≡◌, ◌≢◌, ◌⊎◌, ℕ, ◌+◌, ◌≤◌, Bool, true, false, length, Result, Ok, Err, IfOk, IfErr, Option, Some, None, refl, sym, ◌∙◌, subst, ⊎_elim}
+-- Serves the functions of `trying`.
+use Rattle.std.proofs.Common.{◌≡◌, ◌≢◌, ◌⊎◌, ℕ, ◌+◌, ◌≤◌, length, Result, Ok, Err, IfOk, IfErr, Option, Some, None, refl, sym, ◌∙◌, subst, ⊎_elim}
 use Rattle.std.proofs.Math.Nat.{le_trans}
 use Rattle.ist_core.specs.declared.loads.Load.{Load}
 use Rattle.ist_core.specs.declared.ports.Full.{Full}
@@ -171,21 +171,7 @@ module _ (first v w : View) (words : ℕ) (full : Full) (began : BeganSince firs
         } asked;
       }
 
--- ---- results
-
--- what a try returns if its change was decided so
-pub answered : (old new : Caller) (key : ℕ) (value : Option ℕ) (node : ℕ) (told reply : Option ℕ)
-    (taken : Bool) (tried : Tried) → (taken ≡ true → tried ≡ Took reply)
-    → (taken ≡ false → tried ≡ Again) → told ≡ reply
-    → (taken ≡ true
-    → HasTakenEffect old.seat.view new.seat.view old.number (command_for key value) node told)
-    → (taken ≡ false → IsAsked new (command_for key value)) → IsTried old key value node new tried
-answered old new key value node told reply true tried took again same got lost =
-    subst (IsTried old key value node new) (sym (took refl))
-    (subst (HasTakenEffect old.seat.view new.seat.view old.number (command_for key value) node) same
-    (got refl))
-answered old new key value node told reply false tried took again same got lost =
-    subst (IsTried old key value node new) (sym (again refl)) (lost refl)
+-- ---- after loads
 
 -- the leaf that the word of the slot names is published
 pub slot_leaf : (v : View) (aim : Aim) → WasAtSlot v aim → (base : ℕ)

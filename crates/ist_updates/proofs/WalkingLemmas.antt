@@ -1,5 +1,5 @@
 -- A walk by one step down, the walk from there, and a Count on the way back. Serves `descend`.
-use Rattle.std.proofs.Common.{◌≡◌, ℕ, ◌≤◌, List, [], ◌∷◌, ◌++◌, length, Option, Some, Result, Ok, Err, sym, ap, ◌∙◌, subst}
+use Rattle.std.proofs.Common.{◌≡◌, ◌≢◌, ℕ, ◌≤◌, List, [], ◌∷◌, ◌++◌, length, Option, Some, Result, Ok, Err, refl, sym, ap, ◌∙◌, subst}
 use Rattle.ist_core.specs.declared.commands.Command.{Command}
 use Rattle.ist_core.specs.declared.events.Event.{Event}
 use Rattle.ist_core.specs.declared.pairs.Pair.{Pair}
@@ -118,34 +118,22 @@ module _ (old : Caller) (seat : SeatFace) (g : GoesOnTo old.seat.view seat.view)
   )
 
   -- a walk that took no effect from a row below took none from this node
-  pub refused_below : (key : ℕ) (value : Option ℕ) (node row words : ℕ) (full : Full) (new : Caller)
-      → HasWalked there key value row words (Err full) new
-      → HasWalked old key value node words (Err full) new
-  refused_below key value node row words full new h = (
-    still_before new (command_for key value) h.0,
-    refused_before (λ first. IsUpdateRefused first key value words full new.seat.view) h.1,
-  )
-
-  -- a walk that found nothing to remove from a row below found nothing from this node
-  pub nothing_below : (key : ℕ) (value : Option ℕ) (node row words : ℕ) (new : Caller)
-      → HasWalked there key value row words (Ok Nothing) new
-      → HasWalked old key value node words (Ok Nothing) new
-  nothing_below key value node row words new h = (
+  pub none_below : (key : ℕ) (value : Option ℕ) (node row words : ℕ) (new : Caller)
+      (r : Result Walked Full) → ((done : Applied) → r ≢ Ok (Took done))
+      → HasWalked there key value row words r new → HasWalked old key value node words r new
+  none_below key value node row words new (Ok (Took done)) none h = absurd (none done refl)
+  none_below key value node row words new (Ok Nothing) none h = (
     still_before new (command_for key value) h.0,
     not_there_before new.seat.view key value h.1,
   )
-
-  -- a walk that must begin again from a row below must begin again from this node
-  pub again_below : (key : ℕ) (value : Option ℕ) (node row words : ℕ) (new : Caller)
-      → HasWalked there key value row words (Ok Again) new
-      → HasWalked old key value node words (Ok Again) new
-  again_below key value node row words new h = still_before new (command_for key value) h
-
-  -- a walk that met another value from a row below met it from this node
-  pub unmet_below : (key : ℕ) (value : Option ℕ) (node row words : ℕ) (new : Caller)
-      → HasWalked there key value row words (Ok Unmet) new
-      → HasWalked old key value node words (Ok Unmet) new
-  unmet_below key value node row words new h = still_before new (command_for key value) h
+  none_below key value node row words new (Ok Again) none h =
+      still_before new (command_for key value) h
+  none_below key value node row words new (Ok Unmet) none h =
+      still_before new (command_for key value) h
+  none_below key value node row words new (Err full) none h = (
+    still_before new (command_for key value) h.0,
+    refused_before (λ first. IsUpdateRefused first key value words full new.seat.view) h.1,
+  )
 
   -- a walk that went on from a row below
   module _ (key : ℕ) (value : Option ℕ) (node index word row : ℕ)

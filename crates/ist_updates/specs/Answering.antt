@@ -1,13 +1,54 @@
--- What a try promises, for each of its results.
-use Rattle.std.specs.Prelude.{◌≡◌, ℕ, Option, None}
+-- What a change of a slot and a try promise, for each of their results.
+use Rattle.std.specs.Prelude.{◌≡◌, ℕ, Bool, true, false, Option, Some, None, Result, Ok, IfOk, IfErr}
+use Rattle.ist_core.specs.declared.commands.Command.{Command}
 use Rattle.ist_core.specs.declared.ports.Full.{Full}
+use Rattle.ist_core.specs.Changes.{command_of, reply_of, value_at}
+use Rattle.ist_core.specs.References.{ref_of}
 use Rattle.ist_rule.specs.declared.view.View.{View}
+use Rattle.ist_rule.specs.Learning.{now}
 use Rattle.ist_rows.specs.declared.callers.Caller.{Caller}
+use Rattle.ist_rows.specs.Going.{StaysReady}
+use Rattle.laws_coming.specs.Further.{CameFurther}
+use Rattle.ist_updates.specs.declared.plans.Aim.{Aim}
+use Rattle.ist_updates.specs.declared.plans.Plan.{Plan}
+use Rattle.ist_updates.specs.declared.plans.Way.{Way}
 use Rattle.ist_updates.specs.declared.updates.Tried.{Tried}
 use Rattle.ist_updates.specs.declared.updates.Tried.TheVariants.{Took, Nothing, Again, Unmet}
 use Rattle.ist_updates.specs.Asking.{command_for, IsAsked}
+use Rattle.ist_updates.specs.Changing.{command_by, IsWayRefused}
+use Rattle.ist_updates.specs.Further.{HasAimed}
 use Rattle.ist_updates.specs.Refusals.{IsUpdateRefused}
-use Rattle.ist_updates.specs.Trying.{BeganSince, HasFoundNone, HasTakenEffect}
+use Rattle.ist_updates.specs.Trying.{Tries, BeganSince, HasFoundNone, HasTakenEffect}
+
+-- ---- a change of a slot
+
+-- what each result of carrying out a plan means: its command took effect, or the caller is still
+-- asked and the table came further
+pub record HasCarried (old : Caller) (plan : Plan) (taken : Bool) (new : Caller) : Type 0 where
+  pub on : StaysReady Tries old new
+  pub took : taken ≡ true → (command : Command) → command_of plan.row ≡ Some command
+      → HasTakenEffect old.seat.view new.seat.view old.number command plan.row.node
+      (reply_of (now old.seat.view).pieces plan.row)
+  pub lost : taken ≡ false → (command : Command) → IsAsked old command → IsAsked new command
+  pub further : taken ≡ false → (first : View)
+      → HasAimed first old.seat.view plan.row.node plan.row.index plan.row.from
+      → CameFurther first new.seat.view
+
+-- what each result of a change of the slot means: it took effect, or it was lost and the table came
+-- further, or the table had too few words for a row of it
+pub record HasChanged (old : Caller) (aim : Aim) (w : Way) (words : ℕ) (result : Result Bool Full)
+    (new : Caller) : Type 0 where
+  pub on : StaysReady Tries old new
+  pub took : result ≡ Ok true → let v = old.seat.view in
+      HasTakenEffect v new.seat.view old.number (command_by aim.key w) aim.node
+      (value_at (now v).pieces (ref_of aim.word) aim.key)
+  pub lost : result ≡ Ok false → IsAsked new (command_by aim.key w)
+  pub further : result ≡ Ok false → (first : View)
+      → HasAimed first old.seat.view aim.node aim.index aim.word → CameFurther first new.seat.view
+  pub still : IfErr result (λ full. IsAsked new (command_by aim.key w))
+  pub full : IfErr result (λ full. IsWayRefused old.seat.view w words full new.seat.view)
+
+-- ---- a try
 
 -- the update took effect, or there was nothing to remove, or the caller is still asked
 abbrev pub IsTried : Caller → ℕ → Option ℕ → ℕ → Caller → Tried → Type 0
@@ -26,3 +67,12 @@ pub record IsTryRefused (old : Caller) (key : ℕ) (value : Option ℕ) (words :
   pub still : IsAsked new (command_for key value)
   pub cause : (first : View) → BeganSince first old.seat.view
       → IsUpdateRefused first key value words full new.seat.view
+
+-- what each result of a try at the slot means; if the walk must begin again, the table came further
+pub record HasTried (old : Caller) (aim : Aim) (value : Option ℕ) (words : ℕ)
+    (result : Result Tried Full) (new : Caller) : Type 0 where
+  pub on : StaysReady Tries old new
+  pub told : IfOk result (λ tried. IsTried old aim.key value aim.node new tried)
+  pub full : IfErr result (λ full. IsTryRefused old aim.key value words full new)
+  pub further : result ≡ Ok Again → (first : View)
+      → HasAimed first old.seat.view aim.node aim.index aim.word → CameFurther first new.seat.view

@@ -9,4 +9,5 @@ pub mod Walking
 pub mod Changing
 pub mod Filling
 pub mod Answering
+pub mod Ending
 pub mod Further

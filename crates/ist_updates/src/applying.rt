@@ -9,8 +9,9 @@ ghost use Rattle.ist_rows.specs.Rows.{IsCaller};
 ghost use Rattle.ist_rows.specs.Going.{IsQuiet};
 ghost use Rattle.ist_updates.specs.Asking.{command_for, IsAsked, Updates, MayEnd};
 ghost use Rattle.ist_updates.specs.Counting.{CountedNowhere, IsCounted, LeavesDue};
+ghost use Rattle.ist_updates.specs.Ending.{HasEnded};
 ghost use Rattle.ist_updates.specs.Further.{HasWalkedFew};
-ghost use Rattle.ist_updates.specs.Meeting.{IsMetBy, WasMissed};
+ghost use Rattle.ist_updates.specs.Meeting.{IsMetBy, IsWalkMet, WasMissed};
 ghost use Rattle.ist_updates.specs.Refusals.{WasRefused};
 
 use crate::updates::{Applied, When};
@@ -112,19 +113,42 @@ pub fn apply_when(
     ensures uncounted { OnErr result
         (CountedNowhere who.old.seat.view.log who.new.seat.view.log who.old.number) }
 {
+    match walk_to_end(table, who, key, value, when)? {
+        Walked::Took(done) => Ok(Some(done)),
+        Walked::Nothing => Ok(Some(Applied {
+            reply: None,
+            due: None,
+        })),
+        Walked::Again => unreachable!(),
+        Walked::Unmet => Ok(None),
+    }
+}
+
+// Walks from the anchor until a walk takes effect, finds nothing to remove, meets another value or
+// is refused.
+fn walk_to_end(
+    table: &TreeTable,
+    who: &mut Caller,
+    key: u64,
+    value: Option<u64>,
+    when: When,
+) -> Result<Walked, Full>
+    requires same_table { who.old.seat.table ≡ table.now.table }
+    requires asked { IsAsked who.old (command_for key value) }
+    ensures same_table { who.new.seat.table ≡ table.now.table }
+    ensures caller { IsCaller who.new }
+    ensures number { who.new.number ≡ who.old.number }
+    ensures refused { HasRefused who.new }
+    ensures quiet { IsQuiet who.new }
+    ensures met { IfOk result (IsWalkMet when) }
+    ensures ended { HasEnded who.old key value when (word_count_of table.now) result who.new }
+{
     know(&who.seat);
     'turns: loop {
         begin_search(table, &mut who.seat);
         match descend(table, who, key, value, when, ANCHOR)? {
-            Walked::Took(done) => return Ok(Some(done)),
-            Walked::Nothing => {
-                return Ok(Some(Applied {
-                    reply: None,
-                    due: None,
-                }));
-            }
-            Walked::Unmet => return Ok(None),
             Walked::Again => {}
+            ended => return Ok(ended),
         }
     }
 }

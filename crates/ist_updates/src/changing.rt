@@ -1,9 +1,9 @@
 //! Changing a slot: rows are reserved and filled, and the change is installed and helped.
 ghost use Rattle.std.specs.Prelude.{◌≡◌, ◌<◌, ◌≤◌, ◌⊎◌, ◌∷◌, ℕ, true, false, Some, Ok, IfOk, IfErr};
 ghost use Rattle.ist_core.specs.declared.commands.Command.{Command};
-ghost use Rattle.ist_core.specs.Changes.{command_of, reply_of, value_at};
+ghost use Rattle.ist_core.specs.Changes.{command_of, reply_of};
+ghost use Rattle.ist_core.specs.Installing.{IsUnrefused};
 ghost use Rattle.ist_core.specs.Rebuilding.{IsUpdate};
-ghost use Rattle.ist_core.specs.References.{ref_of};
 ghost use Rattle.ist_rule.specs.Faces.{word_count_of};
 ghost use Rattle.ist_rule.specs.Going.{WentOn};
 ghost use Rattle.ist_rule.specs.Learning.{now, GoesOnTo};
@@ -18,6 +18,7 @@ ghost use Rattle.ist_rows.specs.Kinds.{kind_words};
 ghost use Rattle.ist_rows.specs.Rows.{IsCaller, spares_of, row_of, with_row, RanShort};
 ghost use Rattle.ist_dcss.specs.Installing.{Filling, IsInstallable, IsInstalled};
 ghost use Rattle.ist_rows.specs.Going.{IsQuiet, HasGone};
+ghost use Rattle.ist_updates.specs.Answering.{HasCarried, HasChanged};
 ghost use Rattle.ist_updates.specs.Asking.{IsAsked};
 ghost use Rattle.ist_updates.specs.Changing.{WasAtSlot, Prepares, HasRows};
 ghost use Rattle.ist_updates.specs.Changing.{IsWay, IsWayRefused, IsPlanned, row_for};
@@ -296,16 +297,7 @@ fn carry_out(table: &TreeTable, who: &mut Caller, plan: Plan) -> bool
     requires update { IsUpdate plan.row.kind }
     requires may_install { IsInstallable who.old.seat.view plan.base (filling_of plan) }
     ensures same_table { who.new.seat.table ≡ table.now.table }
-    ensures gone { HasGone Tries who.old who.new }
-    ensures quiet { IsQuiet who.new }
-    ensures took { result ≡ true → (command : Command) → command_of plan.row ≡ Some command
-        → let v = who.old.seat.view in HasTakenEffect v who.new.seat.view who.old.number command
-        plan.row.node (reply_of (now v).pieces plan.row) }
-    ensures lost { result ≡ false → (command : Command) → IsAsked who.old command
-        → IsAsked who.new command }
-    ensures further { result ≡ false → (first : View) → let row = plan.row in
-        HasAimed first who.old.seat.view row.node row.index row.from
-        → CameFurther first who.new.seat.view }
+    ensures carried { HasCarried who.old plan result who.new }
 {
     know(&who.seat);
     if !install_plan(table, who, plan) {
@@ -333,24 +325,26 @@ pub(crate) fn change_slot(
     requires at_slot { WasAtSlot who.old.seat.view aim }
     requires room { IsWay who.old.seat.view aim.key aim.word way }
     ensures same_table { who.new.seat.table ≡ table.now.table }
-    ensures gone { HasGone Tries who.old who.new }
-    ensures quiet { IsQuiet who.new }
-    ensures took { result ≡ Ok true → let v = who.old.seat.view in
-        let reply = value_at (now v).pieces (ref_of aim.word) aim.key in
-        HasTakenEffect v who.new.seat.view who.old.number (command_by aim.key way) aim.node reply }
-    ensures lost { result ≡ Ok false → IsAsked who.new (command_by aim.key way) }
-    ensures further { result ≡ Ok false → (first : View)
-        → HasAimed first who.old.seat.view aim.node aim.index aim.word
-        → CameFurther first who.new.seat.view }
-    ensures still { IfErr result (λ full. IsAsked who.new (command_by aim.key way)) }
-    ensures full { IfErr result (λ full. IsWayRefused who.old.seat.view way
-        (word_count_of table.now) full who.new.seat.view) }
+    ensures changed { HasChanged who.old aim way (word_count_of table.now) result who.new }
 {
     know(&who.seat);
     // A load. Meets a mark of the node.
     if !is_open(table, &mut who.seat, aim.node) {
         return Ok(false);
     }
+    change_open(table, who, aim, way)
+}
+
+// The same if its node was open, and no change of the caller there was decided no.
+fn change_open(table: &TreeTable, who: &mut Caller, aim: Aim, way: Way) -> Result<bool, Full>
+    requires same_table { who.old.seat.table ≡ table.now.table }
+    requires asked { IsAsked who.old (command_by aim.key way) }
+    requires at_slot { WasAtSlot who.old.seat.view aim }
+    requires room { IsWay who.old.seat.view aim.key aim.word way }
+    requires unrefused { IsUnrefused (now who.old.seat.view) who.old.number aim.node }
+    ensures same_table { who.new.seat.table ≡ table.now.table }
+    ensures changed { HasChanged who.old aim way (word_count_of table.now) result who.new }
+{
     let plan = plan_for(table, who, aim, way)?;
     know(&who.seat);
     fill_rows(table, who, plan);

@@ -7,13 +7,13 @@ ghost use Rattle.ist_core.specs.Pieces.{Leaf};
 ghost use Rattle.ist_core.specs.References.{Empty, LeafAt, ChangeAt, RebuildAt, ref_of};
 ghost use Rattle.ist_rule.specs.Learning.{now, GoesOnTo};
 ghost use Rattle.laws_coming.specs.Further.{CameFurther};
-ghost use Rattle.ist_updates.specs.Further.{HasAimed, IsFreshNode};
+ghost use Rattle.ist_updates.specs.Further.{IsFreshNode};
 ghost use Rattle.ist_rule.specs.declared.view.View.{View};
 ghost use Rattle.ist_find.specs.Searches.{SeesLeaf};
-ghost use Rattle.ist_updates.specs.Answering.{IsTried, IsTryRefused};
+ghost use Rattle.ist_updates.specs.Answering.{HasTried};
 ghost use Rattle.ist_updates.specs.Changing.{WasAtSlot};
 ghost use Rattle.ist_rule.specs.Faces.{word_count_of};
-ghost use Rattle.ist_rows.specs.Going.{IsQuiet, HasGone, StaysReady};
+ghost use Rattle.ist_rows.specs.Going.{StaysReady};
 ghost use Rattle.ist_updates.specs.Asking.{command_for, IsAsked};
 ghost use Rattle.ist_updates.specs.Meeting.{IsMetBy, IsMissedBy, RepliesWith, IsMetAs, HasMissed};
 ghost use Rattle.ist_updates.specs.Refusals.{IsUpdateRefused};
@@ -34,7 +34,6 @@ use ist_rule::{TreeSeat, TreeTable, know, load};
 fn answer(taken: bool, reply: Reply) -> Tried
     ensures took { taken ≡ true → result ≡ Took reply }
     ensures again { taken ≡ false → result ≡ Again }
-    ensures only { result ≡ Again → taken ≡ false }
     ensures replies { RepliesWith reply result }
 {
     if taken {
@@ -94,15 +93,7 @@ fn try_empty(
     requires at_slot { WasAtSlot who.old.seat.view aim }
     requires empty { ref_of aim.word ≡ Some Empty }
     ensures same_table { who.new.seat.table ≡ table.now.table }
-    ensures gone { HasGone Tries who.old who.new }
-    ensures quiet { IsQuiet who.new }
-    ensures tried { IfOk result (λ tried.
-        IsTried who.old aim.key value aim.node who.new tried) }
-    ensures further { result ≡ Ok Again → (first : View)
-        → HasAimed first who.old.seat.view aim.node aim.index aim.word
-        → CameFurther first who.new.seat.view }
-    ensures full { IfErr result (λ full.
-        IsTryRefused who.old aim.key value (word_count_of table.now) full who.new) }
+    ensures tried { HasTried who.old aim value (word_count_of table.now) result who.new }
     ensures met { IfOk result (IsMetAs when) }
     ensures missed { result ≡ Ok Unmet
         → HasMissed who.old.seat.view who.new.seat.view aim.key when }
@@ -135,15 +126,7 @@ fn put_at(
     requires leaf { ref_of aim.word ≡ Some (LeafAt base) }
     requires stands { (now who.old.seat.view).pieces base ≡ Some (Leaf leaf) }
     ensures same_table { who.new.seat.table ≡ table.now.table }
-    ensures gone { HasGone Tries who.old who.new }
-    ensures quiet { IsQuiet who.new }
-    ensures tried { IfOk result (λ tried.
-        IsTried who.old aim.key (Some value) aim.node who.new tried) }
-    ensures further { result ≡ Ok Again → (first : View)
-        → HasAimed first who.old.seat.view aim.node aim.index aim.word
-        → CameFurther first who.new.seat.view }
-    ensures full { IfErr result (λ full.
-        IsTryRefused who.old aim.key (Some value) (word_count_of table.now) full who.new) }
+    ensures tried { HasTried who.old aim (Some value) (word_count_of table.now) result who.new }
     ensures had { IfOk result (RepliesWith (value_in (Some (Leaf leaf)) aim.key)) }
 {
     if leaf.key == aim.key {
@@ -173,15 +156,7 @@ fn remove_at(
     requires leaf { ref_of aim.word ≡ Some (LeafAt base) }
     requires stands { (now who.old.seat.view).pieces base ≡ Some (Leaf leaf) }
     ensures same_table { who.new.seat.table ≡ table.now.table }
-    ensures gone { HasGone Tries who.old who.new }
-    ensures quiet { IsQuiet who.new }
-    ensures tried { IfOk result (λ tried.
-        IsTried who.old aim.key None aim.node who.new tried) }
-    ensures further { result ≡ Ok Again → (first : View)
-        → HasAimed first who.old.seat.view aim.node aim.index aim.word
-        → CameFurther first who.new.seat.view }
-    ensures full { IfErr result (λ full.
-        IsTryRefused who.old aim.key None (word_count_of table.now) full who.new) }
+    ensures tried { HasTried who.old aim None (word_count_of table.now) result who.new }
     ensures had { IfOk result (RepliesWith (value_in (Some (Leaf leaf)) aim.key)) }
 {
     know(&who.seat);
@@ -190,6 +165,37 @@ fn remove_at(
     }
     let removed = change_slot(table, who, aim, Way::Clear)?;
     Ok(answer(removed, Some(leaf.value)))
+}
+
+// Tries the update at a slot that holds this leaf.
+fn try_read(
+    table: &TreeTable,
+    who: &mut Caller,
+    aim: Aim,
+    value: Option<u64>,
+    when: When,
+    base: u32,
+    leaf: LeafRow,
+) -> Result<Tried, Full>
+    requires same_table { who.old.seat.table ≡ table.now.table }
+    requires asked { IsAsked who.old (command_for aim.key value) }
+    requires at_slot { WasAtSlot who.old.seat.view aim }
+    requires leaf { ref_of aim.word ≡ Some (LeafAt base) }
+    requires stands { (now who.old.seat.view).pieces base ≡ Some (Leaf leaf) }
+    ensures same_table { who.new.seat.table ≡ table.now.table }
+    ensures tried { HasTried who.old aim value (word_count_of table.now) result who.new }
+    ensures met { IfOk result (IsMetAs when) }
+    ensures missed { result ≡ Ok Unmet
+        → HasMissed who.old.seat.view who.new.seat.view aim.key when }
+{
+    know(&who.seat);
+    if !meets(when, had_in(leaf, aim.key)) {
+        return Ok(Tried::Unmet);
+    }
+    match value {
+        Some(value) => put_at(table, who, aim, value, base, leaf),
+        None => remove_at(table, who, aim, base, leaf),
+    }
 }
 
 // Tries the update at a slot that holds a leaf.
@@ -206,29 +212,14 @@ fn try_leaf(
     requires at_slot { WasAtSlot who.old.seat.view aim }
     requires leaf { ref_of aim.word ≡ Some (LeafAt base) }
     ensures same_table { who.new.seat.table ≡ table.now.table }
-    ensures gone { HasGone Tries who.old who.new }
-    ensures quiet { IsQuiet who.new }
-    ensures tried { IfOk result (λ tried.
-        IsTried who.old aim.key value aim.node who.new tried) }
-    ensures further { result ≡ Ok Again → (first : View)
-        → HasAimed first who.old.seat.view aim.node aim.index aim.word
-        → CameFurther first who.new.seat.view }
-    ensures full { IfErr result (λ full.
-        IsTryRefused who.old aim.key value (word_count_of table.now) full who.new) }
+    ensures tried { HasTried who.old aim value (word_count_of table.now) result who.new }
     ensures met { IfOk result (IsMetAs when) }
     ensures missed { result ≡ Ok Unmet
         → HasMissed who.old.seat.view who.new.seat.view aim.key when }
 {
     know(&who.seat);
     let leaf = read_leaf(table, &mut who.seat, base);
-    know(&who.seat);
-    if !meets(when, had_in(leaf, aim.key)) {
-        return Ok(Tried::Unmet);
-    }
-    match value {
-        Some(value) => put_at(table, who, aim, value, base, leaf),
-        None => remove_at(table, who, aim, base, leaf),
-    }
+    try_read(table, who, aim, value, when, base, leaf)
 }
 
 // Helps the change in the slot.
@@ -244,13 +235,9 @@ fn help_change(
     requires at_slot { IsAtSlot who.old.seat.view aim.key aim.node aim.index aim.word }
     requires change { ref_of aim.word ≡ Some (ChangeAt base) }
     ensures same_table { who.new.seat.table ≡ table.now.table }
-    ensures gone { HasGone Tries who.old who.new }
-    ensures quiet { IsQuiet who.new }
     ensures again { result ≡ Again }
-    ensures asked { IsAsked who.new (command_for aim.key value) }
-    ensures further { (first : View)
-        → HasAimed first who.old.seat.view aim.node aim.index aim.word
-        → CameFurther first who.new.seat.view }
+    ensures tried { let words = word_count_of table.now in
+        HasTried who.old aim value words (Ok result) who.new }
 {
     know(&who.seat);
     // Okay, Decide and Resolve. Meets another helper's, and a mark of the node.
@@ -271,15 +258,7 @@ fn help_target(
     requires at_slot { IsAtSlot who.old.seat.view aim.key aim.node aim.index aim.word }
     requires rebuild { ref_of aim.word ≡ Some (RebuildAt base) }
     ensures same_table { who.new.seat.table ≡ table.now.table }
-    ensures gone { HasGone Tries who.old who.new }
-    ensures quiet { IsQuiet who.new }
-    ensures tried { IfOk result (λ tried.
-        IsTried who.old aim.key value aim.node who.new tried) }
-    ensures further { result ≡ Ok Again → (first : View)
-        → HasAimed first who.old.seat.view aim.node aim.index aim.word
-        → CameFurther first who.new.seat.view }
-    ensures full { IfErr result (λ full.
-        IsTryRefused who.old aim.key value (word_count_of table.now) full who.new) }
+    ensures tried { HasTried who.old aim value (word_count_of table.now) result who.new }
     ensures met { (when : WhenOf) → IfOk result (IsMetAs when) }
     ensures unmissed { result ≢ Ok Unmet }
 {
@@ -301,15 +280,7 @@ fn try_word(
     requires asked { IsAsked who.old (command_for aim.key value) }
     requires at_slot { IsAtSlot who.old.seat.view aim.key aim.node aim.index aim.word }
     ensures same_table { who.new.seat.table ≡ table.now.table }
-    ensures gone { HasGone Tries who.old who.new }
-    ensures quiet { IsQuiet who.new }
-    ensures tried { IfOk result (λ tried.
-        IsTried who.old aim.key value aim.node who.new tried) }
-    ensures further { result ≡ Ok Again → (first : View)
-        → HasAimed first who.old.seat.view aim.node aim.index aim.word
-        → CameFurther first who.new.seat.view }
-    ensures full { IfErr result (λ full.
-        IsTryRefused who.old aim.key value (word_count_of table.now) full who.new) }
+    ensures tried { HasTried who.old aim value (word_count_of table.now) result who.new }
     ensures met { IfOk result (IsMetAs when) }
     ensures missed { result ≡ Ok Unmet
         → HasMissed who.old.seat.view who.new.seat.view aim.key when }

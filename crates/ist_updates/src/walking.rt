@@ -5,6 +5,7 @@ ghost use Rattle.ist_rule.specs.Faces.{word_count_of};
 ghost use Rattle.ist_find.specs.Searches.{Came};
 ghost use Rattle.ist_rows.specs.Going.{StaysReady};
 ghost use Rattle.ist_updates.specs.Asking.{command_for, IsAsked, Updates};
+ghost use Rattle.ist_updates.specs.Ending.{IsWalk};
 ghost use Rattle.ist_updates.specs.Trying.{IsAtSlot};
 ghost use Rattle.ist_updates.specs.Meeting.{IsWalkMet, HasMissed};
 ghost use Rattle.ist_updates.specs.Walking.{HasWalked};
@@ -91,12 +92,7 @@ pub(crate) fn descend(
     requires asked { IsAsked who.old (command_for key value) }
     requires came { Came who.old.seat.view key node }
     ensures same_table { who.new.seat.table ≡ table.now.table }
-    ensures on { StaysReady Updates who.old who.new }
-    ensures walked { HasWalked who.old key value node (word_count_of table.now) result who.new }
-    ensures further { result ≡ Ok Again → (first : View) → IsFreshNode first who.old.seat.view node
-        → CameFurther first who.new.seat.view }
-    ensures met { IfOk result (IsWalkMet when) }
-    ensures missed { result ≡ Ok Unmet → HasMissed who.old.seat.view who.new.seat.view key when }
+    ensures walk { IsWalk who.old key value when node (word_count_of table.now) result who.new }
 {
     let child = step_down(table, &mut who.seat, node, key);
     let Some(row) = inner_in(child.word) else {
@@ -107,8 +103,6 @@ pub(crate) fn descend(
             let done = count_update(table, who, node, child.index, row, below);
             Ok(Walked::Took(done))
         }
-        Walked::Nothing => Ok(Walked::Nothing),
-        Walked::Again => Ok(Walked::Again),
-        Walked::Unmet => Ok(Walked::Unmet),
+        other => Ok(other),
     }
 }

@@ -7,6 +7,7 @@ use Rattle.ist_updates.proofs.StepLemmas.{serves_tries}
 use Rattle.ist_updates.proofs.HelpedLemmas.{slot_started, help_refused, refused_still}
 use Rattle.ist_updates.proofs.BehindLemmas.{behind_went}
 use Rattle.ist_updates.proofs.FurtherLemmas.{by_helped, left_further, replaced_further}
+use Rattle.ist_updates.proofs.TryResultLemmas.{again_tried, refused_tried}
 use Rattle.ist_updates.proofs.trying.help_target.Goals as goal
 
 -- the rebuild was started
@@ -15,38 +16,30 @@ help_rebuild-requires-clause-started c =
     slot_started _ c.know.ensures.sound c.args.aim.key c.args.aim.node c.args.aim.index
     c.args.aim.word c.args.base c.requires.at_slot c.requires.rebuild
 
-pub returns-in_err-help_rebuild-clause-gone : goal.returns-in_err-help_rebuild-clause-gone
-returns-in_err-help_rebuild-clause-gone c =
-    gone_all Serves Tries serves_tries _ _ c.help_rebuild.ensures.helped.on.gone
-
-pub returns-clause-gone : goal.returns-clause-gone
-returns-clause-gone c =
-    gone_all Serves Tries serves_tries _ _ c.help_rebuild.ensures.helped.on.gone
-
--- the caller is asked still
-pub returns-clause-tried : goal.returns-clause-tried
-returns-clause-tried c =
+-- its help was refused
+pub returns-in_err-help_rebuild-clause-tried : goal.returns-in_err-help_rebuild-clause-tried
+returns-in_err-help_rebuild-clause-tried c =
     let on = c.help_rebuild.ensures.helped.on in
-    asked_served _ _ _ c.requires.asked on.gone on.quiet.resolved
-
-pub returns-in_err-help_rebuild-clause-full : goal.returns-in_err-help_rebuild-clause-full
-returns-in_err-help_rebuild-clause-full c =
-    let h = c.in_err-help_rebuild.ensures in
-    let on = c.help_rebuild.ensures.helped.on in
-    let full = refused_still c.args.who.now c.help_rebuild.new.who c.args.aim.key c.args.value _ _
-    (asked_served c.args.who.now c.help_rebuild.new.who _ c.requires.asked on.gone
-    on.quiet.resolved)
+    let still = asked_served c.args.who.now c.help_rebuild.new.who _ c.requires.asked on.gone
+    on.quiet.resolved in
+    let h = refused_tried _ _ c.args.aim c.args.value _ _
+    (gone_all Serves Tries serves_tries _ _ on.gone) (refused_still c.args.who.now c.help_rebuild.new.who c.args.aim.key c.args.value _ _ still
     (help_refused _ c.know.ensures.sound c.args.aim.key c.args.aim.node c.args.aim.index
-    c.args.aim.word c.args.base c.requires.at_slot c.requires.rebuild c.args.value _ _ _ h.full) in
+    c.args.aim.word c.args.base c.requires.at_slot c.requires.rebuild c.args.value _ _ _
+    c.in_err-help_rebuild.ensures.full)) in
     search rules
 
-pub returns-clause-further : goal.returns-clause-further
-returns-clause-further c _ first aimed =
+-- or it was replaced, or its parent is marked
+pub returns-clause-tried : goal.returns-clause-tried
+returns-clause-tried c =
     let h = c.help_rebuild.ensures in
-    let went = h.helped.on.gone.went in
+    let on = h.helped.on in
+    let went = on.gone.went in
     let b = behind_went Serves _ _ went in
-    by_helped c.in_ok-help_rebuild.field-0
+    again_tried _ _ c.args.aim c.args.value _ (gone_all Serves Tries serves_tries _ _ on.gone)
+    (asked_served _ _ _ c.requires.asked on.gone on.quiet.resolved)
+    (λ first aimed. by_helped c.in_ok-help_rebuild.field-0
     (λ e. replaced_further first _ _ _ _ _ aimed b went.sound c.args.base c.requires.rebuild
     (h.replaced (c.in_ok-help_rebuild.was ∙ ap Ok e)))
     (λ e. left_further first _ _ _ _ _ aimed b went.sound c.args.base c.requires.rebuild
-    (h.parent_marked (c.in_ok-help_rebuild.was ∙ ap Ok e)))
+    (h.parent_marked (c.in_ok-help_rebuild.was ∙ ap Ok e))))

@@ -6,22 +6,22 @@ use Rattle.ist_updates.proofs.trying.try_slot.Goals as goal
 -- each clause by what came of the try
 pub returns : goal.returns
 returns c =
-    let t = c.try_word.ensures in
+    let t = c.try_word.ensures.tried in
     record {
-      same_table = t.same_table;
-      on = record { gone = t.gone; quiet = t.quiet };
+      same_table = c.try_word.ensures.same_table;
+      on = t.on;
       took = told_took c.args.who.now c.try_word.new.who c.args.key c.args.value c.args.node
-          c.try_word.result t.tried;
+          c.try_word.result t.told;
       nothing = λ e. (let it = told_nothing c.args.who.now c.try_word.new.who c.args.key c.args.value
-          c.args.node c.try_word.result t.tried e in (it.0, it.1, it.2));
+          c.args.node c.try_word.result t.told e in (it.0, it.1, it.2));
       since = λ e. (told_nothing c.args.who.now c.try_word.new.who c.args.key c.args.value
-          c.args.node c.try_word.result t.tried e).3;
+          c.args.node c.try_word.result t.told e).3;
       again = told_again c.args.who.now c.try_word.new.who c.args.key c.args.value c.args.node
-          c.try_word.result t.tried;
+          c.try_word.result t.told;
       unmet = told_unmet c.args.who.now c.try_word.new.who c.args.key c.args.value c.args.node
-          c.try_word.result t.tried;
-      met = t.met;
-      missed = t.missed;
+          c.try_word.result t.told;
+      met = c.try_word.ensures.met;
+      missed = c.try_word.ensures.missed;
       full = told_full c.args.who.now c.try_word.new.who c.args.key c.args.value
           (word_count_of c.args.table.now) c.try_word.result t.full;
       still = told_still c.args.who.now c.try_word.new.who c.args.key c.args.value

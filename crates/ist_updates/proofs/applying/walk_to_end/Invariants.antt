@@ -2,7 +2,7 @@ use Rattle.std.proofs.Common.{◌≡◌, ◌+◌, ◌-◌, ◌≤◌}
 use Rattle.laws_progress.specs.Progress.{most_progress, progress}
 use Rattle.ist_updates.specs.Asking.{command_for}
 use Rattle.ist_updates.specs.Walking.{IsAskedAgain}
-use Rattle.ist_updates.proofs.applying.apply_when.Given as goal
+use Rattle.ist_updates.proofs.applying.walk_to_end.Given as goal
 
 -- each walk so far took no effect, and was paid for by progress
 abbrev pub invariant-turns : goal.invariant-turns

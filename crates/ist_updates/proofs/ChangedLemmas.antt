@@ -1,0 +1,134 @@
+-- What a change of a slot promises, by what came of its parts. Serves `change_slot` and `change_open`.
+use Rattle.std.proofs.Common.{◌≡◌, ℕ, true, false}
+use Rattle.std.specs.Prelude.{Bool, Ok, Err, Result}
+use Rattle.ist_core.specs.declared.ports.Full.{Full}
+use Rattle.ist_core.specs.Slots.{IsOpen}
+use Rattle.ist_rule.specs.Faces.{SeatFace}
+use Rattle.ist_rule.specs.Learning.{now, GoesOnTo}
+use Rattle.ist_rows.specs.declared.callers.Caller.{Caller}
+use Rattle.ist_rows.specs.Going.{HasGone}
+use Rattle.ist_rows.proofs.GoneLemmas.{loads_gone, gone_all, gone_more}
+use Rattle.ist_updates.specs.declared.plans.Aim.{Aim}
+use Rattle.ist_updates.specs.declared.plans.Plan.{Plan}
+use Rattle.ist_updates.specs.declared.plans.Way.{Way}
+use Rattle.ist_updates.specs.Answering.{HasCarried, HasChanged}
+use Rattle.ist_updates.specs.Asking.{IsAsked}
+use Rattle.ist_updates.specs.Changing.{Prepares, IsWay, IsWayRefused, command_by}
+use Rattle.ist_updates.specs.Trying.{Tries}
+use Rattle.ist_updates.proofs.AskedLemmas.{asked_gone, asked_quiet}
+use Rattle.ist_updates.proofs.BehindLemmas.{behind_loads, behind_went}
+use Rattle.ist_updates.proofs.FurtherLemmas.{aimed_on, planned_aim, shut_further}
+use Rattle.ist_updates.proofs.ShortLemmas.{err_refused}
+use Rattle.ist_updates.proofs.SlotLemmas.{IsPrepared, loads_taken, prepared_taken}
+use Rattle.ist_updates.proofs.StepLemmas.{prepares_none, prepares_tries}
+
+-- ---- results
+
+-- equal results without an error have equal values
+ok_is : (a b : Bool) → ◌≡◌ {A = Result Bool Full} (Ok a) (Ok b) → a ≡ b
+ok_is a b e = cc
+
+-- an error is no value
+err_ok : (full : Full) (b : Bool) → ◌≡◌ {A = Result Bool Full} (Err full) (Ok b) → ⊥
+err_ok full b e = cc
+
+-- a change that was lost didn't take effect
+lost_took : ◌≡◌ {A = Result Bool Full} (Ok false) (Ok true) → ⊥
+lost_took e = cc
+
+-- ---- what came of it
+
+module _ (old : Caller) (aim : Aim) (x : Way) (a : IsAsked old (command_by aim.key x)) where
+  -- a caller that only reserved rows, or gave them up, is asked still
+  pub still_asked : (new : Caller) → HasGone Prepares old new → IsAsked new (command_by aim.key x)
+  still_asked new gone = asked_gone Prepares old new (command_by aim.key x) a gone prepares_none
+
+  -- a change for which the table had too few words
+  pub refused_changed : (words : ℕ) (new : Caller) (full : Full) → HasGone Prepares old new
+      → IsWayRefused old.seat.view x words full new.seat.view
+      → HasChanged old aim x words (Err full) new
+  refused_changed words new full gone refused =
+      let still = still_asked new gone in
+      record {
+        on = record {
+          gone = gone_all Prepares Tries prepares_tries old new gone;
+          quiet = asked_quiet new (command_by aim.key x) still;
+        };
+        took = λ is. absurd (err_ok full true is);
+        lost = λ is. absurd (err_ok full false is);
+        further = λ is. absurd (err_ok full false is);
+        still = still;
+        full = refused;
+      }
+
+  -- a prepared change that was carried out
+  pub carried_changed : (words : ℕ) (mid new : Caller) (plan : Plan) (taken : Bool)
+      → IsPrepared old mid aim x plan → IsWay old.seat.view aim.key aim.word x
+      → HasCarried mid plan taken new → HasChanged old aim x words (Ok taken) new
+  carried_changed words mid new plan taken p room h =
+      record {
+        on = record {
+          gone = gone_more Tries old mid new (gone_all Prepares Tries prepares_tries old mid p.gone)
+              h.on.gone;
+          quiet = h.on.quiet;
+        };
+        took = λ is. prepared_taken old mid aim x plan a p room new.seat.view
+            (h.took (ok_is taken true is) (command_by aim.key x) p.is_for.command);
+        lost = λ is. h.lost (ok_is taken false is) (command_by aim.key x) p.asked;
+        further = λ is first aimed. h.further (ok_is taken false is) first
+            (planned_aim first old.seat.view mid.seat.view aim plan.row aimed
+            (behind_went Prepares old.seat.view mid.seat.view p.gone.went) p.is_for.node
+            p.is_for.index p.is_for.from);
+        still = tt;
+        full = tt;
+      }
+
+  -- after loads
+  module _ (seat : SeatFace) (g : GoesOnTo old.seat.view seat.view) where
+    abbrev mid : Caller
+    mid = record old { seat = seat }
+
+    loaded : HasGone Prepares old mid
+    loaded = loads_gone Prepares old seat a.caller a.refused g
+
+    -- the caller is asked still
+    pub loads_still : IsAsked mid (command_by aim.key x)
+    loads_still = still_asked mid loaded
+
+    -- a change is lost if the node isn't open
+    pub shut_changed : (words : ℕ) → ¬ (IsOpen (now seat.view) aim.node)
+        → HasChanged old aim x words (Ok false) mid
+    shut_changed words shut =
+        record {
+          on = record {
+            gone = gone_all Prepares Tries prepares_tries old mid loaded;
+            quiet = asked_quiet mid (command_by aim.key x) loads_still;
+          };
+          took = λ is. absurd (lost_took is);
+          lost = λ is. loads_still;
+          further = λ is first aimed. shut_further first old.seat.view seat.view aim.node aim.index
+              aim.word aimed (behind_loads old.seat.view seat.view g) g.sound shut;
+          still = tt;
+          full = tt;
+        }
+
+    -- a change after them is the change with them
+    pub loads_changed : (words : ℕ) (r : Result Bool Full) (new : Caller)
+        → IsWay old.seat.view aim.key aim.word x → HasChanged mid aim x words r new
+        → HasChanged old aim x words r new
+    loads_changed words r new room h =
+        record {
+          on = record {
+            gone = gone_more Tries old mid new (gone_all Prepares Tries prepares_tries old mid loaded)
+                h.on.gone;
+            quiet = h.on.quiet;
+          };
+          took = λ is. loads_taken old seat aim.key aim.word x g a room new.seat.view aim.node
+              (h.took is);
+          lost = h.lost;
+          further = λ is first aimed. h.further is first
+              (aimed_on first old.seat.view seat.view aim.node aim.index aim.word aimed
+              (behind_loads old.seat.view seat.view g));
+          still = h.still;
+          full = err_refused old.seat.view seat.view x words new.seat.view r loaded.went h.full;
+        }

@@ -1,0 +1,168 @@
+-- One step down of a walk, and what the walk from there makes of it. Serves `descend`.
+use Rattle.std.proofs.Common.{◌≡◌, ◌≢◌, ℕ, List, [], ◌∷◌, ◌++◌, Option, Some, sym, ap, subst}
+use Rattle.std.specs.Prelude.{IfOk, IsErrAnd, Ok, Err, Result}
+use Rattle.ist_core.specs.declared.commands.Command.{Command}
+use Rattle.ist_core.specs.declared.ports.Full.{Full}
+use Rattle.ist_core.specs.Deciding.{CanCount}
+use Rattle.ist_core.specs.Logs.{Log}
+use Rattle.ist_core.specs.References.{InnerAt, Unset, ref_of}
+use Rattle.ist_core.specs.Slots.{IsChildFor, SlotHolds}
+use Rattle.ist_core.specs.StartLayout.{start}
+use Rattle.ist_rule.specs.declared.view.View.{View}
+use Rattle.ist_rule.specs.Faces.{SeatFace}
+use Rattle.ist_rule.specs.Learning.{now, GoesOnTo}
+use Rattle.laws_coming.specs.Further.{CameFurther}
+use Rattle.ist_rows.specs.declared.callers.Caller.{Caller}
+use Rattle.ist_rows.specs.Going.{StaysReady}
+use Rattle.ist_rows.proofs.GoneLemmas.{ready_more}
+use Rattle.ist_find.specs.Searches.{HasCome, Came, Names}
+use Rattle.ist_updates.specs.declared.updates.Applied.{Applied}
+use Rattle.ist_updates.specs.declared.updates.When.{When}
+use Rattle.ist_updates.specs.declared.walking.Walked.{Walked}
+use Rattle.ist_updates.specs.declared.walking.Walked.TheVariants.{Took, Again, Unmet}
+use Rattle.ist_updates.specs.Asking.{Updates, command_for, IsAsked}
+use Rattle.ist_updates.specs.Ending.{IsWalk}
+use Rattle.ist_updates.specs.Further.{IsFreshNode}
+use Rattle.ist_updates.specs.Meeting.{HasMissed, IsMetBy, IsWalkMet}
+use Rattle.ist_updates.specs.Trying.{IsAtSlot}
+use Rattle.ist_updates.specs.Walking.{HasCounted, HasStood, HasWalked}
+use Rattle.ist_updates.proofs.BehindLemmas.{behind_loads}
+use Rattle.ist_updates.proofs.FurtherLemmas.{come_linked, down_fresh, fresh_on}
+use Rattle.ist_updates.proofs.MissLemmas.{missed_loads}
+use Rattle.ist_updates.proofs.ResultLemmas.{err_walked, ok_walked}
+use Rattle.ist_updates.proofs.WalkingLemmas.{on_before, walked_here, none_below, may_count_there, stood_there, counted_here}
+
+-- the caller has gone down by loads to the slot of its key, which holds the word
+pub record IsDown (old : Caller) (seat : SeatFace) (key : ℕ) (value : Option ℕ) (node index word : ℕ)
+    : Type 0 where
+  pub asked : IsAsked (record old { seat = seat }) (command_for key value)
+  pub came : Came old.seat.view key node
+  pub seen : GoesOnTo old.seat.view seat.view
+  pub child : IsChildFor (now seat.view) node key index
+  pub holds : SlotHolds (now seat.view) node index word
+  pub names : Names seat.view (ref_of word)
+  pub set : ref_of word ≢ Some Unset
+  pub stays : (rows : List ℕ) → HasCome old.seat.view key node rows
+      → HasCome seat.view key node rows
+  pub down : (rows : List ℕ) (child : ℕ) → HasCome old.seat.view key node rows
+      → ref_of word ≡ Some (InnerAt child) → HasCome seat.view key child (rows ++ child ∷ [])
+
+-- the walk from a row below took effect: the caller may count at the row, and with that Count the
+-- walk from the node took effect
+pub record HasComeBack (old : Caller) (key : ℕ) (value : Option ℕ) (when : When)
+    (node index row words : ℕ) (below : Applied) (second : Caller) : Type 0 where
+  pub can : let u = second.seat.view in CanCount (start u.start u.words) u.log second.number row
+  pub stood : let u = second.seat.view in HasStood u.start u.words u.log node index row
+  pub walk : let u = second.seat.view in (done : Applied) (new : Caller)
+      → StaysReady Updates second new
+      → ((earlier : Log) (command : Command) (rows : List ℕ)
+      → HasCounted u.start u.words earlier u.log second.number command (rows ++ row ∷ []) below
+      → HasCounted u.start u.words earlier new.seat.view.log second.number command rows done)
+      → done.reply ≡ below.reply → IsWalk old key value when node words (Ok (Took done)) new
+
+-- a walk that took effect needn't begin again
+done_again : (done : Applied) → ◌≡◌ {A = Result Walked Full} (Ok (Took done)) (Ok Again) → ⊥
+done_again done e = cc
+
+-- a walk that took effect didn't miss a value
+done_unmet : (done : Applied) → ◌≡◌ {A = Result Walked Full} (Ok (Took done)) (Ok Unmet) → ⊥
+done_unmet done e = cc
+
+module _ {old : Caller} {seat : SeatFace} {key : ℕ} {value : Option ℕ} {node index word : ℕ}
+    (s : IsDown old seat key value node index word) where
+  abbrev there : Caller
+  there = record old { seat = seat }
+
+  -- if it names no inner row, the walk has come to its end
+  pub at_slot : ((base : ℕ) → ref_of word ≢ Some (InnerAt base))
+      → IsAtSlot seat.view key node index word
+  at_slot low =
+      record {
+        came = (s.came.0, s.stays s.came.0 s.came.1);
+        child = s.child;
+        holds = s.holds;
+        names = s.names;
+        set = s.set;
+        low = low;
+      }
+
+  module _ (when : When) (words : ℕ) where
+    -- a walk that ends at the node
+    pub here_walk : (r : Result Walked Full) (new : Caller) → StaysReady Updates there new
+        → HasWalked there key value node words r new
+        → (r ≡ Ok Again → (first : View) → IsFreshNode first seat.view node
+        → CameFurther first new.seat.view)
+        → IfOk r (IsWalkMet when) → (r ≡ Ok Unmet → HasMissed seat.view new.seat.view key when)
+        → IsWalk old key value when node words r new
+    here_walk r new on walked further met missed =
+        record {
+          on = on_before old seat s.seen Updates new on;
+          walked = walked_here old seat s.seen key value node words r new s.stays walked;
+          further = λ is first fresh. further is first
+              (fresh_on first old.seat.view seat.view node fresh
+              (behind_loads old.seat.view seat.view s.seen) s.seen.sound);
+          met = met;
+          missed = λ is. missed_loads old.seat.view seat.view new.seat.view key when s.seen
+              (missed is);
+        }
+
+    module _ (row : ℕ) (is : ref_of word ≡ Some (InnerAt row)) where
+      none_walk : (r : Result Walked Full) (new : Caller) → ((done : Applied) → r ≢ Ok (Took done))
+          → IsWalk there key value when row words r new → IsWalk old key value when node words r new
+      none_walk r new none h =
+          record {
+            on = on_before old seat s.seen Updates new h.on;
+            walked = none_below old seat s.seen key value node row words new r none h.walked;
+            further = λ again first fresh. h.further again first
+                (down_fresh first seat.view node index word row
+                (fresh_on first old.seat.view seat.view node fresh
+                (behind_loads old.seat.view seat.view s.seen) s.seen.sound) s.seen.sound
+                (come_linked seat.view s.seen.sound key node s.came.0 (s.stays s.came.0 s.came.1))
+                s.holds is);
+            met = h.met;
+            missed = λ unmet. missed_loads old.seat.view seat.view new.seat.view key when s.seen
+                (h.missed unmet);
+          }
+
+      -- a walk that goes on from a row below and takes no effect
+      pub below_walk : (x : Walked) (new : Caller) → ((done : Applied) → x ≢ Took done)
+          → IsWalk there key value when row words (Ok x) new
+          → IsWalk old key value when node words (Ok x) new
+      below_walk x new none h =
+          none_walk (Ok x) new (λ done e. none done (ok_walked x (Took done) e)) h
+
+      -- a walk that goes on from a row below and is refused
+      pub refused_walk : (r : Result Walked Full) (full : Full) (new : Caller)
+          → IsErrAnd r (λ x. x ≡ full) → IsWalk there key value when row words (Err full) new
+          → IsWalk old key value when node words r new
+      refused_walk (Ok x) full new same h = absurd same
+      refused_walk (Err e) full new same h =
+          subst (λ x. IsWalk old key value when node words (Err x) new) (sym same)
+          (none_walk (Err full) new (λ done e. err_walked full (Took done) e) h)
+
+      -- a walk that goes on from a row below and takes effect
+      pub come_back : (x : Walked) (below : Applied) (second : Caller) → x ≡ Took below
+          → IsWalk there key value when row words (Ok x) second
+          → HasComeBack old key value when node index row words below second
+      come_back x below second took h =
+          let took_is : ◌≡◌ {A = Result Walked Full} (Ok x) (Ok (Took below)) = ap Ok took in
+          let on = h.on.gone in
+          let walked = subst (λ r. IsWalk there key value when row words r second) took_is h in
+          record {
+            can = may_count_there old seat s.seen key value node index word row s.asked s.came
+                (λ rows come. s.down rows row come is) s.stays s.holds is words below second on.number
+                on.went walked.walked;
+            stood = stood_there old seat s.seen key value node index word row s.asked s.came
+                (λ rows come. s.down rows row come is) s.stays s.holds is words below second on.number
+                on.went walked.walked;
+            walk = λ done new more counted same. record {
+              on = ready_more Updates old second new (on_before old seat s.seen Updates second h.on)
+                  more;
+              walked = counted_here old seat s.seen key value node index word row s.asked s.came
+                  (λ rows come. s.down rows row come is) s.stays s.holds is words below second
+                  on.number on.went walked.walked done new.seat.view.log counted;
+              further = λ e. absurd (done_again done e);
+              met = subst (IsMetBy when) (sym same) walked.met;
+              missed = λ e. absurd (done_unmet done e);
+            };
+          }

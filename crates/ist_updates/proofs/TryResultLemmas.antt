@@ -1,0 +1,175 @@
+-- What a try promises, by what came of it at the slot. Serves the functions of `trying`.
+use Rattle.std.proofs.Common.{◌≡◌, ◌⊎◌, ℕ, true, false, Option, Some, None, refl, sym, subst}
+use Rattle.std.specs.Prelude.{Bool, Ok, Err, Result}
+use Rattle.ist_core.specs.declared.commands.Command.{Command}
+use Rattle.ist_core.specs.declared.ports.Full.{Full}
+use Rattle.ist_core.specs.Changes.{value_at}
+use Rattle.ist_core.specs.References.{ref_of}
+use Rattle.ist_core.specs.RowLayout.{leaf_words, pair_words, change_words}
+use Rattle.ist_rule.specs.declared.view.View.{View}
+use Rattle.ist_rule.specs.Faces.{SeatFace}
+use Rattle.ist_rule.specs.Learning.{now, GoesOnTo}
+use Rattle.ist_rule.specs.Rule.{IsSound}
+use Rattle.laws_coming.specs.Further.{CameFurther}
+use Rattle.laws_histories.specs.Searching.{Searched}
+use Rattle.ist_rows.specs.declared.callers.Caller.{Caller}
+use Rattle.ist_rows.specs.Going.{HasGone, StaysReady}
+use Rattle.ist_rows.proofs.GoneLemmas.{loads_gone, gone_more, ready_same}
+use Rattle.ist_updates.specs.declared.plans.Aim.{Aim}
+use Rattle.ist_updates.specs.declared.plans.Way.{Way}
+use Rattle.ist_updates.specs.declared.plans.Way.TheVariants as way
+use Rattle.ist_updates.specs.declared.updates.Tried.{Tried}
+use Rattle.ist_updates.specs.declared.updates.Tried.TheVariants.{Took, Nothing, Again, Unmet}
+use Rattle.ist_updates.specs.Answering.{HasChanged, HasTried, IsTryRefused}
+use Rattle.ist_updates.specs.Asking.{command_for, IsAsked}
+use Rattle.ist_updates.specs.Changing.{MayAskFor, command_by}
+use Rattle.ist_updates.specs.Further.{HasAimed}
+use Rattle.ist_updates.specs.Refusals.{IsUpdateRefused}
+use Rattle.ist_updates.specs.Trying.{Tries, HasFoundNone, HasTakenEffect}
+use Rattle.ist_updates.proofs.AskedLemmas.{asked_quiet}
+use Rattle.ist_updates.proofs.BehindLemmas.{behind_loads}
+use Rattle.ist_updates.proofs.FurtherLemmas.{aimed_on}
+use Rattle.ist_updates.proofs.TriedLemmas.{ok_behind, err_behind, put_refused, remove_refused}
+
+-- ---- results
+
+-- an error isn't `Again`
+refused_again : (full : Full) → ◌≡◌ {A = Result Tried Full} (Err full) (Ok Again) → ⊥
+refused_again full e = cc
+
+-- a reply isn't `Again`
+took_again : (reply : Option ℕ) → ◌≡◌ {A = Result Tried Full} (Ok (Took reply)) (Ok Again) → ⊥
+took_again reply e = cc
+
+-- nothing to remove isn't `Again`
+nothing_again : ◌≡◌ {A = Result Tried Full} (Ok Nothing) (Ok Again) → ⊥
+nothing_again e = cc
+
+-- a missed value isn't `Again`
+unmet_again : ◌≡◌ {A = Result Tried Full} (Ok Unmet) (Ok Again) → ⊥
+unmet_again e = cc
+
+-- ---- a try without a step
+
+module _ (who : Caller) (aim : Aim) (value : Option ℕ) (words : ℕ) (s : IsSound who.seat.view)
+    (a : IsAsked who (command_for aim.key value)) where
+  ready : StaysReady Tries who who
+  ready =
+      ready_same Tries who s record {
+        caller = a.caller;
+        refused = a.refused;
+        quiet = asked_quiet who (command_for aim.key value) a;
+      }
+
+  -- the key has a value at which the update shouldn't take effect
+  pub unmet_tried : HasTried who aim value words (Ok Unmet) who
+  unmet_tried =
+      record { on = ready; told = a; full = tt; further = λ is. absurd (unmet_again is) }
+
+  -- there is nothing to remove
+  pub nothing_tried : value ≡ None → HasFoundNone who.seat.view aim.key
+      → HasTried who aim value words (Ok Nothing) who
+  nothing_tried none found =
+      record {
+        on = ready;
+        told = (none, found, a, refl);
+        full = tt;
+        further = λ is. absurd (nothing_again is);
+      }
+
+-- ---- a try with steps
+
+module _ (old new : Caller) (aim : Aim) (value : Option ℕ) (words : ℕ) where
+  abbrev command : Command
+  command = command_for aim.key value
+
+  -- the walk must begin again, and the table came further
+  pub again_tried : HasGone Tries old new → IsAsked new command
+      → ((first : View) → HasAimed first old.seat.view aim.node aim.index aim.word
+      → CameFurther first new.seat.view) → HasTried old aim value words (Ok Again) new
+  again_tried gone still further =
+      record {
+        on = record { gone = gone; quiet = asked_quiet new command still };
+        told = still;
+        full = tt;
+        further = λ is. further;
+      }
+
+  -- the table had too few words
+  pub refused_tried : (full : Full) → HasGone Tries old new
+      → IsTryRefused old aim.key value words full new → HasTried old aim value words (Err full) new
+  refused_tried full gone refused =
+      record {
+        on = record { gone = gone; quiet = asked_quiet new command refused.still };
+        told = tt;
+        full = refused;
+        further = λ is. absurd (refused_again full is);
+      }
+
+  -- a change of the slot was carried out or lost
+  pub changed_tried : (x : Way) (taken : Bool) (tried : Tried) (reply : Option ℕ)
+      → command_by aim.key x ≡ command → HasChanged old aim x words (Ok taken) new
+      → (taken ≡ true → tried ≡ Took reply) → (taken ≡ false → tried ≡ Again)
+      → value_at (now old.seat.view).pieces (ref_of aim.word) aim.key ≡ reply
+      → HasTried old aim value words (Ok tried) new
+  changed_tried x true tried reply is h took again told =
+      let v = old.seat.view in
+      subst (λ t. HasTried old aim value words (Ok t) new) (sym (took refl)) record {
+        on = h.on;
+        told = subst (HasTakenEffect v new.seat.view old.number command aim.node) told
+            (subst (λ k. HasTakenEffect v new.seat.view old.number k aim.node
+            (value_at (now v).pieces (ref_of aim.word) aim.key)) is (h.took refl));
+        full = tt;
+        further = λ e. absurd (took_again reply e);
+      }
+  changed_tried x false tried reply is h took again told =
+      subst (λ t. HasTried old aim value words (Ok t) new) (sym (again refl))
+      (again_tried h.on.gone (subst (IsAsked new) is (h.lost refl)) (h.further refl))
+
+  -- the table had too few words for a row of a put
+  pub put_unchanged : (x : Way) (full : Full) (given : ℕ) → value ≡ Some given
+      → command_by aim.key x ≡ command → HasChanged old aim x words (Err full) new
+      → (MayAskFor x full.asked → (full.asked ≡ leaf_words) ⊎ ((full.asked ≡ pair_words)
+      ⊎ (full.asked ≡ change_words))) → HasTried old aim value words (Err full) new
+  put_unchanged x full given put is h asks =
+      refused_tried full h.on.gone record {
+        still = subst (IsAsked new) is h.still;
+        cause = λ first began. subst (λ o. IsUpdateRefused first aim.key o words full new.seat.view)
+            (sym put) (put_refused first old.seat.view new.seat.view words full began h.full.short
+            aim.key given (asks h.full.asked));
+      }
+
+-- the table had too few words for the change of a remove
+pub remove_unchanged : (old new : Caller) (aim : Aim) (words : ℕ) (full : Full) (found : ℕ)
+    → HasChanged old aim way.Clear words (Err full) new
+    → (let v = old.seat.view in
+    Searched v.start v.words v.log aim.key v.loads.since aim.node (Some found))
+    → HasTried old aim None words (Err full) new
+remove_unchanged old new aim words full found h searched =
+    refused_tried old new aim None words full h.on.gone record {
+      still = h.still;
+      cause = λ first began. remove_refused first old.seat.view new.seat.view words full began
+          h.full.short aim.key aim.node found h.full.asked searched;
+    }
+
+-- ---- after loads
+
+-- a try after loads is a try that makes them first
+pub loads_tried : (old : Caller) (seat : SeatFace) (aim : Aim) (value : Option ℕ) (words : ℕ)
+    (r : Result Tried Full) (new : Caller) → IsAsked old (command_for aim.key value)
+    → GoesOnTo old.seat.view seat.view
+    → HasTried (record old { seat = seat }) aim value words r new
+    → HasTried old aim value words r new
+loads_tried old seat aim value words r new a g t =
+    record {
+      on = record {
+        gone = gone_more Tries old (record old { seat = seat }) new
+            (loads_gone Tries old seat a.caller a.refused g) t.on.gone;
+        quiet = t.on.quiet;
+      };
+      told = ok_behind old seat aim.key value a g aim.node new r t.told;
+      full = err_behind old seat aim.key value a g words new r t.full;
+      further = λ is first aimed. t.further is first
+          (aimed_on first old.seat.view seat.view aim.node aim.index aim.word aimed
+          (behind_loads old.seat.view seat.view g));
+    }

@@ -1,0 +1,133 @@
+-- One walk of a call, from the anchor, after walks of which none took effect: what the call has by
+-- each of its results. Serves `walk_to_end`.
+use Rattle.std.proofs.Common.{◌≡◌, ◌≢◌, ◌+◌, ◌≤◌, ℕ, Option, sym, subst}
+use Rattle.std.specs.Prelude.{IfErr, IsErrAnd, Ok, Err, Result}
+use Rattle.ist_core.specs.declared.commands.Command.{Command}
+use Rattle.ist_core.specs.declared.ports.Full.{Full}
+use Rattle.ist_core.specs.RowLayout.{anchor}
+use Rattle.ist_rule.specs.Conditions.{CanGiveUp}
+use Rattle.ist_rule.specs.Faces.{SeatFace}
+use Rattle.ist_rule.specs.Learning.{Turned, searching}
+use Rattle.ist_rule.proofs.WentOnLemmas.{later_by-goes_on}
+use Rattle.laws_progress.specs.Progress.{progress}
+use Rattle.ist_rows.specs.declared.callers.Caller.{Caller}
+use Rattle.ist_updates.specs.declared.updates.Applied.{Applied}
+use Rattle.ist_updates.specs.declared.updates.When.{When}
+use Rattle.ist_updates.specs.declared.walking.Walked.{Walked}
+use Rattle.ist_updates.specs.declared.walking.Walked.TheVariants.{Took, Again}
+use Rattle.ist_updates.specs.Asking.{Updates, command_for, IsAsked}
+use Rattle.ist_updates.specs.Ending.{IsWalk, HasTakenNone, HasDone, HasEnded}
+use Rattle.ist_updates.specs.Refusals.{WasRefused}
+use Rattle.ist_updates.specs.Walking.{IsAskedAgain, IsAskedStill, HasWalked}
+use Rattle.ist_updates.proofs.ApplyingLemmas.{HasBegun, all_searched, begun_walk, still_on, refused_first, still_counted, still_due, took_is_counted, took_ends, took_due, nothing_told}
+use Rattle.ist_updates.proofs.MissLemmas.{missed_since}
+use Rattle.ist_updates.proofs.ResultLemmas.{err_walked, ok_walked}
+use Rattle.ist_updates.proofs.WalkCountLemmas.{few_on}
+
+-- a caller that is asked may give its call up
+may_give_up : (who : Caller) (command : Command) → IsAsked who command → CanGiveUp who.seat.view
+may_give_up who command a =
+    record {
+      number = who.number;
+      mine = a.caller.mine;
+      pending = a.pending;
+      in_call = a.in_call;
+      resolved = a.resolved;
+      none = a.none_yet;
+    }
+
+module _ (old who : Caller) (seat : SeatFace) (key : ℕ) (value : Option ℕ)
+    (a : IsAsked old (command_for key value)) (number : who.number ≡ old.number)
+    (s : IsAskedAgain old who (command_for key value))
+    (t : Turned who.seat.view (searching who.seat.view) seat.view) where
+  abbrev there : Caller
+  there = record who { seat = seat }
+
+  -- the walk begins at the anchor
+  pub turn_begun : HasBegun old there key (command_for key value)
+  turn_begun = begun_walk old who seat key (command_for key value) number s t
+
+  module _ (when : When) (words : ℕ) (new : Caller) where
+    -- after a walk that must begin again the call is as before it
+    pub turned_again : (x : Walked) → x ≡ Again → IsWalk there key value when anchor words (Ok x) new
+        → IsAskedAgain old new (command_for key value)
+    turned_again x is h =
+        still_on old there key value a turn_begun new
+        (subst (λ y. HasWalked there key value anchor words (Ok y) new) is h.walked)
+
+    -- a caller that is still asked after the walk took no effect in the whole call
+    left : IsAskedStill there new (command_for key value) → HasTakenNone old new
+    left h =
+        record {
+          given_up = may_give_up new (command_for key value) h.asked;
+          due = still_due old there key value a turn_begun new h;
+          nowhere = still_counted old there key value a turn_begun new h;
+        }
+
+    -- one that took effect has done what it was asked
+    done_by : (done : Applied) → IsWalk there key value when anchor words (Ok (Took done)) new
+        → HasDone old key value done new
+    done_by done h =
+        let b = turn_begun in let on = h.on.gone in
+        record {
+          ends = took_ends old there key value a b new words done on.went h.walked on.caller
+              on.number h.on.quiet;
+          counted = took_is_counted old there key value a b new words done on.went h.walked;
+          due = took_due old there key value a b new words done on.went h.walked;
+        }
+
+    -- one that was refused took no effect
+    refused_by : (r : Result Walked Full) → IsWalk there key value when anchor words r new
+        → IfErr r (λ full. WasRefused old.seat.view key value words full new.seat.view
+        × HasTakenNone old new)
+    refused_by (Ok x) h = tt
+    refused_by (Err full) h = (
+      refused_first old there key value a turn_begun words full new h.walked.1 h.on.gone.went,
+      left h.walked.0,
+    )
+
+    ended_by : (r : Result Walked Full) → IsWalk there key value when anchor words r new
+        → r ≢ Ok Again
+        → who.seat.view.searches + progress old.seat.view.log
+        ≤ old.seat.view.searches + progress who.seat.view.log
+        → HasEnded old key value when words r new
+    ended_by r h last paid =
+        let b = turn_begun in
+        let on = h.on.gone in
+        record {
+          went = all_searched old there key value a b new on.went;
+          few_walks = few_on old.seat.view who.seat.view seat.view new.seat.view paid t on.went;
+          last = last;
+          took = λ done is. done_by done
+              (subst (λ x. IsWalk there key value when anchor words x new) is h);
+          nothing = λ is.
+              let k = subst (λ x. HasWalked there key value anchor words x new) is h.walked in (
+                k.1.remove,
+                nothing_told old there key value a b new k.0 k.1 on.caller on.number h.on.quiet,
+                left k.0,
+              );
+          unmet = λ is. (
+            missed_since Updates old.seat.view seat.view new.seat.view key when
+                (later_by-goes_on b.went.went.later) b.since on.went (h.missed is),
+            left (subst (λ x. HasWalked there key value anchor words x new) is h.walked),
+          );
+          refused = refused_by r h;
+        }
+
+    -- a walk that needn't begin again gives the call what its result says
+    pub turned : (x : Walked) → IsWalk there key value when anchor words (Ok x) new → x ≢ Again
+        → who.seat.view.searches + progress old.seat.view.log
+        ≤ old.seat.view.searches + progress who.seat.view.log
+        → HasEnded old key value when words (Ok x) new
+    turned x h last paid = ended_by (Ok x) h (λ e. last (ok_walked x Again e)) paid
+
+    -- so does one that was refused
+    pub turned_refused : (r : Result Walked Full) (full : Full) → IsErrAnd r (λ x. x ≡ full)
+        → IsWalk there key value when anchor words (Err full) new
+        → who.seat.view.searches + progress old.seat.view.log
+        ≤ old.seat.view.searches + progress who.seat.view.log
+        → HasEnded old key value when words r new
+    turned_refused (Ok x) full same h paid = absurd same
+    turned_refused (Err e) full same h paid =
+        subst (λ x. HasEnded old key value when words (Err x) new) (sym same)
+        (ended_by (Err full) h (λ e. err_walked full Again e) paid)
