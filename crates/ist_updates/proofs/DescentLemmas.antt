@@ -86,15 +86,15 @@ module _ {old : Caller} {seat : SeatFace} {key : ℕ} {value : Option ℕ} {node
         low = low;
       }
 
-  module _ (when : When) (words : ℕ) where
+  module _ {when : When} {words : ℕ} where
     -- a walk that ends at the node
-    pub here_walk : (r : Result Walked Full) (new : Caller) → StaysReady Updates there new
+    pub here_walk : {r : Result Walked Full} {new : Caller} → StaysReady Updates there new
         → HasWalked there key value node words r new
         → (r ≡ Ok Again → (first : View) → IsFreshNode first seat.view node
         → CameFurther first new.seat.view)
         → IfOk r (IsWalkMet when) → (r ≡ Ok Unmet → HasMissed seat.view new.seat.view key when)
         → IsWalk old key value when node words r new
-    here_walk r new on walked further met missed =
+    here_walk {r} {new} on walked further met missed =
         record {
           on = on_before old seat s.seen Updates new on;
           walked = walked_here old seat s.seen key value node words r new s.stays walked;
@@ -106,7 +106,7 @@ module _ {old : Caller} {seat : SeatFace} {key : ℕ} {value : Option ℕ} {node
               (missed is);
         }
 
-    module _ (row : ℕ) (is : ref_of word ≡ Some (InnerAt row)) where
+    module _ {row : ℕ} (is : ref_of word ≡ Some (InnerAt row)) where
       none_walk : (r : Result Walked Full) (new : Caller) → ((done : Applied) → r ≢ Ok (Took done))
           → IsWalk there key value when row words r new → IsWalk old key value when node words r new
       none_walk r new none h =
@@ -125,26 +125,26 @@ module _ {old : Caller} {seat : SeatFace} {key : ℕ} {value : Option ℕ} {node
           }
 
       -- a walk that goes on from a row below and takes no effect
-      pub below_walk : (x : Walked) (new : Caller) → ((done : Applied) → x ≢ Took done)
+      pub below_walk : {x : Walked} {new : Caller} → ((done : Applied) → x ≢ Took done)
           → IsWalk there key value when row words (Ok x) new
           → IsWalk old key value when node words (Ok x) new
-      below_walk x new none h =
+      below_walk {x} {new} none h =
           none_walk (Ok x) new (λ done e. none done (ok_walked x (Took done) e)) h
 
       -- a walk that goes on from a row below and is refused
-      pub refused_walk : (r : Result Walked Full) (full : Full) (new : Caller)
+      pub refused_walk : (r : Result Walked Full) {full : Full} {new : Caller}
           → IsErrAnd r (λ x. x ≡ full) → IsWalk there key value when row words (Err full) new
           → IsWalk old key value when node words r new
-      refused_walk (Ok x) full new same h = absurd same
-      refused_walk (Err e) full new same h =
+      refused_walk (Ok x) {full} {new} same h = absurd same
+      refused_walk (Err e) {full} {new} same h =
           subst (λ x. IsWalk old key value when node words (Err x) new) (sym same)
           (none_walk (Err full) new (λ done e. err_walked full (Took done) e) h)
 
       -- a walk that goes on from a row below and takes effect
-      pub come_back : (x : Walked) (below : Applied) (second : Caller) → x ≡ Took below
+      pub come_back : {x : Walked} {below : Applied} {second : Caller} → x ≡ Took below
           → IsWalk there key value when row words (Ok x) second
           → HasComeBack old key value when node index row words below second
-      come_back x below second took h =
+      come_back {x} {below} {second} took h =
           let took_is : ◌≡◌ {A = Result Walked Full} (Ok x) (Ok (Took below)) = ap Ok took in
           let on = h.on.gone in
           let walked = subst (λ r. IsWalk there key value when row words r second) took_is h in

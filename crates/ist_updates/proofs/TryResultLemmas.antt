@@ -106,33 +106,38 @@ module _ (old new : Caller) (aim : Aim) (value : Option ℕ) (words : ℕ) where
         further = λ is. absurd (refused_again full is);
       }
 
-  -- a change of the slot was carried out or lost
-  pub changed_tried : (x : Way) (taken : Bool) (tried : Tried) (reply : Option ℕ)
-      → command_by aim.key x ≡ command → HasChanged old aim x words (Ok taken) new
+-- ---- a try by a change of the slot
+
+module _ {old new : Caller} {aim : Aim} {x : Way} {words : ℕ} where
+  -- the change was carried out or lost
+  pub changed_tried : (value : Option ℕ) {taken : Bool} (tried : Tried) (reply : Option ℕ)
+      → command_by aim.key x ≡ command_for aim.key value → HasChanged old aim x words (Ok taken) new
       → (taken ≡ true → tried ≡ Took reply) → (taken ≡ false → tried ≡ Again)
       → value_at (now old.seat.view).pieces (ref_of aim.word) aim.key ≡ reply
       → HasTried old aim value words (Ok tried) new
-  changed_tried x true tried reply is h took again told =
+  changed_tried value {taken = true} tried reply is h took again told =
       let v = old.seat.view in
       subst (λ t. HasTried old aim value words (Ok t) new) (sym (took refl)) record {
         on = h.on;
-        told = subst (HasTakenEffect v new.seat.view old.number command aim.node) told
+        told = subst (HasTakenEffect v new.seat.view old.number (command_for aim.key value) aim.node)
+            told
             (subst (λ k. HasTakenEffect v new.seat.view old.number k aim.node
             (value_at (now v).pieces (ref_of aim.word) aim.key)) is (h.took refl));
         full = tt;
         further = λ e. absurd (took_again reply e);
       }
-  changed_tried x false tried reply is h took again told =
+  changed_tried value {taken = false} tried reply is h took again told =
       subst (λ t. HasTried old aim value words (Ok t) new) (sym (again refl))
-      (again_tried h.on.gone (subst (IsAsked new) is (h.lost refl)) (h.further refl))
+      (again_tried old new aim value words h.on.gone (subst (IsAsked new) is (h.lost refl))
+      (h.further refl))
 
   -- the table had too few words for a row of a put
-  pub put_unchanged : (x : Way) (full : Full) (given : ℕ) → value ≡ Some given
-      → command_by aim.key x ≡ command → HasChanged old aim x words (Err full) new
+  pub put_unchanged : {full : Full} (value : Option ℕ) (given : ℕ) → value ≡ Some given
+      → command_by aim.key x ≡ command_for aim.key value → HasChanged old aim x words (Err full) new
       → (MayAskFor x full.asked → (full.asked ≡ leaf_words) ⊎ ((full.asked ≡ pair_words)
       ⊎ (full.asked ≡ change_words))) → HasTried old aim value words (Err full) new
-  put_unchanged x full given put is h asks =
-      refused_tried full h.on.gone record {
+  put_unchanged {full} value given put is h asks =
+      refused_tried old new aim value words full h.on.gone record {
         still = subst (IsAsked new) is h.still;
         cause = λ first began. subst (λ o. IsUpdateRefused first aim.key o words full new.seat.view)
             (sym put) (put_refused first old.seat.view new.seat.view words full began h.full.short
@@ -140,12 +145,12 @@ module _ (old new : Caller) (aim : Aim) (value : Option ℕ) (words : ℕ) where
       }
 
 -- the table had too few words for the change of a remove
-pub remove_unchanged : (old new : Caller) (aim : Aim) (words : ℕ) (full : Full) (found : ℕ)
+pub remove_unchanged : {old new : Caller} {aim : Aim} {words : ℕ} {full : Full} (found : ℕ)
     → HasChanged old aim way.Clear words (Err full) new
     → (let v = old.seat.view in
     Searched v.start v.words v.log aim.key v.loads.since aim.node (Some found))
     → HasTried old aim None words (Err full) new
-remove_unchanged old new aim words full found h searched =
+remove_unchanged {old} {new} {aim} {words} {full} found h searched =
     refused_tried old new aim None words full h.on.gone record {
       still = h.still;
       cause = λ first began. remove_refused first old.seat.view new.seat.view words full began
@@ -155,12 +160,12 @@ remove_unchanged old new aim words full found h searched =
 -- ---- after loads
 
 -- a try after loads is a try that makes them first
-pub loads_tried : (old : Caller) (seat : SeatFace) (aim : Aim) (value : Option ℕ) (words : ℕ)
-    (r : Result Tried Full) (new : Caller) → IsAsked old (command_for aim.key value)
+pub loads_tried : (old : Caller) (seat : SeatFace) {aim : Aim} {value : Option ℕ} {words : ℕ}
+    {r : Result Tried Full} {new : Caller} → IsAsked old (command_for aim.key value)
     → GoesOnTo old.seat.view seat.view
     → HasTried (record old { seat = seat }) aim value words r new
     → HasTried old aim value words r new
-loads_tried old seat aim value words r new a g t =
+loads_tried old seat {aim} {value} {words} {r} {new} a g t =
     record {
       on = record {
         gone = gone_more Tries old (record old { seat = seat }) new

@@ -1,6 +1,6 @@
 -- One walk of a call, from the anchor, after walks of which none took effect: what the call has by
 -- each of its results. Serves `walk_to_end`.
-use Rattle.std.proofs.Common.{◌≡◌, ◌≢◌, ◌+◌, ◌≤◌, ℕ, Option, sym, subst}
+use Rattle.std.proofs.Common.{◌≡◌, ◌≢◌, ◌+◌, ◌≤◌, ℕ, Option, sym, ap, subst}
 use Rattle.std.specs.Prelude.{IfErr, IsErrAnd, Ok, Err, Result}
 use Rattle.ist_core.specs.declared.commands.Command.{Command}
 use Rattle.ist_core.specs.declared.ports.Full.{Full}
@@ -10,6 +10,7 @@ use Rattle.ist_rule.specs.Faces.{SeatFace}
 use Rattle.ist_rule.specs.Learning.{Turned, searching}
 use Rattle.ist_rule.proofs.WentOnLemmas.{later_by-goes_on}
 use Rattle.laws_progress.specs.Progress.{progress}
+use Rattle.laws_coming.specs.Further.{CameFurther}
 use Rattle.ist_rows.specs.declared.callers.Caller.{Caller}
 use Rattle.ist_updates.specs.declared.updates.Applied.{Applied}
 use Rattle.ist_updates.specs.declared.updates.When.{When}
@@ -20,9 +21,10 @@ use Rattle.ist_updates.specs.Ending.{IsWalk, HasTakenNone, HasDone, HasEnded}
 use Rattle.ist_updates.specs.Refusals.{WasRefused}
 use Rattle.ist_updates.specs.Walking.{IsAskedAgain, IsAskedStill, HasWalked}
 use Rattle.ist_updates.proofs.ApplyingLemmas.{HasBegun, all_searched, begun_walk, still_on, refused_first, still_counted, still_due, took_is_counted, took_ends, took_due, nothing_told}
+use Rattle.ist_updates.proofs.FurtherLemmas.{begun_fresh}
 use Rattle.ist_updates.proofs.MissLemmas.{missed_since}
 use Rattle.ist_updates.proofs.ResultLemmas.{err_walked, ok_walked}
-use Rattle.ist_updates.proofs.WalkCountLemmas.{few_on}
+use Rattle.ist_updates.proofs.WalkCountLemmas.{few_on, paid_on}
 
 -- a caller that is asked may give its call up
 may_give_up : (who : Caller) (command : Command) → IsAsked who command → CanGiveUp who.seat.view
@@ -36,98 +38,118 @@ may_give_up who command a =
       none = a.none_yet;
     }
 
-module _ (old who : Caller) (seat : SeatFace) (key : ℕ) (value : Option ℕ)
-    (a : IsAsked old (command_for key value)) (number : who.number ≡ old.number)
-    (s : IsAskedAgain old who (command_for key value))
-    (t : Turned who.seat.view (searching who.seat.view) seat.view) where
+-- a walk of the call begins, after walks of which none took effect and which progress paid for
+pub record IsTurn (old who : Caller) (seat : SeatFace) (key : ℕ) (value : Option ℕ) : Type 0 where
+  pub asked : IsAsked old (command_for key value)
+  pub number : who.number ≡ old.number
+  pub again : IsAskedAgain old who (command_for key value)
+  pub paid : who.seat.view.searches + progress old.seat.view.log
+      ≤ old.seat.view.searches + progress who.seat.view.log
+  pub turned : Turned who.seat.view (searching who.seat.view) seat.view
+
+module _ {old who : Caller} {seat : SeatFace} {key : ℕ} {value : Option ℕ}
+    (b : IsTurn old who seat key value) where
   abbrev there : Caller
   there = record who { seat = seat }
 
-  -- the walk begins at the anchor
+  -- it begins at the anchor
   pub turn_begun : HasBegun old there key (command_for key value)
-  turn_begun = begun_walk old who seat key (command_for key value) number s t
+  turn_begun = begun_walk old who seat key (command_for key value) b.number b.again b.turned
 
-  module _ (when : When) (words : ℕ) (new : Caller) where
+  -- a caller that is still asked after the walk took no effect in the whole call
+  left : (new : Caller) → IsAskedStill there new (command_for key value) → HasTakenNone old new
+  left new h =
+      record {
+        given_up = may_give_up new (command_for key value) h.asked;
+        due = still_due old there key value b.asked turn_begun new h;
+        nowhere = still_counted old there key value b.asked turn_begun new h;
+      }
+
+  module _ {when : When} {words : ℕ} {new : Caller} where
+    -- ---- if it must begin again
+
     -- after a walk that must begin again the call is as before it
-    pub turned_again : (x : Walked) → x ≡ Again → IsWalk there key value when anchor words (Ok x) new
+    pub again_asked : {x : Walked} → x ≡ Again → IsWalk there key value when anchor words (Ok x) new
         → IsAskedAgain old new (command_for key value)
-    turned_again x is h =
-        still_on old there key value a turn_begun new
+    again_asked is h =
+        still_on old there key value b.asked turn_begun new
         (subst (λ y. HasWalked there key value anchor words (Ok y) new) is h.walked)
 
-    -- a caller that is still asked after the walk took no effect in the whole call
-    left : IsAskedStill there new (command_for key value) → HasTakenNone old new
-    left h =
-        record {
-          given_up = may_give_up new (command_for key value) h.asked;
-          due = still_due old there key value a turn_begun new h;
-          nowhere = still_counted old there key value a turn_begun new h;
-        }
+    -- and the table came further
+    pub again_further : {x : Walked} → x ≡ Again
+        → IsWalk there key value when anchor words (Ok x) new
+        → CameFurther who.seat.view new.seat.view
+    again_further is h =
+        h.further (ap Ok is) who.seat.view (begun_fresh who.seat.view seat.view b.turned)
 
-    -- one that took effect has done what it was asked
+    -- which pays for it
+    pub again_paid : {x : Walked} → x ≡ Again → IsWalk there key value when anchor words (Ok x) new
+        → new.seat.view.searches + progress old.seat.view.log
+        ≤ old.seat.view.searches + progress new.seat.view.log
+    again_paid is h =
+        paid_on old.seat.view who.seat.view seat.view new.seat.view b.paid b.turned h.on.gone.went
+        (again_further is h)
+
+    -- ---- if it needn't
+
+    -- if it took effect, the caller has done what it was asked
     done_by : (done : Applied) → IsWalk there key value when anchor words (Ok (Took done)) new
         → HasDone old key value done new
     done_by done h =
-        let b = turn_begun in let on = h.on.gone in
+        let a = b.asked in let t = turn_begun in let on = h.on.gone in
         record {
-          ends = took_ends old there key value a b new words done on.went h.walked on.caller
+          ends = took_ends old there key value a t new words done on.went h.walked on.caller
               on.number h.on.quiet;
-          counted = took_is_counted old there key value a b new words done on.went h.walked;
-          due = took_due old there key value a b new words done on.went h.walked;
+          counted = took_is_counted old there key value a t new words done on.went h.walked;
+          due = took_due old there key value a t new words done on.went h.walked;
         }
 
-    -- one that was refused took no effect
+    -- if it was refused, it took no effect
     refused_by : (r : Result Walked Full) → IsWalk there key value when anchor words r new
         → IfErr r (λ full. WasRefused old.seat.view key value words full new.seat.view
         × HasTakenNone old new)
     refused_by (Ok x) h = tt
     refused_by (Err full) h = (
-      refused_first old there key value a turn_begun words full new h.walked.1 h.on.gone.went,
-      left h.walked.0,
+      refused_first old there key value b.asked turn_begun words full new h.walked.1 h.on.gone.went,
+      left new h.walked.0,
     )
 
     ended_by : (r : Result Walked Full) → IsWalk there key value when anchor words r new
-        → r ≢ Ok Again
-        → who.seat.view.searches + progress old.seat.view.log
-        ≤ old.seat.view.searches + progress who.seat.view.log
-        → HasEnded old key value when words r new
-    ended_by r h last paid =
-        let b = turn_begun in
+        → r ≢ Ok Again → HasEnded old key value when words r new
+    ended_by r h last =
+        let t = turn_begun in
         let on = h.on.gone in
         record {
-          went = all_searched old there key value a b new on.went;
-          few_walks = few_on old.seat.view who.seat.view seat.view new.seat.view paid t on.went;
+          went = all_searched old there key value b.asked t new on.went;
+          few_walks = few_on old.seat.view who.seat.view seat.view new.seat.view b.paid b.turned
+              on.went;
           last = last;
           took = λ done is. done_by done
               (subst (λ x. IsWalk there key value when anchor words x new) is h);
           nothing = λ is.
               let k = subst (λ x. HasWalked there key value anchor words x new) is h.walked in (
                 k.1.remove,
-                nothing_told old there key value a b new k.0 k.1 on.caller on.number h.on.quiet,
-                left k.0,
+                nothing_told old there key value b.asked t new k.0 k.1 on.caller on.number h.on.quiet,
+                left new k.0,
               );
           unmet = λ is. (
             missed_since Updates old.seat.view seat.view new.seat.view key when
-                (later_by-goes_on b.went.went.later) b.since on.went (h.missed is),
-            left (subst (λ x. HasWalked there key value anchor words x new) is h.walked),
+                (later_by-goes_on t.went.went.later) t.since on.went (h.missed is),
+            left new (subst (λ x. HasWalked there key value anchor words x new) is h.walked),
           );
           refused = refused_by r h;
         }
 
     -- a walk that needn't begin again gives the call what its result says
-    pub turned : (x : Walked) → IsWalk there key value when anchor words (Ok x) new → x ≢ Again
-        → who.seat.view.searches + progress old.seat.view.log
-        ≤ old.seat.view.searches + progress who.seat.view.log
+    pub turn_ends : {x : Walked} → IsWalk there key value when anchor words (Ok x) new → x ≢ Again
         → HasEnded old key value when words (Ok x) new
-    turned x h last paid = ended_by (Ok x) h (λ e. last (ok_walked x Again e)) paid
+    turn_ends {x} h last = ended_by (Ok x) h (λ e. last (ok_walked x Again e))
 
     -- so does one that was refused
-    pub turned_refused : (r : Result Walked Full) (full : Full) → IsErrAnd r (λ x. x ≡ full)
+    pub turn_refused : (r : Result Walked Full) {full : Full} → IsErrAnd r (λ x. x ≡ full)
         → IsWalk there key value when anchor words (Err full) new
-        → who.seat.view.searches + progress old.seat.view.log
-        ≤ old.seat.view.searches + progress who.seat.view.log
         → HasEnded old key value when words r new
-    turned_refused (Ok x) full same h paid = absurd same
-    turned_refused (Err e) full same h paid =
+    turn_refused (Ok x) {full} same h = absurd same
+    turn_refused (Err e) {full} same h =
         subst (λ x. HasEnded old key value when words (Err x) new) (sym same)
-        (ended_by (Err full) h (λ e. err_walked full Again e) paid)
+        (ended_by (Err full) h (λ e. err_walked full Again e))

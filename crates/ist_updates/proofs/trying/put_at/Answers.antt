@@ -1,7 +1,6 @@
 use Rattle.std.proofs.Common.{Some, None, refl, rules}
 use Rattle.ist_core.specs.Installing.{same_key}
 use Rattle.ist_rule.specs.Learning.{now}
-use Rattle.ist_updates.specs.declared.plans.Way.TheVariants as way
 use Rattle.ist_updates.proofs.LeafLemmas.{own_value, other_value}
 use Rattle.ist_updates.proofs.TryResultLemmas.{changed_tried, put_unchanged}
 use Rattle.ist_updates.proofs.trying.put_at.Goals as goal
@@ -18,14 +17,12 @@ change_slot-requires-clause-room c =
 -- the put was over a leaf of the key
 pub returns-in_err-taken-clause-tried : goal.returns-in_err-taken-clause-tried
 returns-in_err-taken-clause-tried c =
-    let h = put_unchanged c.args.who.now c.change_slot.new.who c.args.aim (Some c.args.value) _
-    (way.Leaf c.args.value) _ c.args.value refl refl c.in_err-taken.ensures.changed (λ k. k) in
+    let h = put_unchanged (Some c.args.value) _ refl refl c.in_err-taken.ensures.changed (λ k. k) in
     search rules
 
 pub returns-then-leaf-aim-clause-tried : goal.returns-then-leaf-aim-clause-tried
 returns-then-leaf-aim-clause-tried c =
-    changed_tried c.args.who.now c.change_slot.new.who c.args.aim (Some c.args.value) _
-    (way.Leaf c.args.value) c.in_ok-taken.taken c.answer.result (Some c.args.leaf.value) refl
+    changed_tried (Some c.args.value) c.answer.result (Some c.args.leaf.value) refl
     c.in_ok-taken.ensures.changed c.answer.ensures.took c.answer.ensures.again
     (own_value (now c.args.who.now.seat.view).pieces c.args.base c.args.aim.key c.args.aim.word
     c.args.leaf c.requires.leaf c.requires.stands c.if-leaf-aim.true)
@@ -33,15 +30,12 @@ returns-then-leaf-aim-clause-tried c =
 -- or beside one of another key
 pub returns-in_err-beside-clause-tried : goal.returns-in_err-beside-clause-tried
 returns-in_err-beside-clause-tried c =
-    let h = put_unchanged c.args.who.now c.change_slot-2.new.who c.args.aim (Some c.args.value) _
-    (way.Pair c.args.value c.args.base c.args.leaf.key) _ c.args.value refl refl
-    c.in_err-beside.ensures.changed (λ k. k) in
+    let h = put_unchanged (Some c.args.value) _ refl refl c.in_err-beside.ensures.changed (λ k. k) in
     search rules
 
 pub returns-clause-tried : goal.returns-clause-tried
 returns-clause-tried c =
-    changed_tried c.args.who.now c.change_slot-2.new.who c.args.aim (Some c.args.value) _
-    (way.Pair c.args.value c.args.base c.args.leaf.key) c.in_ok-beside.beside c.answer-2.result None
-    refl c.in_ok-beside.ensures.changed c.answer-2.ensures.took c.answer-2.ensures.again
+    changed_tried (Some c.args.value) c.answer-2.result None refl c.in_ok-beside.ensures.changed
+    c.answer-2.ensures.took c.answer-2.ensures.again
     (other_value (now c.args.who.now.seat.view).pieces c.args.base c.args.aim.key c.args.aim.word
     c.args.leaf c.requires.leaf c.requires.stands c.if-leaf-aim.false)

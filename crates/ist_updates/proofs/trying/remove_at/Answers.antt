@@ -1,6 +1,5 @@
 use Rattle.std.proofs.Common.{Some, None, refl, rules}
 use Rattle.ist_rule.specs.Learning.{now}
-use Rattle.ist_updates.specs.declared.plans.Way.TheVariants as way
 use Rattle.ist_updates.proofs.LeafLemmas.{own_value}
 use Rattle.ist_updates.proofs.TriedLemmas.{found_other, found_key}
 use Rattle.ist_updates.proofs.TryResultLemmas.{changed_tried, nothing_tried, remove_unchanged}
@@ -16,8 +15,7 @@ returns-then-leaf-aim-clause-tried c =
 -- the change's row was refused
 pub returns-in_err-removed-clause-tried : goal.returns-in_err-removed-clause-tried
 returns-in_err-removed-clause-tried c =
-    let h = remove_unchanged c.args.who.now c.change_slot.new.who c.args.aim _ _ c.args.leaf.value
-    c.in_err-removed.ensures.changed
+    let h = remove_unchanged c.args.leaf.value c.in_err-removed.ensures.changed
     (found_key _ c.args.aim c.requires.at_slot c.args.base c.args.leaf c.requires.leaf
     c.requires.stands c.if-leaf-aim.false) in
     search rules
@@ -25,8 +23,7 @@ returns-in_err-removed-clause-tried c =
 -- the remove was carried out or lost
 pub returns-clause-tried : goal.returns-clause-tried
 returns-clause-tried c =
-    changed_tried c.args.who.now c.change_slot.new.who c.args.aim None _ way.Clear
-    c.in_ok-removed.removed c.answer.result (Some c.args.leaf.value) refl
-    c.in_ok-removed.ensures.changed c.answer.ensures.took c.answer.ensures.again
+    changed_tried None c.answer.result (Some c.args.leaf.value) refl c.in_ok-removed.ensures.changed
+    c.answer.ensures.took c.answer.ensures.again
     (own_value (now c.args.who.now.seat.view).pieces c.args.base c.args.aim.key c.args.aim.word
     c.args.leaf c.requires.leaf c.requires.stands c.if-leaf-aim.false)

@@ -2,7 +2,6 @@ use Rattle.std.proofs.Common.{None, ap, refl, sym, rules}
 use Rattle.ist_core.specs.Changes.{value_at}
 use Rattle.ist_rule.specs.Learning.{now}
 use Rattle.ist_rule.proofs.GoingOnLemmas.{goes_on_same}
-use Rattle.ist_updates.specs.declared.plans.Way.TheVariants as way
 use Rattle.ist_updates.specs.Asking.{command_for}
 use Rattle.ist_updates.proofs.MissLemmas.{none_missed}
 use Rattle.ist_updates.proofs.TriedLemmas.{found_nothing}
@@ -22,16 +21,14 @@ returns-then-not-meets-clause-missed c e =
 -- a put
 pub returns-in_err-taken-in-Some-clause-tried : goal.returns-in_err-taken-in-Some-clause-tried
 returns-in_err-taken-in-Some-clause-tried c =
-    let h = put_unchanged c.args.who.now c.change_slot.new.who c.args.aim c.args.value _
-    (way.Leaf c.in-Some.value) _ c.in-Some.value c.in-Some.is
+    let h = put_unchanged c.args.value c.in-Some.value c.in-Some.is
     (ap (command_for c.args.aim.key) (sym c.in-Some.is)) c.in_err-taken-in-Some.ensures.changed
     (λ k. k) in
     search rules
 
 pub returns-in_ok-taken-in-Some-clause-tried : goal.returns-in_ok-taken-in-Some-clause-tried
 returns-in_ok-taken-in-Some-clause-tried c =
-    changed_tried c.args.who.now c.change_slot.new.who c.args.aim c.args.value _
-    (way.Leaf c.in-Some.value) c.in_ok-taken-in-Some.taken c.answer.result None
+    changed_tried c.args.value c.answer.result None
     (ap (command_for c.args.aim.key) (sym c.in-Some.is)) c.in_ok-taken-in-Some.ensures.changed
     c.answer.ensures.took c.answer.ensures.again
     (ap (λ r. value_at (now c.args.who.now.seat.view).pieces r c.args.aim.key) c.requires.empty)

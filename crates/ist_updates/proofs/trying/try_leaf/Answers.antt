@@ -21,9 +21,8 @@ try_read-requires-clause-at_slot c =
 
 pub returns-clause-tried : goal.returns-clause-tried
 returns-clause-tried c =
-    loads_tried c.args.who.now c.read_leaf-leaf.new.seat c.args.aim c.args.value _
-    c.try_read.result c.try_read.new.who c.requires.asked c.read_leaf-leaf.ensures.seen
-    c.try_read.ensures.tried
+    loads_tried c.args.who.now c.read_leaf-leaf.new.seat c.requires.asked
+    c.read_leaf-leaf.ensures.seen c.try_read.ensures.tried
 
 pub returns-clause-missed : goal.returns-clause-missed
 returns-clause-missed c is =

@@ -40,7 +40,7 @@ pub returns-in_default-clause-walk : goal.returns-in_default-clause-walk
 returns-in_default-clause-walk t c =
     let e = c.try_at.ensures in
     here_walk (down t (goal.at.returns-in_default-clause-walk t c).After-step_down-child)
-    c.args.when _ c.try_at.result c.try_at.new.who e.on e.walked e.further e.met e.missed
+    e.on e.walked e.further e.met e.missed
 
 -- ---- if it goes on from a row
 
@@ -61,33 +61,29 @@ descend-requires t c =
 pub returns-in_err-other-clause-walk : goal.returns-in_err-other-clause-walk
 returns-in_err-other-clause-walk t c =
     refused_walk (down t (goal.at.returns-in_err-other-clause-walk t c).After-step_down-child)
-    c.args.when _ c.in-Some.row (c.inner_in.ensures.inner _ c.in-Some.is) c.from_residual.result _
-    c.descend.new.who c.from_residual.ensures.1 c.in_err-other.ensures.walk
+    (c.inner_in.ensures.inner _ c.in-Some.is) c.from_residual.result c.from_residual.ensures.1
+    c.in_err-other.ensures.walk
 
 -- if the walk from there took effect
 pub count_update-done-requires-clause-can : goal.count_update-done-requires-clause-can
 count_update-done-requires-clause-can t c =
     (come_back (down t (goal.at.count_update-done-requires-clause-can t c).After-step_down-child)
-    c.args.when _ c.in-Some.row (c.inner_in.ensures.inner _ c.in-Some.is) c.in_ok-other.other
-    c.in-Took.below c.descend.new.who c.in-Took.is c.in_ok-other.ensures.walk).can
+    (c.inner_in.ensures.inner _ c.in-Some.is) c.in-Took.is c.in_ok-other.ensures.walk).can
 
 pub count_update-done-requires-clause-stood : goal.count_update-done-requires-clause-stood
 count_update-done-requires-clause-stood t c =
     (come_back (down t (goal.at.count_update-done-requires-clause-stood t c).After-step_down-child)
-    c.args.when _ c.in-Some.row (c.inner_in.ensures.inner _ c.in-Some.is) c.in_ok-other.other
-    c.in-Took.below c.descend.new.who c.in-Took.is c.in_ok-other.ensures.walk).stood
+    (c.inner_in.ensures.inner _ c.in-Some.is) c.in-Took.is c.in_ok-other.ensures.walk).stood
 
 pub returns-in-Took-clause-walk : goal.returns-in-Took-clause-walk
 returns-in-Took-clause-walk t c =
     let e = c.count_update-done.ensures in
     (come_back (down t (goal.at.returns-in-Took-clause-walk t c).After-step_down-child)
-    c.args.when _ c.in-Some.row (c.inner_in.ensures.inner _ c.in-Some.is) c.in_ok-other.other
-    c.in-Took.below c.descend.new.who c.in-Took.is c.in_ok-other.ensures.walk).walk
+    (c.inner_in.ensures.inner _ c.in-Some.is) c.in-Took.is c.in_ok-other.ensures.walk).walk
     c.count_update-done.result c.count_update-done.new.who e.on e.counted e.reply
 
 -- and if it took none
 pub returns-in_default-2-clause-walk : goal.returns-in_default-2-clause-walk
 returns-in_default-2-clause-walk t c =
     below_walk (down t (goal.at.returns-in_default-2-clause-walk t c).After-step_down-child)
-    c.args.when _ c.in-Some.row (c.inner_in.ensures.inner _ c.in-Some.is) c.in_ok-other.other
-    c.descend.new.who c.in_default-2.not-Took c.in_ok-other.ensures.walk
+    (c.inner_in.ensures.inner _ c.in-Some.is) c.in_default-2.not-Took c.in_ok-other.ensures.walk
