@@ -7,6 +7,7 @@ pub mod CallerGoingLemmas
 pub mod EmptyLemmas
 pub mod BuildingLemmas
 pub mod BlockLemmas
+pub mod TakingLemmas
 pub mod BuildingCallLemmas
 pub mod HeldBehindLemmas
 pub mod GivenRowsLemmas

@@ -1,6 +1,5 @@
 use Rattle.std.proofs.Common.{◌≡◌, ◌-◌}
 use Rattle.ist_core.specs.RowLayout.{place_limit}
-use Rattle.ist_rule.specs.declared.view.View.{View}
 use Rattle.ist_rule.specs.Watching.{number_of}
 use Rattle.ist_rows.specs.Rows.{HasReadNext}
 use Rattle.ist_rows.specs.Block.{reservings}
@@ -10,12 +9,13 @@ use Rattle.ist_rows.proofs.block.take_all.Given as goal
 abbrev pub ghost-exchange_all : goal.ghost-exchange_all
 ghost-exchange_all g a = reservings (number_of a.seat.now.view.who) a.old g.sizes
 
--- if the first free word had been read before the first turn, it was read after loads only
+-- the first free word was read, after loads only
 abbrev pub invariant-turns : goal.invariant-turns
-invariant-turns g l = (l.seat.table ≡ l.initial.seat.table)
-    × ((v : View) × HasReadNext v l.next l.seat.view)
-    × ((v : View) → HasReadNext v l.initial.next l.initial.seat.view
-    → HasReadNext v l.next l.seat.view)
+invariant-turns g l =
+    record {
+      same_table : l.seat.table ≡ l.fn.seat.table;
+      read : HasReadNext l.fn.seat.view l.next l.seat.view;
+    }
 
 -- each further turn met a Reserve of another: fewer words are free
 abbrev pub decreases-turns : goal.decreases-turns

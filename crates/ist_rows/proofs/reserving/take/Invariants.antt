@@ -1,6 +1,5 @@
 use Rattle.std.proofs.Common.{◌≡◌, ◌-◌}
 use Rattle.ist_core.specs.RowLayout.{place_limit}
-use Rattle.ist_rule.specs.declared.view.View.{View}
 use Rattle.ist_rows.specs.Fairly.{reserving}
 use Rattle.ist_rows.specs.Rows.{HasReadNext}
 use Rattle.ist_rows.proofs.reserving.take.Given as goal
@@ -9,12 +8,13 @@ use Rattle.ist_rows.proofs.reserving.take.Given as goal
 abbrev pub ghost-exchange : goal.ghost-exchange
 ghost-exchange a = reserving a.seat.now.view a.old a.new
 
--- if the first free word had been read before the first turn, it was read after loads only
+-- the first free word was read, after loads only
 abbrev pub invariant-turns : goal.invariant-turns
-invariant-turns l = (l.seat.table ≡ l.initial.seat.table)
-    × ((v : View) × HasReadNext v l.next l.seat.view)
-    × ((v : View) → HasReadNext v l.initial.next l.initial.seat.view
-    → HasReadNext v l.next l.seat.view)
+invariant-turns l =
+    record {
+      same_table : l.seat.table ≡ l.fn.seat.table;
+      read : HasReadNext l.fn.seat.view l.next l.seat.view;
+    }
 
 -- each further turn met a Reserve of another: fewer words are free
 abbrev pub decreases-turns : goal.decreases-turns
