@@ -4,8 +4,10 @@ pub mod StartPutLemmas
 pub mod StartFillLemmas
 pub mod StartOwnLemmas
 pub mod StartReadyLemmas
+pub mod StartReservedLemmas
 pub mod StartResultLemmas
 pub mod StartAnswerLemmas
+pub mod BegunLemmas
 pub mod EventLemmas
 pub mod OwnChangeLemmas
 pub mod ReservedLemmas

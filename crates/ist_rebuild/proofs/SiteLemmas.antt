@@ -47,6 +47,11 @@ rebuild_good v s rebuild h =
     published_good v.start v.words s.lawful.opens v.log rebuild (Rebuild h.row) s.lawful.enabled
     h.published
 
+-- so is that of a plan's rebuild
+pub plan_good : (v : View) → IsSound v → (plan : Plan) → IsPlan v plan → IsGoodBase plan.rebuild
+plan_good v s plan p =
+    rebuild_good v s plan.rebuild record { row = p.row; published = p.published }
+
 -- ---- words of its row
 
 -- a published rebuild is still published after loads

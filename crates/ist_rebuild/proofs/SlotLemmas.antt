@@ -3,18 +3,19 @@ use Rattle.std.proofs.Common.{◌≡◌, ◌≢◌, ℕ, ◌<◌, Option, None, 
 use Rattle.ist_core.specs.declared.events.Event.{Event}
 use Rattle.ist_core.specs.Pieces.{Pieces, size_of, words_of}
 use Rattle.ist_core.specs.Rebuilding.{IsReplaced}
-use Rattle.ist_core.specs.References.{Ref, Empty, Unset, LeafAt, InnerAt, ChangeAt, RebuildAt, ref_of}
+use Rattle.ist_core.specs.References.{Ref, Empty, Unset, LeafAt, InnerAt, ChangeAt, RebuildAt, ref_of, word_of}
 use Rattle.ist_core.specs.Shown.{IsShown, shown_next, shown_callers, shown_status, shown_slot, shown_row, shown_free}
 use Rattle.ist_core.specs.Slots.{SlotHolds, IsOpen, past_change}
 use Rattle.ist_core.specs.Writing.{place_of_slot}
 use Rattle.ist_core.proofs.ImageLemmas.{get_below}
 use Rattle.ist_core.proofs.PlaceLemmas.{anchor_free, placed, claimed_within}
+use Rattle.ist_core.proofs.ReferenceLemmas.{word_of-ref_of}
 use Rattle.ist_core.proofs.RoomLemmas.{next_within, words_same}
 use Rattle.ist_core.proofs.SlotLemmas.{slot_once}
 use Rattle.laws_rebuilds.proofs.RebuiltLemmas.{started_reads, read_unreplaced}
 use Rattle.ist_rule.specs.declared.view.View.{View}
 use Rattle.ist_rule.specs.Going.{WentOn}
-use Rattle.ist_rule.specs.Learning.{now, Looked}
+use Rattle.ist_rule.specs.Learning.{now, GoesOnTo, Looked}
 use Rattle.ist_rule.specs.Rule.{IsSound}
 use Rattle.ist_rule.proofs.GoingOnLemmas.{looked_goes_on}
 use Rattle.ist_rule.proofs.WentOnLemmas.{went_now, went_lawful, later_by-goes_on}
@@ -26,7 +27,7 @@ use Rattle.ist_dcss.proofs.SlotPlaceLemmas.{slot_shown}
 use Rattle.ist_rebuild.specs.declared.sites.Plan.{Plan}
 use Rattle.ist_rebuild.specs.Finishing.{IsPlan}
 use Rattle.ist_rebuild.specs.Helping.{IsLeftToParent}
-use Rattle.ist_rebuild.proofs.SiteLemmas.{parent_node}
+use Rattle.ist_rebuild.proofs.SiteLemmas.{parent_node, parent_slot, plan_on}
 
 -- ---- the load
 
@@ -69,7 +70,32 @@ slot_told v s node i place before at word w l =
     (place_on v w s more node i before.word before.holds ∙ sym at) shown) in
     subst (SlotHolds (now w) node i) (sym same) slot.holds
 
+-- the place of a plan's slot, as it was reckoned after more loads
+module _ (u v : View) (s : IsSound v) (plan : Plan) (p : IsPlan u plan) (g : GoesOnTo u v)
+    (node place : ℕ) (is : node ≡ plan.parent) (at : place ≡ place_of_slot (now v) node plan.index)
+  where
+    slot : IsSlot v plan.parent plan.index
+    slot = parent_slot v s plan (plan_on u v g plan p)
+
+    place_is : place ≡ place_of_slot (now v) plan.parent plan.index
+    place_is = at ∙ ap (λ n. place_of_slot (now v) n plan.index) is
+
+    -- it lies in the table
+    pub plan_slot_low : place < v.words
+    plan_slot_low = slot_low v s plan.parent plan.index place slot place_is
+
+    -- a load of it gives what the slot holds
+    pub plan_slot_told : (word : ℕ) (w : View) → Looked v place word w
+        → SlotHolds (now w) plan.parent plan.index word
+    plan_slot_told word w l = slot_told v s plan.parent plan.index place slot place_is word w l
+
 -- ---- what the word says
+
+-- a word that isn't the rebuild's own doesn't read as the rebuild
+pub not_itself : (rebuild word : ℕ) → word ≢ word_of (RebuildAt rebuild)
+    → ¬ (ref_of word ≡ Some (RebuildAt rebuild))
+not_itself rebuild word other is =
+    other (sym (word_of-ref_of word (RebuildAt rebuild) is).same_word)
 
 -- what is no change reads as it is
 read_same : (ps : Pieces) (o : Option Ref) → ((base : ℕ) → o ≢ Some (ChangeAt base))

@@ -1,6 +1,5 @@
--- What `start` returns, by the result of putting the start in. Serves `put_in` and `start`.
+-- What `start` returns, by the result of putting the start in. Serves `BegunLemmas`.
 use Rattle.std.proofs.Common.{◌≡◌, ◌≢◌, ℕ, Bool, true, false, Result, Some, Ok, Err, refl, sym, ◌∙◌, subst, inl, inr, ⊎_elim, arith}
-use Rattle.std.specs.Result.{IsErr}
 use Rattle.ist_build.specs.Laying.{Reserves}
 use Rattle.ist_core.specs.declared.events.Event.{Event}
 use Rattle.ist_core.specs.declared.events.Event.TheVariants.{Okay, Decide, Resolve}
@@ -10,15 +9,14 @@ use Rattle.ist_core.specs.References.{IsGoodBase}
 use Rattle.ist_core.specs.Rows.{Apart}
 use Rattle.ist_core.specs.RowLayout.{change_words, rebuild_words}
 use Rattle.ist_core.specs.Slots.{IsOpen}
-use Rattle.ist_core.specs.Snapshots.{Snapshot}
 use Rattle.laws_settling.specs.Settling.{StartsAreDone}
 use Rattle.ist_rule.specs.declared.view.View.{View}
 use Rattle.ist_core.specs.declared.events.Who.TheVariants.{Caller as CallerOf}
 use Rattle.ist_rule.specs.Conditions.{IsResolved}
 use Rattle.ist_rule.specs.Going.{WentOn}
-use Rattle.ist_rule.specs.Learning.{now, GoesOnTo}
+use Rattle.ist_rule.specs.Learning.{now}
 use Rattle.ist_rule.specs.Rule.{IsSound}
-use Rattle.ist_rule.proofs.WentOnLemmas.{goes_on_went, went_more}
+use Rattle.ist_rule.proofs.WentOnLemmas.{went_all, went_more}
 use Rattle.ist_rows.specs.declared.callers.Caller.{Caller}
 use Rattle.ist_dcss.specs.Helping.{Serves, IsDecided}
 use Rattle.ist_dcss.specs.Installing.{Filling, IsInstalled}
@@ -29,7 +27,7 @@ use Rattle.ist_rebuild.specs.Starting.{IsStartedAt, LeavesDone, IsStartRefused, 
 use Rattle.ist_rebuild.specs.Starting.{LeavesUninstalled, LeavesUnstarted, StartsNone}
 use Rattle.ist_rebuild.specs.StartSteps.{IsStartReady, start_filling}
 use Rattle.ist_rebuild.proofs.StartFillLemmas.{rebuild_good, rows_apart}
-use Rattle.ist_rebuild.proofs.StartGoingLemmas.{HasPutIn, begins_installing, begins_serving, put_went, aims_installing, aims_serving}
+use Rattle.ist_rebuild.proofs.StartGoingLemmas.{HasPutIn, begins_reserving, begins_installing, begins_serving, put_went, aims_installing, aims_serving}
 use Rattle.ist_rebuild.proofs.StartOwnLemmas.{InstallsBut, own_was, starts_but, starts_none_reserving, starts_reserving}
 use Rattle.ist_rebuild.proofs.StartResultLemmas.{put_closed, put_said, put_started, put_to}
 use Rattle.ist_rows.proofs.ShortLemmas.{short_from}
@@ -162,24 +160,16 @@ module _ (who : Caller) (parent index target rebuild change : ℕ) (f : Filling)
 
 -- ---- refusals
 
--- a refusal after loads
-pub refused_behind : (u v w : View) (words : ℕ) (full : Full) → GoesOnTo u v
+-- a refusal after reservings
+pub refused_behind : (u v w : View) (words : ℕ) (full : Full) → WentOn Reserves u v
     → IsStartRefused v words full w → IsStartRefused u words full w
 refused_behind u v w words full g r =
     record {
       short = short_from (WentOn Begins) (WentOn Begins) u v
-          (λ x. went_more Begins u v x (goes_on_went Begins u v g)) words full w r.short;
+          (λ x. went_more Begins u v x (went_all Reserves Begins begins_reserving u v g)) words full
+          w r.short;
       asked = r.asked;
     }
-
--- if it was refused, no start was made
-pub err_done : (t : Snapshot) (number : ℕ) (answer : Result Started Full) → IsErr answer
-    → StartsAreDone t number → LeavesDone t number answer
-err_done t number (Ok a) is done = absurd (no is)
-  where
-    no : false ≡ true → ⊥
-    no e = cc
-err_done t number (Err full) is done = done
 
 -- what a start leaves done, after reservings
 pub behind_done : (v u w : View) → WentOn Reserves v u → (number same : ℕ)
@@ -192,24 +182,6 @@ behind_done v u w g number same mine resolved is answer leaves done =
     (starts_reserving v u g number mine resolved done)))
 
 -- ---- what is left undone
-
--- if it was refused, nothing was started or installed
-pub err_unstarted : (v w : View) (number : ℕ) (answer : Result Started Full) → IsErr answer
-    → StartsNone (now v) (now w) number → LeavesUnstarted (now v) (now w) number answer
-err_unstarted v w number (Ok a) is none = absurd (no is)
-  where
-    no : false ≡ true → ⊥
-    no e = cc
-err_unstarted v w number (Err full) is none = none
-
--- if it was refused after reservings only, nothing was installed
-pub err_uninstalled : (v w : View) (answer : Result Started Full) → IsErr answer
-    → WentOn Reserves v w → LeavesUninstalled v w answer
-err_uninstalled v w (Ok a) is went = absurd (no is)
-  where
-    no : false ≡ true → ⊥
-    no e = cc
-err_uninstalled v w (Err full) is went = went
 
 -- after reservings nothing more was installed
 pub behind_uninstalled : (v u w : View) → WentOn Reserves v u → (answer : Result Started Full)

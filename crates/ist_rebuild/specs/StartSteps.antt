@@ -1,16 +1,28 @@
 -- What the functions inside this crate promise each other of a start: its rows, how they are
 -- filled, and that it may be installed.
-use Rattle.std.specs.Prelude.{◌≡◌, ℕ, [], ◌∷◌, Some}
+use Rattle.std.specs.Prelude.{◌≡◌, ℕ, [], ◌∷◌, Some, Result, Ok}
+use Rattle.ist_core.specs.declared.ports.Full.{Full}
+use Rattle.ist_build.specs.Laying.{Reserves}
 use Rattle.ist_core.specs.declared.states.ChangeRow.{ChangeRow}
 use Rattle.ist_core.specs.Installing.{new_rebuild}
 use Rattle.ist_core.specs.Pieces.{Change, row_at, words_of}
 use Rattle.ist_core.specs.References.{InnerAt, RebuildAt, word_of}
+use Rattle.ist_core.specs.Slots.{IsOpen}
 use Rattle.ist_core.specs.Statuses.{undecided, start_kind}
+use Rattle.laws_settling.specs.Settling.{StartsAreDone}
+use Rattle.ist_rule.specs.Going.{WentOn}
+use Rattle.ist_rule.specs.Learning.{now}
 use Rattle.ist_rows.specs.declared.callers.Caller.{Caller}
 use Rattle.ist_rows.specs.Filling.{filled_with}
 use Rattle.ist_rows.specs.Rows.{IsCaller}
 use Rattle.ist_dcss.specs.Installing.{Filling, IsInstallable}
+use Rattle.ist_rows.specs.Building.{HasRefused}
 use Rattle.ist_rows.specs.Going.{IsQuiet}
+use Rattle.ist_rebuild.specs.declared.answers.Started.{Started}
+use Rattle.ist_rebuild.specs.declared.answers.Started.TheVariants.{Yes, Other, Marked}
+use Rattle.ist_rebuild.specs.Going.{Begins, KeepsFresh, StartsAt}
+use Rattle.ist_rebuild.specs.Starting.{IsStartedAt, StoodInstead, LeavesDone}
+use Rattle.ist_rebuild.specs.Starting.{LeavesUninstalled, LeavesUnstarted}
 
 -- ---- the rows
 
@@ -58,3 +70,38 @@ pub record IsStartReady (who : Caller) (rebuild change : ℕ) (f : Filling) : Ty
   pub rows : HasStartRows who rebuild change
   pub quiet : IsQuiet who
   pub may_install : IsInstallable who.seat.view change f
+
+-- ---- how it went
+
+-- the caller made at most reservings: it has the number, the leaf and the pair row that it had, is
+-- quiet, and each of its builds that was refused still is
+pub record HasReserved (old new : Caller) : Type 0 where
+  pub caller : IsCaller new
+  pub number : new.number ≡ old.number
+  pub fresh : KeepsFresh old new
+  pub quiet : IsQuiet new
+  pub refused : HasRefused old → HasRefused new
+  pub went : WentOn Reserves old.seat.view new.seat.view
+
+-- the caller made only steps of a start of this target; otherwise as with reservings
+pub record HasBegun (target : ℕ) (old new : Caller) : Type 0 where
+  pub caller : IsCaller new
+  pub number : new.number ≡ old.number
+  pub fresh : KeepsFresh old new
+  pub went : WentOn Begins old.seat.view new.seat.view
+  pub aims : WentOn (StartsAt target) old.seat.view new.seat.view
+  pub quiet : IsQuiet new
+  pub refused : HasRefused old → HasRefused new
+
+-- what the result of a start tells of this slot of the parent, and of the caller's starts
+pub record TellsStart (old new : Caller) (parent index target : ℕ)
+    (answer : Result Started Full) : Type 0 where
+  pub yes : (rebuild : ℕ) → answer ≡ Ok (Yes rebuild)
+      → IsStartedAt (now new.seat.view) rebuild parent index target
+  pub other : (word : ℕ) → answer ≡ Ok (Other word)
+      → StoodInstead new.seat.view parent index target word
+  pub marked : answer ≡ Ok Marked → ¬ (IsOpen (now new.seat.view) parent)
+  pub done : StartsAreDone (now old.seat.view) old.number
+      → LeavesDone (now new.seat.view) old.number answer
+  pub unstarted : LeavesUnstarted (now old.seat.view) (now new.seat.view) old.number answer
+  pub uninstalled : LeavesUninstalled old.seat.view new.seat.view answer

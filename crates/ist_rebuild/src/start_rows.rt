@@ -1,17 +1,14 @@
 //! The rows of a start: reserving them, and filling them.
 ghost use Rattle.std.specs.Prelude.{◌≡◌, IfOk, IfErr};
-ghost use Rattle.ist_build.specs.Laying.{Reserves};
 ghost use Rattle.ist_core.specs.Installing.{IsUnrefused};
 ghost use Rattle.ist_core.specs.References.{IsGoodBase};
 ghost use Rattle.ist_rule.specs.Faces.{word_count_of};
-ghost use Rattle.ist_rule.specs.Going.{WentOn};
 ghost use Rattle.ist_rule.specs.Learning.{now};
-ghost use Rattle.ist_rows.specs.Building.{HasRefused};
 ghost use Rattle.ist_rows.specs.Rows.{IsCaller};
-ghost use Rattle.ist_rebuild.specs.Going.{KeepsFresh};
 ghost use Rattle.ist_rows.specs.Going.{IsQuiet};
 ghost use Rattle.ist_rebuild.specs.Starting.{MayStart, IsStartRefused};
-ghost use Rattle.ist_rebuild.specs.StartSteps.{HasStartRows, IsStartReady, filled_start, start_filling};
+ghost use Rattle.ist_rebuild.specs.StartSteps.{HasReserved, HasStartRows, IsStartReady};
+ghost use Rattle.ist_rebuild.specs.StartSteps.{filled_start, start_filling};
 
 use ist_core::Full;
 use ist_layout::{Ref, START_KIND, UNDECIDED};
@@ -29,12 +26,9 @@ pub(crate) struct StartRows {
 fn reserve_rows(table: &TreeTable, who: &mut Caller) -> Result<StartRows, Full>
     requires same_table { who.old.seat.table ≡ table.now.table }
     requires caller { IsCaller who.old }
+    requires quiet { IsQuiet who.old }
     ensures same_table { who.new.seat.table ≡ table.now.table }
-    ensures caller { IsCaller who.new }
-    ensures number { who.new.number ≡ who.old.number }
-    ensures fresh { KeepsFresh who.old who.new }
-    ensures refused { HasRefused who.old → HasRefused who.new }
-    ensures went { WentOn Reserves who.old.seat.view who.new.seat.view }
+    ensures reserved { HasReserved who.old who.new }
     ensures rows { IfOk result (λ rows. HasStartRows who.new rows.rebuild rows.change) }
     ensures full { IfErr result (λ full.
         IsStartRefused who.old.seat.view (word_count_of table.now) full who.new.seat.view) }
@@ -91,12 +85,7 @@ pub(crate) fn prepare(
     requires may_start { MayStart who.old.seat.view parent index target }
     requires unrefused { IsUnrefused (now who.old.seat.view) who.old.number parent }
     ensures same_table { who.new.seat.table ≡ table.now.table }
-    ensures caller { IsCaller who.new }
-    ensures number { who.new.number ≡ who.old.number }
-    ensures fresh { KeepsFresh who.old who.new }
-    ensures quiet { IsQuiet who.new }
-    ensures refused { HasRefused who.old → HasRefused who.new }
-    ensures went { WentOn Reserves who.old.seat.view who.new.seat.view }
+    ensures reserved { HasReserved who.old who.new }
     ensures ready { let number = who.new.number in
         IfOk result (λ rows. IsStartReady who.new rows.rebuild rows.change
         (start_filling number parent index target rows.rebuild)) }

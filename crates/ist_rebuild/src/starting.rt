@@ -1,5 +1,6 @@
 //! Starting a rebuild.
-ghost use Rattle.std.specs.Prelude.{◌≡◌, ℕ, Ok, IfErr};
+ghost use Rattle.std.specs.Prelude.{◌≡◌, ℕ, Ok, IfErr, IsTrue, false};
+ghost use Rattle.ist_core.specs.Installing.{IsUnrefused};
 ghost use Rattle.ist_core.specs.Slots.{IsOpen};
 ghost use Rattle.ist_dcss.specs.Installing.{Filling};
 ghost use Rattle.ist_rebuild.specs.declared.answers.Started.TheVariants.{Yes, Other, Marked};
@@ -13,7 +14,8 @@ ghost use Rattle.ist_rebuild.specs.Going.{Begins, KeepsFresh, StartsAt};
 ghost use Rattle.ist_rows.specs.Going.{IsQuiet};
 ghost use Rattle.ist_rebuild.specs.Starting.{MayStart, IsStartedAt, StoodInstead, LeavesDone};
 ghost use Rattle.ist_rebuild.specs.Starting.{IsStartRefused, LeavesUninstalled, LeavesUnstarted};
-ghost use Rattle.ist_rebuild.specs.StartSteps.{IsStartReady, start_filling};
+ghost use Rattle.ist_rebuild.specs.StartSteps.{HasBegun, HasReserved, IsStartReady};
+ghost use Rattle.ist_rebuild.specs.StartSteps.{TellsStart, start_filling};
 
 use crate::answers::Started;
 use crate::start_rows::{StartRows, prepare};
@@ -39,23 +41,8 @@ fn put_in(table: &TreeTable, who: &mut Caller, plan: Plan) -> Started
     requires filled { let number = who.old.number in filling
         ≡ start_filling number plan.parent plan.index plan.target plan.rows.rebuild }
     ensures same_table { who.new.seat.table ≡ table.now.table }
-    ensures caller { IsCaller who.new }
-    ensures number { who.new.number ≡ who.old.number }
-    ensures fresh { KeepsFresh who.old who.new }
-    ensures went { WentOn Begins who.old.seat.view who.new.seat.view }
-    ensures aims { WentOn (StartsAt plan.target) who.old.seat.view who.new.seat.view }
-    ensures quiet { IsQuiet who.new }
-    ensures refused { HasRefused who.old → HasRefused who.new }
-    ensures yes { (rebuild : ℕ) → result ≡ Yes rebuild
-        → IsStartedAt (now who.new.seat.view) rebuild plan.parent plan.index plan.target }
-    ensures other { (word : ℕ) → result ≡ Other word
-        → StoodInstead who.new.seat.view plan.parent plan.index plan.target word }
-    ensures marked { result ≡ Marked → ¬ (IsOpen (now who.new.seat.view) plan.parent) }
-    ensures done { StartsAreDone (now who.old.seat.view) who.old.number
-        → LeavesDone (now who.new.seat.view) who.old.number (Ok result) }
-    ensures unstarted { let old = now who.old.seat.view in
-        LeavesUnstarted old (now who.new.seat.view) who.old.number (Ok result) }
-    ensures uninstalled { LeavesUninstalled who.old.seat.view who.new.seat.view (Ok result) }
+    ensures begun { HasBegun plan.target who.old who.new }
+    ensures told { TellsStart who.old who.new plan.parent plan.index plan.target (Ok result) }
 {
     know(&who.seat);
     // Install. Meets another caller's in the slot, and what a helper left there.
@@ -70,6 +57,77 @@ fn put_in(table: &TreeTable, who: &mut Caller, plan: Plan) -> Started
             rebuild: plan.rows.rebuild,
         },
         Decision::No => Started::Marked,
+    }
+}
+
+// Returns whether the parent is open.
+fn parent_is_open(table: &TreeTable, who: &mut Caller, parent: u32, index: u64, target: u32) -> bool
+    requires same_table { who.old.seat.table ≡ table.now.table }
+    requires caller { IsCaller who.old }
+    requires quiet { IsQuiet who.old }
+    requires may_start { MayStart who.old.seat.view parent index target }
+    ensures same_table { who.new.seat.table ≡ table.now.table }
+    ensures reserved { HasReserved who.old who.new }
+    ensures may_start { MayStart who.new.seat.view parent index target }
+    ensures open { IsTrue result → IsUnrefused (now who.new.seat.view) who.new.number parent }
+    ensures closed { result ≡ false → ¬ (IsOpen (now who.new.seat.view) parent) }
+{
+    know(&who.seat);
+    // A load. Meets a mark of the parent.
+    is_open(table, &mut who.seat, parent)
+}
+
+// Starts the rebuild in a parent that was open, if there is room for its rows.
+fn start_open(
+    table: &TreeTable,
+    who: &mut Caller,
+    parent: u32,
+    index: u64,
+    target: u32,
+) -> Result<Started, Full>
+    requires same_table { who.old.seat.table ≡ table.now.table }
+    requires caller { IsCaller who.old }
+    requires quiet { IsQuiet who.old }
+    requires may_start { MayStart who.old.seat.view parent index target }
+    requires unrefused { IsUnrefused (now who.old.seat.view) who.old.number parent }
+    ensures same_table { who.new.seat.table ≡ table.now.table }
+    ensures begun { HasBegun target who.old who.new }
+    ensures told { TellsStart who.old who.new parent index target result }
+    ensures full { IfErr result (λ full.
+        IsStartRefused who.old.seat.view (word_count_of table.now) full who.new.seat.view) }
+{
+    let rows = prepare(table, who, parent, index, target)?;
+    let plan = Plan {
+        parent,
+        index,
+        target,
+        rows,
+    };
+    Ok(put_in(table, who, plan))
+}
+
+// Starts the rebuild, unless the parent isn't open.
+fn start_if_open(
+    table: &TreeTable,
+    who: &mut Caller,
+    parent: u32,
+    index: u64,
+    target: u32,
+) -> Result<Started, Full>
+    requires same_table { who.old.seat.table ≡ table.now.table }
+    requires caller { IsCaller who.old }
+    requires quiet { IsQuiet who.old }
+    requires may_start { MayStart who.old.seat.view parent index target }
+    ensures same_table { who.new.seat.table ≡ table.now.table }
+    ensures begun { HasBegun target who.old who.new }
+    ensures told { TellsStart who.old who.new parent index target result }
+    ensures full { IfErr result (λ full.
+        IsStartRefused who.old.seat.view (word_count_of table.now) full who.new.seat.view) }
+{
+    if parent_is_open(table, who, parent, index, target) {
+        start_open(table, who, parent, index, target)
+    } else {
+        Ok(Started::Marked)
     }
 }
 
@@ -117,17 +175,5 @@ pub fn start(
         LeavesUnstarted old (now who.new.seat.view) who.old.number result }
     ensures uninstalled { LeavesUninstalled who.old.seat.view who.new.seat.view result }
 {
-    know(&who.seat);
-    // A load. Meets a mark of the parent.
-    if !is_open(table, &mut who.seat, parent) {
-        return Ok(Started::Marked);
-    }
-    let rows = prepare(table, who, parent, index, target)?;
-    let plan = Plan {
-        parent,
-        index,
-        target,
-        rows,
-    };
-    Ok(put_in(table, who, plan))
+    start_if_open(table, who, parent, index, target)
 }

@@ -9,9 +9,8 @@ use Rattle.ist_rebuild.proofs.finishing.build_out.Goals as goal
 -- a root that was refused
 pub returns-in_err-set_root-clause-helped : goal.returns-in_err-set_root-clause-helped
 returns-in_err-set_root-clause-helped c =
-    built_helped c.args.who.now c.set_root.new.who c.requires.ready c.set_root.ensures.caller
-    c.set_root.ensures.refused c.set_root.ensures.number c.set_root.ensures.rows
-    c.set_root.ensures.went
+    let e = c.set_root.ensures in
+    built_helped _ _ c.requires.ready e.caller e.refused e.number e.rows e.went
 
 pub returns-in_err-set_root-clause-full : goal.returns-in_err-set_root-clause-full
 returns-in_err-set_root-clause-full c =
@@ -26,20 +25,16 @@ fill_parts-requires-clause-buildable c =
 -- both halves built
 pub returns-clause-helped : goal.returns-clause-helped
 returns-clause-helped c =
-    let first = built_helped c.args.who.now c.set_root.new.who c.requires.ready
-    c.set_root.ensures.caller c.set_root.ensures.refused c.set_root.ensures.number
-    c.set_root.ensures.rows c.set_root.ensures.went in
-    helped_more c.args.who.now c.set_root.new.who c.fill_parts.new.who first
-    (built_helped c.set_root.new.who c.fill_parts.new.who (still_ready first.on)
-    c.fill_parts.ensures.caller
-    c.fill_parts.ensures.refused c.fill_parts.ensures.number c.fill_parts.ensures.rows
-    c.fill_parts.ensures.went)
+    let e = c.set_root.ensures in
+    let f = c.fill_parts.ensures in
+    let root = built_helped _ _ c.requires.ready e.caller e.refused e.number e.rows e.went in
+    helped_more _ _ _ root
+    (built_helped _ _ (still_ready root.on) f.caller f.refused f.number f.rows f.went)
 
 pub returns-clause-full : goal.returns-clause-full
 returns-clause-full c =
-    let first = built_helped c.args.who.now c.set_root.new.who c.requires.ready
-    c.set_root.ensures.caller c.set_root.ensures.refused c.set_root.ensures.number
-    c.set_root.ensures.rows c.set_root.ensures.went in
+    let e = c.set_root.ensures in
+    let root = built_helped _ _ c.requires.ready e.caller e.refused e.number e.rows e.went in
     err_map _ _ c.fill_parts.result
-    (λ full h. refused_more _ _ _ c.args.rebuild _ full first.on.gone.went
-    (short_refused _ _ c.args.rebuild _ full h)) c.fill_parts.ensures.full
+    (λ full h. refused_more _ _ _ _ _ full root.on.gone.went (short_refused _ _ _ _ full h))
+    c.fill_parts.ensures.full

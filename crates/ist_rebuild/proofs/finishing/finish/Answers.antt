@@ -8,8 +8,7 @@ use Rattle.ist_rebuild.proofs.finishing.finish.Goals as goal
 
 -- before the first turn nothing was done
 pub turns-init : goal.turns-init
-turns-init c =
-    (c.requires.same_table, helped_same c.args.who.now c.requires.ready c.know.ensures.sound)
+turns-init c = (c.requires.same_table, helped_same _ c.requires.ready c.know.ensures.sound)
 
 -- the plan is still a plan
 pub try_finish-requires-clause-plan : goal.try_finish-requires-clause-plan
@@ -18,28 +17,22 @@ try_finish-requires-clause-plan c =
 
 -- each turn only made steps of help
 pub turns-preserved : goal.turns-preserved
-turns-preserved c = (
-  c.try_finish.ensures.same_table,
-  helped_more c.args.who.now c.turns.who c.try_finish.new.who c.turns.invariant.1
-      c.try_finish.ensures.helped,
-)
+turns-preserved c =
+    let e = c.try_finish.ensures in (e.same_table, helped_more _ _ _ c.turns.invariant.1 e.helped)
 
 pub returns-in-Some-clause-helped : goal.returns-in-Some-clause-helped
 returns-in-Some-clause-helped c =
-    helped_more c.args.who.now c.turns.who c.try_finish.new.who c.turns.invariant.1
-    c.try_finish.ensures.helped
+    helped_more _ _ _ c.turns.invariant.1 c.try_finish.ensures.helped
 
 -- a turn that was refused
 pub returns-in_err-helped-clause-helped : goal.returns-in_err-helped-clause-helped
 returns-in_err-helped-clause-helped c =
-    helped_more c.args.who.now c.turns.who c.try_finish.new.who c.turns.invariant.1
-    c.try_finish.ensures.helped
+    helped_more _ _ _ c.turns.invariant.1 c.try_finish.ensures.helped
 
 pub returns-in_err-helped-clause-full : goal.returns-in_err-helped-clause-full
 returns-in_err-helped-clause-full c =
     passed_on c.from_residual.result _ _ c.from_residual.ensures.1
-    (refused_more _ _ _ c.args.plan.rebuild _ _ c.turns.invariant.1.on.gone.went
-    c.in_err-helped.ensures.full)
+    (refused_more _ _ _ _ _ _ c.turns.invariant.1.on.gone.went c.in_err-helped.ensures.full)
 
 pub turns-smaller : goal.turns-smaller
 turns-smaller c =

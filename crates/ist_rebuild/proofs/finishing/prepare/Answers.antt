@@ -1,29 +1,24 @@
 use Rattle.ist_rebuild.proofs.HelpedLemmas.{refused_row}
 use Rattle.ist_rebuild.proofs.PreparedLemmas.{HasPrepared, has_prepared}
 use Rattle.ist_rebuild.proofs.RefusalLemmas.{passed_on, row_refused}
-use Rattle.ist_rebuild.proofs.SiteLemmas.{rebuild_good}
+use Rattle.ist_rebuild.proofs.SiteLemmas.{plan_good}
 use Rattle.ist_rebuild.proofs.finishing.prepare.Goals as goal
 
 -- a change row that was refused
 pub returns-in_err-change-clause-helped : goal.returns-in_err-change-clause-helped
 returns-in_err-change-clause-helped c =
-    refused_row c.args.who.now c.reserve.new.who _ _ c.requires.ready c.reserve.ensures.caller
-    c.reserve.ensures.number c.in_err-change.ensures.full
+    refused_row _ _ _ _ c.requires.ready c.reserve.ensures.caller c.reserve.ensures.number
+    c.in_err-change.ensures.full
 
 pub returns-in_err-change-clause-full : goal.returns-in_err-change-clause-full
 returns-in_err-change-clause-full c =
     passed_on c.from_residual.result _ _ c.from_residual.ensures.1
-    (row_refused c.args.who.now c.reserve.new.who c.args.plan.rebuild _ _
-    c.in_err-change.ensures.full)
+    (row_refused _ _ c.args.plan.rebuild _ _ c.in_err-change.ensures.full)
 
 -- a published rebuild has a good base
 pub finish_words-words-requires : goal.finish_words-words-requires
 finish_words-words-requires c =
-    let p = c.requires.plan in
-    record {
-      good = rebuild_good _ c.know.ensures.sound c.args.plan.rebuild
-          record { row = p.row; published = p.published };
-    }
+    record { good = plan_good _ c.know.ensures.sound c.args.plan c.requires.plan }
 
 -- the row was filled
 prepares : (c : goal.After-know-3)

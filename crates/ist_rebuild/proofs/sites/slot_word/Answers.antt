@@ -1,10 +1,8 @@
 use Rattle.std.proofs.Common.{ap, arith, subst, sym, ◌∙◌}
-use Rattle.ist_core.specs.Writing.{place_of_slot}
-use Rattle.ist_rule.specs.Learning.{now}
 use Rattle.ist_rule.proofs.GoingOnLemmas.{goes_on_more, looked_goes_on}
 use Rattle.ist_dcss.specs.Naming.{IsSlot}
-use Rattle.ist_rebuild.proofs.SiteLemmas.{parent_slot, plan_on}
-use Rattle.ist_rebuild.proofs.SlotLemmas.{slot_low, slot_told}
+use Rattle.ist_rebuild.proofs.SiteLemmas.{parent_slot}
+use Rattle.ist_rebuild.proofs.SlotLemmas.{plan_slot_low, plan_slot_told}
 use Rattle.ist_rebuild.proofs.sites.slot_word.Goals as goal
 
 -- the parent has the slot
@@ -16,13 +14,8 @@ slot_at-place-requires-clause-slot c =
 -- it lies in the table
 pub load-requires-clause-within : goal.load-requires-clause-within
 load-requires-clause-within c =
-    let seen = c.slot_at-place.ensures.seen in
-    let v = c.slot_at-place.new.seat.view in
-    let slot = parent_slot v c.know-2.ensures.sound c.args.plan
-    (plan_on _ v seen c.args.plan c.requires.plan) in
-    let low = slot_low v c.know-2.ensures.sound c.args.plan.parent c.args.plan.index _ slot
-    (c.slot_at-place.ensures.place
-    ∙ ap (λ n. place_of_slot (now v) n c.args.plan.index) c.from.ensures) in
+    let low = plan_slot_low _ _ c.know-2.ensures.sound c.args.plan c.requires.plan
+    c.slot_at-place.ensures.seen _ _ c.from.ensures c.slot_at-place.ensures.place in
     let known = c.know-2.ensures.words in
     let same = ap (λ t. t.words) (c.slot_at-place.ensures.same_table ∙ c.requires.same_table) in
     omega arith
@@ -34,10 +27,6 @@ returns-clause-seen c =
 -- the word is what it holds
 pub returns-clause-holds : goal.returns-clause-holds
 returns-clause-holds c =
-    let v = c.slot_at-place.new.seat.view in
-    slot_told v c.know-2.ensures.sound c.args.plan.parent c.args.plan.index _
-    (parent_slot v c.know-2.ensures.sound c.args.plan
-    (plan_on _ v c.slot_at-place.ensures.seen c.args.plan c.requires.plan))
-    (c.slot_at-place.ensures.place
-    ∙ ap (λ n. place_of_slot (now v) n c.args.plan.index) c.from.ensures) _ _
+    plan_slot_told _ _ c.know-2.ensures.sound c.args.plan c.requires.plan
+    c.slot_at-place.ensures.seen _ _ c.from.ensures c.slot_at-place.ensures.place _ _
     c.load.ensures.looked

@@ -1,5 +1,5 @@
 use Rattle.ist_rebuild.specs.StartSteps.{start_filling}
-use Rattle.ist_rebuild.proofs.starting.start.Given as goal
+use Rattle.ist_rebuild.proofs.starting.start_open.Given as goal
 
 -- the change is the start that was planned
 abbrev pub ghost-put_in : goal.ghost-put_in

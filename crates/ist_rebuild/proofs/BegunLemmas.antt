@@ -1,0 +1,211 @@
+-- How a caller goes on that starts a rebuild, and what the result tells. Serves `put_in` and
+-- `start_if_open`.
+use Rattle.std.proofs.Common.{◌≡◌, ◌∙◌, ℕ, Bool, true, false, Result, Ok, Err, None, refl, subst}
+use Rattle.std.specs.Result.{IsErr}
+use Rattle.ist_build.specs.Laying.{Reserves}
+use Rattle.ist_core.specs.declared.ports.Full.{Full}
+use Rattle.ist_core.specs.Slots.{IsOpen}
+use Rattle.laws_settling.specs.Settling.{StartsAreDone}
+use Rattle.ist_rule.specs.Faces.{SeatFace}
+use Rattle.ist_rule.specs.Going.{WentOn}
+use Rattle.ist_rule.specs.Learning.{now, GoesOnTo}
+use Rattle.ist_rule.specs.Rule.{IsSound}
+use Rattle.ist_rule.proofs.WentOnLemmas.{went_all, went_more}
+use Rattle.ist_rows.specs.declared.callers.Caller.{Caller}
+use Rattle.ist_rows.specs.Going.{IsQuiet}
+use Rattle.ist_rows.specs.Rows.{IsCaller}
+use Rattle.ist_dcss.specs.Helping.{Serves, IsDecided, IsOut}
+use Rattle.ist_dcss.specs.Installing.{Filling, IsInstalled, IsOther}
+use Rattle.ist_rebuild.specs.declared.answers.Started.{Started}
+use Rattle.ist_rebuild.specs.declared.answers.Started.TheVariants.{Yes, Other, Marked}
+use Rattle.ist_rebuild.specs.Going.{Begins, StartsAt}
+use Rattle.ist_rebuild.specs.Starting.{StartsNone, StoodInstead}
+use Rattle.ist_rebuild.specs.StartSteps.{HasBegun, HasReserved, IsStartReady, TellsStart, start_filling}
+use Rattle.ist_rebuild.proofs.StartAnswerLemmas.{behind_done, behind_uninstalled, behind_unstarted, has_put, no_closed, no_done, no_start, put_aims, put_begins, same_answer, same_word, yes_done, yes_started}
+use Rattle.ist_rebuild.proofs.StartGoingLemmas.{HasPutIn, aims_reserving, begins_reserving}
+use Rattle.ist_rebuild.proofs.StartOwnLemmas.{starts_none_reserving, starts_reserving}
+use Rattle.ist_rebuild.proofs.StartPutLemmas.{put_caller, put_quiet, put_refused, start_bases}
+use Rattle.ist_rebuild.proofs.StartReservedLemmas.{loads_reserved}
+use Rattle.ist_rebuild.proofs.StartResultLemmas.{other_stood}
+
+-- ---- how the caller goes on
+
+-- a caller that made at most reservings has begun
+pub reserved_begun : (target : ℕ) (old new : Caller) → HasReserved old new → HasBegun target old new
+reserved_begun target old new r =
+    record {
+      caller = r.caller;
+      number = r.number;
+      fresh = r.fresh;
+      went = went_all Reserves Begins begins_reserving old.seat.view new.seat.view r.went;
+      aims = went_all Reserves (StartsAt target) (aims_reserving target) old.seat.view
+          new.seat.view r.went;
+      quiet = r.quiet;
+      refused = r.refused;
+    }
+
+-- beginning twice
+pub begun_more : (target : ℕ) (old mid new : Caller) → HasBegun target old mid
+    → HasBegun target mid new → HasBegun target old new
+begun_more target old mid new a b =
+    record {
+      caller = b.caller;
+      number = b.number ∙ a.number;
+      fresh = (b.fresh.0 ∙ a.fresh.0, b.fresh.1 ∙ a.fresh.1);
+      went = went_more Begins old.seat.view mid.seat.view new.seat.view a.went b.went;
+      aims = went_more (StartsAt target) old.seat.view mid.seat.view new.seat.view a.aims b.aims;
+      quiet = b.quiet;
+      refused = λ was. b.refused (a.refused was);
+    }
+
+-- ---- what is told after reservings
+
+module _ (old new : Caller) (c : IsCaller old) (q : IsQuiet old) (r : HasReserved old new)
+    (parent index target : ℕ) where
+  abbrev g : WentOn Reserves old.seat.view new.seat.view
+  g = r.went
+
+  done : StartsAreDone (now old.seat.view) old.number → StartsAreDone (now new.seat.view) old.number
+  done = starts_reserving old.seat.view new.seat.view g old.number c.mine q.resolved
+
+  none : StartsNone (now old.seat.view) (now new.seat.view) old.number
+  none = starts_none_reserving old.seat.view new.seat.view g old.number c.mine q.resolved
+
+  -- the slot held another word
+  pub other_told : (word : ℕ) → StoodInstead new.seat.view parent index target word
+      → TellsStart old new parent index target (Ok (Other word))
+  other_told word stood =
+      record {
+        yes = λ rebuild e. absurd (cc e);
+        other = λ other e. subst (StoodInstead new.seat.view parent index target)
+            (same_word word other (same_answer (Other word) (Other other) e)) stood;
+        marked = λ e. absurd (cc e);
+        done = done;
+        unstarted = none;
+        uninstalled = g;
+      }
+
+  -- the parent isn't open
+  pub closed_told : ¬ (IsOpen (now new.seat.view) parent)
+      → TellsStart old new parent index target (Ok Marked)
+  closed_told closed =
+      record {
+        yes = λ rebuild e. absurd (cc e);
+        other = λ word e. absurd (cc e);
+        marked = λ e. closed;
+        done = done;
+        unstarted = none;
+        uninstalled = tt;
+      }
+
+  -- a row was refused
+  pub refused_told : (answer : Result Started Full) → IsErr answer
+      → TellsStart old new parent index target answer
+  refused_told (Ok a) is = absurd (cc is)
+  refused_told (Err full) is =
+      record {
+        yes = λ rebuild e. absurd (cc e);
+        other = λ word e. absurd (cc e);
+        marked = λ e. absurd (cc e);
+        done = done;
+        unstarted = none;
+        uninstalled = g;
+      }
+
+  -- what a start tells that follows them
+  pub told_behind : (last : Caller) (answer : Result Started Full)
+      → TellsStart new last parent index target answer
+      → TellsStart old last parent index target answer
+  told_behind last answer t =
+      record {
+        yes = t.yes;
+        other = t.other;
+        marked = t.marked;
+        done = behind_done old.seat.view new.seat.view last.seat.view g old.number new.number
+            c.mine q.resolved r.number answer t.done;
+        unstarted = behind_unstarted old.seat.view new.seat.view last.seat.view g old.number
+            new.number c.mine q.resolved r.number answer t.unstarted;
+        uninstalled = behind_uninstalled old.seat.view new.seat.view last.seat.view g answer
+            t.uninstalled;
+      }
+
+-- ---- a start that was put in
+
+module _ (who : Caller) (parent index target rebuild change : ℕ) (f : Filling)
+    (ready : IsStartReady who rebuild change f)
+    (is : f ≡ start_filling who.number parent index target rebuild) (s : IsSound who.seat.view)
+    (seat : SeatFace) where
+  -- the slot held another word: the caller only made loads
+  pub other_begun : GoesOnTo who.seat.view seat.view → HasBegun target who (record who { seat = seat })
+  other_begun g =
+      reserved_begun target who (record who { seat = seat })
+      (loads_reserved who seat ready.caller ready.quiet g)
+
+  -- and that is told
+  pub other_told_of : (word : ℕ) → IsOther who.seat.view change f word seat.view
+      → TellsStart who (record who { seat = seat }) parent index target (Ok (Other word))
+  other_told_of word o =
+      other_told who (record who { seat = seat }) ready.caller ready.quiet
+      (loads_reserved who seat ready.caller ready.quiet o.seen) parent index target word
+      (other_stood f who.number parent index target rebuild change who.seat.view word seat.view is
+      o)
+
+  module _ (i : IsInstalled who.seat.view change f seat.view) (last : SeatFace)
+      (helped : WentOn (Serves change) seat.view last.view) where
+    abbrev bare : Caller
+    bare = record who { seat = last; change = None; rebuild = None }
+
+    put : (said : Bool) → IsDecided last.view change said
+        → HasPutIn who.seat.view change
+        (start_filling who.number parent index target rebuild) said last.view
+    put said d =
+        has_put who.seat.view change f (start_filling who.number parent index target rebuild) said
+        seat.view last.view is i helped d
+
+    -- it was installed and is out of its slot
+    pub put_begun : (said : Bool) → IsDecided last.view change said → IsOut last.view change
+        → HasBegun target who bare
+    put_begun said d out =
+        let bases = start_bases who.number parent index target rebuild change f is in
+        record {
+          caller = put_caller who rebuild change ready.rows ready.caller f bases seat i last helped;
+          number = refl;
+          fresh = (refl, refl);
+          went = put_begins who parent index target rebuild change f ready s last.view said
+              (put said d);
+          aims = put_aims who parent index target rebuild change f ready s last.view said
+              (put said d);
+          quiet = put_quiet who rebuild change ready.rows ready.caller f bases seat i last helped
+              ready.quiet out;
+          refused = put_refused who rebuild change ready.rows ready.caller f bases seat i last
+              helped;
+        }
+
+    -- it was decided yes
+    pub yes_told : IsDecided last.view change true
+        → TellsStart who bare parent index target (Ok (Yes rebuild))
+    yes_told d =
+        record {
+          yes = λ other e. yes_started who parent index target rebuild change f ready s last.view
+              (put true d) other (same_answer (Yes rebuild) (Yes other) e);
+          other = λ word e. absurd (cc e);
+          marked = λ e. absurd (cc e);
+          done = yes_done who parent index target rebuild change f ready s last.view (put true d);
+          unstarted = tt;
+          uninstalled = tt;
+        }
+
+    -- it was decided no
+    pub no_told : IsDecided last.view change false
+        → TellsStart who bare parent index target (Ok Marked)
+    no_told d =
+        record {
+          yes = λ other e. absurd (cc e);
+          other = λ word e. absurd (cc e);
+          marked = λ e. no_closed who parent index target rebuild change f ready s last.view
+              (put false d);
+          done = no_done who parent index target rebuild change f ready s last.view (put false d);
+          unstarted = no_start who parent index target rebuild change f ready s last.view
+              (put false d);
+          uninstalled = tt;
+        }

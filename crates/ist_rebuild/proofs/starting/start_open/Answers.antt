@@ -1,0 +1,30 @@
+use Rattle.std.proofs.Common.{refl, Ok}
+use Rattle.ist_rebuild.proofs.BegunLemmas.{begun_more, refused_told, reserved_begun, told_behind}
+use Rattle.ist_rebuild.proofs.starting.start_open.Goals as goal
+
+-- a row was refused
+pub returns-in_err-rows-clause-begun : goal.returns-in_err-rows-clause-begun
+returns-in_err-rows-clause-begun c =
+    reserved_begun c.args.target c.args.who.now c.prepare.new.who c.in_err-rows.ensures.reserved
+
+pub returns-in_err-rows-clause-told : goal.returns-in_err-rows-clause-told
+returns-in_err-rows-clause-told c =
+    refused_told c.args.who.now c.prepare.new.who c.requires.caller c.requires.quiet
+    c.in_err-rows.ensures.reserved c.args.parent c.args.index c.args.target _
+    c.from_residual.ensures.0
+
+-- the rows are filled
+pub put_in-requires : goal.put_in-requires
+put_in-requires c = (c.in_ok-rows.ensures.same_table, (c.in_ok-rows.ensures.ready, refl))
+
+pub returns-clause-begun : goal.returns-clause-begun
+returns-clause-begun c =
+    begun_more c.args.target c.args.who.now c.prepare.new.who c.put_in.new.who
+    (reserved_begun c.args.target c.args.who.now c.prepare.new.who c.in_ok-rows.ensures.reserved)
+    c.put_in.ensures.begun
+
+pub returns-clause-told : goal.returns-clause-told
+returns-clause-told c =
+    told_behind c.args.who.now c.prepare.new.who c.requires.caller c.requires.quiet
+    c.in_ok-rows.ensures.reserved c.args.parent c.args.index c.args.target c.put_in.new.who
+    (Ok c.put_in.result) c.put_in.ensures.told
