@@ -9,4 +9,5 @@ pub mod CutterLemmas
 pub mod PlaceLemmas
 pub mod PrintedLemmas
 pub mod SparingLemmas
+pub mod SkippedLemmas
 pub mod ShownLemmas

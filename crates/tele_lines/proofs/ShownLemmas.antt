@@ -1,17 +1,16 @@
 -- That the bytes which a reader keeps show a bad line. Serves the reader.
-use Rattle.std.proofs.Common.{◌≡◌, ℕ, ◌+◌, ◌<◌, Bool, true, false, List, [], ◌∷◌, ◌++◌, length, take, drop, refl, sym, ◌∙◌, ap, subst, arith, inl, inr, append-nil, append_assoc, length-append}
-use Rattle.std.specs.Prelude.{◌⊎◌, ◌==◌, if◌then◌else◌, not, cond, Option, Some, None, IfSome}
+use Rattle.std.proofs.Common.{◌≡◌, ℕ, ◌+◌, Bool, true, false, List, [], ◌∷◌, ◌++◌, length, take, drop, refl, sym, ◌∙◌, ap, subst, arith, inl, inr, append_assoc}
+use Rattle.std.specs.Prelude.{◌==◌, if◌then◌else◌, not, cond, Option, Some, None, IfSome}
 use Rattle.std.specs.List.{position_or_len}
 use Rattle.tele_io.specs.Bytes.{Keeps}
-use Rattle.std.proofs.lemmas.List.{take_all, take-append-drop, take-append-le}
-use Rattle.std.proofs.Math.Seq.{take-append_seam}
+use Rattle.std.proofs.lemmas.List.{take_all, take-append-drop}
 use Rattle.tele_lines.specs.declared.items.Cause.{Cause}
 use Rattle.tele_lines.specs.declared.items.Said.{Said}
 use Rattle.tele_lines.specs.declared.items.Said.TheVariants.{Fails}
 use Rattle.tele_lines.specs.Lines.{newline, onto_whole, whole_lines}
 use Rattle.tele_lines.specs.Readings.{next_mode, reading}
 use Rattle.tele_lines.specs.Answer.{then_read, read_from, status_of}
-use Rattle.tele_lines.specs.Buffers.{is_newline, IsUnbroken, BreaksAt, EndsAt, IsOpenEnded}
+use Rattle.tele_lines.specs.Buffers.{is_newline, IsUnbroken, BreaksAt, IsOpenEnded}
 use Rattle.tele_lines.specs.Progress.{Place, GoesTo, ShowsBad, read_at}
 use Rattle.tele_lines.proofs.CutLemmas.{whole_first}
 use Rattle.tele_lines.proofs.PlaceLemmas.{still_going}

@@ -5,10 +5,9 @@ use Rattle.std.proofs.lemmas.List.{take-append-le, take-append-drop, append_canc
 use Rattle.std.proofs.Math.Seq.{take-append_seam}
 use Rattle.tele_io.specs.Bytes.{Keeps}
 use Rattle.tele_lines.specs.Lines.{whole_lines}
-use Rattle.tele_lines.specs.Buffers.{Fills, FillsFrom, IsUnbroken, Refills, RefillsOnly, TellsEndOf, unread_of, piece_limit}
+use Rattle.tele_lines.specs.Buffers.{Fills, FillsFrom, IsUnbroken, RefillsOnly, TellsEndOf, unread_of, piece_limit}
 use Rattle.tele_lines.specs.Progress.{Place, GoesTo, TakesLast, TakesAsNeeded, read_at}
 use Rattle.tele_lines.proofs.CutLemmas.{no_whole}
-use Rattle.tele_lines.proofs.PlaceLemmas.{still_going}
 
 -- ---- one filling of the buffer
 
