@@ -34,13 +34,14 @@ use Rattle.ist_rows.specs.declared.callers.Caller.{Caller}
 use Rattle.ist_rows.specs.Building.{HasRefused}
 use Rattle.ist_rows.specs.Rows.{IsCaller}
 use Rattle.ist_rows.specs.Going.{IsQuiet, StaysReady}
-use Rattle.std.specs.Prelude.{IfSome}
+use Rattle.std.specs.Prelude.{IfOk, IfSome, OnErr}
 use Rattle.ist_updates.specs.declared.updates.Applied.{Applied}
 use Rattle.ist_updates.specs.declared.updates.Due.{Due}
 use Rattle.ist_updates.specs.Asking.{MayEnd, Updates}
 use Rattle.ist_updates.specs.Counting.{CameToLimit, CountedNowhere, IsCounted, LeavesDue}
 use Rattle.laws_settling.proofs.DoneLemmas.{others_count_nothing}
-use Rattle.ist_tree.specs.Working.{CarriesOut, IsDueRefused, IsLetGo, IsShut, IsTopCame, IsTopShut, KeepsDone, LeavesShut, Rebuilds, Works, is_shut, none_came, was_refused}
+use Rattle.ist_updates.specs.Refusals.{WasRefused}
+use Rattle.ist_tree.specs.Working.{Applies, CarriesOut, IsDueRefused, IsLetGo, IsShut, IsTopCame, IsTopShut, IsTurnedDown, KeepsDone, LeavesShut, Rebuilds, Works, is_shut, none_came, was_refused}
 use Rattle.ist_tree.proofs.CameLemmas.{came_inside, came_within, closed_above, due_since, ever_here}
 use Rattle.ist_tree.proofs.CarryLemmas.{counted_on, may_end_on}
 use Rattle.ist_tree.proofs.DueLemmas.{done_more}
@@ -49,33 +50,19 @@ use Rattle.ist_tree.proofs.RebuildLemmas.{starts_went}
 use Rattle.ist_tree.proofs.ShortLemmas.{due_refused_more}
 use Rattle.ist_rows.proofs.GoneLemmas.{still_ready}
 
--- ---- what `apply` ensures
+-- ---- what an update that was applied leaves
 
--- an update took effect, or found nothing to remove
-pub record Applies (old mid : Caller) (command : Command) (reply : Option ℕ)
-    (of : Option Due) : Type 0 where
-  pub caller : IsCaller mid
-  pub refused : HasRefused mid
-  pub quiet : IsQuiet mid
-  pub number : mid.number ≡ old.number
-  pub went : SearchedOn Updates old.seat.view mid.seat.view
-  pub few_walks : HasWalkedFew old.seat.view mid.seat.view
-  pub may : MayEnd mid command reply
-  -- an update that took effect was counted in the call at each row of its chain
-  pub counted : let v = old.seat.view in makes_entry command reply ≡ true
-      → IsCounted v.start v.words v.log mid.seat.view.log old.number command
-  pub due : LeavesDue old.seat.view mid.seat.view old.number of
-
--- an update that took effect although it might have met another value ensures the same
-pub applied_of : (old mid : Caller) (command : Command) (o : Option Applied) (done : Applied)
-    (due : Option Due) → o ≡ Some done → done.due ≡ due → IsCaller mid → HasRefused mid → IsQuiet mid
-    → mid.number ≡ old.number → SearchedOn Updates old.seat.view mid.seat.view
-    → HasWalkedFew old.seat.view mid.seat.view → IfSome o (λ x. MayEnd mid command x.reply)
-    → IfSome o (λ x. makes_entry command x.reply ≡ true → IsCounted old.seat.view.start
-    old.seat.view.words old.seat.view.log mid.seat.view.log old.number command)
-    → IfSome o (λ x. LeavesDue old.seat.view mid.seat.view old.number x.due)
-    → Applies old mid command done.reply due
-applied_of old mid command o done due is same c r q n w few may counted left =
+-- an update that returned a reply was applied
+pub applies_by : (old mid : Caller) (command : Command) (answer : Result (Option Applied) Full)
+    → IsCaller mid → HasRefused mid → IsQuiet mid → mid.number ≡ old.number
+    → SearchedOn Updates old.seat.view mid.seat.view → HasWalkedFew old.seat.view mid.seat.view
+    → IfOk answer (λ o. IfSome o (λ x. MayEnd mid command x.reply))
+    → IfOk answer (λ o. IfSome o (λ x. makes_entry command x.reply ≡ true
+    → IsCounted old.seat.view.start old.seat.view.words old.seat.view.log mid.seat.view.log
+    old.number command))
+    → IfOk answer (λ o. IfSome o (λ x. LeavesDue old.seat.view mid.seat.view old.number x.due))
+    → IfOk answer (λ o. IfSome o (λ x. Applies old mid command x.reply x.due))
+applies_by old mid command (Ok (Some done)) c r q n w few may counted left =
     record {
       caller = c;
       refused = r;
@@ -83,13 +70,12 @@ applied_of old mid command o done due is same c r q n w few may counted left =
       number = n;
       went = w;
       few_walks = few;
-      may = subst (λ x. IfSome x (λ y. MayEnd mid command y.reply)) is may;
-      counted = subst (λ x. IfSome x (λ y. makes_entry command y.reply ≡ true
-          → IsCounted old.seat.view.start old.seat.view.words old.seat.view.log mid.seat.view.log
-          old.number command)) is counted;
-      due = subst (LeavesDue old.seat.view mid.seat.view old.number) same
-          (subst (λ x. IfSome x (λ y. LeavesDue old.seat.view mid.seat.view old.number y.due)) is left);
+      may = may;
+      counted = counted;
+      due = left;
     }
+applies_by old mid command (Ok None) c r q n w few may counted left = tt
+applies_by old mid command (Err full) c r q n w few may counted left = tt
 
 -- it starts no rebuild
 applied_done : (old mid : Caller) → old.seat.view.who ≡ CallerOf old.number
@@ -147,6 +133,20 @@ let_go old new mine resolved c refused number went few can due uncounted =
       starts = applied_done old new mine resolved went;
       due = none_due old new.seat.view went due;
     }
+
+-- it was refused
+pub turned_by : (old new : Caller) (words key : ℕ) (value : Option ℕ)
+    (answer : Result (Option Applied) Full) → old.seat.view.who ≡ CallerOf old.number
+    → IsResolved old.seat.view old.number → IsCaller new → HasRefused new → new.number ≡ old.number
+    → SearchedOn Updates old.seat.view new.seat.view → HasWalkedFew old.seat.view new.seat.view
+    → IfErr answer (λ full. WasRefused old.seat.view key value words full new.seat.view)
+    → IfErr answer (λ full. CanGiveUp new.seat.view)
+    → OnErr answer (LeavesDue old.seat.view new.seat.view old.number None)
+    → OnErr answer (CountedNowhere old.seat.view.log new.seat.view.log old.number)
+    → IfErr answer (IsTurnedDown old new words key value)
+turned_by old new words key value (Ok a) mine resolved c r n w few cause can due uncounted = tt
+turned_by old new words key value (Err e) mine resolved c r n w few cause can due uncounted =
+    record { let_go = let_go old new mine resolved c r n w few can due uncounted; cause = cause }
 
 -- ---- a row was made due
 

@@ -139,17 +139,6 @@ helped_shut v w went rebuild parent index target s either =
     ⊎_elim (replaced_is_shut Serves v w went rebuild parent index target s)
     (left_is_shut Serves v w went rebuild parent index target s) either
 
--- and all starts of the caller are done
-pub helped_done : (old mid new : Caller) → StaysReady Rebuilds old mid
-    → WentOn Serves mid.seat.view new.seat.view → (rebuild : ℕ)
-    → StartsAreDoneBut (now mid.seat.view) old.number rebuild
-    → IsReplaced (now new.seat.view) rebuild ⊎ IsLeftToParent (now new.seat.view) rebuild
-    → StartsAreDone (now new.seat.view) old.number
-helped_done old mid new on went rebuild but either =
-    all_done old.number mid.seat.view new.seat.view
-    (on.gone.caller.mine ∙ ap CallerOf on.gone.number)
-    (subst (IsResolved mid.seat.view) on.gone.number on.quiet.resolved) went rebuild but either
-
 -- ---- starts done, twice
 
 -- two steps that keep starts done keep them done together
@@ -158,11 +147,3 @@ pub done_more : (a b c : Caller) → b.number ≡ a.number → KeepsDone a b →
 done_more a b c number one two done =
     subst (StartsAreDone (now c.seat.view)) number
     (two (subst (StartsAreDone (now b.seat.view)) (sym number) (one done)))
-
--- starts stay done, if they were done for another caller with the same number
-pub done_behind : (a b c : Caller) → b.number ≡ a.number
-    → StartsAreDone (now b.seat.view) a.number → KeepsDone b c
-    → StartsAreDone (now c.seat.view) a.number
-done_behind a b c number done two =
-    subst (StartsAreDone (now c.seat.view)) number
-    (two (subst (StartsAreDone (now b.seat.view)) (sym number) done))

@@ -92,8 +92,9 @@ module _ (p m n : PassFace) (r : IsBetweenRounds p m) (w : HasWorked m n) where
           idle = λ e. idle.uncounted;
         }
 
-    -- the find met the value that was expected: so the map changed in between
+    -- the find met the value that was expected
     module _ (met : HasMetAt n q key expected) (lawful : Lawful q.tree.start q.tree.words q.seen) where
+      -- so the map changed in between
       pub round_fewer : place_limit - length (changes_seen q) < place_limit - length (changes_seen m)
       round_fewer = round_smaller m n q w.seen f.idle.seen key expected missed.missed met.position lawful
 

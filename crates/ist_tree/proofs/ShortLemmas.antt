@@ -1,6 +1,6 @@
 -- Starts and helps that were refused because too few words were left. Serves `rebuild_due` and
 -- `freeze`.
-use Rattle.std.proofs.Common.{◌≡◌, ℕ, Option, Some, Result, Ok, Err, IsErrAnd, IfErr, OnErr, sym, ap, ◌∙◌, subst}
+use Rattle.std.proofs.Common.{◌≡◌, ℕ, Option, Some, Result, Ok, Err, IsErrAnd, IfErr, sym, ap, ◌∙◌, subst}
 use Rattle.std.specs.Prelude.{IfSome}
 use Rattle.ist_core.specs.declared.events.Event.{Event}
 use Rattle.ist_core.specs.declared.ports.Full.{Full}
@@ -109,11 +109,6 @@ pub passed_on : {A : Type 0} (answer : Result A Full) (full : Full) (P : Full �
     → IsErrAnd answer (λ x. x ≡ full) → P full → IfErr answer P
 passed_on (Ok a) full P same p = tt
 passed_on (Err e) full P same p = subst P (sym same) p
-
--- what is true is true if there is a refusal
-pub on_any : {A : Type 0} (answer : Result A Full) (P : Type 0) → P → OnErr answer P
-on_any (Ok a) P p = tt
-on_any (Err e) P p = p
 
 -- what is true of a value, if there is one, is true of the value that there is
 pub some_is : {A : Type 0} (o : Option A) (a : A) (P : A → Type 0) → o ≡ Some a → IfSome o P → P a

@@ -36,7 +36,8 @@ pub record HelpsOther (old new : Caller) (due : Due) (words word : ℕ)
 
 -- the caller tried once to rebuild the row: if it says that this was the last attempt, the row or
 -- its parent isn't open, and otherwise the table came further
-pub record Tries (old new : Caller) (due : Due) (words : ℕ) (tried : Result Bool Full) : Type 0 where
+pub record Tries (old new : Caller) (due : Due) (words : ℕ) (tried : Result Bool Full)
+    : Type 0 where
   pub on : GoesFor old new due.target
   pub last : IfOk tried (λ last. IsLastFor last (now new.seat.view) due.parent due.target)
   pub further : tried ≡ Ok false → CameFurther old.seat.view new.seat.view

@@ -7,8 +7,8 @@ use Rattle.ist_tree.specs.Faces.{PassFace}
 use Rattle.ist_tree.specs.Freezing.{HasFrozen, HasStartedNone, IsFreezeRefused, IsFrozenFor, LeavesRebuilt}
 use Rattle.ist_tree.specs.Refusals.{HasStartsDone, KeepsRefusal}
 
--- the tree was frozen in the call, with the map's pairs of that moment, and stays so; its rebuild was
--- replaced, if the pass keeps no refusal
+-- the tree was frozen in the call, with the map's pairs of that moment, and stays so; its rebuild
+-- was replaced, if the pass keeps no refusal
 pub record FreezesAll (p q : PassFace) (frozen : Frozen) : Type 0 where
   pub seen : HasSeenMore p q
   pub still : IsFrozenFor q frozen

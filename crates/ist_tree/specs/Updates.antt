@@ -1,5 +1,5 @@
--- What an update of a pass leaves, put together: what holds however it ends, what a reply says, what
--- a refusal says, and what holds if it took no effect.
+-- What an update of a pass leaves, put together: what holds however it ends, what a reply says,
+-- what a refusal says, and what holds if it took no effect.
 use Rattle.std.specs.Prelude.{◌≡◌, ◌≢◌, ℕ, ◌+◌, true, Option}
 use Rattle.ist_core.specs.declared.commands.Command.{Command}
 use Rattle.ist_core.specs.declared.commands.Command.TheVariants.{Get}

@@ -27,9 +27,10 @@ use Rattle.ist_rows.specs.Building.{HasRefused}
 use Rattle.ist_rows.specs.Rows.{IsCaller}
 use Rattle.laws_settling.specs.Settling.{StartsAreDone, DueRowsAreClosed}
 use Rattle.ist_build.specs.Calls.{IsBuildable}
-use Rattle.ist_rows.specs.Going.{IsReady}
+use Rattle.ist_rows.specs.Going.{IsQuiet, IsReady}
 use Rattle.ist_rebuild.specs.Helping.{IsAskedFor}
-use Rattle.ist_updates.specs.Asking.{MayEnd}
+use Rattle.ist_updates.specs.declared.updates.Due.{Due}
+use Rattle.ist_updates.specs.Asking.{MayEnd, Updates}
 use Rattle.ist_updates.specs.Counting.{CountedNowhere, IsCounted, CameToLimit, LeavesDue}
 use Rattle.ist_updates.specs.Further.{HasWalkedFew}
 use Rattle.ist_updates.specs.Refusals.{WasRefused}
@@ -128,6 +129,21 @@ pub data LeavesShut (v w : View) (number words : ℕ) : Option Full → Type 0 w
   is_shut : (row : ℕ) → IsTopShut v w number row → LeavesShut v w number words None
   was_refused : (full : Full) (row : ℕ) → IsTopCame v w number row
       → IsDueRefused (now v) w row words full → LeavesShut v w number words (Some full)
+
+-- the caller's update took effect, or found nothing to remove, with this reply; its counts brought
+-- this row to its limit, if one is named, and it was counted at each row of its chain
+pub record Applies (old new : Caller) (command : Command) (reply : Option ℕ) (of : Option Due)
+    : Type 0 where
+  pub caller : IsCaller new
+  pub refused : HasRefused new
+  pub quiet : IsQuiet new
+  pub number : new.number ≡ old.number
+  pub went : SearchedOn Updates old.seat.view new.seat.view
+  pub few_walks : HasWalkedFew old.seat.view new.seat.view
+  pub may : MayEnd new command reply
+  pub counted : let v = old.seat.view in makes_entry command reply ≡ true
+      → IsCounted v.start v.words v.log new.seat.view.log old.number command
+  pub due : LeavesDue old.seat.view new.seat.view old.number of
 
 -- the caller carried out the command with this reply, and met this refusal of the rebuild after it
 pub record CarriesOut (old new : Caller) (words : ℕ) (command : Command) (reply : Option ℕ)
