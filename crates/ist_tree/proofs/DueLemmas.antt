@@ -1,12 +1,10 @@
 -- What an attempt to rebuild a row results in. Serves `try_due` and `rebuild_due`.
-use Rattle.std.proofs.Common.{◌≡◌, ℕ, ◌⊎◌, Result, Ok, refl, sym, ap, ◌∙◌, subst, inl, inr, ⊎_elim}
+use Rattle.std.proofs.Common.{◌≡◌, ℕ, ◌⊎◌, Result, Ok, refl, sym, subst, inl, inr, ⊎_elim}
 use Rattle.ist_core.specs.declared.events.Event.{Event}
 use Rattle.ist_core.specs.declared.ports.Full.{Full}
 use Rattle.ist_core.specs.Rebuilding.{IsReplaced}
 use Rattle.ist_core.specs.Snapshots.{Snapshot}
 use Rattle.ist_rule.specs.declared.view.View.{View}
-use Rattle.ist_core.specs.declared.events.Who.TheVariants.{Caller as CallerOf}
-use Rattle.ist_rule.specs.Conditions.{IsResolved}
 use Rattle.ist_rule.specs.Going.{WentOn}
 use Rattle.ist_rule.specs.Faces.{SeatFace}
 use Rattle.ist_rule.specs.Learning.{GoesOnTo, now}
@@ -28,7 +26,7 @@ use Rattle.ist_tree.specs.Attempts.{GoesFor}
 use Rattle.ist_tree.specs.Working.{Rebuilds, IsShut, KeepsDone}
 use Rattle.ist_tree.proofs.EventLemmas.{IsPlainHelp, begins_rebuild, serves_aims, serves_rebuild}
 use Rattle.ist_tree.proofs.RebuildLemmas.{load_plain, plain_on}
-use Rattle.ist_tree.proofs.ShutLemmas.{all_done, left_is_shut, replaced_is_shut}
+use Rattle.ist_tree.proofs.ShutLemmas.{left_is_shut, replaced_is_shut}
 use Rattle.ist_rows.proofs.GoneLemmas.{ready_all, ready_more, ready_same}
 
 -- ---- going on

@@ -1,6 +1,5 @@
 -- How many walks the calls of a pass begin together. `src/laws.rt` names the law.
-use Rattle.std.specs.Prelude.{ℕ, ◌+◌, ◌≤◌, List, [], ◌∷◌, length}
-use Rattle.ist_core.specs.declared.pairs.Pair.{Pair}
+use Rattle.std.specs.Prelude.{◌+◌, ◌≤◌, List, [], ◌∷◌, length}
 use Rattle.ist_core.specs.Lawful.{Lawful}
 use Rattle.laws_progress.specs.Progress.{most_progress}
 use Rattle.ist_tree.specs.Calls.{BeginsFewWalks}
