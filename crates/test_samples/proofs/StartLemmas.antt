@@ -20,7 +20,7 @@ use Rattle.ist_core.proofs.ReferenceLemmas.{ref_of-word_of}
 use Rattle.ist_rule.specs.declared.view.View.{View}
 use Rattle.ist_core.specs.declared.events.Who.TheVariants.{Caller as CallerOf}
 use Rattle.ist_core.specs.Authors.{Later}
-use Rattle.ist_rule.specs.Conditions.{StoredAll}
+use Rattle.ist_rule.specs.Conditions.{CanBegin, StoredAll}
 use Rattle.ist_rule.specs.Rule.{IsSound, own_at}
 use Rattle.ist_rule.specs.Learning.{now, Turned, beginning, Looked}
 use Rattle.ist_rule.proofs.GoingOnLemmas.{goes_on_who, looked_goes_on}
@@ -180,6 +180,16 @@ start_filled old mid who from to unset from_is to_is unset_is rows number none f
           (caller.rows ChangeKind 20 (ap (λ (x : Caller). x.change) is ∙ rows.1));
       rebuild = subst (λ n. HoldsRow (now who.seat.view) n 15 5) number_is
           (caller.rows RebuildKind 15 (ap (λ (x : Caller). x.rebuild) is ∙ rows.0));
+    }
+
+-- it may begin a call once it has loaded the anchor's slot
+pub begins_met : (who : Caller) → HasFilledStart who → (place met : ℕ) (u : View)
+    → Looked who.seat.view place met u → CanBegin u
+begins_met who f place met u l =
+    record {
+      number = 0;
+      mine = ap (λ x. x.who) l.view ∙ f.mine;
+      in_none = ap (λ x. x.pending) l.view ∙ f.none;
     }
 
 -- the caller that installed it may help it

@@ -1,4 +1,4 @@
-use Rattle.std.proofs.Common.{◌+◌, ◌≤◌, ap, sym, subst, ◌∙◌, arith}
+use Rattle.std.proofs.Common.{ap, sym, subst, ◌∙◌, arith}
 use Rattle.ist_rows.specs.declared.callers.Caller.{Caller}
 use Rattle.ist_dcss.specs.Installing.{Filling, IsInstallable, IsInstalled}
 use Rattle.test_samples.proofs.PutLemmas.{put_filled, put_helps}
@@ -28,10 +28,8 @@ install-requires g c = (
 -- if it is installed, its caller may help it
 pub returns-clause-may_help : goal.returns-clause-may_help
 returns-clause-may_help g c is =
-    let apart : c.args.leaf + 2 ≤ c.args.change = c.requires.1.1.1.1.0 in
-    let above : 4 ≤ c.args.leaf = c.requires.1.1.1.1.1.0.0 in
-    put_helps _ _ _ c.args.who.now.number c.args.leaf _ c.args.value (omega arith)
-    c.requires.1.1.1.1.1.0.1
+    put_helps _ _ _ c.args.who.now.number c.args.leaf _ c.args.value
+    (omega (arith, c.requires.1.1.1.1.0, c.requires.1.1.1.1.1.0.0)) c.requires.1.1.1.1.1.0.1
     (put_filled c.args.who.now c.fill_row.new.who c.fill_row-2.new.who _ _ _ _ _ _ c.requires.1.1.1.1.0
     c.requires.1.1.1.1.1.0.0 c.requires.1.1.1.1.1.0.1 c.to_word-from.ensures.value
     c.to_word-to.ensures.value c.from-owner.ensures c.requires.1.1.0 c.requires.1.1.1.0 c.requires.1.1.1.1.1.1
