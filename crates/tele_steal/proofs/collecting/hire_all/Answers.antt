@@ -15,15 +15,12 @@ loop-bag-preserved g c =
     let old = c.loop-bag.invariant in
     let now = c.hire-pass.ensures in
     let pushed = c.push_reserved.ensures.items in
-    let bags = c.loop-bag.bags.items in
     let popped = c.in-Some.ensures.items in
     let longer = length_more _ _ _ pushed in
     let shorter = length_more _ _ _ popped in
-    let more : (Fits : Hand g.row.P.Denot g.row.P-Tie.Denot → Type 0)
-    → All Fits c.loop-bag.hands.items
+    let more : (Fits : Hand g.row.P.Denot g.row.P-Tie.Denot → Type 0) → All Fits c.loop-bag.hands.items
     → Fits (record { pass = c.hire-pass.result; bag = c.in-Some.bag })
-    → All Fits c.push_reserved.new.self.items =
-    λ Fits all one. All-more Fits _ _ _ pushed all one in
+    → All Fits c.push_reserved.new.self.items = λ Fits all one. All-more Fits _ _ _ pushed all one in
     record {
       same = search (arith, rules);
       owner = is_owners _ _ _ _ now.owner;
@@ -38,8 +35,6 @@ loop-bag-preserved g c =
       tables = more (λ h. IsPassOf (worker_deque c.args.owner.now) h.pass) old.tables
           (subst (λ d. IsPassOf d c.hire-pass.result) old.same.0 now.table);
       workers = more (λ h. view h.pass ≡ of_worker []) old.workers now.worker;
-      empty = more (λ h. h.bag.items ≡ []) old.empty
-          (All-last (λ (b : Vec L Global). b.items ≡ []) _ _ _ popped old.bags_empty);
-      wide = more (λ h. 64 ≤ vec_capacity h.bag) old.wide
-          (All-last (λ (b : Vec L Global). 64 ≤ vec_capacity b) _ _ _ popped old.bags_wide);
+      empty = more (λ h. h.bag.items ≡ []) old.empty (All-last (λ (b : Vec L Global). b.items ≡ []) _ _ _ popped old.bags_empty);
+      wide = more (λ h. 64 ≤ vec_capacity h.bag) old.wide (All-last (λ (b : Vec L Global). 64 ≤ vec_capacity b) _ _ _ popped old.bags_wide);
     }
