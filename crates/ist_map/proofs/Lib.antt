@@ -10,5 +10,6 @@ pub mod PassLemmas
 pub mod NumberLemmas
 pub mod HandLemmas
 pub mod RunLemmas
+pub mod GrowLemmas
 pub mod ScriptLemmas
 pub mod OwningLemmas

@@ -39,5 +39,5 @@ HistoriesAreMadeOfCalls =
 -- a run of workers is one legal history of their calls
 abbrev pub RunsAreOneHistory : Type 0
 RunsAreOneHistory =
-    (first last : List ℕ) (before after : List (List Answered))
-    → HasRunOn first last before after → IsOneHistory first last before after
+    (first last : List ℕ) (asked : ℕ) (before after : List (List Answered))
+    → HasRunOn first last asked before after → IsOneHistory first last before after

@@ -2,6 +2,7 @@
 pub mod Generations
 pub mod Interleaving
 pub mod Reopening
+pub mod Growing
 pub mod Hands
 pub mod Running
 pub mod Scripts

@@ -1,6 +1,7 @@
 //! Workers and their passes: each gets the pass with its number on a tree, works, and gives it back.
-ghost use Rattle.std.specs.Prelude.{◌≡◌, ◌+◌, ◌++◌, ◌<◌, ◌≤◌, ◌∷◌, [], ℕ, List, length, map, max, false, All, None, OnOk};
-ghost use Rattle.std.specs.List.{range_with_len};
+ghost use Rattle.std.specs.Prelude.{◌≡◌, ◌+◌, ◌++◌, ◌<◌, ◌≤◌, ◌∷◌, [], ℕ, List, length, map, max};
+ghost use Rattle.std.specs.Prelude.{false, All, None, OnOk, is_some};
+ghost use Rattle.std.specs.List.{list_any, range_with_len};
 ghost use Rattle.ist_core.specs.Enabled.{caller_limit};
 ghost use Rattle.ist_core.specs.Replies.{Answered};
 ghost use Rattle.ist_core.specs.Resting.{told_by_call};
@@ -50,6 +51,13 @@ impl<W: Worker> Hand<W> {
             pass: None,
             refused: None,
         }
+    }
+
+    /// Returns what its worker was refused when it stopped last, if it stopped since it was refused.
+    pub fn refused(&self) -> Option<Full>
+        ensures value { result ≡ self.now.refused }
+    {
+        self.refused
     }
 
     // Gives it the next pass of the tree.
@@ -156,6 +164,7 @@ pub(crate) fn dismiss_all<W: Worker>(tree: &Tree, maker: &mut Maker, hands: &mut
 // Whether a worker stopped because a call was refused.
 pub(crate) fn has_refused<W: Worker>(hands: &[Hand<W>]) -> bool
     ensures none { result ≡ false → All (λ h. h.refused ≡ None) hands.now }
+    ensures value { result ≡ list_any (λ h. is_some h.refused) hands.now }
 {
     hands.iter().any(|hand| hand.refused.is_some())
 }

@@ -28,7 +28,6 @@ pub fn histories_are_made_of_calls()
 /// The calls of all workers of a run, on all of its trees, form one legal history. It leads from the
 /// pairs that the map had before to those that it has afterwards, and is made of what each worker was
 /// told.
-#[tactic(auto, using(crate::proofs::RunLemmas::run_is_one))]
 pub fn runs_are_one_history()
     ensures one { RunsAreOneHistory }
 {}

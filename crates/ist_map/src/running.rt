@@ -1,11 +1,13 @@
 //! A map that workers share, on one tree after another.
-ghost use Rattle.std.specs.Prelude.{◌≡◌, ◌*◌, ◌^◌, ◌<◌, ◌≤◌, ℕ, List, length, map, All, None, OnOk, IfOk, IfErr};
+ghost use Rattle.std.specs.Prelude.{◌≡◌, ◌*◌, ◌^◌, ◌<◌, ◌≤◌, ℕ, List, length, map, All, None};
+ghost use Rattle.std.specs.Prelude.{OnOk, OnErr, IfOk, IfErr};
 ghost use Rattle.std.specs.List.Sorted.{IsStrictlyIncreasing};
 ghost use Rattle.ist_core.specs.Enabled.{caller_limit};
 ghost use Rattle.ist_core.specs.RowLayout.{place_limit};
 ghost use Rattle.ist_words.specs.RestingWords.{HoldPairs};
 ghost use Rattle.ist_tree.specs.Opening.{IsNewTree};
-ghost use Rattle.ist_map.specs.Running.{HasRunOn, OpensEnough, IsRunFault, IsOpenFaultOf};
+ghost use Rattle.ist_map.specs.Growing.{IsFirstFault, IsGrowFault};
+ghost use Rattle.ist_map.specs.Running.{HasRunOn, HasRunTo, HasStopped, OpensEnough};
 
 use crate::faults::ReopenFault;
 use crate::hands::{Hand, Worker, dismiss_all, has_refused, hire_all, work_all};
@@ -40,7 +42,7 @@ impl Map {
         requires within { words ≤ place_limit }
         ensures pairs { IfOk result (λ m. HoldPairs m.closed pairs.now) }
         ensures words { IfOk result (λ m. m.words ≡ words) }
-        ensures fault { IfErr result (IsOpenFaultOf words pairs.now) }
+        ensures fault { IfErr result (IsFirstFault words pairs.now) }
     {
         let mut image = Image::new(alloc);
         let (tree, maker) = open_pairs(alloc, &mut image, words, pairs)?;
@@ -82,10 +84,11 @@ impl Map {
     /// started.
     ///
     /// They share one tree. If a worker's call is refused, the tree is closed as soon as all have
-    /// stopped, and all go on in a tree of at least twice the words that begins with the same pairs.
-    /// So with memory a run ends when the workers end, or when `MOST_WORDS` words are too few. Then,
-    /// and also if memory runs out, the map has all pairs that were put, each worker knows what it
-    /// was told, and `run` may be called again.
+    /// stopped, and all go on in a tree of twice the words (or of more, if the pairs take more) that
+    /// begins with the same pairs. So with memory a run ends when the workers end, or when a worker
+    /// was refused on a tree of more than half of `MOST_WORDS` words (`Beyond`), or when the pairs
+    /// alone take more than `MOST_WORDS` words (`Small`). Then, and also if memory runs out, the map
+    /// has all pairs that were put, each worker knows what it was told, and `run` may be called again.
     pub fn run<R: Threads + Sync, W: Worker + Send>(
         &mut self,
         rt: &R,
@@ -93,10 +96,12 @@ impl Map {
         hands: &mut [Hand<W>],
     ) -> Result<(), ReopenFault>
         requires few { length hands.old ≤ caller_limit }
-        ensures ran { HasRunOn self.old.closed self.new.closed
+        ensures ran { HasRunOn self.old.closed self.new.closed self.old.words
             (map (λ h. W.told h.worker) hands.old) (map (λ h. W.told h.worker) hands.new) }
         ensures done { OnOk result (All (λ h. W.is_done h.worker) hands.new) }
-        ensures fault { IfErr result (IsRunFault self.new.closed self.old.words) }
+        ensures fault { IfErr result (λ f. HasStopped self.old.closed self.new.closed self.old.words
+            (map (λ h. W.told h.worker) hands.old) (map (λ h. W.told h.worker) hands.new)
+            (map (λ h. h.refused) hands.new) f) }
     {
         self.closed.know();
         loop {
@@ -116,12 +121,15 @@ impl Map {
         hands: &mut [Hand<W>],
     ) -> Result<(), ReopenFault>
         requires few { length hands.old ≤ caller_limit }
-        ensures ran { HasRunOn self.old.closed self.new.closed
-            (map (λ h. W.told h.worker) hands.old) (map (λ h. W.told h.worker) hands.new) }
+        ensures ran { OnOk result
+            (HasRunTo self.old.closed self.new.closed self.old.words (2 * self.new.words)
+            (map (λ h. W.told h.worker) hands.old) (map (λ h. W.told h.worker) hands.new)) }
         ensures more { OnOk result (self.old.words ≤ self.new.words) }
         ensures some { OnOk result (0 < self.new.words) }
         ensures within { OnOk result (self.new.words ≤ MOST_WORDS) }
-        ensures fault { IfErr result (IsRunFault self.new.closed self.old.words) }
+        ensures fault { IfErr result (IsGrowFault self.old.closed self.old.words) }
+        ensures unchanged { OnErr result (self.new.closed ≡ self.old.closed) }
+        ensures idle { OnErr result (hands.new ≡ hands.old) }
         ensures done { OnOk result (All (λ h. h.refused ≡ None → W.is_done h.worker) hands.new) }
         ensures same { length hands.new ≡ length hands.old }
     {
@@ -147,7 +155,7 @@ fn open_pairs(
     requires few { length pairs.now < 2 ^ 32 }
     requires within { words ≤ place_limit }
     ensures new { IfOk result (λ t. (w : ℕ) × IsNewTree w pairs.now t.0 t.1) }
-    ensures fault { IfErr result (IsOpenFaultOf words pairs.now) }
+    ensures fault { IfErr result (IsFirstFault words pairs.now) }
 {
     match Tree::open_over(alloc, image, words, pairs) {
         Err(OpenFault::Small { needed, .. }) if needed <= u64::from(MOST_WORDS) => {
@@ -165,7 +173,7 @@ fn open_enough(
     words: u32,
 ) -> Result<(Tree, Maker), ReopenFault>
     ensures new { IfOk result (λ t. OpensEnough closed.now words t.0 t.1) }
-    ensures fault { IfErr result (IsRunFault closed.now words) }
+    ensures fault { IfErr result (IsGrowFault closed.now words) }
 {
     match open_after(alloc, image, closed, words) {
         Err(ReopenFault::Small { needed, .. }) if needed <= u64::from(MOST_WORDS) => {
@@ -177,10 +185,11 @@ fn open_enough(
 
 // Returns twice as many words, if a tree may have so many.
 fn doubled(words: u32) -> Result<u32, ReopenFault>
+    requires within { words ≤ MOST_WORDS }
     ensures twice { IfOk result (λ w. w ≡ 2 * words) }
-    ensures fault { IfErr result (λ f. (closed : List ℕ) → IsRunFault closed words f) }
+    ensures fault { IfErr result (λ f. (closed : List ℕ) → IsGrowFault closed (2 * words) f) }
 {
-    let twice = words.saturating_mul(2);
+    let twice = 2 * words;
     if twice > MOST_WORDS {
         return Err(ReopenFault::Beyond { words: twice });
     }

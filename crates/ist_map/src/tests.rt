@@ -1,7 +1,7 @@
 //! Trees that run full and are followed by larger ones.
 ghost use Rattle.std.specs.Prelude.{◌≡◌, length, IfOk};
 
-use crate::{MOST_WORDS, NotReopened, ReopenFault, open_after, reopen};
+use crate::{Hand, MOST_WORDS, Map, NotReopened, ReopenFault, Script, open_after, reopen};
 use ist_core::Pair;
 use ist_image::Image;
 use ist_rest::Closed;
@@ -127,5 +127,20 @@ fn a_closed_tree_that_is_not_followed_can_be_followed_later(rt: HostRuntime) -> 
         assert_eq!(rt; used_after(rt.alloc(), &refused.closed, words), Err(fault));
         assert_eq!(rt; used_after(rt.alloc(), &refused.closed, 6), Ok(6));
     }
+    Ok(())
+}
+
+#[test]
+fn a_run_that_is_asked_for_too_many_words_says_how_many(rt: HostRuntime) -> Result<(), Fail> {
+    let closed = Map::open(rt.alloc(), 16, &[])?.into_closed();
+    let mut shared = Map::new(rt.alloc(), closed, MOST_WORDS + 1);
+    let mut hands: Vec<Hand<Script>> = Vec::new(rt.alloc());
+    hands.push(Hand::new(Script::new(rt.alloc(), Vec::new(rt.alloc()))?))?;
+    let words = MOST_WORDS + 1;
+    assert_eq!(rt;
+        shared.run(&rt, rt.alloc(), hands.as_mut_slice()),
+        Err(ReopenFault::Beyond { words })
+    );
+    assert_eq!(rt; hands[0].refused(), None);
     Ok(())
 }

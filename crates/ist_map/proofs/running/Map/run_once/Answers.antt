@@ -1,21 +1,19 @@
 use Rattle.std.proofs.Common.{◌≡◌, ◌∙◌, ◌++◌, map, length, sym, ap, subst, append-nil, arith}
 use Rattle.std.specs.List.{range_with_len}
+use Rattle.ist_core.specs.declared.pairs.Pair.{Pair}
 use Rattle.ist_words.specs.RestingWords.{HoldPairs}
 use Rattle.ist_tree.specs.Faces.{TreeFace}
+use Rattle.ist_map.specs.Growing.{tree_words}
 use Rattle.ist_map.specs.Hands.{calls_by}
 use Rattle.ist_map.proofs.HandLemmas.{all_worked}
-use Rattle.ist_map.proofs.RunLemmas.{run_none, run_one}
+use Rattle.ist_map.proofs.RunLemmas.{run_one}
 use Rattle.ist_map.proofs.running.Map.run_once.Goals as goal
-
--- no tree was opened
-pub returns-in_err-tree-clause-ran : goal.returns-in_err-tree-clause-ran
-returns-in_err-tree-clause-ran g c = run_none _ _ c.know.ensures.stands
 
 -- the workers ran on one tree, which was opened over the words and closed with its maker
 pub returns-clause-ran : goal.returns-clause-ran
 returns-clause-ran g c =
     let opened = c.in_ok-tree.ensures.new in
-    let new = opened.3.new in
+    let new = opened.opens.new in
     let same_tree = c.dismiss_all.ensures.same_tree ∙ c.hire_all.ensures.same_tree
     ∙ new.same_tree in
     let made = c.hire_all.ensures.made in
@@ -24,9 +22,12 @@ returns-clause-ran g c =
     let as_many = c.work_all.auto.hands in
     let as_before = c.hire_all.auto.hands in
     let long : length c.work_all.new.hands ≡ length c.args.hands.now = omega arith in
-    run_one _ _ _ _ c.dismiss_all.new.maker
+    run_one _ _ _ _ _ _ c.dismiss_all.new.maker
     (subst (λ (t : TreeFace). HoldPairs c.args.self.now.closed t.start) (sym same_tree)
-    opened.3.holds)
+    opened.opens.holds)
+    (c.close.ensures.words ∙ sym c.words.ensures.value)
+    (c.words.ensures.value ∙ new.words_is ∙ opened.words_is
+    ∙ ap (λ (t : TreeFace). tree_words c.args.self.now.words t.start) (sym same_tree))
     c.close.ensures.stands
     (all_worked (λ h. g.W.Worker.told h.worker) (λ h. calls_by h.pass) c.args.hands.now
     c.hire_all.new.hands c.work_all.new.hands c.dismiss_all.new.hands c.dismiss_all.new.maker
