@@ -1,7 +1,7 @@
 #!/bin/bash
 # Tests of the tree from C, C++ and Rust: the library that tools/library.sh makes, the three lists of its functions, the program of
-# bindings/c, by itself and under valgrind, and the tests of bindings/rust. What can't be run because a command isn't there is named
-# as skipped, and isn't counted. The last line is 'N passed, M failed'.
+# bindings/c, by itself, under valgrind and with ThreadSanitizer, and the tests of bindings/rust. What can't be run because a command
+# isn't there is named as skipped, and isn't counted. The last line is 'N passed, M failed'.
 #
 # Run behind `rt ci`, which leaves the library; elsewhere it is built first.
 set -u
@@ -44,43 +44,26 @@ ends() {
     exit
 }
 
-# The functions and their numbers of parameters: as the crate exports them (where an allocator is no parameter in C, and a slice is
-# two), and as C and Rust declare them.
-exports() {
-    python3 - "$@" <<'PYTHON'
-import re
-import sys
-from pathlib import Path
-
-kind, *paths = sys.argv[1:]
-text = "\n".join(Path(path).read_text() for path in paths)
-text = re.sub(r"/\*.*?\*/|//[^\n]*", "", text, flags=re.S)
-head = {
-    "rattle": r'pub extern "C" fn (\w+)\(([^)]*)\)',
-    "c": r"\b(?:uint32_t|uint64_t|ist_result|void) (ist_\w+)\(([^)]*)\);",
-    "rust": r"\n    fn (ist_\w+)\(([^)]*)\)",
-}[kind]
-for name, said in sorted(re.findall(head, text)):
-    words = [word.strip() for word in said.split(",") if word.strip()]
-    count = sum(0 if ": Global" in word else 2 if "[" in word else 1 for word in words)
-    print(name, count)
-PYTHON
-}
-
+# The functions with the types of their parameters, the structs and the statuses: as the crate exports them, and as C and Rust
+# declare them.
 crate=$here/crates/ist_c
+exports() {
+    python3 "$here/tests/exports.py" "$@"
+}
 exports rattle "$crate"/src/*.rt >"$all/rattle"
 exports c "$crate/include/ist.h" >"$all/c"
-exports rust "$here/bindings/rust/src/tree.rs" >"$all/rust"
-well 'there are exports' test -s "$all/rattle"
+exports rust "$here/bindings/rust/src/ffi.rs" >"$all/rust"
+well 'there are exports' grep -q '^ist_find(' "$all/rattle"
 same 'ist.h declares the exports' "$all/rattle" "$all/c"
-same 'tree.rs declares the exports' "$all/rattle" "$all/rust"
+same 'ffi.rs declares the exports' "$all/rattle" "$all/rust"
+well 'only ffi.rs has unsafe blocks' sh -c "! grep -l 'unsafe [{i]' '$here'/bindings/rust/src/*.rs | grep -v /ffi.rs"
 
 well 'the library is made' bash "$here/tools/library.sh" "$all"
 [ "$failed" = 0 ] || ends
 
 if there 'the names in the library' nm; then
     nm --defined-only -g "$all/libluskadorv.a" 2>/dev/null | awk '$2 == "T" { print $3 }' | grep '^ist_' | sort >"$all/defined"
-    cut -d' ' -f1 "$all/rattle" >"$all/names"
+    sed -n 's/^\(ist_[a-z_]*\)(.*/\1/p' "$all/rattle" >"$all/names"
     same 'the library defines the exports' "$all/names" "$all/defined"
 fi
 
@@ -91,6 +74,16 @@ if there 'the program in C' cc; then
     if there 'the program in C under valgrind' valgrind; then
         well 'threads.c runs under valgrind' valgrind -q --error-exitcode=99 --leak-check=full "$all/threads" 200
     fi
+    # The sanitizer sees the program and not the library, whose steps are atomic: so it tests that no memory of the program is
+    # written by two threads.
+    printf 'int main(void) { return 0; }\n' >"$all/none.c"
+    if ! { cc -fsanitize=thread "$all/none.c" -o "$all/none" && "$all/none"; } >"$all/said" 2>&1; then
+        echo "skipped: the program in C under ThreadSanitizer (cc can't build or run such programs here)"
+    else
+        well 'threads.c is compiled with ThreadSanitizer' \
+            cc -fsanitize=thread -g "${flags[@]}" "$here/bindings/c/threads.c" "-L$all" -lluskadorv -lpthread -o "$all/sanitized"
+        well 'threads.c runs with ThreadSanitizer' env TSAN_OPTIONS=halt_on_error=1 "$all/sanitized" 500
+    fi
 fi
 if there 'the header in C++' c++; then
     printf '#include "ist.h"\nint main() { ist_owner owner = {}; return ist_close(&owner) == IST_MISUSE ? 0 : 1; }\n' >"$all/plain.cpp"
@@ -99,7 +92,12 @@ if there 'the header in C++' c++; then
 fi
 if there 'the package in Rust' cargo cc; then
     cp -r "$here/bindings/rust" "$all/rust-package"
-    well 'the package in Rust passes its tests' env "LUSKADORV_LIB=$all" CARGO_TARGET_DIR="$all/target" \
-        cargo test --offline --quiet --manifest-path "$all/rust-package/Cargo.toml"
+    # With optimization, and with the checks that debug builds have.
+    in_rust() {
+        env "LUSKADORV_LIB=$all" CARGO_TARGET_DIR="$all/target" CARGO_PROFILE_RELEASE_DEBUG_ASSERTIONS=true \
+            cargo "$1" --offline --quiet --manifest-path "$all/rust-package/Cargo.toml" "${@:2}"
+    }
+    well 'the package in Rust passes its tests' in_rust test --release
+    well 'the measurement in Rust runs' in_rust bench --bench maps -- 200 1
 fi
 ends

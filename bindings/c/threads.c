@@ -133,6 +133,69 @@ static void run_full(void) {
     ist_free(&owner);
 }
 
+/* A tree that runs full goes on with more words, and keeps its pairs. */
+static void reopen(void) {
+    ist_entry entries[3] = {{2, 20}, {1, 10}, {3, 30}};
+    ist_owner owner = {0};
+    ist_pass pass = {0};
+    ist_shortage why;
+    check(ist_open(100, entries, 3, &owner) == IST_DONE && ist_new_pass(&owner, &pass) == IST_DONE, 60);
+    uint64_t key = 10, words = 100;
+    while (key < 1000) {
+        ist_result put = ist_put(&pass, key, key, &why);
+        if (put.status == IST_DONE) {
+            key++;
+            continue;
+        }
+        check(put.status == IST_FULL && ist_reopen(&owner, 200) == IST_BUSY, 61);
+        check(ist_give_back(&owner, &pass) == IST_DONE, 62);
+        words *= 2;
+        check(ist_reopen(&owner, (uint32_t)words) == IST_DONE && ist_new_pass(&owner, &pass) == IST_DONE, 63);
+    }
+    for (uint64_t it = 10; it < key; it++) check(ist_find(&pass, it).value == it, 64);
+    check(ist_find(&pass, 2).value == 20, 65);
+    check(ist_give_back(&owner, &pass) == IST_DONE, 66);
+    check(ist_reopen(&owner, 0x20000000) == IST_MISUSE && owner.full, 67);
+    /* the words are too few for the pairs: the closed tree is kept */
+    check(ist_reopen(&owner, 100) == IST_SMALL && owner.full, 68);
+    check(ist_new_pass(&owner, &pass) == IST_MISUSE && !pass.full, 69);
+    check(ist_reopen(&owner, 100) == IST_SMALL && ist_reopen(&owner, 100000) == IST_DONE, 70);
+    check(ist_new_pass(&owner, &pass) == IST_DONE && ist_find(&pass, 999).value == 999, 71);
+    check(ist_give_back(&owner, &pass) == IST_DONE && ist_reopen(&owner, 4) == IST_SMALL, 72);
+    uint64_t count = 0;
+    check(ist_close(&owner) == IST_DONE && ist_list(&owner, 0, entries, 3, &count) == IST_DONE, 73);
+    check(count == 993 && entries[0].key == 1 && entries[2].value == 30, 74);
+    check(ist_reopen(&owner, 1000) == IST_MISUSE && ist_close(&owner) == IST_MISUSE, 75);
+    ist_free(&owner);
+    printf("a tree went on with %llu words\n", (unsigned long long)words);
+}
+
+/* The next keys, and ranges. */
+static void read_in_order(void) {
+    ist_entry entries[4] = {{10, 1}, {20, 2}, {30, 3}, {UINT64_MAX, 4}}, room[3] = {{0}}, found = {7, 7};
+    ist_owner owner = {0};
+    ist_pass pass = {0};
+    ist_piece piece = {0};
+    ist_shortage why;
+    check(ist_open(1000, entries, 4, &owner) == IST_DONE && ist_new_pass(&owner, &pass) == IST_DONE, 80);
+    check(ist_at_most(&pass, 9, &found) == IST_NO_KEY && found.key == 7, 81);
+    check(ist_at_most(&pass, 10, &found) == IST_DONE && found.key == 10 && found.value == 1, 82);
+    check(ist_at_least(&pass, 11, &found) == IST_DONE && found.key == 20 && found.value == 2, 83);
+    check(ist_at_least(&pass, 31, &found) == IST_DONE && found.key == UINT64_MAX, 84);
+    check(ist_at_most(&pass, UINT64_MAX - 1, &found) == IST_DONE && found.key == 30, 85);
+    check(ist_list_range(&pass, 0, UINT64_MAX, room, 0, &piece) == IST_MISUSE && piece.count == 0, 86);
+    check(ist_list_range(&pass, 0, UINT64_MAX, room, 3, &piece) == IST_DONE, 87);
+    check(piece.count == 3 && piece.more && piece.next == 31 && room[2].value == 3, 88);
+    check(ist_list_range(&pass, piece.next, UINT64_MAX, room, 3, &piece) == IST_DONE, 89);
+    check(piece.count == 1 && !piece.more && room[0].key == UINT64_MAX, 90);
+    check(ist_list_range(&pass, 11, 19, room, 3, &piece) == IST_DONE && piece.count == 0 && !piece.more, 91);
+    check(ist_list_range(&pass, 20, 10, room, 3, &piece) == IST_DONE && piece.count == 0 && !piece.more, 92);
+    check(ist_remove(&pass, 20, &why).some && ist_at_least(&pass, 11, &found) == IST_DONE && found.key == 30, 93);
+    check(ist_at_least((ist_pass *)&owner, 0, &found) == IST_MISUSE && owner.full, 94);
+    ist_free(&pass);
+    ist_free(&owner);
+}
+
 /* Calls by wrong or empty handles, and at a wrong time. */
 static void misuse(void) {
     ist_entry entries[1] = {{5, 50}};
@@ -169,6 +232,8 @@ int main(int count, char **words) {
     share();
     raise_one();
     run_full();
+    reopen();
+    read_in_order();
     misuse();
     return 0;
 }

@@ -12,6 +12,8 @@ pub enum Error {
     Words,
     /// A pass or a note was leaked, so the tree can't be closed.
     Leaked,
+    /// The tree is closed, since a [`reopen`](crate::Tree::reopen) failed.
+    Closed,
 }
 
 impl Display for Error {
@@ -20,6 +22,7 @@ impl Display for Error {
             Error::Memory => "out of memory",
             Error::Words => "the words are too few for the pairs, or more than 2^28",
             Error::Leaked => "a pass or a note of the tree was leaked",
+            Error::Closed => "the tree is closed, since reopening it failed",
         })
     }
 }

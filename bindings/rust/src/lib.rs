@@ -1,7 +1,12 @@
-//! An ordered map from `u64` keys to `u64` values that threads share without locks.
+//! An ordered map from `u64` keys to `u64` values that threads share without blocking each other.
 //!
-//! Safe Rust over a static library that is proved (`crates/ist_c`). What the proofs say of each call stands in
-//! `docs/LIBRARY.md`. This package itself is only tested: its `unsafe` calls are all in `tree.rs`, each with its reason.
+//! Safe Rust over a static library that is proved (`crates/ist_c`). `docs/LIBRARY.md` says what the proofs state of each call. This
+//! package itself is only tested: its `unsafe` calls are all in `ffi.rs`, each with its reason.
+//!
+//! - [`Map`] is for those who come from `crossbeam_skiplist::SkipMap` or from a `BTreeMap` under a lock: its calls take `&self`,
+//!   and it grows.
+//! - [`Tree`] with a [`Pass`] for each thread is closer to the library: no call takes a lock, and a call that finds no words left
+//!   returns [`Full`].
 //!
 //! ```
 //! use luskadorv::Tree;
@@ -25,7 +30,11 @@
 
 mod errors;
 #[allow(unsafe_code)]
+mod ffi;
+mod map;
 mod tree;
 
 pub use errors::{Error, Full};
-pub use tree::{Exchanged, Note, Pair, Pass, Tree, words_for};
+pub use ffi::Pair;
+pub use map::{Map, Range};
+pub use tree::{Exchanged, Note, Pass, Tree, words_for};

@@ -1,100 +1,10 @@
-//! The tree and its passes: the calls of the static library, as `crates/ist_c/include/ist.h` declares them, and all of this
-//! package's `unsafe`.
+//! The tree and its passes.
 
-use crate::{Error, Full};
-use std::ffi::c_void;
+use crate::ffi::{self, NoteHandle, Owner, PassHandle};
+use crate::{Error, Full, Pair};
 use std::fmt::{Debug, Formatter};
-use std::ptr::null_mut;
+use std::ops::RangeBounds;
 use std::sync::{Mutex, MutexGuard, PoisonError};
-
-const DONE: u32 = 0;
-const MEMORY: u32 = 1;
-const BUSY: u32 = 3;
-const FULL: u32 = 5;
-
-/// A key with its value.
-#[repr(C)]
-#[derive(Clone, Copy, Debug, Default, PartialEq, Eq, Hash)]
-pub struct Pair {
-    /// The key.
-    pub key: u64,
-    /// Its value.
-    pub value: u64,
-}
-
-#[repr(C)]
-struct CallResult {
-    status: u32,
-    some: bool,
-    value: u64,
-}
-
-#[repr(C)]
-struct Shortage {
-    next: u64,
-    asked: u64,
-    words: u64,
-}
-
-// What the library holds for a caller. It is never copied, and each call has it by `&mut`.
-#[repr(C)]
-struct Handle {
-    full: bool,
-    at: *mut c_void,
-}
-
-impl Handle {
-    const fn new() -> Handle {
-        Handle { full: false, at: null_mut() }
-    }
-}
-
-// SAFETY: that the handle's type can be sent to another thread is proved in `ist_c` (`Opaque`). It isn't `Sync`, and needn't
-// be: each call takes it by `&mut`.
-unsafe impl Send for Handle {}
-
-impl Drop for Handle {
-    fn drop(&mut self) {
-        // SAFETY: a handle of any kind may be freed, also an empty one, and this one is the call's alone.
-        unsafe { ist_free(self) }
-    }
-}
-
-unsafe extern "C" {
-    fn ist_words_for(pairs: u64) -> u64;
-    fn ist_open(words: u32, entries: *const Pair, count: usize, out: *mut Handle) -> u32;
-    fn ist_new_pass(owner: *mut Handle, out: *mut Handle) -> u32;
-    fn ist_find(pass: *mut Handle, key: u64) -> CallResult;
-    fn ist_put(pass: *mut Handle, key: u64, value: u64, why: *mut Shortage) -> CallResult;
-    fn ist_remove(pass: *mut Handle, key: u64, why: *mut Shortage) -> CallResult;
-    fn ist_put_new(pass: *mut Handle, key: u64, value: u64, why: *mut Shortage) -> CallResult;
-    fn ist_put_if(pass: *mut Handle, key: u64, expected: u64, value: u64, why: *mut Shortage) -> CallResult;
-    fn ist_remove_if(pass: *mut Handle, key: u64, expected: u64, why: *mut Shortage) -> CallResult;
-    fn ist_write_note(pass: *mut Handle, out: *mut Handle) -> u32;
-    fn ist_meet(pass: *mut Handle, note: *mut Handle) -> u32;
-    fn ist_give_back(owner: *mut Handle, pass: *mut Handle) -> u32;
-    fn ist_close(owner: *mut Handle) -> u32;
-    fn ist_list(closed: *mut Handle, from: u64, room: *mut Pair, rooms: usize, count: *mut u64) -> u32;
-    fn ist_free(handle: *mut Handle);
-}
-
-fn checked(status: u32) -> Result<(), Error> {
-    match status {
-        DONE => Ok(()),
-        MEMORY => Err(Error::Memory),
-        BUSY => Err(Error::Leaked),
-        _ => Err(Error::Words),
-    }
-}
-
-// The reply of an update, or why it was refused.
-fn replied(called: CallResult, why: Shortage) -> Result<Option<u64>, Full> {
-    if called.status == FULL {
-        return Err(Full { next: why.next, asked: why.asked, words: why.words });
-    }
-    debug_assert_eq!(called.status, DONE);
-    Ok(called.some.then_some(called.value))
-}
 
 /// What a key had before a [`compare_exchange`](Pass::compare_exchange): `Ok` if that was expected, and else `Err`.
 pub type Exchanged = Result<Option<u64>, Option<u64>>;
@@ -106,12 +16,27 @@ pub type Exchanged = Result<Option<u64>, Option<u64>>;
 /// assert_eq!(luskadorv::words_for(0), Some(4));
 /// ```
 pub fn words_for(pairs: usize) -> Option<u32> {
-    // SAFETY: it asks for nothing.
-    let words = unsafe { ist_words_for(pairs as u64) };
-    u32::try_from(words).ok().filter(|words| (1..=1 << 28).contains(words))
+    let words = ffi::words_for(pairs as u64);
+    u32::try_from(words).ok().filter(|words| (1..=ffi::MOST_WORDS).contains(words))
 }
 
-/// An ordered map. Threads share it by reference, and each calls it by a [`Pass`].
+// The first and the last key of the range, if it has keys.
+pub(crate) fn ends<R: RangeBounds<u64>>(range: R) -> Option<(u64, u64)> {
+    use std::ops::Bound::{Excluded, Included, Unbounded};
+    let first = match range.start_bound() {
+        Included(key) => *key,
+        Excluded(key) => key.checked_add(1)?,
+        Unbounded => 0,
+    };
+    let last = match range.end_bound() {
+        Included(key) => *key,
+        Excluded(key) => key.checked_sub(1)?,
+        Unbounded => u64::MAX,
+    };
+    (first <= last).then_some((first, last))
+}
+
+/// An ordered map with a fixed number of words. Threads share it by reference, and each calls it by a [`Pass`].
 ///
 /// ```
 /// use luskadorv::{Error, Pair, Tree};
@@ -125,7 +50,7 @@ pub fn words_for(pairs: usize) -> Option<u32> {
 /// ```
 pub struct Tree {
     // One call at a time has the owner's handle, by this lock. No call on keys takes it.
-    owner: Mutex<Handle>,
+    owner: Mutex<Owner>,
 }
 
 impl Tree {
@@ -138,36 +63,47 @@ impl Tree {
     /// assert_eq!(Tree::open(3, &[]).err(), Some(Error::Words));
     /// ```
     pub fn open(words: u32, pairs: &[Pair]) -> Result<Tree, Error> {
-        let mut owner = Handle::new();
-        // SAFETY: pointer and length are those of one slice, and `owner` is the call's alone.
-        checked(unsafe { ist_open(words, pairs.as_ptr(), pairs.len(), &mut owner) })?;
-        Ok(Tree { owner: Mutex::new(owner) })
+        Ok(Tree { owner: Mutex::new(Owner::open(words, pairs)?) })
     }
 
-    fn owner(&self) -> MutexGuard<'_, Handle> {
+    fn owner(&self) -> MutexGuard<'_, Owner> {
         self.owner.lock().unwrap_or_else(PoisonError::into_inner)
     }
 
     /// Makes a pass, for one thread. It is given back when it is dropped.
     pub fn pass(&self) -> Result<Pass<'_>, Error> {
-        let mut handle = Handle::new();
-        // SAFETY: both handles are the call's alone, the owner's by its lock.
-        checked(unsafe { ist_new_pass(&mut *self.owner(), &mut handle) })?;
-        Ok(Pass { tree: self, handle })
+        let pass = self.owner().pass()?;
+        Ok(Pass { tree: self, pass: Some(pass) })
+    }
+
+    /// Goes on with this many words: closes the tree, and opens one that begins with exactly the pairs that all calls left.
+    /// All passes were dropped, as the compiler sees.
+    ///
+    /// If that fails for want of memory, or since the words are too few for the pairs, the pairs are kept: call it again, or
+    /// [`into_pairs`](Tree::into_pairs). Until then [`pass`](Tree::pass) returns [`Error::Closed`].
+    ///
+    /// ```
+    /// use luskadorv::{Error, Tree};
+    ///
+    /// let mut tree = Tree::open(100, &[])?;
+    /// let mut pass = tree.pass()?;
+    /// let mut key = 0;
+    /// while pass.insert(key, key).is_ok() {
+    ///     key += 1;
+    /// }
+    /// drop(pass);
+    /// tree.reopen(10_000)?;
+    /// assert_eq!(tree.pass()?.insert(key, key), Ok(None));
+    /// assert_eq!(tree.into_pairs()?.len() as u64, key + 1);
+    /// # Ok::<(), Error>(())
+    /// ```
+    pub fn reopen(&mut self, words: u32) -> Result<(), Error> {
+        self.owner.get_mut().unwrap_or_else(PoisonError::into_inner).reopen(words)
     }
 
     /// Closes the tree, and returns its pairs in increasing order of keys. All passes were dropped, as the compiler sees.
     pub fn into_pairs(self) -> Result<Vec<Pair>, Error> {
-        let mut owner = self.owner.into_inner().unwrap_or_else(PoisonError::into_inner);
-        // SAFETY: the handle is the call's alone, here and in the two calls below.
-        checked(unsafe { ist_close(&mut owner) })?;
-        let (mut count, mut none) = (0, []);
-        // SAFETY: pointer and length are those of one slice, which is empty and so isn't written.
-        checked(unsafe { ist_list(&mut owner, 0, none.as_mut_ptr(), none.len(), &mut count) })?;
-        let mut pairs = vec![Pair::default(); count as usize];
-        // SAFETY: pointer and length are those of one slice.
-        checked(unsafe { ist_list(&mut owner, 0, pairs.as_mut_ptr(), pairs.len(), &mut count) })?;
-        Ok(pairs)
+        self.owner.into_inner().unwrap_or_else(PoisonError::into_inner).into_pairs()
     }
 }
 
@@ -179,14 +115,19 @@ impl Debug for Tree {
 
 /// What one thread calls its tree by. It can be sent to another thread.
 ///
-/// Its calls never block, allocate nothing, and always return. A pass that is forgotten instead of dropped keeps its tree
-/// from being closed.
+/// Its calls never block and always return; only [`list`](Pass::list) and [`note`](Pass::note) allocate. A pass that is
+/// forgotten instead of dropped keeps its tree from being closed.
 pub struct Pass<'t> {
     tree: &'t Tree,
-    handle: Handle,
+    // None only while it is dropped.
+    pass: Option<PassHandle>,
 }
 
 impl<'t> Pass<'t> {
+    fn handle(&mut self) -> &mut PassHandle {
+        self.pass.as_mut().expect("a pass has its handle until it is dropped")
+    }
+
     /// Returns the value of the key, if it has one.
     ///
     /// ```
@@ -195,10 +136,7 @@ impl<'t> Pass<'t> {
     /// # Ok::<(), luskadorv::Error>(())
     /// ```
     pub fn get(&mut self, key: u64) -> Option<u64> {
-        // SAFETY: the handle is the call's alone.
-        let called = unsafe { ist_find(&mut self.handle, key) };
-        debug_assert_eq!(called.status, DONE);
-        called.some.then_some(called.value)
+        self.handle().find(key)
     }
 
     /// Puts the value at the key, and returns the value that the key had before.
@@ -212,10 +150,7 @@ impl<'t> Pass<'t> {
     /// # Ok::<(), luskadorv::Error>(())
     /// ```
     pub fn insert(&mut self, key: u64, value: u64) -> Result<Option<u64>, Full> {
-        let mut why = Shortage { next: 0, asked: 0, words: 0 };
-        // SAFETY: the handle is the call's alone, and so is `why`.
-        let called = unsafe { ist_put(&mut self.handle, key, value, &mut why) };
-        replied(called, why)
+        self.handle().update(key, Some(value))
     }
 
     /// Removes the key, and returns the value that it had.
@@ -229,10 +164,7 @@ impl<'t> Pass<'t> {
     /// # Ok::<(), luskadorv::Error>(())
     /// ```
     pub fn remove(&mut self, key: u64) -> Result<Option<u64>, Full> {
-        let mut why = Shortage { next: 0, asked: 0, words: 0 };
-        // SAFETY: the handle is the call's alone, and so is `why`.
-        let called = unsafe { ist_remove(&mut self.handle, key, &mut why) };
-        replied(called, why)
+        self.handle().update(key, None)
     }
 
     /// Makes the key's value `new` if it is `expected`, where `None` is no value, and returns what it was: `Ok` if the value
@@ -248,27 +180,71 @@ impl<'t> Pass<'t> {
     /// # Ok::<(), luskadorv::Error>(())
     /// ```
     pub fn compare_exchange(&mut self, key: u64, expected: Option<u64>, new: Option<u64>) -> Result<Exchanged, Full> {
-        let mut why = Shortage { next: 0, asked: 0, words: 0 };
-        let pass = &mut self.handle;
-        // SAFETY: the handle is the call's alone, and so is `why`.
-        let called = unsafe {
-            match (expected, new) {
-                (None, None) => ist_find(pass, key),
-                (None, Some(new)) => ist_put_new(pass, key, new, &mut why),
-                (Some(expected), Some(new)) => ist_put_if(pass, key, expected, new, &mut why),
-                (Some(expected), None) => ist_remove_if(pass, key, expected, &mut why),
-            }
-        };
-        let had = replied(called, why)?;
+        let had = self.handle().update_if(key, expected, new)?;
         Ok(if had == expected { Ok(had) } else { Err(had) })
+    }
+
+    /// Returns the pair with the least key that is at least `key`, if there is one.
+    ///
+    /// The pair was in the map at some moment of the call, and each key from `key` to before it was absent at a moment of its
+    /// own.
+    ///
+    /// ```
+    /// let tree = luskadorv::Tree::open(1000, &[luskadorv::Pair { key: 5, value: 50 }])?;
+    /// let mut pass = tree.pass()?;
+    /// assert_eq!(pass.at_least(3).map(|pair| pair.key), Some(5));
+    /// assert_eq!(pass.at_least(6), None);
+    /// # Ok::<(), luskadorv::Error>(())
+    /// ```
+    pub fn at_least(&mut self, key: u64) -> Option<Pair> {
+        self.handle().at_least(key)
+    }
+
+    /// Returns the pair with the greatest key that is at most `key`, if there is one. Otherwise as
+    /// [`at_least`](Pass::at_least).
+    pub fn at_most(&mut self, key: u64) -> Option<Pair> {
+        self.handle().at_most(key)
+    }
+
+    /// Returns the pairs with keys in the range, in increasing order of keys. Each key has what the list gives it at a moment
+    /// of its own.
+    ///
+    /// ```
+    /// let pairs = [5, 6, 7].map(|key| luskadorv::Pair { key, value: 10 * key });
+    /// let tree = luskadorv::Tree::open(1000, &pairs)?;
+    /// let mut pass = tree.pass()?;
+    /// assert_eq!(pass.list(..), pairs);
+    /// assert_eq!(pass.list(6..7), pairs[1..2]);
+    /// # Ok::<(), luskadorv::Error>(())
+    /// ```
+    pub fn list<R: RangeBounds<u64>>(&mut self, range: R) -> Vec<Pair> {
+        let mut pairs = Vec::new();
+        let Some((mut first, last)) = ends(range) else {
+            return pairs;
+        };
+        loop {
+            let begun = pairs.len();
+            pairs.resize(begun + 64, Pair::default());
+            let (count, next) = self.handle().list(first, last, &mut pairs[begun..]);
+            pairs.truncate(begun + count);
+            match next {
+                Some(key) => first = key,
+                None => return pairs,
+            }
+        }
+    }
+
+    /// Writes the pairs from `first` to `last` into `room`, in increasing order of keys, as many as there is room for. Returns
+    /// how many these are, and the key to go on from if keys are left. It allocates nothing.
+    pub fn list_into(&mut self, first: u64, last: u64, room: &mut [Pair]) -> (usize, Option<u64>) {
+        self.handle().list(first, last, room)
     }
 
     /// Makes a note of what the pass has seen, for another pass of its tree.
     pub fn note(&mut self) -> Result<Note<'t>, Error> {
-        let mut handle = Handle::new();
-        // SAFETY: both handles are the call's alone.
-        checked(unsafe { ist_write_note(&mut self.handle, &mut handle) })?;
-        Ok(Note { tree: self.tree, handle })
+        let tree = self.tree;
+        let note = self.handle().note()?;
+        Ok(Note { tree, note })
     }
 
     /// Lets the pass learn what the note holds: its later calls come after those that the note's pass had made.
@@ -285,19 +261,17 @@ impl<'t> Pass<'t> {
     /// # Panics
     ///
     /// If the note is of another tree.
-    pub fn meet(&mut self, mut note: Note<'_>) {
-        assert!(std::ptr::eq(self.tree, note.tree), "the note is of another tree");
-        // SAFETY: both handles are the call's alone, and of the tree at one address, which both keep borrowed.
-        let status = unsafe { ist_meet(&mut self.handle, &mut note.handle) };
-        debug_assert_eq!(status, DONE);
+    pub fn meet(&mut self, note: Note<'_>) {
+        let _ = note.tree;
+        self.handle().meet(note.note);
     }
 }
 
 impl Drop for Pass<'_> {
     fn drop(&mut self) {
-        // SAFETY: both handles are the call's alone, the owner's by its lock, and the pass is of the owner's tree.
-        let status = unsafe { ist_give_back(&mut *self.tree.owner(), &mut self.handle) };
-        debug_assert_eq!(status, DONE);
+        if let Some(pass) = self.pass.take() {
+            self.tree.owner().give_back(pass);
+        }
     }
 }
 
@@ -310,7 +284,7 @@ impl Debug for Pass<'_> {
 /// What a pass had seen, for another pass to [meet](Pass::meet).
 pub struct Note<'t> {
     tree: &'t Tree,
-    handle: Handle,
+    note: NoteHandle,
 }
 
 impl Debug for Note<'_> {

@@ -27,11 +27,12 @@ enum ist_status {
     IST_MEMORY = 1, /* out of memory */
     IST_SMALL = 2,  /* the tree of the pairs takes more words */
     IST_BUSY = 3,   /* a pass or a note is out */
-    IST_MISUSE = 4, /* a handle holds something else or nothing, `out` is full, or a number is too large */
-    IST_FULL = 5    /* too few words of the tree are left: the call didn't happen */
+    IST_MISUSE = 4, /* a handle holds something else or nothing, `out` is full, or a number is too large or a room empty */
+    IST_FULL = 5,   /* too few words of the tree are left: the call didn't happen */
+    IST_NO_KEY = 6  /* no such key has a value */
 };
 
-typedef struct ist_owner { bool full; void *at; } ist_owner; /* a tree with its maker; after ist_close its pairs */
+typedef struct ist_owner { bool full; void *at; } ist_owner; /* a tree with its maker; a closed tree; or its pairs */
 typedef struct ist_pass { bool full; void *at; } ist_pass;   /* what one thread calls the tree by */
 typedef struct ist_note { bool full; void *at; } ist_note;   /* what a pass had seen */
 
@@ -43,6 +44,9 @@ typedef struct ist_result { uint32_t status; bool some; uint64_t value; } ist_re
 
 /* The numbers of a refusal: `asked` more words were needed, and the first free one of `words` words was `next`. */
 typedef struct ist_shortage { uint64_t next, asked, words; } ist_shortage;
+
+/* How many pairs of a range were written, and whether keys of it are left: then `next` is the key to go on from. */
+typedef struct ist_piece { uint64_t count; bool more; uint64_t next; } ist_piece;
 
 /* How many words a tree of this many pairs takes at least; 0 for 2^32 pairs or more. Updates take further words: some 60
  * each. */
@@ -70,6 +74,17 @@ ist_result ist_put_new(ist_pass *pass, uint64_t key, uint64_t value, ist_shortag
 ist_result ist_put_if(ist_pass *pass, uint64_t key, uint64_t expected, uint64_t value, ist_shortage *why);
 ist_result ist_remove_if(ist_pass *pass, uint64_t key, uint64_t expected, ist_shortage *why);
 
+/* Writes the pair with the least key that is at least `key`, or with the greatest that is at most `key`. If there is none the
+ * status is IST_NO_KEY, and `found` is left as it is. The pair was in the map at some moment of the call, and each key between
+ * was absent at a moment of its own. These calls allocate nothing and always return. */
+uint32_t ist_at_least(ist_pass *pass, uint64_t key, ist_entry *found);
+uint32_t ist_at_most(ist_pass *pass, uint64_t key, ist_entry *found);
+
+/* Writes the pairs with keys from `first` to `last`, both included, in increasing order of keys: as many as there is room for,
+ * which is at least one. Each key has what the list says at a moment of its own. `piece` says how many were written, and where
+ * to go on: also later, and by another pass. It allocates nothing. */
+uint32_t ist_list_range(ist_pass *pass, uint64_t first, uint64_t last, ist_entry *room, size_t rooms, ist_piece *piece);
+
 /* Makes a note of what the pass has seen (ist_write_note), and lets a pass learn it, which uses the note up (ist_meet,
  * same tree). The calls of the second pass then come after those that the first had made. */
 uint32_t ist_write_note(ist_pass *pass, ist_note *out);
@@ -78,8 +93,13 @@ uint32_t ist_meet(ist_pass *pass, ist_note *note);
 /* Gives the pass back, which uses it up (same tree). */
 uint32_t ist_give_back(ist_owner *owner, ist_pass *pass);
 
+/* Closes the tree, once all passes are back and all notes are used up or freed, and opens one with this many words, at most
+ * 2^28, that begins with exactly the pairs that all calls left. If none is opened (IST_SMALL, IST_MEMORY), the handle holds the
+ * closed tree with all its pairs: ist_reopen and ist_close may be called again, and ist_new_pass is IST_MISUSE. */
+uint32_t ist_reopen(ist_owner *owner, uint32_t words);
+
 /* Closes the tree, once all passes are back and all notes are used up or freed. The handle then holds the pairs that are
- * left. If there is no memory for them the status is IST_MEMORY: the tree is closed, and its pairs are lost. */
+ * left. If there is no memory for them (IST_MEMORY) it holds the closed tree, and the call may be made again. */
 uint32_t ist_close(ist_owner *owner);
 
 /* Writes the pairs of a closed tree from number `from` on, in increasing order of keys: as many as there is room for,

@@ -1,9 +1,7 @@
--- What a pass behind a handle found, what its updates did, and what closing left.
-use Rattle.std.proofs.Common.{◌≡◌, ℕ, Option, Some, Result, Ok, Err, IfSome, IfOk, IfErr, OnErr, sym, subst}
-use Rattle.std.specs.Global.{Vec}
+-- What a pass behind a handle found, and what its updates did.
+use Rattle.std.proofs.Common.{◌≡◌, ℕ, Option, Result, Ok, Err, IfOk, IfErr, OnErr, sym, subst}
 use Rattle.std.specs.Arc.{arc_value}
 use Rattle.ist_core.specs.declared.commands.Command.TheVariants.{Get}
-use Rattle.ist_core.specs.declared.pairs.Pair.{Pair}
 use Rattle.ist_core.specs.declared.ports.Full.{Full}
 use Rattle.ist_updates.specs.Asking.{command_for}
 use Rattle.ist_tree.specs.Calls.{HasSeenMore, AddsCall}
@@ -12,12 +10,9 @@ use Rattle.ist_c.specs.declared.results.CallResult.{CallResult}
 use Rattle.ist_c.specs.declared.results.Shortage.{Shortage}
 use Rattle.ist_c.specs.declared.held.Held.{Held}
 use Rattle.ist_c.specs.declared.held.Held.TheVariants as of
-use Rattle.ist_c.specs.declared.owners.TreeOwner.{TreeOwner}
 use Rattle.ist_c.specs.declared.passes.TreePass.{TreePass}
-use Rattle.ist_c.specs.Results.{done, memory, busy, misuse, full, reply_of, full_of}
+use Rattle.ist_c.specs.Results.{done, full, reply_of, full_of}
 use Rattle.ist_c.specs.Calls.{HasNotCalled, FindsBy, UpdatesBy, pass_finds, pass_updates, pass_refused}
-use Rattle.ist_c.specs.Leaving.{AreLeft}
-use Rattle.ist_c.specs.Closing.{Closes, listed, lost, is_busy, no_owner}
 
 -- ---- one call of a pass
 
@@ -80,36 +75,3 @@ was_refused held p q key value result numbers said before short is err tree seen
     subst (λ (h : Held). UpdatesBy h (of.Pass q) key value said before short) (sym is)
     (pass_refused p q key value said before short status
     (not_called p q key value result numbers short err tree seen cause calls says))
-
--- ---- closing
-
--- a handle of an owner whose closing gives a list holds the pairs that are left
-pub closed_listed : (held : Held) (owner : TreeOwner) (result : Result (Option (Vec Pair)) TreeOwner)
-    (list : Option (Vec Pair)) (pairs : Vec Pair) → held ≡ of.Owner owner → result ≡ Ok list
-    → list ≡ Some pairs → IfOk result (λ l. IfSome l (λ p. AreLeft owner.maker p.items))
-    → Closes held (of.Pairs pairs) done
-closed_listed held owner result list pairs is ok some left =
-    let listed_left : IfSome list (λ p. AreLeft owner.maker p.items) =
-    subst (λ (r : Result (Option (Vec Pair)) TreeOwner). IfOk r (λ l. IfSome l (λ p. AreLeft owner.maker p.items))) ok left in
-    let it : AreLeft owner.maker pairs.items =
-    subst (λ (l : Option (Vec Pair)). IfSome l (λ p. AreLeft owner.maker p.items)) some listed_left in
-    subst (λ (h : Held). Closes h (of.Pairs pairs) done) (sym is) (listed owner pairs it)
-
--- a handle of an owner without memory for the list holds nothing after closing
-pub closed_lost : (held left : Held) (owner : TreeOwner) → held ≡ of.Owner owner → left ≡ of.Nothing
-    → Closes held left memory
-closed_lost held left owner is none =
-    subst (λ (l : Held). Closes held l memory) (sym none)
-    (subst (λ (h : Held). Closes h of.Nothing memory) (sym is) (lost owner))
-
--- a handle of an owner still holds it if a pass or a note is out
-pub closed_busy : (held : Held) (owner kept : TreeOwner) (result : Result (Option (Vec Pair)) TreeOwner)
-    → held ≡ of.Owner owner → result ≡ Err kept
-    → IfErr result (λ o. o.maker ≡ owner.maker) → Closes held (of.Owner kept) busy
-closed_busy held owner kept result is err same =
-    subst (λ (h : Held). Closes h (of.Owner kept) busy) (sym is) (is_busy owner kept
-    (subst (λ (r : Result (Option (Vec Pair)) TreeOwner). IfErr r (λ o. o.maker ≡ owner.maker)) err same))
-
--- closing a handle of something else leaves it as it is
-pub closed_other : (held other : Held) → other ≡ held → Closes held other misuse
-closed_other held other is = subst (λ (h : Held). Closes held h misuse) (sym is) (no_owner held)

@@ -1,4 +1,7 @@
 pub mod CallLemmas
+pub mod CloseLemmas
+pub mod SendLemmas
 pub mod ConditionLemmas
 pub mod PassLemmas
+pub mod ReadLemmas
 pub mod ValueLemmas

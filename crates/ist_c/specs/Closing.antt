@@ -1,19 +1,73 @@
--- What closing leaves in an owner's handle.
-use Rattle.std.specs.Prelude.{◌≡◌, ℕ}
-use Rattle.std.specs.Global.{Vec}
-use Rattle.ist_core.specs.declared.pairs.Pair.{Pair}
+-- What closing and reopening leave in an owner's handle.
+use Rattle.std.specs.Prelude.{◌≡◌, ℕ, List}
+use Rattle.std.specs.Arc.{arc_value}
+use Rattle.ist_tree.specs.Closing.{ClosesWith}
+use Rattle.ist_tree.specs.declared.faults.OpenFault.{OpenFault}
+use Rattle.ist_tree.specs.declared.faults.OpenFault.TheVariants.{Small, Memory}
+use Rattle.ist_c.specs.declared.closed_trees.ClosedTree.{ClosedTree}
+use Rattle.ist_c.specs.declared.closed_trees.LeftPairs.{LeftPairs}
 use Rattle.ist_c.specs.declared.held.Held.{Held}
 use Rattle.ist_c.specs.declared.held.Held.TheVariants as of
 use Rattle.ist_c.specs.declared.owners.TreeOwner.{TreeOwner}
-use Rattle.ist_c.specs.Leaving.{AreLeft}
-use Rattle.ist_c.specs.Results.{done, memory, busy, misuse}
+use Rattle.ist_c.specs.Leaving.{IsLeft}
+use Rattle.ist_c.specs.Reopening.{OpensOver, FollowsOn, IsOverFault}
+use Rattle.ist_c.specs.Results.{done, memory, small, busy, misuse}
 
--- a handle of an owner holds the pairs that are left, nothing if there was no memory for them, or the
--- owner still if a pass or a note is out; a handle of something else is as before
+-- ---- closing
+
+-- the handle holds what is left of a tree with these words, or the closed tree itself if there was no
+-- memory for the list
+pub data Leaves : List ℕ → Held → ℕ → Type 0 where
+  leaves_pairs : (words : List ℕ) (left : LeftPairs) → IsLeft words left
+      → Leaves words (of.Left left) done
+  leaves_words : (closed : ClosedTree) → Leaves closed.closed (of.Closed closed) memory
+
+-- a handle of an owner holds what its tree left, whose words represent the opening pairs and the calls
+-- of all passes, or the owner still if a pass or a note is out; a handle of a closed tree holds what is
+-- left of it; a handle of something else is as before
 pub data Closes : Held → Held → ℕ → Type 0 where
-  listed : (owner : TreeOwner) (pairs : Vec Pair) → AreLeft owner.maker pairs.items
-      → Closes (of.Owner owner) (of.Pairs pairs) done
-  lost : (owner : TreeOwner) → Closes (of.Owner owner) of.Nothing memory
+  owner_closes : (owner : TreeOwner) (words : List ℕ) (after : Held) (status : ℕ)
+      → ClosesWith owner.maker words → Leaves words after status
+      → Closes (of.Owner owner) after status
+  closed_leaves : (closed : ClosedTree) (after : Held) (status : ℕ)
+      → Leaves closed.closed after status → Closes (of.Closed closed) after status
   is_busy : (owner kept : TreeOwner) → kept.maker ≡ owner.maker
       → Closes (of.Owner owner) (of.Owner kept) busy
   no_owner : (held : Held) → Closes held held misuse
+
+-- ---- reopening
+
+-- the status for a fault
+abbrev pub status_of : OpenFault → ℕ
+status_of (Small needed words) = small
+status_of Memory = memory
+
+-- the handle holds the owner of a tree of the pairs that the closed words hold, or the closed tree still
+-- if none was opened
+pub data Opens (closed : ClosedTree) (words : ℕ) : Held → ℕ → Type 0 where
+  opens_owner : (new : TreeOwner)
+      → OpensOver closed.closed words (arc_value new.tree) new.maker
+      → Opens closed words (of.Owner new) done
+  opens_none : (fault : OpenFault) → IsOverFault closed.closed words fault
+      → Opens closed words (of.Closed closed) (status_of fault)
+
+-- a handle of an owner holds the owner of a new tree, which begins with exactly the pairs that all calls
+-- of the old tree's passes left; or the closed tree if none was opened, or the owner still if a pass or
+-- a note is out. A handle of a closed tree holds the owner of a tree of its pairs, or is as before, as is
+-- a handle of something else
+pub data Reopens : Held → Held → ℕ → ℕ → Type 0 where
+  owner_reopens : (old new : TreeOwner) (words : ℕ)
+      → FollowsOn old.maker words (arc_value new.tree) new.maker
+      → Reopens (of.Owner old) (of.Owner new) words done
+  owner_closed : (old : TreeOwner) (closed : ClosedTree) (words : ℕ) (fault : OpenFault)
+      → ClosesWith old.maker closed.closed → IsOverFault closed.closed words fault
+      → Reopens (of.Owner old) (of.Closed closed) words (status_of fault)
+  owner_busy : (owner kept : TreeOwner) (words : ℕ) → kept.maker ≡ owner.maker
+      → Reopens (of.Owner owner) (of.Owner kept) words busy
+  closed_opens : (closed : ClosedTree) (new : TreeOwner) (words : ℕ)
+      → OpensOver closed.closed words (arc_value new.tree) new.maker
+      → Reopens (of.Closed closed) (of.Owner new) words done
+  closed_stays : (closed : ClosedTree) (words : ℕ) (fault : OpenFault)
+      → IsOverFault closed.closed words fault
+      → Reopens (of.Closed closed) (of.Closed closed) words (status_of fault)
+  none_reopens : (held : Held) (words : ℕ) → Reopens held held words misuse

@@ -1,13 +1,16 @@
 -- What is left of a closed tree.
-use Rattle.std.specs.Prelude.{ℕ, List}
+use Rattle.std.specs.Prelude.{◌≡◌, ℕ, List, length}
 use Rattle.ist_core.specs.declared.pairs.Pair.{Pair}
-use Rattle.ist_tree.specs.Closing.{ClosesWith}
-use Rattle.ist_tree.specs.Faces.{MakerFace}
+use Rattle.ist_core.specs.Replies.{Answered}
+use Rattle.ist_core.specs.Resting.{StandsFor}
+use Rattle.ist_core.specs.Spending.{spent}
 use Rattle.ist_words.specs.RestingWords.{HoldPairs}
+use Rattle.ist_c.specs.declared.closed_trees.LeftPairs.{LeftPairs}
 
--- these are the pairs of words with which the maker's tree was closed: they represent the opening pairs
--- and the calls of all passes
-pub record AreLeft (maker : MakerFace) (pairs : List Pair) : Type 0 where
-  pub words : List ℕ
-  pub closes : ClosesWith maker words
-  pub hold : HoldPairs words pairs
+-- these are the pairs that the closed words hold, how many words there are, and how many were spent by
+-- the log of the tree, for whichever pairs and calls the words represent
+pub record IsLeft (words : List ℕ) (left : LeftPairs) : Type 0 where
+  pub hold : HoldPairs words left.pairs.items
+  pub words_are : left.words ≡ length words
+  pub used_are : (pairs : List Pair) (told : List (List Answered)) (s : StandsFor words pairs told)
+      → left.used ≡ spent pairs s.log

@@ -2,8 +2,11 @@
 pub mod Results
 pub mod Calls
 pub mod Conditions
+pub mod Entries
+pub mod Reads
 pub mod Passes
 pub mod Leaving
+pub mod Reopening
 pub mod Closing
 -- what a handle owns
 pub mod Owning

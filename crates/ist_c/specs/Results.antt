@@ -11,7 +11,11 @@ done = 0
 abbrev pub memory : ℕ
 memory = 1
 
--- a pass is out
+-- the tree of the pairs takes more words
+abbrev pub small : ℕ
+small = 2
+
+-- a pass or a note is out
 abbrev pub busy : ℕ
 busy = 3
 
@@ -22,6 +26,10 @@ misuse = 4
 -- too few words of the tree were left
 abbrev pub full : ℕ
 full = 5
+
+-- no such key has a value
+abbrev pub no_key : ℕ
+no_key = 6
 
 -- the value, if there is one
 abbrev pub reply_of : Bool → ℕ → Option ℕ

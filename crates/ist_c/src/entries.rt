@@ -1,7 +1,9 @@
 //! The pairs that a caller in C passes in, and that it gets.
 ghost use Rattle.std.specs.Prelude.{◌≡◌, IfOk};
 ghost use Rattle.plain_map.specs.Rising.{IsRising};
+ghost use Rattle.ist_c.specs.Entries.{Wrote};
 
+use crate::results::{DONE, NO_KEY};
 use ist_core::{Command, Pair};
 use plain_map::Plain;
 use std::alloc::{AllocError, Global};
@@ -27,6 +29,22 @@ pub fn pairs_of_entries(alloc: Global, entries: &[Entry]) -> Result<Vec<Pair>, A
         })?;
     }
     Ok(map.into_pairs())
+}
+
+/// Writes the pair to the entry, if there is one, and returns a status.
+pub fn write_pair(pair: Option<Pair>, entry: &mut Entry) -> u32
+    ensures wrote { Wrote pair result entry.old entry.new }
+{
+    match pair {
+        Some(pair) => {
+            *entry = Entry {
+                key: pair.key,
+                value: pair.value,
+            };
+            DONE
+        }
+        None => NO_KEY,
+    }
 }
 
 /// Writes as many of the pairs as there is room for.

@@ -1,7 +1,7 @@
 //! What a handle holds.
+use crate::closed_trees::{ClosedTree, LeftPairs};
 use crate::owners::TreeOwner;
 use crate::passes::{TreeNote, TreePass};
-use ist_core::Pair;
 
 /// What a handle holds.
 #[derive(Drop)]
@@ -10,5 +10,6 @@ pub enum Held {
     Owner(TreeOwner),
     Pass(TreePass),
     Note(TreeNote),
-    Pairs(Vec<Pair>),
+    Closed(ClosedTree),
+    Left(LeftPairs),
 }

@@ -1,16 +1,21 @@
 //! The owner of a tree: it makes passes, takes them back, and closes the tree.
-ghost use Rattle.std.specs.Prelude.{◌≡◌, ◌+◌, ◌<◌, ◌≤◌, ◌^◌, [], ◌∷◌, length, map, IfOk, IfErr, IfSome, OnOk, OnErr};
+ghost use Rattle.std.specs.Prelude.{◌≡◌, ◌+◌, ◌<◌, ◌≤◌, ◌^◌, [], ◌∷◌, length, map, IfOk, IfErr, OnOk, OnErr};
 ghost use Rattle.std.specs.Arc.{arc_value};
 ghost use Rattle.std.specs.List.Sorted.{IsStrictlyIncreasing};
 ghost use Rattle.ist_core.specs.RowLayout.{place_limit};
+ghost use Rattle.ist_tree.specs.Closing.{ClosesWith};
 ghost use Rattle.ist_tree.specs.Faces.{calls_in};
-ghost use Rattle.ist_c.specs.Leaving.{AreLeft};
+ghost use Rattle.ist_tree.specs.Opening.{IsNewTree, IsFaultOf};
 
+use crate::closed_trees::ClosedTree;
 use crate::passes::TreePass;
 use ist_core::Pair;
 use ist_tree::{Maker, OpenFault, Tree};
 use std::alloc::{AllocError, Global};
 use std::sync::Arc;
+
+/// How many pairs a tree is opened with at most.
+pub(crate) const PAIRS_LIMIT: u64 = 0xffff_ffff;
 
 /// How many passes a tree has at most.
 const PASSES_LIMIT: u64 = 0xffff_ffff;
@@ -29,9 +34,9 @@ impl TreeOwner {
         requires rising { IsStrictlyIncreasing (map (λ pair. pair.key) pairs.now) }
         requires few { length pairs.now < 2 ^ 32 }
         requires within { words ≤ place_limit }
-        ensures start { IfOk result (λ owner. owner.maker.tree.start ≡ pairs.now) }
-        ensures words { IfOk result (λ owner. owner.maker.tree.words ≡ words) }
-        ensures made { IfOk result (λ owner. owner.maker.made ≡ 0) }
+        ensures new { IfOk result (λ owner.
+            IsNewTree words pairs.now (arc_value owner.tree) owner.maker) }
+        ensures fault { IfErr result (IsFaultOf words pairs.now) }
     {
         let (tree, maker) = Tree::open(alloc, words, pairs)?;
         match Arc::new(alloc, tree) {
@@ -69,10 +74,11 @@ impl TreeOwner {
         self.tree.take_back(&mut self.maker, pass);
     }
 
-    /// Closes the tree and returns its pairs, in increasing order of keys. If a pass or a note is out it
-    /// returns the owner. If there is no memory for the pairs, the tree is closed and they are lost.
-    pub fn close(self, alloc: Global) -> Result<Option<Vec<Pair>>, TreeOwner>
-        ensures left { IfOk result (λ list. IfSome list (λ pairs. AreLeft self.maker pairs.items)) }
+    /// Closes the tree and returns its words after the last call. If a pass or a note is out it returns the
+    /// owner.
+    pub fn close(self) -> Result<ClosedTree, TreeOwner>
+        ensures closes { IfOk result (λ c. ClosesWith self.maker c.closed) }
+        ensures size { IfOk result (λ c. length c.closed ≡ self.maker.tree.words) }
         ensures same { IfErr result (λ owner. owner.maker ≡ self.maker) }
     {
         if self.maker.made() != self.maker.taken_back() {
@@ -80,10 +86,9 @@ impl TreeOwner {
         }
         let TreeOwner { tree, maker } = self;
         match Arc::try_unwrap(tree) {
-            Ok(tree) => {
-                let closed = tree.close(maker);
-                Ok(closed.pairs(alloc).ok())
-            }
+            Ok(tree) => Ok(ClosedTree {
+                closed: tree.close(maker),
+            }),
             Err(tree) => Err(TreeOwner { tree, maker }),
         }
     }

@@ -1,13 +1,20 @@
 //! A pass with the tree that it calls, and a note with its tree.
-ghost use Rattle.std.specs.Prelude.{◌≡◌, ◌≢◌, Some, None, IfOk, IfErr, OnErr};
+ghost use Rattle.std.specs.Prelude.{◌≡◌, ◌≢◌, ◌+◌, ◌<◌, ◌≤◌, length, Some, None, IfOk, IfErr, OnErr};
 ghost use Rattle.std.specs.Arc.{arc_value};
 ghost use Rattle.ist_core.specs.declared.commands.Command.TheVariants.{Get, Put, Remove};
 ghost use Rattle.ist_updates.specs.Asking.{command_for};
 ghost use Rattle.ist_tree.specs.Calls.{HasSeenMore, HasLearnt, AddsCall, WeavesWith};
 ghost use Rattle.ist_tree.specs.Faces.{noted};
 ghost use Rattle.ist_tree.specs.Refusals.{IsRefused};
+ghost use Rattle.ist_live.specs.Ends.{IsNextUp, IsNextDown};
+ghost use Rattle.ist_live.specs.Pieces.{IsPiece};
+ghost use Rattle.ist_live.specs.Reading.{HasOnlyRead};
+ghost use Rattle.ist_c.specs.Entries.{next_key, pairs_in};
 
-use ist_core::{Full, Reply};
+use crate::entries::Entry;
+use crate::pieces::{Piece, read_piece};
+use ist_core::{Full, Pair, Reply};
+use ist_live::{at_least, at_most};
 use ist_tree::{Note, Pass, Tree};
 use std::alloc::{AllocError, Global};
 use std::sync::Arc;
@@ -83,6 +90,37 @@ impl TreePass {
         ensures calls { OnErr result (self.new.pass.calls ≡ self.old.pass.calls) }
     {
         self.tree.remove_if(&mut self.pass, key, expected)
+    }
+
+    /// Returns the pair with the least key that is at least `key`, if there is one.
+    pub fn at_least(&mut self, key: u64) -> Option<Pair>
+        ensures tree { arc_value self.new.tree ≡ arc_value self.old.tree }
+        ensures read { HasOnlyRead self.old.pass self.new.pass }
+        ensures next { IsNextUp self.old.pass self.new.pass key result }
+    {
+        at_least(&self.tree, &mut self.pass, key)
+    }
+
+    /// Returns the pair with the greatest key that is at most `key`, if there is one.
+    pub fn at_most(&mut self, key: u64) -> Option<Pair>
+        ensures tree { arc_value self.new.tree ≡ arc_value self.old.tree }
+        ensures read { HasOnlyRead self.old.pass self.new.pass }
+        ensures next { IsNextDown self.old.pass self.new.pass (key + 1) result }
+    {
+        at_most(&self.tree, &mut self.pass, key)
+    }
+
+    /// Writes the pairs from `first` to `last`, as many as there is room for.
+    pub fn list(&mut self, first: u64, last: u64, room: &mut [Entry]) -> Piece
+        requires some { 0 < length room.old }
+        ensures tree { arc_value self.new.tree ≡ arc_value self.old.tree }
+        ensures read { HasOnlyRead self.old.pass self.new.pass }
+        ensures pairs { IsPiece self.old.pass self.new.pass first last (next_key result)
+            (pairs_in result.count room.new) }
+        ensures within { result.count ≤ length room.new }
+        ensures room { length room.new ≡ length room.old }
+    {
+        read_piece(&self.tree, &mut self.pass, first, last, room)
     }
 
     /// Makes a note of what the pass has seen, for another pass of its tree. Fails only if memory runs out.

@@ -13,7 +13,7 @@ pub const MEMORY: u32 = 1;
 /// The tree of the pairs takes more words.
 pub const SMALL: u32 = 2;
 
-/// A pass is out.
+/// A pass or a note is out.
 pub const BUSY: u32 = 3;
 
 /// A handle holds something else or nothing, or a number is too large.
@@ -21,6 +21,9 @@ pub const MISUSE: u32 = 4;
 
 /// Too few words of the tree are left.
 pub const FULL: u32 = 5;
+
+/// No such key has a value.
+pub const NO_KEY: u32 = 6;
 
 /// What a call on a key returns: its status, whether the key had a value, and the value.
 #[repr(C)]

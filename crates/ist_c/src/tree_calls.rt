@@ -1,26 +1,22 @@
-//! The exports that open a tree, make its passes and take them back, close it and list what is left.
+//! The exports that open a tree, make its passes and take them back, and free what a handle holds.
 ghost use Rattle.std.specs.Prelude.{◌≡◌, true, false};
 ghost use Rattle.plain_map.specs.Rising.{IsRising};
 ghost use Rattle.ist_c.specs.Calls.{MayGiveBack};
-ghost use Rattle.ist_c.specs.Closing.{Closes};
+ghost use Rattle.ist_c.specs.Closing.{status_of};
 ghost use Rattle.ist_c.specs.Passes.{Makes, TakesBack};
 
-use crate::entries::{Entry, pairs_of_entries, write_entries};
+use crate::entries::{Entry, pairs_of_entries};
 use crate::handles::Handle;
 use crate::held::Held;
-use crate::owners::TreeOwner;
-use crate::results::{BUSY, DONE, MEMORY, MISUSE, SMALL};
+use crate::owners::{PAIRS_LIMIT, TreeOwner};
+use crate::results::{DONE, MEMORY, MISUSE, SMALL};
 use ist_core::Pair;
 use ist_image::needed_words;
 use ist_tree::OpenFault;
 use std::alloc::Global;
-use std::mem;
 
 /// How many words a tree has at most.
-const WORDS_LIMIT: u32 = 0x1000_0000;
-
-/// How many pairs a tree is opened with at most.
-const PAIRS_LIMIT: u64 = 0xffff_ffff;
+pub(crate) const WORDS_LIMIT: u32 = 0x1000_0000;
 
 /// Makes a handle of what is held. If there is no memory for it, what is held is dropped.
 pub(crate) fn keep(alloc: Global, held: Held, out: &mut Handle) -> u32 {
@@ -42,6 +38,19 @@ pub extern "C" fn ist_words_for(pairs: u64) -> u64 {
     needed_words(pairs)
 }
 
+/// Returns the status for the fault.
+pub(crate) fn status_for(fault: OpenFault) -> u32
+    ensures value { result ≡ status_of fault }
+{
+    match fault {
+        OpenFault::Small {
+            needed: _,
+            words: _,
+        } => SMALL,
+        OpenFault::Memory => MEMORY,
+    }
+}
+
 // Makes `out` the owner of a new tree.
 fn open_owner(alloc: Global, words: u32, pairs: &[Pair], out: &mut Handle) -> u32
     requires rising { IsRising pairs.now }
@@ -51,13 +60,7 @@ fn open_owner(alloc: Global, words: u32, pairs: &[Pair], out: &mut Handle) -> u3
     }
     match TreeOwner::open(alloc, words, pairs) {
         Ok(owner) => keep(alloc, Held::Owner(owner), out),
-        Err(
-            OpenFault::Small {
-                needed: _,
-                words: _,
-            },
-        ) => SMALL,
-        Err(OpenFault::Memory) => MEMORY,
+        Err(fault) => status_for(fault),
     }
 }
 
@@ -147,80 +150,6 @@ pub extern "C" fn ist_give_back(alloc: Global, owner: &mut Handle, pass: &mut Ha
     };
     *owner = Handle::of(held);
     status
-}
-
-// Closes the owner's tree.
-fn close_in(alloc: Global, held: &mut Held) -> u32
-    ensures closes { Closes held.old held.new result }
-{
-    match mem::replace(held, Held::Nothing) {
-        Held::Owner(owner) => match owner.close(alloc) {
-            Ok(Some(pairs)) => {
-                *held = Held::Pairs(pairs);
-                DONE
-            }
-            Ok(None) => MEMORY,
-            Err(owner) => {
-                *held = Held::Owner(owner);
-                BUSY
-            }
-        },
-        other => {
-            *held = other;
-            MISUSE
-        }
-    }
-}
-
-/// Closes the owner's tree. The handle then holds the pairs that are left.
-#[unsafe(no_mangle)]
-pub extern "C" fn ist_close(alloc: Global, owner: &mut Handle) -> u32
-    ensures full { owner.new.full ≡ owner.old.full }
-    ensures closes { owner.old.full ≡ true
-        → Closes owner.old.opaque.value owner.new.opaque.value result }
-{
-    match owner.open(alloc) {
-        Some(mut held) => {
-            let status = close_in(alloc, &mut held);
-            *owner = Handle::of(held);
-            status
-        }
-        None => MISUSE,
-    }
-}
-
-// Writes the pairs from this number on.
-fn list_in(held: &Held, from: u64, room: &mut [Entry], count: &mut u64) -> u32 {
-    match held {
-        Held::Pairs(pairs) => {
-            *count = pairs.len() as u64;
-            if from < pairs.len() as u64 {
-                write_entries(&pairs[from as usize..], room);
-            }
-            DONE
-        }
-        _ => MISUSE,
-    }
-}
-
-/// Writes the pairs of a closed tree from this number on, as many as there is room for, and how many there
-/// are in all.
-#[unsafe(no_mangle)]
-pub extern "C" fn ist_list(
-    alloc: Global,
-    closed: &mut Handle,
-    from: u64,
-    room: &mut [Entry],
-    count: &mut u64,
-) -> u32 {
-    match closed.open(alloc) {
-        Some(held) => {
-            let status = list_in(&held, from, room, count);
-            *closed = Handle::of(held);
-            status
-        }
-        None => MISUSE,
-    }
 }
 
 /// Drops what the handle holds, and leaves it empty.

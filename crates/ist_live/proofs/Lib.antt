@@ -5,3 +5,4 @@ pub mod EndLemmas
 pub mod TurnLemmas
 pub mod MomentLemmas
 pub mod JoinLemmas
+pub mod PieceLemmas

@@ -2,4 +2,5 @@
 pub mod Reading
 pub mod Ends
 pub mod Lists
+pub mod Pieces
 pub mod Cursors

@@ -1,4 +1,4 @@
--- A opaque may go to another thread: what it is of may, and so may the right to free it. Assumes `Logic`.
+-- An opaque may go to another thread: what it is of may, and so may the right to free it. Assumes `Logic`.
 use mathlib.Core.Bool.{Bool, true, false}
 use mir.Raw.{raw}
 use base.Shift.{Keyless}
@@ -15,7 +15,7 @@ use Rattle.std.specs.contracts.impls.GlobalAllocator.TheImpl.{ghosts}
 use Rattle.std.specs.declared.alloc.Global.{Global}
 use Rattle.ist_c.specs.Owning.{held_if}
 use Rattle.ist_c.specs.contracts.held.Held as held
-use Rattle.ist_c.proofs.held.Held.TheSendSync.{the_send as held_send}
+use Rattle.ist_c.proofs.SendLemmas.{held_send}
 use Rattle.ist_c.specs.contracts.opaques.Opaque.{the_row, the_type}
 
 if_full : (a : Global) (full : Bool) (p : Ptr) (x : (held.the_row).Denot) → Keyless (held_if (ghosts.dealloc_token a) held.the_row full p x)

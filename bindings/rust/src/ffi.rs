@@ -1,0 +1,328 @@
+//! The calls of the static library, as `crates/ist_c/include/ist.h` declares them, behind types of Rust. All of this
+//! package's `unsafe` is here, each with its reason, and what this module gives to others is safe to use in any way.
+//!
+//! Each handle has the number of its tree. A call on two handles compares these numbers: that is what the header's `same
+//! tree` asks for.
+
+use crate::{Error, Full};
+use std::ffi::c_void;
+use std::ptr::null_mut;
+use std::sync::atomic::{AtomicU64, Ordering};
+
+const DONE: u32 = 0;
+const MEMORY: u32 = 1;
+const SMALL: u32 = 2;
+const BUSY: u32 = 3;
+const MISUSE: u32 = 4;
+const FULL: u32 = 5;
+const NO_KEY: u32 = 6;
+
+/// The most words that a tree has.
+pub(crate) const MOST_WORDS: u32 = 1 << 28;
+
+/// A key with its value.
+#[repr(C)]
+#[derive(Clone, Copy, Debug, Default, PartialEq, Eq, Hash)]
+pub struct Pair {
+    /// The key.
+    pub key: u64,
+    /// Its value.
+    pub value: u64,
+}
+
+#[repr(C)]
+struct CallResult {
+    status: u32,
+    some: bool,
+    value: u64,
+}
+
+#[repr(C)]
+#[derive(Default)]
+struct Shortage {
+    next: u64,
+    asked: u64,
+    words: u64,
+}
+
+// How many pairs of a range were written, and the key to go on from if keys are left.
+#[repr(C)]
+#[derive(Default)]
+struct Piece {
+    count: u64,
+    more: bool,
+    next: u64,
+}
+
+// What the library holds for a caller. It is never copied, and each call has it by `&mut`.
+#[repr(C)]
+struct Handle {
+    full: bool,
+    at: *mut c_void,
+}
+
+impl Handle {
+    const fn new() -> Handle {
+        Handle { full: false, at: null_mut() }
+    }
+}
+
+// SAFETY: that the handle's type can be sent to another thread is proved in `ist_c` (`Opaque`). It isn't `Sync`, and needn't
+// be: each call takes it by `&mut`.
+unsafe impl Send for Handle {}
+
+impl Drop for Handle {
+    fn drop(&mut self) {
+        // SAFETY: a handle of any kind may be freed, also an empty one, and this one is the call's alone.
+        unsafe { ist_free(self) }
+    }
+}
+
+unsafe extern "C" {
+    fn ist_words_for(pairs: u64) -> u64;
+    fn ist_open(words: u32, entries: *const Pair, count: usize, out: *mut Handle) -> u32;
+    fn ist_new_pass(owner: *mut Handle, out: *mut Handle) -> u32;
+    fn ist_find(pass: *mut Handle, key: u64) -> CallResult;
+    fn ist_put(pass: *mut Handle, key: u64, value: u64, why: *mut Shortage) -> CallResult;
+    fn ist_remove(pass: *mut Handle, key: u64, why: *mut Shortage) -> CallResult;
+    fn ist_put_new(pass: *mut Handle, key: u64, value: u64, why: *mut Shortage) -> CallResult;
+    fn ist_put_if(pass: *mut Handle, key: u64, expected: u64, value: u64, why: *mut Shortage) -> CallResult;
+    fn ist_remove_if(pass: *mut Handle, key: u64, expected: u64, why: *mut Shortage) -> CallResult;
+    fn ist_at_least(pass: *mut Handle, key: u64, found: *mut Pair) -> u32;
+    fn ist_at_most(pass: *mut Handle, key: u64, found: *mut Pair) -> u32;
+    fn ist_list_range(pass: *mut Handle, first: u64, last: u64, room: *mut Pair, rooms: usize, piece: *mut Piece) -> u32;
+    fn ist_write_note(pass: *mut Handle, out: *mut Handle) -> u32;
+    fn ist_meet(pass: *mut Handle, note: *mut Handle) -> u32;
+    fn ist_give_back(owner: *mut Handle, pass: *mut Handle) -> u32;
+    fn ist_reopen(owner: *mut Handle, words: u32) -> u32;
+    fn ist_close(owner: *mut Handle) -> u32;
+    fn ist_list(closed: *mut Handle, from: u64, room: *mut Pair, rooms: usize, count: *mut u64) -> u32;
+    fn ist_free(handle: *mut Handle);
+}
+
+fn checked(status: u32) -> Result<(), Error> {
+    match status {
+        DONE => Ok(()),
+        MEMORY => Err(Error::Memory),
+        SMALL => Err(Error::Words),
+        BUSY => Err(Error::Leaked),
+        MISUSE => Err(Error::Words),
+        other => unreachable!("the status {other}"),
+    }
+}
+
+// The reply of an update, or why it was refused.
+fn replied(called: CallResult, why: Shortage) -> Result<Option<u64>, Full> {
+    if called.status == FULL {
+        return Err(Full { next: why.next, asked: why.asked, words: why.words });
+    }
+    debug_assert_eq!(called.status, DONE);
+    Ok(called.some.then_some(called.value))
+}
+
+/// How many words of 8 bytes a tree of this many pairs takes at least; 0 if there are 2^32 or more.
+pub(crate) fn words_for(pairs: u64) -> u64 {
+    // SAFETY: it asks for nothing.
+    unsafe { ist_words_for(pairs) }
+}
+
+/// The number of a tree, which no other tree of the process has.
+pub(crate) type TreeNumber = u64;
+
+fn next_number() -> TreeNumber {
+    static NEXT: AtomicU64 = AtomicU64::new(0);
+    NEXT.fetch_add(1, Ordering::Relaxed)
+}
+
+/// A tree with its maker, or a closed tree.
+pub(crate) struct Owner {
+    handle: Handle,
+    tree: TreeNumber,
+    is_open: bool,
+}
+
+impl Owner {
+    /// Opens a tree of these pairs, of two with one key the later, with this many words.
+    pub(crate) fn open(words: u32, pairs: &[Pair]) -> Result<Owner, Error> {
+        let mut handle = Handle::new();
+        // SAFETY: pointer and length are those of one slice, and `handle` is the call's alone.
+        checked(unsafe { ist_open(words, pairs.as_ptr(), pairs.len(), &mut handle) })?;
+        Ok(Owner { handle, tree: next_number(), is_open: true })
+    }
+
+    /// The number of its tree.
+    pub(crate) fn tree(&self) -> TreeNumber {
+        self.tree
+    }
+
+    /// Whether the tree is open: it isn't only after a `reopen` that failed.
+    pub(crate) fn is_open(&self) -> bool {
+        self.is_open
+    }
+
+    /// Makes a pass.
+    pub(crate) fn pass(&mut self) -> Result<PassHandle, Error> {
+        if !self.is_open {
+            return Err(Error::Closed);
+        }
+        let mut handle = Handle::new();
+        // SAFETY: both handles are the call's alone.
+        checked(unsafe { ist_new_pass(&mut self.handle, &mut handle) })?;
+        Ok(PassHandle { handle, tree: self.tree })
+    }
+
+    /// Gives a pass back.
+    ///
+    /// # Panics
+    ///
+    /// If the pass is of another tree.
+    pub(crate) fn give_back(&mut self, mut pass: PassHandle) {
+        assert_eq!(self.tree, pass.tree, "the pass is of another tree");
+        // SAFETY: both handles are the call's alone, and of the tree with one number.
+        let status = unsafe { ist_give_back(&mut self.handle, &mut pass.handle) };
+        debug_assert_eq!(status, DONE);
+    }
+
+    /// Closes the tree, and opens one of its pairs with this many words. If that fails for want of words or of memory the
+    /// owner holds the closed tree, and the call may be made again. If a pass or a note is out, all is as before.
+    pub(crate) fn reopen(&mut self, words: u32) -> Result<(), Error> {
+        if words > MOST_WORDS {
+            return Err(Error::Words);
+        }
+        // SAFETY: the handle is the call's alone.
+        let status = unsafe { ist_reopen(&mut self.handle, words) };
+        match status {
+            DONE => {
+                self.tree = next_number();
+                self.is_open = true;
+            }
+            MEMORY | SMALL => self.is_open = false,
+            _ => {}
+        }
+        checked(status)
+    }
+
+    /// Closes the tree, and returns its pairs in increasing order of keys.
+    pub(crate) fn into_pairs(mut self) -> Result<Vec<Pair>, Error> {
+        let owner = &mut self.handle;
+        // SAFETY: the handle is the call's alone, here and in the two calls below.
+        checked(unsafe { ist_close(owner) })?;
+        let (mut count, mut none) = (0, []);
+        // SAFETY: pointer and length are those of one slice, which is empty and so isn't written.
+        checked(unsafe { ist_list(owner, 0, none.as_mut_ptr(), none.len(), &mut count) })?;
+        let mut pairs = Vec::new();
+        pairs.try_reserve_exact(count as usize).map_err(|_| Error::Memory)?;
+        pairs.resize(count as usize, Pair::default());
+        // SAFETY: pointer and length are those of one slice.
+        checked(unsafe { ist_list(owner, 0, pairs.as_mut_ptr(), pairs.len(), &mut count) })?;
+        Ok(pairs)
+    }
+}
+
+/// What one call at a time calls a tree by.
+pub(crate) struct PassHandle {
+    handle: Handle,
+    tree: TreeNumber,
+}
+
+impl PassHandle {
+    /// The number of its tree.
+    pub(crate) fn tree(&self) -> TreeNumber {
+        self.tree
+    }
+
+    pub(crate) fn find(&mut self, key: u64) -> Option<u64> {
+        // SAFETY: the handle is the call's alone.
+        let called = unsafe { ist_find(&mut self.handle, key) };
+        debug_assert_eq!(called.status, DONE);
+        called.some.then_some(called.value)
+    }
+
+    /// Puts the value at the key, or removes the key if there is none.
+    pub(crate) fn update(&mut self, key: u64, value: Option<u64>) -> Result<Option<u64>, Full> {
+        let mut why = Shortage::default();
+        let pass = &mut self.handle;
+        // SAFETY: the handle is the call's alone, and so is `why`.
+        let called = unsafe {
+            match value {
+                Some(value) => ist_put(pass, key, value, &mut why),
+                None => ist_remove(pass, key, &mut why),
+            }
+        };
+        replied(called, why)
+    }
+
+    /// The same if the key has what is expected, and else a find.
+    pub(crate) fn update_if(&mut self, key: u64, expected: Option<u64>, new: Option<u64>) -> Result<Option<u64>, Full> {
+        let mut why = Shortage::default();
+        let pass = &mut self.handle;
+        // SAFETY: the handle is the call's alone, and so is `why`.
+        let called = unsafe {
+            match (expected, new) {
+                (None, None) => ist_find(pass, key),
+                (None, Some(new)) => ist_put_new(pass, key, new, &mut why),
+                (Some(expected), Some(new)) => ist_put_if(pass, key, expected, new, &mut why),
+                (Some(expected), None) => ist_remove_if(pass, key, expected, &mut why),
+            }
+        };
+        replied(called, why)
+    }
+
+    /// The pair with the least key that is at least this one.
+    pub(crate) fn at_least(&mut self, key: u64) -> Option<Pair> {
+        let mut found = Pair::default();
+        // SAFETY: the handle is the call's alone, and so is `found`.
+        let status = unsafe { ist_at_least(&mut self.handle, key, &mut found) };
+        debug_assert!(status == DONE || status == NO_KEY);
+        (status == DONE).then_some(found)
+    }
+
+    /// The pair with the greatest key that is at most this one.
+    pub(crate) fn at_most(&mut self, key: u64) -> Option<Pair> {
+        let mut found = Pair::default();
+        // SAFETY: the handle is the call's alone, and so is `found`.
+        let status = unsafe { ist_at_most(&mut self.handle, key, &mut found) };
+        debug_assert!(status == DONE || status == NO_KEY);
+        (status == DONE).then_some(found)
+    }
+
+    /// Writes the pairs from `first` to `last`, as many as there is room for. Returns how many these are, and the key to go
+    /// on from if keys are left.
+    pub(crate) fn list(&mut self, first: u64, last: u64, room: &mut [Pair]) -> (usize, Option<u64>) {
+        if room.is_empty() {
+            return (0, (first <= last).then_some(first));
+        }
+        let mut piece = Piece::default();
+        let (at, rooms) = (room.as_mut_ptr(), room.len());
+        // SAFETY: pointer and length are those of one slice, and the handle and `piece` are the call's alone.
+        let status = unsafe { ist_list_range(&mut self.handle, first, last, at, rooms, &mut piece) };
+        debug_assert_eq!(status, DONE);
+        (piece.count as usize, piece.more.then_some(piece.next))
+    }
+
+    /// Makes a note of what the pass has seen.
+    pub(crate) fn note(&mut self) -> Result<NoteHandle, Error> {
+        let mut handle = Handle::new();
+        // SAFETY: both handles are the call's alone.
+        checked(unsafe { ist_write_note(&mut self.handle, &mut handle) })?;
+        Ok(NoteHandle { handle, tree: self.tree })
+    }
+
+    /// Lets the pass learn what the note holds.
+    ///
+    /// # Panics
+    ///
+    /// If the note is of another tree.
+    pub(crate) fn meet(&mut self, mut note: NoteHandle) {
+        assert_eq!(self.tree, note.tree, "the note is of another tree");
+        // SAFETY: both handles are the call's alone, and of the tree with one number.
+        let status = unsafe { ist_meet(&mut self.handle, &mut note.handle) };
+        debug_assert_eq!(status, DONE);
+    }
+}
+
+/// What a pass had seen.
+pub(crate) struct NoteHandle {
+    handle: Handle,
+    tree: TreeNumber,
+}

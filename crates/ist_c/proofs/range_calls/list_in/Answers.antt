@@ -1,0 +1,28 @@
+-- A pass has listed this; a handle of something else is as before.
+use Rattle.ist_c.specs.Reads.{none_lists}
+use Rattle.ist_c.proofs.ReadLemmas.{read_range}
+use Rattle.ist_c.proofs.range_calls.list_in.Goals as goal
+
+pub returns-then-is_empty : goal.returns-then-is_empty
+returns-then-is_empty c =
+    record {
+      lists = none_lists c.args.held.now c.args.first c.args.last c.args.room.now c.args.piece.now;
+    }
+
+pub returns-in-Pass : goal.returns-in-Pass
+returns-in-Pass c =
+    let e = c.list.ensures in
+    record {
+      lists = read_range c.args.held.now c.in-Pass.pass c.list.new.self c.args.first c.args.last
+          c.args.room.now c.list.new.room c.args.piece.now c.list.result c.in-Pass.is e.room (record {
+            read = record { same_tree = e.tree; read = e.read };
+            within = e.within;
+            pairs = e.pairs;
+          });
+    }
+
+pub returns-in_default : goal.returns-in_default
+returns-in_default c =
+    record {
+      lists = none_lists c.args.held.now c.args.first c.args.last c.args.room.now c.args.piece.now;
+    }

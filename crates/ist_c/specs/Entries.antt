@@ -1,0 +1,29 @@
+-- What entries have, and what is written to them.
+use Rattle.std.specs.Prelude.{◌≡◌, ℕ, Bool, true, false, List, map, take, Option, Some, None}
+use Rattle.ist_core.specs.declared.pairs.Pair.{Pair}
+use Rattle.ist_c.specs.declared.entries.Entry.{Entry}
+use Rattle.ist_c.specs.declared.pieces.Piece.{Piece}
+use Rattle.ist_c.specs.Results.{done, no_key}
+
+-- the pair that an entry has
+abbrev pub pair_of : Entry → Pair
+pair_of e = record { key = e.key; value = e.value }
+
+-- the pairs that the first entries have
+abbrev pub pairs_in : ℕ → List Entry → List Pair
+pairs_in count entries = map pair_of (take count entries)
+
+-- the entry has the pair, or is as before if there is none
+pub data Wrote : Option Pair → ℕ → Entry → Entry → Type 0 where
+  wrote_pair : (pair : Pair) (before after : Entry) → pair_of after ≡ pair
+      → Wrote (Some pair) done before after
+  wrote_none : (entry : Entry) → Wrote None no_key entry entry
+
+-- the key, if there is one
+abbrev pub key_if : Bool → ℕ → Option ℕ
+key_if true key = Some key
+key_if false key = None
+
+-- the key to go on from, if keys are left
+abbrev pub next_key : Piece → Option ℕ
+next_key piece = key_if piece.more piece.next

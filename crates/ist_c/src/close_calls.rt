@@ -1,0 +1,159 @@
+//! The exports that close a tree, open the next one, and list what is left.
+ghost use Rattle.std.specs.Prelude.{◌≡◌, ◌≤◌, true};
+ghost use Rattle.ist_core.specs.RowLayout.{place_limit};
+ghost use Rattle.ist_c.specs.Closing.{Leaves, Closes, Opens, Reopens};
+
+use crate::closed_trees::ClosedTree;
+use crate::entries::{Entry, write_entries};
+use crate::handles::Handle;
+use crate::held::Held;
+use crate::results::{BUSY, DONE, MEMORY, MISUSE};
+use crate::tree_calls::{WORDS_LIMIT, status_for};
+use std::alloc::Global;
+use std::mem;
+
+// Makes the handle hold what is left of the tree, or the tree if there is no memory for that.
+fn leave(alloc: Global, closed: ClosedTree, held: &mut Held) -> u32
+    ensures leaves { Leaves closed.closed held.new result }
+{
+    match closed.list(alloc) {
+        Ok(left) => {
+            *held = Held::Left(left);
+            DONE
+        }
+        Err(_) => {
+            *held = Held::Closed(closed);
+            MEMORY
+        }
+    }
+}
+
+// Closes the owner's tree.
+fn close_in(alloc: Global, held: &mut Held) -> u32
+    ensures closes { Closes held.old held.new result }
+{
+    match mem::replace(held, Held::Nothing) {
+        Held::Owner(owner) => match owner.close() {
+            Ok(closed) => leave(alloc, closed, held),
+            Err(owner) => {
+                *held = Held::Owner(owner);
+                BUSY
+            }
+        },
+        Held::Closed(closed) => leave(alloc, closed, held),
+        other => {
+            *held = other;
+            MISUSE
+        }
+    }
+}
+
+/// Closes the owner's tree. The handle then holds the pairs that are left, or the closed tree if there is
+/// no memory for these.
+#[unsafe(no_mangle)]
+pub extern "C" fn ist_close(alloc: Global, owner: &mut Handle) -> u32
+    ensures full { owner.new.full ≡ owner.old.full }
+    ensures closes { owner.old.full ≡ true
+        → Closes owner.old.opaque.value owner.new.opaque.value result }
+{
+    match owner.open(alloc) {
+        Some(mut held) => {
+            let status = close_in(alloc, &mut held);
+            *owner = Handle::of(held);
+            status
+        }
+        None => MISUSE,
+    }
+}
+
+// Opens a tree over the closed one, which is kept if none is opened.
+fn open_next(alloc: Global, closed: ClosedTree, words: u32, held: &mut Held) -> u32
+    requires within { words ≤ place_limit }
+    ensures opens { Opens closed words held.new result }
+{
+    match closed.open(alloc, words) {
+        Ok(owner) => {
+            *held = Held::Owner(owner);
+            DONE
+        }
+        Err(fault) => {
+            *held = Held::Closed(closed);
+            status_for(fault)
+        }
+    }
+}
+
+// Closes the owner's tree, and opens the next one.
+fn reopen_in(alloc: Global, held: &mut Held, words: u32) -> u32
+    ensures reopens { Reopens held.old held.new words result }
+{
+    if words > WORDS_LIMIT {
+        return MISUSE;
+    }
+    match mem::replace(held, Held::Nothing) {
+        Held::Owner(owner) => match owner.close() {
+            Ok(closed) => open_next(alloc, closed, words, held),
+            Err(owner) => {
+                *held = Held::Owner(owner);
+                BUSY
+            }
+        },
+        Held::Closed(closed) => open_next(alloc, closed, words, held),
+        other => {
+            *held = other;
+            MISUSE
+        }
+    }
+}
+
+/// Makes the owner that of a new tree with this many words, which begins with the pairs that all calls
+/// left. If no tree is opened, the handle holds the closed one, and the call may be made again.
+#[unsafe(no_mangle)]
+pub extern "C" fn ist_reopen(alloc: Global, owner: &mut Handle, words: u32) -> u32
+    ensures full { owner.new.full ≡ owner.old.full }
+    ensures reopens { owner.old.full ≡ true
+        → Reopens owner.old.opaque.value owner.new.opaque.value words result }
+{
+    match owner.open(alloc) {
+        Some(mut held) => {
+            let status = reopen_in(alloc, &mut held, words);
+            *owner = Handle::of(held);
+            status
+        }
+        None => MISUSE,
+    }
+}
+
+// Writes the pairs from this number on.
+fn list_in(held: &Held, from: u64, room: &mut [Entry], count: &mut u64) -> u32 {
+    match held {
+        Held::Left(left) => {
+            *count = left.pairs.len() as u64;
+            if from < left.pairs.len() as u64 {
+                write_entries(&left.pairs[from as usize..], room);
+            }
+            DONE
+        }
+        _ => MISUSE,
+    }
+}
+
+/// Writes the pairs of a closed tree from this number on, as many as there is room for, and how many there
+/// are in all.
+#[unsafe(no_mangle)]
+pub extern "C" fn ist_list(
+    alloc: Global,
+    closed: &mut Handle,
+    from: u64,
+    room: &mut [Entry],
+    count: &mut u64,
+) -> u32 {
+    match closed.open(alloc) {
+        Some(held) => {
+            let status = list_in(&held, from, room, count);
+            *closed = Handle::of(held);
+            status
+        }
+        None => MISUSE,
+    }
+}

@@ -1,0 +1,63 @@
+//! The exports that find the next pair above or below a key by a pass.
+ghost use Rattle.std.specs.Prelude.{◌≡◌, true};
+ghost use Rattle.ist_c.specs.Reads.{ReadsBy, up, down};
+
+use crate::entries::{Entry, write_pair};
+use crate::handles::Handle;
+use crate::held::Held;
+use crate::results::MISUSE;
+use std::alloc::Global;
+
+// Writes the pair with the least key that is at least `key`.
+fn at_least_in(held: &mut Held, key: u64, found: &mut Entry) -> u32
+    ensures reads { ReadsBy up held.old held.new key result found.old found.new }
+{
+    match held {
+        Held::Pass(pass) => write_pair(pass.at_least(key), found),
+        _ => MISUSE,
+    }
+}
+
+// Writes the pair with the greatest key that is at most `key`.
+fn at_most_in(held: &mut Held, key: u64, found: &mut Entry) -> u32
+    ensures reads { ReadsBy down held.old held.new key result found.old found.new }
+{
+    match held {
+        Held::Pass(pass) => write_pair(pass.at_most(key), found),
+        _ => MISUSE,
+    }
+}
+
+/// Writes the pair with the least key that is at least `key`. The status is `NO_KEY` if there is none.
+#[unsafe(no_mangle)]
+pub extern "C" fn ist_at_least(alloc: Global, pass: &mut Handle, key: u64, found: &mut Entry) -> u32
+    ensures full { pass.new.full ≡ pass.old.full }
+    ensures reads { pass.old.full ≡ true → ReadsBy up pass.old.opaque.value
+        pass.new.opaque.value key result found.old found.new }
+{
+    match pass.open(alloc) {
+        Some(mut held) => {
+            let status = at_least_in(&mut held, key, found);
+            *pass = Handle::of(held);
+            status
+        }
+        None => MISUSE,
+    }
+}
+
+/// Writes the pair with the greatest key that is at most `key`. The status is `NO_KEY` if there is none.
+#[unsafe(no_mangle)]
+pub extern "C" fn ist_at_most(alloc: Global, pass: &mut Handle, key: u64, found: &mut Entry) -> u32
+    ensures full { pass.new.full ≡ pass.old.full }
+    ensures reads { pass.old.full ≡ true → ReadsBy down pass.old.opaque.value
+        pass.new.opaque.value key result found.old found.new }
+{
+    match pass.open(alloc) {
+        Some(mut held) => {
+            let status = at_most_in(&mut held, key, found);
+            *pass = Handle::of(held);
+            status
+        }
+        None => MISUSE,
+    }
+}

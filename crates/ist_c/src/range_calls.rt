@@ -1,0 +1,52 @@
+//! The export that lists a range of keys by a pass.
+ghost use Rattle.std.specs.Prelude.{◌≡◌, true};
+ghost use Rattle.ist_c.specs.Reads.{ListsBy};
+
+use crate::entries::Entry;
+use crate::handles::Handle;
+use crate::held::Held;
+use crate::pieces::Piece;
+use crate::results::{DONE, MISUSE};
+use std::alloc::Global;
+
+// Writes the pairs from `first` to `last`, as many as there is room for.
+fn list_in(held: &mut Held, first: u64, last: u64, room: &mut [Entry], piece: &mut Piece) -> u32
+    ensures lists { ListsBy held.old held.new first last result room.old room.new piece.old
+        piece.new }
+{
+    if room.is_empty() {
+        return MISUSE;
+    }
+    match held {
+        Held::Pass(pass) => {
+            *piece = pass.list(first, last, room);
+            DONE
+        }
+        _ => MISUSE,
+    }
+}
+
+/// Writes the pairs from `first` to `last`, as many as there is room for, and to `piece` how many these
+/// are and where to go on. There must be room for one at least.
+#[unsafe(no_mangle)]
+pub extern "C" fn ist_list_range(
+    alloc: Global,
+    pass: &mut Handle,
+    first: u64,
+    last: u64,
+    room: &mut [Entry],
+    piece: &mut Piece,
+) -> u32
+    ensures full { pass.new.full ≡ pass.old.full }
+    ensures lists { pass.old.full ≡ true → ListsBy pass.old.opaque.value
+        pass.new.opaque.value first last result room.old room.new piece.old piece.new }
+{
+    match pass.open(alloc) {
+        Some(mut held) => {
+            let status = list_in(&mut held, first, last, room, piece);
+            *pass = Handle::of(held);
+            status
+        }
+        None => MISUSE,
+    }
+}
