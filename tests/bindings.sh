@@ -4,11 +4,7 @@
 # isn't there is named as skipped, and isn't counted. The last line is 'N passed, M failed'.
 #
 # Run behind `rt ci`, which leaves the library; elsewhere it is built first.
-set -u
-here=$(cd -P -- "$(dirname -- "$0")/.." && pwd)
-all=$(mktemp -d "${TMPDIR:-/tmp}/bindings.XXXXXX")
-trap 'rm -rf "$all"' EXIT
-passed=0 failed=0
+. "$(dirname -- "$0")/head.sh"
 
 # Runs a command, which must succeed.
 well() {

@@ -1,10 +1,6 @@
 #!/bin/bash
 # Tests of tools/citations.py: what it takes, and what it must refuse. The last line is 'N passed, M failed'.
-set -u
-here=$(cd -P -- "$(dirname -- "$0")/.." && pwd)
-all=$(mktemp -d "${TMPDIR:-/tmp}/citations.XXXXXX")
-trap 'rm -rf "$all"' EXIT
-passed=0 failed=0
+. "$(dirname -- "$0")/head.sh"
 
 mkdir -p "$all"/{docs,crates/{low,high}/{src,specs,proofs}}
 printf 'low:\nhigh: low clap\n' >"$all/crates.txt"
@@ -62,5 +58,4 @@ says 'a map in another order' 1 "$good" '' '| `high` | high |
 says 'a crate that is drawn below what it uses' 1 "$good" '' '' '    low
     high'
 
-echo "$passed passed, $failed failed"
-[ "$failed" = 0 ]
+finish

@@ -1,11 +1,7 @@
 #!/bin/bash
 # Tests of ./tele and tools/build.py, over a small repository whose `rt` is a stub. The last line is 'N passed, M failed'.
-set -u
-here=$(cd -P -- "$(dirname -- "$0")/.." && pwd)
-all=$(mktemp -d "${TMPDIR:-/tmp}/launcher.XXXXXX")
-trap 'rm -rf "$all"' EXIT
+. "$(dirname -- "$0")/head.sh"
 unset TELE_JOBS TELE_BUILD TELE_RT TELE_WAIT CDPATH GLIBC_TUNABLES
-passed=0 failed=0
 
 # A stub in the place of `rt`: it notes each call, and a program prints what its crates' files said when it was made.
 write_kit() {
@@ -430,5 +426,4 @@ if [ ! -w "$top" ]; then
 fi
 chmod +w "$top"
 
-echo "$passed passed, $failed failed"
-[ "$failed" = 0 ]
+finish

@@ -3,12 +3,8 @@
 # stack of 256 KB: a chain of pair rows, also with an event too many, a rebuild of all of it up to its Root, puts of one caller
 # beside many that each hold a row, such callers alone, many rebuilds, of one size and of many, builds that come too late, and
 # the rebuild of a table with all parts of its root. Each may take 60 seconds. The last line is 'N passed, M failed'.
-set -u
-here=$(cd -P -- "$(dirname -- "$0")/.." && pwd)
+. "$(dirname -- "$0")/head.sh"
 program=$here/crates/log_check/out/log_check
-all=$(mktemp -d "${TMPDIR:-/tmp}/logs.XXXXXX")
-trap 'rm -rf "$all"' EXIT
-passed=0 failed=0
 
 # The shape of the log to check and its size.
 make_log() {
@@ -72,5 +68,4 @@ check "ok next 2573979 callers 1 anchor 34"
 # Each of 1,000 callers holds 211 rows, and 300 times a pair row, of 7 words, while a put takes 18.
 make_log holders 1000
 check "ok next 3674573 callers 1001 anchor 12540810"
-echo "$passed passed, $failed failed"
-[ "$failed" = 0 ]
+finish

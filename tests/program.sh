@@ -2,12 +2,8 @@
 # Tests of the program `tele` in surroundings that fail it: closed and full streams, a pipe that breaks, words and lines of any
 # kind, too little memory; each read, write and allocation refused in its turn. Each run ends with its status and a prefix of its
 # text, and never by a signal. The last line is 'N passed, M failed'.
-set -u
-here=$(cd -P -- "$(dirname -- "$0")/.." && pwd)
+. "$(dirname -- "$0")/head.sh"
 program=$here/crates/tele/out/tele
-all=$(mktemp -d "${TMPDIR:-/tmp}/program.XXXXXX")
-trap 'rm -rf "$all"' EXIT
-passed=0 failed=0
 
 # Says whether the status is one of those that are wanted, and the text what a test of it says.
 wanted() {
@@ -155,5 +151,4 @@ for number in {1..400}; do
 done
 wanted "each allocation of full trees" "0" $((${came[7]:-0} >= 100 && ${came[0]:-0} >= 10 ? 0 : 2)) true
 
-echo "$passed passed, $failed failed"
-[ "$failed" = 0 ]
+finish

@@ -1,11 +1,7 @@
 #!/bin/bash
 # Tests of tools/vendor.py: the tree is taken into a new repository, where a small program over it is proved and run; and what it must
 # refuse. The last line is 'N passed, M failed'.
-set -u
-here=$(cd -P -- "$(dirname -- "$0")/.." && pwd)
-all=$(mktemp -d "${TMPDIR:-/tmp}/vendor.XXXXXX")
-trap 'rm -rf "$all"' EXIT
-passed=0 failed=0
+. "$(dirname -- "$0")/head.sh"
 
 # Whether the last command ended with this status and its last line is this one.
 ends() {
@@ -92,5 +88,4 @@ ends 'another crate' 1 "vendor: $top/crates.txt has another line for ist_core: i
 said=''
 ends 'nothing is copied then' 0 ''
 
-echo "$passed passed, $failed failed"
-[ "$failed" = 0 ]
+finish
