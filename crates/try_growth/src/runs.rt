@@ -5,13 +5,14 @@ ghost use Rattle.ist_core.specs.Enabled.{caller_limit};
 use crate::faults::Fault;
 use crate::plans::{MOST_WORKERS, Plan};
 use crate::scripts::{draw_all, tale};
-use ist_core::{Command, Pair};
+use ist_core::Pair;
 use ist_map::{Hand, MOST_WORDS, Map, Script};
 use ist_tree::OpenFault;
 use plain_map::Plain;
 use std::alloc::{AllocError, Global};
 use std::thread::Threads;
 use test_tales::{Misfit, Order, Told};
+use try_draws::opening_pairs;
 
 /// What runs that came to a good end did.
 #[derive(Clone, Copy, Debug, PartialEq, Eq, Drop)]
@@ -21,16 +22,6 @@ pub(crate) struct Report {
     pub keys: u64,
     /// How many words the last tree had.
     pub words: u64,
-}
-
-// The pairs at the opening: the lower half of the keys, each with an odd value of its own.
-fn opening_pairs(alloc: Global, span: u64) -> Result<Plain, AllocError> {
-    let mut plain = Plain::new(alloc);
-    for key in 0..span / 2 {
-        let value = key.wrapping_mul(2).wrapping_add(1);
-        plain.apply(Command::Put { key, value })?;
-    }
-    Ok(plain)
 }
 
 // A map of these pairs.
