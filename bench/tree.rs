@@ -1,5 +1,6 @@
 //! What `bench/tree.sh` measures `try_bench` beside: the same calls on a `BTreeMap` under a lock that many may read at once. With
-//! `--width` a find is an ordered read, as of `try_bench`; with `--expects 1` a put is conditional, by the map's entry.
+//! `--width` a find is an ordered read, as of `try_bench`; with `--expects 1` a put is conditional, by the map's entry; with `--grown 1` the
+//! keys are put one after another, and not built of a sorted list.
 use std::collections::btree_map::{BTreeMap, Entry};
 use std::sync::RwLock;
 use std::time::Instant;
@@ -47,7 +48,14 @@ fn main() {
     let width = number("--width", 0);
     let expects = number("--expects", 0) == 1;
     let all = puts + removes + finds;
-    let map: BTreeMap<u64, u64> = (0..keys).map(|it| (key_of(spread, it), it)).collect();
+    let mut map = BTreeMap::new();
+    if number("--grown", 0) == 1 {
+        for it in 0..keys {
+            map.insert(key_of(spread, it), it);
+        }
+    } else {
+        map = (0..keys).map(|it| (key_of(spread, it), it)).collect();
+    }
     let map = RwLock::new(map);
     let (began, before) = (Instant::now(), ticks());
     let found: u64 = std::thread::scope(|scope| {

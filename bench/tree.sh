@@ -148,4 +148,5 @@ if table reads; then
         row '100 pairs' uniform $keys $keys 1 200000 0 0 1 33554432 --width $((100 * gap))
     done
     row '10,000 pairs' uniform 1000000 1000000 1 4000 0 0 1 33554432 --width $((10000 * gap))
+    row '10,000 pairs, grown' uniform 1000000 1000000 1 4000 0 0 1 134217728 --width $((10000 * gap)) --grown 1
 fi

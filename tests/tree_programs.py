@@ -80,6 +80,11 @@ def bench(path):
         figures = FIGURES.fullmatch(told[2])
         holds(told[1] == 0 and figures and figures[3] == "2000" and figures[5] == "0", f"try_bench: {told}")
         holds(figures and int(figures[4]) > 500 and int(figures[6]) > 50, f"too few keys, or too few were found: {told}")
+    # a tree that grew by puts has the keys that it would have been opened with
+    for grown in (0, 1):
+        told = run(path, calls=1_000, finds=1, keys=100, grown=grown, words=1_000_000)
+        figures = FIGURES.fullmatch(told[2])
+        holds(told[1] == 0 and figures and figures.groups()[2:] == ("1000", "1000", "0", "100"), f"try_bench: {told}")
     for options in ({"threads": 0}, {"threads": 65}, {"spread": "none"}, {"calls": 0}, {"words": 4}):
         told = run(path, **options)
         holds(told[1] == 2 and not told[2], f"try_bench: not refused: {told}")

@@ -30,8 +30,14 @@ const CALLS: [NumberOption; 6] = [
 ];
 
 // The options after them.
-const KEYS: [NumberOption; 5] = [
+const KEYS: [NumberOption; 6] = [
     ("keys", "Keys at the opening (1000)", 0, MOST_KEYS),
+    (
+        "grown",
+        "Whether puts made the keys at the opening, one after another (0: no; 1: yes)",
+        0,
+        1,
+    ),
     (
         "span",
         "Keys that calls draw (those at the opening)",
@@ -126,6 +132,7 @@ fn plan_of(matches: &ArgMatches) -> Option<Plan> {
         },
         spread: spread_of(matches.get_str("spread").unwrap_or("uniform"))?,
         keys,
+        grown: number(matches, "grown", 0) == 1,
         span: number(matches, "span", keys),
         width: number(matches, "width", 0),
         expects: number(matches, "expects", 0) == 1,

@@ -28,6 +28,8 @@ pub(crate) struct Plan {
     pub spread: Spread,
     /// How many keys the tree has at the opening: those with the numbers below this one.
     pub keys: u64,
+    /// Whether these keys were put one after another, in the order of their numbers, into an empty tree.
+    pub grown: bool,
     /// The calls draw the keys with the numbers below this one.
     pub span: u64,
     /// What a find reads: its key if 0, the next pair if 1, and otherwise the pairs of this many keys from

@@ -6,7 +6,7 @@ use crate::clocks::{Moment, Spent};
 use crate::plans::Plan;
 use crate::workers::Worker;
 use ist_core::Command;
-use ist_tree::{Maker, OpenFault, Tree};
+use ist_tree::{Maker, OpenFault, Pass, Tree};
 use plain_map::Plain;
 use std::alloc::{AllocError, Global};
 use std::rt::Files;
@@ -35,10 +35,11 @@ struct Done {
     refused: u64,
 }
 
-// The pairs at the opening, each key with its number.
+// The pairs with which the tree is opened, each key with its number: none if it grows first.
 fn opening_pairs(alloc: Global, plan: &Plan) -> Result<Plain, AllocError> {
     let mut pairs = Vec::new(alloc);
-    for number in 0..plan.keys {
+    let keys = if plan.grown { 0 } else { plan.keys };
+    for number in 0..keys {
         pairs.push((plan.spread.key(number), number))?;
     }
     pairs.sort()?;
@@ -63,6 +64,19 @@ fn open(alloc: Global, words: u32, plain: &Plain) -> Result<(Tree, Maker), OpenF
     Tree::open(alloc, words, pairs)
 }
 
+// The worker with this number, which has the pass. The first one lets the tree grow, if it has to.
+fn make_worker(alloc: Global, tree: &Tree, pass: Pass, plan: Plan, number: u64) -> Worker
+    requires same_tree { pass.tree ≡ tree.now }
+    ensures same_tree { result.pass.tree ≡ tree.now }
+    ensures plan { result.plan ≡ plan }
+{
+    let mut worker = Worker::new(alloc, pass, plan, number);
+    if number == 0 && plan.grown {
+        worker.grow(tree);
+    }
+    worker
+}
+
 // A worker for each thread, each with a pass of its own.
 fn make_workers(
     alloc: Global,
@@ -83,7 +97,7 @@ fn make_workers(
     let mut workers = Vec::new(alloc);
     for number in 0..plan.threads {
         let pass = tree.pass(maker);
-        workers.push(Worker::new(alloc, pass, plan, number))?;
+        workers.push(make_worker(alloc, tree, pass, plan, number))?;
     }
     Ok(workers)
 }

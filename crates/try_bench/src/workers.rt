@@ -87,6 +87,21 @@ impl Worker {
         }
     }
 
+    /// Puts the keys of the opening, one after another. It isn't measured.
+    pub(crate) fn grow(&mut self, tree: &Tree)
+        requires same_tree { self.old.pass.tree ≡ tree.now }
+        ensures same_tree { self.new.pass.tree ≡ tree.now }
+        ensures plan { self.new.plan ≡ self.old.plan }
+    {
+        for number in 0..self.plan.keys {
+            let key = self.plan.spread.key(number);
+            match tree.put(&mut self.pass, key, number) {
+                Ok(_) => {}
+                Err(_) => self.refused = self.refused.wrapping_add(1),
+            }
+        }
+    }
+
     /// Makes all its calls.
     pub(crate) fn work(&mut self, tree: &Tree)
         requires same_tree { self.old.pass.tree ≡ tree.now }

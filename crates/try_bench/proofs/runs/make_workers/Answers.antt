@@ -9,17 +9,16 @@ pub loop-number-preserved : goal.loop-number-preserved
 loop-number-preserved c =
     let old = c.loop-number.invariant in
     let items = c.in_ok-push.ensures.items in
-    let long = ap length items ∙ length-append c.loop-number.workers.items (c.new.result ∷ []) in
+    let long = ap length items ∙ length-append c.loop-number.workers.items (c.make_worker.result ∷ []) in
     let made = c.pass-pass.ensures.made in
     record {
       trees = subst (All (λ (w : Worker). w.pass.tree ≡ c.args.tree.now)) (sym items)
           (All-push (λ (w : Worker). w.pass.tree ≡ c.args.tree.now) c.loop-number.workers.items
-          c.new.result old.trees
-          (ap (λ p. p.tree) c.new.ensures.pass ∙ c.pass-pass.ensures.tree));
+          c.make_worker.result old.trees c.make_worker.ensures.same_tree);
       spans = subst (All (λ (w : Worker). 1 ≤ w.plan.span)) (sym items)
           (All-push (λ (w : Worker). 1 ≤ w.plan.span) c.loop-number.workers.items
-          c.new.result old.spans
-          (subst (λ p. 1 ≤ p.span) (sym c.new.ensures.plan) c.requires.some));
+          c.make_worker.result old.spans
+          (subst (λ p. 1 ≤ p.span) (sym c.make_worker.ensures.plan) c.requires.some));
       made = omega (arith, long, made, old.made);
       same_tree = c.pass-pass.ensures.same_tree ∙ old.same_tree;
       taken = c.pass-pass.ensures.taken ∙ old.taken;
