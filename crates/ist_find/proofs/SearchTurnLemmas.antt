@@ -21,6 +21,7 @@ pub record LiesAbove (v : View) (node base : ℕ) : Type 0 where
   pub inside : base < v.words
   pub small : base < 2 ^ 28
 
+-- each inner row that is reached from the node lies above it, and within the table
 pub row_above : (v : View) → IsSound v → (node base : ℕ) → IsReached v node (InnerAt base)
     → LiesAbove v node base
 row_above v s node base r =
@@ -84,5 +85,6 @@ module _ (v w : View) (key node i loads : ℕ) (ref : Ref) (h : SearchIsAt v w k
       → HasFound x key node i value
   search_found x value t = has_found w x key node i h.looks.rows ref value h.looks.looked t
 
+  -- if at most two more words are loaded, the whole search has few loads
   pub search_few : (x : View) → GoesOnTo w x → x.loaded ≤ w.loaded + 2 → HasFewLoads v x key node
   search_few x g last = few_loads v h.first w x h.seen.sound g key node i ref h.few_first h.looks last

@@ -74,12 +74,13 @@ led_node v s first last node some h =
     at (inl e) = is_anchor e
     at (inr e) = is_inner e.0 e.1
 
--- keys that were led to a node are so still when the caller goes on by loads
+-- if keys led to a node after a log, they do so for a caller that goes on by loads
 pub led_on : (v w : View) → GoesOnTo v w → (at : Log) (first last node : ℕ) → AllLed v at first last node
     → AllLed w at first last node
 led_on v w g at first last node led k low high =
     by_table v w g (λ p n. Leads (state_of p n at) k node) (led k low high)
 
+-- so do keys that were led there at some moment
 pub were_led_on : (v w : View) → GoesOnTo v w → (first last node : ℕ) → WereLed v first last node
     → WereLed w first last node
 were_led_on v w g first last node h =

@@ -140,6 +140,7 @@ pub record PartLies (base n d j at len whole : ℕ) : Type 0 where
   pub room : at + ideal_words len ≤ whole
   pub next : at + ideal_words len ≡ part_base base n (j + 1)
 
+-- each part of the tree over several pairs lies so
 pub part_lies : (base n m d j at len whole : ℕ) → 2 ≤ m → m ≡ n → d ≡ degree m → j < d → FitsAt base n
     → base + ideal_words n ≤ whole → at ≡ part_base base n j → len ≡ part_len n j
     → PartLies base n d j at len whole
