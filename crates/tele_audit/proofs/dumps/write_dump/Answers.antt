@@ -6,28 +6,21 @@ use Rattle.tele_audit.proofs.dumps.write_dump.Goals as goal
 -- a part of the piece was written
 pub returns-in_err-make_room-clause-part : goal.returns-in_err-make_room-clause-part
 returns-in_err-make_room-clause-part g c =
-    let words = g.W.WordList.list c.args.words.now in
     let used = c.word-used.ensures.value in
     let less = c.loop-place-test.true in
     on_err c.from_residual.result
-    (dumped_part (g.O.Sink.written c.args.out.now) words (g.O.Sink.written c.loop-place.out)
-    (g.O.Sink.written c.make_room.new.out) c.loop-place.piece c.loop-place.place
-    c.loop-place.invariant.dumped (omega arith) c.in_err-make_room.ensures.part)
+    (dumped_part _ _ _ _ _ _ c.loop-place.invariant.dumped (omega arith)
+    c.in_err-make_room.ensures.part)
 
 -- one more word
 pub loop-place-preserved : goal.loop-place-preserved
 loop-place-preserved g c =
-    let words = g.W.WordList.list c.args.words.now in
     let high = c.requires.lawful.1.holds.bounds.high in
     let used = c.word-used.ensures.value in
     let less = c.loop-place-test.true in
     record {
-      dumped = dumped_word (g.O.Sink.written c.args.out.now) words
-          (g.O.Sink.written c.make_room.new.out) c.make_room.new.piece
-          c.push_number-in-loop-place.new.self c.loop-place.place c.word.result
-          (dumped_out (g.O.Sink.written c.args.out.now) words (g.O.Sink.written c.loop-place.out)
-          (g.O.Sink.written c.make_room.new.out) c.loop-place.piece c.make_room.new.piece
-          c.loop-place.place c.loop-place.invariant.dumped c.in_ok-make_room.ensures.moved)
+      dumped = dumped_word _ _ _ _ _ _ _
+          (dumped_out _ _ _ _ _ _ _ c.loop-place.invariant.dumped c.in_ok-make_room.ensures.moved)
           (omega arith) c.word.ensures.value c.push_number-in-loop-place.ensures.added;
       counted = omega (arith, c.loop-place.invariant.counted, c.in_ok-make_room.ensures.counted);
     }
@@ -35,13 +28,10 @@ loop-place-preserved g c =
 -- a part of the last piece
 pub returns-clause-part : goal.returns-clause-part
 returns-clause-part g c =
-    let words = g.W.WordList.list c.args.words.now in
     let used = c.word-used.ensures.value in
     let end = c.loop-place.auto.place-end in
     err_so c.write_whole.result
-    (λ part. dumped_part (g.O.Sink.written c.args.out.now) words
-    (g.O.Sink.written c.loop-place.out) (g.O.Sink.written c.write_whole.new.out)
-    c.loop-place.piece c.loop-place.place c.loop-place.invariant.dumped (omega arith)
+    (λ part. dumped_part _ _ _ _ _ _ c.loop-place.invariant.dumped (omega arith)
     (subst (AppendsPart (g.O.Sink.written c.loop-place.out)
     (g.O.Sink.written c.write_whole.new.out)) c.as_slice.ensures.value part))
     c.write_whole.ensures.part

@@ -3,6 +3,7 @@ use Rattle.ist_core.specs.declared.pairs.Pair.{Pair}
 use Rattle.ist_core.specs.Map.{map_of}
 use Rattle.tele_audit.proofs.PackLemmas.{length-pairs_of, can_open, table_laid, lawful_new}
 use Rattle.tele_audit.proofs.packing.lay.Goals as goal
+use Rattle.tele_audit.proofs.packing.lay.Goals.{After-ideal_words}
 
 -- there are as many pairs as keys
 pub ideal_words-requires : goal.ideal_words-requires
@@ -24,11 +25,9 @@ lay_image-requires c =
 -- its words are the words of a new table
 pub returns-clause-table : goal.returns-clause-table
 returns-clause-table c =
-    let pairs = c.pairs-pairs.ensures in
-    table_laid _ (map_of c.args.plain.now) c.in_ok-words.words.items
-    (c.from.result + c.ideal_words.result) (pairs.all ∙ pairs.of_map)
-    (can_open _ _ (map_of c.args.plain.now) _ _ pairs.all pairs.of_map pairs.rising
-    c.requires.few c.from.ensures c.ideal_words.ensures.value c.ideal_words.ensures.most)
+    table_laid _ (map_of c.args.plain.now) _ (c.from.result + c.ideal_words.result)
+    (c.pairs-pairs.ensures.all ∙ c.pairs-pairs.ensures.of_map)
+    (lay_image-requires (goal.at.returns-clause-table c).After-ideal_words).opens
     (omega (arith, c.from.ensures, c.ideal_words.ensures.value))
     c.in_ok-words.ensures.size c.in_ok-words.ensures.image c.know_fit.ensures.fit
 
