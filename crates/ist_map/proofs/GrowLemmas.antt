@@ -1,5 +1,5 @@
 -- How a run goes on, how it ends, and how many words a tree has. Serves `Map::run`.
-use Rattle.std.proofs.Common.{◌≡◌, ◌≢◌, ◌∙◌, ℕ, ◌||◌, true, is_some, List, [], ◌∷◌, ◌<◌, ◌≤◌, map, max, Option, Result, Ok, Err, Any, IsSome, IsErrAnd, IfOk, IfErr, refl, sym, ap, subst, arith}
+use Rattle.std.proofs.Common.{◌≡◌, ◌∙◌, ℕ, ◌||◌, true, is_some, List, [], ◌∷◌, ◌<◌, ◌≤◌, map, Option, Result, Ok, Err, Any, IsSome, IsErrAnd, IfOk, IfErr, refl, sym, ap, subst, arith}
 use Rattle.std.proofs.lemmas.List.Folds.{Any-from_list_any}
 use Rattle.std.specs.List.{list_any}
 use Rattle.std.proofs.lemmas.Result.{IfOk-weaker, IfErr-weaker}

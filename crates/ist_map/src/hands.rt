@@ -7,6 +7,7 @@ ghost use Rattle.ist_core.specs.Replies.{Answered};
 ghost use Rattle.ist_core.specs.Resting.{told_by_call};
 ghost use Rattle.ist_map.specs.Hands.{IsHired, IsOn, number_of, calls_by, HaveWorked};
 
+use crate::handles::MapHandle;
 use ist_core::Full;
 use ist_tree::{Maker, Pass, Tree};
 use std::thread;
@@ -19,17 +20,16 @@ pub trait Worker {
     // it has nothing left to do
     ghost is_done: { Self → Type 0 };
 
-    /// Makes calls by this pass, which has made none on this tree, until there is nothing left to
-    /// do or a call is refused.
+    /// Makes calls by this handle, which has made none on its tree, until there is nothing left to do
+    /// or a call is refused.
     ///
     /// `Err` asks for another tree with the same pairs and more words. `work` is called again there,
-    /// with a new pass, and goes on with the call that was refused.
-    fn work(&mut self, tree: &Tree, pass: &mut Pass) -> Result<(), Full>
-        requires same_tree { pass.old.tree ≡ tree.now }
-        requires no_calls { pass.old.calls ≡ [] }
-        ensures same_tree { pass.new.tree ≡ pass.old.tree }
-        ensures number { pass.new.number ≡ pass.old.number }
-        ensures told { told self.new ≡ told self.old ++ map told_by_call pass.new.calls }
+    /// with a new handle, and goes on with the call that was refused.
+    fn work(&mut self, handle: &mut MapHandle<'_>) -> Result<(), Full>
+        requires no_calls { handle.old.calls ≡ [] }
+        ensures same_tree { handle.new.tree ≡ handle.old.tree }
+        ensures number { handle.new.number ≡ handle.old.number }
+        ensures told { told self.new ≡ told self.old ++ map told_by_call handle.new.calls }
         ensures done { OnOk result (is_done self.new) };
 }
 
@@ -83,11 +83,10 @@ impl<W: Worker> Hand<W> {
             ≡ W.told self.old.worker ++ map told_by_call (calls_by self.new.pass).calls }
         ensures done { self.new.refused ≡ None → W.is_done self.new.worker }
     {
-        if let Some(pass) = &mut self.pass {
-            self.refused = match self.worker.work(tree, pass) {
-                Ok(()) => None,
-                Err(full) => Some(full),
-            };
+        if let Some(pass) = self.pass.take() {
+            let mut handle = MapHandle::of(tree, pass);
+            self.refused = self.worker.work(&mut handle).err();
+            self.pass = Some(handle.into_pass());
         }
     }
 

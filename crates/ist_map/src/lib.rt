@@ -7,6 +7,7 @@
 #![tactic(auto)]
 
 mod faults;
+mod handles;
 mod hands;
 pub mod laws;
 mod reopening;
@@ -16,6 +17,7 @@ mod scripts;
 mod tests;
 
 pub use faults::{NotReopened, ReopenFault};
+pub use handles::{MapHandle, MapOwner};
 pub use hands::{Hand, Worker};
 pub use reopening::{MOST_WORDS, open_after, reopen};
 pub use running::Map;

@@ -4,9 +4,9 @@ ghost use Rattle.ist_core.specs.Replies.{Answered, told};
 ghost use Rattle.ist_core.specs.Resting.{told_by_call};
 ghost use Rattle.ist_map.specs.Scripts.{told_in};
 
+use crate::handles::MapHandle;
 use crate::hands::Worker;
 use ist_core::{Command, Full, Reply};
-use ist_tree::{Pass, Tree};
 use std::alloc::{AllocError, Global};
 use std::marker::Model;
 
@@ -37,12 +37,12 @@ impl Worker for Script {
 
     ghost is_done = { λ s. length s.replies ≡ length s.commands };
 
-    fn work(&mut self, tree: &Tree, pass: &mut Pass) -> Result<(), Full> {
+    fn work(&mut self, handle: &mut MapHandle<'_>) -> Result<(), Full> {
         while self.replies.len() < self.commands.len() {
             let command = self.commands[self.replies.len()];
-            let reply = call(tree, pass, command)?;
+            let reply = call(handle, command)?;
             self.replies.push_reserved(reply);
-            if let Some(full) = pass.rebuild_refused() {
+            if let Some(full) = handle.rebuild_refused() {
                 return Err(full);
             }
         }
@@ -76,17 +76,16 @@ impl Script {
 }
 
 // Makes one call.
-fn call(tree: &Tree, pass: &mut Pass, command: Command) -> Result<Reply, Full>
-    requires same_tree { pass.old.tree ≡ tree.now }
-    ensures same_tree { pass.new.tree ≡ pass.old.tree }
-    ensures number { pass.new.number ≡ pass.old.number }
-    ensures added { IfOk result (λ reply.
-        map told_by_call pass.new.calls ≡ map told_by_call pass.old.calls ++ told command reply ∷ []) }
-    ensures unchanged { OnErr result (pass.new.calls ≡ pass.old.calls) }
+fn call(handle: &mut MapHandle<'_>, command: Command) -> Result<Reply, Full>
+    ensures same_tree { handle.new.tree ≡ handle.old.tree }
+    ensures number { handle.new.number ≡ handle.old.number }
+    ensures added { IfOk result (λ reply. map told_by_call handle.new.calls
+        ≡ map told_by_call handle.old.calls ++ told command reply ∷ []) }
+    ensures unchanged { OnErr result (handle.new.calls ≡ handle.old.calls) }
 {
     match command {
-        Command::Put { key, value } => tree.put(pass, key, value),
-        Command::Remove { key } => tree.remove(pass, key),
-        Command::Get { key } => Ok(tree.find(pass, key)),
+        Command::Put { key, value } => handle.insert(key, value),
+        Command::Remove { key } => handle.remove(key),
+        Command::Get { key } => Ok(handle.get(key)),
     }
 }
