@@ -4,7 +4,9 @@ pub mod Calls
 pub mod Conditions
 pub mod Entries
 pub mod Reads
+pub mod Keeping
 pub mod Passes
+pub mod Notes
 pub mod Leaving
 pub mod Reopening
 pub mod Closing

@@ -1,5 +1,7 @@
 //! The exports by which one pass learns what another has seen.
+ghost use Rattle.std.specs.Prelude.{◌≡◌, true, false};
 ghost use Rattle.ist_c.specs.Calls.{MayMeet};
+ghost use Rattle.ist_c.specs.Notes.{Notes, Meets};
 
 use crate::handles::Handle;
 use crate::held::Held;
@@ -8,7 +10,9 @@ use crate::tree_calls::keep;
 use std::alloc::Global;
 
 // Makes `out` a note of the pass.
-fn note_in(alloc: Global, held: &mut Held, out: &mut Handle) -> u32 {
+fn note_in(alloc: Global, held: &mut Held, out: &mut Handle) -> u32
+    ensures notes { Notes held.old held.new out.old out.new result }
+{
     match held {
         Held::Pass(pass) => match pass.note() {
             Ok(note) => keep(alloc, Held::Note(note), out),
@@ -20,7 +24,11 @@ fn note_in(alloc: Global, held: &mut Held, out: &mut Handle) -> u32 {
 
 /// Makes `out` a note of the pass.
 #[unsafe(no_mangle)]
-pub extern "C" fn ist_write_note(alloc: Global, pass: &mut Handle, out: &mut Handle) -> u32 {
+pub extern "C" fn ist_write_note(alloc: Global, pass: &mut Handle, out: &mut Handle) -> u32
+    ensures full { pass.new.full ≡ pass.old.full }
+    ensures notes { pass.old.full ≡ true → out.old.full ≡ false
+        → Notes pass.old.opaque.value pass.new.opaque.value out.old out.new result }
+{
     if out.full {
         return MISUSE;
     }
@@ -37,6 +45,7 @@ pub extern "C" fn ist_write_note(alloc: Global, pass: &mut Handle, out: &mut Han
 // Lets the pass learn what the note holds.
 fn meet_in(held: &mut Held, told: Held) -> u32
     requires same_tree { MayMeet held.old told }
+    ensures meets { Meets held.old held.new told result }
 {
     match told {
         Held::Note(note) => match held {
@@ -54,6 +63,9 @@ fn meet_in(held: &mut Held, told: Held) -> u32
 #[unsafe(no_mangle)]
 pub extern "C" fn ist_meet(alloc: Global, pass: &mut Handle, note: &mut Handle) -> u32
     requires same_tree { MayMeet pass.old.opaque.value note.old.opaque.value }
+    ensures full { pass.new.full ≡ pass.old.full }
+    ensures meets { pass.old.full ≡ true → note.old.full ≡ true
+        → Meets pass.old.opaque.value pass.new.opaque.value note.old.opaque.value result }
 {
     let Some(mut held) = pass.open(alloc) else {
         return MISUSE;

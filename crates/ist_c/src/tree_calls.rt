@@ -3,6 +3,7 @@ ghost use Rattle.std.specs.Prelude.{◌≡◌, true, false};
 ghost use Rattle.plain_map.specs.Rising.{IsRising};
 ghost use Rattle.ist_c.specs.Calls.{MayGiveBack};
 ghost use Rattle.ist_c.specs.Closing.{status_of};
+ghost use Rattle.ist_c.specs.Keeping.{Keeps};
 ghost use Rattle.ist_c.specs.Passes.{Makes, TakesBack};
 
 use crate::entries::{Entry, pairs_of_entries};
@@ -19,7 +20,9 @@ use std::alloc::Global;
 pub(crate) const WORDS_LIMIT: u32 = 0x1000_0000;
 
 /// Makes a handle of what is held. If there is no memory for it, what is held is dropped.
-pub(crate) fn keep(alloc: Global, held: Held, out: &mut Handle) -> u32 {
+pub(crate) fn keep(alloc: Global, held: Held, out: &mut Handle) -> u32
+    ensures keeps { Keeps held out.old out.new result }
+{
     match Box::new(alloc, held) {
         Ok(held) => {
             *out = Handle::of(held);

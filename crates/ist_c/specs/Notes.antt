@@ -1,0 +1,43 @@
+-- What making a note and meeting one do to what handles hold.
+use Rattle.std.specs.Prelude.{◌≡◌, ℕ, true}
+use Rattle.std.specs.Arc.{arc_value}
+use Rattle.ist_tree.specs.Calls.{HasSeenMore, HasLearnt, WeavesWith}
+use Rattle.ist_tree.specs.Faces.{noted}
+use Rattle.ist_c.specs.declared.handles.Handle.{Handle}
+use Rattle.ist_c.specs.declared.held.Held.{Held}
+use Rattle.ist_c.specs.declared.held.Held.TheVariants as of
+use Rattle.ist_c.specs.declared.passes.TreeNote.{TreeNote}
+use Rattle.ist_c.specs.declared.passes.TreePass.{TreePass}
+use Rattle.ist_c.specs.Keeping.{Keeps}
+use Rattle.ist_c.specs.Results.{done, memory, misuse}
+
+-- the pass is the same, of the same tree
+pub record IsSamePass (p q : TreePass) : Type 0 where
+  pub same_tree : arc_value q.tree ≡ arc_value p.tree
+  pub unchanged : q.pass ≡ p.pass
+
+-- the pass is of the same tree, made no call, and learnt what the note holds: the calls of both are woven
+-- into one legal history
+pub record HasMet (p q : TreePass) (n : TreeNote) : Type 0 where
+  pub same_tree : arc_value q.tree ≡ arc_value p.tree
+  pub seen : HasSeenMore p.pass q.pass
+  pub calls : q.pass.calls ≡ p.pass.calls
+  pub learnt : HasLearnt q.pass n.note
+  pub woven : WeavesWith q.pass n.note
+
+-- a handle of a pass holds this pass as it was, and the other handle a note of it; without memory there is
+-- none. A handle of something else is as before
+pub data Notes : Held → Held → Handle → Handle → ℕ → Type 0 where
+  notes_pass : (p q : TreePass) (n : TreeNote) (before out : Handle) (status : ℕ) → IsSamePass p q
+      → n.note ≡ noted p.pass → Keeps (of.Note n) before out status
+      → Notes (of.Pass p) (of.Pass q) before out status
+  notes_none : (p q : TreePass) (out : Handle) → IsSamePass p q
+      → Notes (of.Pass p) (of.Pass q) out out memory
+  no_pass : (held : Held) (out : Handle) → Notes held held out out misuse
+
+-- a handle of a pass holds it still, and it learnt what the note holds, if that is one; a handle of
+-- something else is as before
+pub data Meets : Held → Held → Held → ℕ → Type 0 where
+  meets_note : (p q : TreePass) (n : TreeNote) → HasMet p q n
+      → Meets (of.Pass p) (of.Pass q) (of.Note n) done
+  meets_none : (held told : Held) → Meets held held told misuse
