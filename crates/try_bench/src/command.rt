@@ -1,23 +1,10 @@
 //! The command line: options with one value each.
 
 use crate::plans::{MOST_KEYS, MOST_THREADS, MOST_WORDS, Plan};
-use clap::builder::ValueParser;
 use clap::{Arg, ArgAction, ArgMatches, Command};
 use std::alloc::{AllocError, Global};
 use std::io;
-use try_draws::{Shares, Spread};
-
-/// What the words of the command line ask for.
-#[derive(Clone, Copy, Debug, PartialEq, Eq, Drop)]
-pub(crate) enum Job {
-    /// All that was to be said is said: help, the version, or that the words are no use of the program.
-    Done { status: u8 },
-    /// Measure a plan.
-    Measure(Plan),
-}
-
-// An option with one value, a number from one to another: its name, what it is for, and the two.
-type NumberOption = (&'static str, &'static str, u64, u64);
+use try_draws::{Job, NumberOption, Shares, Spread, arguments, number, read_words, with_numbers};
 
 // The options with numbers that stand before `spread`.
 const CALLS: [NumberOption; 6] = [
@@ -64,24 +51,6 @@ const KEYS: [NumberOption; 6] = [
     ),
 ];
 
-// The command with these options too.
-fn with_numbers<'a>(
-    alloc: Global,
-    command: Command<'a>,
-    options: &[NumberOption],
-) -> Result<Command<'a>, AllocError> {
-    let mut command = command;
-    for &(name, help, low, high) in options {
-        let option = Arg::new(alloc, name)
-            .long(name)
-            .help(help)
-            .action(ArgAction::Set)
-            .value_parser(ValueParser::unsigned(low, high));
-        command = command.arg(option)?;
-    }
-    Ok(command)
-}
-
 // The option that says how keys lie.
 fn spread_option<'a>(alloc: Global) -> Arg<'a> {
     Arg::new(alloc, "spread")
@@ -97,14 +66,6 @@ fn command<'a>(alloc: Global) -> Result<Command<'a>, AllocError> {
         .about("Measures puts, removes and finds on one search tree");
     let command = with_numbers(alloc, command, &CALLS)?.arg(spread_option(alloc))?;
     with_numbers(alloc, command, &KEYS)
-}
-
-// The number of an option, or its default if none is given.
-fn number(matches: &ArgMatches, name: &str, otherwise: u64) -> u64 {
-    match matches.get_str(name) {
-        Some(text) => text.parse::<u64>().unwrap_or(otherwise),
-        None => otherwise,
-    }
 }
 
 // How keys lie by this name.
@@ -140,18 +101,14 @@ fn plan_of(matches: &ArgMatches) -> Option<Plan> {
     })
 }
 
-/// What the words ask for, of which the first is the program's name.
-pub(crate) fn read_words(rt: &HostRuntime, words: &[String]) -> io::Result<Job> {
-    match command(rt.alloc())?.try_get_matches_from(words) {
-        Ok(matches) => match plan_of(&matches) {
-            Some(plan) => Ok(Job::Measure(plan)),
+/// What the program's arguments ask for.
+pub(crate) fn read_job(rt: &HostRuntime) -> io::Result<Job<Plan>> {
+    let words = arguments(rt)?;
+    match read_words(rt, command(rt.alloc())?, &words)? {
+        Job::Run(matches) => match plan_of(&matches) {
+            Some(plan) => Ok(Job::Run(plan)),
             None => Ok(Job::Done { status: 2 }),
         },
-        Err(error) => {
-            error.print(rt)?;
-            Ok(Job::Done {
-                status: if error.use_stderr() { 2 } else { 0 },
-            })
-        }
+        Job::Done { status } => Ok(Job::Done { status }),
     }
 }

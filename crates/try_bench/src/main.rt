@@ -10,10 +10,11 @@ mod plans;
 mod runs;
 mod workers;
 
-use command::{Job, read_words};
+use command::read_job;
 use runs::{Figures, measure};
+use std::io;
 use std::process::ExitCode;
-use std::{env, io};
+use try_draws::Job;
 
 /// The status if the arguments are refused, or the tree can't be opened.
 const USAGE: u8 = 2;
@@ -23,7 +24,7 @@ const FAILED: u8 = 3;
 
 fn main(rt: HostRuntime) -> ExitCode {
     let plan = match read_job(&rt) {
-        Ok(Job::Measure(plan)) => plan,
+        Ok(Job::Run(plan)) => plan,
         Ok(Job::Done { status }) => return ExitCode::from(status),
         Err(_) => return ExitCode::from(FAILED),
     };
@@ -36,15 +37,6 @@ fn main(rt: HostRuntime) -> ExitCode {
         Ok(()) => ExitCode::from(0),
         Err(_) => ExitCode::from(FAILED),
     }
-}
-
-/// What the words of the command line ask for.
-fn read_job(rt: &HostRuntime) -> io::Result<Job> {
-    let mut words = Vec::new(rt.alloc());
-    for word in env::args(rt)? {
-        words.push(word)?;
-    }
-    read_words(rt, words.as_slice())
 }
 
 /// Says the figures in one line.
