@@ -55,7 +55,7 @@ impl<P: Port> Lane<P> {
         &[]
     }
 
-    // Makes the calls of this lane's tasks, until one is refused.
+    // Makes the calls of this lane's tasks in order, until one is refused, and keeps the answers.
     fn run<R: Wait, G: Gate>(&mut self, rt: &R, gate: &G)
         requires empty { self.old.answers.list ≡ [] }
         requires room { length self.old.tasks ≤ self.old.answers.room }
@@ -77,55 +77,30 @@ impl<P: Port> Lane<P> {
         ensures whole { IfNone self.new.stopped
             (length (P.calls self.new.port) ≡ length self.new.tasks) }
     {
-        self.stopped = call_each(
-            rt,
-            gate,
-            self.number,
-            self.tasks.as_slice(),
-            &mut self.answers,
-            &mut self.port,
-        );
-    }
-}
-
-// Makes the calls of the tasks in order, until one is refused, and keeps the answers. Returns the
-// refusal.
-fn call_each<R: Wait, G: Gate, P: Port>(
-    rt: &R,
-    gate: &G,
-    number: u32,
-    tasks: &[Task],
-    answers: &mut Answers,
-    port: &mut P,
-) -> Option<Full>
-    requires empty { answers.old.list ≡ [] }
-    requires room { length tasks.now ≤ answers.old.room }
-    requires no_calls { P.calls port.old ≡ [] }
-    requires unrefused { P.refused port.old ≡ None }
-
-    ensures tie { P.tie port.new ≡ P.tie port.old }
-    ensures calls { CallInOrder tasks.now (P.calls port.new) }
-    ensures answers { AnswerInOrder tasks.now answers.new.list }
-    ensures replies { TellReplies (P.calls port.new) answers.new.list }
-
-    ensures stopped { result ≡ option_map (λ r. r.full) (P.refused port.new) }
-    ensures refused { IfSome (P.refused port.new) (λ r.
-        slice_get (commands_of tasks.now) (length (P.calls port.new)) ≡ Some r.command) }
-    ensures whole { IfNone result (length (P.calls port.new) ≡ length tasks.now) }
-{
-    for (index, task) in tasks.iter().enumerate() {
-        gate.before(number, index as u64);
-        let outcome = port.call(rt, task.command);
-        gate.after(number, index as u64);
-        match outcome {
-            Ok(reply) => answers.keep(Answer {
-                line: task.line,
-                reply,
-            }),
-            Err(full) => return Some(full),
+        let Lane {
+            number,
+            tasks,
+            answers,
+            port,
+            stopped,
+        } = self;
+        *stopped = None;
+        for (index, task) in tasks.as_slice().iter().enumerate() {
+            gate.before(*number, index as u64);
+            let outcome = port.call(rt, task.command);
+            gate.after(*number, index as u64);
+            match outcome {
+                Ok(reply) => answers.keep(Answer {
+                    line: task.line,
+                    reply,
+                }),
+                Err(full) => {
+                    *stopped = Some(full);
+                    return;
+                }
+            }
         }
     }
-    None
 }
 
 /// Runs the lanes side by side and returns once all have ended. Each runs in its own thread; if no

@@ -1,7 +1,7 @@
 use Rattle.std.proofs.Common.{◌+◌, arith, ap, ◌∙◌, refl}
 use Rattle.std.proofs.lemmas.List.{length_push}
 use Rattle.tele_lanes.proofs.OrderLemmas.{follows_push, map-push_both}
-use Rattle.tele_lanes.proofs.lanes.call_each.Goals as goal
+use Rattle.tele_lanes.proofs.lanes.Lane.run.Goals as goal
 
 -- one more call, which was answered: its command and its answer's line are the next task's
 pub loop-index-preserved : goal.loop-index-preserved
@@ -11,6 +11,8 @@ loop-index-preserved g c = record {
   answered = rw c.keep.ensures.kept
       (length_push _ _ ∙ ap (λ n. n + 1) c.loop-index.invariant.answered);
   room = omega arith;
+  number = c.loop-index.invariant.number;
+  stopped = c.loop-index.invariant.stopped;
   unrefused = c.in-Ok.ensures.unrefused ∙ c.loop-index.invariant.unrefused;
   tie = c.call-outcome.ensures.same_tie ∙ c.loop-index.invariant.tie;
   calls = rw c.in-Ok.ensures.recorded
