@@ -1,12 +1,10 @@
 -- What the calls of this crate return, in terms of references and of the one relation between a
 -- caller's views. Serves `calls`.
-use Rattle.std.proofs.Common.{le_refl, ◌≡◌, ◌≢◌, ℕ, zero, suc, List, [], ◌∷◌, map, take, drop, Option, None, Some, refl, ap, sym, subst, ◌∙◌}
+use Rattle.std.proofs.Common.{le_refl, ◌≡◌, ◌≢◌, ℕ, zero, suc, List, [], ◌∷◌, map, take, drop, Option, None, Some, refl, ap, sym, ◌∙◌}
 use Rattle.ist_core.specs.declared.ports.Full.{Full}
-use Rattle.ist_core.specs.Ideals.{IsIdeal}
 use Rattle.ist_core.specs.Leaves.{PlacedLeaf, HasLeaves}
-use Rattle.ist_core.specs.Pieces.{Rebuild, with_inners}
-use Rattle.ist_core.specs.References.{Ref, InnerAt, LeafAt, ref_of, unset_word}
-use Rattle.ist_core.specs.Snapshots.{Snapshot, bases_of}
+use Rattle.ist_core.specs.Pieces.{Rebuild}
+use Rattle.ist_core.specs.References.{Ref, InnerAt, LeafAt, ref_of}
 use Rattle.ist_core.proofs.NamingLemmas.{RootNames}
 use Rattle.ist_core.proofs.OrderLemmas.{names}
 use Rattle.laws_rebuilds.proofs.FinishedLeafLemmas.{finished_leaves}
@@ -14,9 +12,8 @@ use Rattle.ist_rule.specs.declared.view.View.{View}
 use Rattle.ist_rule.specs.Going.{WentOn}
 use Rattle.ist_rule.specs.Rule.{IsSound}
 use Rattle.ist_rule.specs.Learning.{now}
-use Rattle.ist_rows.specs.declared.callers.Caller.{Caller}
 use Rattle.ist_build.specs.Laying.{BuiltOn, IsLaid, IsShort}
-use Rattle.ist_build.specs.Calls.{Builds, MayBuild, IsPartLaid, HasRootAs, IsOutOfWords, RebuildIsShort, IsLeafAmong}
+use Rattle.ist_build.specs.Calls.{Builds, MayBuild, IsOutOfWords, RebuildIsShort, IsLeafAmong}
 use Rattle.ist_build.specs.Putting.{PutOn, HasRoot, IsStopped}
 use Rattle.ist_build.proofs.LaidOnLemmas.{laid_went}
 use Rattle.ist_build.proofs.PutOnLemmas.{built_put}
@@ -51,35 +48,6 @@ built_went v w b = laid_went Builds v w (built_put v w b)
 -- a caller that puts a build in place makes only events of builds
 pub put_went : (v w : View) → PutOn v w → WentOn Builds v w
 put_went v w b = laid_went Builds v w b
-
--- ---- references
-
-one_ref : (o : Option Ref) (a b : Ref) → o ≡ Some a → o ≡ Some b → a ≡ b
-one_ref o a b e f = cc
-
--- what was laid under a word is laid under its reference
-pub part_laid : (old new : Caller) (word : ℕ) (ref : Ref) (leaves : List PlacedLeaf)
-    → IsLaid new.seat.view new.number (now old.seat.view).next word leaves
-    → ref_of word ≡ Some ref → IsPartLaid old new ref leaves
-part_laid old new word ref leaves laid is =
-    let same = one_ref (ref_of word) laid.ref ref laid.ref_is is in
-    record {
-      rows = laid.rows;
-      owns = laid.owns;
-      ideal = λ above low. subst (λ r. IsIdeal (with_inners (now new.seat.view).pieces laid.rows) r
-          leaves above (bases_of laid.rows)) same (laid.ideal above low);
-    }
-
--- a root that is set is the reference that its word names
-pub root_as : (t : Snapshot) (rebuild word : ℕ) (ref : Ref) → HasRoot t rebuild word
-    → ref_of word ≡ Some ref → HasRootAs t rebuild ref
-root_as t rebuild word ref h is =
-    record {
-      row = h.row;
-      published = h.published;
-      root_is = ap ref_of h.root_is ∙ is;
-      set = subst (λ w. w ≢ unset_word) (sym h.root_is) h.set;
-    }
 
 -- ---- refusals
 

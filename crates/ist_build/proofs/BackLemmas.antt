@@ -13,11 +13,12 @@ use Rattle.ist_rows.specs.declared.callers.Caller.{Caller}
 use Rattle.ist_rows.specs.Rows.{spares_of, build_sizes, IsCaller}
 use Rattle.ist_rows.specs.Building.{AreStuck, HasRefused, sizes_built}
 use Rattle.ist_rows.proofs.CallerLemmas.{comes_behind}
-use Rattle.ist_rows.proofs.CallerGoingLemmas.{now_is, caller_goes_on}
+use Rattle.ist_rows.proofs.CallerGoingLemmas.{caller_goes_on}
 use Rattle.ist_rows.proofs.BuildingLemmas.{all_stuck_on}
 use Rattle.ist_rows.proofs.BuildLemmas.{ComesBehind}
 use Rattle.ist_build.proofs.LaidOnLemmas.{logged_laid, logged_load_laid}
 use Rattle.ist_core.specs.Lawful.{Lawful}
+use Rattle.ist_rule.proofs.WentOnLemmas.{goes_on_now}
 use Rattle.ist_build.specs.Laying.{BuiltOn, OwnsRows}
 use Rattle.ist_build.specs.Calls.{Builds}
 use Rattle.ist_build.specs.Back.{IsFreeToBuild, IsBack, HasBuilt}
@@ -106,7 +107,7 @@ back_loads who seat r g =
         caller = caller_goes_on who seat c g;
         refused = subst (AreStuck (now seat.view)) (sym (sizes_on who seat c g))
             (all_stuck_on (now v) (now seat.view)
-            (subst (ComesBehind (now v)) (sym (now_is v seat.view g))
+            (subst (ComesBehind (now v)) (sym (goes_on_now v seat.view g))
             (comes_behind v.start v.words who.number v.log seat.view.log lawful
             (subst (λ x. Later x v.log seat.view.log) c.mine g.later)))
             (sizes_built who) r.refused);

@@ -1,15 +1,15 @@
 -- What a caller does while it builds. Serves `building` and `parts`.
-use Rattle.std.proofs.Common.{inl, inr, ◌≡◌, ℕ, ◌<◌, ◌≤◌, List, [], ◌∷◌, Some, refl, sym, ap, ◌∙◌, subst, arith}
+use Rattle.std.proofs.Common.{inl, inr, ◌≡◌, ℕ, ◌<◌, ◌≤◌, List, [], ◌∷◌, Some, refl, sym, ap, ◌∙◌, subst}
 use Rattle.ist_core.specs.declared.events.Event.{Event}
 use Rattle.ist_core.specs.declared.events.Event.TheVariants.{Reserve}
 use Rattle.ist_core.specs.declared.lists.HeldRow.{HeldRow}
 use Rattle.ist_core.specs.declared.pairs.Pair.{Pair}
 use Rattle.ist_core.specs.declared.states.LeafRow.{LeafRow}
 use Rattle.ist_core.specs.Elements.{Among}
-use Rattle.ist_core.specs.Growing.{AllGrow, Grows, leaf_stays}
+use Rattle.ist_core.specs.Growing.{AllGrow}
 use Rattle.ist_core.specs.Lawful.{EachEnabled, Lawful, state_of}
 use Rattle.ist_core.specs.Logs.{Log}
-use Rattle.ist_core.specs.Pieces.{Piece, Pieces, Leaf}
+use Rattle.ist_core.specs.Pieces.{Leaf}
 use Rattle.ist_core.specs.Snapshots.{HoldsRow}
 use Rattle.ist_core.specs.StartLayout.{start}
 use Rattle.ist_core.proofs.ElementLemmas.{among_left}
@@ -19,32 +19,22 @@ use Rattle.ist_rule.specs.declared.view.View.{View}
 use Rattle.ist_rule.specs.declared.view.OwnWord.{OwnWord}
 use Rattle.ist_core.specs.declared.events.Who.TheVariants.{Caller}
 use Rattle.ist_rule.specs.Rule.{IsSound, own_at}
-use Rattle.ist_rule.specs.Learning.{now, GoesOnTo, storing}
+use Rattle.ist_rule.specs.Learning.{now, GoesOnTo}
 use Rattle.ist_rule.proofs.HeldLemmas.{held_by_others}
 use Rattle.ist_rows.specs.Rows.{Reserved}
 use Rattle.ist_core.specs.Authors.{no_more, one_more, LaterBy}
+use Rattle.ist_core.proofs.GrowingLemmas.{leaf_there}
 use Rattle.ist_rule.proofs.WentOnLemmas.{goes_on_grow}
-use Rattle.ist_build.proofs.LaidOnLemmas.{laid_now, laid_lawful, laid_who, laid_grow, laid_next, laid_same, laid_more, goes_on_laid, logged_laid}
+use Rattle.ist_build.proofs.LaidOnLemmas.{laid_now, laid_lawful, laid_grow, laid_next, laid_same, laid_more, goes_on_laid, logged_laid}
 use Rattle.ist_build.specs.Laying.{Reserves, BuiltOn}
-use Rattle.ist_build.proofs.OwnWordLemmas.{own_else}
 
 -- ---- leaves
-
--- a leaf stays as rows grow
-pub leaf_grows : (ps qs : Pieces) → AllGrow ps qs → (base : ℕ) (r : LeafRow)
-    → ps base ≡ Some (Leaf r) → qs base ≡ Some (Leaf r)
-leaf_grows ps qs g base r e =
-    let it = g base (Leaf r) e in
-    it.1 ∙ ap (λ p. Some p) (stays it.0 it.2)
-  where
-    stays : (q : Piece) → Grows (Leaf r) q → q ≡ Leaf r
-    stays _ leaf_stays = refl
 
 -- a published leaf is the same after loads
 pub leaf_goes_on : (v w : View) → GoesOnTo v w → (base : ℕ) (r : LeafRow)
     → (now v).pieces base ≡ Some (Leaf r) → (now w).pieces base ≡ Some (Leaf r)
 leaf_goes_on v w g base r e =
-    leaf_grows (now v).pieces (now w).pieces (goes_on_grow v w g) base r e
+    leaf_there (now v).pieces (now w).pieces (goes_on_grow v w g) base r e
 
 -- ---- going on
 
@@ -75,14 +65,6 @@ built_now = laid_now Reserves
 -- the log after a build is lawful
 pub built_lawful : (v w : View) → BuiltOn v w → Lawful v.start v.words w.log
 built_lawful = laid_lawful Reserves
-
--- a build keeps the caller's author
-pub built_who : (v w : View) → BuiltOn v w → w.who ≡ v.who
-built_who = laid_who Reserves
-
--- a build keeps the table's number of words
-pub built_words : (v w : View) → BuiltOn v w → w.words ≡ v.words
-built_words v w b = ap (λ x. x.words) b.same
 
 -- rows grow
 pub built_grow : (v w : View) → BuiltOn v w → AllGrow (now v).pieces (now w).pieces
@@ -133,10 +115,3 @@ rewritten_built u v own b s stays =
       own = λ p low. stays p low ∙ b.own p low;
       loaded = b.loaded;
     }
-
--- or one word
-pub stored_built : (u v : View) (place word : ℕ) → BuiltOn u v → IsSound (storing v place word)
-    → (now u).next ≤ place → BuiltOn u (storing v place word)
-stored_built u v place word b s far =
-    rewritten_built u v (record { place = place; word = word } ∷ v.own) b s
-    (λ p low. own_else v.own place word p (λ e. omega arith))

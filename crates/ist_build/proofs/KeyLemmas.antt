@@ -10,13 +10,14 @@ use Rattle.ist_core.specs.Leaves.{PlacedLeaf}
 use Rattle.ist_core.specs.Pieces.{Leaf}
 use Rattle.ist_core.specs.Snapshots.{Snapshot}
 use Rattle.ist_core.specs.Arithmetic.{part_len, part_start}
+use Rattle.ist_core.proofs.GrowingLemmas.{leaf_there}
 use Rattle.laws_rows.specs.Dividing.{share_of}
 use Rattle.ist_rule.specs.declared.view.View.{View}
 use Rattle.ist_rule.specs.Learning.{now, GoesOnTo}
 use Rattle.ist_rows.specs.declared.callers.Caller.{Caller}
 use Rattle.ist_build.specs.Laying.{ArePlaced, HaveLeaves, IsLeaf, IsKeyOf, AreKeysOf}
 use Rattle.ist_build.specs.Midway.{IsMidway}
-use Rattle.ist_build.proofs.BuiltLemmas.{leaf_grows, leaf_goes_on, built_grow, loads_built}
+use Rattle.ist_build.proofs.BuiltLemmas.{leaf_goes_on, built_grow, loads_built}
 use Rattle.ist_build.proofs.MidwayLemmas.{part_placed}
 
 -- keys stay as rows grow
@@ -26,7 +27,7 @@ keys_on t u g [] [] h = tt
 keys_on t u g (base ∷ bases) (key ∷ keys) h = (
   record {
     row = h.0.row;
-    published = leaf_grows t.pieces u.pieces g base h.0.row h.0.published;
+    published = leaf_there t.pieces u.pieces g base h.0.row h.0.published;
     key_is = h.0.key_is;
   },
   keys_on t u g bases keys h.1,

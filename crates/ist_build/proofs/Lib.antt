@@ -2,7 +2,6 @@ pub mod ShortLemmas
 pub mod LaidOnLemmas
 pub mod OwnWordLemmas
 pub mod BuiltLemmas
-pub mod PuttingLemmas
 pub mod LayingLemmas
 pub mod TogetherLemmas
 pub mod PartsLemmas
@@ -24,7 +23,6 @@ pub mod UnderLemmas
 pub mod ShareLemmas
 pub mod ReadOutLemmas
 pub mod AtOnceLemmas
-pub mod RootLemmas
 pub mod UnsetLemmas
 pub mod RisingListLemmas
 pub mod HeldMoreLemmas

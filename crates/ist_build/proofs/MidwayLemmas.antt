@@ -10,7 +10,7 @@ use Rattle.ist_core.specs.Pieces.{Leaf}
 use Rattle.ist_core.specs.RowLayout.{inner_words}
 use Rattle.ist_core.specs.Shapes.{shape}
 use Rattle.ist_core.specs.Snapshots.{HoldsRow}
-use Rattle.ist_core.proofs.GrowingLemmas.{all_grow_same}
+use Rattle.ist_core.proofs.GrowingLemmas.{all_grow_same, leaf_there}
 use Rattle.ist_core.proofs.PartLemmas.{part_end-le}
 use Rattle.ist_rule.specs.declared.view.View.{View}
 use Rattle.ist_rule.specs.declared.view.OwnWord.{OwnWord}
@@ -24,7 +24,7 @@ use Rattle.ist_build.specs.Laying.{BuiltOn, ArePlaced, IsLaid}
 use Rattle.laws_rows.specs.Dividing.{lens_to, parts_to, share_of}
 use Rattle.laws_rows.proofs.PartLemmas.{parts_next, keys_next}
 use Rattle.ist_build.specs.Midway.{words_at, AreLaid, lens_from, IsMidway, opening, setting}
-use Rattle.ist_build.proofs.BuiltLemmas.{built_more, built_next, built_held, built_grow, rewritten_built, leaf_grows}
+use Rattle.ist_build.proofs.BuiltLemmas.{built_more, built_next, built_held, built_grow, rewritten_built}
 use Rattle.ist_build.proofs.LayingLemmas.{row_within, rows_below, are_laid_on, same_rows}
 use Rattle.ist_build.proofs.TogetherLemmas.{are_laid_more}
 use Rattle.ist_build.proofs.OwnWordLemmas.{words_at_same, words_at_more}
@@ -51,7 +51,7 @@ pub published_on : (v w : View) → BuiltOn v w → (leaves : List PlacedLeaf)
     → Each (λ leaf. (now w).pieces leaf.base ≡ Some (Leaf leaf.row)) leaves
 published_on v w b [] h = tt
 published_on v w b (leaf ∷ leaves) h = (
-  leaf_grows (now v).pieces (now w).pieces (built_grow v w b) leaf.base leaf.row h.0,
+  leaf_there (now v).pieces (now w).pieces (built_grow v w b) leaf.base leaf.row h.0,
   published_on v w b leaves h.1,
 )
 

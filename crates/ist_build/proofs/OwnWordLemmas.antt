@@ -1,7 +1,6 @@
 -- Words that a caller stored, one after another, and the inner row that they make. Serves
 -- `building`.
-use Rattle.std.proofs.Common.{◌≡◌, ◌≢◌, ℕ, zero, suc, ◌+◌, ◌-◌, ◌<◌, ◌≤◌, ◌⊎◌, ◌==◌, true, false, if◌then◌else◌, List, [], ◌∷◌, ◌++◌, length, slice_get, Some, refl, ap, ap₂, ◌∙◌, inl, inr, arith}
-use Rattle.std.proofs.lemmas.Bool.Decides.{eqb_tells}
+use Rattle.std.proofs.Common.{◌≡◌, ℕ, zero, suc, ◌+◌, ◌-◌, ◌<◌, ◌≤◌, List, [], ◌∷◌, ◌++◌, length, slice_get, Some, refl, ap, ap₂, ◌∙◌, arith}
 use Rattle.std.proofs.lemmas.List.{drop_at, take_at}
 use Rattle.ist_core.specs.declared.states.InnerRow.{InnerRow}
 use Rattle.ist_core.specs.RowLayout.{inner_words}
@@ -9,30 +8,6 @@ use Rattle.ist_core.specs.Pieces.{Inner, inner_of, words_of}
 use Rattle.ist_rule.specs.declared.view.OwnWord.{OwnWord}
 use Rattle.ist_rule.specs.Rule.{own_at}
 use Rattle.ist_build.specs.Midway.{words_at}
-
--- ---- stores
-
--- what was stored last is what is there
-pub own_here : (own : List OwnWord) (place word : ℕ)
-    → own_at (record { place = place; word = word } ∷ own) place ≡ word
-own_here own place word = at (eqb_tells place place)
-  where
-    at : (((place == place) ≡ true) × (place ≡ place))
-        ⊎ (((place == place) ≡ false) × (place ≢ place))
-        → (if place == place then word else own_at own place) ≡ word
-    at (inl k) = ap (λ b. if b then word else own_at own place) k.0
-    at (inr k) = absurd (k.1 refl)
-
--- elsewhere it is as it was
-pub own_else : (own : List OwnWord) (place word other : ℕ) → place ≢ other
-    → own_at (record { place = place; word = word } ∷ own) other ≡ own_at own other
-own_else own place word other ne = at (eqb_tells place other)
-  where
-    at : (((place == other) ≡ true) × (place ≡ other))
-        ⊎ (((place == other) ≡ false) × (place ≢ other))
-        → (if place == other then word else own_at own other) ≡ own_at own other
-    at (inl k) = absurd (ne k.1)
-    at (inr k) = ap (λ b. if b then word else own_at own other) k.0
 
 -- ---- words one after another
 

@@ -1,5 +1,5 @@
 -- What a caller does while it builds and puts in place. Serves `root`.
-use Rattle.std.proofs.Common.{le_refl, ◌≡◌, ℕ, ◌≤◌}
+use Rattle.std.proofs.Common.{le_refl, ◌≡◌, ℕ}
 use Rattle.ist_core.specs.declared.events.Event.{Event}
 use Rattle.ist_core.specs.declared.events.Event.TheVariants.{Reserve}
 use Rattle.ist_core.specs.declared.ports.Full.{Full}
@@ -9,7 +9,7 @@ use Rattle.ist_rule.specs.declared.view.View.{View}
 use Rattle.ist_rule.specs.Rule.{IsSound}
 use Rattle.ist_rule.specs.Learning.{now, GoesOnTo}
 use Rattle.ist_build.proofs.BuiltLemmas.{built_same}
-use Rattle.ist_build.proofs.LaidOnLemmas.{laid_now, laid_lawful, laid_who, laid_grow, laid_next, laid_more, laid_all, goes_on_laid}
+use Rattle.ist_build.proofs.LaidOnLemmas.{laid_now, laid_lawful, laid_grow, laid_more, laid_all, goes_on_laid}
 use Rattle.ist_build.specs.Laying.{Reserves, BuiltOn, IsShort}
 use Rattle.ist_build.specs.Calls.{Builds, IsTold}
 use Rattle.ist_build.specs.Putting.{PutOn, IsStopped}
@@ -23,17 +23,9 @@ put_now = laid_now Builds
 pub put_lawful : (v w : View) → PutOn v w → Lawful v.start v.words w.log
 put_lawful = laid_lawful Builds
 
--- the author of the caller stays
-pub put_who : (v w : View) → PutOn v w → w.who ≡ v.who
-put_who = laid_who Builds
-
 -- the pieces grow
 pub put_grow : (v w : View) → PutOn v w → AllGrow (now v).pieces (now w).pieces
 put_grow = laid_grow Builds
-
--- the first free place never falls
-pub put_next : (v w : View) → PutOn v w → (now v).next ≤ (now w).next
-put_next = laid_next Builds
 
 -- going on twice
 pub put_more : (u v w : View) → PutOn u v → PutOn v w → PutOn u w

@@ -179,12 +179,6 @@ pub one_left_out : (old : List ℕ) (from : Cursor) (to : Cursor) (leaf : Placed
 one_left_out old from to leaf le some count skip =
     read_left_out old from to (leaf ∷ []) le (omega arith) count skip
 
--- without room, a further leaf changes nothing
-pub one_full : (old : List ℕ) (at : Cursor) (leaf : PlacedLeaf) → at.count ≡ length old
-    → HasRead old at (leaf ∷ []) old at
-one_full old at leaf full =
-    read_full old old at at [] (leaf ∷ []) (read_none old at (omega arith)) full
-
 -- with room and nothing to skip, a leaf is written at the count
 pub one_taken : (old : List ℕ) (from : Cursor) (to : Cursor) (leaf : PlacedLeaf)
     → from.count < length old → from.skip ≤ 0 → to.count ≡ from.count + 1 → to.skip ≡ 0

@@ -8,7 +8,7 @@ use Rattle.ist_core.specs.Rebuilding.{IsFinishedWith}
 use Rattle.ist_core.specs.References.{Ref, Empty, LeafAt, InnerAt, RebuildAt, ref_of}
 use Rattle.ist_core.specs.Slots.{SlotHolds, in_row, logical, past_rebuild, rebuild_reads}
 use Rattle.ist_core.proofs.FrozenLemmas.{frozen_reads}
-use Rattle.ist_core.proofs.GrowingLemmas.{inner_there, rebuild_there}
+use Rattle.ist_core.proofs.GrowingLemmas.{inner_there, rebuild_there, leaf_there}
 use Rattle.ist_core.proofs.KeepingLemmas.{finished_leaves_stay}
 use Rattle.ist_core.proofs.LeafLemmas.{reached, slots_reached}
 use Rattle.ist_core.proofs.SlotLemmas.{same_inner}
@@ -23,7 +23,6 @@ use Rattle.ist_rule.proofs.WentOnLemmas.{goes_on_went, went_now, went_lawful, la
 use Rattle.ist_build.specs.declared.reading.Cursor.{Cursor}
 use Rattle.ist_build.specs.Laying.{Reserves}
 use Rattle.ist_build.specs.Reading.{HasSlots, SlotReads, HasRead, SlotsFrom, IsReading}
-use Rattle.ist_build.proofs.BuiltLemmas.{leaf_grows}
 use Rattle.ist_build.proofs.SlotLemmas.{slots_on, slots_finished, slot_some, frozen_on, child_finished}
 use Rattle.ist_build.proofs.ReadLemmas.{read_full, read_more, read_none}
 
@@ -35,7 +34,7 @@ ref_leaves_on : (v w : View) → IsSound v → GoesOnTo v w → (ref : Ref) (lea
     → HasLeaves (now v).pieces (Some ref) leaves → HasLeaves (now w).pieces (Some ref) leaves
 ref_leaves_on v w s g _ _ done none_here = none_here
 ref_leaves_on v w s g _ _ done (leaf_here {base = base} r e) =
-    leaf_here r (leaf_grows (now v).pieces (now w).pieces
+    leaf_here r (leaf_there (now v).pieces (now w).pieces
     (goes_on_grow v w g) base r e)
 ref_leaves_on v w s g _ leaves done (row_here {base = base} r e slots) =
     let b = goes_on_went Reserves v w g in

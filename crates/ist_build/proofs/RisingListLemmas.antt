@@ -8,9 +8,6 @@ use Rattle.ist_build.specs.Laying.{Rises}
 
 -- ---- lists
 
-clash : true ≡ false → ⊥
-clash e = cc
-
 -- a filter that keeps each
 pub keeps_all : {A : Type 0} (p : A → Bool) (xs : List A) → ((x : A) → Among x xs → p x ≡ true)
     → filter p xs ≡ xs

@@ -21,11 +21,11 @@ use Rattle.ist_rows.specs.Building.{IsInBuild, HasTaken}
 use Rattle.ist_rows.proofs.BuildingCallLemmas.{took, at_storing}
 use Rattle.ist_build.specs.Laying.{Reserves}
 use Rattle.laws_rows.specs.Dividing.{lens_to}
+use Rattle.ist_rule.proofs.StoreLemmas.{own_here, own_else}
 use Rattle.ist_build.specs.Midway.{lens_from, IsOpened, IsMidway, opening, setting}
 use Rattle.ist_build.proofs.BuiltLemmas.{reserved_built, rewritten_built}
 use Rattle.ist_build.proofs.LaidOnLemmas.{next_between}
 use Rattle.ist_build.proofs.TogetherLemmas.{are_laid_none}
-use Rattle.ist_build.proofs.OwnWordLemmas.{own_here, own_else}
 use Rattle.ist_build.proofs.PartsLemmas.{lens_first}
 
 -- who holds a row holds each place of it
@@ -158,10 +158,6 @@ opened_on a b base d size same o =
 
 -- the words of the row that were stored before stay when others are stored after a part
 module _ (v : View) (base d j key word : ℕ) (less : j < d) where
-  -- below the row's slots and keys of the part nothing changes
-  setting_own : List OwnWord
-  setting_own = (setting v base d j key word).own
-
   -- a slot that is set holds its word
   pub at_slot : own_at (setting v base d j key word).own (base + 3 + d + j) ≡ word
   at_slot = cases (nat_lt 0 j)

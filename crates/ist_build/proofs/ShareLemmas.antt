@@ -1,5 +1,5 @@
 -- A share of a target, read and then built. Serves `parts`.
-use Rattle.std.proofs.Common.{le_refl, ◌≡◌, ℕ, ◌+◌, ◌-◌, ◌≤◌, List, [], ◌∷◌, ◌++◌, length, map, take, drop, Some, Result, Ok, Err, IfOk, IfErr, slice_index_or, sym, ap, ◌∙◌, subst, append-nil, arith}
+use Rattle.std.proofs.Common.{le_refl, ◌≡◌, ℕ, ◌+◌, ◌-◌, ◌≤◌, List, [], ◌++◌, length, map, take, drop, Some, Result, Ok, Err, IfOk, IfErr, sym, ap, ◌∙◌, subst, append-nil, arith}
 use Rattle.std.proofs.lemmas.List.{take_all, length-take-le, length-drop, length-map, take-map}
 use Rattle.ist_core.specs.declared.ports.Full.{Full}
 use Rattle.ist_core.specs.Fairness.{IsBuild, build_whole, build_part}
@@ -235,20 +235,8 @@ at_share_ok who new len target start (Err full) refused m taken = tt
 
 -- ---- results
 
--- if P implies Q, and a success has P, it has Q
-pub ok_map : {A B : Type 0} (P Q : A → Type 0) (answer : Result A B) → ((x : A) → P x → Q x)
-    → IfOk answer P → IfOk answer Q
-ok_map P Q (Ok x) f h = f x h
-ok_map P Q (Err e) f h = tt
-
 -- if P implies Q, and an error has P, it has Q
 pub err_map : {A B : Type 0} (P Q : B → Type 0) (answer : Result A B) → ((x : B) → P x → Q x)
     → IfErr answer P → IfErr answer Q
 err_map P Q (Ok x) f h = tt
 err_map P Q (Err e) f h = f e h
-
--- one word
-pub one_word : (xs ys : List ℕ) → length xs ≡ 1 → xs ≡ ys → ys ≡ slice_index_or xs 0 0 ∷ []
-one_word [] ys one same = absurd (omega arith)
-one_word (x ∷ []) ys one same = sym same
-one_word (x ∷ y ∷ xs) ys one same = absurd (omega arith)

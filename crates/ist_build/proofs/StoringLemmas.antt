@@ -16,6 +16,7 @@ use Rattle.ist_rule.specs.declared.view.View.{View}
 use Rattle.ist_rule.specs.declared.view.OwnWord.{OwnWord}
 use Rattle.ist_rule.specs.Rule.{IsSound, own_at}
 use Rattle.ist_rule.specs.Learning.{now}
+use Rattle.ist_rule.proofs.StoreLemmas.{own_here, own_else}
 use Rattle.ist_rows.specs.declared.callers.Caller.{Caller}
 use Rattle.ist_rows.specs.Rows.{IsCaller}
 use Rattle.ist_rows.proofs.ReserveLemmas.{next_low}
@@ -25,7 +26,6 @@ use Rattle.ist_build.proofs.BuildingLemmas.{no_row}
 use Rattle.ist_build.specs.Laying.{ArePlaced, IsLaidBelow}
 use Rattle.ist_build.specs.Midway.{lens_from, IsLaying, opening}
 use Rattle.ist_build.proofs.LayingLemmas.{row_within}
-use Rattle.ist_build.proofs.OwnWordLemmas.{own_here, own_else}
 use Rattle.ist_build.proofs.PartsLemmas.{lens_first}
 
 -- a subtree over at most one leaf takes no place

@@ -15,13 +15,13 @@ use Rattle.ist_core.specs.Snapshots.{bases_of, HoldsRow, HoldsRows}
 use Rattle.ist_core.proofs.ElementLemmas.{each_append, each-among}
 use Rattle.ist_core.proofs.PublishingLemmas.{row_among}
 use Rattle.ist_core.proofs.RowLemmas.{with_row-same}
+use Rattle.laws_rows.proofs.CarryLemmas.{parts_over, right_leaf, right_inner, parts_joined}
 use Rattle.ist_rule.specs.declared.view.View.{View}
 use Rattle.ist_rule.specs.Rule.{IsSound, own_at}
 use Rattle.ist_rule.specs.Learning.{now}
 use Rattle.ist_build.specs.Laying.{Rises, OwnsRows, IsLaid}
 use Rattle.ist_build.specs.Midway.{words_at, AreLaid, IsOpened}
 use Rattle.ist_build.proofs.OwnWordLemmas.{length-words_at, get-words_at, row_of_words, words_of_row, inner_of_row}
-use Rattle.ist_build.proofs.PuttingLemmas.{parts_over, right_leaf, right_inner, parts_joined}
 use Rattle.ist_build.proofs.LayingLemmas.{rows_free}
 
 -- a base among the bases of rows that lie from a place on does so

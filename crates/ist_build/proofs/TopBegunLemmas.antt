@@ -20,15 +20,15 @@ use Rattle.ist_rule.specs.Learning.{now, GoesOnTo}
 use Rattle.ist_rows.specs.declared.callers.Caller.{Caller}
 use Rattle.ist_rows.specs.Rows.{spares_of, is_spare, build_sizes, IsCaller, Reserved}
 use Rattle.ist_rows.specs.Building.{IsInBuild, IsNext, HasTaken, HasRefused, sizes_built}
-use Rattle.ist_rows.proofs.CallerGoingLemmas.{now_is, caller_goes_on}
+use Rattle.ist_rows.proofs.CallerGoingLemmas.{caller_goes_on}
 use Rattle.ist_rows.proofs.HeldListLemmas.{held_by_later}
-use Rattle.ist_rule.proofs.WentOnLemmas.{later_by-goes_on}
+use Rattle.ist_rule.proofs.WentOnLemmas.{later_by-goes_on, goes_on_now}
+use Rattle.ist_rule.proofs.StoreLemmas.{own_here, own_else}
 use Rattle.ist_build.specs.Calls.{HasKeys}
 use Rattle.ist_build.specs.Laying.{BuiltOn, IsTarget}
 use Rattle.ist_build.specs.Midway.{words_at, IsOpened, IsTopMidway, opening}
 use Rattle.ist_build.proofs.BuiltLemmas.{built_more, built_held, built_grow, built_now, built_lawful, loads_built, reserved_built, rewritten_built}
 use Rattle.ist_build.proofs.RowOpenedLemmas.{IsFreshRow, fresh_row}
-use Rattle.ist_build.proofs.OwnWordLemmas.{own_here, own_else}
 
 -- ---- targets, after a build
 
@@ -87,7 +87,7 @@ sizes_on who seat c g =
     subst (λ p. Lawful p v.words seat.view.log) (ap (λ x. x.start) g.same)
     (subst (λ n. Lawful seat.view.start n seat.view.log) (ap (λ x. x.words) g.same)
     g.sound.lawful) in
-    ap (λ t. build_sizes t who.number (spares_of who)) (now_is v seat.view g)
+    ap (λ t. build_sizes t who.number (spares_of who)) (goes_on_now v seat.view g)
     ∙ ap (λ hs. map (λ (h : HeldRow). h.size) (filter (λ h. not (is_spare (spares_of who) h.base)) hs))
     (held_by_later v.start v.words who.number v.log seat.view.log lawful.enabled
     (subst (λ x. Later x v.log seat.view.log) c.mine g.later))
