@@ -5,6 +5,7 @@ use Rattle.ist_core.specs.declared.ports.Full.{Full}
 use Rattle.ist_core.specs.Slots.{IsOpen}
 use Rattle.ist_rule.specs.Faces.{SeatFace}
 use Rattle.ist_rule.specs.Learning.{now, GoesOnTo}
+use Rattle.ist_rule.proofs.WentOnLemmas.{goes_on_grow}
 use Rattle.ist_rows.specs.declared.callers.Caller.{Caller}
 use Rattle.ist_rows.specs.Going.{HasGone}
 use Rattle.ist_rows.proofs.GoneLemmas.{loads_gone, gone_all, gone_more}
@@ -20,6 +21,7 @@ use Rattle.ist_updates.proofs.BehindLemmas.{behind_loads, behind_went}
 use Rattle.ist_updates.proofs.FurtherLemmas.{aimed_on, planned_aim, shut_further}
 use Rattle.ist_updates.proofs.ShortLemmas.{err_refused}
 use Rattle.ist_updates.proofs.SlotLemmas.{IsPrepared, loads_taken, prepared_taken}
+use Rattle.ist_updates.proofs.StandingLemmas.{way_on}
 use Rattle.ist_updates.proofs.StepLemmas.{prepares_none, prepares_tries}
 
 -- ---- results
@@ -94,6 +96,11 @@ module _ (old : Caller) (aim : Aim) (x : Way) (a : IsAsked old (command_by aim.k
     -- the caller is asked still
     pub loads_still : IsAsked mid (command_by aim.key x)
     loads_still = still_asked mid loaded
+
+    -- and the slot holds what the change may replace
+    pub loads_room : IsWay old.seat.view aim.key aim.word x → IsWay seat.view aim.key aim.word x
+    loads_room =
+        way_on old.seat.view seat.view (goes_on_grow old.seat.view seat.view g) aim.key aim.word x
 
     -- a change is lost if the node isn't open
     pub shut_changed : (words : ℕ) → ¬ (IsOpen (now seat.view) aim.node)

@@ -205,10 +205,15 @@ change_further P first v w node i word change s a here g is out =
     further_behind first v w (behind_more first a.at v a.fresh.behind a.behind)
     (helped_further P v w s g node i word change here is out)
 
--- by what came of a help
-pub by_helped : {R : Type 0} (h : Helped) → (h ≡ Replaced → R) → (h ≡ ParentMarked → R) → R
-by_helped Replaced a b = a refl
-by_helped ParentMarked a b = b refl
+-- a rebuild that stood in the slot was replaced, or its parent is marked
+pub target_further : (first v w : View) (node i word : ℕ) → HasAimed first v node i word
+    → IsBehind v w → IsSound w → (rebuild : ℕ) → ref_of word ≡ Some (RebuildAt rebuild) → (h : Helped)
+    → (h ≡ Replaced → IsReplaced (now w) rebuild)
+    → (h ≡ ParentMarked → IsLeftToParent (now w) rebuild) → CameFurther first w
+target_further first v w node i word a b s rebuild is Replaced replaced left =
+    replaced_further first v w node i word a b s rebuild is (replaced refl)
+target_further first v w node i word a b s rebuild is ParentMarked replaced left =
+    left_further first v w node i word a b s rebuild is (left refl)
 
 -- a node to which a search came was linked
 pub come_linked : (v : View) → IsSound v → (key node : ℕ) (rows : List ℕ) → HasCome v key node rows

@@ -61,6 +61,12 @@ row_good who s c kind base is some =
       size = kind_words kind;
     } (c.rows kind base is) some
 
+-- so does the row that a caller holds after it has gone on
+pub taken_good : {P : Event → Type 0} {old new : Caller} → HasGone P old new → (kind : Kind)
+    {base : ℕ} → row_of kind (spares_of new) ≡ Some base → 0 < kind_words kind → IsGoodBase base
+taken_good {P} {old} {new} gone kind {base} is some =
+    row_good new gone.went.sound gone.caller kind base is some
+
 -- a node stays one when rows grow
 pub node_on : (t u : Snapshot) → AllGrow t.pieces u.pieces → (node : ℕ) → IsNode t node
     → IsNode u node

@@ -1,8 +1,6 @@
-use Rattle.ist_rule.proofs.WentOnLemmas.{goes_on_grow}
-use Rattle.ist_updates.proofs.ChangedLemmas.{loads_changed, loads_still, shut_changed}
+use Rattle.ist_updates.proofs.ChangedLemmas.{loads_changed, loads_room, loads_still, shut_changed}
 use Rattle.ist_updates.proofs.PlanLemmas.{slot_node, slot_loads}
 use Rattle.ist_updates.proofs.ResultLemmas.{not_true}
-use Rattle.ist_updates.proofs.StandingLemmas.{way_on}
 use Rattle.ist_updates.proofs.changing.change_slot.Goals as goal
 
 -- the slot is a node's
@@ -27,9 +25,8 @@ change_open-requires-clause-at_slot c =
 
 pub change_open-requires-clause-room : goal.change_open-requires-clause-room
 change_open-requires-clause-room c =
-    way_on c.args.who.now.seat.view c.is_open.new.seat.view
-    (goes_on_grow _ _ c.is_open.ensures.seen) c.args.aim.key c.args.aim.word c.args.way
-    c.requires.room
+    loads_room c.args.who.now c.args.aim c.args.way c.requires.asked c.is_open.new.seat
+    c.is_open.ensures.seen c.requires.room
 
 pub change_open-requires-clause-unrefused : goal.change_open-requires-clause-unrefused
 change_open-requires-clause-unrefused c =

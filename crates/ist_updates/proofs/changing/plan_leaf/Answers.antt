@@ -5,7 +5,7 @@ use Rattle.ist_updates.specs.Changing.{Prepares}
 use Rattle.ist_updates.specs.declared.plans.Way.TheVariants as way
 use Rattle.ist_updates.proofs.ShortLemmas.{way_refused}
 use Rattle.ist_rows.proofs.GoneLemmas.{gone_more}
-use Rattle.ist_updates.proofs.PairLemmas.{row_good}
+use Rattle.ist_updates.proofs.PairLemmas.{taken_good}
 use Rattle.ist_updates.proofs.PlanLemmas.{leaf_planned}
 use Rattle.ist_updates.proofs.changing.plan_leaf.Goals as goal
 
@@ -23,11 +23,8 @@ returns-in_err-base-clause-full c =
 -- the leaf lies at a good base
 pub to_word-to-requires : goal.to_word-to-requires
 to_word-to-requires c =
-    let gone = c.in_ok-leaf.ensures.gone in
-    record {
-      good = row_good _ gone.went.sound gone.caller kind.Leaf c.in_ok-leaf.leaf
-          c.in_ok-leaf.ensures.held (omega arith);
-    }
+    let leaf = c.in_ok-leaf.ensures in
+    record { good = taken_good leaf.gone kind.Leaf leaf.held (omega arith) }
 
 pub returns-clause-gone : goal.returns-clause-gone
 returns-clause-gone c =
@@ -36,12 +33,10 @@ returns-clause-gone c =
 -- the plan is one for the slot
 pub returns-clause-planned : goal.returns-clause-planned
 returns-clause-planned c =
-    let both = gone_more Prepares _ _ _ c.in_ok-leaf.ensures.gone c.in_ok-base.ensures.gone in
-    let gone = c.in_ok-leaf.ensures.gone in
+    let leaf = c.in_ok-leaf.ensures in let change = c.in_ok-base.ensures in
+    let both = gone_more Prepares _ _ _ leaf.gone change.gone in
     leaf_planned Prepares c.args.who.now c.take-2.new.who both.went c.args.aim c.requires.at_slot
-    c.in_ok-base.base c.in_ok-base.ensures.held c.args.value c.in_ok-leaf.leaf c.to_word-to.result
-    c.requires.room
-    (ap (λ (s : Spares). s.leaf) c.in_ok-base.ensures.rows ∙ c.in_ok-leaf.ensures.held)
-    (row_good _ gone.went.sound gone.caller kind.Leaf c.in_ok-leaf.leaf
-    c.in_ok-leaf.ensures.held (omega arith))
+    c.in_ok-base.base change.held c.args.value c.in_ok-leaf.leaf c.to_word-to.result c.requires.room
+    (ap (λ (s : Spares). s.leaf) change.rows ∙ leaf.held)
+    (taken_good leaf.gone kind.Leaf leaf.held (omega arith))
     c.to_word-to.ensures.value _ c.change_for-row.ensures.value

@@ -8,7 +8,7 @@ use Rattle.ist_updates.specs.Changing.{Prepares}
 use Rattle.ist_updates.specs.declared.plans.Way.TheVariants as way
 use Rattle.ist_updates.proofs.ShortLemmas.{way_refused}
 use Rattle.ist_rows.proofs.GoneLemmas.{gone_more}
-use Rattle.ist_updates.proofs.PairLemmas.{row_good, node_on}
+use Rattle.ist_updates.proofs.PairLemmas.{node_on, taken_good}
 use Rattle.ist_updates.proofs.PlanLemmas.{slot_node, pair_planned}
 use Rattle.ist_updates.proofs.changing.plan_pair.Goals as goal
 
@@ -46,11 +46,8 @@ returns-in_err-base-clause-full c =
 -- the pair row lies at a good base
 pub to_word-to-requires : goal.to_word-to-requires
 to_word-to-requires c =
-    let gone = c.in_ok-pair.ensures.gone in
-    record {
-      good = row_good _ gone.went.sound gone.caller kind.Pair c.in_ok-pair.pair
-          c.in_ok-pair.ensures.held (omega arith);
-    }
+    let pair = c.in_ok-pair.ensures in
+    record { good = taken_good pair.gone kind.Pair pair.held (omega arith) }
 
 pub returns-clause-gone : goal.returns-clause-gone
 returns-clause-gone c =
@@ -61,20 +58,16 @@ returns-clause-gone c =
 -- the plan is one for the slot
 pub returns-clause-planned : goal.returns-clause-planned
 returns-clause-planned c =
-    let first = c.in_ok-leaf.ensures in
-    let second = c.in_ok-pair.ensures in
-    let rows = c.in_ok-base.ensures.rows in
-    let all = gone_more Prepares _ _ _ (gone_more Prepares _ _ _ first.gone second.gone)
-    c.in_ok-base.ensures.gone in
-    let room = c.requires.room in
+    let leaf = c.in_ok-leaf.ensures in let pair = c.in_ok-pair.ensures in
+    let change = c.in_ok-base.ensures in let room = c.requires.room in
+    let two = gone_more Prepares _ _ _ leaf.gone pair.gone in
+    let all = gone_more Prepares _ _ _ two change.gone in
     pair_planned Prepares c.args.who.now c.take-2.new.who all.went c.args.aim c.requires.at_slot
-    c.in_ok-base.base c.in_ok-base.ensures.held c.args.value c.args.other c.args.other_key
+    c.in_ok-base.base change.held c.args.value c.args.other c.args.other_key
     c.in_ok-leaf.leaf c.in_ok-pair.pair c.to_word-to.result room.0 room.1 room.2
-    (ap (λ (s : Spares). s.leaf) rows ∙ second.others.0 ∙ first.held)
-    (ap (λ (s : Spares). s.pair) rows ∙ second.held) second.above
-    (row_good _ first.gone.went.sound first.gone.caller kind.Leaf c.in_ok-leaf.leaf first.held
-    (omega arith))
+    (ap (λ (s : Spares). s.leaf) change.rows ∙ pair.others.0 ∙ leaf.held)
+    (ap (λ (s : Spares). s.pair) change.rows ∙ pair.held) pair.above
+    (taken_good leaf.gone kind.Leaf leaf.held (omega arith))
     (good_base _ c.know.ensures.sound c.args.other (Leaf room.1.row) room.1.published (omega arith))
-    (row_good _ second.gone.went.sound second.gone.caller kind.Pair c.in_ok-pair.pair second.held
-    (omega arith))
+    (taken_good pair.gone kind.Pair pair.held (omega arith))
     c.to_word-to.ensures.value _ c.change_for-row.ensures.value

@@ -5,7 +5,7 @@ use Rattle.ist_rule.proofs.WentOnLemmas.{went_grow}
 use Rattle.ist_updates.specs.Changing.{Prepares}
 use Rattle.ist_updates.proofs.ShortLemmas.{asked_behind}
 use Rattle.ist_rows.proofs.GoneLemmas.{gone_more}
-use Rattle.ist_updates.proofs.PairLemmas.{row_good, node_on, fresh_above}
+use Rattle.ist_updates.proofs.PairLemmas.{fresh_above, node_on, taken_good}
 use Rattle.ist_updates.proofs.changing.take_pair.Goals as goal
 
 pub returns-in_err-base-clause-gone : goal.returns-in_err-base-clause-gone
@@ -14,8 +14,8 @@ returns-in_err-base-clause-gone c =
 
 pub returns-in_err-base-clause-full : goal.returns-in_err-base-clause-full
 returns-in_err-base-clause-full c =
-    let full = asked_behind Prepares _ _ _ _ _ c.drop_below.ensures.gone.went
-    c.in_err-base.ensures.full in
+    let gone = c.drop_below.ensures.gone in
+    let full = asked_behind Prepares _ _ _ _ _ gone.went c.in_err-base.ensures.full in
     search rules
 
 pub returns-clause-gone : goal.returns-clause-gone
@@ -25,8 +25,7 @@ returns-clause-gone c =
 -- the other rows are held still
 pub returns-clause-others : goal.returns-clause-others
 returns-clause-others c =
-    let others = c.drop_below.ensures.others in
-    let rows = c.in_ok-base.ensures.rows in (
+    let others = c.drop_below.ensures.others in let rows = c.in_ok-base.ensures.rows in (
       ap (λ (s : Spares). s.leaf) rows ∙ others.0,
       ap (λ (s : Spares). s.change) rows ∙ others.1,
     )
@@ -34,11 +33,8 @@ returns-clause-others c =
 -- the row lies above the node
 pub returns-clause-above : goal.returns-clause-above
 returns-clause-above c =
-    let went = c.drop_below.ensures.gone.went in
-    let gone = c.in_ok-base.ensures.gone in
+    let went = c.drop_below.ensures.gone.went in let base = c.in_ok-base.ensures in
     ⊎_elim (λ is. c.drop_below.ensures.above c.in_ok-base.base is)
     (λ high. fresh_above _ went.sound c.args.node c.in_ok-base.base
     (node_on _ _ (went_grow Prepares _ _ went) c.args.node c.requires.node) high
-    (row_good _ gone.went.sound gone.caller Pair c.in_ok-base.base c.in_ok-base.ensures.held
-    (omega arith)))
-    c.in_ok-base.ensures.high
+    (taken_good base.gone Pair base.held (omega arith))) base.high

@@ -1,5 +1,4 @@
-use Rattle.std.proofs.Common.{◌≡◌, ◌+◌, ap, arith}
-use Rattle.ist_core.specs.RowLayout.{inner_count_offset}
+use Rattle.std.proofs.Common.{◌+◌, ap, arith}
 use Rattle.ist_rule.proofs.KnownPlaceLemmas.{known_low}
 use Rattle.ist_updates.proofs.CountAtLemmas.{size_low, can_count, found_fits, all_went, counted_at}
 use Rattle.ist_updates.proofs.counting.count_at.Goals as goal
@@ -7,8 +6,7 @@ use Rattle.ist_updates.proofs.counting.count_at.Goals as goal
 -- the add may be the Count
 pub add-found-requires : goal.add-found-requires
 add-found-requires c =
-    let from = c.from-place.ensures in
-    let at : c.from-place.result + 1 ≡ c.args.row + inner_count_offset = omega arith in
+    let at = ap (λ n. n + 1) c.from-place.ensures in
     let can = can_count _ c.know.ensures.sound c.args.row c.requires.may_count _ at in
     let low = known_low _ _ c.know.ensures.sound can.known in
     let known = c.know.ensures.words in
@@ -19,16 +17,14 @@ add-found-requires c =
 pub load-size-requires-clause-within : goal.load-size-requires-clause-within
 load-size-requires-clause-within c =
     let low = size_low _ c.know.ensures.sound c.args.row c.requires.may_count in
-    let from = c.from.ensures in
-    let known = c.know.ensures.words in
+    let from = c.from.ensures in let known = c.know.ensures.words in
     let same = ap (λ t. t.words) c.requires.same_table in
     omega arith
 
 -- the count is no great number
 pub overflow_add-result : goal.overflow_add-result
 overflow_add-result c =
-    let from = c.from-place.ensures in
-    let at : c.from-place.result + 1 ≡ c.args.row + inner_count_offset = omega arith in
+    let at = ap (λ n. n + 1) c.from-place.ensures in
     record {
       fits = found_fits _ c.know.ensures.sound c.args.row c.requires.may_count _ _ at _
           c.add-found.ensures.added;
@@ -37,16 +33,14 @@ overflow_add-result c =
 -- the step was the Count, and a load
 pub returns-clause-went : goal.returns-clause-went
 returns-clause-went c =
-    let from = c.from-place.ensures in
-    let at : c.from-place.result + 1 ≡ c.args.row + inner_count_offset = omega arith in
+    let at = ap (λ n. n + 1) c.from-place.ensures in
     all_went _ c.know.ensures.sound c.args.row c.requires.may_count _ _ at _
     c.add-found.ensures.added _ _ (ap (λ n. n + 3) c.from.ensures) _ c.load-size.ensures.looked
 
 -- the result says whether the count reached the limit
 pub returns-clause-counted : goal.returns-clause-counted
 returns-clause-counted c =
-    let from = c.from-place.ensures in
-    let at : c.from-place.result + 1 ≡ c.args.row + inner_count_offset = omega arith in
+    let at = ap (λ n. n + 1) c.from-place.ensures in
     counted_at _ c.know.ensures.sound c.args.row c.requires.may_count _ _ at _
     c.add-found.ensures.added _ _ (ap (λ n. n + 3) c.from.ensures) _ c.load-size.ensures.looked _
     c.limit.ensures.value

@@ -6,7 +6,7 @@ use Rattle.ist_updates.proofs.AskedLemmas.{asked_served}
 use Rattle.ist_updates.proofs.StepLemmas.{serves_tries}
 use Rattle.ist_updates.proofs.HelpedLemmas.{slot_started, help_refused, refused_still}
 use Rattle.ist_updates.proofs.BehindLemmas.{behind_went}
-use Rattle.ist_updates.proofs.FurtherLemmas.{by_helped, left_further, replaced_further}
+use Rattle.ist_updates.proofs.FurtherLemmas.{target_further}
 use Rattle.ist_updates.proofs.TryResultLemmas.{again_tried, refused_tried}
 use Rattle.ist_updates.proofs.trying.help_target.Goals as goal
 
@@ -20,8 +20,7 @@ help_rebuild-requires-clause-started c =
 pub returns-in_err-help_rebuild-clause-tried : goal.returns-in_err-help_rebuild-clause-tried
 returns-in_err-help_rebuild-clause-tried c =
     let on = c.help_rebuild.ensures.helped.on in
-    let still = asked_served c.args.who.now c.help_rebuild.new.who _ c.requires.asked on.gone
-    on.quiet.resolved in
+    let still = asked_served _ _ _ c.requires.asked on.gone on.quiet.resolved in
     let h = refused_tried _ _ c.args.aim c.args.value _ _
     (gone_all Serves Tries serves_tries _ _ on.gone) (refused_still c.args.who.now c.help_rebuild.new.who c.args.aim.key c.args.value _ _ still
     (help_refused _ c.know.ensures.sound c.args.aim.key c.args.aim.node c.args.aim.index
@@ -32,14 +31,10 @@ returns-in_err-help_rebuild-clause-tried c =
 -- or it was replaced, or its parent is marked
 pub returns-clause-tried : goal.returns-clause-tried
 returns-clause-tried c =
-    let h = c.help_rebuild.ensures in
-    let on = h.helped.on in
-    let went = on.gone.went in
-    let b = behind_went Serves _ _ went in
+    let h = c.help_rebuild.ensures in let on = h.helped.on in
+    let was = c.in_ok-help_rebuild.was in
     again_tried _ _ c.args.aim c.args.value _ (gone_all Serves Tries serves_tries _ _ on.gone)
     (asked_served _ _ _ c.requires.asked on.gone on.quiet.resolved)
-    (λ first aimed. by_helped c.in_ok-help_rebuild.field-0
-    (λ e. replaced_further first _ _ _ _ _ aimed b went.sound c.args.base c.requires.rebuild
-    (h.replaced (c.in_ok-help_rebuild.was ∙ ap Ok e)))
-    (λ e. left_further first _ _ _ _ _ aimed b went.sound c.args.base c.requires.rebuild
-    (h.parent_marked (c.in_ok-help_rebuild.was ∙ ap Ok e))))
+    (λ first aimed. target_further first _ _ _ _ _ aimed (behind_went Serves _ _ on.gone.went)
+    on.gone.went.sound c.args.base c.requires.rebuild c.in_ok-help_rebuild.field-0
+    (λ e. h.replaced (was ∙ ap Ok e)) (λ e. h.parent_marked (was ∙ ap Ok e)))

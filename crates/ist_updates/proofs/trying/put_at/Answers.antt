@@ -8,11 +8,9 @@ use Rattle.ist_updates.proofs.trying.put_at.Goals as goal
 -- a leaf of the key leaves room
 pub change_slot-requires-clause-room : goal.change_slot-requires-clause-room
 change_slot-requires-clause-room c =
-    same_key c.args.base c.requires.leaf record {
-      row = c.args.leaf;
-      published = c.requires.stands;
-      key_is = c.if-leaf-aim.true;
-    }
+    let row = c.args.leaf in
+    same_key c.args.base c.requires.leaf
+    record { row = row; published = c.requires.stands; key_is = c.if-leaf-aim.true }
 
 -- the put was over a leaf of the key
 pub returns-in_err-taken-clause-tried : goal.returns-in_err-taken-clause-tried

@@ -12,8 +12,7 @@ load-key-requires-clause-within c =
     let r = c.requires.leaf in
     let low = (row_low _ c.know.ensures.sound c.args.base (Leaf r.row) r.published 0
     (omega arith)).0 in
-    let from = c.from.ensures in
-    let known = c.know.ensures.words in
+    let from = c.from.ensures in let known = c.know.ensures.words in
     let same = ap (λ t. t.words) c.requires.same_table in
     omega arith
 
@@ -23,8 +22,7 @@ load-value-requires-clause-within c =
     let r = leaf_on _ _ g c.args.base c.requires.leaf in
     let low = (row_low _ c.know-2.ensures.sound c.args.base (Leaf r.row) r.published 1
     (omega arith)).0 in
-    let from = c.from-2.ensures in
-    let known = c.know-2.ensures.words in
+    let from = c.from-2.ensures in let known = c.know-2.ensures.words in
     let same = ap (λ t. t.words) (c.load-key.ensures.same_table ∙ c.requires.same_table) in
     omega arith
 
