@@ -118,28 +118,6 @@ pub(crate) fn work<
     unreachable!()
 }
 
-/// Runs one worker that need not learn anything.
-fn work_off<R: Threads + Wait + Sync, P: Port + Send, G: Gate + Sync>(
-    rt: &R,
-    gate: &G,
-    thief: &Thief<P>,
-    hand: &mut Hand<P>,
-)
-    requires table { IsPassOf (stealer_deque thief.now) hand.old.pass }
-    requires first_in { stealer_flavor thief.now ≡ 0 }
-    requires worker { view hand.old.pass ≡ of_worker [] }
-    requires empty { hand.old.bag.items ≡ [] }
-    requires room { 64 ≤ vec_capacity hand.old.bag }
-    ensures table { IsPassOf (stealer_deque thief.now) hand.new.pass }
-    ensures worker { view hand.new.pass ≡ of_worker (view hand.new.pass).taken }
-    ensures tickets { map (ticket P.tie) hand.new.bag.items
-        ≡ map (ticket P.tie) (view hand.new.pass).taken }
-    ensures ran { All (IsRunLane P.calls P.refused) hand.new.bag.items }
-    ensures room { 64 ≤ vec_capacity hand.new.bag }
-{
-    work::<R, P, G, Nothing>(rt, gate, thief, hand);
-}
-
 /// Runs the workers, each in its own thread if one can be started.
 pub(crate) fn work_all<R: Threads + Wait + Sync, P: Port + Send, G: Gate + Sync>(
     rt: &R,
@@ -173,13 +151,17 @@ pub(crate) fn work_all<R: Threads + Wait + Sync, P: Port + Send, G: Gate + Sync>
                 requires empty { hand.now.bag.items ≡ [] }
                 requires room { 64 ≤ vec_capacity hand.now.bag }
             {
-                work_off(rt, gate, thief, hand);
+                // It need not learn anything at the end.
+                work::<R, P, G, Nothing>(rt, gate, thief, hand);
             },
         );
     }
 }
 
 /// Does the same for hands in a vector.
+///
+/// A vector that is lent as a slice gets back as many items as it had. That these are what the slice
+/// has, with all that is said of them, is shown here by itself, and not where the vector is used.
 pub(crate) fn work_hands<R: Threads + Wait + Sync, P: Port + Send, G: Gate + Sync>(
     rt: &R,
     gate: &G,
