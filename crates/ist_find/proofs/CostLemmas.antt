@@ -135,16 +135,6 @@ looks_on u v w s g key node i base j ref l h more =
     let few = l.few in
     record { rows = l.rows ++ base ∷ []; looked = h; few = omega arith }
 
--- a row that a search read is published
-pub read_row : (v : View) → IsSound v → (key node i base : ℕ) (rows : List ℕ)
-    → HasLooked v key node i rows (InnerAt base) → IsRow v base
-read_row v s key node i base rows h =
-    let up = look_up v.start v.words s.lawful.opens v.log s.lawful.enabled key v.loads.since h.least
-    h.last node base (meeting_comes v.start v.words v.log key v.loads.since h.least node rows h.comes)
-    h.look in
-    row_met v s key h.least h.last node base rows h.comes up
-    (come_node v s key h.last base (rows ++ base ∷ []) (goes_by h.comes h.look))
-
 -- at its end it made few loads
 pub few_loads : (v u w x : View) → IsSound w → GoesOnTo w x → (key node i : ℕ) (ref : Ref)
     → u.loaded ≤ v.loaded + 5 → LooksFew u w key node i ref

@@ -1,8 +1,6 @@
 -- Looks at the keys of a row: one after the other, and by a gallop. Serves `keys`.
-use Rattle.std.proofs.Common.{◌≡◌, ◌∙◌, ℕ, suc, ◌+◌, ◌-◌, ◌*◌, ◌<◌, ◌≤◌, nat_le, nat_lt, cond, Bool, true, false, List, length, get_or, take, ⊎_elim, refl, sym, ap, arith}
-use Rattle.std.proofs.lemmas.Bool.{cases_lt}
+use Rattle.std.proofs.Common.{◌≡◌, ◌∙◌, ℕ, suc, ◌+◌, ◌-◌, ◌*◌, ◌<◌, ◌≤◌, nat_le, nat_lt, cond, Bool, true, false, List, length, get_or, take, refl, sym, ap, arith}
 use Rattle.std.proofs.lemmas.Bool.Decides.{nat_tests}
-use Rattle.std.proofs.lemmas.List.{take_all}
 use Rattle.std.proofs.lemmas.List.Sums.{count_by_more_yes, count_by_more_no, count_by-le-length}
 use Rattle.ist_core.specs.Arithmetic.{child_count}
 use Rattle.ist_math.specs.declared.gallops.Gallop.{Gallop}
@@ -96,12 +94,6 @@ module _ (v w u : View) (node at key found word : ℕ) (h : HasCounted v w node 
         found_is = omega arith;
       }
 
--- all were
-pub all_counted : (v w : View) (node at key found : ℕ) → HasCounted v w node at key found
-    → length (keys_at v node) ≤ at → found ≡ child_count (keys_at v node) key
-all_counted v w node at key found h all =
-    sym (ap (λ ks. child_count ks key) (sym (take_all at (keys_at v node) all)) ∙ h.found_is)
-
 -- ---- by a gallop
 
 -- a gallop begins at a key that was loaded
@@ -135,18 +127,6 @@ galloped_first keys x from g less first last = by (nat_lt x (get_or keys from 0)
           above = omega arith;
           gallops = gallops;
         }
-
--- if the last key is above x, a key that isn't above x isn't the last
-pub before_last : (keys : List ℕ) (x from : ℕ) → from < length keys
-    → x < get_or keys (length keys - 1) 0 → nat_lt x (get_or keys from 0) ≡ false
-    → from + 1 < length keys
-before_last keys x from less last test =
-    let under : get_or keys from 0 ≤ x = grind (arith, nat_tests) in
-    ⊎_elim (λ (h : from + 1 < length keys). h)
-    (λ (h : length keys ≤ from + 1).
-    let same = ap (λ n. get_or keys n 0) (let e : from ≡ length keys - 1 = omega arith in e) in
-    absurd (omega arith))
-    (cases_lt (from + 1) (length keys))
 
 -- and the load of that key was its first look
 pub run_begins : (v w : View) → IsSound v → (node from key : ℕ) (g : Gallop) (word : ℕ)

@@ -1,11 +1,12 @@
 -- A caller's loads in terms of one log, as the laws on searches need them. Serves `reading` and
 -- `finding`.
-use Rattle.std.proofs.Common.{◌≡◌, ℕ, ◌≤◌, List, length, refl, sym, ap, subst, le_refl, arith}
+use Rattle.std.proofs.Common.{◌≡◌, ℕ, ◌≤◌, List, length, refl, sym, ap, subst, le_refl}
 use Rattle.ist_core.specs.declared.pairs.Pair.{Pair}
-use Rattle.ist_core.specs.Logs.{Log, GoesOn, same_log, one_event}
+use Rattle.ist_core.specs.Logs.{Log, GoesOn, same_log}
 use Rattle.ist_core.specs.Lawful.{state_of}
 use Rattle.ist_rule.specs.declared.view.View.{View}
 use Rattle.ist_core.specs.Shown.{IsShown}
+use Rattle.ist_core.proofs.PrefixLemmas.{goes_on_length}
 use Rattle.ist_rule.specs.Learning.{GoesOnTo, Looked}
 use Rattle.ist_rule.proofs.LaterLemmas.{later-goes_on}
 use Rattle.laws_histories.specs.Loads.{IsLoad}
@@ -25,15 +26,9 @@ by_table v w g P h =
 pub goes_log : (v w : View) → GoesOnTo v w → GoesOn v.log w.log
 goes_log v w g = later-goes_on g.later
 
--- a log that goes on is no shorter
-pub length_rises : (log longer : Log) → GoesOn log longer → length log ≤ length longer
-length_rises log _ same_log = omega arith
-length_rises log _ (one_event {log = rest} event g) =
-    let low = length_rises log rest g in omega arith
-
 -- the log grows no shorter by loads
 pub goes_length : (v w : View) → GoesOnTo v w → length v.log ≤ length w.log
-goes_length v w g = length_rises v.log w.log (goes_log v w g)
+goes_length v w g = goes_on_length (goes_log v w g)
 
 -- ---- loads
 

@@ -33,7 +33,7 @@ use Rattle.laws_histories.proofs.PositionLemmas.{node_met, look_up}
 use Rattle.laws_histories.proofs.NeededLemmas.{all_needed}
 use Rattle.ist_rule.specs.Watching.{IsNode, is_anchor, is_inner}
 use Rattle.ist_find.specs.Searches.{Names, HasCome}
-use Rattle.ist_find.specs.Reads.{IsPlain, IsFoundAs, IsReached, IsEnd, TellsSide, TellsTarget, HasLooked}
+use Rattle.ist_find.specs.Reads.{IsPlain, IsFoundAs, IsReached, TellsSide, TellsTarget, HasLooked}
 use Rattle.ist_find.proofs.LoadLemmas.{by_table, goes_log, goes_length, shown_load}
 use Rattle.ist_find.proofs.ReadLemmas.{slot_named, no_change_told, no_rebuild_told}
 
@@ -176,16 +176,6 @@ pub look_comes : (v : View) (key node i : ℕ) (rows : List ℕ) (base : ℕ)
     → HasLooked v key node i rows (InnerAt base) → HasCome v key base (rows ++ base ∷ [])
 look_comes v key node i rows base h =
     record { last = h.last; until = h.until; comes = goes_by h.comes h.look }
-
--- if a search read no inner row, it ends
-pub reached_end : (v : View) (node : ℕ) (ref : Ref) → IsReached v node ref
-    → ((base : ℕ) → ref ≢ InnerAt base) → IsEnd v ref
-reached_end v node Empty h other = tt
-reached_end v node Unset h other = absurd h
-reached_end v node (LeafAt base) h other = h
-reached_end v node (InnerAt base) h other = absurd (other base refl)
-reached_end v node (ChangeAt base) h other = absurd h
-reached_end v node (RebuildAt base) h other = absurd h
 
 -- ---- words as they are
 

@@ -16,10 +16,10 @@ use Rattle.ist_rule.proofs.GoingOnLemmas.{goes_on_same, goes_on_more, looked_goe
 use Rattle.ist_dcss.proofs.FieldLemmas.{looked_row}
 use Rattle.laws_histories.specs.Loads.{IsLoad}
 use Rattle.laws_histories.specs.Searching.{no_change, by_to, by_from, no_rebuild, by_target, of_nothing, of_other, of_key}
+use Rattle.ist_rule.proofs.WentOnLemmas.{goes_on_grow}
 use Rattle.ist_find.specs.Searches.{IsRow, SeesLeaf, SeesChange, SeesRebuild, Names}
 use Rattle.ist_dcss.specs.Naming.{outcome_offset_of}
 use Rattle.ist_find.specs.Reads.{IsPlain, IsFoundAs, IsEnd, loaded_in, HasSideRead, TellsSide, TellsTarget, TellsValue}
-use Rattle.ist_find.proofs.RowLemmas.{goes_grow}
 use Rattle.ist_find.proofs.LoadLemmas.{goes_length, looked_load, load_later}
 
 -- ---- rows stay
@@ -27,13 +27,13 @@ use Rattle.ist_find.proofs.LoadLemmas.{goes_length, looked_load, load_later}
 -- a published change stays published when the caller goes on by loads
 pub change_on : (v w : View) → GoesOnTo v w → (base : ℕ) → SeesChange v base → SeesChange w base
 change_on v w g base r =
-    let on = change_there (now v).pieces (now w).pieces (goes_grow v w g) base r.row r.published in
+    let on = change_there (now v).pieces (now w).pieces (goes_on_grow v w g) base r.row r.published in
     record { row = on.0; published = on.1 }
 
 -- a published rebuild stays published
 pub rebuild_on : (v w : View) → GoesOnTo v w → (base : ℕ) → SeesRebuild v base → SeesRebuild w base
 rebuild_on v w g base r =
-    let on = rebuild_there (now v).pieces (now w).pieces (goes_grow v w g) base r.row r.published in
+    let on = rebuild_there (now v).pieces (now w).pieces (goes_on_grow v w g) base r.row r.published in
     record { row = on.0; published = on.1 }
 
 -- a published leaf stays published
@@ -41,7 +41,7 @@ pub leaf_on : (v w : View) → GoesOnTo v w → (base : ℕ) → SeesLeaf v base
 leaf_on v w g base r =
     record {
       row = r.row;
-      published = leaf_there (now v).pieces (now w).pieces (goes_grow v w g) base r.row r.published;
+      published = leaf_there (now v).pieces (now w).pieces (goes_on_grow v w g) base r.row r.published;
     }
 
 -- ---- what is named
@@ -68,21 +68,6 @@ slot_named v node i (Some (LeafAt base)) h = record { row = h.0; published = h.1
 slot_named v node i (Some (InnerAt base)) h = record { row = h.1.0; published = h.1.1 }
 slot_named v node i (Some (ChangeAt base)) h = record { row = h.row; published = h.published }
 slot_named v node i (Some (RebuildAt base)) h = record { row = h.row; published = h.published }
-
--- a word that names a change names a published one
-pub change_named : (v : View) (word base : ℕ) → ref_of word ≡ Some (ChangeAt base)
-    → Names v (ref_of word) → SeesChange v base
-change_named v word base e h = subst (Names v) e h
-
--- a word that names a rebuild names a published one
-pub rebuild_named : (v : View) (word base : ℕ) → ref_of word ≡ Some (RebuildAt base)
-    → Names v (ref_of word) → SeesRebuild v base
-rebuild_named v word base e h = subst (Names v) e h
-
--- what names a row or no row is a reference
-pub named_some : (v : View) (ref : Option Ref) → Names v ref → ref ≢ None
-named_some v None h e = h
-named_some v (Some ref) h e = cc
 
 -- ---- a change
 

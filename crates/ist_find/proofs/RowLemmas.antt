@@ -6,7 +6,6 @@ use Rattle.std.specs.List.Sorted.{IsStrictlyIncreasing}
 use Rattle.ist_core.specs.RowLayout.{place_limit, inner_degree_offset, key_place, slot_place}
 use Rattle.ist_core.specs.Arithmetic.{child_count}
 use Rattle.ist_core.specs.Pieces.{Inner, size_of, as_inner}
-use Rattle.ist_core.specs.Growing.{AllGrow}
 use Rattle.ist_core.specs.Slots.{SlotHolds, in_row, IsChildFor, of_row}
 use Rattle.ist_core.proofs.GrowingLemmas.{inner_there}
 use Rattle.ist_core.proofs.ImageLemmas.{get-words_of_slot}
@@ -22,14 +21,10 @@ use Rattle.ist_dcss.proofs.SlotPlaceLemmas.{has_degree}
 use Rattle.ist_dcss.proofs.FieldLemmas.{row_low, looked_row}
 use Rattle.ist_find.specs.Searches.{IsRow, keys_in, keys_at}
 
--- rows grow as a caller goes on
-pub goes_grow : (v w : View) → GoesOnTo v w → AllGrow (now v).pieces (now w).pieces
-goes_grow v w g = goes_on_grow v w g
-
 -- a published inner row is published still
 pub row_on : (v w : View) → GoesOnTo v w → (node : ℕ) → IsRow v node → IsRow w node
 row_on v w g node r =
-    let on = inner_there (now v).pieces (now w).pieces (goes_grow v w g) node r.row r.published in
+    let on = inner_there (now v).pieces (now w).pieces (goes_on_grow v w g) node r.row r.published in
     record { row = on.0; published = on.1 }
 
 -- the keys of a node are its row's
@@ -40,7 +35,7 @@ keys_are v node r = ap (λ p. keys_in (as_inner p)) r.published
 pub keys_on : (v w : View) → GoesOnTo v w → (node : ℕ) → IsRow v node
     → keys_at w node ≡ keys_at v node
 keys_on v w g node r =
-    let on = inner_there (now v).pieces (now w).pieces (goes_grow v w g) node r.row r.published in
+    let on = inner_there (now v).pieces (now w).pieces (goes_on_grow v w g) node r.row r.published in
     ap (λ p. keys_in (as_inner p)) on.1 ∙ on.2.keys ∙ sym (keys_are v node r)
 
 -- a key is found among the keys and slots of its row, after the four fields
@@ -98,7 +93,7 @@ pub degree_told : (v : View) → IsSound v → (node : ℕ) → IsRow v node →
 degree_told v s node r place degree w l at =
     let d = has_degree v.start v.words v.log s.lawful.enabled node r.row r.published in
     let on = inner_there (now v).pieces (now w).pieces
-    (goes_grow v w (looked_goes_on v place degree w l)) node r.row r.published in
+    (goes_on_grow v w (looked_goes_on v place degree w l)) node r.row r.published in
     looked_row v place degree w l node (Inner on.0) 2 on.0.degree on.1 refl at
     ∙ on.2.degree ∙ sym d.keys ∙ ap (λ n. n + 1) (sym (ap length (keys_are v node r)))
 

@@ -2,34 +2,32 @@
 use Rattle.std.proofs.Common.{◌≡◌, ℕ, suc, ◌-◌, ◌≤◌, List, [], ◌∷◌, drop, length, Option, refl, sym, ap, ◌∙◌, subst, arith}
 use Rattle.std.proofs.Math.Nat.{le_trans}
 use Rattle.ist_core.specs.declared.pairs.Pair.{Pair}
-use Rattle.ist_core.specs.Arithmetic.{child_count}
 use Rattle.ist_core.specs.RowLayout.{anchor}
 use Rattle.ist_core.specs.References.{Ref}
-use Rattle.ist_core.specs.Snapshots.{Snapshot}
 use Rattle.ist_core.specs.StartLayout.{start}
-use Rattle.ist_core.specs.Growing.{AllGrow}
 use Rattle.ist_core.specs.Logs.{Log, GoesOn, same_log, one_event}
-use Rattle.ist_core.specs.Slots.{IsChildFor, of_anchor, of_row}
+use Rattle.ist_core.specs.Slots.{IsChildFor}
 use Rattle.ist_core.specs.Links.{WasLinked}
 use Rattle.ist_core.specs.Writing.{place_of_slot}
 use Rattle.ist_core.specs.Lawful.{state_of}
-use Rattle.ist_core.proofs.GrowingLemmas.{inner_there}
 use Rattle.ist_core.proofs.FateLemmas.{grow_between}
 use Rattle.ist_rule.specs.declared.view.View.{View}
 use Rattle.ist_rule.specs.Rule.{IsSound}
 use Rattle.ist_rule.specs.Learning.{now, GoesOnTo, Turned, searching}
 use Rattle.ist_rule.proofs.LaterLemmas.{later_more, later-goes_on}
 use Rattle.ist_core.specs.Authors.{Later}
+use Rattle.ist_core.proofs.PrefixLemmas.{goes_on_length}
 use Rattle.laws_histories.specs.Loads.{log_at, IsLoad}
 use Rattle.laws_histories.specs.Searching.{LooksAt, ComesTo, HasPosition}
 use Rattle.laws_walks.specs.Walking.{begins_by}
 use Rattle.laws_walks.proofs.WalkLemmas.{meeting_comes}
 use Rattle.laws_histories.proofs.ChangeLemmas.{changes_rise}
 use Rattle.laws_histories.proofs.LoadOnLemmas.{at_on, at_prefix, load_on, come_on, side_on, target_on}
+use Rattle.laws_histories.proofs.LedLemmas.{child_stays}
 use Rattle.laws_histories.proofs.PositionLemmas.{search_position, node_met}
 use Rattle.ist_find.specs.Searches.{HasSearched, HasFound, HasCome}
 use Rattle.ist_find.specs.Reads.{HasLooked, TellsValue}
-use Rattle.ist_find.proofs.LoadLemmas.{by_table, goes_log, length_rises}
+use Rattle.ist_find.proofs.LoadLemmas.{by_table, goes_log}
 
 -- ---- the begin
 
@@ -42,7 +40,7 @@ begun_comes v w key t =
 pub has_searched : (v b w : View) → Turned v (searching v) b → GoesOnTo b w → HasSearched v w
 has_searched v b w t g =
     let since : w.loads.since ≡ length b.log = g.since ∙ ap (λ x. x.loads.since) t.view in
-    let low = length_rises v.log b.log (later-goes_on t.later) in
+    let low = goes_on_length (later-goes_on t.later) in
     let one = ap (λ x. x.loaded) t.view in
     let more = g.loaded in
     let begun = ap (λ x. x.searches) t.view in
@@ -72,7 +70,7 @@ pub log_stays : (log longer : Log) → GoesOn log longer → (n : ℕ) → n ≤
     → log_at longer n ≡ log_at log n
 log_stays log _ same_log n h = refl
 log_stays log _ (one_event {log = rest} event g) n h =
-    let low = length_rises log rest g in
+    let low = goes_on_length g in
     let more : suc (length rest) - n ≡ suc (length rest - n) = omega arith in
     ap (λ k. drop k (event ∷ rest)) more ∙ log_stays log rest g n h
 
@@ -96,14 +94,6 @@ module _ (pairs : List Pair) (words : ℕ) (log longer : Log) (g : GoesOn log lo
         },
         e,
       )
-
--- the child for a key stays the same when rows grow
-pub child_later : (t u : Snapshot) → AllGrow t.pieces u.pieces → (node key i : ℕ)
-    → IsChildFor t node key i → IsChildFor u node key i
-child_later t u g node key i (of_anchor e f) = of_anchor e f
-child_later t u g node key i (of_row r e f) =
-    let on = inner_there t.pieces u.pieces g node r e in
-    of_row on.0 on.1 (f ∙ ap (λ ks. child_count ks key) (sym on.2.keys))
 
 -- the value was loaded after the last look
 pub has_found : (v w : View) (key node i : ℕ) (rows : List ℕ) (ref : Ref) (value : Option ℕ)
@@ -167,6 +157,6 @@ found_child w s key node i value f =
     let look = f.searched.look in
     let at = log_at w.log look.slot.length in
     subst (IsChildFor (now w) node key) f.index_is
-    (child_later (state_of w.start w.words at) (now w)
+    (child_stays (state_of w.start w.words at) (now w)
     (grow_between w.start w.words at w.log s.lawful.enabled (at_on w.log look.slot.length)) node
     key look.index look.index_is)

@@ -21,7 +21,7 @@ use Rattle.ist_core.proofs.OrderLemmas.{names, child_above}
 use Rattle.ist_core.proofs.PlaceLemmas.{anchor_free}
 use Rattle.laws_rebuilds.proofs.ContentLemmas.{linked_set}
 use Rattle.laws_histories.specs.Loads.{log_at}
-use Rattle.laws_histories.specs.Searching.{LooksAt, ReadsSide}
+use Rattle.laws_histories.specs.Searching.{ReadsSide}
 use Rattle.laws_histories.specs.Telling.{map_now}
 use Rattle.laws_histories.proofs.ChangeLemmas.{on_trans}
 use Rattle.laws_histories.proofs.LoadOnLemmas.{at_on, at_prefix, side_on}
@@ -40,7 +40,7 @@ use Rattle.ist_find.proofs.LookLemmas.{slot_later}
 use Rattle.ist_find.proofs.LoadLemmas.{by_table, goes_log, goes_length}
 use Rattle.ist_find.proofs.RowLemmas.{keys_are}
 use Rattle.ist_find.proofs.SlotEndLemmas.{no_keys}
-use Rattle.ist_find.proofs.SearchLemmas.{look_later, log_stays}
+use Rattle.ist_find.proofs.SearchLemmas.{log_stays}
 use Rattle.ist_find.proofs.SpanLemmas.{child_on}
 use Rattle.ist_find.proofs.SweepLemmas.{child_back, leads_later, saw_since, value_then, had_at}
 
@@ -91,22 +91,6 @@ were_led_on v w g first last node h =
     }
 
 -- ---- the look
-
--- a look stays one when the caller goes on by loads
-pub since_later : (v w : View) → GoesOnTo v w → (key least node i : ℕ) (ref : Ref)
-    → LookedSince v key least node i ref → LookedSince w key least node i ref
-since_later v w g key least node i ref h =
-    let look = by_table v w g
-    (λ p n. (y : LooksAt p n v.log key least h.last node ref) × (y.index ≡ i))
-    (h.look, h.index_is) in
-    let later = look_later w.start w.words v.log w.log (goes_log v w g) key least h.last node i ref
-    look.0 look.1 in
-    record {
-      last = h.last;
-      until = le_trans h.until (goes_length v w g);
-      look = later.0;
-      index_is = later.1;
-    }
 
 -- by a look for one key of a slot it saw the slot for all of them
 pub slot_saw : (u w : View) → GoesOnTo u w → (floor : Log) → GoesOn floor u.log

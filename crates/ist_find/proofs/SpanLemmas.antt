@@ -24,11 +24,13 @@ use Rattle.ist_find.specs.Reads.{HasLooked, IsFoundAs, TellsValue, loaded_in}
 use Rattle.ist_find.specs.Spans.{pair_value, AllCome, AllLooked, LooksFewOver, HasFewSpanLoads}
 use Rattle.ist_find.proofs.LoadLemmas.{by_table, goes_log, goes_length, looked_load, load_later}
 use Rattle.laws_walks.proofs.WalkLemmas.{met_chain}
+use Rattle.laws_histories.proofs.LedLemmas.{child_stays}
+use Rattle.ist_rule.proofs.WentOnLemmas.{goes_on_grow}
 use Rattle.ist_find.proofs.CostLemmas.{rows_met, cost_on, cost_more}
 use Rattle.ist_find.proofs.LookLemmas.{comes_later, look_comes}
 use Rattle.ist_find.proofs.ReadLemmas.{leaf_on, value_told}
-use Rattle.ist_find.proofs.RowLemmas.{goes_grow, row_on, keys_are, keys_on}
-use Rattle.ist_find.proofs.SearchLemmas.{child_later, look_later, has_found, found_position}
+use Rattle.ist_find.proofs.RowLemmas.{row_on, keys_are, keys_on}
+use Rattle.ist_find.proofs.SearchLemmas.{look_later, has_found, found_position}
 
 -- ---- which keys have a child
 
@@ -106,13 +108,6 @@ looked_later v w g key node i rows ref h =
       look = later.0;
       index_is = later.1;
     }
-
--- the looks for all keys stay looks too
-pub all_later : (v w : View) → GoesOnTo v w → (first last node i : ℕ) (ref : Ref)
-    → AllLooked v first last node i ref → AllLooked w first last node i ref
-all_later v w g first last node i ref h k low high =
-    let one = h k low high in
-    (one.0, looked_later v w g k node i one.0 ref one.1)
 
 -- ---- the pair of a leaf
 
@@ -236,7 +231,7 @@ node_later v w g node (is_inner r e) =
 -- the child for a key stays the same
 pub child_on : (v w : View) → GoesOnTo v w → (node key i : ℕ) → IsChildFor (now v) node key i
     → IsChildFor (now w) node key i
-child_on v w g node key i h = child_later (now v) (now w) (goes_grow v w g) node key i h
+child_on v w g node key i h = child_stays (now v) (now w) (goes_on_grow v w g) node key i h
 
 -- what a slot may read as it may still read as
 pub found_on : (v w : View) → GoesOnTo v w → (ref : Ref) → IsFoundAs v ref → IsFoundAs w ref

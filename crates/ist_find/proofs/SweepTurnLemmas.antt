@@ -16,6 +16,7 @@ use Rattle.ist_core.proofs.FateLemmas.{enabled_before, grow_between}
 use Rattle.ist_core.proofs.GrowingLemmas.{inner_there}
 use Rattle.ist_core.proofs.PlaceLemmas.{anchor_free}
 use Rattle.ist_core.proofs.SlotLemmas.{no_row}
+use Rattle.ist_core.proofs.PrefixLemmas.{goes_on_length}
 use Rattle.laws_histories.proofs.ChangeLemmas.{on_trans}
 use Rattle.laws_histories.proofs.SearchLemmas.{leads_there}
 use Rattle.ist_math.specs.Guess.{guess_in, distance}
@@ -28,7 +29,7 @@ use Rattle.ist_find.specs.Reads.{IsFoundAs}
 use Rattle.ist_find.specs.Spans.{IsEdge}
 use Rattle.ist_find.specs.Sweeps.{Swept, later_swept, row_swept, slot_swept, entering, starting, AllLed, HasSwept, one_of}
 use Rattle.ist_find.specs.Turns.{HasReadSlot, LeadsBelow, HasReadEnd, HasSweptSlot, row_below, end_there, HasSweptTo}
-use Rattle.ist_find.proofs.LoadLemmas.{by_table, goes_log, length_rises}
+use Rattle.ist_find.proofs.LoadLemmas.{by_table, goes_log}
 use Rattle.ist_find.proofs.RowLemmas.{keys_are}
 use Rattle.ist_find.proofs.SlotEndLemmas.{node_keys_on}
 use Rattle.ist_find.proofs.SpanLemmas.{node_later, child_on}
@@ -73,7 +74,7 @@ module _ (v u w : View) (node first low high last i count spent : ℕ) (ref : Re
       → SlotSaw w at first last low high node ref
   saw_after at f led =
       slot_saw u w r.seen at f first last low high node i ref led h.from r.ends.some r.ends.top r.ends.share
-      (r.looked low (length at) (length_rises at u.log f) (r.ends.share low (le_refl low) r.ends.some))
+      (r.looked low (length at) (goes_on_length f) (r.ends.share low (le_refl low) r.ends.some))
 
   -- it saw a row above the node, to which the slot's keys were led, or an end
   pub slot_leads : LeadsBelow w node low high ref
