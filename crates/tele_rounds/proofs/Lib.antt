@@ -9,5 +9,4 @@ pub mod RunLemmas
 pub mod TurnLemmas
 pub mod WholeLemmas
 pub mod SuffixLemmas
-pub mod LaneListLemmas
 pub mod ExampleLemmas
