@@ -1,15 +1,11 @@
 -- What a pass read so far, and what it read after that, together. Serves all reads.
-use Rattle.std.proofs.Common.{◌≡◌, ℕ, ◌+◌, ◌<◌, ◌≤◌, Option, Some, None, refl, ◌∙◌, subst, sym, arith}
-use Rattle.std.specs.Prelude.{IfSome}
+use Rattle.std.proofs.Common.{◌≡◌, ℕ, ◌+◌, Option, Some, refl, ◌∙◌, subst, arith}
 use Rattle.ist_core.specs.declared.pairs.Pair.{Pair}
 use Rattle.ist_core.specs.Logs.{Log, GoesOn, same_log, one_event}
 use Rattle.laws_histories.specs.Searching.{HasPosition}
 use Rattle.laws_histories.proofs.PositionOnLemmas.{position_on}
-use Rattle.ist_find.specs.declared.answers.Span.{Span}
-use Rattle.ist_find.specs.Spans.{pair_value}
 use Rattle.ist_tree.specs.Calls.{HasSeenMore}
 use Rattle.ist_tree.specs.Faces.{PassFace}
-use Rattle.ist_tree.specs.Spans.{AllHave, HasLoadedFewOver}
 use Rattle.ist_live.specs.Reading.{HasOnlyRead, Had, HasReadSpan}
 
 goes_on_trans : (a b c : Log) → GoesOn a b → GoesOn b c → GoesOn a c
@@ -59,29 +55,6 @@ pub had_after : (p m q : PassFace) → HasOnlyRead m q → (k : ℕ) (value : Op
     → Had p q k value
 had_after p m q r k value h =
     position_on p.tree.start p.tree.words p.seen p.seen m.seen q.seen same_log r.seen.seen k value h
-
--- the part of a span that was asked for
-pub part_read : (p q : PassFace) (s : Span) (asked from to : ℕ) (pair : Option Pair) → HasOnlyRead p q
-    → AllHave p q s.first s.last s.pair → HasLoadedFewOver p q asked (pair_value s.pair asked)
-    → s.first ≤ from → to ≤ s.last → from ≤ asked → asked ≤ to
-    → IfSome pair (λ x. (from ≤ x.key) × (x.key ≤ to))
-    → ((k : ℕ) → from ≤ k → k ≤ to → pair_value pair k ≡ pair_value s.pair k)
-    → HasReadSpan p q asked from (to + 1) pair
-part_read p q s asked from to pair read all loads low high least most within same =
-    record {
-      read = read;
-      low = least;
-      high = omega arith;
-      within = inside pair within;
-      values = λ k a b. subst (Had p q k) (sym (same k a (omega arith)))
-          (all k (omega arith) (omega arith));
-      loads = subst (HasLoadedFewOver p q asked) (sym (same asked least most)) loads;
-    }
-  where
-    inside : (o : Option Pair) → IfSome o (λ x. (from ≤ x.key) × (x.key ≤ to))
-        → IfSome o (λ x. (from ≤ x.key) × (x.key < to + 1))
-    inside (Some x) h = let low = h.0 in let high = h.1 in (omega arith, omega arith)
-    inside None h = tt
 
 -- a part of it up to its pair
 pub up_to_pair : (p q : PassFace) (asked from behind : ℕ) (x : Pair)
