@@ -1,8 +1,8 @@
 -- A walk: the place of its next pair, and that it stays there. Serves `walks.rt` and
 -- `laws.shots_stay`.
-use Rattle.std.proofs.Common.{◌≡◌, ℕ, ◌+◌, ◌-◌, ◌<◌, ◌≤◌, true, List, [], ◌∷◌, zero, suc, length, map, drop, slice_get, Some, None, refl, sym, ap, ◌∙◌, subst, ⊎_elim, arith}
+use Rattle.std.proofs.Common.{◌≡◌, ℕ, ◌+◌, ◌-◌, ◌<◌, ◌≤◌, List, [], ◌∷◌, zero, suc, length, map, drop, slice_get, Some, None, refl, sym, ap, ◌∙◌, subst, ⊎_elim, arith}
 use Rattle.std.specs.List.Sorted.{IsStrictlyIncreasing}
-use Rattle.std.proofs.lemmas.Bool.{cases_lt, false≢true}
+use Rattle.std.proofs.lemmas.Bool.{cases_lt}
 use Rattle.std.proofs.lemmas.List.{length-take}
 use Rattle.std.proofs.lemmas.Option.{slice_get_past}
 use Rattle.ist_core.proofs.PieceLemmas.{slice_get-drop, slice_get-take}
@@ -12,7 +12,7 @@ use Rattle.ist_tree.specs.declared.freezing.Frozen.{Frozen}
 use Rattle.ist_tree.specs.Faces.{PassFace}
 use Rattle.ist_scan.specs.Cuts.{CutsAt, IsCut, part_of}
 use Rattle.ist_scan.specs.Shots.{HasOnlyLooked, HasPairs}
-use Rattle.ist_scan.specs.Walks.{WalkFace, AreOneWalk, HasBegun, HasWalked, WalksStay}
+use Rattle.ist_scan.specs.Walks.{WalkFace, AreOneWalk, HasBegun, WalksStay}
 use Rattle.ist_scan.proofs.CutLemmas.{cut_is, between_is, none_between}
 use Rattle.ist_scan.proofs.PairLemmas.{rise}
 use Rattle.ist_scan.proofs.ShotLemmas.{GoesOnWell, has_on, one_pairs}
@@ -148,35 +148,6 @@ module _ (pairs : List Pair) (rising : IsStrictlyIncreasing (map (λ p. p.key) p
   none_left all = none_within (λ high cut. (let within = cut.within in omega arith))
 
 -- ---- walks
-
--- a walk that has begun, for a pass that looked
-pub begun_on : (p q : PassFace) (w : WalkFace) → HasOnlyLooked p q → HasBegun p w → HasBegun q w
-begun_on p q w looked b =
-    record {
-      pairs = b.pairs;
-      has = looked.pairs w.shot b.pairs b.has;
-      start = b.start;
-      cut = b.cut;
-      next_is = b.next_is;
-    }
-
--- a walk that has begun and given one pair more
-pub begun_more : (p : PassFace) (w : WalkFace) → HasBegun p w
-    → HasBegun p (record w { given = w.given + 1; next = w.next + 1 })
-begun_more p w b =
-    let next = b.next_is in
-    record {
-      pairs = b.pairs;
-      has = b.has;
-      start = b.start;
-      cut = b.cut;
-      next_is = omega arith;
-    }
-
--- a walk that has begun is where it should be
-pub walked : (p : PassFace) (w : WalkFace) → w.begun ≡ true → HasBegun p w → HasWalked p w
-walked p w begun b =
-    record { fresh = λ not. absurd (false≢true (sym not ∙ begun)); way = λ _. b }
 
 -- the pairs of a shot, for a pass that has looked and a walk that goes on
 pub pairs_now : (p q : PassFace) (shot : Frozen) (v w : WalkFace) → HasOnlyLooked p q → AreOneWalk v w
