@@ -1,5 +1,4 @@
 pub mod MapLemmas
 pub mod ExchangeLemmas
 pub mod RaiseLemmas
-pub mod PieceLemmas
 pub mod OwnerLemmas

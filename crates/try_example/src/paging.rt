@@ -2,7 +2,7 @@
 ghost use Rattle.std.specs.Prelude.{◌≡◌, ◌≤◌, IfOk};
 ghost use Rattle.ist_live.specs.Reading.{HasOnlyRead};
 ghost use Rattle.ist_live.specs.Lists.{AreInTurn, AreLive};
-ghost use Rattle.try_example.specs.Pieces.{IsPiece};
+ghost use Rattle.ist_live.specs.Pieces.{IsPiece};
 
 use crate::exchange::Fault;
 use ist_core::{Full, Pair};

@@ -1,7 +1,7 @@
 use Rattle.std.proofs.Common.{◌++◌, ◌∙◌, ap, subst}
 use Rattle.ist_live.proofs.ReadLemmas.{read_more}
-use Rattle.try_example.specs.Pieces.{IsPiece}
-use Rattle.try_example.proofs.PieceLemmas.{pieces_join}
+use Rattle.ist_live.specs.Pieces.{IsPiece}
+use Rattle.ist_live.proofs.PieceLemmas.{pieces_join}
 use Rattle.try_example.proofs.paging.read_in_pieces.Goals as goal
 
 -- it has read on, also if memory ran out

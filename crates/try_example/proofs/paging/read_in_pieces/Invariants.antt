@@ -1,5 +1,6 @@
 use Rattle.ist_live.specs.Reading.{HasOnlyRead}
-use Rattle.try_example.specs.Pieces.{IsPiece, keys_left}
+use Rattle.ist_live.specs.Pieces.{IsPiece}
+use Rattle.try_example.specs.Pieces.{keys_left}
 use Rattle.try_example.proofs.paging.read_in_pieces.Given as goal
 
 -- the pieces so far are one piece

@@ -1,5 +1,5 @@
 use Rattle.std.proofs.Common.{arith}
-use Rattle.try_example.proofs.PieceLemmas.{read_to_none, read_on, piece_ends, piece_full, piece_goes_on, read_to_more}
+use Rattle.ist_live.proofs.PieceLemmas.{read_to_none, read_on, piece_ends, piece_full, piece_goes_on, read_to_more}
 use Rattle.try_example.proofs.paging.read_piece.Goals as goal
 
 -- nothing was read yet

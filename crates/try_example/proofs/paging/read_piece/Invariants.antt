@@ -1,5 +1,5 @@
 use Rattle.std.proofs.Common.{◌-◌}
-use Rattle.try_example.proofs.PieceLemmas.{IsReadTo}
+use Rattle.ist_live.proofs.PieceLemmas.{IsReadTo}
 use Rattle.try_example.proofs.paging.read_piece.Given as goal
 
 -- the keys below the next one were read
