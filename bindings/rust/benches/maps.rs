@@ -53,10 +53,10 @@ fn pairs(keys: u64) -> Vec<Pair> {
     (0..keys).step_by(2).map(|key| Pair { key, value: key }).collect()
 }
 
-// The seconds that this many threads take for the calls, each by a caller of its own.
+// The seconds that this many threads take for the calls, each by a caller of its own: from when the first begins to when the last ends.
 fn time<C: FnMut(Call) -> Option<u64> + Send>(callers: Vec<C>, calls: u64, keys: u64, mix: Mix) -> f64 {
-    let barrier = Barrier::new(callers.len() + 1);
-    scope(|scope| {
+    let barrier = Barrier::new(callers.len());
+    let spans: Vec<(Instant, Instant)> = scope(|scope| {
         let threads: Vec<_> = callers
             .into_iter()
             .enumerate()
@@ -65,17 +65,19 @@ fn time<C: FnMut(Call) -> Option<u64> + Send>(callers: Vec<C>, calls: u64, keys:
                 scope.spawn(move || {
                     let mut draws = Draws(number as u64);
                     barrier.wait();
+                    let begun = Instant::now();
                     for _ in 0..calls {
                         black_box(caller(call(&mut draws, keys, mix)));
                     }
+                    (begun, Instant::now())
                 })
             })
             .collect();
-        barrier.wait();
-        let begun = Instant::now();
-        threads.into_iter().for_each(|thread| thread.join().unwrap());
-        begun.elapsed().as_secs_f64()
-    })
+        threads.into_iter().map(|thread| thread.join().unwrap()).collect()
+    });
+    let begun = spans.iter().map(|span| span.0).min().unwrap();
+    let ended = spans.iter().map(|span| span.1).max().unwrap();
+    (ended - begun).as_secs_f64()
 }
 
 fn by_map(threads: u64, calls: u64, keys: u64, mix: Mix) -> f64 {

@@ -194,3 +194,12 @@ all_live p q first last pairs r =
       within = each_both pairs first last h.within h.low;
       values = λ k low high. h.values k low (omega arith);
     }
+
+-- where there are none, nothing needs to be read
+pub none_live : (p : PassFace) (first last : ℕ) → last < first → AreLive p p first last []
+none_live p first last less =
+    record {
+      rise = λ k h. absurd (omega arith);
+      within = tt;
+      values = λ k low high. absurd (omega arith);
+    }

@@ -26,9 +26,11 @@ use Rattle.ist_rows.specs.Rows.{IsCaller}
 use Rattle.ist_updates.specs.Asking.{IsAsked}
 use Rattle.ist_updates.specs.Changing.{Prepares}
 use Rattle.ist_rows.specs.Going.{HasGone}
+use Rattle.ist_updates.proofs.AskedLemmas.{asked_gone}
 use Rattle.ist_updates.proofs.PlanLemmas.{leaf_planned}
 use Rattle.ist_updates.proofs.PublishLemmas.{installed_row}
 use Rattle.ist_updates.proofs.SlotLemmas.{prepared}
+use Rattle.ist_updates.proofs.StepLemmas.{prepares_none}
 use Rattle.ist_updates.proofs.StoredLemmas.{kinds_apart, own_twice, row_filled, stand_kept}
 use Rattle.test_rebuilds.specs.Late.{HasBoth, WasAt, put_of, row_of_put}
 
@@ -95,8 +97,9 @@ put_filled old first mid new key value node index word change leaf row asked gon
     let planned = leaf_planned Prepares first mid taken.went
     record { node = node; index = index; word = word; key = key } at change has.change_is value
     leaf _ room has.leaf_is good refl row row_is in
-    (prepared old first mid new record { node = node; index = index; word = word; key = key } _ _
-    asked gone at unrefused taken planned c s same stored).installable
+    let asked_then = asked_gone Prepares old first (Put key value) asked gone prepares_none in
+    (prepared first mid new record { node = node; index = index; word = word; key = key } _ _
+    asked_then at unrefused taken planned c s same stored).installable
 
 -- whoever installed the put may help it
 pub late_helps : (v w : View) (number change leaf : ℕ) (row : ChangeRow) → v.who ≡ CallerOf number
