@@ -94,6 +94,7 @@ if there 'the package in Rust' cargo cc; then
             cargo "$1" --offline --quiet --manifest-path "$all/rust-package/Cargo.toml" "${@:2}"
     }
     well 'the package in Rust passes its tests' in_rust test --release
-    well 'the measurement in Rust runs' in_rust bench --bench maps -- 200 1
+    well 'the measurement of maps in Rust runs' in_rust bench --bench maps -- 200 1
+    well 'the measurement of calls in Rust runs' in_rust bench --bench calls -- 100 200 10
 fi
 ends

@@ -6,7 +6,7 @@
 //!
 //! PUTS of 100 calls are puts (0), the others are finds. Each way has three turns.
 
-use luskadorv::{Map, Pair, Tree};
+use luskadorv::{Map, Pair, Tree, words_for};
 use std::time::Instant;
 
 fn mixed(number: u64) -> u64 {
@@ -52,7 +52,8 @@ impl Plan {
     }
 
     fn time_pass(&self) {
-        let tree = Tree::open(1 << 27, &self.pairs()).unwrap();
+        let words = u64::from(words_for(self.keys as usize).unwrap()) + 100 * self.calls * self.puts / 100;
+        let tree = Tree::open(words.min(1 << 28) as u32, &self.pairs()).unwrap();
         let mut pass = tree.pass().unwrap();
         self.time("Pass", |key, put| match put {
             Some(value) => pass.insert(key, value).unwrap(),

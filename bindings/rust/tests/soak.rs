@@ -56,6 +56,7 @@ fn threads_strain_a_map() {
         is_over.store(true, Ordering::Relaxed);
         threads.into_iter().map(|thread| thread.join().unwrap()).collect()
     });
+    println!("seed {seed}: {} calls", calls.load(Ordering::Relaxed));
     assert!(calls.load(Ordering::Relaxed) > 0);
     for key in 0..50 {
         map.remove(key);
