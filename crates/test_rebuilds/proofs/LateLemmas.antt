@@ -4,13 +4,10 @@ use Rattle.std.proofs.Common.{◌≡◌, ℕ, [], ◌∷◌, List, Some, sym, ap
 use Rattle.ist_core.specs.declared.commands.Command.TheVariants.{Put}
 use Rattle.ist_core.specs.declared.events.Who.TheVariants.{Caller as CallerOf}
 use Rattle.ist_core.specs.declared.states.ChangeRow.{ChangeRow}
-use Rattle.ist_core.specs.Growing.{AllGrow}
-use Rattle.ist_core.specs.Installing.{CanInstall, HasRoomFor, IsUnrefused, nothing, same_key}
+use Rattle.ist_core.specs.Installing.{CanInstall, HasRoomFor, IsUnrefused}
 use Rattle.ist_core.specs.Pieces.{Change as ChangePiece, words_of}
 use Rattle.ist_core.specs.References.{IsGoodBase}
-use Rattle.ist_core.specs.Snapshots.{Snapshot}
 use Rattle.ist_core.specs.StartLayout.{start}
-use Rattle.ist_core.proofs.GrowingLemmas.{leaf_there}
 use Rattle.ist_dcss.specs.Helping.{MayHelp}
 use Rattle.ist_dcss.specs.Installing.{IsInstallable, IsInstalled, rows_of}
 use Rattle.ist_rule.specs.declared.view.View.{View}
@@ -70,17 +67,6 @@ both_filled old mid new change leaf row s t c d has first second =
     }
 
 -- ---- the install
-
--- a word still leaves room for the key as rows grow
-pub room_later : (t u : Snapshot) → AllGrow t.pieces u.pieces → (key word : ℕ)
-    → HasRoomFor t key word → HasRoomFor u key word
-room_later t u g key word (nothing e) = nothing e
-room_later t u g key word (same_key leaf e l) =
-    same_key leaf e record {
-      row = l.row;
-      published = leaf_there t.pieces u.pieces g leaf l.row l.published;
-      key_is = l.key_is;
-    }
 
 -- the put is filled for a slot of a node that was open, and may be installed
 pub put_filled : (old first mid new : Caller) (key value node index word change leaf : ℕ)

@@ -1,15 +1,11 @@
 //! Rebuilds of a row that holds two leaves, one, or none.
-ghost use Rattle.std.specs.Prelude.{◌≡◌};
-ghost use Rattle.ist_rows.specs.Going.{IsReady};
-ghost use Rattle.ist_tree.specs.Insides.{IsPass};
 
-use crate::callers::{begin, enter_call, help_on, mark, see_row};
+use crate::callers::{enter_call, help_on, mark};
+use crate::shares::begin_top;
 use crate::tables::{Opened, open_numbered, word_at};
 use crate::updates::{enter_idle, update_all};
 use ist_layout::Ref;
-use ist_rebuild::{Helped, Started};
-use ist_rows::Caller;
-use ist_rule::{TreeSeat, TreeTable};
+use ist_rebuild::Helped;
 use ist_tree::OpenFault;
 use std::alloc::Global;
 use std::test::Fail;
@@ -23,37 +19,8 @@ struct Seen {
     below: Option<Ref>,
 }
 
-// Rebuilds the row over both pairs after these removes, which the first of the callers makes.
-fn see_in(
-    table: &TreeTable,
-    maker: &mut TreeSeat,
-    most: &mut Caller,
-    who: &mut Caller,
-    removes: &[(u64, Option<u64>)],
-) -> Option<Seen>
-    requires maker_table { maker.old.table ≡ table.now.table }
-    requires most_table { most.old.seat.table ≡ table.now.table }
-    requires most_pass { IsPass most.old }
-    requires same_table { who.old.seat.table ≡ table.now.table }
-    requires ready { IsReady who.old }
-{
-    if !update_all(table, most, removes) {
-        return None;
-    }
-    let target = see_row(table, who)?;
-    let Ok(Started::Yes { rebuild }) = begin(table, who, target) else {
-        return None;
-    };
-    let marked = mark(table, who, rebuild);
-    let replaced = help_on(table, who, rebuild) == Ok(Helped::Replaced);
-    Some(Seen {
-        keys: marked.keys,
-        replaced,
-        below: Ref::from_word(word_at(table, maker, 3)),
-    })
-}
-
-// The same in a new table of the pairs (1, 1) and (2, 2).
+// Rebuilds the row over the pairs (1, 1) and (2, 2) of a new table after these removes, which another caller
+// makes first.
 fn see(alloc: Global, removes: &[(u64, Option<u64>)]) -> Result<Option<Seen>, OpenFault> {
     let Opened {
         table,
@@ -62,8 +29,19 @@ fn see(alloc: Global, removes: &[(u64, Option<u64>)]) -> Result<Option<Seen>, Op
     } = open_numbered(alloc, 2, 1_000)?;
     let mut most = enter_idle(&table, &mut maker);
     let mut who = enter_call(&table, &mut maker);
-    let seen = see_in(&table, &mut maker, &mut most, &mut who, removes);
-    Ok(seen)
+    if !update_all(&table, &mut most, removes) {
+        return Ok(None);
+    }
+    let Some(rebuild) = begin_top(&table, &mut who) else {
+        return Ok(None);
+    };
+    let marked = mark(&table, &mut who, rebuild);
+    let replaced = help_on(&table, &mut who, rebuild) == Ok(Helped::Replaced);
+    Ok(Some(Seen {
+        keys: marked.keys,
+        replaced,
+        below: Ref::from_word(word_at(&table, &mut maker, 3)),
+    }))
 }
 
 #[test]

@@ -6,14 +6,13 @@ ghost use Rattle.ist_dcss.specs.declared.decisions.Installed.TheVariants.{Yes};
 ghost use Rattle.ist_dcss.specs.Helping.{MayHelp};
 ghost use Rattle.ist_rows.specs.Going.{IsReady};
 ghost use Rattle.ist_rule.specs.Learning.{now};
-ghost use Rattle.ist_tree.specs.Insides.{IsPass};
 
 use crate::callers::{enter_call, help_on, mark, see_rebuild};
 use crate::late::{LatePut, install_late, prepare};
 use crate::leaves::{are_few, are_pairs, part};
 use crate::shapes::{LAST, Shape, bring, map_of};
 use crate::shares::begin_top;
-use crate::tables::{Opened, all_words, are_alike, is_image, open, open_numbered, word_at};
+use crate::tables::{all_words, are_alike, is_image, open, open_numbered, word_at};
 use crate::updates::enter_idle;
 use ist_core::Pair;
 use ist_dcss::{Decision, Installed, help};
@@ -149,48 +148,10 @@ fn may_install(table: &TreeTable, who: &mut Caller, put: LatePut, late: bool) ->
     }
 }
 
-// Rebuilds a tree of this shape.
-fn see_in(
-    table: &TreeTable,
-    alloc: Global,
-    maker: &mut TreeSeat,
-    last: &mut Caller,
-    helper: &mut Caller,
-    builder: &mut Caller,
-    shape: Shape,
-) -> Result<Option<Seen>, OpenFault>
-    requires maker_table { maker.old.table ≡ table.now.table }
-    requires last_table { last.old.seat.table ≡ table.now.table }
-    requires last_pass { IsPass last.old }
-    requires helper_table { helper.old.seat.table ≡ table.now.table }
-    requires helper_ready { IsReady helper.old }
-    requires builder_table { builder.old.seat.table ≡ table.now.table }
-    requires builder_ready { IsReady builder.old }
-{
-    let Some(put) = prepare(table, last, 31, 9) else {
-        return Ok(None);
-    };
-    let Some(rebuild) = begin_top(table, helper) else {
-        return Ok(None);
-    };
-    mark(table, helper, rebuild);
-    let installed = may_install(table, last, put, shape.late);
-    let tags = tags(table, maker);
-    let map = map_of(alloc, shape)?;
-    Ok(Some(Seen {
-        tags,
-        rebuilt: rebuild_over(table, alloc, maker, helper, builder, rebuild, &map)?,
-        late: end_late(table, last, put, installed),
-    }))
-}
-
-// The same in a new table, which is brought into the shape.
+// Rebuilds a new tree that is brought into this shape.
 fn see(alloc: Global, shape: Shape) -> Result<Option<Seen>, OpenFault> {
-    let Opened {
-        table,
-        mut maker,
-        ..
-    } = open_numbered(alloc, LAST, 20_000)?;
+    let opened = open_numbered(alloc, LAST, 20_000)?;
+    let (table, mut maker) = (opened.table, opened.maker);
     let mut most = enter_idle(&table, &mut maker);
     let mut one = enter_idle(&table, &mut maker);
     let mut two = enter_idle(&table, &mut maker);
@@ -198,21 +159,33 @@ fn see(alloc: Global, shape: Shape) -> Result<Option<Seen>, OpenFault> {
     let mut last = enter_idle(&table, &mut maker);
     let mut helper = enter_call(&table, &mut maker);
     let mut builder = enter_call(&table, &mut maker);
-    match bring(
+    if !bring(
         &table, alloc, &mut most, &mut one, &mut two, &mut three, shape,
-    ) {
-        Ok(true) => see_in(
+    )? {
+        return Ok(None);
+    }
+    let Some(put) = prepare(&table, &mut last, 31, 9) else {
+        return Ok(None);
+    };
+    let Some(rebuild) = begin_top(&table, &mut helper) else {
+        return Ok(None);
+    };
+    mark(&table, &mut helper, rebuild);
+    let installed = may_install(&table, &mut last, put, shape.late);
+    let map = map_of(alloc, shape)?;
+    Ok(Some(Seen {
+        tags: tags(&table, &mut maker),
+        rebuilt: rebuild_over(
             &table,
             alloc,
             &mut maker,
-            &mut last,
             &mut helper,
             &mut builder,
-            shape,
-        ),
-        Ok(false) => Ok(None),
-        Err(fault) => Err(fault),
-    }
+            rebuild,
+            &map,
+        )?,
+        late: end_late(&table, &mut last, put, installed),
+    }))
 }
 
 #[test]

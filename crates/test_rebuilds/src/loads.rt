@@ -53,17 +53,7 @@ fn first_other(
 }
 
 // Returns how many keys the finished target has, and the first of these leaves for which a
-// different number of words is loaded, in a rebuild of what is below the anchor.
-fn see_in(table: &TreeTable, who: &mut Caller, cases: &[(u64, u64)]) -> Option<(u64, Option<u64>)>
-    requires same_table { who.old.seat.table ≡ table.now.table }
-    requires ready { IsReady who.old }
-{
-    let rebuild = begin_top(table, who)?;
-    let marked = mark(table, who, rebuild);
-    Some((marked.keys, first_other(table, who, rebuild, marked, cases)))
-}
-
-// The same in a new table of 100,000 pairs.
+// different number of words is loaded, in a rebuild of a new table of 100,000 pairs.
 fn see(alloc: Global, cases: &[(u64, u64)]) -> Result<Option<(u64, Option<u64>)>, OpenFault> {
     let Opened {
         table,
@@ -71,8 +61,12 @@ fn see(alloc: Global, cases: &[(u64, u64)]) -> Result<Option<(u64, Option<u64>)>
         ..
     } = open_numbered(alloc, 100_000, 2_000_000)?;
     let mut who = enter_call(&table, &mut maker);
-    let seen = see_in(&table, &mut who, cases);
-    Ok(seen)
+    let Some(rebuild) = begin_top(&table, &mut who) else {
+        return Ok(None);
+    };
+    let marked = mark(&table, &mut who, rebuild);
+    let other = first_other(&table, &mut who, rebuild, marked, cases);
+    Ok(Some((marked.keys, other)))
 }
 
 #[test]

@@ -16,7 +16,7 @@ use ist_build::build_part;
 use ist_layout::{REBUILD_ROOT_OFFSET, Ref};
 use ist_rebuild::Helped;
 use ist_rows::Caller;
-use ist_rule::{TreeSeat, TreeTable, exchange_or_lose, know, load};
+use ist_rule::{TreeTable, exchange_or_lose, know, load};
 use ist_tree::OpenFault;
 use std::alloc::Global;
 use std::test::Fail;
@@ -132,47 +132,7 @@ struct Seen {
     names_lost: bool,
 }
 
-// The same in a table of two pairs whose words were the image.
-fn see_in(
-    table: &TreeTable,
-    alloc: Global,
-    maker: &mut TreeSeat,
-    starter: &mut Caller,
-    first: &mut Caller,
-    second: &mut Caller,
-    image: &[u64],
-) -> Result<Option<Seen>, OpenFault>
-    requires maker_table { maker.old.table ≡ table.now.table }
-    requires starter_table { starter.old.seat.table ≡ table.now.table }
-    requires starter_ready { IsReady starter.old }
-    requires first_table { first.old.seat.table ≡ table.now.table }
-    requires first_ready { IsReady first.old }
-    requires second_table { second.old.seat.table ≡ table.now.table }
-    requires second_ready { IsReady second.old }
-{
-    let Some(rebuild) = begin_top(table, starter) else {
-        return Ok(None);
-    };
-    let (Some(one), Some(two)) = (see_rebuild(table, first), see_rebuild(table, second)) else {
-        return Ok(None);
-    };
-    let raced = race(table, first, second, one, two);
-    let ended = end(table, starter, rebuild);
-    let words = all_words(alloc, table, maker)?;
-    let words = words.as_slice();
-    let root = words.get(3).copied();
-    let lost = raced.map_or(0, |raced| raced.built.1);
-    Ok(Some(Seen {
-        rebuilds: (rebuild, one, two),
-        raced,
-        ended,
-        used: words.first().copied(),
-        root,
-        is_ideal: are_alike(alloc, image, words, (34, root.unwrap_or(0)))?,
-        names_lost: words.iter().any(|word| *word == lost),
-    }))
-}
-
+// The same in a new table of two pairs.
 fn see(alloc: Global) -> Result<Option<Seen>, OpenFault> {
     let Opened {
         table,
@@ -182,15 +142,29 @@ fn see(alloc: Global) -> Result<Option<Seen>, OpenFault> {
     let mut starter = enter_call(&table, &mut maker);
     let mut first = enter_call(&table, &mut maker);
     let mut second = enter_call(&table, &mut maker);
-    see_in(
-        &table,
-        alloc,
-        &mut maker,
-        &mut starter,
-        &mut first,
-        &mut second,
-        image.as_slice(),
-    )
+    let Some(rebuild) = begin_top(&table, &mut starter) else {
+        return Ok(None);
+    };
+    let (Some(one), Some(two)) = (
+        see_rebuild(&table, &mut first),
+        see_rebuild(&table, &mut second),
+    ) else {
+        return Ok(None);
+    };
+    let raced = race(&table, &mut first, &mut second, one, two);
+    let ended = end(&table, &mut starter, rebuild);
+    let words = all_words(alloc, &table, &mut maker)?;
+    let root = words.get(3).copied();
+    let lost = raced.map_or(0, |raced| raced.built.1);
+    Ok(Some(Seen {
+        rebuilds: (rebuild, one, two),
+        raced,
+        ended,
+        used: words.first().copied(),
+        root,
+        is_ideal: are_alike(alloc, &image, &words, (34, root.unwrap_or(0)))?,
+        names_lost: words.iter().any(|word| *word == lost),
+    }))
 }
 
 #[test]

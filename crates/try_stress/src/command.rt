@@ -1,27 +1,12 @@
 //! The command line: options with one number each.
 
 use crate::plans::{MOST_KEYS, MOST_PASSES, MOST_WORDS, Plan};
-use clap::builder::ValueParser;
-use clap::{Arg, ArgAction, ArgMatches, Command};
+use clap::{ArgMatches, Command};
 use std::alloc::{AllocError, Global};
 use std::io;
-use try_draws::Shares;
-
-/// What follows the options in the text that `--help` prints.
-const STATUSES: &str =
-    "Statuses: 0 all holds, 1 a check failed, 2 usage, 3 memory or writing failed";
-
-/// What the words of the command line ask for.
-#[derive(Clone, Copy, Debug, PartialEq, Eq, Drop)]
-pub(crate) enum Job {
-    /// All that was to be said is said: help, the version, or that the words are no use of the program.
-    Done { status: u8 },
-    /// Run a plan.
-    Run(Plan),
-}
-
-// An option with one value, a number from one to another: its name, what it is for, and the two.
-type NumberOption = (&'static str, &'static str, u64, u64);
+use try_draws::{
+    JUDGE_STATUSES, Job, NumberOption, Shares, arguments, number, read_words, with_numbers,
+};
 
 // All options.
 const OPTIONS: [NumberOption; 10] = [
@@ -54,27 +39,11 @@ const OPTIONS: [NumberOption; 10] = [
 
 // The command with its options.
 fn command<'a>(alloc: Global) -> Result<Command<'a>, AllocError> {
-    let mut command = Command::new(alloc, "try_stress")
+    let command = Command::new(alloc, "try_stress")
         .version("1.0")
         .about("Runs threads on one search tree, and judges what each of them was told")
-        .after_help(STATUSES);
-    for &(name, help, low, high) in &OPTIONS {
-        let option = Arg::new(alloc, name)
-            .long(name)
-            .help(help)
-            .action(ArgAction::Set)
-            .value_parser(ValueParser::unsigned(low, high));
-        command = command.arg(option)?;
-    }
-    Ok(command)
-}
-
-// The number of an option, or its default if none is given.
-fn number(matches: &ArgMatches, name: &str, otherwise: u64) -> u64 {
-    match matches.get_str(name) {
-        Some(text) => text.parse::<u64>().unwrap_or(otherwise),
-        None => otherwise,
-    }
+        .after_help(JUDGE_STATUSES);
+    with_numbers(alloc, command, &OPTIONS)
 }
 
 // The plan by what was found.
@@ -95,15 +64,11 @@ fn plan_of(matches: &ArgMatches) -> Plan {
     }
 }
 
-/// What the words ask for, of which the first is the program's name.
-pub(crate) fn read_words(rt: &HostRuntime, words: &[String]) -> io::Result<Job> {
-    match command(rt.alloc())?.try_get_matches_from(words) {
-        Ok(matches) => Ok(Job::Run(plan_of(&matches))),
-        Err(error) => {
-            error.print(rt)?;
-            Ok(Job::Done {
-                status: if error.use_stderr() { 2 } else { 0 },
-            })
-        }
+/// What the program's arguments ask for.
+pub(crate) fn read_job(rt: &HostRuntime) -> io::Result<Job<Plan>> {
+    let words = arguments(rt)?;
+    match read_words(rt, command(rt.alloc())?, &words)? {
+        Job::Run(matches) => Ok(Job::Run(plan_of(&matches))),
+        Job::Done { status } => Ok(Job::Done { status }),
     }
 }

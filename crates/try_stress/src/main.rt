@@ -12,12 +12,13 @@ mod rounds;
 mod runs;
 mod workers;
 
-use command::{Job, read_words};
+use command::read_job;
 use faults::Fault;
 use plans::Plan;
 use runs::{Report, run};
+use std::io;
 use std::process::ExitCode;
-use std::{env, io};
+use try_draws::Job;
 
 /// The status if a check failed.
 const WRONG: u8 = 1;
@@ -39,15 +40,6 @@ fn main(rt: HostRuntime) -> ExitCode {
         Ok(status) => ExitCode::from(status),
         Err(_) => ExitCode::from(FAILED),
     }
-}
-
-/// What the words of the command line ask for.
-fn read_job(rt: &HostRuntime) -> io::Result<Job> {
-    let mut words = Vec::new(rt.alloc());
-    for word in env::args(rt)? {
-        words.push(word)?;
-    }
-    read_words(rt, words.as_slice())
 }
 
 /// Says what was run and what came of it, and gives the status.

@@ -7,12 +7,13 @@ use crate::faults::Fault;
 use crate::plans::Plan;
 use crate::rounds::{make_workers, run_round};
 use crate::workers::{Tally, Worker};
-use ist_core::{Command, Reply};
+use ist_core::Reply;
 use ist_rest::Closed;
 use ist_tree::{Maker, OpenFault, Pass, Tree};
 use plain_map::Plain;
-use std::alloc::{AllocError, Global};
+use std::alloc::Global;
 use std::thread::Threads;
+use try_draws::opening_pairs;
 
 /// What a run that came to a good end did.
 #[derive(Clone, Copy, Debug, PartialEq, Eq, Drop)]
@@ -33,16 +34,6 @@ pub(crate) struct Report {
 struct Done {
     tally: Tally,
     rebuilds_refused: u64,
-}
-
-// The pairs at the opening: the lower half of the keys, each with an odd value of its own.
-fn opening_pairs(alloc: Global, span: u64) -> Result<Plain, AllocError> {
-    let mut plain = Plain::new(alloc);
-    for key in 0..span / 2 {
-        let value = key.wrapping_mul(2).wrapping_add(1);
-        plain.apply(Command::Put { key, value })?;
-    }
-    Ok(plain)
 }
 
 // A tree with these pairs, and its maker.

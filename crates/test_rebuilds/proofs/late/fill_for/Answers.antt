@@ -1,8 +1,9 @@
 use Rattle.ist_rule.proofs.WentOnLemmas.{goes_on_grow}
+use Rattle.laws_links.proofs.FormLemmas.{room_grows}
 use Rattle.ist_updates.specs.Changing.{Prepares}
 use Rattle.ist_rows.proofs.GoneLemmas.{loads_gone}
 use Rattle.ist_updates.proofs.PlanLemmas.{slot_loads, slot_node}
-use Rattle.test_rebuilds.proofs.LateLemmas.{put_filled, room_later}
+use Rattle.test_rebuilds.proofs.LateLemmas.{put_filled}
 use Rattle.test_rebuilds.proofs.late.fill_for.Goals as goal
 
 -- the slot is a node's
@@ -31,7 +32,7 @@ returns-clause-filled c =
           (loads_gone Prepares c.args.who.now c.is_open.new.seat c.requires.asked.caller
           c.requires.asked.refused c.is_open.ensures.seen)
           (slot_loads _ _ c.requires.at_slot _ c.is_open.ensures.seen)
-          (room_later _ _ (goes_on_grow _ _ c.is_open.ensures.seen) c.args.key c.args.slot.word
+          (room_grows _ _ (goes_on_grow _ _ c.is_open.ensures.seen) c.args.key c.args.slot.word
           c.requires.room)
           (c.is_open.ensures.unrefused c.args.who.now.number c.if-not-is_open.false)
           c.in-Ok.ensures.gone c.in-Ok.ensures.rows c.in-Ok.ensures.good c.in-Ok.ensures.row
