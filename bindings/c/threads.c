@@ -74,8 +74,11 @@ static void share(void) {
             check(room[i].key == turn * THREADS + read % THREADS && room[i].value == turn + 1, 8);
         }
     }
+    ist_stats stats;
+    check(ist_count(&owner, &stats) == IST_DONE && stats.keys == left && stats.words == WORDS, 9);
+    check(stats.used > ist_words_for(left) && stats.used <= WORDS, 17);
     ist_free(&owner);
-    printf("%d threads left %llu pairs\n", THREADS, (unsigned long long)count);
+    printf("%d threads left %llu pairs, and used %llu words\n", THREADS, (unsigned long long)count, (unsigned long long)stats.used);
 }
 
 /* One counter that all threads raise, by compare-and-set. */
@@ -166,6 +169,8 @@ static void reopen(void) {
     check(ist_close(&owner) == IST_DONE && ist_list(&owner, 0, entries, 3, &count) == IST_DONE, 73);
     check(count == 993 && entries[0].key == 1 && entries[2].value == 30, 74);
     check(ist_reopen(&owner, 1000) == IST_MISUSE && ist_close(&owner) == IST_MISUSE, 75);
+    check(ist_list(&owner, 993, entries, 3, &count) == IST_DONE && ist_list(&owner, UINT64_MAX, entries, 3, &count) == IST_DONE, 76);
+    check(ist_list(&owner, 992, entries, 3, &count) == IST_DONE && entries[0].key == 999 && entries[2].value == 30, 77);
     ist_free(&owner);
     printf("a tree went on with %llu words\n", (unsigned long long)words);
 }
@@ -225,6 +230,12 @@ static void misuse(void) {
     ist_free(&two);
     ist_free(&two);
     check(ist_words_for(0) == 4 && ist_words_for(UINT64_MAX) == 0, 57);
+    /* an open tree has no list, and nothing is counted */
+    ist_stats stats = {1, 2, 3};
+    uint64_t count = 7;
+    check(ist_open(1000, entries, 1, &owner) == IST_DONE && ist_count(&owner, &stats) == IST_MISUSE && stats.used == 3, 58);
+    check(ist_list(&owner, 0, entries, 1, &count) == IST_MISUSE && count == 7 && owner.full, 59);
+    ist_free(&owner);
 }
 
 int main(int count, char **words) {

@@ -54,6 +54,18 @@ struct Piece {
     next: u64,
 }
 
+/// How far a closed tree was filled.
+#[repr(C)]
+#[derive(Clone, Copy, Debug, Default, PartialEq, Eq, Hash)]
+pub struct Stats {
+    /// How many keys have values.
+    pub keys: u64,
+    /// How many words the tree had.
+    pub words: u64,
+    /// How many of these its pairs and updates used.
+    pub used: u64,
+}
+
 // What the library holds for a caller. It is never copied, and each call has it by `&mut`.
 #[repr(C)]
 struct Handle {
@@ -97,6 +109,7 @@ unsafe extern "C" {
     fn ist_reopen(owner: *mut Handle, words: u32) -> u32;
     fn ist_close(owner: *mut Handle) -> u32;
     fn ist_list(closed: *mut Handle, from: u64, room: *mut Pair, rooms: usize, count: *mut u64) -> u32;
+    fn ist_count(closed: *mut Handle, stats: *mut Stats) -> u32;
     fn ist_free(handle: *mut Handle);
 }
 
@@ -202,19 +215,26 @@ impl Owner {
         checked(status)
     }
 
-    /// Closes the tree, and returns its pairs in increasing order of keys.
-    pub(crate) fn into_pairs(mut self) -> Result<Vec<Pair>, Error> {
+    /// Closes the tree, and returns its pairs in increasing order of keys, and how far it was filled.
+    pub(crate) fn close(mut self) -> Result<(Vec<Pair>, Stats), Error> {
         let owner = &mut self.handle;
-        // SAFETY: the handle is the call's alone, here and in the two calls below.
+        let mut stats = Stats::default();
+        // SAFETY: the handle is the call's alone, here and in the two calls below, and so is `stats`.
         checked(unsafe { ist_close(owner) })?;
-        let (mut count, mut none) = (0, []);
-        // SAFETY: pointer and length are those of one slice, which is empty and so isn't written.
-        checked(unsafe { ist_list(owner, 0, none.as_mut_ptr(), none.len(), &mut count) })?;
+        checked(unsafe { ist_count(owner, &mut stats) })?;
         let mut pairs = Vec::new();
-        pairs.try_reserve_exact(count as usize).map_err(|_| Error::Memory)?;
-        pairs.resize(count as usize, Pair::default());
-        // SAFETY: pointer and length are those of one slice.
+        pairs.try_reserve_exact(stats.keys as usize).map_err(|_| Error::Memory)?;
+        pairs.resize(stats.keys as usize, Pair::default());
+        let mut count = 0;
+        // SAFETY: pointer and length are those of one slice, and `count` is the call's alone.
         checked(unsafe { ist_list(owner, 0, pairs.as_mut_ptr(), pairs.len(), &mut count) })?;
+        debug_assert_eq!(count, stats.keys);
+        Ok((pairs, stats))
+    }
+
+    /// Closes the tree, and returns its pairs in increasing order of keys.
+    pub(crate) fn into_pairs(self) -> Result<Vec<Pair>, Error> {
+        let (pairs, _) = self.close()?;
         Ok(pairs)
     }
 }

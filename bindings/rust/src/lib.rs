@@ -35,6 +35,6 @@ mod map;
 mod tree;
 
 pub use errors::{Error, Full};
-pub use ffi::Pair;
+pub use ffi::{Pair, Stats};
 pub use map::{Map, Range};
 pub use tree::{Exchanged, Note, Pass, Tree, words_for};

@@ -1,7 +1,7 @@
 //! The tree and its passes.
 
 use crate::ffi::{self, NoteHandle, Owner, PassHandle};
-use crate::{Error, Full, Pair};
+use crate::{Error, Full, Pair, Stats};
 use std::fmt::{Debug, Formatter};
 use std::ops::RangeBounds;
 use std::sync::{Mutex, MutexGuard, PoisonError};
@@ -99,6 +99,22 @@ impl Tree {
     /// ```
     pub fn reopen(&mut self, words: u32) -> Result<(), Error> {
         self.owner.get_mut().unwrap_or_else(PoisonError::into_inner).reopen(words)
+    }
+
+    /// Closes the tree, and returns its pairs in increasing order of keys, and how far it was filled. All passes were dropped,
+    /// as the compiler sees.
+    ///
+    /// ```
+    /// use luskadorv::{Error, Pair, Tree};
+    ///
+    /// let tree = Tree::open(1000, &[Pair { key: 5, value: 50 }])?;
+    /// let (pairs, stats) = tree.close()?;
+    /// assert_eq!((pairs.len(), stats.keys, stats.words), (1, 1, 1000));
+    /// assert_eq!(stats.used, u64::from(luskadorv::words_for(1).unwrap()));
+    /// # Ok::<(), Error>(())
+    /// ```
+    pub fn close(self) -> Result<(Vec<Pair>, Stats), Error> {
+        self.owner.into_inner().unwrap_or_else(PoisonError::into_inner).close()
     }
 
     /// Closes the tree, and returns its pairs in increasing order of keys. All passes were dropped, as the compiler sees.

@@ -48,6 +48,9 @@ typedef struct ist_shortage { uint64_t next, asked, words; } ist_shortage;
 /* How many pairs of a range were written, and whether keys of it are left: then `next` is the key to go on from. */
 typedef struct ist_piece { uint64_t count; bool more; uint64_t next; } ist_piece;
 
+/* What is left of a closed tree: how many keys have values, how many words it had, and how many of these were used. */
+typedef struct ist_stats { uint64_t keys, words, used; } ist_stats;
+
 /* How many words a tree of this many pairs takes at least; 0 for 2^32 pairs or more. Updates take further words: some 60
  * each. */
 uint64_t ist_words_for(uint64_t pairs);
@@ -106,7 +109,10 @@ uint32_t ist_close(ist_owner *owner);
  * and into `count` how many there are in all. */
 uint32_t ist_list(ist_owner *closed, uint64_t from, ist_entry *room, size_t rooms, uint64_t *count);
 
-/* Drops what a handle of any kind holds. The memory of a tree is freed with the last handle of it. A pass that is freed
+/* Writes how many pairs a closed tree left, how many words it had, and how many of these were used. */
+uint32_t ist_count(ist_owner *closed, ist_stats *stats);
+
+/* Drops what a handle of any kind holds, and leaves it empty. The memory of a tree is freed with the last handle of it. A pass that is freed
  * is never back, so its tree can't be closed any more. */
 void ist_free(void *handle);
 

@@ -2,7 +2,9 @@ pub mod CallLemmas
 pub mod CloseLemmas
 pub mod SendLemmas
 pub mod ConditionLemmas
+pub mod LeftLemmas
 pub mod NoteLemmas
+pub mod OpenLemmas
 pub mod PassLemmas
 pub mod ReadLemmas
 pub mod ValueLemmas

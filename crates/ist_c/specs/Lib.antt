@@ -5,10 +5,12 @@ pub mod Conditions
 pub mod Entries
 pub mod Reads
 pub mod Keeping
+pub mod Opening
 pub mod Passes
 pub mod Notes
 pub mod Leaving
 pub mod Reopening
 pub mod Closing
+pub mod Listing
 -- what a handle owns
 pub mod Owning

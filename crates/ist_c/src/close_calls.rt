@@ -1,10 +1,9 @@
-//! The exports that close a tree, open the next one, and list what is left.
+//! The exports that close a tree, and open the next one.
 ghost use Rattle.std.specs.Prelude.{◌≡◌, ◌≤◌, true};
 ghost use Rattle.ist_core.specs.RowLayout.{place_limit};
 ghost use Rattle.ist_c.specs.Closing.{Leaves, Closes, Opens, Reopens};
 
 use crate::closed_trees::ClosedTree;
-use crate::entries::{Entry, write_entries};
 use crate::handles::Handle;
 use crate::held::Held;
 use crate::results::{BUSY, DONE, MEMORY, MISUSE};
@@ -118,40 +117,6 @@ pub extern "C" fn ist_reopen(alloc: Global, owner: &mut Handle, words: u32) -> u
         Some(mut held) => {
             let status = reopen_in(alloc, &mut held, words);
             *owner = Handle::of(held);
-            status
-        }
-        None => MISUSE,
-    }
-}
-
-// Writes the pairs from this number on.
-fn list_in(held: &Held, from: u64, room: &mut [Entry], count: &mut u64) -> u32 {
-    match held {
-        Held::Left(left) => {
-            *count = left.pairs.len() as u64;
-            if from < left.pairs.len() as u64 {
-                write_entries(&left.pairs[from as usize..], room);
-            }
-            DONE
-        }
-        _ => MISUSE,
-    }
-}
-
-/// Writes the pairs of a closed tree from this number on, as many as there is room for, and how many there
-/// are in all.
-#[unsafe(no_mangle)]
-pub extern "C" fn ist_list(
-    alloc: Global,
-    closed: &mut Handle,
-    from: u64,
-    room: &mut [Entry],
-    count: &mut u64,
-) -> u32 {
-    match closed.open(alloc) {
-        Some(held) => {
-            let status = list_in(&held, from, room, count);
-            *closed = Handle::of(held);
             status
         }
         None => MISUSE,

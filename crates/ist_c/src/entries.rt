@@ -1,7 +1,7 @@
 //! The pairs that a caller in C passes in, and that it gets.
 ghost use Rattle.std.specs.Prelude.{◌≡◌, IfOk};
 ghost use Rattle.plain_map.specs.Rising.{IsRising};
-ghost use Rattle.ist_c.specs.Entries.{Wrote};
+ghost use Rattle.ist_c.specs.Entries.{Wrote, pairs_given, written};
 
 use crate::results::{DONE, NO_KEY};
 use ist_core::{Command, Pair};
@@ -20,6 +20,7 @@ pub struct Entry {
 /// Fails only if memory runs out.
 pub fn pairs_of_entries(alloc: Global, entries: &[Entry]) -> Result<Vec<Pair>, AllocError>
     ensures rising { IfOk result (λ pairs. IsRising pairs.items) }
+    ensures given { IfOk result (λ pairs. pairs.items ≡ pairs_given entries.now) }
 {
     let mut map = Plain::new(alloc);
     for entry in entries {
@@ -48,9 +49,12 @@ pub fn write_pair(pair: Option<Pair>, entry: &mut Entry) -> u32
 }
 
 /// Writes as many of the pairs as there is room for.
-pub fn write_entries(pairs: &[Pair], room: &mut [Entry]) {
-    for (entry, pair) in room.iter_mut().zip(pairs.iter()) {
-        *entry = Entry {
+pub fn write_entries(pairs: &[Pair], room: &mut [Entry])
+    ensures written { room.new ≡ written pairs.now room.old }
+{
+    for at in 0..pairs.len().min(room.len()) {
+        let pair = pairs[at];
+        room[at] = Entry {
             key: pair.key,
             value: pair.value,
         };

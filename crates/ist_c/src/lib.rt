@@ -11,6 +11,7 @@ mod handles;
 mod held;
 mod if_calls;
 mod key_calls;
+mod left_calls;
 mod next_calls;
 mod note_calls;
 mod opaques;

@@ -44,6 +44,16 @@ pub struct Shortage {
     pub words: u64,
 }
 
+/// What is left of a closed tree: how many keys have values, how many words it had, and how many of these
+/// were used.
+#[repr(C)]
+#[derive(Clone, Copy, Drop)]
+pub struct Stats {
+    pub keys: u64,
+    pub words: u64,
+    pub used: u64,
+}
+
 /// Returns the result of a call that was made, with this reply.
 pub fn replied(reply: Reply) -> CallResult
     ensures status { result.status ≡ done }

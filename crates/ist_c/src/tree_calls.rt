@@ -1,10 +1,13 @@
 //! The exports that open a tree, make its passes and take them back, and free what a handle holds.
-ghost use Rattle.std.specs.Prelude.{◌≡◌, true, false};
+ghost use Rattle.std.specs.Prelude.{◌≡◌, ◌<◌, ◌≤◌, ◌^◌, true, false};
 ghost use Rattle.plain_map.specs.Rising.{IsRising};
 ghost use Rattle.ist_c.specs.Calls.{MayGiveBack};
 ghost use Rattle.ist_c.specs.Closing.{status_of};
+ghost use Rattle.ist_c.specs.Entries.{pairs_given};
 ghost use Rattle.ist_c.specs.Keeping.{Keeps};
+ghost use Rattle.ist_c.specs.Opening.{AreWordsFor, OpensNew};
 ghost use Rattle.ist_c.specs.Passes.{Makes, TakesBack};
+ghost use Rattle.ist_c.specs.Results.{misuse};
 
 use crate::entries::{Entry, pairs_of_entries};
 use crate::handles::Handle;
@@ -34,7 +37,10 @@ pub(crate) fn keep(alloc: Global, held: Held, out: &mut Handle) -> u32
 
 /// Returns how many words a tree of this many pairs takes at least, or 0 if they are too many.
 #[unsafe(no_mangle)]
-pub extern "C" fn ist_words_for(pairs: u64) -> u64 {
+pub extern "C" fn ist_words_for(pairs: u64) -> u64
+    ensures value { pairs < 2 ^ 32 → AreWordsFor pairs result }
+    ensures none { 2 ^ 32 ≤ pairs → result ≡ 0 }
+{
     if pairs > PAIRS_LIMIT {
         return 0;
     }
@@ -57,6 +63,7 @@ pub(crate) fn status_for(fault: OpenFault) -> u32
 // Makes `out` the owner of a new tree.
 fn open_owner(alloc: Global, words: u32, pairs: &[Pair], out: &mut Handle) -> u32
     requires rising { IsRising pairs.now }
+    ensures opens { OpensNew words pairs.now out.old out.new result }
 {
     if words > WORDS_LIMIT || pairs.len() as u64 > PAIRS_LIMIT {
         return MISUSE;
@@ -69,7 +76,11 @@ fn open_owner(alloc: Global, words: u32, pairs: &[Pair], out: &mut Handle) -> u3
 
 /// Opens a tree of these pairs, with this many words, and makes `out` its owner.
 #[unsafe(no_mangle)]
-pub extern "C" fn ist_open(alloc: Global, words: u32, entries: &[Entry], out: &mut Handle) -> u32 {
+pub extern "C" fn ist_open(alloc: Global, words: u32, entries: &[Entry], out: &mut Handle) -> u32
+    ensures filled { out.old.full ≡ true → (result ≡ misuse) × (out.new ≡ out.old) }
+    ensures opens { out.old.full ≡ false
+        → OpensNew words (pairs_given entries.now) out.old out.new result }
+{
     if out.full {
         return MISUSE;
     }
@@ -157,6 +168,8 @@ pub extern "C" fn ist_give_back(alloc: Global, owner: &mut Handle, pass: &mut Ha
 
 /// Drops what the handle holds, and leaves it empty.
 #[unsafe(no_mangle)]
-pub extern "C" fn ist_free(alloc: Global, handle: &mut Handle) {
+pub extern "C" fn ist_free(alloc: Global, handle: &mut Handle)
+    ensures empty { handle.new.full ≡ false }
+{
     drop(handle.open(alloc));
 }

@@ -1,0 +1,77 @@
+-- What is written of the pairs that are left. Serves `ist_list` and `ist_count`.
+use Rattle.std.proofs.Common.{◌≡◌, ℕ, zero, suc, ◌+◌, ◌-◌, ◌<◌, ◌≤◌, List, [], ◌∷◌, ◌++◌, length, map, take, drop, drop-cons, slice_index_or, slice_set, refl, sym, ap, subst, ◌∙◌, arith}
+use Rattle.std.proofs.lemmas.List.{drop_all, length-drop, take_all}
+use Rattle.ist_core.specs.declared.pairs.Pair.{Pair}
+use Rattle.ist_c.specs.Entries.{entry_of, written}
+use Rattle.ist_c.specs.Listing.{ListsLeft, CountsLeft, lists_left, counts_left}
+use Rattle.ist_c.specs.Results.{done}
+use Rattle.ist_c.specs.declared.closed_trees.LeftPairs.{LeftPairs}
+use Rattle.ist_c.specs.declared.entries.Entry.{Entry}
+use Rattle.ist_c.specs.declared.held.Held.{Held}
+use Rattle.ist_c.specs.declared.held.Held.TheVariants as of
+use Rattle.ist_c.specs.declared.results.Stats.{Stats}
+
+-- ---- entries
+
+-- the room after the first pairs were written
+abbrev pub part : ℕ → List Pair → List Entry → List Entry
+part at pairs room = map entry_of (take at pairs) ++ drop at room
+
+part_next : (pairs : List Pair) (room : List Entry) (at : ℕ) (other : Pair) → at < length pairs
+    → at < length room
+    → slice_set (part at pairs room) at (entry_of (slice_index_or pairs at other)) ≡ part (suc at) pairs room
+part_next [] room at other some within = absurd (omega arith)
+part_next (p ∷ pairs) [] at other some within = absurd (omega arith)
+part_next (p ∷ pairs) (e ∷ room) zero other some within = refl
+part_next (p ∷ pairs) (e ∷ room) (suc at) other some within =
+    ap (λ es. entry_of p ∷ es) (part_next pairs room at other (omega arith) (omega arith))
+
+-- one more pair is written after them
+pub part_more : (pairs : List Pair) (room now : List Entry) (at : ℕ) (other : Pair) → now ≡ part at pairs room
+    → at < length pairs → at < length room
+    → slice_set now at (entry_of (slice_index_or pairs at other)) ≡ part (at + 1) pairs room
+part_more pairs room now at other is some within =
+    let same : suc at ≡ at + 1 = omega arith in
+    let entry : Entry = entry_of (slice_index_or pairs at other) in
+    ap (λ es. slice_set es at entry) is
+    ∙ subst (λ n. slice_set (part at pairs room) at entry ≡ part n pairs room) same
+    (part_next pairs room at other some within)
+
+nothing_written : (room : List Entry) → room ≡ written [] room
+nothing_written [] = refl
+nothing_written (e ∷ room) = refl
+
+-- past the last pair nothing is written
+pub none_written : (pairs : List Pair) (room : List Entry) (from : ℕ) → length pairs ≤ from
+    → room ≡ written (drop from pairs) room
+none_written pairs room from past =
+    nothing_written room ∙ ap (λ ps. written ps room) (sym (drop_all from pairs past))
+
+-- a slice from a number on has all pairs up to the end
+pub rest_written : (given pairs : List Pair) (room : List Entry) (from : ℕ) → given ≡ pairs
+    → written (take (length given - from) (drop from given)) room ≡ written (drop from pairs) room
+rest_written given pairs room from same =
+    let all = take_all (length given - from) (drop from given) (omega (arith, length-drop from given)) in
+    ap (λ ps. written ps room) (all ∙ ap (λ ps. drop from ps) same)
+
+-- ---- by a handle
+
+-- a handle of the pairs that are left lists them
+pub listed_left : (held : Held) (left : LeftPairs) (from count : ℕ) (room after : List Entry) (before : ℕ)
+    → held ≡ of.Left left → count ≡ length left.pairs.items → after ≡ written (drop from left.pairs.items) room
+    → ListsLeft held from done room after before count
+listed_left held left from count room after before is all wrote =
+    subst (λ (h : Held). ListsLeft h from done room after before count) (sym is)
+    (subst (λ es. ListsLeft (of.Left left) from done room es before count) (sym wrote)
+    (subst (λ n. ListsLeft (of.Left left) from done room (written (drop from left.pairs.items) room) before n)
+    (sym all) (lists_left left from room before)))
+
+-- and says how many they are
+pub counted_left : (held : Held) (left : LeftPairs) (count : ℕ) (before : Stats) → held ≡ of.Left left
+    → count ≡ length left.pairs.items
+    → CountsLeft held done before (record { keys = count; words = left.words; used = left.used })
+counted_left held left count before is all =
+    subst (λ (h : Held). CountsLeft h done before (record { keys = count; words = left.words; used = left.used }))
+    (sym is)
+    (subst (λ n. CountsLeft (of.Left left) done before (record { keys = n; words = left.words; used = left.used }))
+    (sym all) (counts_left left before))
