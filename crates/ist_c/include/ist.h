@@ -112,8 +112,8 @@ uint32_t ist_list(ist_owner *closed, uint64_t from, ist_entry *room, size_t room
 /* Writes how many pairs a closed tree left, how many words it had, and how many of these were used. */
 uint32_t ist_count(ist_owner *closed, ist_stats *stats);
 
-/* Drops what a handle of any kind holds, and leaves it empty. The memory of a tree is freed with the last handle of it. A pass that is freed
- * is never back, so its tree can't be closed any more. */
+/* Drops what a handle of any kind holds, and leaves it empty. The memory of a tree is freed with the last handle of it. A pass
+ * that is freed is never back, so its tree can't be closed any more. */
 void ist_free(void *handle);
 
 #ifdef __cplusplus
