@@ -6,24 +6,12 @@
 //!
 //! PUTS of 100 calls are puts (0), the others are finds. Each way has three turns.
 
+#[path = "../tests/common/mod.rs"]
+mod common;
+
+use common::{Draws, mixed};
 use luskadorv::{Map, Pair, Tree, words_for};
 use std::time::Instant;
-
-fn mixed(number: u64) -> u64 {
-    let once = (number ^ (number >> 30)).wrapping_mul(0xbf58_476d_1ce4_e5b9);
-    let twice = (once ^ (once >> 27)).wrapping_mul(0x94d0_49bb_1331_11eb);
-    twice ^ (twice >> 31)
-}
-
-// Numbers that look random and depend on the seed alone (`splitmix64`).
-struct Draws(u64);
-
-impl Draws {
-    fn next(&mut self) -> u64 {
-        self.0 = self.0.wrapping_add(0x9e37_79b9_7f4a_7c15);
-        mixed(self.0)
-    }
-}
 
 struct Plan {
     keys: u64,
@@ -40,7 +28,7 @@ impl Plan {
 
     // Makes the calls, where a put has a value, and prints what one took.
     fn time(&self, name: &str, mut call: impl FnMut(u64, Option<u64>) -> Option<u64>) {
-        let mut draws = Draws(1u64.wrapping_add(Draws(0).next()));
+        let mut draws = Draws::new(1u64.wrapping_add(Draws::new(0).next()));
         let begun = Instant::now();
         for _ in 0..self.calls {
             let (kind, number) = (draws.next() % 100, draws.next() % self.keys);

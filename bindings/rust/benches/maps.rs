@@ -6,25 +6,16 @@
 //! repeats, and the least and the greatest, in millions of calls a second by all threads. Half of the keys are in the map at first.
 //! One tree serves all calls of `Pass`, with the words that they may need; `Map` grows from its first tree of the pairs.
 
+#[path = "../tests/common/mod.rs"]
+mod common;
+
+use common::Draws;
 use luskadorv::{Map, Pair, Tree, words_for};
 use std::collections::BTreeMap;
 use std::hint::black_box;
 use std::sync::{Barrier, RwLock};
 use std::thread::scope;
 use std::time::Instant;
-
-// Numbers that look random and depend on the seed alone (`splitmix64`).
-struct Draws(u64);
-
-impl Draws {
-    fn next(&mut self) -> u64 {
-        self.0 = self.0.wrapping_add(0x9e37_79b9_7f4a_7c15);
-        let mut it = self.0;
-        it = (it ^ (it >> 30)).wrapping_mul(0xbf58_476d_1ce4_e5b9);
-        it = (it ^ (it >> 27)).wrapping_mul(0x94d0_49bb_1331_11eb);
-        it ^ (it >> 31)
-    }
-}
 
 // How many of 100 calls are puts, and how many are removes; the others are gets.
 #[derive(Clone, Copy)]
@@ -63,7 +54,7 @@ fn time<C: FnMut(Call) -> Option<u64> + Send>(callers: Vec<C>, calls: u64, keys:
             .map(|(number, mut caller)| {
                 let barrier = &barrier;
                 scope.spawn(move || {
-                    let mut draws = Draws(number as u64);
+                    let mut draws = Draws::new(number as u64);
                     barrier.wait();
                     let begun = Instant::now();
                     for _ in 0..calls {

@@ -1,4 +1,12 @@
-//! What several tests share: numbers from a seed, and numbers from the environment.
+//! What several tests and benches share: numbers from a seed, and numbers from the environment. Each uses some of it.
+#![allow(dead_code)]
+
+/// A number that looks random and depends on this one alone: the last step of `splitmix64`.
+pub fn mixed(number: u64) -> u64 {
+    let once = (number ^ (number >> 30)).wrapping_mul(0xbf58_476d_1ce4_e5b9);
+    let twice = (once ^ (once >> 27)).wrapping_mul(0x94d0_49bb_1331_11eb);
+    twice ^ (twice >> 31)
+}
 
 /// Numbers that look random and depend on the seed alone (the generator `splitmix64` of Steele, Lea and Flood, 2014).
 pub struct Draws(u64);
@@ -10,10 +18,7 @@ impl Draws {
 
     pub fn next(&mut self) -> u64 {
         self.0 = self.0.wrapping_add(0x9e37_79b9_7f4a_7c15);
-        let mut it = self.0;
-        it = (it ^ (it >> 30)).wrapping_mul(0xbf58_476d_1ce4_e5b9);
-        it = (it ^ (it >> 27)).wrapping_mul(0x94d0_49bb_1331_11eb);
-        it ^ (it >> 31)
+        mixed(self.0)
     }
 
     /// A number below this one, which isn't 0.
