@@ -1,6 +1,6 @@
 -- Which rows are the rows of an ideal subtree: a row first, then the rows of each part. Serves
 -- `ideals.rt`.
-use Rattle.std.proofs.Common.{◌≡◌, ◌≢◌, ◌∙◌, ◌≤◌, ◌+◌, ℕ, zero, suc, List, [], ◌∷◌, ◌++◌}
+use Rattle.std.proofs.Common.{◌≡◌, ◌∙◌, ◌≤◌, ◌+◌, ℕ, zero, suc, List, [], ◌∷◌, ◌++◌}
 use Rattle.std.proofs.Common.{length, take, drop, get_or, Option, Some, None, refl, sym, ap, subst}
 use Rattle.std.proofs.Common.{arith}
 use Rattle.ist_core.specs.declared.lists.Row.{Row}
@@ -147,13 +147,6 @@ module _ (word : ℕ) (leaves : List PlacedLeaf) (above : ℕ) (rows : List Row)
 
         inner : (x y : ℕ) → InnerAt x ≡ InnerAt y → x ≡ y
         inner x y e = cc
-
-    -- if the first row has another base, there is no subtree
-    pub counts_other_base : row.base ≢ base → CountsRows BuildsHere rows None
-    counts_other_base ne used rest is b =
-        let it = many_inverted b.ref leaves above used b.builds two in
-        let first = first_is used rest is b it in
-        ne (ap (λ x. x.base) (sym first.0) ∙ sym first.1)
 
     -- if the first row isn't the top row, there is no subtree
     pub counts_no_top : ((slots : List ℕ) → ¬ (HasTopSlots row leaves above slots))

@@ -12,10 +12,11 @@ use Rattle.ist_core.specs.Snapshots.{Snapshot}
 use Rattle.ist_core.specs.Logs.{Log, Happened, Draws}
 use Rattle.ist_core.specs.Rebuilding.{IsFinishedWith}
 use Rattle.ist_core.specs.Building.{CanDraw}
+use Rattle.ist_core.proofs.DrawLemmas.{same_rebuild}
 use Rattle.check_fairness.specs.Answers.{FindsGreatest}
 use Rattle.check_events.specs.declared.replicas.Replica.{Replica}
 use Rattle.check_events.specs.Mirroring.{Mirrors}
-use Rattle.check_events.proofs.MirrorLemmas.{one_rebuild, rebuild_stands}
+use Rattle.check_events.proofs.MirrorLemmas.{rebuild_stands}
 
 -- if nothing has P, everything with P is below the limit
 pub none_below : (P : ℕ → Type 0) (limit : ℕ) → FindsGreatest P None
@@ -40,7 +41,7 @@ module _ (s : Replica) (t : Snapshot) (log : Log) (caller rebuild part : ℕ) (r
 
   -- the row of a draw is the published one
   same_row : (h : CanDraw t log caller rebuild part) → h.row ≡ r
-  same_row h = one_rebuild (t.pieces rebuild) h.row r h.published e
+  same_row h = same_rebuild (t.pieces rebuild) h.row r h.published e
 
   target_finished : (h : CanDraw t log caller rebuild part) → IsFinishedWith t r.target h.k
   target_finished h = subst (λ x. IsFinishedWith t x.target h.k) (same_row h) h.finished

@@ -12,7 +12,8 @@ use Rattle.ist_core.specs.Leaves.{PlacedLeaf, HasLeaves}
 use Rattle.ist_core.specs.Rebuilding.{IsStarted, IsFinishedWith}
 use Rattle.ist_core.specs.Building.{IsRoot, root_whole, root_top, CanRoot}
 use Rattle.ist_core.proofs.LeafLemmas.{same_leaves}
-use Rattle.check_events.proofs.MirrorLemmas.{one_inner, one_rebuild}
+use Rattle.ist_core.proofs.SlotLemmas.{same_inner}
+use Rattle.ist_core.proofs.DrawLemmas.{same_rebuild}
 use Rattle.check_builds.specs.Standing.{HeldAreFree}
 use Rattle.check_builds.specs.Reading.{Gathers}
 use Rattle.check_builds.specs.Publishing.{MayPublish, HasRootOf}
@@ -121,9 +122,9 @@ module _ (t : Snapshot) (caller : ℕ) (rows : List Row) (publish : MayPublish t
       held = publish.held;
     }),
     (λ c.
-        let same = one_rebuild (t.pieces rebuild) c.row row c.published published in
+        let same = same_rebuild (t.pieces rebuild) c.row row c.published published in
         let target : c.row.target ≡ row.target = ap (λ r. r.target) same in
-        let inner = one_inner (t.pieces row.target) (subst (λ n. IsFinishedWith t n c.k) target
+        let inner = same_inner (t.pieces row.target) (subst (λ n. IsFinishedWith t n c.k) target
         c.finished).row finished.row (subst (λ n. IsFinishedWith t n c.k) target
         c.finished).published finished.published in
         let words : finished_word c.k ≡ finished_word k = sym (subst (λ n. IsFinishedWith t n c.k)
@@ -149,7 +150,7 @@ pub root_unfinished : (t : Snapshot) (caller rebuild word : ℕ) (rows : List Ro
     → t.pieces rebuild ≡ Some (Rebuild row) → ((k : ℕ) → ¬ (IsFinishedWith t row.target k))
     → ¬ (CanRoot t caller rebuild word rows)
 root_unfinished t caller rebuild word rows row published none c =
-    none c.k (subst (λ r. IsFinishedWith t r.target c.k) (one_rebuild (t.pieces rebuild) c.row row
+    none c.k (subst (λ r. IsFinishedWith t r.target c.k) (same_rebuild (t.pieces rebuild) c.row row
     c.published published) c.finished)
 
 -- ---- leaves that were gathered

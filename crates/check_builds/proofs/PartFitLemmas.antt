@@ -12,8 +12,8 @@ use Rattle.ist_core.specs.Leaves.{PlacedLeaf, HasLeaves}
 use Rattle.ist_core.specs.Building.{CanPlace}
 use Rattle.ist_core.proofs.LeafLemmas.{same_leaves}
 use Rattle.ist_core.proofs.RisingLemmas.{each_of_cut, part_of_each}
+use Rattle.ist_core.proofs.DrawLemmas.{same_rebuild}
 use Rattle.check_events.specs.Mirroring.{RowHolds}
-use Rattle.check_events.proofs.MirrorLemmas.{one_rebuild}
 use Rattle.check_builds.specs.Standing.{HeldAreFree}
 use Rattle.check_builds.specs.Reading.{Gathers}
 use Rattle.check_builds.specs.Publishing.{MayPublish, HasPart, IsPartOf}
@@ -108,7 +108,7 @@ module _ (t : Snapshot) (caller : ℕ) (rows : List Row) (publish : MayPublish t
           held = publish.held;
         }),
     (λ c.
-        let same = one_rebuild (t.pieces rebuild) c.row row c.published published in
+        let same = same_rebuild (t.pieces rebuild) c.row row c.published published in
         let target : c.row.target ≡ row.target = ap (λ r. r.target) same in
         let base : c.root ≡ root = same_base (ref_of row.root) c.root root
         (subst (λ r. ref_of r.root ≡ Some (InnerAt c.root)) same c.root_is) root_is in
@@ -145,6 +145,6 @@ module _ (t : Snapshot) (caller rebuild i word : ℕ) (rows : List Row) (c : Can
         → ¬ (RowHolds t root i unset_word) → ⊥
     no_free_root root one taken =
         let is = subst (λ r. ref_of r.root ≡ Some (InnerAt c.root))
-        (one_rebuild (t.pieces rebuild) c.row row c.published published) c.root_is in
+        (same_rebuild (t.pieces rebuild) c.row row c.published published) c.root_is in
         taken (subst (λ n. RowHolds t n i unset_word) (one c.root is)
         record { row = c.root_row; published = c.root_published; in_slot = c.free })

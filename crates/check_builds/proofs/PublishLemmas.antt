@@ -41,6 +41,7 @@ use Rattle.ist_core.specs.Ideals.{IsIdeal, AreIdeal, of_none, of_one, of_more, n
 use Rattle.ist_core.proofs.ElementLemmas.{each_append, each-append, each-among}
 use Rattle.ist_core.proofs.RowLemmas.{with_row-same, with_row-other, with_inners-other}
 use Rattle.ist_core.proofs.RisingLemmas.{each_of_cut}
+use Rattle.ist_core.proofs.PublishingLemmas.{row_among}
 use Rattle.check_builds.specs.Standing.{HeldAreFree}
 use Rattle.check_builds.specs.Built.{
   key_of_leaf,
@@ -63,19 +64,12 @@ Stands qs row = qs row.base ≡ inner_of row.words
 abbrev pub LeafStands : Pieces → PlacedLeaf → Type 0
 LeafStands ps leaf = ps leaf.base ≡ Some (Leaf leaf.row)
 
--- a base of some rows is the base of one of them
-pub base_of : (base : ℕ) (rows : List Row) → Among base (bases_of rows)
-    → (row : Row) × Among row rows × (row.base ≡ base)
-base_of base [] i = absurd i
-base_of base (row ∷ rows) (inl e) = (row, inl refl, sym e)
-base_of base (row ∷ rows) (inr i) = let it = base_of base rows i in (it.0, inr it.1, it.2)
-
 -- no row is published where one is held
 pub held_is_free : (t : Snapshot) (caller : ℕ) (rows : List Row) → HoldsRows t caller rows
     → HeldAreFree t
     → (base : ℕ) → Among base (bases_of rows) → t.pieces base ≡ None
 held_is_free t caller rows held free base i =
-    let it = base_of base rows i in
+    let it = row_among base rows i in
     subst (λ b. t.pieces b ≡ None) it.2
     (free record { caller = caller; base = it.0.base; size = length it.0.words }
     (each-among (λ x. HoldsRow t caller x.base (length x.words)) it.0 rows held it.1))

@@ -9,12 +9,13 @@ use Rattle.ist_core.specs.Snapshots.{Snapshot}
 use Rattle.ist_core.specs.Logs.{Log, state}
 use Rattle.ist_core.specs.Links.{WasOnChain}
 use Rattle.ist_core.specs.Deciding.{CanCount}
+use Rattle.ist_core.proofs.FreezingLemmas.{same_change}
 use Rattle.check_fairness.specs.Answers.{Holds}
 use Rattle.check_events.specs.declared.pasts.LastUpdate.{LastUpdate}
 use Rattle.check_events.specs.declared.replicas.Replica.{Replica}
 use Rattle.check_events.specs.Mirroring.{Mirrors}
 use Rattle.check_events.specs.Remembering.{IsUncounted, LacksCount, KnowsUpdates}
-use Rattle.check_events.proofs.MirrorLemmas.{change_stands, no_change, one_change}
+use Rattle.check_events.proofs.MirrorLemmas.{change_stands, no_change}
 
 module _ (first : Snapshot) (log : Log) (caller node : ℕ) where
   -- the part of the condition that is about the log
@@ -50,14 +51,14 @@ module _ (first : Snapshot) (log : Log) (caller node : ℕ) where
           last = u.last;
           uncounted = u.uncounted;
           on_chain = subst (λ c. WasOnChain first log c.node node)
-              (one_change ((state first log).pieces base) change u.update.change e
+              (same_change ((state first log).pieces base) change u.update.change e
               u.update.published) w;
         }),
     (λ h.
         let same = one h.base (count_uncounted h) in
         let there = subst (λ b. (state first log).pieces b ≡ Some (Change h.update.change))
         (sym same) h.update.published in
-        subst (λ c. WasOnChain first log c.node node) (one_change ((state first log).pieces base)
+        subst (λ c. WasOnChain first log c.node node) (same_change ((state first log).pieces base)
         h.update.change change there e) h.on_chain),
   )
 

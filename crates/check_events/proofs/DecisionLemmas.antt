@@ -10,9 +10,10 @@ use Rattle.ist_core.specs.Logs.{Log}
 use Rattle.ist_core.specs.Slots.{IsOpen, anchor_is, row_is, SlotHolds, in_anchor, in_row}
 use Rattle.ist_core.specs.References.{ChangeAt, word_of}
 use Rattle.ist_core.specs.Deciding.{MayBe, CanOkay, CanDecide, CanResolve}
+use Rattle.ist_core.proofs.SlotLemmas.{same_inner}
+use Rattle.ist_core.proofs.FreezingLemmas.{same_change}
 use Rattle.check_events.specs.Mirroring.{RowHolds}
 use Rattle.check_fairness.proofs.AnswerLemmas.{is_equal}
-use Rattle.check_events.proofs.MirrorLemmas.{one_inner, one_change}
 
 -- a node other than the anchor is open exactly if its row is
 pub open_row : (t : Snapshot) (node : ℕ) (r : InnerRow) → node ≢ anchor
@@ -23,7 +24,7 @@ open_row t node r far e = ((λ y. row_is r e (is_equal r.status 0 y)), back)
     back : IsOpen t node → IsTrue (nat_eq r.status 0)
     back (anchor_is i) = absurd (far i)
     back (row_is s i k) =
-        let same : s ≡ r = one_inner (t.pieces node) s r i e in
+        let same : s ≡ r = same_inner (t.pieces node) s r i e in
         eq-eqb r.status 0 (subst (λ x. x.status ≡ 0) same k)
 
 -- a slot is the anchor's, or one of an inner row
@@ -54,7 +55,7 @@ module _ (t : Snapshot) (caller base : ℕ) (change : ChangeRow) (e : t.pieces b
       pending = record { published = e; unset = u };
       node_open = o;
     }),
-    (λ h. subst (λ x. IsOpen t x.node) (one_change (t.pieces base) h.change change
+    (λ h. subst (λ x. IsOpen t x.node) (same_change (t.pieces base) h.change change
         h.pending.published e) h.node_open),
   )
 
@@ -68,7 +69,7 @@ module _ (t : Snapshot) (caller base : ℕ) (change : ChangeRow) (e : t.pieces b
       pending = record { published = e; unset = u };
       outcome = o;
     }),
-    (λ h. subst (λ x. MayBe t log base x said) (one_change (t.pieces base) h.change change
+    (λ h. subst (λ x. MayBe t log base x said) (same_change (t.pieces base) h.change change
         h.pending.published e) h.outcome),
   )
 
@@ -78,5 +79,5 @@ module _ (t : Snapshot) (caller base : ℕ) (change : ChangeRow) (e : t.pieces b
   resolve_is u = (
     (λ o. record { known = known; change = change; published = e; decided = u; in_slot = o }),
     (λ h. subst (λ x. SlotHolds t x.node x.index (word_of (ChangeAt base)))
-        (one_change (t.pieces base) h.change change h.published e) h.in_slot),
+        (same_change (t.pieces base) h.change change h.published e) h.in_slot),
   )

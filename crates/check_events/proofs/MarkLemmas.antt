@@ -13,9 +13,10 @@ use Rattle.ist_core.specs.Snapshots.{Snapshot}
 use Rattle.ist_core.specs.Logs.{Log}
 use Rattle.ist_core.specs.Rebuilding.{IsFinishedWith}
 use Rattle.ist_core.specs.Marking.{IsCalled, CanMark, CountsFor, no_key, one_key, of_child, of_target, ArePassed, past_end, one_passed}
+use Rattle.ist_core.proofs.SlotLemmas.{same_inner}
+use Rattle.ist_core.proofs.DrawLemmas.{same_rebuild}
 use Rattle.check_events.specs.Passing.{PassCounts, TargetFinishedWith}
 use Rattle.check_events.specs.Remembering.{KnowsPasses, pair_key}
-use Rattle.check_events.proofs.MirrorLemmas.{one_inner, one_rebuild}
 use Rattle.ist_layout.specs.declared.references.Ref as layout
 use Rattle.ist_layout.specs.Meanings.{ref_meant}
 use Rattle.check_fairness.specs.Answers.{FindsOne}
@@ -35,7 +36,7 @@ pub finished_is : (t : Snapshot) (node k : ℕ) (r : InnerRow) → t.pieces node
     → (r.status ≡ finished_word k) ↔ IsFinishedWith t node k
 finished_is t node k r e = (
   (λ s. record { row = r; published = e; status = s }),
-  (λ h. subst (λ x. x.status ≡ finished_word k) (one_inner (t.pieces node) h.row r h.published e)
+  (λ h. subst (λ x. x.status ≡ finished_word k) (same_inner (t.pieces node) h.row r h.published e)
       h.status),
 )
 
@@ -50,7 +51,7 @@ target_is t rebuild k r e = (
     finished = f;
   }),
   (λ h.
-      let same : h.of.row ≡ r = one_rebuild (t.pieces rebuild) h.of.row r h.of.published e in
+      let same : h.of.row ≡ r = same_rebuild (t.pieces rebuild) h.of.row r h.of.published e in
       subst (λ n. IsFinishedWith t n k) (sym h.of.target_is ∙ ap (λ x. x.target) same) h.finished),
 )
 

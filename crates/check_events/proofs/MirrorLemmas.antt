@@ -67,18 +67,3 @@ module _ (s : Replica) (t : Snapshot) (base : ℕ) (h : Mirrors s t) where
   pub no_change : tree.get nat_cmp s.changes base ≡ None → (r : ChangeRow)
       → ¬ (t.pieces base ≡ Some (Change r))
   no_change e r i = let k = sym e ∙ h.changes base ∙ ap as_change i in cc
-
--- one row lies at a base
-pub one_inner : (o : Option Piece) (r s : InnerRow) → o ≡ Some (Inner r) → o ≡ Some (Inner s) → r
-    ≡ s
-one_inner o r s e i = let k : Some (Inner r) ≡ Some (Inner s) = sym e ∙ i in cc
-
--- a base has one change
-pub one_change : (o : Option Piece) (r s : ChangeRow) → o ≡ Some (Change r) → o ≡ Some (Change s)
-    → r ≡ s
-one_change o r s e i = let k : Some (Change r) ≡ Some (Change s) = sym e ∙ i in cc
-
--- a base has one rebuild
-pub one_rebuild : (o : Option Piece) (r s : RebuildRow) → o ≡ Some (Rebuild r)
-    → o ≡ Some (Rebuild s) → r ≡ s
-one_rebuild o r s e i = let k : Some (Rebuild r) ≡ Some (Rebuild s) = sym e ∙ i in cc

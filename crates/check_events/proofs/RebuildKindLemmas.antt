@@ -14,8 +14,9 @@ use Rattle.ist_core.specs.Slots.{SlotHolds, in_anchor, in_row}
 use Rattle.ist_core.specs.Rebuilding.{IsStarted, IsBuilt}
 use Rattle.ist_core.specs.Installing.{Starts, Finishes, new_rebuild}
 use Rattle.ist_core.proofs.ReferenceLemmas.{word_of-ref_of}
+use Rattle.ist_core.proofs.SlotLemmas.{same_inner}
+use Rattle.ist_core.proofs.DrawLemmas.{same_rebuild}
 use Rattle.check_events.specs.Kinds.{MayBeRebuilt, IsFinishOf}
-use Rattle.check_events.proofs.MirrorLemmas.{one_inner, one_rebuild}
 use Rattle.check_events.proofs.KindLemmas.{one_target, one_renewal}
 
 module _ (t : Snapshot) (change : ChangeRow) (fresh : List Row) where
@@ -103,7 +104,7 @@ module _ (t : Snapshot) (change : ChangeRow) (fresh : List Row) where
           sym root;
       built = b;
     }),
-    (λ h. subst (λ x. IsBuilt t x.root) (one_rebuild (t.pieces rebuild) h.row r h.published e)
+    (λ h. subst (λ x. IsBuilt t x.root) (same_rebuild (t.pieces rebuild) h.row r h.published e)
         h.built),
   )
 
@@ -130,7 +131,7 @@ module _ (t : Snapshot) (root base : ℕ) (e : ref_of root ≡ Some (InnerAt bas
       → Among word r.slots
   row_slots r p i word (in_anchor a b c) = absurd (no_anchor a)
   row_slots r p i word (in_row s q g) = get_among r.slots i word
-      (subst (λ x. slice_get x.slots i ≡ Some word) (one_inner (t.pieces base) s r q p) g)
+      (subst (λ x. slice_get x.slots i ≡ Some word) (same_inner (t.pieces base) s r q p) g)
 
   -- a root is built exactly if no slot of its row is Unset
   pub built_is : (r : InnerRow) → t.pieces base ≡ Some (Inner r) → root ≢ unset_word

@@ -16,11 +16,11 @@ use Rattle.ist_core.specs.Slots.{SlotHolds, in_anchor, in_row, IsChildFor, of_an
 use Rattle.ist_core.specs.Links.{IsChild, Linked, at_anchor, below, Chain, no_row, one_row, Leads}
 use Rattle.ist_core.specs.Links.{from_anchor, down, WasLinked, WasOnChain, WasLedTo}
 use Rattle.ist_core.proofs.ElementLemmas.{among-append, among_left, among_right}
+use Rattle.ist_core.proofs.SlotLemmas.{same_inner}
 use Rattle.check_events.specs.declared.pasts.Slot.{Slot}
 use Rattle.check_events.specs.Mirroring.{HasChildFor}
 use Rattle.check_events.specs.Remembering.{KnowsSlots}
 use Rattle.check_events.specs.Ways.{Climbs, at_top, up, ClimbsBy, here, higher, KeysStay}
-use Rattle.check_events.proofs.MirrorLemmas.{one_inner}
 
 -- ---- moments
 
@@ -124,7 +124,7 @@ module _ (first : Snapshot) (log : Log) (slots : BTreeMap ℕ Slot) (k : KnowsSl
     for_then stay u m p key i word (in_row r e s) (of_anchor a b) = of_anchor a b
     for_then stay u m p key i word (in_row r e s) (of_row q d j) =
         let now = stay p r (at_ever first (λ t. t.pieces p ≡ Some (Inner r)) log u m e) in
-        let same : q ≡ now.0 = one_inner ((state first log).pieces p) q now.0 d now.1 in
+        let same : q ≡ now.0 = same_inner ((state first log).pieces p) q now.0 d now.1 in
         of_row r e (j ∙ ap (λ x. child_count x.keys key) same ∙ ap (λ ks. child_count ks key) now.2)
 
     led_climbs : KeysStay first log → (u : Snapshot) → IsMoment first log u → (key n : ℕ)

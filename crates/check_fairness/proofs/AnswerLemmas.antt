@@ -1,5 +1,5 @@
 -- What a look-up returns, carried from one term for it to another.
-use Rattle.std.proofs.Common.{◌≡◌, ◌↔◌, ℕ, IsTrue, Bool, true, false, not, Option, Some, None, Result, Ok, Err, OnOk, IfOk, [], refl, sym, ap, true≢false, nat_eq, eq-eqb, arith}
+use Rattle.std.proofs.Common.{◌≡◌, ◌↔◌, ℕ, IsTrue, Bool, true, false, not, Option, Some, None, [], refl, sym, ap, true≢false, nat_eq, eq-eqb, arith}
 use Rattle.std.proofs.lemmas.Bool.Decides.{nat_tests}
 use Rattle.std.specs.Ordering.{nat_cmp}
 use Rattle.std.specs.Map.{lookup}
@@ -55,14 +55,3 @@ is_equal x y e = grind (arith, nat_tests)
 -- the test for 0
 pub is_zero : (k : ℕ) → IsTrue (nat_eq k 0) ↔ (k ≡ 0)
 is_zero k = ((λ y. is_equal k 0 y), (λ e. eq-eqb k 0 e))
-
--- what a call that succeeded brought says more
-pub on_ok : {X E : Type 0} (r : Result X E) (P Q : Type 0) → (P → Q) → OnOk r P → OnOk r Q
-on_ok (Ok x) P Q f h = f h
-on_ok (Err e) P Q f h = tt
-
--- what a call's value says, said in other words
-pub if_ok : {X E : Type 0} (r : Result X E) (P Q : X → Type 0) → ((x : X) → P x → Q x) → IfOk r P
-    → IfOk r Q
-if_ok (Ok x) P Q f h = f x h
-if_ok (Err e) P Q f h = tt

@@ -1,7 +1,7 @@
 -- What is left of a building list from a place on, and the lists that begin. Serves `fairness.rt`.
 use Rattle.std.proofs.Common.{◌≡◌, ◌≢◌, ◌↔◌, ◌∙◌, ◌+◌, ◌-◌, ◌<◌, ◌≤◌, ◌⊎◌, Bool, ℕ, zero, suc, List}
-use Rattle.std.proofs.Common.{[], ◌∷◌, ◌++◌, length, get_or, map, take, drop, refl, sym, ap, subst}
-use Rattle.std.proofs.Common.{inl, inr, ⊎_elim, arith, length-drop}
+use Rattle.std.proofs.Common.{[], ◌∷◌, ◌++◌, length, get_or, take, drop, sym, ap, subst}
+use Rattle.std.proofs.Common.{inl, inr, ⊎_elim, arith}
 use Rattle.std.specs.Prelude.{slice_index_or}
 use Rattle.std.proofs.lemmas.List.{take_more, take_all}
 use Rattle.ist_core.specs.Elements.{Among}
@@ -11,42 +11,6 @@ use Rattle.check_fairness.specs.Searching.{Goes, is_full, TakesNext, BeginsOne}
 use Rattle.check_fairness.specs.Readings.{rest_at, BeginsAmong}
 use Rattle.check_fairness.proofs.BehindLemmas.{behind}
 use Rattle.check_fairness.proofs.ReadingLemmas.{on_none, on_other, on_is}
-
-module _ {A : Type 0} (f : A → List ℕ) where
-  -- a list of the slice
-  pub list_at : (xs : List A) (i : ℕ) (x : A) → i < length xs → x ≡ get_or xs i x
-      → slice_index_or (map f xs) i [] ≡ f x
-  list_at [] i x h e = absurd (omega arith)
-  list_at (y ∷ ys) zero x h e = sym (ap f e)
-  list_at (y ∷ ys) (suc i) x h e = list_at ys i x (omega arith) e
-
-  -- there is no list past the end
-  pub list_past : (xs : List A) (i : ℕ) → length xs ≤ i → slice_index_or (map f xs) i [] ≡ []
-  list_past [] i h = refl
-  list_past (y ∷ ys) zero h = absurd (omega arith)
-  list_past (y ∷ ys) (suc i) h = list_past ys i (omega arith)
-
-drop_none : (n : ℕ) → drop {A = ℕ} n [] ≡ []
-drop_none zero = refl
-drop_none (suc n) = refl
-
-drop_past : (n : ℕ) (xs : List ℕ) → length xs ≤ n → drop n xs ≡ []
-drop_past n [] h = drop_none n
-drop_past zero (x ∷ xs) h = absurd (omega arith)
-drop_past (suc n) (x ∷ xs) h = drop_past n xs (omega arith)
-
-module _ {A : Type 0} (f : A → List ℕ) (xs : List A) where
-  -- nothing is left of a list that isn't there, nor past the end of one
-  pub rest_none : (i n : ℕ) → length xs ≤ i → [] ≡ rest_at (map f xs) i n
-  rest_none i n h = sym (ap (drop n) (list_past f xs i h) ∙ drop_none n)
-
-  -- what is left of a list is its elements from the place on
-  pub rest_is : (i n : ℕ) (x : A) → i < length xs → x ≡ get_or xs i x
-      → take (length (f x) - n) (drop n (f x)) ≡ rest_at (map f xs) i n
-  rest_is i n x h e =
-      let left = length-drop n (f x) in
-      take_all (length (f x) - n) (drop n (f x)) (omega arith)
-      ∙ sym (ap (drop n) (list_at f xs i x h e))
 
 -- after the first of what is left
 pub rest_behind : (lists : List (List ℕ)) (i n : ℕ) (left : List ℕ) → left ≡ rest_at lists i n

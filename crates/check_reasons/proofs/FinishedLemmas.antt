@@ -8,10 +8,11 @@ use Rattle.ist_core.specs.Pieces.{Rebuild}
 use Rattle.ist_core.specs.Snapshots.{Snapshot}
 use Rattle.ist_core.specs.Rebuilding.{IsFinishedWith}
 use Rattle.ist_core.specs.Shapes.{share_from, share_from_is}
+use Rattle.ist_core.proofs.DrawLemmas.{same_rebuild}
 use Rattle.check_fairness.specs.Answers.{FindsOne}
 use Rattle.check_events.specs.declared.replicas.Replica.{Replica}
 use Rattle.check_events.specs.Mirroring.{Mirrors}
-use Rattle.check_events.proofs.MirrorLemmas.{rebuild_stands, one_rebuild}
+use Rattle.check_events.proofs.MirrorLemmas.{rebuild_stands}
 use Rattle.check_reasons.specs.Published.{HasRebuild, IsFinishedSo}
 
 -- the code's number of keys from which a root is shared is the definition's
@@ -42,7 +43,7 @@ module _ (s : Replica) (t : Snapshot) (base : ℕ) (row : RebuildRow) (mirrors :
   -- with what a rebuild's target is finished, this one's is
   finished : (it : HasRebuild t base (λ r. IsFinishedSo t r P)) → IsFinishedWith t row.target it.says.0
   finished it = subst (λ r. IsFinishedWith t r.target it.says.0)
-      (one_rebuild (t.pieces base) it.row row it.published stands) it.says.1
+      (same_rebuild (t.pieces base) it.row row it.published stands) it.says.1
 
   -- if its target isn't finished, no number of keys is asked about
   pub unfinished : ((k : ℕ) → ¬ (IsFinishedWith t row.target k))

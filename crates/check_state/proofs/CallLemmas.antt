@@ -39,9 +39,9 @@ use Rattle.ist_core.specs.Lawful.{Lawful, EachEnabled, CanOpen, state_of}
 use Rattle.ist_core.proofs.GrowingLemmas.{rebuild_there}
 use Rattle.ist_core.proofs.NamingLemmas.{SlotNames, SideNames, IsRebuildFor, slot_grows}
 use Rattle.ist_core.proofs.OrderLemmas.{names}
+use Rattle.ist_core.proofs.DrawLemmas.{same_rebuild}
 use Rattle.check_fairness.specs.Answers.{Holds}
 use Rattle.check_events.specs.Remembering.{KnowsCalls}
-use Rattle.check_events.proofs.MirrorLemmas.{one_rebuild}
 use Rattle.check_state.specs.Remembered.{StartsRebuild}
 use Rattle.check_state.specs.Calls.{StartCalls, WordCalls, names_row, names_rebuild}
 use Rattle.check_state.proofs.TableLemmas.{no_pass}
@@ -62,7 +62,7 @@ module _ (t u : Snapshot) (grows : AllGrow t.pieces u.pieces) (rebuild node : �
       → HasTarget u rebuild node → HasTarget t rebuild node
   target_before here it =
       let on = rebuild_there t.pieces u.pieces grows rebuild here.row here.published in
-      let same = one_rebuild (u.pieces rebuild) it.row on.0 it.published on.1 in
+      let same = same_rebuild (u.pieces rebuild) it.row on.0 it.published on.1 in
       record {
         row = here.row;
         published = here.published;

@@ -6,7 +6,7 @@ use Rattle.ist_core.specs.Statuses.{start_kind}
 use Rattle.ist_core.specs.Pieces.{Change}
 use Rattle.ist_core.specs.Snapshots.{Snapshot}
 use Rattle.ist_core.specs.Marking.{HasTarget}
-use Rattle.check_events.proofs.MirrorLemmas.{one_change}
+use Rattle.ist_core.proofs.FreezingLemmas.{same_change}
 use Rattle.check_events.specs.Passing.{TargetFinishedWith}
 use Rattle.check_state.specs.Remembered.{StartsFinished}
 use Rattle.check_state.specs.Calls.{StartCalls, WordCalls, names_row, names_rebuild}
@@ -30,7 +30,7 @@ start_calls t base rebuild node row e kind to = (
     of = of;
   }),
   (λ k.
-      let same = one_change (t.pieces base) k.starts.change row k.starts.published e in
+      let same = same_change (t.pieces base) k.starts.change row k.starts.published e in
       let reads : Some (RebuildAt k.rebuild) ≡ Some (RebuildAt rebuild) =
       sym k.starts.to ∙ ap (λ r. ref_of r.to) same ∙ to in
       let is : k.rebuild ≡ rebuild = cc in
@@ -49,7 +49,7 @@ start_finished t base rebuild k row e kind to = (
     finished = of;
   }),
   (λ f.
-      let same = one_change (t.pieces base) f.starts.change row f.starts.published e in
+      let same = same_change (t.pieces base) f.starts.change row f.starts.published e in
       let reads : Some (RebuildAt f.rebuild) ≡ Some (RebuildAt rebuild) =
       sym f.starts.to ∙ ap (λ r. ref_of r.to) same ∙ to in
       let is : f.rebuild ≡ rebuild = cc in

@@ -31,9 +31,9 @@ use Rattle.ist_core.specs.Pieces.{Change}
 use Rattle.ist_core.specs.Snapshots.{Snapshot}
 use Rattle.ist_core.specs.Rebuilding.{IsUpdate}
 use Rattle.ist_core.specs.Deciding.{IsUpdateOf}
+use Rattle.ist_core.proofs.FreezingLemmas.{same_change}
 use Rattle.check_fairness.specs.Answers.{Holds}
 use Rattle.check_events.specs.declared.pasts.LastUpdate.{LastUpdate}
-use Rattle.check_events.proofs.MirrorLemmas.{one_change}
 use Rattle.check_state.specs.Entries.{BeginsAt, Renews, CountsIn}
 use Rattle.check_state.proofs.TableLemmas.{updated_here, updated_other}
 
@@ -72,7 +72,7 @@ module _ (t : Snapshot) (change : ℕ) (row : ChangeRow) (e : t.pieces change �
     -- a published change is an update of its owner only
     owner_is : (caller : ℕ) → IsUpdateOf t caller change → caller ≡ row.owner
     owner_is caller it =
-        sym it.owned ∙ ap (λ r. r.owner) (one_change (t.pieces change) it.change row it.published e)
+        sym it.owned ∙ ap (λ r. r.owner) (same_change (t.pieces change) it.change row it.published e)
 
     -- if a new entry is put under the owner of a put or remove, the entries are as a yes makes them
     pub renewed : (old new : BTreeMap ℕ LastUpdate) (last : LastUpdate) → IsUpdate row.kind

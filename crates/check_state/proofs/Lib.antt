@@ -30,4 +30,3 @@ pub mod WayTableLemmas
 pub mod WayToRowLemmas
 pub mod WaitingLemmas
 pub mod KeptLeavesLemmas
-mod LargeTableLemmas

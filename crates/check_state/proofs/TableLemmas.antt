@@ -265,11 +265,6 @@ module _ (m n : BTreeMap ℕ ℕ) (log : Log) (caller node index word : ℕ) (kn
 
 -- ---- outcomes
 
--- what follows from a clause on success is so on success
-pub on_success : {X E A B : Type 0} (r : Result X E) → (A → B) → OnOk r A → OnOk r B
-on_success (Ok x) f h = f h
-on_success (Err e) f h = h
-
 -- what is so of the value of a look-up says more
 pub if_some : {X : Type 0} {P Q : X → Type 0} (o : Option X) → ((x : X) → P x → Q x) → IfSome o P
     → IfSome o Q

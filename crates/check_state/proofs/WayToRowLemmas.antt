@@ -17,11 +17,11 @@ use Rattle.ist_core.specs.Links.{WasLinked, WasLedTo, WasOnChain}
 use Rattle.ist_core.specs.Lawful.{Lawful, state_of}
 use Rattle.ist_core.proofs.KeyLemmas.{keys_rising}
 use Rattle.ist_core.proofs.LeafOrderLemmas.{next_from_rising}
+use Rattle.ist_core.proofs.SlotLemmas.{same_inner}
 use Rattle.check_events.specs.declared.pasts.Slot.{Slot}
 use Rattle.check_events.specs.declared.pasts.Way.{Way}
 use Rattle.check_events.specs.Remembering.{KnowsSlots, IsWay}
 use Rattle.check_events.specs.Ways.{Climbs, at_top, up, here, higher, KeysStay}
-use Rattle.check_events.proofs.MirrorLemmas.{one_inner}
 use Rattle.check_events.proofs.WayLemmas.{linked_in, linked_out, climbs_is, comes_is}
 use Rattle.check_events.proofs.ClimbLemmas.{climbs_on, comes_low, comes_high, comes_via}
 use Rattle.check_state.specs.Hanging.{HasSlot}
@@ -150,7 +150,7 @@ module _ (first : Snapshot) (log : Log) (slots : BTreeMap ℕ Slot) (k : KnowsSl
       child_at : (key : ℕ) → IsChildFor (state first log) node key index → index ≡ child_count r.keys key
       child_at key (of_anchor a b) = absurd (far a)
       child_at key (of_row q p i) =
-          let same : q ≡ r = one_inner ((state first log).pieces node) q r p published in
+          let same : q ≡ r = same_inner ((state first log).pieces node) q r p published in
           i ∙ ap (λ x. child_count x.keys key) same
 
 -- after a lawful log the keys of an inner row are strictly increasing

@@ -28,8 +28,8 @@ use Rattle.ist_core.specs.Growing.{AllGrow}
 use Rattle.ist_core.specs.Rebuilding.{IsUpdate}
 use Rattle.ist_core.specs.Deciding.{IsUpdateOf, SaysYes}
 use Rattle.ist_core.proofs.GrowingLemmas.{change_there}
+use Rattle.ist_core.proofs.FreezingLemmas.{same_change}
 use Rattle.check_events.specs.Remembering.{IsUncounted}
-use Rattle.check_events.proofs.MirrorLemmas.{one_change}
 
 -- ---- logs
 
@@ -68,7 +68,7 @@ module _ (t u : Snapshot) (grows : AllGrow t.pieces u.pieces) (caller base : ℕ
   pub update_before : ChangeHere t.pieces base → IsUpdateOf u caller base → IsUpdateOf t caller base
   update_before here it =
       let on = change_there t.pieces u.pieces grows base here.0 here.1 in
-      let same = one_change (u.pieces base) it.change on.0 it.published on.1 in
+      let same = same_change (u.pieces base) it.change on.0 it.published on.1 in
       record {
         change = here.0;
         published = here.1;

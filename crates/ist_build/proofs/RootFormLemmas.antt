@@ -22,12 +22,11 @@ use Rattle.ist_core.specs.Slots.{in_row}
 use Rattle.ist_core.specs.Snapshots.{Snapshot, bases_of}
 use Rattle.ist_core.specs.StartLayout.{start}
 use Rattle.ist_core.proofs.FateLemmas.{grow_between}
-use Rattle.ist_core.proofs.GrowingLemmas.{inner_there}
+use Rattle.ist_core.proofs.GrowingLemmas.{inner_there, get_alike}
 use Rattle.ist_core.proofs.NamingStepLemmas.{changed_at-fixed}
 use Rattle.ist_core.proofs.PlaceLemmas.{anchor_free}
 use Rattle.ist_core.proofs.SlotLemmas.{slot_once}
 use Rattle.laws_links.proofs.QuietLemmas.{start_quiet}
-use Rattle.laws_stability.proofs.SlotWordLemmas.{get_alike}
 use Rattle.laws_links.proofs.ComesLemmas.{rebuild_comes}
 use Rattle.laws_links.proofs.FormLemmas.{finished_with_grows}
 use Rattle.laws_links.proofs.OriginLemmas.{RebuildComes, rebuild_was, is_begun, is_rooted, is_drawn}

@@ -1,5 +1,5 @@
 -- Elements of lists. Serves each law about held rows, logs or leaves.
-use Rattle.std.proofs.Common.{◌≡◌, ◌⊎◌, Bool, true, false, if◌then◌else◌, List, [], ◌∷◌, ◌++◌, filter, refl, sym, subst, inl, inr, ⊎_elim}
+use Rattle.std.proofs.Common.{◌≡◌, ◌⊎◌, ℕ, suc, ◌<◌, Bool, true, false, if◌then◌else◌, List, [], ◌∷◌, ◌++◌, length, map, get_or, filter, refl, sym, subst, inl, inr, ⊎_elim, arith}
 use Rattle.ist_core.specs.Elements.{Among, Each}
 
 module _ {A : Type 0} where
@@ -65,3 +65,16 @@ module _ {A : Type 0} where
           clash : test y ≡ true → test y ≡ false → ⊥
           clash p q = cc
       at again false f (inr i) = again i e
+
+-- lists in which f sees the same at each place are the same to f
+pub map_same : {X Y : Type 0} (f : X → Y) (xs ys : List X) → length ys ≡ length xs
+    → ((k : ℕ) (d : X) → k < length xs → f (get_or ys k d) ≡ f (get_or xs k d))
+    → map f ys ≡ map f xs
+map_same f [] [] long same = refl
+map_same f [] (y ∷ ys) long same = absurd (omega arith)
+map_same f (x ∷ xs) [] long same = absurd (omega arith)
+map_same f (x ∷ xs) (y ∷ ys) long same =
+    let head : f y ≡ f x = same 0 x (omega arith) in
+    let rest : map f ys ≡ map f xs
+    = map_same f xs ys (omega arith) (λ k d h. same (suc k) d (omega arith)) in
+    cc

@@ -24,7 +24,7 @@ use Rattle.ist_core.proofs.PieceLemmas.{among-pieces_of}
 use Rattle.ist_core.proofs.MoveLemmas.{HeldLieApart}
 use Rattle.ist_core.proofs.SoundLemmas.{sound}
 use Rattle.ist_core.proofs.StartLemmas.{sound_start}
-use Rattle.ist_core.proofs.GrowingLemmas.{inner_there, rebuild_there}
+use Rattle.ist_core.proofs.GrowingLemmas.{inner_there, rebuild_there, get_alike}
 use Rattle.ist_core.proofs.StepLemmas.{grow_step}
 use Rattle.ist_core.proofs.SlotLemmas.{same_inner}
 use Rattle.ist_core.proofs.ShapedLemmas.{each-flat_map}
@@ -152,14 +152,6 @@ passed_grows t u event log node i g h = record {
       (ref_of h.word) h.keys h.counts;
 }
 
--- a list of the same length has an element at each index at which the other has one
-get_alike : (xs ys : List ℕ) (i x : ℕ) → length xs ≡ length ys → slice_get xs i ≡ Some x
-    → (y : ℕ) × (slice_get ys i ≡ Some y)
-get_alike [] ys i x e at = absurd (cc)
-get_alike (a ∷ xs) [] i x e at = absurd (omega arith)
-get_alike (a ∷ xs) (b ∷ ys) zero x e at = (b, refl)
-get_alike (a ∷ xs) (b ∷ ys) (suc i) x e at = get_alike xs ys i x (omega arith) at
-
 -- no row of a new table is finished
 start_untouched : (fuel base : ℕ) (pairs : List Pair)
     → Each (λ row. status_in row.1 ≡ 0) (rows_within fuel base pairs)
@@ -214,5 +206,5 @@ module _ (pairs : List Pair) (words : ℕ) (opens : CanOpen pairs words) where
           let same = same_inner ((state_of pairs words (event ∷ log)).pieces node) it.0 r it.1 e in
           let long : length r.slots ≡ length s.slots = ap (λ x. length x.slots) (sym same) ∙
           it.2.slots in
-          let old = get_alike r.slots s.slots i word long at in
+          let old = get_alike r.slots s.slots i word (sym long) at in
           found old.0 old.1

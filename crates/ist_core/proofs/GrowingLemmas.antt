@@ -1,15 +1,18 @@
 -- What each write makes of a row. Serves `laws.rows_grow`.
-use Rattle.std.proofs.Common.{◌≡◌, ℕ, ◌==◌, Bool, true, false, if◌then◌else◌, Some, option_map, refl, sym, ap, ◌∙◌, subst, arith, le_refl}
+use Rattle.std.proofs.Common.{◌≡◌, ℕ, zero, suc, ◌==◌, Bool, true, false, if◌then◌else◌, List, [], ◌∷◌, length, slice_get, Some, option_map, refl, sym, ap, ◌∙◌, subst, arith, le_refl}
 use Rattle.std.proofs.lemmas.List.{length-set}
 use Rattle.std.proofs.lemmas.Bool.Decides.{nat_tests}
 use Rattle.ist_core.specs.declared.states.LeafRow.{LeafRow}
 use Rattle.ist_core.specs.declared.states.InnerRow.{InnerRow}
 use Rattle.ist_core.specs.declared.states.ChangeRow.{ChangeRow}
 use Rattle.ist_core.specs.declared.states.RebuildRow.{RebuildRow}
+use Rattle.ist_core.specs.Arithmetic.{child_count}
 use Rattle.ist_core.specs.References.{unset_word}
 use Rattle.ist_core.specs.Statuses.{undecided}
 use Rattle.ist_core.specs.Pieces.{Pieces, Piece, Leaf, Inner, Change, Rebuild, changed_at, with_slot, with_status, counted, with_decision, with_root, drawn}
 use Rattle.ist_core.specs.Growing.{StatusGoesOn, status_stays, is_marked, is_finished, is_closed, InnerGrows, ChangeGrows, RebuildGrows, Grows, leaf_stays, inner_grows, change_grows, rebuild_grows, AllGrow}
+use Rattle.ist_core.specs.Snapshots.{Snapshot}
+use Rattle.ist_core.specs.Slots.{SlotHolds, in_anchor, in_row, IsChildFor, of_anchor, of_row}
 
 -- ---- growing is an order
 
@@ -222,3 +225,30 @@ rebuild_there ps qs g base r e = at (g base (Rebuild r) e).0 (g base (Rebuild r)
     at : (q : Piece) → qs base ≡ Some q → Grows (Rebuild r) q
         → (s : RebuildRow) × (qs base ≡ Some (Rebuild s)) × RebuildGrows r s
     at _ i (rebuild_grows {new = s} h) = (s, i, h)
+
+-- ---- slots and children
+
+-- a list of the same length has an element at each index at which the other has one
+pub get_alike : (xs ys : List ℕ) (i x : ℕ) → length ys ≡ length xs → slice_get xs i ≡ Some x
+    → (y : ℕ) × (slice_get ys i ≡ Some y)
+get_alike [] ys i x e at = absurd (cc)
+get_alike (a ∷ xs) [] i x e at = absurd (omega arith)
+get_alike (a ∷ xs) (b ∷ ys) zero x e at = (b, refl)
+get_alike (a ∷ xs) (b ∷ ys) (suc i) x e at = get_alike xs ys i x (omega arith) at
+
+-- a slot is still one when all rows have grown, possibly with another word
+pub slot_remains : (t u : Snapshot) → AllGrow t.pieces u.pieces → (node i word : ℕ)
+    → SlotHolds t node i word → (w : ℕ) × SlotHolds u node i w
+slot_remains t u g node i word (in_anchor a b e) = (u.anchor, in_anchor a b refl)
+slot_remains t u g node i word (in_row r e at) =
+    let it = inner_there t.pieces u.pieces g node r e in
+    let w = get_alike r.slots it.0.slots i word it.2.slots at in
+    (w.0, in_row it.0 it.1 w.1)
+
+-- the child for a key is still the same when all rows have grown
+pub child_remains : (t u : Snapshot) → AllGrow t.pieces u.pieces → (node key i : ℕ)
+    → IsChildFor t node key i → IsChildFor u node key i
+child_remains t u g node key i (of_anchor a b) = of_anchor a b
+child_remains t u g node key i (of_row r e f) =
+    let it = inner_there t.pieces u.pieces g node r e in
+    of_row it.0 it.1 (f ∙ ap (λ keys. child_count keys key) (sym it.2.keys))

@@ -1,74 +1,34 @@
 -- What an Install asks of the log holds after each longer one. Serves `install`.
-use Rattle.std.proofs.Common.{◌≡◌, ◌≢◌, ℕ, List, length, Some, refl, sym, ap, ◌∙◌, subst, inl, inr, ⊎_elim, arith}
+use Rattle.std.proofs.Common.{◌≡◌, ℕ, List, length, Some, refl, sym, ap, ◌∙◌, subst, inl, inr, ⊎_elim, arith}
 use Rattle.ist_core.specs.declared.pairs.Pair.{Pair}
 use Rattle.ist_core.specs.declared.lists.Row.{Row}
 use Rattle.ist_core.specs.declared.states.InnerRow.{InnerRow}
 use Rattle.ist_core.specs.declared.states.ChangeRow.{ChangeRow}
-use Rattle.ist_core.specs.Arithmetic.{limit, child_count}
+use Rattle.ist_core.specs.Arithmetic.{limit}
 use Rattle.ist_core.specs.References.{ref_of, InnerAt}
 use Rattle.ist_core.specs.Pieces.{Inner, Rebuild}
 use Rattle.ist_core.specs.Snapshots.{Snapshot}
 use Rattle.ist_core.specs.StartLayout.{start}
 use Rattle.ist_core.specs.Growing.{AllGrow}
-use Rattle.ist_core.specs.Logs.{Log, GoesOn, same_log, one_event, Ever}
-use Rattle.ist_core.specs.Slots.{SlotHolds, in_anchor, in_row, IsChildFor, of_anchor, of_row}
+use Rattle.ist_core.specs.Logs.{Log, GoesOn}
+use Rattle.ist_core.specs.Slots.{SlotHolds, in_anchor, in_row}
 use Rattle.ist_core.specs.Links.{Leads}
-use Rattle.ist_core.specs.Rebuilding.{IsDue, IsStarted, IsBuilt}
-use Rattle.ist_core.specs.Installing.{IsLeafOf, HasRoomFor, nothing, same_key, ComesByKey, FitsKind, a_put, a_pair, a_remove, a_start, a_finish}
+use Rattle.ist_core.specs.Rebuilding.{IsDue, IsBuilt}
+use Rattle.ist_core.specs.Installing.{ComesByKey, FitsKind, a_put, a_pair, a_remove, a_start, a_finish}
 use Rattle.ist_core.specs.Lawful.{EachEnabled, CanOpen, state_of}
-use Rattle.ist_core.proofs.GrowingLemmas.{leaf_there, inner_there, change_there, rebuild_there}
+use Rattle.ist_core.proofs.GrowingLemmas.{inner_there, rebuild_there, child_remains}
 use Rattle.ist_core.proofs.FateLemmas.{grow_between, enabled_before}
 use Rattle.ist_core.proofs.ImageLemmas.{get_below}
 use Rattle.ist_core.proofs.SlotLemmas.{same_inner}
 use Rattle.ist_core.proofs.NamingLemmas.{RootNames}
 use Rattle.ist_core.proofs.OrderLemmas.{names}
 use Rattle.ist_core.specs.declared.states.RebuildRow.{RebuildRow}
+use Rattle.ist_core.proofs.PrefixLemmas.{ever_later}
+use Rattle.laws_links.proofs.FormLemmas.{leaf_of_grows, room_grows, started_grows}
 use Rattle.ist_dcss.proofs.SlotPlaceLemmas.{word_in}
 use Rattle.ist_dcss.proofs.SetSlotLemmas.{set_later}
 
--- what was once true was once true
-pub ever_later : (first : Snapshot) (P : Snapshot → Type 0) (a b : Log) → GoesOn a b
-    → Ever first P a → Ever first P b
-ever_later first P a _ same_log e = e
-ever_later first P a _ (one_event {log = log} event g) e = inr (ever_later first P a log g e)
-
 module _ (t u : Snapshot) (g : AllGrow t.pieces u.pieces) where
-  -- a leaf of a key stays one
-  leaf_later : (base key : ℕ) → IsLeafOf t base key → IsLeafOf u base key
-  leaf_later base key l =
-      record {
-        row = l.row;
-        published = leaf_there t.pieces u.pieces g base l.row l.published;
-        key_is = l.key_is;
-      }
-
-  -- a word that leaves room for a key does still
-  room_later : (key word : ℕ) → HasRoomFor t key word → HasRoomFor u key word
-  room_later key word (nothing e) = nothing e
-  room_later key word (same_key leaf e l) = same_key leaf e (leaf_later leaf key l)
-
-  -- the child for a key stays
-  child_later : (node key i : ℕ) → IsChildFor t node key i → IsChildFor u node key i
-  child_later node key i (of_anchor e f) = of_anchor e f
-  child_later node key i (of_row r e f) =
-      let on = inner_there t.pieces u.pieces g node r e in
-      of_row on.0 on.1 (f ∙ ap (λ ks. child_count ks key) (sym on.2.keys))
-
-  -- a started rebuild is started
-  started_later : (rebuild : ℕ) → IsStarted t rebuild → IsStarted u rebuild
-  started_later rebuild s =
-      let on = change_there t.pieces u.pieces g s.base s.change s.published in
-      let set : s.change.decision ≢ 0 =
-      λ e. let one : ◌≡◌ {A = ℕ} 1 0 = sym s.decision ∙ e in omega arith in
-      record {
-        base = s.base;
-        change = on.0;
-        published = on.1;
-        kind = ap (λ r. r.kind) on.2.others ∙ s.kind;
-        decision = on.2.decided set ∙ s.decision;
-        to = ap (λ r. ref_of r.to) on.2.others ∙ s.to;
-      }
-
   -- a row that is due is due
   due_later : (node : ℕ) (r : InnerRow) → t.pieces node ≡ Some (Inner r) → IsDue r
       → (s : InnerRow) × (u.pieces node ≡ Some (Inner s)) × IsDue s
@@ -93,8 +53,8 @@ module _ (pairs : List Pair) (words : ℕ) (opens : CanOpen pairs words) (old lo
       → ComesByKey (start pairs words) log change
   comes_later change c =
       record {
-        led = ever_later (start pairs words) (λ t. Leads t change.key change.node) old log on c.led;
-        index = child_later t u grow change.node change.key change.index c.index;
+        led = ever_later (start pairs words) (λ t. Leads t change.key change.node) on c.led;
+        index = child_remains t u grow change.node change.key change.index c.index;
       }
 
   -- a built root is built
@@ -138,7 +98,7 @@ module _ (pairs : List Pair) (words : ℕ) (opens : CanOpen pairs words) (old lo
         kind = h.kind;
         by_key = comes_later change h.by_key;
         from =
-            room_later t u grow change.key change.from h.from;
+            room_grows t u grow change.key change.from h.from;
         leaf = h.leaf;
         to = h.to;
         fresh_are =
@@ -152,7 +112,7 @@ module _ (pairs : List Pair) (words : ℕ) (opens : CanOpen pairs words) (old lo
         other_key = h.other_key;
         from = h.from;
         stands =
-            leaf_later t u grow h.other h.other_key h.stands;
+            leaf_of_grows t u grow h.other h.other_key h.stands;
         differs = h.differs;
         pair = h.pair;
         leaf = h.leaf;
@@ -167,7 +127,7 @@ module _ (pairs : List Pair) (words : ℕ) (opens : CanOpen pairs words) (old lo
         leaf = h.leaf;
         from =
             h.from;
-        stands = leaf_later t u grow h.leaf change.key h.stands;
+        stands = leaf_of_grows t u grow h.leaf change.key h.stands;
         to = h.to;
         value =
             h.value;
@@ -218,7 +178,7 @@ module _ (pairs : List Pair) (words : ℕ) (opens : CanOpen pairs words) (old lo
             it.0;
         from = h.from;
         published = it.1;
-        started = started_later t u grow h.rebuild h.started;
+        started = started_grows t u grow h.rebuild h.started;
         parent = it.2.parent ∙ h.parent;
         index = it.2.index ∙ h.index;
         to = h.to ∙ sym root;

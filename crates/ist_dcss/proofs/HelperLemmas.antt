@@ -1,6 +1,6 @@
 -- An installed change stays installed, and who might help it may help it, as callers go on. Serves
 -- `helping`.
-use Rattle.std.proofs.Common.{◌≡◌, ℕ, Some, ◌∙◌}
+use Rattle.std.proofs.Common.{◌≡◌, ℕ, Some}
 use Rattle.ist_core.specs.declared.events.Event.{Event}
 use Rattle.ist_core.specs.declared.events.Event.TheVariants.{Enter, Reserve, Install, Okay, Decide, Resolve, Count, Mark, Pass, Finish, Root, Draw, Place, Lose}
 use Rattle.ist_core.specs.declared.states.ChangeRow.{ChangeRow}
@@ -10,9 +10,9 @@ use Rattle.ist_core.proofs.GrowingLemmas.{change_there}
 use Rattle.ist_rule.specs.declared.view.View.{View}
 use Rattle.ist_rule.specs.Learning.{now}
 use Rattle.ist_rule.specs.Going.{WentOn}
-use Rattle.ist_rule.proofs.WentOnLemmas.{went_who, went_grow}
+use Rattle.ist_rule.proofs.WentOnLemmas.{went_grow}
 use Rattle.ist_rows.specs.CallerLaws.{KeepsRows}
-use Rattle.ist_dcss.specs.Helping.{MayHelp, Serves}
+use Rattle.ist_dcss.specs.Helping.{Serves}
 
 -- an installed change is installed still
 pub went_row : (P : Event → Type 0) (change : ℕ) (v w : View) → WentOn P v w → (row : ChangeRow)
@@ -20,18 +20,6 @@ pub went_row : (P : Event → Type 0) (change : ℕ) (v w : View) → WentOn P v
     → (r : ChangeRow) × ((now w).pieces change ≡ Some (Change r)) × ChangeGrows row r
 went_row P change v w h row e =
     change_there (now v).pieces (now w).pieces (went_grow P v w h) change row e
-
--- who might help may help
-pub may_help_on : (P : Event → Type 0) (change : ℕ) (v w : View) → WentOn P v w → MayHelp v change
-    → MayHelp w change
-may_help_on P change v w h m =
-    let on = went_row P change v w h m.row m.installed in
-    record {
-      number = m.number;
-      mine = went_who P v w h ∙ m.mine;
-      row = on.0;
-      installed = on.1;
-    }
 
 -- no step of help changes what its caller holds
 pub serves_keep : (change : ℕ) (event : Event) → Serves change event → KeepsRows event

@@ -20,7 +20,7 @@ use Rattle.ist_core.specs.Lawful.{EachEnabled, state_of}
 use Rattle.ist_core.specs.Writing.{place_of_slot, first_change}
 use Rattle.ist_core.proofs.SoundLemmas.{sound}
 use Rattle.ist_core.proofs.StartLemmas.{sound_start}
-use Rattle.ist_core.proofs.GrowingLemmas.{change_there}
+use Rattle.ist_core.proofs.GrowingLemmas.{change_there, slot_remains}
 use Rattle.ist_core.proofs.FateLemmas.{grow_between}
 use Rattle.ist_core.proofs.RoomLemmas.{next_within, words_same}
 use Rattle.ist_rule.specs.declared.view.View.{View}
@@ -28,6 +28,7 @@ use Rattle.ist_rule.specs.declared.view.Loads.{Loads}
 use Rattle.ist_core.specs.declared.events.Who.TheVariants.{Caller}
 use Rattle.ist_core.specs.Authors.{no_more, one_more, whose, Later}
 use Rattle.ist_core.specs.Shown.{IsShown}
+use Rattle.ist_core.proofs.PrefixLemmas.{ever_later}
 use Rattle.ist_rule.specs.Rule.{IsSound, own_at}
 use Rattle.ist_rule.specs.Learning.{now, GoesOnTo, Looked}
 use Rattle.ist_rule.specs.Conditions.{MayCome, MayInstall, CanExchange}
@@ -42,8 +43,8 @@ use Rattle.ist_rule.proofs.CallLemmas.{between_later, resolved_later}
 use Rattle.ist_dcss.specs.Installing.{Filling, rows_of, IsInstallable}
 use Rattle.ist_dcss.specs.Naming.{HasFilled, IsSlot}
 use Rattle.ist_rule.proofs.WentOnLemmas.{goes_on_now, goes_on_lawful, goes_on_grow}
-use Rattle.ist_dcss.proofs.SlotPlaceLemmas.{slot_later, slot_shown, shown_in_slot, slot_place_later}
-use Rattle.ist_dcss.proofs.FitsLemmas.{ever_later, fits_later}
+use Rattle.ist_dcss.proofs.SlotPlaceLemmas.{slot_shown, shown_in_slot, slot_place_later}
+use Rattle.ist_dcss.proofs.FitsLemmas.{fits_later}
 
 -- ---- rows that a caller has filled
 
@@ -99,7 +100,7 @@ filled v base f m =
 pub slot_on : (v w : View) → GoesOnTo v w → (node i word : ℕ) → SlotHolds (now v) node i word
     → IsSlot w node i
 slot_on v w g node i word s =
-    let it = slot_later (now v) (now w) (goes_on_grow v w g) node i word s
+    let it = slot_remains (now v) (now w) (goes_on_grow v w g) node i word s
     in
     record { word = it.0; holds = it.1 }
 
@@ -207,7 +208,7 @@ module _ (v : View) (base : ℕ) (f : Filling) (m : IsInstallable v base f) (sv 
   slot_there : (log : Log) → MayCome w log
       → (word : ℕ) × SlotHolds (state_of v.start v.words log) f.change.node f.change.index word
   slot_there log c =
-      slot_later (now v) (state_of v.start v.words log)
+      slot_remains (now v) (state_of v.start v.words log)
       (grow_between v.start v.words v.log log c.lawful.enabled
       (later-goes_on (later_all log c.later))) f.change.node f.change.index m.word m.slot
 
@@ -262,8 +263,7 @@ module _ (v : View) (base : ℕ) (f : Filling) (m : IsInstallable v base f) (sv 
                 unset = m.unset;
                 in_slot = subst (SlotHolds u f.change.node f.change.index) (sym same ∙ old_is)
                     slot.1;
-                linked = ever_later (start v.start v.words) (λ t. Linked t f.change.node) v.log log
-                    on m.linked;
+                linked = ever_later (start v.start v.words) (λ t. Linked t f.change.node) on m.linked;
                 unrefused = unrefused_later v.start v.words number f.change.node v.log log
                     sv.lawful.enabled c.lawful.enabled (later_all log c.later) m.allowed.resolved
                     m.unrefused;

@@ -1,7 +1,6 @@
 -- Whether a node is open, as a load of its status says. Serves `is_open` and
 -- `laws.nodes_close_once`.
-use Rattle.std.proofs.Common.{◌≡◌, ℕ, ◌<◌, ◌==◌, true, false, List, Some, refl, sym, ◌∙◌, subst, ⊎_elim, arith}
-use Rattle.std.proofs.lemmas.Bool.Decides.{eqb_tells}
+use Rattle.std.proofs.Common.{◌≡◌, ℕ, ◌<◌, List, refl, sym, ◌∙◌, subst, arith}
 use Rattle.ist_core.specs.declared.pairs.Pair.{Pair}
 use Rattle.ist_core.specs.Lawful.{Lawful, state_of}
 use Rattle.ist_core.specs.Logs.{Log, GoesOn}
@@ -60,13 +59,6 @@ pub open_shows : (v : View) (node place word : ℕ) (w : View) → Looked v plac
 open_shows v node place word w l at is =
     l.stood open_word
     (subst (λ p. IsShown (now w) p open_word) (sym at) (open_shown w l.sound node is))
-
--- words that a test finds equal are equal
-pub same_words : (a b : ℕ) → (a == b) ≡ true → a ≡ b
-same_words a b e = ⊎_elim (λ k. k.1) (λ k. absurd (clash (sym k.0 ∙ e))) (eqb_tells a b)
-  where
-    clash : false ≡ true → ⊥
-    clash f = cc
 
 -- ---- nodes that aren't open
 

@@ -19,6 +19,7 @@ use Rattle.laws_links.proofs.ResolvedLemmas.{resolved_gone}
 use Rattle.ist_rule.specs.declared.view.View.{View}
 use Rattle.ist_core.specs.declared.events.Who.TheVariants.{Caller}
 use Rattle.ist_core.specs.Shown.{IsShown}
+use Rattle.ist_core.proofs.GrowingLemmas.{slot_remains}
 use Rattle.ist_rule.specs.Rule.{IsSound}
 use Rattle.ist_rule.specs.Learning.{now, Looked, Logged, Exchanged}
 use Rattle.ist_rule.specs.Conditions.{MayCome, CanExchange}
@@ -29,7 +30,7 @@ use Rattle.ist_dcss.specs.Naming.{resolving, IsField, IsSlotOf, outcome_offset_o
 use Rattle.ist_rule.specs.Going.{WentOn}
 use Rattle.ist_rule.proofs.WentOnLemmas.{looked_went, logged_went, later_by-goes_on, went_more, went_who, went_now, went_lawful}
 use Rattle.ist_dcss.proofs.HelperLemmas.{went_row}
-use Rattle.ist_dcss.proofs.SlotPlaceLemmas.{change_slot, slot_later, slot_shown, shown_in_slot, slot_place_later}
+use Rattle.ist_dcss.proofs.SlotPlaceLemmas.{change_slot, slot_shown, shown_in_slot, slot_place_later}
 use Rattle.ist_dcss.proofs.FieldLemmas.{field_now}
 use Rattle.ist_dcss.proofs.DecidedLemmas.{said_set}
 use Rattle.ist_dcss.proofs.DecideLemmas.{row_behind, number_low}
@@ -79,7 +80,7 @@ module _ (v : View) (s : IsSound v) (change number : ℕ) (mine : v.who ≡ Call
       → (word : ℕ) × SlotHolds (state_of v.start v.words log) row.node row.index word
   slot_behind log m =
       let it = change_slot v.start v.words v.log s.lawful.enabled change row installed in
-      slot_later (now v) (state_of v.start v.words log)
+      slot_remains (now v) (state_of v.start v.words log)
       (grow_between v.start v.words v.log log m.lawful.enabled (later-goes_on m.later)) row.node
       row.index it.0 it.1
 

@@ -20,8 +20,8 @@ use Rattle.ist_core.proofs.ReferenceLemmas.{ref_of-unset}
 use Rattle.ist_core.proofs.SlotLemmas.{slot_once}
 use Rattle.ist_core.proofs.SlotStepLemmas.{WritesSlot, WritesNoSlot, install_writes, resolve_writes, place_writes, slot_stays}
 use Rattle.ist_core.proofs.FateLemmas.{grow_between}
+use Rattle.ist_core.proofs.GrowingLemmas.{slot_remains}
 use Rattle.laws_links.proofs.InductionLemmas.{changes_by, sound_behind}
-use Rattle.ist_dcss.proofs.SlotPlaceLemmas.{slot_later}
 
 -- a word that is read as something else isn't Unset
 not_unset : (word : ℕ) (ref : Ref) → ref_of word ≡ Some ref → (Some ref ≡ Some Unset → ⊥)
@@ -153,5 +153,5 @@ module _ (pairs : List Pair) (words : ℕ) where
           → ((w : ℕ) × SlotHolds (state_of pairs words a) n j w)
           → (w : ℕ) × SlotHolds (state_of pairs words b) n j w
       slot_there a b goes e n j s =
-          slot_later (state_of pairs words a) (state_of pairs words b)
+          slot_remains (state_of pairs words a) (state_of pairs words b)
           (grow_between pairs words a b e goes) n j s.0 s.1

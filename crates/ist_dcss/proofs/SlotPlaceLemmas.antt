@@ -17,10 +17,10 @@ use Rattle.ist_core.specs.Logs.{Log}
 use Rattle.ist_core.specs.Slots.{SlotHolds, in_anchor, in_row}
 use Rattle.ist_core.specs.Lawful.{EachEnabled, state_of}
 use Rattle.ist_core.specs.Writing.{place_of_slot}
-use Rattle.ist_core.proofs.ImageLemmas.{get_below, get-words_of_slot}
+use Rattle.ist_core.proofs.ImageLemmas.{get-words_of_slot}
 use Rattle.ist_core.proofs.PlaceLemmas.{placed, claimed_within, anchor_free, next_behind_fixed}
 use Rattle.ist_core.proofs.ShapedLemmas.{shaped}
-use Rattle.ist_core.proofs.GrowingLemmas.{inner_there}
+use Rattle.ist_core.proofs.GrowingLemmas.{inner_there, slot_remains}
 use Rattle.laws_links.proofs.InductionLemmas.{changes_by, grow_behind}
 use Rattle.ist_core.specs.Shown.{IsShown, shown_next, shown_callers, shown_status, shown_slot, shown_row, shown_free}
 use Rattle.ist_rule.proofs.WatchLemmas.{shown_in_row, place_inner}
@@ -28,17 +28,6 @@ use Rattle.ist_rule.proofs.WatchLemmas.{shown_in_row, place_inner}
 -- each place of a list has a word
 pub word_in : (xs : List ℕ) (k : ℕ) → k < length xs → (word : ℕ) × (slice_get xs k ≡ Some word)
 word_in xs k low = (get_or xs k 0, slice_get-get_or xs k 0 low)
-
--- a slot is still a slot if rows grow
-pub slot_later : (t u : Snapshot) → AllGrow t.pieces u.pieces → (node i word : ℕ)
-    → SlotHolds t node i word → (w : ℕ) × SlotHolds u node i w
-slot_later t u g node i word (in_anchor e f is) = (u.anchor, in_anchor e f refl)
-slot_later t u g node i word (in_row r e at) =
-    let on = inner_there t.pieces u.pieces g node r e in
-    let less = get_below r.slots i word at in
-    let same = on.2.slots in
-    let got = word_in on.0.slots i (omega arith) in
-    (got.0, in_row on.0 on.1 got.1)
 
 -- each change has a slot
 pub change_slot : (pairs : List Pair) (words : ℕ) (log : Log) → EachEnabled (start pairs words) log
@@ -59,7 +48,7 @@ change_slot pairs words =
         → (word : ℕ) × SlotHolds (state_of pairs words log) node i word
         → (word : ℕ) × SlotHolds (state_of pairs words (event ∷ log)) node i word
     on log event h node i was =
-        slot_later (state_of pairs words log) (state_of pairs words (event ∷ log))
+        slot_remains (state_of pairs words log) (state_of pairs words (event ∷ log))
         (grow_behind pairs words log event h) node i was.0 was.1
 
 module _ (pairs : List Pair) (words : ℕ) (log : Log) (enabled : EachEnabled (start pairs words) log)

@@ -1,15 +1,16 @@
 -- A search from its begin to its end, as it knows it. Serves `find_from_anchor`.
-use Rattle.std.proofs.Common.{◌≡◌, ℕ, suc, ◌-◌, ◌≤◌, List, [], ◌∷◌, drop, length, Option, refl, sym, ap, ◌∙◌, subst, arith}
+use Rattle.std.proofs.Common.{◌≡◌, ℕ, ◌-◌, List, [], length, Option, sym, ap, ◌∙◌, subst, arith}
 use Rattle.std.proofs.Math.Nat.{le_trans}
 use Rattle.ist_core.specs.declared.pairs.Pair.{Pair}
 use Rattle.ist_core.specs.RowLayout.{anchor}
 use Rattle.ist_core.specs.References.{Ref}
 use Rattle.ist_core.specs.StartLayout.{start}
-use Rattle.ist_core.specs.Logs.{Log, GoesOn, same_log, one_event}
+use Rattle.ist_core.specs.Logs.{Log, GoesOn}
 use Rattle.ist_core.specs.Slots.{IsChildFor}
 use Rattle.ist_core.specs.Links.{WasLinked}
 use Rattle.ist_core.specs.Writing.{place_of_slot}
 use Rattle.ist_core.specs.Lawful.{state_of}
+use Rattle.ist_core.proofs.GrowingLemmas.{child_remains}
 use Rattle.ist_core.proofs.FateLemmas.{grow_between}
 use Rattle.ist_rule.specs.declared.view.View.{View}
 use Rattle.ist_rule.specs.Rule.{IsSound}
@@ -22,8 +23,7 @@ use Rattle.laws_histories.specs.Searching.{LooksAt, ComesTo, HasPosition}
 use Rattle.laws_walks.specs.Walking.{begins_by}
 use Rattle.laws_walks.proofs.WalkLemmas.{meeting_comes}
 use Rattle.laws_histories.proofs.ChangeLemmas.{changes_rise}
-use Rattle.laws_histories.proofs.LoadOnLemmas.{at_on, at_prefix, load_on, come_on, side_on, target_on}
-use Rattle.laws_histories.proofs.LedLemmas.{child_stays}
+use Rattle.laws_histories.proofs.LoadOnLemmas.{at_on, at_prefix, load_on, come_on, side_on, target_on, at_same}
 use Rattle.laws_histories.proofs.PositionLemmas.{search_position, node_met}
 use Rattle.ist_find.specs.Searches.{HasSearched, HasFound, HasCome}
 use Rattle.ist_find.specs.Reads.{HasLooked, TellsValue}
@@ -65,22 +65,13 @@ has_searched v b w t g =
 
 -- ---- the end
 
--- a log that goes on keeps at each length what it was
-pub log_stays : (log longer : Log) → GoesOn log longer → (n : ℕ) → n ≤ length log
-    → log_at longer n ≡ log_at log n
-log_stays log _ same_log n h = refl
-log_stays log _ (one_event {log = rest} event g) n h =
-    let low = goes_on_length g in
-    let more : suc (length rest) - n ≡ suc (length rest - n) = omega arith in
-    ap (λ k. drop k (event ∷ rest)) more ∙ log_stays log rest g n h
-
 module _ (pairs : List Pair) (words : ℕ) (log longer : Log) (g : GoesOn log longer) where
   -- a look is one in a longer log too, at the same slot
   pub look_later : (key least last node i : ℕ) (ref : Ref)
       → (x : LooksAt pairs words log key least last node ref) → x.index ≡ i
       → (y : LooksAt pairs words longer key least last node ref) × (y.index ≡ i)
   look_later key least last node i ref x e =
-      let same = sym (log_stays log longer g x.slot.length x.is_load.within) in (
+      let same = sym (at_same log longer g x.slot.length x.is_load.within) in (
         record {
           slot = x.slot;
           index = x.index;
@@ -157,6 +148,6 @@ found_child w s key node i value f =
     let look = f.searched.look in
     let at = log_at w.log look.slot.length in
     subst (IsChildFor (now w) node key) f.index_is
-    (child_stays (state_of w.start w.words at) (now w)
+    (child_remains (state_of w.start w.words at) (now w)
     (grow_between w.start w.words at w.log s.lawful.enabled (at_on w.log look.slot.length)) node
     key look.index look.index_is)

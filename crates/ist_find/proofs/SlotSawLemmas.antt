@@ -24,7 +24,7 @@ use Rattle.laws_histories.specs.Loads.{log_at}
 use Rattle.laws_histories.specs.Searching.{ReadsSide}
 use Rattle.laws_histories.specs.Telling.{map_now}
 use Rattle.laws_histories.proofs.ChangeLemmas.{on_trans}
-use Rattle.laws_histories.proofs.LoadOnLemmas.{at_on, at_prefix, side_on}
+use Rattle.laws_histories.proofs.LoadOnLemmas.{at_on, at_prefix, side_on, at_same}
 use Rattle.laws_histories.proofs.ReadLemmas.{ReadsAs}
 use Rattle.laws_histories.proofs.SearchLemmas.{leads_linked, leads_there, there_on}
 use Rattle.ist_rule.specs.declared.view.View.{View}
@@ -40,7 +40,6 @@ use Rattle.ist_find.proofs.LookLemmas.{slot_later}
 use Rattle.ist_find.proofs.LoadLemmas.{by_table, goes_log, goes_length}
 use Rattle.ist_find.proofs.RowLemmas.{keys_are}
 use Rattle.ist_find.proofs.SlotEndLemmas.{no_keys}
-use Rattle.ist_find.proofs.SearchLemmas.{log_stays}
 use Rattle.ist_find.proofs.SpanLemmas.{child_on}
 use Rattle.ist_find.proofs.SweepLemmas.{child_back, leads_later, saw_since, value_then, had_at}
 
@@ -200,7 +199,7 @@ saw_pair w x g floor first last low high node ref from some to h pair own tells 
         let s = g.sound.lawful in
         value_then x.start x.words s.opens x.log s.enabled h.at k h.load node h.index ref
         (pair_value pair k)
-        (subst (GoesOn h.at) (sym (log_stays w.log x.log (goes_log w x g) h.load h.within)) h.until)
+        (subst (GoesOn h.at) (sym (at_same w.log x.log (goes_log w x g) h.load h.within)) h.until)
         (by_table w x g (λ p n. Leads (state_of p n h.at) k node)
         (h.led k (le_trans from least) (le_trans up to)))
         (by_table w x g (λ p n. IsChildFor (state_of p n h.at) node k h.index) (h.for k least up))

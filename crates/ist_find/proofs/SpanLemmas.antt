@@ -12,6 +12,7 @@ use Rattle.ist_core.specs.Pieces.{Inner}
 use Rattle.ist_core.specs.Slots.{IsChildFor, of_anchor, of_row}
 use Rattle.ist_core.proofs.RisingLemmas.{child_count_tells}
 use Rattle.ist_core.proofs.ShownLemmas.{fixed_row}
+use Rattle.ist_core.proofs.GrowingLemmas.{child_remains}
 use Rattle.ist_math.proofs.ChildLemmas.{child_count_is}
 use Rattle.ist_rule.specs.declared.view.View.{View}
 use Rattle.ist_rule.specs.Rule.{IsSound}
@@ -24,7 +25,6 @@ use Rattle.ist_find.specs.Reads.{HasLooked, IsFoundAs, TellsValue, loaded_in}
 use Rattle.ist_find.specs.Spans.{pair_value, AllCome, AllLooked, LooksFewOver, HasFewSpanLoads}
 use Rattle.ist_find.proofs.LoadLemmas.{by_table, goes_log, goes_length, looked_load, load_later}
 use Rattle.laws_walks.proofs.WalkLemmas.{met_chain}
-use Rattle.laws_histories.proofs.LedLemmas.{child_stays}
 use Rattle.ist_rule.proofs.WentOnLemmas.{goes_on_grow}
 use Rattle.ist_find.proofs.CostLemmas.{rows_met, cost_on, cost_more}
 use Rattle.ist_find.proofs.LookLemmas.{comes_later, look_comes}
@@ -231,7 +231,7 @@ node_later v w g node (is_inner r e) =
 -- the child for a key stays the same
 pub child_on : (v w : View) → GoesOnTo v w → (node key i : ℕ) → IsChildFor (now v) node key i
     → IsChildFor (now w) node key i
-child_on v w g node key i h = child_stays (now v) (now w) (goes_on_grow v w g) node key i h
+child_on v w g node key i h = child_remains (now v) (now w) (goes_on_grow v w g) node key i h
 
 -- what a slot may read as it may still read as
 pub found_on : (v w : View) → GoesOnTo v w → (ref : Ref) → IsFoundAs v ref → IsFoundAs w ref

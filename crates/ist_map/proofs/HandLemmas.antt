@@ -8,8 +8,8 @@ use Rattle.ist_core.specs.Replies.{Answered}
 use Rattle.ist_core.specs.Resting.{told_by_call}
 use Rattle.ist_tree.specs.Faces.{MakerFace}
 use Rattle.ist_tree.specs.Closing.{calls_taken, calls_from}
+use Rattle.ist_tree.proofs.NumberLemmas.{calls_in_order}
 use Rattle.ist_map.specs.Hands.{HaveWorked}
-use Rattle.ist_map.proofs.NumberLemmas.{calls_in_order}
 
 -- a maker that took back all of its passes, in the order of their numbers, has their calls in it
 pub taken_in_order : (m : MakerFace) (passes : List PassCalls) → m.made ≡ length passes
@@ -22,19 +22,6 @@ taken_in_order m passes many taken numbers =
 -- ---- lists of workers
 
 module _ {H : Type 0} where
-  -- lists in which f sees the same at each place are the same to f
-  pub map_same : {Y : Type 0} (f : H → Y) (xs ys : List H) → length ys ≡ length xs
-      → ((k : ℕ) (d : H) → k < length xs → f (slice_index_or ys k d) ≡ f (slice_index_or xs k d))
-      → map f ys ≡ map f xs
-  map_same f [] [] long same = refl
-  map_same f [] (y ∷ ys) long same = absurd (omega arith)
-  map_same f (x ∷ xs) [] long same = absurd (omega arith)
-  map_same f (x ∷ xs) (y ∷ ys) long same =
-      let head : f y ≡ f x = same 0 x (omega arith) in
-      let rest : map f ys ≡ map f xs
-      = map_same f xs ys (omega arith) (λ k d h. same (suc k) d (omega arith)) in
-      cc
-
   -- what f sees of what g sees
   map_map : {Y Z : Type 0} (f : Y → Z) (g : H → Y) (xs : List H)
       → map f (map g xs) ≡ map (λ x. f (g x)) xs

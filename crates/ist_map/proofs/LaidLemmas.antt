@@ -94,10 +94,6 @@ module _ (number : ℕ) where
   shift_high first count (call ∷ calls) high =
       (let low = high.0 in omega arith, shift_high first count calls high.1)
 
-  -- the heads and the tails of equal lists of entries are equal
-  entry_head : (x y : Entry) (xs ys : List Entry) → x ∷ xs ≡ y ∷ ys → x ≡ y
-  entry_head x y xs ys e = cc
-
   entry_tail : (x y : Entry) (xs ys : List Entry) → x ∷ xs ≡ y ∷ ys → xs ≡ ys
   entry_tail x y xs ys e = cc
 

@@ -1,11 +1,8 @@
 -- Commands with their replies, and with one reply more. Serves `Script`.
-use Rattle.std.proofs.Common.{◌≡◌, ◌∙◌, ℕ, ◌<◌, List, [], ◌∷◌, ◌++◌, length, map, Option, slice_index_or, refl, sym, ap, arith}
-use Rattle.std.proofs.lemmas.List.{map_push, append_assoc}
+use Rattle.std.proofs.Common.{◌≡◌, ◌∙◌, ℕ, ◌<◌, List, [], ◌∷◌, ◌++◌, length, Option, slice_index_or, refl, sym, ap, arith}
+use Rattle.std.proofs.lemmas.List.{append_assoc}
 use Rattle.ist_core.specs.declared.commands.Command.{Command}
 use Rattle.ist_core.specs.Replies.{Answered, told}
-use Rattle.ist_core.specs.Resting.{told_by_call}
-use Rattle.ist_tree.specs.Faces.{PassFace}
-use Rattle.ist_tree.specs.Calls.{AddsCall}
 use Rattle.ist_map.specs.Scripts.{told_in}
 
 -- one reply more is one answered command more
@@ -35,13 +32,3 @@ told_more commands replies after reply command before old new items low is was a
     ∙ ap (λ ts. ts ++ told command reply ∷ []) was
     ∙ append_assoc before old (told command reply ∷ [])
     ∙ ap (λ ts. before ++ ts) (sym added)
-
--- a call that was added is told last
-pub added_told : (p q : PassFace) (command : Command) (reply : Option ℕ) → AddsCall p q command reply
-    → map told_by_call q.calls ≡ map told_by_call p.calls ++ told command reply ∷ []
-added_told p q command reply a =
-    ap (map told_by_call) a.calls_are ∙ map_push told_by_call p.calls a.call
-    ∙ ap (λ t. map told_by_call p.calls ++ t ∷ []) same
-  where
-    same : told_by_call a.call ≡ told command reply
-    same = ap (λ c. told c a.call.reply) a.command_is ∙ ap (told command) a.reply_is

@@ -5,7 +5,7 @@ use Rattle.ist_core.specs.References.{Empty, Unset, LeafAt, InnerAt, ChangeAt, R
 use Rattle.ist_core.specs.Logs.{Passes}
 use Rattle.ist_core.specs.Marking.{HasTarget, as_child, behind_rebuild, IsFrozen, CountsFor, no_key, one_key}
 use Rattle.ist_core.proofs.NamingLemmas.{SideNames, IsRebuildFor}
-use Rattle.laws_links.proofs.ClosedLemmas.{same_rebuild}
+use Rattle.ist_core.proofs.DrawLemmas.{same_rebuild}
 use Rattle.ist_rule.specs.declared.view.View.{View}
 use Rattle.ist_rule.specs.Rule.{IsSound}
 use Rattle.ist_rule.specs.Learning.{now}

@@ -11,7 +11,7 @@ use Rattle.ist_core.specs.Marking.{HasTarget, CountsFor, no_key, one_key, of_chi
 use Rattle.ist_core.specs.Rebuilding.{IsFinishedWith}
 use Rattle.ist_core.specs.Lawful.{EachEnabled, CanOpen, state_of}
 use Rattle.ist_core.proofs.FrozenLemmas.{passes_agree}
-use Rattle.laws_links.proofs.ClosedLemmas.{same_rebuild}
+use Rattle.ist_core.proofs.DrawLemmas.{same_rebuild}
 use Rattle.laws_rebuilds.proofs.FinishedLeafLemmas.{finished_few}
 use Rattle.laws_coming.proofs.BeatenLemmas.{finished_once}
 use Rattle.ist_mark.specs.Passing.{AreCounted, no_slot_yet, one_slot_more}

@@ -11,7 +11,7 @@ use Rattle.ist_rule.specs.Rule.{IsSound}
 use Rattle.ist_rule.specs.Learning.{now}
 use Rattle.ist_rule.specs.Going.{WentOn}
 use Rattle.ist_rule.proofs.WentOnLemmas.{went_who}
-use Rattle.ist_mark.specs.declared.below.Below.TheVariants.{Keys, Node}
+use Rattle.ist_mark.specs.declared.below.Below.TheVariants.{Node}
 use Rattle.ist_mark.specs.Marking.{MayMark, LeadsTo, to_row, to_target, LiesUnder, the_node, one_lower, Marks}
 use Rattle.ist_mark.specs.Passing.{MayPass, MayGoOn, PassedWith, IsSlotCounted, AreCounted, one_slot_more, MayFinish}
 use Rattle.ist_mark.proofs.CountLemmas.{count_few, counted_few}
@@ -63,10 +63,6 @@ row_counted {P = P} v w g node i child k p f =
       frozen = happened_went P v w g (Passes node i p.word) p.frozen;
       counts = leads_counts (now w) p.word child k (leads_later v w g p.word child p.is.leads) f;
     }
-
--- a slot without a row is counted
-pub keys_counted : (v : View) (node i k : ℕ) → PassedWith v node i (Keys k) → IsSlotCounted v node i k
-keys_counted v node i k p = record { word = p.word; frozen = p.frozen; counts = p.is }
 
 -- ---- all slots
 

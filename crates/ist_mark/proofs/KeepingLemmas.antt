@@ -8,7 +8,6 @@ use Rattle.ist_core.specs.Snapshots.{Snapshot}
 use Rattle.ist_core.specs.Growing.{AllGrow, InnerGrows}
 use Rattle.ist_core.specs.Logs.{Happened, Passes}
 use Rattle.ist_core.specs.Marking.{IsCalled, as_target, as_child, behind_rebuild, CountsFor, no_key, one_key, of_child, of_target}
-use Rattle.ist_core.specs.Rebuilding.{IsFinishedWith}
 use Rattle.ist_core.proofs.GrowingLemmas.{inner_there}
 use Rattle.laws_links.proofs.FinishedLemmas.{target_grows}
 use Rattle.laws_links.proofs.FormLemmas.{finished_with_grows, started_grows}
@@ -83,10 +82,6 @@ module _ (P : Event → Type 0) (v w : View) (g : WentOn P v w) where
         mine = went_who P v w g ∙ m.mine;
         called = called_went node m.called;
       }
-
-  -- a finished node is finished
-  pub finished_went : (node k : ℕ) → IsFinishedWith (now v) node k → IsFinishedWith (now w) node k
-  finished_went node k f = finished_with_grows (now v) (now w) (went_grow P v w g) node k f
 
   -- slots that were counted are counted
   pub counted_went : (node i k : ℕ) → AreCounted (now v) v.log node i k

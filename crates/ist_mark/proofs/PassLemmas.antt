@@ -1,6 +1,7 @@
 -- Passing a slot: what is known after a load of it. Serves `look` and `pass`.
 use Rattle.std.proofs.Common.{◌≡◌, ◌≢◌, ℕ, ◌+◌, ◌*◌, ◌<◌, ◌&&◌, ◌==◌, not, Bool, true, false, if◌then◌else◌, List, length, get_or, Option, Some, None, refl, sym, ap, ◌∙◌, subst, inl, ⊎_elim, length-append, arith}
 use Rattle.std.proofs.lemmas.Option.{slice_get-get_or}
+use Rattle.std.proofs.lemmas.Bool.{eqb-true}
 use Rattle.ist_core.specs.declared.events.Event.{Event}
 use Rattle.ist_core.specs.declared.events.Event.TheVariants.{Pass}
 use Rattle.ist_core.specs.declared.pairs.Pair.{Pair}
@@ -31,7 +32,7 @@ use Rattle.ist_core.specs.Shown.{IsShown}
 use Rattle.ist_rule.specs.Rule.{IsSound}
 use Rattle.ist_rule.specs.Learning.{now, Looked, LoggedLoad, LoadedAs, as_event, as_load}
 use Rattle.ist_rule.specs.Watching.{number_of, is_marked, is_change, pass_of, CanLoadPass}
-use Rattle.ist_rule.proofs.WatchLemmas.{both_true, if_some, no_change, eq_true}
+use Rattle.ist_rule.proofs.WatchLemmas.{both_true, if_some, no_change}
 use Rattle.ist_dcss.proofs.FieldLemmas.{row_low}
 use Rattle.ist_dcss.proofs.SlotPlaceLemmas.{slot_shown, no_anchor}
 use Rattle.ist_rule.specs.Going.{WentOn}
@@ -229,7 +230,7 @@ module _ (v : View) (node degree i place word : ℕ) (m : MayPass v node degree)
           (word == unset_word)
           (not_named _ (Pass (number_of v.who) node i word) none) test
           (plain_test (ref_of word) plain) in
-          eq_true word unset_word c
+          eqb-true word unset_word c
 
   -- after the load of a slot of a marked node the change found is known, or the slot is frozen
   pub look_tells : LoadedAs v (pass_of v node i) place word w → LookTells v w node i word

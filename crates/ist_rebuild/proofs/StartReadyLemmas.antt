@@ -17,10 +17,11 @@ use Rattle.ist_core.specs.StartLayout.{start}
 use Rattle.ist_core.specs.Statuses.{start_kind}
 use Rattle.ist_core.specs.Arithmetic.{limit}
 use Rattle.ist_core.proofs.FateLemmas.{grow_between}
-use Rattle.ist_core.proofs.GrowingLemmas.{inner_there}
+use Rattle.ist_core.proofs.GrowingLemmas.{inner_there, slot_remains}
 use Rattle.ist_core.proofs.PlaceLemmas.{placed, claimed_within}
 use Rattle.ist_core.proofs.ReferenceLemmas.{ref_of-word_of}
 use Rattle.ist_core.proofs.RoomLemmas.{next_within, words_same}
+use Rattle.ist_core.proofs.PrefixLemmas.{ever_later}
 use Rattle.ist_rule.specs.declared.view.View.{View}
 use Rattle.ist_rule.specs.Conditions.{IsResolved}
 use Rattle.ist_rule.specs.Going.{WentOn}
@@ -34,8 +35,6 @@ use Rattle.ist_rows.specs.CallerLaws.{InstallsNone}
 use Rattle.ist_rows.specs.Rows.{IsCaller}
 use Rattle.ist_rows.proofs.CallerLawLemmas.{resolved_went}
 use Rattle.ist_dcss.specs.Installing.{IsInstallable}
-use Rattle.ist_dcss.proofs.FitsLemmas.{ever_later}
-use Rattle.ist_dcss.proofs.SlotPlaceLemmas.{slot_later}
 use Rattle.ist_rows.specs.Going.{IsQuiet}
 use Rattle.ist_rebuild.specs.Starting.{MayStart}
 use Rattle.ist_rebuild.specs.StartSteps.{HasStartRows, IsStartReady, filled_start, start_change, start_filling}
@@ -47,7 +46,7 @@ use Rattle.ist_rebuild.proofs.StartFillLemmas.{rebuild_good, start_held, start_s
 pub start_slot : (v : View) → IsSound v → (parent index target : ℕ) → MayStart v parent index target
     → (word : ℕ) × SlotHolds (now v) parent index word
 start_slot v s parent index target m =
-    slot_later (state_of v.start v.words m.prefix) (now v)
+    slot_remains (state_of v.start v.words m.prefix) (now v)
     (grow_between v.start v.words m.prefix v.log s.lawful.enabled m.goes_on) parent index _ m.stood
 
 -- the parent is a node
@@ -117,7 +116,7 @@ may_start_on v w parent index target g m =
       stood = subst (λ t. SlotHolds t parent index (word_of (InnerAt target)))
           (sym (ap₂ (λ p n. state_of p n m.prefix) start_is words_is)) m.stood;
       linked = subst (λ t. WasLinked t w.log parent) (sym (ap₂ start start_is words_is))
-          (ever_later (start v.start v.words) (λ t. Linked t parent) v.log w.log
+          (ever_later (start v.start v.words) (λ t. Linked t parent)
           (later-goes_on g.later) m.linked);
       row = row.0;
       published = row.1;
@@ -176,7 +175,7 @@ module _ (v : View) (parent index target : ℕ) (m : MayStart v parent index tar
   linked =
       subst (λ t. WasLinked t u.log parent)
       (sym (ap₂ start (ap (λ (x : View). x.start) g.same) (ap (λ (x : View). x.words) g.same)))
-      (ever_later (start v.start v.words) (λ t. Linked t parent) v.log u.log
+      (ever_later (start v.start v.words) (λ t. Linked t parent)
       (later_by-goes_on g.later) m.linked)
 
   -- the change may be installed, with the view in which the rows are filled
@@ -184,7 +183,7 @@ module _ (v : View) (parent index target : ℕ) (m : MayStart v parent index tar
       (start_filling mid.number parent index target rebuild)
   installable sv =
       let slot = start_slot v sv parent index target m in
-      let here = slot_later (now v) (now u) (went_grow Reserves v u g) parent index slot.0 slot.1 in
+      let here = slot_remains (now v) (now u) (went_grow Reserves v u g) parent index slot.0 slot.1 in
       record {
         number = mid.number;
         mine = c.mine;

@@ -13,11 +13,12 @@ use Rattle.ist_rule.specs.Faces.{SeatFace}
 use Rattle.ist_rule.specs.Learning.{now, GoesOnTo, storing}
 use Rattle.ist_rule.proofs.LaterLemmas.{later_more}
 use Rattle.ist_rule.proofs.GoingOnLemmas.{goes_on_who, goes_on_more, looked_goes_on}
+use Rattle.ist_rule.proofs.WentOnLemmas.{goes_on_now}
 use Rattle.ist_rows.specs.declared.callers.Caller.{Caller}
 use Rattle.ist_rows.specs.Rows.{spares_of, IsCaller, Reserved, IsFull}
 use Rattle.ist_rows.specs.Building.{AreStuck, IsInBuild, IsNext, HasTaken, HasRefused}
 use Rattle.ist_rows.proofs.CallerLemmas.{IsCallerIn, caller_later}
-use Rattle.ist_rows.proofs.CallerGoingLemmas.{now_is, caller_refused}
+use Rattle.ist_rows.proofs.CallerGoingLemmas.{caller_refused}
 use Rattle.ist_rows.proofs.ReserveLemmas.{looked_next}
 use Rattle.ist_rows.proofs.BuildingLemmas.{IsInBuildIn, stuck_last, at_later, next_fair, taken_inner, taken_at}
 
@@ -112,7 +113,7 @@ at_goes_on who seat stuck done rest c g h =
     (subst (λ n. Lawful seat.view.start n seat.view.log) (ap (λ x. x.words) g.same)
     g.sound.lawful) in
     let there = subst (λ t. IsInBuildIn t who.number (spares_of who) stuck done rest)
-    (sym (now_is v seat.view g))
+    (sym (goes_on_now v seat.view g))
     (at_later v.start v.words v.log seat.view.log who.number (spares_of who) stuck done rest lawful
     (subst (λ w. Later w v.log seat.view.log) c.mine g.later)
     record { sizes = h.sizes; all_stuck = h.all_stuck; building = h.building }) in

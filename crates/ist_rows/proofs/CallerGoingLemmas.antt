@@ -24,11 +24,12 @@ use Rattle.ist_core.specs.declared.events.Who.TheVariants.{Caller as CallerOf}
 use Rattle.ist_core.specs.Authors.{Later}
 use Rattle.ist_rule.specs.Rule.{IsSound}
 use Rattle.ist_rule.specs.Faces.{SeatFace}
-use Rattle.ist_rule.specs.Learning.{now, GoesOnTo, storing}
+use Rattle.ist_rule.specs.Learning.{now, GoesOnTo}
 use Rattle.ist_rule.specs.Conditions.{IsOwn}
 use Rattle.ist_rule.proofs.LaterLemmas.{later_more}
 use Rattle.ist_rule.proofs.ShownLemmas.{held_loose}
 use Rattle.ist_rule.proofs.GoingOnLemmas.{goes_on_who, goes_on_more, looked_goes_on}
+use Rattle.ist_rule.proofs.WentOnLemmas.{goes_on_now}
 use Rattle.ist_rows.specs.declared.callers.Caller.{Caller}
 use Rattle.ist_rows.specs.declared.kinds.Kind.{Kind}
 use Rattle.ist_rows.specs.declared.kinds.Kind.TheVariants.{Leaf, Pair as PairKind, Change, Rebuild}
@@ -38,10 +39,6 @@ use Rattle.ist_rows.proofs.BuildLemmas.{ComesBehind, builds_on}
 use Rattle.ist_rows.proofs.CallerLemmas.{IsCallerIn, caller_later}
 
 -- ---- a caller's seat goes on
-
--- the state that a seat has seen, if it went on from another
-pub now_is : (v w : View) → GoesOnTo v w → now w ≡ state_of v.start v.words w.log
-now_is v w g = ap₂ (λ p n. state_of p n w.log) (ap (λ x. x.start) g.same) (ap (λ x. x.words) g.same)
 
 -- a caller whose seat made loads is a caller
 pub caller_goes_on : (who : Caller) (seat : SeatFace) → IsCaller who
@@ -58,7 +55,7 @@ caller_goes_on who seat c g =
           c.rows;
       builds = c.builds;
     } in
-    let there = subst (λ t. IsCallerIn t who.number (spares_of who)) (sym (now_is v seat.view g))
+    let there = subst (λ t. IsCallerIn t who.number (spares_of who)) (sym (goes_on_now v seat.view g))
     it in
     record { mine = goes_on_who g ∙ c.mine; rows = there.rows; builds = there.builds }
 
@@ -252,11 +249,6 @@ caller_reserved old new kind base c none r number rows =
       builds =
           there.builds;
     }
-
--- a caller that stored into its row is a caller
-pub caller_storing : (who : Caller) (place word : ℕ) → IsCaller who
-    → IsCaller (record who { seat = record who.seat { view = storing who.seat.view place word } })
-caller_storing who place word c = record { mine = c.mine; rows = c.rows; builds = c.builds }
 
 -- a word of an own row lies within the table
 pub place_low : (who : Caller) (base at : ℕ) → IsSound who.seat.view → IsCaller who

@@ -32,9 +32,6 @@ use Rattle.ist_rows.proofs.HeldBehindLemmas.{filter_at, held_by_own, held_behind
 none_some : (base : ℕ) → None ≡ Some base → ⊥
 none_some base e = cc
 
-some_one : (a b : ℕ) → Some a ≡ Some b → a ≡ b
-some_one a b e = cc
-
 -- without the row of one kind there is no row of it, and the rows of the others are the same
 row_without : (kind other : Kind) (own : Spares)
     → ((kind ≡ other) × (row_of other (without_row kind own) ≡ None))

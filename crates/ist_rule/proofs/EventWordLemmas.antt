@@ -19,7 +19,6 @@ use Rattle.ist_core.proofs.SlotLemmas.{get-set_other}
 use Rattle.ist_core.proofs.SoundLemmas.{sound, moves_or_reserves, IsReserve}
 use Rattle.ist_core.proofs.StartLemmas.{sound_start}
 use Rattle.ist_core.proofs.PlaceLemmas.{next_behind_fixed}
-use Rattle.ist_core.proofs.RoomLemmas.{words-state}
 use Rattle.ist_core.proofs.ImageStepLemmas.{image_step}
 use Rattle.ist_rule.specs.declared.view.View.{View}
 use Rattle.ist_core.specs.declared.events.Who.TheVariants.{Caller}
@@ -28,13 +27,6 @@ use Rattle.ist_rule.specs.Rule.{own_at, Owns}
 use Rattle.ist_rule.specs.Conditions.{StoredAll}
 use Rattle.ist_rule.proofs.ShownLemmas.{IsLoose, held_loose, touch_tight}
 use Rattle.ist_rule.proofs.EventLemmas.{Publishes, publishes_none, publishes_held, publishes}
-
--- a table has as many words as it was given
-pub words_are : (pairs : List Pair) (words : ℕ) (log : Log)
-    → (state_of pairs words log).words ≡ words
-words_are pairs words [] = refl
-words_are pairs words (event ∷ log) =
-    words-state (start pairs words) log event ∙ words_are pairs words log
 
 -- a word that no touch is at stays
 touched_other : (words : List ℕ) (o : Option Touch) (place : ℕ)

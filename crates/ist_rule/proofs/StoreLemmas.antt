@@ -2,7 +2,6 @@
 use Rattle.std.proofs.Common.{◌≡◌, ◌≢◌, ℕ, ◌+◌, ◌<◌, ◌⊎◌, ◌==◌, true, false, if◌then◌else◌, List, ◌∷◌, slice_get, slice_set, Some, refl, sym, ap, ◌∙◌, subst, le_refl, inl, inr, ⊎_elim, arith}
 use Rattle.std.proofs.lemmas.Bool.Decides.{eqb_tells}
 use mathlib.Core.Option as maybe
-use mathlib.Core.Option.{some}
 use Rattle.atomic_table.specs.Table.{step, keeps, Allows}
 use Rattle.ist_core.specs.declared.pairs.Pair.{Pair}
 use Rattle.ist_core.specs.declared.lists.HeldRow.{HeldRow}
@@ -86,9 +85,6 @@ module _ (k : About) (s : Table) (r : Kept k s) (id : ℕ) (v : View) (live : v.
   elsewhere h i differ j less same =
       differ (ap (λ x. x.caller) (one_held k.start.value.items k.words r.log r.lawful.enabled h
       own.row i held_here j own.offset less own.within (same ∙ own.at)))
-
-  one_caller : (m n : ℕ) → Caller m ≡ Caller n → m ≡ n
-  one_caller m n e = cc
 
   others : (i : ℕ) (u : View) → HasView s i u → u.who ≢ Spent → (IsNamed v.who → u.who ≢ v.who)
       → Fits k r.log s.words u → Fits k r.log (slice_set s.words place word) u

@@ -128,13 +128,6 @@ pub if_some : {A : Type 0} (b : Bool) (x y : A) → (if b then Some x else None)
 if_some true x y e = (refl, some_one x y e)
 if_some false x y e = absurd (cc)
 
--- if the test of two numbers is true, they are equal
-pub eq_true : (m n : ℕ) → (m == n) ≡ true → m ≡ n
-eq_true m n e = ⊎_elim (λ k. k.1) (λ k. absurd (clash (sym e ∙ k.0))) (eqb_tells m n)
-  where
-    clash : true ≡ false → ⊥
-    clash f = cc
-
 -- if the negated test of two numbers is true, they differ
 pub not_true : (m n : ℕ) → not (m == n) ≡ true → m ≢ n
 not_true m n e = ⊎_elim (λ k. absurd (clash (sym e ∙ ap not k.0))) (λ k. k.1) (eqb_tells m n)

@@ -1,6 +1,7 @@
 -- Each of the three loads that are events meets what such a load asks. Serves `watching`.
 use Rattle.std.proofs.Common.{◌≡◌, ◌≢◌, ℕ, ◌+◌, ◌<◌, ◌&&◌, ◌==◌, not, [], ◌∷◌, length, slice_get, Some, None, refl, sym, ap, ap₂, ◌∙◌, subst, inl, inr, arith}
 use Rattle.std.proofs.lemmas.Option.{slice_get-get_or}
+use Rattle.std.proofs.lemmas.Bool.{eqb-true}
 use Rattle.ist_core.specs.declared.states.InnerRow.{InnerRow}
 use Rattle.ist_core.specs.declared.states.ChangeRow.{ChangeRow}
 use Rattle.ist_core.specs.declared.events.Event.{Event}
@@ -33,7 +34,7 @@ use Rattle.ist_rule.specs.Conditions.{MayCome, CanMake, LeavesAt, CanLoadAs}
 use Rattle.ist_rule.specs.Watching.{IsNode, is_anchor, is_inner, number_of, waits, okay_of, CanLoadOkay, is_marked, is_change, pass_of, CanLoadPass, past_of, CanLoadPast}
 use Rattle.ist_rule.proofs.GoingOnLemmas.{callers_later}
 use Rattle.ist_rule.proofs.HeldLemmas.{held_later}
-use Rattle.ist_rule.proofs.WatchLemmas.{some_one, shown_in_row, change_node, both_true, if_some, eq_true, not_true, no_change, status_place_inner, status_place_anchor, place_inner}
+use Rattle.ist_rule.proofs.WatchLemmas.{some_one, shown_in_row, change_node, both_true, if_some, not_true, no_change, status_place_inner, status_place_anchor, place_inner}
 
 -- ---- the three loads
 
@@ -121,8 +122,8 @@ can_load_okay v change place s can =
         let it = if_some ((word == open_word) && waits (as_change (t.pieces change)))
         (Okay (number_of v.who) change) event named in
         let both = both_true (word == open_word) (waits (as_change (t.pieces change))) it.0 in
-        let zero_is = eq_true word open_word both.0 in
-        let unset = eq_true r.0.decision undecided
+        let zero_is = eqb-true word open_word both.0 in
+        let unset = eqb-true r.0.decision undecided
         (sym (ap (λ o. waits (as_change o)) r.1) ∙ both.1) in
         let number = ap number_of can.mine in
         let opened = open_seen v s log m can.row.node node word
@@ -204,7 +205,7 @@ can_load_pass v node i place s can =
         let both = both_true (is_marked (as_inner (t.pieces node)))
         (not (is_change (ref_of word)) && not (word == unset_word)) tests.0 in
         let rest = both_true (not (is_change (ref_of word))) (not (word == unset_word)) both.1 in
-        let marked = eq_true r.status marked_word
+        let marked = eqb-true r.status marked_word
         (sym (ap (λ o. is_marked (as_inner o)) it.1) ∙ both.0) in
         let number = ap number_of can.mine in
         let enabled : Enabled (start v.start v.words) log (Pass (number_of v.who) node i word) =

@@ -22,7 +22,7 @@ use Rattle.ist_core.specs.Authors.{Later}
 use Rattle.ist_rule.specs.Faces.{SeatFace}
 use Rattle.ist_rule.specs.Rule.{IsSound}
 use Rattle.ist_rule.specs.Learning.{Turned, beginning, ending}
-use Rattle.ist_rule.specs.Conditions.{CanBegin, CanEnd}
+use Rattle.ist_rule.specs.Conditions.{CanEnd}
 use Rattle.ist_rule.proofs.LaterLemmas.{goes_on_length, later-goes_on, later_more}
 use Rattle.ist_rows.specs.declared.callers.Caller.{Caller}
 use Rattle.ist_find.specs.Searches.{HasSearched, HasFound, HasFewLoads}
@@ -34,10 +34,6 @@ use Rattle.ist_tree.proofs.GoingLemmas.{IsLaterView, lawful_behind, pass_with_la
 use Rattle.ist_tree.proofs.LoadingLemmas.{chain_on, costs_rise}
 use Rattle.ist_tree.proofs.PositionLemmas.{found_call}
 use Rattle.ist_tree.proofs.FindingLemmas.{searched_view, get_call, its_fresh, may_end, found_is}
-
--- a caller in no call may begin one
-pub may_begin : (who : Caller) → IsPass who → CanBegin who.seat.view
-may_begin who p = record { number = who.number; mine = p.caller.mine; in_none = p.in_none }
 
 -- what a find results in, for a pass with this face
 pub record FindEnds (old : PassFace) (who : Caller) (refused : Option Full) (seat : SeatFace)

@@ -52,5 +52,6 @@ pub mod RoundRefusalLemmas
 pub mod RoundLemmas
 pub mod FewChangesLemmas
 pub mod LookedLemmas
+pub mod NumberLemmas
 mod SweepLemmas
 mod RoomLemmas

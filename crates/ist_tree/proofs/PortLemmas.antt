@@ -104,11 +104,6 @@ port_more tree p q said m i =
     keep None c = c
     keep (Some r) c = refused_more p q r m c
 
--- a port that has seen more and keeps a refusal of this call is a port
-pub port_refused : (tree : TreeFace) (p q : PassFace) (said : Option Refused) (now : Refused)
-    → HasSeenMore p q → IsPort tree p said → WasRefused q now → IsPort tree q (Some now)
-port_refused tree p q said now m i r = record { same_tree = m.tree ∙ i.same_tree; cause = r }
-
 -- a result that is such a refusal
 pub answer_refused : {A : Type 0} (answer : Result A Full) (p q : PassFace) (key : ℕ)
     (value : Option ℕ) (command : Command) → HasSeenMore p q → ((k : ℕ) → command ≢ Get k)

@@ -1,5 +1,5 @@
 -- A try of the whole walk, from its begin to its result. Serves `apply`.
-use Rattle.std.proofs.Common.{◌≡◌, ◌≢◌, ℕ, ◌≤◌, true, List, [], length, Option, Some, None, Ok, sym, ap, ◌∙◌, subst, inl}
+use Rattle.std.proofs.Common.{◌≡◌, ℕ, ◌≤◌, List, [], length, Option, Some, None, Ok, sym, ap, ◌∙◌, subst, inl}
 use Rattle.ist_core.specs.declared.commands.Command.{Command}
 use Rattle.ist_core.specs.declared.commands.Command.TheVariants.{Remove}
 use Rattle.ist_core.specs.declared.pairs.Pair.{Pair}
@@ -7,7 +7,6 @@ use Rattle.ist_core.specs.declared.ports.Full.{Full}
 use Rattle.ist_core.specs.Authors.{GoesOnBy}
 use Rattle.ist_core.specs.Pieces.{Inner}
 use Rattle.ist_core.specs.RowLayout.{anchor}
-use Rattle.ist_core.specs.Standing.{makes_entry}
 use Rattle.ist_rule.specs.declared.view.View.{View}
 use Rattle.ist_rule.specs.Faces.{SeatFace}
 use Rattle.ist_rule.specs.Going.{SearchedOn, WentOn}
@@ -226,8 +225,3 @@ module _ (old who : Caller) (key : ℕ) (value : Option ℕ) (a : IsAsked old (c
         s.asked in
         subst (λ o. MayEnd new (command_for key o) None) (sym n.remove)
         (nothing_ends who new key there here s.went same b.since n.since n.found c q)
-
-    -- it makes no entry
-    pub nothing_made : makes_entry (command_for key value) None ≢ true
-    nothing_made =
-        subst (λ o. makes_entry (command_for key o) None ≢ true) (sym n.remove) (λ e. cc)

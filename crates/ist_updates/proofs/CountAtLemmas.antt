@@ -6,7 +6,6 @@ use Rattle.ist_core.specs.declared.states.InnerRow.{InnerRow}
 use Rattle.ist_core.specs.Arithmetic.{limit}
 use Rattle.ist_core.specs.Growing.{InnerGrows}
 use Rattle.ist_core.specs.Lawful.{Lawful, state_of}
-use Rattle.ist_core.specs.Logs.{Log}
 use Rattle.ist_core.specs.Pieces.{Inner}
 use Rattle.ist_core.specs.RowLayout.{inner_count_offset, inner_size_offset}
 use Rattle.ist_core.specs.Shown.{IsShown, shown_row}
@@ -56,9 +55,6 @@ module _ (v : View) (s : IsSound v) (row : ℕ) (m : MayCount v row) where
 
   module _ (place found : ℕ) (at : place ≡ row + inner_count_offset) (w : View)
       (l : LoggedAdd v (counting v (place - inner_count_offset)) place found w) where
-    before : Log
-    before = l.logged.before
-
     event_is : counting v (place - inner_count_offset) found ≡ Count (number_of v.who) row
     event_is =
         let back : place - inner_count_offset ≡ row = omega arith in

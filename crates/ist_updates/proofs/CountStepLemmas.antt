@@ -21,6 +21,7 @@ use Rattle.ist_core.proofs.FateLemmas.{enabled_before, grow_between}
 use Rattle.ist_core.proofs.GrowingLemmas.{inner_there}
 use Rattle.ist_core.proofs.RowLemmas.{changed_at-same}
 use Rattle.ist_core.specs.declared.events.Who.TheVariants.{Caller as CallerOf}
+use Rattle.ist_core.proofs.PrefixLemmas.{goes_on_by}
 use Rattle.ist_rule.proofs.LaterLemmas.{goes_on_more, later-goes_on}
 use Rattle.laws_histories.specs.Calls.{MadeNoEntry}
 use Rattle.laws_stability.proofs.LaterLemmas.{ever_later}
@@ -30,13 +31,14 @@ use Rattle.laws_walks.specs.Accepting.{InstallsNoYes}
 use Rattle.laws_walks.specs.Counting.{CountsFrom}
 use Rattle.laws_walks.proofs.InstalledLemmas.{installed_no_entry}
 use Rattle.laws_walks.proofs.UpLemmas.{counts_from}
+use Rattle.laws_walks.proofs.BetweenLemmas.{event_by}
 use Rattle.ist_updates.specs.declared.updates.Applied.{Applied}
 use Rattle.ist_updates.specs.declared.updates.Due.{Due}
 use Rattle.ist_updates.specs.Counting.{WasCounted, CameToLimit}
 use Rattle.ist_updates.specs.Walking.{HasCountedAt, HasStood, IsTopmost, IsDueBy, HasCounted}
 use Rattle.ist_updates.proofs.NextRowLemmas.{get_here, counted_behind}
 use Rattle.ist_updates.proofs.OneUpdateLemmas.{yes_stays, reply_stays}
-use Rattle.ist_updates.proofs.OwnCountLemmas.{later_none, from_none, last_or_sooner, event_by, by-goes_on, came_on, came_back, counted_on}
+use Rattle.ist_updates.proofs.OwnCountLemmas.{later_none, from_none, last_or_sooner, came_on, came_back, counted_on}
 
 -- ---- no entry
 
@@ -212,7 +214,7 @@ module _ (pairs : List Pair) (words : ℕ) (opens : CanOpen pairs words) (earlie
           is_due = it.2;
           came = record {
             at = c.at;
-            since = goes_on_more (by-goes_on x.so_far) (later-goes_on c.later);
+            since = goes_on_more (goes_on_by x.so_far) (later-goes_on c.later);
             until = later-goes_on c.more;
             row = c.inner;
             published = c.published;
@@ -260,7 +262,7 @@ module _ (pairs : List Pair) (words : ℕ) (opens : CanOpen pairs words) (earlie
           so_far = so_far_longer;
           counted = λ node i. ⊎_elim
               (λ e. subst (WasCounted earlier longer caller) (sym e)
-              (count_was (by-goes_on x.so_far)))
+              (count_was (goes_on_by x.so_far)))
               (λ j. counted_on earlier log longer caller node counted_log (x.counted node j)) i;
           due = due;
         }

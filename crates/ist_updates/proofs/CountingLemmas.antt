@@ -4,10 +4,8 @@ use Rattle.std.proofs.Common.{◌≡◌, ℕ, Bool, true, false, List, [], ◌�
 use Rattle.ist_core.specs.declared.commands.Command.{Command}
 use Rattle.ist_core.specs.declared.events.Event.{Event}
 use Rattle.ist_core.specs.declared.events.Event.TheVariants.{Count}
-use Rattle.ist_core.specs.Deciding.{CanCount}
 use Rattle.ist_core.specs.Lawful.{Lawful}
 use Rattle.ist_core.specs.Logs.{Log}
-use Rattle.ist_core.specs.StartLayout.{start}
 use Rattle.ist_rule.specs.declared.view.View.{View}
 use Rattle.ist_rule.specs.Faces.{SeatFace}
 use Rattle.ist_rule.specs.Going.{WentOn}
@@ -21,17 +19,12 @@ use Rattle.ist_rows.proofs.CallerLawLemmas.{caller_went, refused_went, resolved_
 use Rattle.ist_rows.specs.Going.{IsQuiet, StaysReady}
 use Rattle.ist_updates.specs.declared.updates.Applied.{Applied}
 use Rattle.ist_updates.specs.Asking.{Updates}
-use Rattle.ist_updates.specs.Walking.{MayCount, IsCountAt, HasCountedAt, HasStood, HasCounted}
+use Rattle.ist_updates.specs.Walking.{IsCountAt, HasCountedAt, HasStood, HasCounted}
 use Rattle.ist_updates.proofs.CountStepLemmas.{due_before, due_here, counted_more}
 
 module _ (who : Caller) (row : ℕ) (c : IsCaller who) (q : IsQuiet who) where
   abbrev v : View
   v = who.seat.view
-
-  -- it may count its update at the row
-  pub may_count_row : CanCount (start v.start v.words) v.log who.number row → MayCount v row
-  may_count_row can =
-      record { number = who.number; mine = c.mine; resolved = q.resolved; can = can }
 
   module _ (seat : SeatFace) (g : WentOn (IsCountAt (number_of v.who) row) v seat.view) where
     -- what is true of a Count is true of all own events

@@ -1,5 +1,5 @@
 -- A caller that has published the rows of a plan. Serves `install_plan`.
-use Rattle.std.proofs.Common.{◌≡◌, ℕ, ◌∷◌, refl, sym, ◌∙◌}
+use Rattle.std.proofs.Common.{◌≡◌, ◌∷◌, refl, sym, ◌∙◌}
 use Rattle.ist_core.specs.declared.events.Event.{Event}
 use Rattle.ist_core.specs.declared.events.Event.TheVariants.{Install}
 use Rattle.ist_core.specs.Snapshots.{bases_of}
@@ -21,9 +21,6 @@ module _ (old new : Caller) (plan : Plan) (c : IsCaller old) (r : HasRefused old
     (i : IsInstalled old.seat.view plan.base (filling_of plan) new.seat.view)
     (number : new.number ≡ old.number)
     (rows : spares_of new ≡ without_rows (kind.Change ∷ kinds_of plan.fresh) (spares_of old)) where
-  one_caller : (a b : ℕ) → CallerOf a ≡ CallerOf b → a ≡ b
-  one_caller a b e = cc
-
   abbrev event : Event
   event = Install i.number plan.base (rows_of (filling_of plan) plan.base)
 

@@ -8,6 +8,7 @@ use Rattle.ist_core.specs.Logs.{Log, Counts, GoesOn, same_log, one_event}
 use Rattle.ist_core.specs.declared.events.Who.TheVariants.{Caller as CallerOf}
 use Rattle.ist_rule.proofs.LaterLemmas.{goes_on_more, goes_on_length}
 use Rattle.laws_walks.specs.Counting.{CountsFrom}
+use Rattle.laws_walks.proofs.BetweenLemmas.{event_by}
 use Rattle.ist_updates.specs.Counting.{CameToLimit, CountedNowhere, WasCounted}
 use Rattle.ist_updates.specs.Trying.{Tries}
 
@@ -66,11 +67,6 @@ tried_none {caller = caller} (one_more event l (inl other)) =
 tried_none {caller = caller} (one_more event l (inr tries)) =
     one_more event (tried_none l) (tries_none caller event tries)
 
--- the earlier log is a prefix
-pub by-goes_on : {P : Event → Type 0} {a b : Log} → GoesOnBy P a b → GoesOn a b
-by-goes_on no_more = same_log
-by-goes_on (one_more event l is) = one_event event (by-goes_on l)
-
 -- ---- Counts from an index on
 
 -- if the caller counted nothing more, its counts from an index on are unchanged
@@ -80,17 +76,6 @@ pub from_none : (caller i : ℕ) (rows : List ℕ) (earlier a b : Log)
 from_none caller i rows earlier a _ f no_more = f
 from_none caller i rows earlier a _ f (one_more {log = log} event l none) =
     one_more event (from_none caller i rows earlier a log f l) (λ node h. absurd (none node h))
-
--- each event between is one by which the log went on
-pub event_by : (P : Event → Type 0) (earlier log : Log) → GoesOnBy P earlier log → (event : Event)
-    → (before : Log) → GoesOn earlier before → GoesOn (event ∷ before) log → P event
-event_by P earlier _ no_more event before since until =
-    let longer = goes_on_length until in
-    let low = goes_on_length since in
-    absurd (omega arith)
-event_by P earlier _ (one_more last later p) _ _ since same_log = p
-event_by P earlier _ (one_more {log = log} last later p) event before since (one_event _ sooner) =
-    event_by P earlier log later event before since sooner
 
 -- a caller none of whose events is a Count counted nowhere
 pub counted_nowhere : (caller : ℕ) (earlier log : Log) → GoesOnBy (CountsNone caller) earlier log

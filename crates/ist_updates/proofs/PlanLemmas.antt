@@ -3,11 +3,8 @@ use Rattle.std.proofs.Common.{◌≡◌, ◌≢◌, ℕ, ◌<◌, [], List, Some
 use Rattle.ist_core.specs.declared.events.Event.{Event}
 use Rattle.ist_core.specs.declared.lists.Row.{Row}
 use Rattle.ist_core.specs.declared.states.ChangeRow.{ChangeRow}
-use Rattle.ist_core.specs.Arithmetic.{child_count}
-use Rattle.ist_core.specs.Growing.{AllGrow}
-use Rattle.ist_core.specs.Slots.{IsChildFor, of_anchor, of_row}
-use Rattle.ist_core.specs.Snapshots.{Snapshot}
-use Rattle.ist_core.proofs.GrowingLemmas.{inner_there}
+use Rattle.ist_core.specs.Slots.{IsChildFor}
+use Rattle.ist_core.proofs.GrowingLemmas.{child_remains}
 use Rattle.ist_core.specs.Installing.{ComesByKey, FitsKind, a_put, a_pair, a_remove, IsLeafOf, HasRoomFor}
 use Rattle.ist_core.specs.References.{Empty, LeafAt, InnerAt, IsGoodBase, ref_of, word_of}
 use Rattle.ist_core.specs.StartLayout.{start}
@@ -33,14 +30,6 @@ use Rattle.ist_updates.specs.declared.plans.Fresh.TheVariants.{Nothing, Leaf, Pa
 use Rattle.ist_updates.specs.declared.plans.Way.TheVariants as way
 use Rattle.ist_updates.specs.Changing.{WasAtSlot, IsPlanned, row_for}
 
--- a child for the key stays one when rows grow
-child_later : (t u : Snapshot) → AllGrow t.pieces u.pieces → (node key i : ℕ)
-    → IsChildFor t node key i → IsChildFor u node key i
-child_later t u g node key i (of_anchor e f) = of_anchor e f
-child_later t u g node key i (of_row r e f) =
-    let on = inner_there t.pieces u.pieces g node r e in
-    of_row on.0 on.1 (f ∙ ap (λ ks. child_count ks key) (sym on.2.keys))
-
 module _ (v : View) (aim : Aim) (at : WasAtSlot v aim) where
   -- the search came to the node
   pub slot_come : HasCome v aim.key aim.node at.at.came.0
@@ -49,7 +38,7 @@ module _ (v : View) (aim : Aim) (at : WasAtSlot v aim) where
   -- whose child for the key this is
   pub slot_child : IsChildFor (now v) aim.node aim.key aim.index
   slot_child =
-      child_later (now at.before) (now v) (goes_on_grow at.before v at.seen) aim.node aim.key aim.index
+      child_remains (now at.before) (now v) (goes_on_grow at.before v at.seen) aim.node aim.key aim.index
       at.at.child
 
   -- and was met by it

@@ -16,7 +16,7 @@ use Rattle.ist_core.specs.StartLayout.{start}
 use Rattle.ist_core.specs.Statuses.{undecided}
 use Rattle.ist_core.specs.Slots.{SlotHolds}
 use Rattle.ist_core.proofs.FreezingLemmas.{same_change}
-use Rattle.ist_core.proofs.GrowingLemmas.{change_there}
+use Rattle.ist_core.proofs.GrowingLemmas.{change_there, slot_remains}
 use Rattle.laws_links.proofs.ChangeLemmas.{undecided_unresolved}
 use Rattle.ist_rule.specs.declared.view.View.{View}
 use Rattle.ist_core.specs.declared.events.Who.TheVariants.{Caller as CallerOf}
@@ -32,7 +32,6 @@ use Rattle.ist_rows.specs.declared.kinds.Kind.TheVariants as kind
 use Rattle.ist_rows.specs.Building.{HasRefused}
 use Rattle.ist_rows.specs.Rows.{IsCaller}
 use Rattle.ist_dcss.specs.Installing.{IsInstallable, rows_of}
-use Rattle.ist_dcss.proofs.SlotPlaceLemmas.{slot_later}
 use Rattle.laws_walks.proofs.BetweenLemmas.{event_by}
 use Rattle.laws_settling.specs.Owning.{HasChange, WasInstalled}
 use Rattle.laws_settling.proofs.OwnLemmas.{change_since}
@@ -166,7 +165,7 @@ module _ (old mid new : Caller) (aim : Aim) (x : Way) (plan : Plan)
   slot : (word : ℕ) × SlotHolds (now w) plan.row.node plan.row.index word
   slot =
       let s = slot_holds v aim at in
-      let it = slot_later (now v) (now w) (went_grow Prepares v w all.went) aim.node aim.index s.word
+      let it = slot_remains (now v) (now w) (went_grow Prepares v w all.went) aim.node aim.index s.word
       s.holds in (
         it.0,
         subst (λ n. SlotHolds (now w) n plan.row.index it.0) (sym planned.is_for.node)

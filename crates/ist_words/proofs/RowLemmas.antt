@@ -1,10 +1,10 @@
 -- The keys and the slots of a row, one by one. Serves `rows`.
 use Rattle.std.proofs.Common.{◌≡◌, ℕ, ◌+◌, ◌-◌, ◌<◌, ◌≤◌, List, length, drop, get_or, ap, ◌∙◌}
 use Rattle.std.proofs.Common.{arith}
-use Rattle.std.proofs.lemmas.List.{length-take-le, length-drop, get_or-take, get_or-drop}
+use Rattle.std.proofs.lemmas.List.{length-take-le, length-drop}
 use Rattle.std.specs.List.Sorted.{IsStrictlyIncreasing}
 use Rattle.ist_math.proofs.ChildLemmas.{first-lt-last}
-use Rattle.ist_words.specs.WordRows.{word_at, row_degree, row_keys, row_slots}
+use Rattle.ist_words.specs.WordRows.{row_degree, row_keys, row_slots}
 
 -- how many keys and slots a row within the words has
 pub row_lengths : (words : List ℕ) (base : ℕ) → 1 ≤ row_degree words base → base + 3 + row_degree
@@ -22,24 +22,6 @@ row_lengths words base some room =
     length-take-le (base + 3 + d + d - (base + 3 + d)) (drop (base + 3 + d) words)
     (omega arith) in
     (omega arith, y ∙ n)
-
--- a key of a row
-pub key_is : (words : List ℕ) (base j : ℕ) → j + 1 < row_degree words base
-    → get_or (row_keys words base) j 0 ≡ word_at words (base + 3 + (j + 1))
-key_is words base j less =
-    let d = row_degree words base in
-    let e : base + 4 + j ≡ base + 3 + (j + 1) = omega arith in
-    get_or-take (base + 3 + d - (base + 4)) (drop (base + 4) words) j 0 (omega arith)
-    ∙ get_or-drop (base + 4) words j 0
-    ∙ ap (word_at words) e
-
--- the word of a slot of a row
-pub slot_is : (words : List ℕ) (base i : ℕ) → i < row_degree words base
-    → get_or (row_slots words base) i 0 ≡ word_at words (base + 3 + row_degree words base + i)
-slot_is words base i less =
-    let d = row_degree words base in
-    get_or-take (base + 3 + d + d - (base + 3 + d)) (drop (base + 3 + d) words) i 0 (omega arith)
-    ∙ get_or-drop (base + 3 + d) words i 0
 
 -- the last of two keys or more is above the first
 pub first_below_last : (keys : List ℕ) (at first last : ℕ) → IsStrictlyIncreasing keys → 1 ≤ at

@@ -22,11 +22,10 @@ use Rattle.ist_core.specs.Building.{IsBeaten, CanPlace}
 use Rattle.ist_core.specs.Lawful.{EachEnabled, CanOpen, state_of}
 use Rattle.ist_core.proofs.AddingLemmas.{held_free}
 use Rattle.ist_core.proofs.FateLemmas.{grow_between}
-use Rattle.ist_core.proofs.GrowingLemmas.{rebuild_there}
+use Rattle.ist_core.proofs.GrowingLemmas.{rebuild_there, slot_remains}
 use Rattle.ist_core.proofs.ImageLemmas.{get_below, get-words_of_slot}
 use Rattle.ist_core.proofs.PlaceLemmas.{claimed_apart, claimed_within, one_piece, placed}
 use Rattle.ist_core.proofs.ShapedLemmas.{shaped}
-use Rattle.laws_links.proofs.ClosedLemmas.{same_rebuild}
 use Rattle.laws_links.proofs.FormLemmas.{finished_with_grows}
 use Rattle.laws_links.proofs.FormedLemmas.{rooted_is_finished}
 use Rattle.laws_links.proofs.InductionLemmas.{sound_behind}
@@ -34,11 +33,12 @@ use Rattle.laws_rebuilds.proofs.BuiltLemmas.{root_once}
 use Rattle.laws_rebuilds.proofs.NumberLemmas.{number_is}
 use Rattle.ist_core.specs.Shown.{IsShown, shown_next, shown_callers, shown_status, shown_slot, shown_row, shown_free}
 use Rattle.ist_core.proofs.PrefixLemmas.{goes_on_more, goes_on_by}
+use Rattle.ist_core.proofs.DrawLemmas.{same_rebuild}
 use Rattle.laws_stability.proofs.SetLemmas.{set_by}
 use Rattle.laws_coming.specs.Builds.{EndsBuild, EndsNone}
 use Rattle.laws_coming.proofs.BeatenLemmas.{beaten_on, finished_once}
 use Rattle.laws_coming.proofs.KnownLemmas.{same_size}
-use Rattle.laws_coming.proofs.PlacedLemmas.{IsPlaceIn, is_place, filled, part_length, part_sizes, slot_there}
+use Rattle.laws_coming.proofs.PlacedLemmas.{IsPlaceIn, is_place, filled, part_length, part_sizes}
 
 -- ---- the slot after a prefix
 
@@ -146,7 +146,7 @@ module _ (pairs : List Pair) (words : ℕ) (opens : CanOpen pairs words) (number
   beaten_part prefix was _ no_more on enabled w now set one = absurd (set (one w now))
   beaten_part prefix was _ (one_more {log = log} event g out) on enabled w now set one =
       let before = goes_on_more (one_event event same_log) on in
-      let there = slot_there (state_of pairs words prefix) (state_of pairs words log)
+      let there = slot_remains (state_of pairs words prefix) (state_of pairs words log)
       (grow_between pairs words prefix log enabled.0 (goes_on_by g)) root i unset_word was in
       ⊎_elim
       (λ unset.

@@ -22,7 +22,7 @@ use Rattle.ist_core.specs.Lawful.{state_of}
 use Rattle.ist_core.specs.Writing.{place_of_slot, touch_of_place, touch_in_root}
 use Rattle.ist_core.proofs.AddingLemmas.{held_free}
 use Rattle.ist_core.proofs.FateLemmas.{enabled_before}
-use Rattle.ist_core.proofs.GrowingLemmas.{rebuild_there}
+use Rattle.ist_core.proofs.GrowingLemmas.{rebuild_there, slot_remains}
 use Rattle.ist_core.proofs.PlaceLemmas.{anchor_free}
 use Rattle.ist_core.proofs.ShapedLemmas.{shaped}
 use Rattle.ist_core.proofs.SlotLemmas.{slot_once}
@@ -46,7 +46,7 @@ use Rattle.laws_coming.proofs.BeatenLemmas.{without_later}
 use Rattle.laws_coming.proofs.ComingLemmas.{exchange_comes}
 use Rattle.laws_coming.proofs.FilledLemmas.{beaten_part, slot_was}
 use Rattle.laws_coming.proofs.KnownLemmas.{IsFast, grow, slot_fast, fast_known, gone_missed}
-use Rattle.laws_coming.proofs.PlacedLemmas.{part_length, part_sizes, slot_there}
+use Rattle.laws_coming.proofs.PlacedLemmas.{part_length, part_sizes}
 use Rattle.laws_coming.proofs.RootLemmas.{holds_sizes}
 
 module _ (v : View) (s : IsSound v) (number rebuild i word : ℕ) (rows : List Row)
@@ -73,7 +73,7 @@ module _ (v : View) (s : IsSound v) (number rebuild i word : ℕ) (rows : List R
       → SlotHolds (state_of v.start v.words log) b.root i found
   slot_behind log m found shown =
       let u = state_of v.start v.words log in
-      let there = slot_there (now v) u (grow v log m) b.root i slot_now.0 holds_now in
+      let there = slot_remains (now v) u (grow v log m) b.root i slot_now.0 holds_now in
       let is : place ≡ place_of_slot u b.root i =
       at ∙ sym (place_later v.start v.words v.log log (goes_on_by m.later) m.lawful.enabled
       b.root i slot_now.0 holds_now) in

@@ -1,6 +1,6 @@
 -- Where a slot of a root was Unset and is set, another's Place of the same sizes lies between.
 -- Serves `laws.builds_come`.
-use Rattle.std.proofs.Common.{◌≡◌, ◌≢◌, ℕ, ◌+◌, ◌*◌, ◌<◌, List, ◌∷◌, map, length, slice_get, get_or, option_map, Some, None, refl, sym, ap, ◌∙◌, ⊎_elim, arith}
+use Rattle.std.proofs.Common.{◌≡◌, ◌≢◌, ℕ, ◌+◌, ◌*◌, ◌<◌, List, ◌∷◌, map, length, slice_get, get_or, option_map, Some, None, sym, ap, ◌∙◌, ⊎_elim, arith}
 use Rattle.std.proofs.lemmas.List.FromFn.{get_or-map-range_with_len}
 use Rattle.std.proofs.lemmas.Option.{slice_get-map, slice_get_within, get_or_from_slice_get}
 use Rattle.ist_core.specs.declared.events.Event.{Event}
@@ -16,15 +16,13 @@ use Rattle.ist_core.specs.Parts.{parts}
 use Rattle.ist_core.specs.Pieces.{Pieces, with_inners}
 use Rattle.ist_core.specs.Snapshots.{Snapshot, bases_of, sizes_of}
 use Rattle.ist_core.specs.StartLayout.{start}
-use Rattle.ist_core.specs.Growing.{AllGrow}
 use Rattle.ist_core.specs.Logs.{Log, state}
 use Rattle.ist_core.specs.Leaves.{PlacedLeaf}
 use Rattle.ist_core.specs.Ideals.{IsIdeal}
-use Rattle.ist_core.specs.Slots.{SlotHolds, in_anchor, in_row}
+use Rattle.ist_core.specs.Slots.{SlotHolds}
 use Rattle.ist_core.specs.Installing.{HasRoomFor, nothing, same_key, FitsKind, a_put, a_pair, a_remove, a_start, a_finish}
 use Rattle.ist_core.specs.Building.{CanPlace}
 use Rattle.ist_core.specs.Lawful.{EachEnabled, state_of}
-use Rattle.ist_core.proofs.GrowingLemmas.{inner_there}
 use Rattle.ist_core.proofs.LayoutLemmas.{length-parts}
 use Rattle.ist_core.proofs.PlaceLemmas.{anchor_free}
 use Rattle.ist_core.proofs.PublishingLemmas.{ideal_stands}
@@ -32,7 +30,6 @@ use Rattle.ist_core.proofs.SlotLemmas.{slot_once}
 use Rattle.ist_core.proofs.SlotStepLemmas.{WritesSlot, WritesNoSlot, install_writes, place_writes, resolve_writes, slot_stays}
 use Rattle.laws_links.proofs.InductionLemmas.{sound_behind}
 use Rattle.laws_stability.proofs.SetLemmas.{set_by}
-use Rattle.laws_stability.proofs.SlotWordLemmas.{get_alike}
 use Rattle.laws_coming.proofs.SizeLemmas.{ideal_sizes, published_sizes, lengths_of_parts}
 
 -- ---- sizes
@@ -65,15 +62,6 @@ part_sizes ps rows ref part above once free ideal =
     ∙ ideal_sizes (with_inners ps rows) ref part above (bases_of rows) ideal
 
 -- ---- slots
-
--- a slot still has a word if rows grow
-pub slot_there : (t u : Snapshot) → AllGrow t.pieces u.pieces → (node i word : ℕ)
-    → SlotHolds t node i word → (w : ℕ) × SlotHolds u node i w
-slot_there t u g node i word (in_anchor a b e) = (u.anchor, in_anchor a b refl)
-slot_there t u g node i word (in_row r e at) =
-    let it = inner_there t.pieces u.pieces g node r e in
-    let w = get_alike r.slots it.0.slots i word it.2.slots at in
-    (w.0, in_row it.0 it.1 w.1)
 
 -- the word of a change isn't Unset
 change_set : (base : ℕ) → word_of (ChangeAt base) ≢ unset_word

@@ -16,8 +16,8 @@ use Rattle.ist_core.specs.Lawful.{EachEnabled, state_of}
 use Rattle.ist_core.specs.Pieces.{Change}
 use Rattle.std.proofs.Common.{Some}
 use Rattle.ist_core.proofs.PrefixLemmas.{ever_from}
+use Rattle.ist_core.proofs.GrowingLemmas.{child_remains}
 use Rattle.laws_links.proofs.InductionLemmas.{grow_behind, changes_by}
-use Rattle.laws_histories.proofs.LedLemmas.{child_stays}
 
 -- after some prefix the key of the change led to its node, and its slot is the one for the key
 pub record CameByKey (pairs : List Pair) (words : ℕ) (log : Log) (change : ChangeRow) : Type 0 where
@@ -49,7 +49,7 @@ module _ (pairs : List Pair) (words : ℕ) where
         until = one_event event c.until;
         led = c.led;
         index_is =
-            child_stays (state_of pairs words log) (state_of pairs words (event ∷ log))
+            child_remains (state_of pairs words log) (state_of pairs words (event ∷ log))
             (grow_behind pairs words log event h) x.node x.key x.index c.index_is;
       }
 

@@ -1,6 +1,7 @@
 -- Marks, passes and finishes are found to be enabled by a computation. Serves `examples`.
 use Rattle.std.proofs.Common.{◌≡◌, ℕ, ◌+◌, ◌/◌, ◌<◌, ◌==◌, nat_lt, Bool, true, false, List, [], ◌∷◌, ◌++◌, slice_get, Option, Some, None, is_some, refl, inl, inr, subst, ap, ◌∙◌, ◌≢◌, arith}
 use Rattle.std.proofs.lemmas.Bool.Decides.{nat_tests}
+use Rattle.std.proofs.lemmas.Bool.{eqb-true}
 use Rattle.ist_core.specs.declared.events.Event.{Event}
 use Rattle.ist_core.specs.declared.events.Event.TheVariants.{Pass, Mark, Finish}
 use Rattle.ist_core.specs.References.{Ref, Empty, LeafAt, InnerAt, ChangeAt, ref_of, unset_word}
@@ -15,17 +16,13 @@ use Rattle.ist_core.specs.Lawful.{EachEnabled}
 
 -- ---- numbers
 
--- a test says that two numbers are equal
-pub equal_says : (a b : ℕ) → (a == b) ≡ true → a ≡ b
-equal_says a b e = grind (arith, nat_tests)
-
 -- a test says that one number is below another
 pub less_says : (a b : ℕ) → nat_lt a b ≡ true → a < b
 less_says a b e = grind (arith, nat_tests)
 
 -- two numbers are equal, if the test says so
 abbrev pub equal_by : (a b : ℕ) (x : Bool) → (a == b) ≡ x → Option (a ≡ b)
-equal_by a b true e = Some (equal_says a b e)
+equal_by a b true e = Some (eqb-true a b e)
 equal_by a b false e = None
 
 -- two numbers are equal, or nothing is said

@@ -4,32 +4,20 @@ use Rattle.std.proofs.Common.{◌≡◌, ℕ, ◌⊎◌, List, ◌∷◌, Option
 use Rattle.ist_core.specs.declared.pairs.Pair.{Pair}
 use Rattle.ist_core.specs.declared.states.ChangeRow.{ChangeRow}
 use Rattle.ist_core.specs.declared.events.Event.{Event}
-use Rattle.ist_core.specs.Arithmetic.{child_count}
 use Rattle.ist_core.specs.References.{Ref, Empty, LeafAt, InnerAt, RebuildAt, ref_of}
 use Rattle.ist_core.specs.Pieces.{Pieces}
 use Rattle.ist_core.specs.Snapshots.{Snapshot}
 use Rattle.ist_core.specs.StartLayout.{start}
 use Rattle.ist_core.specs.Logs.{Log, GoesOn, same_log, one_event}
-use Rattle.ist_core.specs.Slots.{IsChildFor, of_anchor, of_row, rebuild_reads, past_rebuild}
+use Rattle.ist_core.specs.Slots.{rebuild_reads, past_rebuild}
 use Rattle.ist_core.specs.Links.{IsChild, Leads, from_anchor, down}
-use Rattle.ist_core.specs.Growing.{AllGrow}
 use Rattle.ist_core.specs.Marking.{HasTarget}
 use Rattle.ist_core.specs.Lawful.{EachEnabled, CanOpen, state_of}
-use Rattle.ist_core.proofs.GrowingLemmas.{inner_there}
+use Rattle.ist_core.proofs.GrowingLemmas.{child_remains}
 use Rattle.laws_links.specs.Linking.{IsFinished}
 use Rattle.laws_links.proofs.InductionLemmas.{grow_behind}
 use Rattle.laws_histories.proofs.NeedLemmas.{HasForm, into_nothing, over_leaf, beside_low, beside_high, takes_out, begins, ends, Needs, AllNeeds}
 use Rattle.laws_histories.proofs.ReadLemmas.{reads_step}
-
--- ---- growing
-
--- the child for a key stays
-pub child_stays : (t u : Snapshot) → AllGrow t.pieces u.pieces → (node key i : ℕ)
-    → IsChildFor t node key i → IsChildFor u node key i
-child_stays t u g node key i (of_anchor a b) = of_anchor a b
-child_stays t u g node key i (of_row r e f) =
-    let it = inner_there t.pieces u.pieces g node r e in
-    of_row it.0 it.1 (f ∙ ap (λ keys. child_count keys key) (sym it.2.keys))
 
 -- ---- at an event
 
@@ -104,7 +92,7 @@ module _ (pairs : List Pair) (words : ℕ) (opens : CanOpen pairs words) where
       ⊎_elim
       (λ still.
       ⊎_elim
-      (λ d. inl (down i still (child_stays (state_of pairs words log) (state_of pairs words (event ∷ log)) (grow_behind pairs words log event h) node key i index) d))
+      (λ d. inl (down i still (child_remains (state_of pairs words log) (state_of pairs words (event ∷ log)) (grow_behind pairs words log event h) node key i index) d))
       (λ f. inr f)
       (child_step log event h n node i child c))
       (λ f. inr (n.finished_below node i child f c))

@@ -36,7 +36,7 @@ pub at_rises : (log : Log) (m n : ℕ) → m ≤ n → GoesOn (log_at log m) (lo
 at_rises log m n h = drop_rises (length log - m) (length log - n) log (omega arith)
 
 -- a log keeps at each length what it was
-at_same : (log longer : Log) → GoesOn log longer → (n : ℕ) → n ≤ length log
+pub at_same : (log longer : Log) → GoesOn log longer → (n : ℕ) → n ≤ length log
     → log_at longer n ≡ log_at log n
 at_same log _ same_log n h = refl
 at_same log _ (one_event {log = rest} event g) n h =

@@ -7,7 +7,7 @@ use Rattle.std.specs.FinMap as fin
 use Rattle.std.specs.FinMap.{gets, same_map, nat_cmp-IsAntisymmetric}
 use Rattle.ist_core.specs.declared.commands.Command.{Command}
 use Rattle.ist_core.specs.declared.commands.Command.TheVariants.{Put, Remove, Get}
-use Rattle.ist_core.specs.Map.{Map, map_after, reply_to, replay, replies}
+use Rattle.ist_core.specs.Map.{Map, map_after, reply_to, replay}
 use Rattle.ist_core.specs.Replies.{Answered}
 use Rattle.ist_core.specs.Changes.{Entry, map_behind}
 use Rattle.ist_core.specs.Standing.{makes_entry}
@@ -20,12 +20,6 @@ use Rattle.laws_histories.specs.Telling.{AreLegal}
 pub replay-append : (m : Map) (xs ys : List Command) → replay m (xs ++ ys) ≡ replay (replay m xs) ys
 replay-append m [] ys = refl
 replay-append m (x ∷ xs) ys = replay-append (map_after m x) xs ys
-
--- the replies to two lists of commands
-pub replies-append : (m : Map) (xs ys : List Command)
-    → replies m (xs ++ ys) ≡ replies m xs ++ replies (replay m xs) ys
-replies-append m [] ys = refl
-replies-append m (x ∷ xs) ys = ap (λ rs. reply_to m x ∷ rs) (replies-append (map_after m x) xs ys)
 
 -- ---- legal histories
 

@@ -38,12 +38,6 @@ side_reads ps qs g node i (Some (RebuildAt base)) h =
     ∙ sym (ap rebuild_reads h.published)
 side_reads ps qs g node i _ h = refl
 
--- what a change may put into a slot is no change
-pub side_plain : (ps qs : Pieces) (node i : ℕ) (ref : Option Ref) → SideNames ps node i ref
-    → past_change qs ref ≡ ref
-side_plain ps qs node i (Some (ChangeAt base)) h = absurd h
-side_plain ps qs node i _ h = refl
-
 -- what a slot may hold may be put into it, if it is no change and set
 pub plain_side : (ps : Pieces) (node i : ℕ) (ref : Option Ref) → SlotNames ps node i ref
     → ref ≢ Some Unset → ((base : ℕ) → ref ≢ Some (ChangeAt base)) → SideNames ps node i ref

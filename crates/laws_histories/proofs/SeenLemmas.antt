@@ -16,7 +16,7 @@ use Rattle.ist_core.specs.Links.{Leads}
 use Rattle.ist_core.specs.Freezing.{KeepsWord, holds_it, holds_change}
 use Rattle.ist_core.specs.Lawful.{EachEnabled, CanOpen, state_of}
 use Rattle.ist_core.proofs.RowLemmas.{changed_at-same}
-use Rattle.ist_core.proofs.GrowingLemmas.{inner_there, change_there}
+use Rattle.ist_core.proofs.GrowingLemmas.{inner_there, change_there, child_remains}
 use Rattle.ist_core.proofs.FateLemmas.{enabled_before, grow_between}
 use Rattle.ist_core.proofs.PlaceLemmas.{anchor_free}
 use Rattle.ist_core.proofs.SlotLemmas.{same_inner, slot_once, no_row}
@@ -33,7 +33,7 @@ use Rattle.laws_links.proofs.ReadLemmas.{side_yes, past_plain}
 use Rattle.laws_histories.proofs.PassLemmas.{passed_plain}
 use Rattle.laws_histories.proofs.NeedLemmas.{AllNeeds}
 use Rattle.laws_histories.proofs.ReadLemmas.{side_reads, plain_side, change_logical, IsTurned, word_reads, ReadsAs}
-use Rattle.laws_histories.proofs.LedLemmas.{child_stays, led_step, WasLeft, led_on}
+use Rattle.laws_histories.proofs.LedLemmas.{led_step, WasLeft, led_on}
 use Rattle.laws_histories.proofs.DecisionLemmas.{unfinished, turning, never_yes}
 
 -- after some log in between the node was led to, and its slot for the key read as this reference
@@ -123,7 +123,7 @@ module _ (pairs : List Pair) (words : ℕ) (opens : CanOpen pairs words)
         led = led_now;
         index = i;
         index_is =
-            child_stays first u
+            child_remains first u
             (grow_between pairs words loaded log m (one_event (Decide turn.caller it.base true) turn.since)) node key i index;
         read =
             record {

@@ -26,6 +26,7 @@ use Rattle.ist_core.proofs.NamingStepLemmas.{changed_at-fixed}
 use Rattle.ist_core.proofs.OrderLemmas.{names, past_rebuild_above}
 use Rattle.ist_core.proofs.SlotStepLemmas.{slot_stays}
 use Rattle.ist_core.proofs.FreezingLemmas.{change_read, side_not_yes, same_change}
+use Rattle.ist_core.proofs.GrowingLemmas.{child_remains}
 use Rattle.laws_links.specs.Linking.{IsFinished}
 use Rattle.laws_links.proofs.FormLemmas.{finished_grows}
 use Rattle.laws_links.proofs.InductionLemmas.{sound_behind, grow_behind}
@@ -34,7 +35,7 @@ use Rattle.laws_histories.specs.Finding.{Finds, Gives}
 use Rattle.laws_histories.specs.Telling.{AreLegal}
 use Rattle.laws_histories.proofs.NeedLemmas.{HasForm, into_nothing, over_leaf, beside_low, beside_high, takes_out, begins, ends, Needs, AllNeeds}
 use Rattle.laws_histories.proofs.ReadLemmas.{side_reads, change_logical, Turns}
-use Rattle.laws_histories.proofs.LedLemmas.{child_stays, led_step, led_on}
+use Rattle.laws_histories.proofs.LedLemmas.{led_step, led_on}
 use Rattle.laws_histories.proofs.DecisionLemmas.{unfinished}
 use Rattle.laws_histories.proofs.FindLemmas.{finds_once, finds_above, gives_step, IsHigh, finds_high}
 use Rattle.laws_histories.proofs.CameLemmas.{came}
@@ -146,7 +147,7 @@ module _ (pairs : List Pair) (words : ℕ) (opens : CanOpen pairs words)
             ⊎_elim (λ x. x) (λ f. absurd (never f))
             (led_step pairs words opens log (Decide caller base true) h needed change.key change.node led);
         index_behind =
-            child_stays Before Behind grows change.node change.key change.index by_key.index_is;
+            child_remains Before Behind grows change.node change.key change.index by_key.index_is;
         slot_behind =
             slot_stays (start pairs words) log (Decide caller base true) h.1
             (sound_behind pairs words log h.0) tt change.node change.index

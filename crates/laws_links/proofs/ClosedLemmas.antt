@@ -1,6 +1,6 @@
 -- A row that isn't open was linked, and so was the row that a passed word leads to. Serves the
 -- replacement law and the rest law.
-use Rattle.std.proofs.Common.{Bool, List, Option, Some, [], ap, arith, inl, inr, subst, sym, true, ℕ, ⊎_elim, ◌*◌, ◌+◌, ◌∙◌, ◌∷◌, ◌≡◌, ◌≢◌}
+use Rattle.std.proofs.Common.{Bool, List, Some, [], ap, arith, inl, inr, subst, sym, true, ℕ, ⊎_elim, ◌*◌, ◌+◌, ◌∙◌, ◌∷◌, ◌≡◌, ◌≢◌}
 use Rattle.ist_core.specs.declared.events.Event.{Event}
 use Rattle.ist_core.specs.declared.events.Event.TheVariants.{Decide}
 use Rattle.ist_core.specs.declared.pairs.Pair.{Pair}
@@ -12,7 +12,7 @@ use Rattle.ist_core.specs.Lawful.{CanOpen, EachEnabled, state_of}
 use Rattle.ist_core.specs.Links.{Linked, WasLinked, below}
 use Rattle.ist_core.specs.Logs.{Happened, Log, Okays, Passes, state}
 use Rattle.ist_core.specs.Marking.{CanMark, CanPass, IsCalled, as_child, as_target, behind_rebuild}
-use Rattle.ist_core.specs.Pieces.{Change, Inner, Piece, Rebuild}
+use Rattle.ist_core.specs.Pieces.{Change, Inner, Rebuild}
 use Rattle.ist_core.specs.Rebuilding.{IsStarted}
 use Rattle.ist_core.specs.References.{ChangeAt, InnerAt, RebuildAt, ref_of, word_of}
 use Rattle.ist_core.specs.Slots.{SlotHolds, in_row, past_rebuild, rebuild_reads}
@@ -25,6 +25,7 @@ use Rattle.ist_core.proofs.GrowingLemmas.{rebuild_there}
 use Rattle.ist_core.proofs.NamingLemmas.{IsRebuildFor, SlotNames, slot_names}
 use Rattle.ist_core.proofs.OrderLemmas.{names}
 use Rattle.ist_core.proofs.SlotLemmas.{same_inner}
+use Rattle.ist_core.proofs.DrawLemmas.{same_rebuild}
 use Rattle.laws_links.proofs.ChangeLemmas.{said_yes, undecided_stands}
 use Rattle.laws_links.proofs.ComesLemmas.{status_comes}
 use Rattle.laws_links.proofs.FormLemmas.{IsFormed, of_finish, of_leaf_put, of_pair_put, of_remove, of_start}
@@ -57,11 +58,6 @@ pub record IsLinkedBehind (pairs : List Pair) (words : ℕ) (log : Log) (word : 
   -- a rebuild that the word names has a target that was linked
   pub target : (rebuild : ℕ) → ref_of word ≡ Some (RebuildAt rebuild)
       → HasLinkedTarget pairs words log rebuild
-
--- two rows of rebuilds are one
-pub same_rebuild : (o : Option Piece) (r s : RebuildRow) → o ≡ Some (Rebuild r)
-    → o ≡ Some (Rebuild s) → r ≡ s
-same_rebuild o r s e f = cc
 
 module _ (pairs : List Pair) (words : ℕ) (opens : CanOpen pairs words) where
   -- what a change that was decided yes took out of its slot was linked

@@ -1,6 +1,6 @@
 -- What a slot reads as after an event, and what it read as before it. Serves the linked law, the
 -- replacement law and the rest law.
-use Rattle.std.proofs.Common.{List, None, Option, Some, [], arith, inl, inr, length, refl, slice_get, subst, suc, zero, ℕ, ⊎_elim, ◌∷◌, ◌≡◌, ◌≢◌, ◌⊎◌}
+use Rattle.std.proofs.Common.{List, None, Option, Some, inl, inr, refl, subst, sym, ℕ, ⊎_elim, ◌∷◌, ◌≡◌, ◌≢◌, ◌⊎◌}
 use Rattle.ist_core.specs.declared.events.Event.{Event}
 use Rattle.ist_core.specs.declared.events.Event.TheVariants.{Count, Decide, Draw, Enter, Finish, Install, Lose, Mark, Okay, Pass, Place, Reserve, Resolve, Root}
 use Rattle.ist_core.specs.declared.pairs.Pair.{Pair}
@@ -15,18 +15,11 @@ use Rattle.ist_core.proofs.NamingLemmas.{InnerHere, SideNames, WordsName, slot_n
 use Rattle.ist_core.proofs.OrderLemmas.{names, past_change_names}
 use Rattle.ist_core.proofs.PlaceLemmas.{anchor_free}
 use Rattle.ist_core.proofs.SlotLemmas.{no_row}
+use Rattle.ist_core.proofs.GrowingLemmas.{get_alike}
 use Rattle.laws_links.proofs.FinishedLemmas.{same_length}
 use Rattle.laws_links.proofs.InductionLemmas.{grow_behind}
 use Rattle.laws_links.proofs.ReadEventLemmas.{Reading, reads_decide, reads_install, reads_place, reads_quiet, reads_resolve}
 use Rattle.laws_links.proofs.ReadLemmas.{Fills, ReadsAs, Turns, filled_by, reads_once}
-
--- a list of the same length has an element at each index at which the other has one
-get_alike : (xs ys : List ℕ) (i x : ℕ) → length xs ≡ length ys → slice_get xs i ≡ Some x
-    → (y : ℕ) × (slice_get ys i ≡ Some y)
-get_alike [] ys i x e at = absurd (cc)
-get_alike (a ∷ xs) [] i x e at = absurd (omega arith)
-get_alike (a ∷ xs) (b ∷ ys) zero x e at = (b, refl)
-get_alike (a ∷ xs) (b ∷ ys) (suc i) x e at = get_alike xs ys i x (omega arith) at
 
 module _ (pairs : List Pair) (words : ℕ) (opens : CanOpen pairs words) where
   -- a slot reads the same after each event, or the event decides its change yes, or puts a part
@@ -118,7 +111,7 @@ module _ (pairs : List Pair) (words : ℕ) (opens : CanOpen pairs words) where
       (no_row (state_of pairs words (event ∷ log)).pieces node r (anchor_free pairs words (event ∷ log) h) a p)
   slot_held log event h node i word (was_row k) (in_row r p e) =
       let long = same_length (state_of pairs words log).pieces (state_of pairs words (event ∷ log)).pieces (grow_behind pairs words log event h) node k.0 r k.1 p in
-      let it = get_alike r.slots k.0.slots i word long e in
+      let it = get_alike r.slots k.0.slots i word (sym long) e in
       (it.0, in_row k.0 k.1 it.1)
 
   -- how a slot gets what it reads as: it read so before, or its change is decided yes now, or it is

@@ -28,7 +28,7 @@ use Rattle.ist_core.proofs.PlaceLemmas.{no_piece}
 use Rattle.ist_core.proofs.RowLemmas.{changed_at-other}
 use Rattle.ist_core.proofs.SlotLemmas.{same_inner}
 use Rattle.ist_core.proofs.StepLemmas.{rows_placed}
-use Rattle.laws_links.proofs.ClosedLemmas.{same_rebuild}
+use Rattle.ist_core.proofs.DrawLemmas.{same_rebuild}
 use Rattle.laws_links.proofs.ComesLemmas.{rebuild_comes}
 use Rattle.laws_links.proofs.InductionLemmas.{sound_behind}
 use Rattle.laws_links.proofs.OriginLemmas.{RebuildComes, is_begun, is_drawn, is_rooted, rebuild_was}

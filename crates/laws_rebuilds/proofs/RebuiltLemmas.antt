@@ -17,8 +17,8 @@ use Rattle.ist_core.proofs.NamingLemmas.{SideNames}
 use Rattle.ist_core.proofs.OrderLemmas.{names}
 use Rattle.ist_core.proofs.PlaceLemmas.{anchor_free}
 use Rattle.ist_core.proofs.RowLemmas.{changed_at-same}
+use Rattle.ist_core.proofs.DrawLemmas.{same_rebuild}
 use Rattle.laws_links.proofs.ChangeLemmas.{said_yes}
-use Rattle.laws_links.proofs.ClosedLemmas.{same_rebuild}
 use Rattle.laws_links.proofs.FormLemmas.{replaced_grows}
 use Rattle.laws_links.proofs.FormedLemmas.{changes_are_formed}
 use Rattle.laws_links.proofs.InductionLemmas.{changes_by, grow_behind}

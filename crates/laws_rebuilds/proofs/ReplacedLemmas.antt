@@ -23,8 +23,9 @@ use Rattle.ist_core.proofs.OrderLemmas.{names}
 use Rattle.ist_core.proofs.ParentLemmas.{one_home}
 use Rattle.ist_core.proofs.PlaceLemmas.{anchor_free}
 use Rattle.ist_core.proofs.SlotLemmas.{slot_once}
+use Rattle.ist_core.proofs.DrawLemmas.{same_rebuild}
 use Rattle.laws_links.proofs.ChangeLemmas.{said_yes}
-use Rattle.laws_links.proofs.ClosedLemmas.{same_rebuild, started_target_linked}
+use Rattle.laws_links.proofs.ClosedLemmas.{started_target_linked}
 use Rattle.laws_links.proofs.FormedLemmas.{changes_are_formed}
 use Rattle.laws_links.proofs.InductionLemmas.{changes_by, grow_behind}
 use Rattle.laws_links.proofs.LinkLemmas.{deciding}

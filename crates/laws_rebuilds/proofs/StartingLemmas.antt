@@ -23,7 +23,6 @@ use Rattle.ist_core.proofs.PlaceLemmas.{anchor_free, no_piece}
 use Rattle.ist_core.proofs.SlotLemmas.{slot_once}
 use Rattle.ist_core.proofs.StepLemmas.{holds_installed}
 use Rattle.laws_links.proofs.ChangeLemmas.{said_something, same_change_word, undecided_stands}
-use Rattle.laws_links.proofs.ClosedLemmas.{same_rebuild}
 use Rattle.laws_links.proofs.ComesLemmas.{change_comes}
 use Rattle.laws_links.proofs.FormLemmas.{IsFinish, IsFormed, of_finish, of_leaf_put, of_pair_put, of_remove, of_start}
 use Rattle.laws_links.proofs.InductionLemmas.{changes_by, sound_behind}
@@ -31,6 +30,7 @@ use Rattle.laws_links.proofs.OriginLemmas.{ChangeComes, change_was, is_decided, 
 use Rattle.laws_links.proofs.ReadEventLemmas.{change_past}
 use Rattle.laws_links.proofs.ReadLemmas.{ReadsAs, side_undecided}
 use Rattle.ist_core.specs.Installing as kinds
+use Rattle.ist_core.proofs.DrawLemmas.{same_rebuild}
 
 -- ---- changes that name a rebuild
 

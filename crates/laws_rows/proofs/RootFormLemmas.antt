@@ -22,7 +22,7 @@ use Rattle.ist_core.specs.Snapshots.{Snapshot, bases_of}
 use Rattle.ist_core.specs.StartLayout.{start}
 use Rattle.ist_core.specs.Statuses.{finished_word}
 use Rattle.ist_core.proofs.FateLemmas.{grow_between}
-use Rattle.ist_core.proofs.GrowingLemmas.{inner_there}
+use Rattle.ist_core.proofs.GrowingLemmas.{inner_there, get_alike}
 use Rattle.ist_core.proofs.NamingStepLemmas.{changed_at-fixed}
 use Rattle.ist_core.proofs.PlaceLemmas.{anchor_free}
 use Rattle.ist_core.proofs.SlotLemmas.{same_inner, slot_once}
@@ -33,7 +33,6 @@ use Rattle.laws_links.proofs.QuietLemmas.{start_quiet}
 use Rattle.laws_rebuilds.proofs.NewTreeLemmas.{ideal_whole}
 use Rattle.laws_rebuilds.proofs.NumberLemmas.{number_is}
 use Rattle.laws_stability.proofs.SetLemmas.{set_later}
-use Rattle.laws_stability.proofs.SlotWordLemmas.{get_alike}
 use Rattle.laws_rows.specs.Rooting.{HasRootForm, IsWholeRow, NamesRowOf}
 
 -- the form of a root, with the keys of its target

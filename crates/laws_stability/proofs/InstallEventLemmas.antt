@@ -21,7 +21,7 @@ use Rattle.ist_core.specs.Snapshots.{Snapshot}
 use Rattle.ist_core.specs.StartLayout.{start}
 use Rattle.ist_core.specs.Writing.{first_change, touch_of}
 use Rattle.ist_core.proofs.FateLemmas.{enabled_before, grow_between}
-use Rattle.ist_core.proofs.GrowingLemmas.{inner_there, rebuild_there}
+use Rattle.ist_core.proofs.GrowingLemmas.{inner_there, rebuild_there, get_alike}
 use Rattle.ist_core.proofs.NamingLemmas.{InnerHere, RootNames}
 use Rattle.ist_core.proofs.OrderLemmas.{names}
 use Rattle.ist_core.proofs.PlaceLemmas.{anchor_free}
@@ -35,7 +35,7 @@ use Rattle.laws_stability.proofs.HoldingLemmas.{rows_later}
 use Rattle.laws_stability.proofs.LaterLemmas.{known_later}
 use Rattle.laws_stability.proofs.OwnLemmas.{unrefused_later}
 use Rattle.laws_stability.proofs.SetLemmas.{set_later}
-use Rattle.laws_stability.proofs.SlotWordLemmas.{finds, get_alike, slot_later, slot_of_row}
+use Rattle.laws_stability.proofs.SlotWordLemmas.{finds, slot_later, slot_of_row}
 
 -- the child for a key stays the child for it
 child_for_later : (t u : Snapshot) → AllGrow t.pieces u.pieces → (node key i : ℕ)

@@ -1,6 +1,6 @@
 -- The slots of a node, and its place, stay; what a slot holds is what the state has at its place.
 -- Serves each clause on an event of a slot.
-use Rattle.std.proofs.Common.{List, None, Some, [], ap, arith, if◌then◌else◌, length, refl, slice_get, subst, suc, sym, zero, ℕ, ⊎_elim, ◌∙◌, ◌∷◌, ◌≡◌}
+use Rattle.std.proofs.Common.{List, None, Some, ap, if◌then◌else◌, refl, slice_get, subst, sym, ℕ, ⊎_elim, ◌∙◌, ◌≡◌}
 use Rattle.std.proofs.lemmas.Bool.Decides.{eqb_tells}
 use Rattle.ist_core.specs.declared.events.Event.{Event}
 use Rattle.ist_core.specs.declared.pairs.Pair.{Pair}
@@ -15,7 +15,7 @@ use Rattle.ist_core.specs.Snapshots.{Snapshot}
 use Rattle.ist_core.specs.StartLayout.{start}
 use Rattle.ist_core.specs.Writing.{Touch, place_in, place_of_slot, touch_of}
 use Rattle.ist_core.proofs.FateLemmas.{enabled_before, grow_between}
-use Rattle.ist_core.proofs.GrowingLemmas.{inner_there}
+use Rattle.ist_core.proofs.GrowingLemmas.{inner_there, get_alike}
 use Rattle.ist_core.proofs.PlaceLemmas.{anchor_free}
 use Rattle.ist_core.proofs.SlotLemmas.{no_row, same_inner}
 use Rattle.ist_core.specs.Shown.{IsShown}
@@ -31,14 +31,6 @@ finds t u event a is f = subst (λ x. IsShown u x.place x.found)
   where
     one : (x y : Touch) → Some x ≡ Some y → x ≡ y
     one x y e = cc
-
--- a list of the same length has an element at each index at which the other has one
-pub get_alike : (xs ys : List ℕ) (i x : ℕ) → length ys ≡ length xs → slice_get xs i ≡ Some x
-    → (y : ℕ) × (slice_get ys i ≡ Some y)
-get_alike [] ys i x e at = absurd (cc)
-get_alike (a ∷ xs) [] i x e at = absurd (omega arith)
-get_alike (a ∷ xs) (b ∷ ys) zero x e at = (b, refl)
-get_alike (a ∷ xs) (b ∷ ys) (suc i) x e at = get_alike xs ys i x (omega arith) at
 
 -- if there is a row at the node, the place of its slot depends on the degree
 pub place_of_row : (t : Snapshot) (node i : ℕ) (r : InnerRow) → t.pieces anchor ≡ None

@@ -1,7 +1,7 @@
 -- What the bytes that were taken from a source say of all that it had. Serves `audits.audit`.
 use Rattle.std.proofs.Common.{◌≡◌, ℕ, ◌+◌, ◌*◌, ◌≤◌, nat_eq, nat_lt, Bool, true}
 use Rattle.std.proofs.Common.{false, if◌then◌else◌, List, [], ◌++◌, length, drop, Option, Some}
-use Rattle.std.proofs.Common.{None, IfSome, IfOk, OnOk, Result, Ok, Err, refl, sym, ap, ◌∙◌, subst, arith}
+use Rattle.std.proofs.Common.{None, IfSome, IfOk, Result, Ok, Err, refl, sym, ap, ◌∙◌, subst, arith}
 use Rattle.std.proofs.Common.{⊎_elim}
 use Rattle.std.specs.List.{starts_with}
 use Rattle.std.proofs.lemmas.Bool.Decides.{nat_tests}
@@ -207,11 +207,6 @@ pub some_so : {A : Type 0} (P Q : A → Type 0) (o : Option A) → ((a : A) → 
     → IfSome o P → IfSome o Q
 some_so P Q None f h = tt
 some_so P Q (Some a) f h = f a h
-
--- what holds on success
-pub on_ok : {A E P : Type 0} (r : Result A E) → P → OnOk r P
-on_ok (Ok a) p = p
-on_ok (Err e) p = tt
 
 -- more bytes after a good head
 module _ (taken more : List ℕ) (extends : Extends taken more) (head : head_flaw taken ≡ None) where

@@ -1,6 +1,6 @@
 -- What the dump of lawful words says. Serves `laws`.
 use Rattle.std.proofs.Common.{◌≡◌, ℕ, suc, ◌+◌, ◌-◌, ◌<◌, ◌≤◌, ◌^◌, nat_eq, nat_lt, Bool}
-use Rattle.std.proofs.Common.{true, false, ◌||◌, if◌then◌else◌, List, [], ◌∷◌, ◌++◌, length, take}
+use Rattle.std.proofs.Common.{true, false, ◌||◌, if◌then◌else◌, List, [], ◌∷◌, ◌++◌, length}
 use Rattle.std.proofs.Common.{drop, get_or, replicate, Some, None, refl, sym, ap, ◌∙◌, subst}
 use Rattle.std.proofs.Common.{arith}
 use Rattle.std.specs.List.{flat_map}
@@ -48,12 +48,6 @@ module _ (table : List ℕ) (bounds : HasGoodBounds table)
     (fit : (place : ℕ) → word_at table place < 2 ^ 64) where
   u : ℕ
   u = word_at table next_place
-
-  ws : List ℕ
-  ws = take (word_at table next_place) table
-
-  body : List ℕ
-  body = flat_map number_bytes (take (word_at table next_place) table)
 
   length_ws : length (used_words table) ≡ word_at table next_place
   length_ws =

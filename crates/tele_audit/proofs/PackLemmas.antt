@@ -1,6 +1,6 @@
 -- What `pack` makes of lines. Serves `packing` and `laws.packed_lines_are_listed`.
 use Rattle.std.proofs.Common.{◌≡◌, ℕ, ◌+◌, ◌-◌, ◌*◌, ◌^◌, ◌<◌, ◌≤◌, Bool, true, false, cond, List, [], ◌∷◌, length}
-use Rattle.std.proofs.Common.{Option, Some, None, refl, sym, ap, ◌∙◌, subst, arith, IfSome, IsSome}
+use Rattle.std.proofs.Common.{Option, Some, None, refl, sym, ap, ◌∙◌, subst, arith, IfSome}
 use Rattle.std.proofs.Common.{inl, inr, flat_map}
 use Rattle.std.proofs.lemmas.List.{length-map}
 use Rattle.std.specs.FinMap as fin
@@ -26,11 +26,10 @@ use Rattle.plain_map.specs.Rising.{IsRising}
 use Rattle.plain_map.proofs.EntriesLemmas.{pairs_of-map_of}
 use Rattle.tele_lines.specs.declared.items.Cause.{Cause}
 use Rattle.tele_lines.specs.declared.items.Item.{Item}
-use Rattle.tele_lines.specs.declared.items.Item.TheVariants.{Point}
 use Rattle.tele_lines.specs.declared.items.Version.{Version}
 use Rattle.tele_lines.specs.declared.items.Version.TheVariants.{One}
 use Rattle.tele_lines.specs.Answer.{Read, Good, Bad, pair_text}
-use Rattle.tele_lines.specs.Buffers.{unread_of, TellsEndOf}
+use Rattle.tele_lines.specs.Buffers.{unread_of}
 use Rattle.tele_lines.specs.Lines.{line_limit, lines_of}
 use Rattle.tele_lines.specs.Progress.{Place, read_at, GoesTo}
 use Rattle.tele_audit.specs.declared.jobs.Job.TheVariants.{Pack, Tell}
@@ -64,14 +63,6 @@ one_more m (Get key) = omega arith
 -- a point line was carried out
 module _ (m then_m : Map) (command : Command) (reply : Option ℕ)
     (done : (then_m, reply) ≡ step m command) where
-  -- a point line is carried out on the map, and the lines after it see the new map
-  pub point_taken : (item : Item) → item ≡ Point command
-      → (number : ℕ) (version : Version) (lines : List Read)
-      → behind_lines m (Good number version item ∷ lines) ≡ behind_lines then_m lines
-  point_taken item is number version lines =
-      ap (λ i. behind_lines m (Good number version i ∷ lines)) is
-      ∙ ap (λ (p : Map × Option ℕ). behind_lines p.0 lines) (sym done)
-
   -- a command adds at most one pair
   pub point_few : fin.len then_m ≤ fin.len m + 1
   point_few =
@@ -135,16 +126,6 @@ module _ (m : Map) (old : Place) (unread : Option (List ℕ)) where
             ∙ ap (behind_lines m) (sym next.reads) ∙ way.same;
       }
 
-  -- if no line is left that asks for something, the map is the one that the input leaves
-  pub way_done : (left : Option (List ℕ)) → IfSome left (λ bytes. IsUnderWay bytes m old unread)
-      → IfSome unread (λ bytes. read_at old (lines_of bytes) ≡ [])
-      → IfSome left (λ bytes. left_by bytes ≡ Holds m)
-  way_done None way none = tt
-  way_done (Some bytes) way none =
-      let here : read_at old (lines_of way.rest) ≡ [] =
-      subst (λ u. IfSome u (λ bytes. read_at old (lines_of bytes) ≡ [])) way.leaves none in
-      sym way.same ∙ ap (behind_lines m) here
-
   -- a line is bad
   pub way_bad : (left : Option (List ℕ)) (number : ℕ) (cause : Cause)
       → IfSome left (λ bytes. IsUnderWay bytes m old unread)
@@ -156,12 +137,6 @@ module _ (m : Map) (old : Place) (unread : Option (List ℕ)) where
       subst (λ u. IfSome u (λ bytes. read_at old (lines_of bytes) ≡ Bad number cause ∷ [])) way.leaves
       bad in
       sym way.same ∙ ap (behind_lines m) here
-
--- once its end was seen, the source has nothing left
-pub whole_if : (left now : Option (List ℕ)) (ended : Bool) → (IsSome left → TellsEndOf ended now)
-    → ended ≡ true → IfSome left (λ _. now ≡ Some [])
-whole_if None now ended tells is = tt
-whole_if (Some bytes) now ended tells is = (tells refl).none is
 
 -- ---- new tables
 

@@ -1,46 +1,19 @@
 -- A dump that goes out piece by piece. Serves `pieces` and `dumps`.
 use Rattle.std.proofs.Common.{◌≡◌, ℕ, ◌+◌, ◌<◌, ◌≤◌, List, [], ◌∷◌, ◌++◌, length, take, drop}
-use Rattle.std.specs.Prelude.{Result, Ok, Err, OnErr}
-use Rattle.std.proofs.Common.{Option, refl, sym, ap, ◌∙◌, subst}
+use Rattle.std.proofs.Common.{Option, sym, ap, ◌∙◌, subst}
 use Rattle.std.specs.List.{flat_map}
 use Rattle.std.proofs.lemmas.List.{append_assoc, append-nil, take_more, take-append-drop}
 use Rattle.std.proofs.lemmas.List.{take-take}
 use Rattle.std.proofs.lemmas.List.Concat.{flat_map-append}
 use Rattle.ist_core.specs.RowLayout.{next_place}
 use Rattle.ist_words.specs.WordRows.{word_at}
-use Rattle.tele_io.specs.Bytes.{Appends, AppendsPart}
-use Rattle.tele_io.proofs.AppendsLemmas.{Appends-nothing, Appends-append, AppendsPart-append}
+use Rattle.tele_io.specs.Bytes.{AppendsPart}
+use Rattle.tele_io.proofs.AppendsLemmas.{Appends-append, AppendsPart-append}
 use Rattle.tele_io.proofs.AppendsLemmas.{AppendsPart-longer}
 use Rattle.tele_audit.specs.Dumps.{magic, number_bytes, used_words, dump_of}
 use Rattle.tele_audit.specs.Pieces.{MovesOut, HasDumped}
 
--- nothing goes out
-pub moves_nothing : (before : Option (List ℕ)) (piece : List ℕ)
-    → MovesOut before before piece piece
-moves_nothing before piece =
-    record { moved = []; writes = Appends-nothing before; whole = refl }
-
--- all goes out
-pub moves_all : (before now : Option (List ℕ)) (piece written new : List ℕ)
-    → Appends before now written → written ≡ piece → new ≡ [] → MovesOut before now piece new
-moves_all before now piece written new a e f =
-    record { moved = written; writes = a; whole = ap (λ xs. written ++ xs) f ∙ append-nil written ∙ e }
-
 module _ (before : Option (List ℕ)) (words : List ℕ) where
-  -- only the head
-  pub dumped_head : (empty first piece : List ℕ) (count : ℕ) → empty ≡ []
-      → first ≡ empty ++ magic → piece ≡ first ++ number_bytes count → count ≡ length words
-      → HasDumped before before words piece 0
-  dumped_head empty first piece count e f g h =
-      record {
-        written = [];
-        writes = Appends-nothing before;
-        so_far = g ∙ ap (λ (xs : List ℕ). xs ++ number_bytes count) (f ∙ ap (λ (xs : List ℕ). xs
-            ++ magic) e)
-            ∙ ap (λ n. magic ++ number_bytes n) h
-            ∙ ap (λ xs. magic ++ xs) (sym (append-nil (number_bytes (length words))));
-      }
-
   -- a piece goes out
   pub dumped_out : (now later : Option (List ℕ)) (piece new : List ℕ) (place : ℕ)
       → HasDumped before now words piece place → MovesOut now later piece new
@@ -107,23 +80,3 @@ module _ (before : Option (List ℕ)) (words : List ℕ) where
       (magic ++ number_bytes (length words) ++ flat_map number_bytes (take place words)) rest.0
       (subst (AppendsPart before later) h.so_far
       (AppendsPart-append before now later h.written piece h.writes part)))
-
-  -- the last piece
-  pub dumped_all : (now later : Option (List ℕ)) (piece : List ℕ) (place : ℕ)
-      → HasDumped before now words piece place → place ≡ word_at words next_place
-      → Appends now later piece → Appends before later (dump_of words)
-  dumped_all now later piece place h e a =
-      subst (Appends before later)
-      (h.so_far ∙ ap (λ n. magic ++ number_bytes (length words) ++ flat_map number_bytes
-      (take n words)) e)
-      (Appends-append before now later h.written piece h.writes a)
-
--- what holds anyway holds on an error
-pub on_err : {A E P : Type 0} (r : Result A E) → P → OnErr r P
-on_err (Ok a) p = tt
-on_err (Err e) p = p
-
--- what follows on an error
-pub err_so : {A E P Q : Type 0} (r : Result A E) → (P → Q) → OnErr r P → OnErr r Q
-err_so (Ok a) f p = tt
-err_so (Err e) f p = f p

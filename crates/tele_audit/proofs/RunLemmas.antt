@@ -41,17 +41,6 @@ module _ (job : Job) (before now : Option (List ℕ)) (text : List ℕ) (status 
       subst (λ n. IfSome left (λ bytes. Writes job bytes before now n)) (sym same)
       (writes_if left due writes)
 
--- a fact on an error follows from another
-pub on_err : {A E P Q : Type 0} (r : Result A E) → (P → Q) → OnErr r P → OnErr r Q
-on_err (Ok a) f p = tt
-on_err (Err e) f p = f p
-
--- nothing was written
-pub nothing_if : (job : Job) (before now left : Option (List ℕ)) → now ≡ before
-    → IfSome left (λ bytes. WritesPart job bytes before now)
-nothing_if job before now None same = tt
-nothing_if job before now (Some bytes) same = inl same
-
 -- ---- what is due
 
 -- the dump of a new table of the map that the lines leave is due

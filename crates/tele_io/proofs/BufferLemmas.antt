@@ -1,5 +1,5 @@
 -- The known bytes of a sink, with bytes that are held back from it. Serves `BufferedSink`.
-use Rattle.std.proofs.Common.{◌≡◌, ℕ, List, [], ◌++◌, length, take, drop, Option, Some, None, sym, ◌∙◌, ap, append_assoc, append-nil, take-append-drop, arith}
+use Rattle.std.proofs.Common.{◌≡◌, ℕ, List, [], ◌++◌, length, take, drop, Option, Some, None, sym, ◌∙◌, ap, append_assoc, take-append-drop, arith}
 use Rattle.std.proofs.lemmas.List.{length-append, take_all, take-append-le}
 use Rattle.tele_io.specs.Bytes.{Appends, AppendsPart, Keeps}
 use Rattle.tele_io.specs.Buffers.{with_held}
@@ -15,24 +15,6 @@ keeps_passed (Some xs) (Some ys) held left n passed is =
     append_assoc {A = ℕ} xs (take n held) (drop n held) ∙ ap (λ l. xs ++ l) (take-append-drop n held) in
     let here : ys ≡ xs ++ take n held = cc passed in
     ap Some (ap (λ l. l ++ left) here ∙ ap (λ l. (xs ++ take n held) ++ l) is ∙ same)
-
--- bytes are held after those that were
-pub appends_held : (before : Option (List ℕ)) (held left bytes : List ℕ) → left ≡ held ++ bytes
-    → Appends (with_held before held) (with_held before left) bytes
-appends_held None held left bytes is = tt
-appends_held (Some xs) held left bytes is =
-    ap Some (ap (λ l. xs ++ l) is ∙ sym (append_assoc {A = ℕ} xs held bytes))
-
--- bytes went to the inner sink, if none were held back from it
-pub appends_passed : (before now : Option (List ℕ)) (held left bytes : List ℕ) → held ≡ [] → left ≡ []
-    → Appends before now bytes
-    → Appends (with_held before held) (with_held now left) bytes
-appends_passed None now held left bytes none still passed = tt
-appends_passed (Some xs) None held left bytes none still passed = absurd (cc passed)
-appends_passed (Some xs) (Some ys) held left bytes none still passed =
-    let here : ys ≡ xs ++ bytes = cc passed in
-    ap Some (ap (λ l. ys ++ l) still ∙ append-nil ys ∙ here
-    ∙ ap (λ l. l ++ bytes) (sym (append-nil xs) ∙ ap (λ l. xs ++ l) (sym none)))
 
 -- if a sink's bytes are known and were none, they are now a prefix of what was taken
 pub passed_part : (now : Option (List ℕ)) (held text : List ℕ)

@@ -1,3 +1,4 @@
 pub mod AppendsLemmas
 pub mod KeepsLemmas
+pub mod OutcomeLemmas
 pub mod BufferLemmas

@@ -54,14 +54,6 @@ open_closed number old new none few h = record {
   below = subst (λ ts. Each (λ t. t.line < number) ts) (sym none) tt;
   few = omega (arith, h.few, few, ap length none);
 }
-
--- an open round before a line is open before a later line too
-pub open_later : (number later : ℕ) (o : Open) → number ≤ later
-    → IsOpenBefore number o → IsOpenBefore later o
-open_later number later o le h = record {
-  rises = h.rises;
-  below = each_below number later o.tasks le h.below;
-  few = omega (arith, h.few, le);
 }
 
 -- the fresh round is open before the first line

@@ -4,15 +4,10 @@ use Rattle.tele_io.specs.Bytes.{Appends, AppendsPart, Keeps}
 use Rattle.tele_io.proofs.AppendsLemmas.{AppendsPart-whole}
 use Rattle.tele_io.proofs.KeepsLemmas.{appends_keeps, part_keeps}
 
--- what was printed whole stays taken
-pub whole_passed : (before middle now : Option (List ℕ)) (bytes : List ℕ)
-    → Appends before middle bytes → Keeps middle now → Appends before now bytes
-whole_passed = appends_keeps
-
 -- a part that was printed stays taken
 pub part_passed : (before middle now : Option (List ℕ)) (bytes : List ℕ)
     → Appends before middle bytes → Keeps middle now → AppendsPart before now bytes
 part_passed before middle now bytes printed kept =
     part_keeps before middle now bytes (AppendsPart-whole before middle bytes printed) kept
 
-pub ruleset passes = (whole_passed, part_passed)
+pub ruleset passes = (appends_keeps, part_passed)

@@ -1,8 +1,8 @@
 -- Some answers were printed, and others are left. Serves the printing of replies.
-use Rattle.std.proofs.Common.{◌≡◌, ℕ, List, [], ◌∷◌, ◌++◌, refl, sym, ◌∙◌, ap, subst, append_assoc, append-nil}
+use Rattle.std.proofs.Common.{◌≡◌, ℕ, List, ◌∷◌, ◌++◌, sym, ◌∙◌, ap, subst, append_assoc}
 use Rattle.std.specs.Prelude.{Option}
 use Rattle.tele_io.specs.Bytes.{Appends, AppendsPart}
-use Rattle.tele_io.proofs.AppendsLemmas.{Appends-nothing, Appends-append, AppendsPart-append, AppendsPart-longer}
+use Rattle.tele_io.proofs.AppendsLemmas.{Appends-append, AppendsPart-append, AppendsPart-longer}
 use Rattle.tele_lanes.specs.declared.answer_lists.Answer.{Answer}
 use Rattle.tele_lines.specs.declared.items.Version.{Version}
 use Rattle.tele_lines.specs.Answer.{answer_text}
@@ -14,12 +14,6 @@ pub record HasPrinted (version : Version) (before now : Option (List ℕ)) (all 
   pub printed : List ℕ
   pub writes : Appends before now printed
   pub whole : printed ++ answers_text version rest ≡ answers_text version all
-
--- before the first answer
-pub none_printed : (version : Version) (before : Option (List ℕ)) (all : List Answer) → HasPrinted
-    version before before all all
-none_printed version before all = record
-    { printed = []; writes = Appends-nothing before; whole = refl }
 
 -- one more answer
 pub one_printed : (version : Version) (before now later : Option (List ℕ))
@@ -35,15 +29,6 @@ one_printed version before now later all rest others answer is h writes =
       whole = append_assoc {A = ℕ} h.printed text (answers_text version others)
           ∙ ap (λ xs. h.printed ++ answers_text version xs) (sym is) ∙ h.whole;
     }
-
--- all answers
-pub all_printed : (version : Version) (before now : Option (List ℕ)) (all rest : List Answer) → rest
-    ≡ []
-    → HasPrinted version before now all rest → Appends before now (answers_text version all)
-all_printed version before now all rest is h =
-    subst (Appends before now)
-    (sym (append-nil h.printed) ∙ ap (λ xs. h.printed ++ answers_text version xs) (sym is) ∙
-    h.whole) h.writes
 
 -- a part of one more answer
 pub part_printed : (version : Version) (before now later : Option (List ℕ))

@@ -36,21 +36,11 @@ pub on_ok2 : {A E P Q R : Type 0} (r : Result A E) → OnOk r P → OnOk r Q →
 on_ok2 (Ok a) p q f = f p q
 on_ok2 (Err e) p q f = tt
 
--- a fact holds if a call succeeds
-pub at_ok : {A E P : Type 0} (r : Result A E) → P → OnOk r P
-at_ok (Ok a) p = p
-at_ok (Err e) p = tt
-
 -- what follows from three facts if a call succeeds
 pub on_ok3 : {A E P Q R S : Type 0} (r : Result A E) → OnOk r P → OnOk r Q → OnOk r R →
     (P → Q → R → S) → OnOk r S
 on_ok3 (Ok a) p q r f = f p q r
 on_ok3 (Err e) p q r f = tt
-
--- a fact holds if a call fails
-pub at_refusal : {A E P : Type 0} (r : Result A E) → P → OnErr r P
-at_refusal (Ok a) p = tt
-at_refusal (Err e) p = p
 
 module _ (version : Version) (m : Map) (tasks : List Task) where
   -- a part of the text of a round is a part of its text and more

@@ -1,7 +1,7 @@
 -- Lists that follow another one in order, grown by one element. Serves the calls and answers of a
 -- lane.
-use Rattle.std.proofs.Common.{◌≡◌, ◌+◌, ◌<◌, ℕ, suc, List, [], ◌∷◌, ◌++◌, length, map, take, get_or}
-use Rattle.std.proofs.Common.{sym, ap, ◌∙◌, refl, arith}
+use Rattle.std.proofs.Common.{◌≡◌, ◌+◌, ◌<◌, ℕ, List, [], ◌∷◌, ◌++◌, length, map, take, get_or}
+use Rattle.std.proofs.Common.{sym, ap, ◌∙◌}
 use Rattle.std.proofs.lemmas.List.{take-map, map_more, map_push, length_push}
 
 -- the first elements of a mapped list, and one more
@@ -23,19 +23,6 @@ follows_push f g xs made a i d long h same before =
     ∙ ap (λ z. take i (map f xs) ++ z ∷ []) same
     ∙ sym (take-map_more f xs i d h)
     ∙ ap (λ n. take n (map f xs)) (sym (length_push made a ∙ ap (λ n. n + 1) long))
-
--- lists in which f sees the same at each place are the same to f
-pub map_same : {X Y : Type 0} (f : X → Y) (xs ys : List X) → length ys ≡ length xs
-    → ((k : ℕ) (d : X) → k < length xs → f (get_or ys k d) ≡ f (get_or xs k d))
-    → map f ys ≡ map f xs
-map_same f [] [] long same = refl
-map_same f [] (y ∷ ys) long same = absurd (omega arith)
-map_same f (x ∷ xs) [] long same = absurd (omega arith)
-map_same f (x ∷ xs) (y ∷ ys) long same =
-    let head : f y ≡ f x = same 0 x (omega arith) in
-    let rest : map f ys ≡ map f xs
-    = map_same f xs ys (omega arith) (λ k d h. same (suc k) d (omega arith)) in
-    cc
 
 -- two lists that f and g see as the same, each with one more that they see as the same
 pub map-push_both : {X A Y : Type 0} (f : X → Y) (g : A → Y) (xs longer_xs : List X) (made longer_made : List A) (x : X) (a : A)

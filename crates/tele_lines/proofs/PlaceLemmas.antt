@@ -9,7 +9,7 @@ use Rattle.tele_lines.specs.declared.items.Said.TheVariants.{Skips, Chooses, Ask
 use Rattle.tele_lines.specs.Lines.{lines_of, whole_lines}
 use Rattle.tele_lines.specs.Readings.{version_in, next_mode, reading}
 use Rattle.tele_lines.specs.Answer.{Read, Good, Bad, then_read, read_from}
-use Rattle.tele_lines.specs.Progress.{Place, Continues, behind, reads_given, read_at, GoesTo, TakesLine, MeetsLine}
+use Rattle.tele_lines.specs.Progress.{Place, Continues, behind, reads_given, read_at, GoesTo, TakesLine}
 
 -- a line followed by those after it
 then_given : (place : Place) (said : Said) (others : List Read) → Continues said
@@ -44,12 +44,6 @@ goes_behind place said bytes ended now goes_on takes = record {
       reads_first place said takes.line (whole_lines (takes.taken ++ more)) (whole_lines more) (takes.whole going more) takes.says goes_on;
 }
 
--- what holds of bytes that were kept holds of them before
-pub if_kept : (before now : Option (List ℕ)) (P : List ℕ → Type 0) → Keeps before now → IfSome now P
-    → IfSome before P
-if_kept None now P keeps h = tt
-if_kept (Some bytes) now P keeps h = subst (λ u. IfSome u P) keeps h
-
 -- one line was read
 pub one_behind : (place new : Place) (said : Said) (before here now : Option (List ℕ))
     (ended : Bool)
@@ -60,16 +54,6 @@ one_behind place new said None here now ended keeps is goes_on takes = tt
 one_behind place new said (Some bytes) here now ended keeps is goes_on takes =
     let there : TakesLine place said bytes ended now = subst (λ u. IfSome u (λ bytes. TakesLine place said bytes ended now)) keeps takes in
     subst (λ p. GoesTo place p ended (reads_given place said) bytes now) (sym is) (goes_behind place said bytes ended now goes_on there)
-
--- a bad line was met
-pub one_bad : (place : Place) (cause : Cause) (before here : Option (List ℕ)) → Keeps before here
-    → IfSome here (λ bytes. MeetsLine place (Fails cause) bytes)
-    → IfSome before (λ bytes. read_at place (lines_of bytes) ≡ Bad (place.count + 1) cause ∷ [])
-one_bad place cause None here keeps meets = tt
-one_bad place cause (Some bytes) here keeps meets =
-    let there : MeetsLine place (Fails cause) bytes = subst (λ u. IfSome u (λ bytes. MeetsLine place (Fails cause) bytes)) keeps meets in
-    ap (read_at place) there.cut
-    ∙ ap (λ s. then_read (place.count + 1) place.mode s (read_from place.limit (place.count + 1 + 1) (next_mode place.mode s) there.others)) there.says
 
 -- what has not ended had not ended before
 pub still_going : (ended now : Bool) → (ended ≡ true → now ≡ true) → now ≡ false → ended ≡ false
@@ -96,18 +80,6 @@ goes_on_to one two three mid ended first second bytes here now lasts a b =
           ∙ ap (λ rs. first ++ rs) (next.whole going more)
           ∙ sym (append_assoc {A = Read} first second (read_at three (whole_lines more)));
     }
-
--- before the first line nothing was skipped
-pub nothing_yet : (place : Place) (ended : Bool) (unread : Option (List ℕ))
-    → IfSome unread (λ bytes. GoesTo place place ended [] bytes unread)
-nothing_yet place ended None = tt
-nothing_yet place ended (Some bytes) = record {
-  taken = [];
-  rest = bytes;
-  left = refl;
-  same = refl;
-  reads = refl;
-  whole = λ _ more. refl;
 }
 
 -- one stretch followed by another, also if the bytes aren't known

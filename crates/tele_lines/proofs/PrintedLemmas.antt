@@ -1,10 +1,10 @@
 -- Some pairs were printed, and others are left. Serves the printing of intervals.
-use Rattle.std.proofs.Common.{◌≡◌, ℕ, List, [], ◌∷◌, ◌++◌, refl, sym, ◌∙◌, ap, subst, append_assoc, append-nil}
+use Rattle.std.proofs.Common.{◌≡◌, ℕ, List, ◌∷◌, ◌++◌, sym, ◌∙◌, ap, subst, append_assoc}
 use Rattle.std.specs.Prelude.{Option}
 use Rattle.std.specs.List.{flat_map}
 use Rattle.ist_core.specs.declared.pairs.Pair.{Pair}
 use Rattle.tele_io.specs.Bytes.{Appends, AppendsPart}
-use Rattle.tele_io.proofs.AppendsLemmas.{Appends-nothing, Appends-append, AppendsPart-append, AppendsPart-longer}
+use Rattle.tele_io.proofs.AppendsLemmas.{Appends-append, AppendsPart-append, AppendsPart-longer}
 use Rattle.tele_lines.specs.declared.items.Version.{Version}
 use Rattle.tele_lines.specs.Answer.{pair_text}
 
@@ -18,11 +18,6 @@ pub record HasPrinted (version : Version) (before now : Option (List ℕ)) (all 
   pub writes : Appends before now printed
   pub whole : printed ++ flat_map (pair_text version) rest ≡ flat_map (pair_text version) all
 
--- before the first pair
-pub none_printed : (version : Version) (before : Option (List ℕ)) (all : List Pair)
-    → HasPrinted version before before all all
-none_printed version before all = record { printed = []; writes = Appends-nothing before; whole = refl }
-
 -- one more pair
 pub one_printed : (version : Version) (before now later : Option (List ℕ))
     (all rest others : List Pair) (pair : Pair)
@@ -35,13 +30,6 @@ one_printed version before now later all rest others pair is h writes = record {
   whole = append_assoc {A = ℕ} h.printed (pair_text version pair) (lines version others)
       ∙ ap (λ ps. h.printed ++ lines version ps) (sym is) ∙ h.whole;
 }
-
--- all pairs
-pub all_printed : (version : Version) (before now : Option (List ℕ)) (all rest : List Pair)
-    → rest ≡ []
-    → HasPrinted version before now all rest → Appends before now (flat_map (pair_text version) all)
-all_printed version before now all rest is h =
-    subst (Appends before now) (sym (append-nil h.printed) ∙ ap (λ ps. h.printed ++ lines version ps) (sym is) ∙ h.whole) h.writes
 
 -- a part of one more pair
 pub part_printed : (version : Version) (before now later : Option (List ℕ))

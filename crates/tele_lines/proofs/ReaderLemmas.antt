@@ -35,15 +35,6 @@ pub unbroken : (buffer : List ℕ) (found : Option ℕ) → IsFirstByte is_newli
 unbroken buffer (Some place) h none = absurd (cc)
 unbroken buffer None h none = first_place is_newline buffer None h
 
--- bytes that go from the source to the buffer are unread still
-pub unread-fills : (before : Option (List ℕ)) (old new : List ℕ) (n : ℕ)
-    (left now : Option (List ℕ)) → Keeps before (unread_of old false left)
-    → Fills left now old new n → Keeps before (unread_of new false now)
-unread-fills None old new n left now h f = tt
-unread-fills (Some bytes) old new n (Some given) now h f =
-    rw f.bytes.others (ap Some f.bytes.same ∙ h)
-unread-fills (Some bytes) old new n None now h f = absurd (cc)
-
 -- and at the end of the input there are no others
 pub unread-ends : (before : Option (List ℕ)) (old new : List ℕ) (n : ℕ) (left now : Option (List ℕ))
     → n ≡ 0 → Keeps before (unread_of old false left)

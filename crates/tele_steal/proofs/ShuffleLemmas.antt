@@ -1,6 +1,6 @@
 -- Parts of a list in another order. Serves the rule over the deque and its passes.
 use Rattle.std.proofs.Common.{◌≡◌, List, ◌++◌, IsPermutation, sym, subst, append_assoc}
-use Rattle.std.proofs.lemmas.List.Sorted.{IsPermutation-refl, IsPermutation-sym, IsPermutation-trans}
+use Rattle.std.proofs.lemmas.List.Sorted.{IsPermutation-sym, IsPermutation-trans}
 use Rattle.std.proofs.lemmas.List.Sorted.{IsPermutation-append_left, IsPermutation-append_right, IsPermutation-append_comm}
 
 module _ {X : Type 0} where
@@ -72,8 +72,3 @@ module _ {X : Type 0} where
       (IsPermutation-append_right a (rest ++ x) (x ++ rest) (IsPermutation-append_comm rest x)))
       (subst (λ z. IsPermutation z (b ++ rest)) (append_assoc a x rest)
       (IsPermutation-append_left rest (a ++ x) b over))
-
-  -- a part at the end of two, as one of the second
-  pub stays_second : (a b x : List X) → IsPermutation ((a ++ b) ++ x) (a ++ (b ++ x))
-  stays_second a b x = subst (λ z. IsPermutation ((a ++ b) ++ x) z) (append_assoc a b x)
-      (IsPermutation-refl ((a ++ b) ++ x))

@@ -15,13 +15,6 @@ module _ {X : Type 0} where
   seat_within (x ∷ xs) zero u e = omega arith
   seat_within (x ∷ xs) (suc i) u e = let h = seat_within xs i u e in omega arith
 
-  -- what is true of all is true of the element at a place
-  pub seat_fits : (P : X → Type 0) (l : List X) (i : ℕ) (u : X) → get_elem? l i ≡ some u → All P l
-      → P u
-  seat_fits P [] i u e all = absurd (some-ne-none u (sym e))
-  seat_fits P (x ∷ xs) zero u e all = subst P (some-injective x u e) (All-head P x xs all)
-  seat_fits P (x ∷ xs) (suc i) u e all = seat_fits P xs i u e (All-tail P x xs all)
-
   -- a sum after one element was replaced
   pub sum_by-seat : (f : X → ℕ) (l : List X) (i : ℕ) (u w : X) → get_elem? l i ≡ some u
       → sum_by f (set l i w) + f u ≡ sum_by f l + f w

@@ -1,6 +1,6 @@
 -- Lists of lanes. Serves `make_lanes` and `run_tree`.
-use Rattle.std.proofs.Common.{◌≡◌, ℕ, zero, suc, ◌+◌, ◌<◌, ◌≤◌, List, [], ◌∷◌, ◌++◌}
-use Rattle.std.proofs.Common.{length, map, refl, sym, ap, ◌∙◌, arith, All, subst}
+use Rattle.std.proofs.Common.{◌≡◌, ℕ, zero, suc, ◌+◌, ◌<◌, List, [], ◌∷◌, ◌++◌}
+use Rattle.std.proofs.Common.{length, map, sym, ap, ◌∙◌, arith, All, subst}
 use Rattle.std.proofs.lemmas.List.{length-append, length-map, map_push}
 use Rattle.std.proofs.lemmas.List.Elements.{All-cons, All-head, All-tail, All-push}
 use mathlib.Core.List.{map-id}
@@ -29,15 +29,6 @@ one_to_come f xs y ys zs all e is =
     let both = length-append (map f xs) zs in
     let first = length-map xs f in
     let more = ap length is in
-    omega arith
-
--- if none is missing, there are as many
-pub none_to_come : {A B : Type 0} (f : A → B) (xs : List A) (zs all : List B)
-    → map f xs ++ zs ≡ all → length zs ≡ 0 → length xs ≡ length all
-none_to_come f xs zs all e none =
-    let whole = ap length e in
-    let both = length-append (map f xs) zs in
-    let first = length-map xs f in
     omega arith
 
 -- the numbers so far, with the next one

@@ -1,6 +1,5 @@
 pub mod LaneLemmas
 pub mod CameLemmas
-pub mod NumberLemmas
 pub mod PutLemmas
 pub mod LogLemmas
 pub mod RefusalLemmas

@@ -27,6 +27,7 @@ use Rattle.ist_tree.specs.Faces.{TreeFace, MakerFace, calls_in}
 use Rattle.ist_tree.specs.Opening.{IsNewTree}
 use Rattle.ist_tree.specs.Closing.{ClosesWith, calls_taken, told_to, calls_from}
 use Rattle.ist_tree.specs.Refusals.{WasRefused, MayBeAsked}
+use Rattle.ist_tree.proofs.NumberLemmas.{calls_in_order}
 use Rattle.tele_lanes.specs.declared.task_lists.Task.{Task}
 use Rattle.tele_lanes.specs.declared.answer_lists.Answer.{Answer}
 use Rattle.tele_lanes.specs.Lines.{commands_of}
@@ -36,7 +37,6 @@ use Rattle.tele_generations.specs.Generations.{RanFull, MayAsk, may_want_words}
 use Rattle.tele_generations.specs.Generations.{puts_done}
 use Rattle.tele_generations.specs.Tables.{RanOnTable, EndedWith}
 use Rattle.tele_trees.specs.Ends.{TreeLane, run_of, HasEnded, CameTo}
-use Rattle.tele_trees.proofs.NumberLemmas.{calls_in_order}
 use Rattle.tele_trees.proofs.PutLemmas.{puts_few, puts_rise, has_run, called_puts, called_puts-done}
 use Rattle.tele_trees.proofs.LogLemmas.{spent_rise, word_there}
 use Rattle.tele_trees.proofs.RefusalLemmas.{none_stopped, one_stopped, refused_with, task_there}

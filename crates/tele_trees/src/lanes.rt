@@ -1,15 +1,12 @@
 //! The lanes of one tree: making them, gathering their answers, and taking their passes back.
-ghost use Rattle.std.specs.Prelude.{◌≡◌, ◌+◌, ◌++◌, ◌<◌, ◌≤◌, ◌∷◌, map, All, IfOk, IfSome};
-ghost use Rattle.ist_core.specs.Logs.{GoesOn};
-ghost use Rattle.ist_tree.specs.Faces.{calls_in};
-ghost use Rattle.ist_tree.specs.Refusals.{WasRefused};
+ghost use Rattle.std.specs.Prelude.{◌≡◌, ◌+◌, ◌<◌, ◌≤◌, map, All, IfOk};
 ghost use Rattle.tele_lanes.specs.Lines.{AnswerInOrder};
 ghost use Rattle.tele_lanes.specs.Lanes.{all_lane_tasks, HaveOwnLines, unanswered, first_refusal};
 ghost use Rattle.tele_lanes.specs.Lanes.{InLineOrder, TasksInLineOrder};
 ghost use Rattle.tele_trees.specs.Ends.{AreMade, IsNew};
 
 use crate::runs::Came;
-use ist_tree::{Maker, Tree, TreePort};
+use ist_tree::{Holds, Maker, Pass, Tree, TreePort};
 use std::alloc::{AllocError, Global};
 use tele_lanes::{Answers, Lane, Task, Tasks, first_refusal, gather, open_tasks, split};
 
@@ -83,39 +80,20 @@ pub(crate) fn gather_all(alloc: Global, lanes: &[Lane<TreePort<'_>>]) -> Result<
     })
 }
 
-// Gives each pass back to its maker, the last one first.
-pub(crate) fn take_all_back(tree: &Tree, maker: &mut Maker, lanes: Vec<Lane<TreePort<'_>>>)
-    requires same_tree { maker.old.tree ≡ tree.now }
-    requires trees { All (λ l. l.port.pass.tree ≡ tree.now) lanes.items }
-    ensures same_tree { maker.new.tree ≡ maker.old.tree }
-    ensures made { maker.new.made ≡ maker.old.made }
-    ensures taken { maker.new.taken
-        ≡ map (λ l. calls_in l.port.pass) lanes.entry.items ++ maker.old.taken }
-    ensures maker_seen { GoesOn maker.old.seen maker.new.seen }
-    ensures seen { All (λ l. GoesOn l.port.pass.seen maker.new.seen) lanes.entry.items }
-    ensures causes { All (λ l. IfSome l.port.refused (WasRefused l.port.pass))
-        lanes.entry.items }
-{
-    let mut lanes = lanes;
-    let Some(lane) = lanes.pop() else {
-        return;
-    };
-    take_back(tree, maker, lane);
-    take_all_back(tree, maker, lanes);
-}
+// A lane holds its pass in its port, which knows why it was refused.
+pub(crate) struct OfLane;
 
-// Gives the pass of the lane back to its maker.
-fn take_back(tree: &Tree, maker: &mut Maker, lane: Lane<TreePort<'_>>)
-    requires same_tree { maker.old.tree ≡ tree.now }
-    requires its_tree { lane.port.pass.tree ≡ tree.now }
-    ensures same_tree { maker.new.tree ≡ maker.old.tree }
-    ensures made { maker.new.made ≡ maker.old.made }
-    ensures taken { maker.new.taken ≡ calls_in lane.entry.port.pass ∷ maker.old.taken }
-    ensures maker_seen { GoesOn maker.old.seen maker.new.seen }
-    ensures seen { GoesOn lane.entry.port.pass.seen maker.new.seen }
-    ensures cause { IfSome lane.entry.port.refused (WasRefused lane.entry.port.pass) }
-{
-    let Lane { port, .. } = lane;
-    port.know();
-    tree.take_back(maker, port.into_pass());
+impl<'a> Holds<Lane<TreePort<'a>>> for OfLane {
+    ghost use Rattle.std.specs.Prelude.{IfSome};
+    ghost use Rattle.ist_tree.specs.Refusals.{WasRefused};
+
+    ghost pass = { λ l. l.port.pass };
+
+    ghost known = { λ l. IfSome l.port.refused (WasRefused l.port.pass) };
+
+    fn into_pass(holder: Lane<TreePort<'a>>) -> Pass {
+        let Lane { port, .. } = holder;
+        port.know();
+        port.into_pass()
+    }
 }

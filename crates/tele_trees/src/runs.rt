@@ -5,14 +5,14 @@ ghost use Rattle.tele_lanes.specs.Lines.{task_lines};
 ghost use Rattle.tele_generations.specs.Counts.{lane_count};
 ghost use Rattle.tele_trees.specs.Ends.{CameTo};
 
-use crate::lanes::{gather_all, make_lanes, take_all_back};
+use crate::lanes::{OfLane, gather_all, make_lanes};
 use ist_core::Full;
-use ist_tree::{Maker, Tree};
+use ist_tree::{Maker, Tree, TreePort, take_all_back};
 use std::alloc::{AllocError, Global};
 use std::sync::Wait;
 use std::thread::Threads;
 use tele_generations::lane_count;
-use tele_lanes::{Answer, Gate, Task};
+use tele_lanes::{Answer, Gate, Lane, Task};
 use tele_steal::run_team;
 
 // What the lanes answered and left, and the refusal of the lowest lane that stopped.
@@ -47,6 +47,6 @@ pub(crate) fn run_tree<R: Threads + Wait + Sync, G: Gate + Sync>(
     let fresh = make_lanes(alloc, tree, maker, tasks, lane_count(workers, steal))?;
     let lanes = run_team(rt, gate, alloc, fresh, workers, steal)?;
     let came = gather_all(alloc, &lanes);
-    take_all_back(tree, maker, lanes);
+    take_all_back::<Lane<TreePort<'_>>, OfLane>(tree, maker, lanes);
     came
 }

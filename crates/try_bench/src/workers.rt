@@ -3,7 +3,7 @@ ghost use Rattle.std.specs.Prelude.{◌≡◌, ◌≤◌};
 
 use crate::plans::Plan;
 use ist_live::{at_least, list_live};
-use ist_tree::{Pass, Tree};
+use ist_tree::{Holds, Pass, Tree};
 use std::alloc::Global;
 use try_draws::{Draws, Kind};
 
@@ -112,5 +112,14 @@ impl Worker {
         for _ in 0..self.plan.calls {
             self.step(tree);
         }
+    }
+}
+
+impl Holds<Worker> for Worker {
+    ghost pass = { λ w. w.pass };
+
+    fn into_pass(holder: Worker) -> Pass {
+        let Worker { pass, .. } = holder;
+        pass
     }
 }

@@ -3,7 +3,7 @@ ghost use Rattle.std.specs.Prelude.{◌≡◌, ◌≢◌, All, length, IfOk, IfE
 ghost use Rattle.ist_tree.specs.Closing.{ClosesWith};
 
 use ist_rest::Closed;
-use ist_tree::{Maker, OpenFault, Pass, Tree};
+use ist_tree::{Holds, Maker, OpenFault, Pass, Tree, take_all_back};
 use std::alloc::{AllocError, Global};
 use std::thread;
 use std::thread::Threads;
@@ -25,6 +25,16 @@ impl Worker {
         ensures same_tree { self.new.pass.tree ≡ tree.now }
     {
         let _ = tree.put(&mut self.pass, self.key, self.key);
+    }
+}
+
+// Once it worked, its pass goes back to the maker.
+impl Holds<Worker> for Worker {
+    ghost pass = { λ w. w.pass };
+
+    fn into_pass(holder: Worker) -> Pass {
+        let Worker { pass, .. } = holder;
+        pass
     }
 }
 
@@ -59,21 +69,6 @@ fn work_all<R: Threads + Sync>(rt: &R, tree: &Tree, workers: &mut [Worker])
     }
 }
 
-// Gives each pass back to its maker.
-fn take_all_back(tree: &Tree, maker: &mut Maker, workers: Vec<Worker>)
-    requires same_tree { maker.old.tree ≡ tree.now }
-    requires trees { All (λ w. w.pass.tree ≡ tree.now) workers.items }
-    ensures same_tree { maker.new.tree ≡ tree.now }
-{
-    let mut workers = workers;
-    let Some(worker) = workers.pop() else {
-        return;
-    };
-    let Worker { pass, .. } = worker;
-    tree.take_back(maker, pass);
-    take_all_back(tree, maker, workers);
-}
-
 // Makes workers, lets them work, and takes their passes back.
 fn put_all<R: Threads + Sync>(
     rt: &R,
@@ -87,7 +82,7 @@ fn put_all<R: Threads + Sync>(
 {
     let mut workers = make_workers(alloc, tree, maker, count)?;
     work_all(rt, tree, workers.as_mut_slice());
-    take_all_back(tree, maker, workers);
+    take_all_back::<Worker, Worker>(tree, maker, workers);
     Ok(())
 }
 

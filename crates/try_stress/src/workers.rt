@@ -5,7 +5,7 @@ ghost use Rattle.ist_tree.specs.Freezing.{IsFrozenFor};
 use crate::plans::Plan;
 use ist_core::{Full, Pair, Reply};
 use ist_live::{at_least, list_live};
-use ist_tree::{Frozen, Pass, Tree};
+use ist_tree::{Frozen, Holds, Pass, Tree};
 use std::alloc::{AllocError, Global};
 use test_tales::{Asked, Told};
 use try_draws::{Draws, Kind};
@@ -336,5 +336,14 @@ impl Worker {
                 self.lacked_memory = true;
             }
         }
+    }
+}
+
+impl Holds<Worker> for Worker {
+    ghost pass = { λ w. w.pass };
+
+    fn into_pass(holder: Worker) -> Pass {
+        let Worker { pass, .. } = holder;
+        pass
     }
 }

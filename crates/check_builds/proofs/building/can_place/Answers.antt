@@ -1,5 +1,6 @@
 use Rattle.std.proofs.Common.{sym, arith}
-use Rattle.check_fairness.proofs.AnswerLemmas.{if_ok, iff_trans, never, is_not}
+use Rattle.std.proofs.lemmas.Result.{IfOk-weaker}
+use Rattle.check_fairness.proofs.AnswerLemmas.{iff_trans, never, is_not}
 use Rattle.check_events.proofs.MirrorLemmas.{rebuild_stands}
 use Rattle.check_builds.proofs.PartFitLemmas.{part_fits, place_publishes, no_free_root}
 use Rattle.check_builds.proofs.building.can_place.Goals as goal
@@ -25,7 +26,7 @@ returns-then-not-is_free c = record {
 
 pub returns-else-not-is_free : goal.returns-else-not-is_free
 returns-else-not-is_free c = record {
-  exact = if_ok c.has_part.result _ _
+  exact = IfOk-weaker c.has_part.result _ _
       (λ may f t h free kept.
       let stands = rebuild_stands c.args.replica.now t c.args.rebuild h c.in-Some.row.now
       (sym c.in-Some.ensures.value) in

@@ -1,5 +1,6 @@
 use Rattle.std.proofs.Common.{◌∙◌, sym, arith}
-use Rattle.check_fairness.proofs.AnswerLemmas.{if_ok, iff_trans, never, is_not}
+use Rattle.std.proofs.lemmas.Result.{IfOk-weaker}
+use Rattle.check_fairness.proofs.AnswerLemmas.{iff_trans, never, is_not}
 use Rattle.check_events.proofs.MirrorLemmas.{rebuild_stands}
 use Rattle.check_builds.proofs.FitLemmas.{root_is, root_publishes, root_unfinished}
 use Rattle.check_builds.proofs.building.can_root.Goals as goal
@@ -26,7 +27,7 @@ returns-in-None-finished_keys c =
 pub returns-in-Some-finished_keys : goal.returns-in-Some-finished_keys
 returns-in-Some-finished_keys c =
     record {
-      exact = if_ok c.has_root.result _ _
+      exact = IfOk-weaker c.has_root.result _ _
           (λ may f t h starts free.
           let stands = rebuild_stands c.args.replica.now t c.args.rebuild h c.in-Some.row.now
           (sym c.in-Some.ensures.value) in

@@ -1,5 +1,6 @@
 use Rattle.std.proofs.Common.{◌<◌, refl, arith}
-use Rattle.check_fairness.proofs.AnswerLemmas.{if_ok, iff_trans, is_not}
+use Rattle.std.proofs.lemmas.Result.{IfOk-weaker}
+use Rattle.check_fairness.proofs.AnswerLemmas.{iff_trans, is_not}
 use Rattle.check_builds.proofs.LoseLemmas.{lose_pair, lose_is}
 use Rattle.check_builds.proofs.giving_up.can_lose.Goals as goal
 
@@ -17,7 +18,7 @@ pub returns : goal.returns
 returns c =
     record {
       exact =
-          if_ok c.loses_build.result _ _
+          IfOk-weaker c.loses_build.result _ _
           (λ may exact t log h s k.
           let callers = h.callers in
           let known : c.args.caller < t.callers = omega arith in

@@ -1,8 +1,8 @@
 use Rattle.std.proofs.Common.{reverse, subst, Some}
+use Rattle.std.proofs.lemmas.Result.{IfOk-weaker}
 use Rattle.ist_core.specs.References.{LeafAt}
 use Rattle.ist_core.specs.Slots.{logical}
 use Rattle.check_builds.specs.Reading.{IsReadingOf}
-use Rattle.check_fairness.proofs.AnswerLemmas.{if_ok}
 use Rattle.check_builds.proofs.GatherLemmas.{first_empty, first_gathered, row_gathered}
 use Rattle.check_builds.proofs.leaves.add_of_slot.Goals as goal
 
@@ -18,7 +18,7 @@ returns-in-Nothing c =
 pub returns-in-OneLeaf : goal.returns-in-OneLeaf
 returns-in-OneLeaf c =
     record {
-      exact = if_ok c.add_leaf.result _ _
+      exact = IfOk-weaker c.add_leaf.result _ _
           (λ found f t h.
           first_gathered t.pieces c.args.word (reverse c.args.waiting.now.items)
           (Some (LeafAt c.in-OneLeaf.leaf)) c.args.out.now.items c.add_leaf.new.out.items found
@@ -30,7 +30,7 @@ returns-in-OneLeaf c =
 pub returns-in-OneRow : goal.returns-in-OneRow
 returns-in-OneRow c =
     record {
-      exact = if_ok c.put_slots.result _ _
+      exact = IfOk-weaker c.put_slots.result _ _
           (λ found f t h.
           row_gathered t.pieces c.args.word c.in-OneRow.row c.args.waiting.now.items
           c.put_slots.new.waiting.items c.args.out.now.items found

@@ -1,13 +1,13 @@
 use Rattle.std.proofs.Common.{◌≡◌, ◌∙◌, ◌+◌, ◌-◌, ◌∷◌, ◌++◌, [], List, ℕ, map, ap, arith}
+use Rattle.std.proofs.lemmas.Result.{IfOk-weaker}
 use Rattle.ist_core.specs.Snapshots.{sizes_held}
-use Rattle.check_fairness.proofs.AnswerLemmas.{if_ok}
 use Rattle.check_events.proofs.ReserveLemmas.{reserves}
 use Rattle.check_events.proofs.entering.can_reserve.Goals as goal
 
 pub returns : goal.returns
 returns c =
     record {
-      exact = if_ok c.is_fair_for.result _ _
+      exact = IfOk-weaker c.is_fair_for.result _ _
           (λ b f t h k.
           let words = h.words in
           let next = h.next in

@@ -1,6 +1,6 @@
 use Rattle.std.proofs.Common.{map, refl, sym, subst, arith}
+use Rattle.std.proofs.lemmas.Result.{IfOk-weaker}
 use Rattle.check_fairness.specs.Searching.{AreBuilding}
-use Rattle.check_fairness.proofs.AnswerLemmas.{if_ok}
 use Rattle.check_fairness.proofs.FairLemmas.{spare_is_fair}
 use Rattle.check_fairness.proofs.RoomLemmas.{go_on_fair}
 use Rattle.check_fairness.proofs.fairness.is_fair_for.Goals as goal
@@ -28,7 +28,7 @@ returns-then-branch c =
 pub returns : goal.returns
 returns c =
     record {
-      exact = if_ok c.is_fair.result _ _
+      exact = IfOk-weaker c.is_fair.result _ _
           (λ b f t k w. f t (subst (λ xs. AreBuilding t (map (λ v. v.items) xs))
           (sym c.as_slice.ensures.value) k.lists) w) c.is_fair.ensures.exact;
     }

@@ -1,6 +1,6 @@
 use Rattle.std.proofs.Common.{◌∙◌, refl, sym}
+use Rattle.std.proofs.lemmas.Result.{on_ok_weaker}
 use Rattle.ist_core.specs.Shapes.{share_from_fits}
-use Rattle.check_fairness.proofs.AnswerLemmas.{on_ok}
 use Rattle.check_fairness.proofs.TargetLemmas.{held_behind, lists_known, lists_more}
 use Rattle.check_fairness.proofs.lists.add_keys.Goals as goal
 
@@ -15,7 +15,7 @@ returns-then-contains c =
 pub returns : goal.returns
 returns c =
     record {
-      exact = on_ok c.add_lists.result _ _
+      exact = on_ok_weaker c.add_lists.result
           (λ adds t u gains known.
           lists_more t u c.args.keys gains c.args.building.now _ share_from_fits
           (λ k. held_behind c.args.building.now.counts c.insert.new.self c.args.keys k

@@ -1,7 +1,7 @@
 use Rattle.std.proofs.Common.{map}
+use Rattle.std.proofs.lemmas.Result.{on_ok_weaker}
 use Rattle.ist_core.specs.Elements.{Among}
 use Rattle.check_fairness.specs.Readings.{rest_at}
-use Rattle.check_fairness.proofs.AnswerLemmas.{on_ok}
 use Rattle.check_fairness.proofs.AddedLemmas.{two_added, three_added, not_set, is_set}
 use Rattle.check_fairness.proofs.ReadingLemmas.{goes_free, goes_bound}
 use Rattle.check_fairness.proofs.readings.add_behind.Goals as goal
@@ -22,7 +22,7 @@ returns c =
     let lists = map (λ v. v.items) c.args.lists.now in
     let r = c.args.reading in
     record {
-      added = on_ok c.add_begun.result _ _
+      added = on_ok_weaker c.add_begun.result
           (λ f sizes.
           three_added (c.in_ok-add_left_out.ensures.added sizes) (c.in_ok-add_on.ensures.added
           sizes) (f sizes)

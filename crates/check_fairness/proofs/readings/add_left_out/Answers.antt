@@ -1,7 +1,8 @@
 use Rattle.std.proofs.Common.{map}
+use Rattle.std.proofs.lemmas.Result.{on_ok_weaker}
 use Rattle.ist_core.specs.Elements.{Among}
 use Rattle.check_fairness.specs.Readings.{rest_at}
-use Rattle.check_fairness.proofs.AnswerLemmas.{is_not, on_ok}
+use Rattle.check_fairness.proofs.AnswerLemmas.{is_not}
 use Rattle.check_fairness.proofs.AddedLemmas.{none_added, other_added}
 use Rattle.check_fairness.proofs.ReadingLemmas.{out_is}
 use Rattle.check_fairness.proofs.readings.add_left_out.Goals as goal
@@ -19,7 +20,7 @@ returns c =
     let r = c.args.reading in
     let spare = c.is_spare.ensures.exact.0 c.if-not-is_spare.false in
     record {
-      added = on_ok c.add_reading.result _ _
+      added = on_ok_weaker c.add_reading.result
           (λ f sizes. other_added (f sizes) (out_is (λ l. Among l lists) c.args.room r.may
           c.without.result (rest_at lists r.list r.at) r.free c.args.size sizes spare
           c.without.ensures.value))

@@ -1,5 +1,5 @@
 use Rattle.std.proofs.Common.{map}
-use Rattle.check_fairness.proofs.AnswerLemmas.{on_ok}
+use Rattle.std.proofs.lemmas.Result.{on_ok_weaker}
 use Rattle.check_fairness.proofs.AddedLemmas.{none_added, other_added}
 use Rattle.check_fairness.proofs.BuildingListLemmas.{nothing_on, other_on, this_on}
 use Rattle.check_fairness.proofs.readings.add_on.Goals as goal
@@ -26,7 +26,7 @@ pub returns-else-first-size : goal.returns-else-first-size
 returns-else-first-size c =
     let lists = map (λ v. v.items) c.args.lists.now in
     record {
-      added = on_ok c.add_reading.result _ _
+      added = on_ok_weaker c.add_reading.result
           (λ f sizes.
           other_added (f sizes)
           (this_on lists c.args.room c.args.may c.args.list c.args.at c.rest_of-left.result.now

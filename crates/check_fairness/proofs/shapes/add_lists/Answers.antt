@@ -1,6 +1,6 @@
 use Rattle.std.proofs.Common.{◌≤◌, ◌<◌, map, arith}
+use Rattle.std.proofs.lemmas.Result.{on_ok_weaker}
 use Rattle.ist_core.specs.Shapes.{share_from, share_from_is}
-use Rattle.check_fairness.proofs.AnswerLemmas.{on_ok}
 use Rattle.check_fairness.proofs.BuildLemmas.{adds_none, adds_one, adds_three, shapes_kept}
 use Rattle.check_fairness.proofs.shapes.add_lists.Goals as goal
 
@@ -14,7 +14,7 @@ returns-then-k-lt-SHARE_FROM c =
     let from = share_from_is in
     let few : c.args.k < share_from = omega arith in
     record {
-      added = on_ok c.add_shape_alone.result _ _
+      added = on_ok_weaker c.add_shape_alone.result
           (λ come has. (
             adds_one c.args.k (omega arith) few (map (λ v. v.items) c.args.lists.now.items)
                 (map (λ v. v.items) c.add_shape_alone.new.lists.items) (come has).0,
@@ -33,7 +33,7 @@ returns c =
     let new = map (λ v. v.items) c.add_shape_alone-3.new.lists.items in
     let top = c.in_ok-add_top.ensures.added in
     record {
-      added = on_ok c.add_shape_alone-3.result _ _
+      added = on_ok_weaker c.add_shape_alone-3.result
           (λ come has.
           let first = c.in_ok-add_shape_alone.ensures.added
           (shapes_kept c.args.shapes.now old mid _ top has) in

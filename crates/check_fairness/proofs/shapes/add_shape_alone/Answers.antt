@@ -1,6 +1,6 @@
 use Rattle.std.proofs.Common.{◌∙◌, map, sym}
+use Rattle.std.proofs.lemmas.Result.{on_ok_weaker}
 use Rattle.ist_core.specs.Shapes.{shape}
-use Rattle.check_fairness.proofs.AnswerLemmas.{on_ok}
 use Rattle.check_fairness.proofs.BuildLemmas.{list_known, shapes_more}
 use Rattle.check_fairness.proofs.TargetLemmas.{held_behind}
 use Rattle.check_fairness.proofs.shapes.add_shape_alone.Goals as goal
@@ -18,7 +18,7 @@ returns-then-contains c =
 pub returns : goal.returns
 returns c =
     record {
-      added = on_ok c.make_shape.result _ _
+      added = on_ok_weaker c.make_shape.result
           (λ adds has. (
             adds,
             shapes_more c.args.shapes.now c.insert.new.self

@@ -1,12 +1,12 @@
 use Rattle.std.proofs.Common.{◌∙◌, ◌+◌, ◌*◌, ◌++◌, ◌∷◌, [], map, ap}
-use Rattle.check_fairness.proofs.AnswerLemmas.{on_ok}
+use Rattle.std.proofs.lemmas.Result.{on_ok_weaker}
 use Rattle.check_fairness.proofs.BuildLemmas.{adds_same}
 use Rattle.check_fairness.proofs.shapes.add_top.Goals as goal
 
 pub returns : goal.returns
 returns c =
     record {
-      added = on_ok c.add_list.result _ _
+      added = on_ok_weaker c.add_list.result
           (λ adds.
           adds_same (map (λ v. v.items) c.args.lists.now.items)
           (map (λ v. v.items) c.add_list.new.lists.items) c.push.new.self.items _

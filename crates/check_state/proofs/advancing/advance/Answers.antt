@@ -1,16 +1,16 @@
 use Rattle.std.proofs.Common.{subst}
+use Rattle.std.proofs.lemmas.Result.{on_ok_weaker}
 use Rattle.ist_core.specs.Pieces.{with_inners, changed_at, with_root, as_rebuild}
 use Rattle.ist_core.specs.Snapshots.{bases_of, without}
 use Rattle.ist_core.specs.After.{installed, placed}
 use Rattle.check_events.specs.Mirroring.{Mirrors}
-use Rattle.check_fairness.proofs.AnswerLemmas.{on_ok}
 use Rattle.check_state.proofs.EventLemmas.{by_event, installed_given_up, takes_none}
 use Rattle.check_state.proofs.advancing.advance.Goals as goal
 
 pub returns-in_ok-install-in-Install : goal.returns-in_ok-install-in-Install
 returns-in_ok-install-in-Install c =
     record {
-      exact = on_ok c.give_up_rows.result _ _
+      exact = on_ok_weaker c.give_up_rows.result
           (λ f t h.
           let rows = c.in-Install.rows in
           let there = subst (λ rs. Mirrors c.install.new.replica (installed t c.in-Install.change
@@ -25,7 +25,7 @@ returns-in_ok-install-in-Install c =
 pub returns-in-Root : goal.returns-in-Root
 returns-in-Root c =
     record {
-      exact = on_ok c.root.result _ _
+      exact = on_ok_weaker c.root.result
           (λ f t h.
           by_event c.root.new.replica t c.args.event.now _ c.in-Root.is
           (subst (λ rs. Mirrors c.root.new.replica
@@ -41,7 +41,7 @@ returns-in-Root c =
 pub returns-in-Place : goal.returns-in-Place
 returns-in-Place c =
     record {
-      exact = on_ok c.place.result _ _
+      exact = on_ok_weaker c.place.result
           (λ f t h.
           by_event c.place.new.replica t c.args.event.now _ c.in-Place.is
           (subst (λ rs. Mirrors c.place.new.replica

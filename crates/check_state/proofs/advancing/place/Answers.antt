@@ -1,14 +1,14 @@
 use Rattle.std.proofs.Common.{◌≡◌, ◌∙◌, subst}
+use Rattle.std.proofs.lemmas.Result.{on_ok_weaker}
 use Rattle.ist_core.specs.Pieces.{as_rebuild, with_inners}
 use Rattle.ist_core.specs.After.{placed}
 use Rattle.check_events.specs.Mirroring.{Mirrors}
-use Rattle.check_fairness.proofs.AnswerLemmas.{on_ok}
 use Rattle.check_state.proofs.advancing.place.Goals as goal
 
 pub returns : goal.returns
 returns c =
     record {
-      exact = on_ok c.give_up_rows.result _ _
+      exact = on_ok_weaker c.give_up_rows.result
           (λ f t h.
           let qs = with_inners t.pieces c.args.rows.now in
           let found : c.copied-found.result ≡ as_rebuild (t.pieces c.args.rebuild) =

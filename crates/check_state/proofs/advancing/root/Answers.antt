@@ -1,11 +1,11 @@
 use Rattle.ist_core.specs.Pieces.{with_inners, changed_at, with_root}
-use Rattle.check_fairness.proofs.AnswerLemmas.{on_ok}
+use Rattle.std.proofs.lemmas.Result.{on_ok_weaker}
 use Rattle.check_state.proofs.advancing.root.Goals as goal
 
 pub returns : goal.returns
 returns c =
     record {
-      exact = on_ok c.give_up_rows.result _ _
+      exact = on_ok_weaker c.give_up_rows.result
           (λ f t h.
           let published = record t { pieces = with_inners t.pieces c.args.rows.now } in
           f (record published {

@@ -1,5 +1,5 @@
 -- The set is right after each kind of event.
-use Rattle.check_state.proofs.TableLemmas.{on_success}
+use Rattle.std.proofs.lemmas.Result.{on_ok_weaker}
 use Rattle.check_state.proofs.CallEventLemmas.{start_calls, pass_calls, refusal_calls_none}
 use Rattle.check_state.proofs.CallEventLemmas.{others_call_none}
 use Rattle.check_state.proofs.calling.remember_call.Goals as goal
@@ -14,7 +14,7 @@ returns-then-not-yes c =
 pub returns-else-not-yes : goal.returns-else-not-yes
 returns-else-not-yes c =
     record {
-      exact = on_success c.call_by_start.result
+      exact = on_ok_weaker c.call_by_start.result
           (start_calls c.args.replica.now c.args.event.now c.args.called.now
           c.call_by_start.new.called c.in-Decide.caller c.in-Decide.change c.in-Decide.yes
           c.in-Decide.is c.if-not-yes.false)
@@ -25,7 +25,7 @@ pub returns-in-Pass : goal.returns-in-Pass
 returns-in-Pass c =
     let p = c.in-Pass in
     record {
-      exact = on_success c.call_by_word.result
+      exact = on_ok_weaker c.call_by_word.result
           (pass_calls c.args.replica.now c.args.event.now c.args.called.now
           c.call_by_word.new.called p.caller p.node p.index p.word p.is)
           c.call_by_word.ensures.exact;

@@ -1,6 +1,6 @@
 use Rattle.std.proofs.Common.{ap}
+use Rattle.std.proofs.lemmas.Result.{on_ok_weaker}
 use Rattle.ist_core.specs.Pieces.{leaf_of, inner_of, with_row}
-use Rattle.check_fairness.proofs.AnswerLemmas.{on_ok}
 use Rattle.check_state.proofs.PublishLemmas.{mirrors_row}
 use Rattle.check_state.proofs.FreshLemmas.{one_row, two_rows, one_fresh, two_fresh}
 use Rattle.check_state.proofs.installing.put_fresh.Goals as goal
@@ -10,7 +10,7 @@ returns-in-len1 c =
     let is = one_row c.args.fresh.now c.row-item.result c.in-len1.len_at_least c.in-len1.len_below
     c.row-item.is in
     record {
-      exact = on_ok c.put_one.result _ _ (λ f t change kind h. one_fresh
+      exact = on_ok_weaker c.put_one.result (λ f t change kind h. one_fresh
           c.put_one.new.replica t change c.args.fresh.now c.row-item.result c.args.kind is kind
           (f t h)) c.put_one.ensures.exact;
     }
@@ -20,7 +20,7 @@ returns-in_ok-put_as_leaf-in-len2 c =
     let is = two_rows c.args.fresh.now c.pair-item.result c.leaf-item.result c.in-len2.len_at_least
     c.in-len2.len_below c.pair-item.is c.leaf-item.is in
     record {
-      exact = on_ok c.put_as_inner.result _ _
+      exact = on_ok_weaker c.put_as_inner.result
           (λ f t change kind h.
           let leafy = record t {
             pieces = with_row t.pieces c.leaf-item.result.base

@@ -1,13 +1,13 @@
 use Rattle.std.proofs.Common.{sym}
+use Rattle.std.proofs.lemmas.Result.{on_ok_weaker}
 use Rattle.check_events.proofs.MirrorLemmas.{change_stands}
-use Rattle.check_state.proofs.TableLemmas.{on_success}
 use Rattle.check_state.proofs.LinkTableLemmas.{brings_row}
 use Rattle.check_state.proofs.linking.note_links.Goals as goal
 
 pub returns-in-Some-inner_of_word : goal.returns-in-Some-inner_of_word
 returns-in-Some-inner_of_word c =
     record {
-      exact = on_success c.note_row.result
+      exact = on_ok_weaker c.note_row.result
           (λ exact t h once place.
           let row = c.in-Some.row.now in
           let child = c.in-Some-inner_of_word.child in

@@ -1,8 +1,8 @@
 use Rattle.std.proofs.Common.{subst}
+use Rattle.std.proofs.lemmas.Result.{on_ok_weaker}
 use Rattle.ist_core.specs.Slots.{logical}
 use Rattle.check_builds.specs.Reading.{IsReadingOf}
 use Rattle.check_state.specs.Hanging.{Hangs}
-use Rattle.check_state.proofs.TableLemmas.{on_success}
 use Rattle.check_state.proofs.HangingLemmas as hanging
 use Rattle.check_state.proofs.AddedSlotLemmas as added
 use Rattle.check_state.proofs.linking.note_slot.Goals as goal
@@ -10,7 +10,7 @@ use Rattle.check_state.proofs.linking.note_slot.Goals as goal
 pub returns-in-OneRow : goal.returns-in-OneRow
 returns-in-OneRow c =
     record {
-      exact = on_success c.note_row.result
+      exact = on_ok_weaker c.note_row.result
           (λ exact t h once holds.
           let read = subst (λ r. IsReadingOf r (logical t.pieces c.args.word)) c.in-OneRow.is
           (c.read_slot.ensures.exact t h) in

@@ -1,6 +1,6 @@
 use Rattle.std.proofs.Common.{◌∙◌, true, sym, ap}
+use Rattle.std.proofs.lemmas.Result.{on_ok_weaker}
 use Rattle.ist_core.specs.declared.events.Event.TheVariants.{Decide}
-use Rattle.check_state.proofs.TableLemmas.{on_success}
 use Rattle.check_state.proofs.LinkTableLemmas.{links_by, links_kept, no_is_no_yes}
 use Rattle.check_state.proofs.linking.remember_links.Goals as goal
 
@@ -18,7 +18,7 @@ returns-then-not-yes c =
 pub returns-else-not-yes : goal.returns-else-not-yes
 returns-else-not-yes c =
     record {
-      exact = on_success c.note_links.result
+      exact = on_ok_weaker c.note_links.result
           (λ exact pairs words log law mirrors known.
           links_by pairs words law.opens log c.args.event.now c.in-Decide.caller c.in-Decide.change
           c.args.replica.now c.args.slots.now c.note_links.new.slots

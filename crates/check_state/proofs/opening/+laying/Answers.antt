@@ -1,6 +1,6 @@
 use Rattle.std.proofs.Common.{◌≡◌, ◌∙◌, ◌-◌, ◌<◌, ap, arith, subst, length}
+use Rattle.std.proofs.lemmas.Result.{on_ok_weaker}
 use Rattle.ist_core.specs.Arithmetic.{degree}
-use Rattle.check_fairness.proofs.AnswerLemmas.{on_ok}
 use Rattle.ist_image.specs.Placing.{rows_behind, part_base}
 use Rattle.ist_image.proofs.PlacingSizeLemmas.{part_base-last, part_fits_at}
 use Rattle.ist_image.proofs.PlacedLemmas.{length-cut_part, cut_part}
@@ -73,14 +73,14 @@ put_tree-returns-in-len1 t c =
     let most = c.in-len1.len_below in
     let one : length c.args.pairs.now ≡ 1 = omega arith in
     record {
-      exact = on_ok c.put_leaf.result _ _ (λ f. leaf_laid c.args.base c.args.pairs.now _ one f)
+      exact = on_ok_weaker c.put_leaf.result (λ f. leaf_laid c.args.base c.args.pairs.now _ one f)
           c.put_leaf.ensures.exact;
     }
 
 pub put_tree-returns-in_ok-put_parts-in-len2-up : goal.put_tree-returns-in_ok-put_parts-in-len2-up
 put_tree-returns-in_ok-put_parts-in-len2-up t c =
     record {
-      exact = on_ok c.put_inner.result _ _
+      exact = on_ok_weaker c.put_inner.result
           (λ f. top_laid c.args.base c.args.pairs.now c.in-len2-up.len_at_least
           c.in_ok-row-in-len2-up.ensures.value
           c.in_ok-put_parts-in-len2-up.ensures.exact f)

@@ -1,12 +1,12 @@
-use Rattle.check_state.proofs.TableLemmas.{on_success}
 use Rattle.check_state.proofs.KeptLeavesLemmas.{kept_on}
+use Rattle.std.proofs.lemmas.Result.{on_ok_weaker}
 use Rattle.ist_core.specs.Lawful.{state_of}
 use Rattle.check_state.proofs.placing.remember_leaves.Goals as goal
 
 pub returns-in-Place : goal.returns-in-Place
 returns-in-Place c =
     record {
-      exact = on_success c.keep_of_rebuild.result
+      exact = on_ok_weaker c.keep_of_rebuild.result
           (λ kept pairs words log law mirrors known. kept_on pairs words log c.args.event.now law
           c.keep_of_rebuild.new.kept (kept (state_of pairs words log) mirrors known))
           c.keep_of_rebuild.ensures.exact;

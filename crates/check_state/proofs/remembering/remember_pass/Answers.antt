@@ -1,14 +1,15 @@
 use Rattle.std.proofs.Common.{◌∷◌, sym, subst}
+use Rattle.std.proofs.lemmas.Result.{on_ok_weaker}
 use Rattle.check_events.specs.Remembering.{KnowsPasses}
 use Rattle.check_state.specs.Remembered.{PassesAreOne}
-use Rattle.check_state.proofs.TableLemmas.{passes_kept, on_success}
+use Rattle.check_state.proofs.TableLemmas.{passes_kept}
 use Rattle.check_state.proofs.remembering.remember_pass.Goals as goal
 
 pub returns-in-Pass : goal.returns-in-Pass
 returns-in-Pass c =
     record {
       exact =
-          on_success c.note_pass.result
+          on_ok_weaker c.note_pass.result
           (λ exact log one known. subst (λ e. KnowsPasses c.note_pass.new.passed (e ∷ log))
           (sym c.in-Pass.is) (exact log c.in-Pass.caller (subst (λ e. PassesAreOne (e ∷ log))
           c.in-Pass.is one) known))

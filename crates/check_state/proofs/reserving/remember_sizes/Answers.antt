@@ -1,8 +1,8 @@
 use Rattle.std.proofs.Common.{◌≡◌, ◌∙◌, ◌∷◌, ◌++◌, [], ℕ, List, map, sym, ap, subst}
+use Rattle.std.proofs.lemmas.Result.{on_ok_weaker}
 use Rattle.ist_core.specs.declared.events.Event.TheVariants.{Reserve}
 use Rattle.ist_core.specs.Snapshots.{sizes_held}
 use Rattle.check_fairness.specs.Knowing.{KeepsSizes}
-use Rattle.check_state.proofs.TableLemmas.{on_success}
 use Rattle.check_state.proofs.reserving.remember_sizes.Goals as goal
 
 same_caller : {a b c x y z : ℕ} → Reserve a b c ≡ Reserve x y z → a ≡ x
@@ -13,7 +13,7 @@ same_size e = cc
 
 pub returns-in_ok-push-in-Reserve-clause-kept : goal.returns-in_ok-push-in-Reserve-clause-kept
 returns-in_ok-push-in-Reserve-clause-kept c =
-    on_success c.keep_readings.result
+    on_ok_weaker c.keep_readings.result
     (λ kept t caller base size mirrors lists e.
     let is = sym c.in-Reserve.is ∙ e in
     let sizes : c.as_slice.result.now ≡ sizes_held t c.in-Reserve.caller ++ c.in-Reserve.size ∷ [] =

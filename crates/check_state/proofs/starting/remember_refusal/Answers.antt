@@ -1,8 +1,8 @@
 use Rattle.std.proofs.Common.{◌∷◌, ◌∙◌, sym, ap, subst}
+use Rattle.std.proofs.lemmas.Result.{on_ok_weaker}
 use Rattle.ist_core.specs.declared.events.Event.TheVariants.{Decide}
 use Rattle.ist_core.specs.Lawful.{Lawful, state_of}
 use Rattle.check_events.specs.Remembering.{KnowsRefusals}
-use Rattle.check_state.proofs.TableLemmas.{on_success}
 use Rattle.check_state.proofs.RefusingLemmas.{refusals_kept, refusals_accepted, refusals_more}
 use Rattle.check_state.proofs.starting.remember_refusal.Goals as goal
 
@@ -21,7 +21,7 @@ pub returns-else-yes : goal.returns-else-yes
 returns-else-yes c =
     record {
       exact =
-          on_success c.note_refusal.result
+          on_ok_weaker c.note_refusal.result
           (λ exact pairs words log law mirrors known.
           let is = c.in-Decide.is ∙ ap (Decide c.in-Decide.caller c.in-Decide.change) c.if-yes.false
           in

@@ -1,8 +1,8 @@
 use Rattle.std.proofs.Common.{◌∷◌, ◌∙◌, sym, ap, subst}
+use Rattle.std.proofs.lemmas.Result.{on_ok_weaker}
 use Rattle.ist_core.specs.declared.events.Event.TheVariants.{Decide}
 use Rattle.ist_core.specs.Lawful.{Lawful, state_of}
 use Rattle.check_events.specs.Remembering.{KnowsStarts}
-use Rattle.check_state.proofs.TableLemmas.{on_success}
 use Rattle.check_state.proofs.StartedLemmas.{starts_kept, starts_refused, starts_more}
 use Rattle.check_state.proofs.starting.remember_start.Goals as goal
 
@@ -21,7 +21,7 @@ pub returns-else-not-yes : goal.returns-else-not-yes
 returns-else-not-yes c =
     record {
       exact =
-          on_success c.note_start.result
+          on_ok_weaker c.note_start.result
           (λ exact pairs words log law mirrors known.
           let is = c.in-Decide.is ∙ ap (Decide c.in-Decide.caller c.in-Decide.change)
           c.if-not-yes.false in

@@ -1,6 +1,6 @@
 use Rattle.check_fairness.proofs.TargetLemmas.{lists_stay}
+use Rattle.std.proofs.lemmas.Result.{on_ok_weaker}
 use Rattle.check_state.specs.Remembered.{StartsFinished}
-use Rattle.check_state.proofs.TableLemmas.{on_success}
 use Rattle.check_state.proofs.ListingLemmas.{gains_one}
 use Rattle.check_state.proofs.targeting.list_by_start.Goals as goal
 
@@ -15,7 +15,7 @@ returns-in-None c =
 pub returns-in-Some : goal.returns-in-Some
 returns-in-Some c =
     record {
-      exact = on_success c.add_keys.result
+      exact = on_ok_weaker c.add_keys.result
           (λ adds t u mirrors gains known.
           adds t u
           (gains_one t u (StartsFinished t c.args.change) c.in-Some.keys

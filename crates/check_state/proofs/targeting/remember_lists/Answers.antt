@@ -1,5 +1,5 @@
 use Rattle.std.proofs.Common.{◌∙◌, sym, true≢false}
-use Rattle.check_state.proofs.TableLemmas.{on_success}
+use Rattle.std.proofs.lemmas.Result.{on_ok_weaker}
 use Rattle.check_state.proofs.ListingLemmas as lists
 use Rattle.check_state.proofs.targeting.remember_lists.Goals as goal
 
@@ -11,7 +11,7 @@ returns-then-not-yes c = record {
 
 pub returns-else-not-yes : goal.returns-else-not-yes
 returns-else-not-yes c = record {
-  exact = on_success c.list_by_start.result
+  exact = on_ok_weaker c.list_by_start.result
       (lists.start_lists c.args.replica.now c.args.event.now c.args.targets.now
       c.args.building.now c.list_by_start.new.building _ _ _ c.in-Decide.is c.if-not-yes.false)
       c.list_by_start.ensures.exact;
@@ -26,7 +26,7 @@ returns-then-not-contains c = record {
 
 pub returns-else-not-contains : goal.returns-else-not-contains
 returns-else-not-contains c = record {
-  exact = on_success c.add_keys.result
+  exact = on_ok_weaker c.add_keys.result
       (lists.finish_lists c.args.replica.now c.args.event.now c.args.targets.now
       c.args.building.now c.add_keys.new.building _ _ _ c.in-Finish.is
       (sym c.contains.ensures ∙ c.if-not-contains.false)) c.add_keys.ensures.exact;

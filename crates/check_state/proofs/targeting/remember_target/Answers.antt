@@ -1,5 +1,5 @@
 -- The set is right after each kind of event.
-use Rattle.check_state.proofs.TableLemmas.{on_success}
+use Rattle.std.proofs.lemmas.Result.{on_ok_weaker}
 use Rattle.check_state.proofs.ListingLemmas.{start_targets, refusal_targets_none}
 use Rattle.check_state.proofs.ListingLemmas.{others_target_none}
 use Rattle.check_state.proofs.targeting.remember_target.Goals as goal
@@ -14,7 +14,7 @@ returns-then-not-yes c =
 pub returns-else-not-yes : goal.returns-else-not-yes
 returns-else-not-yes c =
     record {
-      exact = on_success c.call_by_start.result
+      exact = on_ok_weaker c.call_by_start.result
           (start_targets c.args.replica.now c.args.event.now c.args.targets.now
           c.call_by_start.new.called c.in-Decide.caller c.in-Decide.change c.in-Decide.yes
           c.in-Decide.is c.if-not-yes.false)

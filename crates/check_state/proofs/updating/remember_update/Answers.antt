@@ -1,5 +1,5 @@
 -- The map is right after each kind of event.
-use Rattle.check_state.proofs.TableLemmas.{on_success}
+use Rattle.std.proofs.lemmas.Result.{on_ok_weaker}
 use Rattle.check_state.proofs.UpdateEventLemmas.{yes_renews, count_adds, no_leaves, others_leave}
 use Rattle.check_state.proofs.updating.remember_update.Goals as goal
 
@@ -13,7 +13,7 @@ returns-then-not-yes c =
 pub returns-else-not-yes : goal.returns-else-not-yes
 returns-else-not-yes c =
     record {
-      exact = on_success c.note_update.result
+      exact = on_ok_weaker c.note_update.result
           (yes_renews c.args.replica.now c.args.event.now c.args.updates.now
           c.note_update.new.updates c.in-Decide.caller c.in-Decide.change c.in-Decide.yes
           c.in-Decide.is c.if-not-yes.false)
@@ -23,7 +23,7 @@ returns-else-not-yes c =
 pub returns-in-Count : goal.returns-in-Count
 returns-in-Count c =
     record {
-      exact = on_success c.note_count.result
+      exact = on_ok_weaker c.note_count.result
           (count_adds c.args.replica.now c.args.event.now c.args.updates.now
           c.note_count.new.updates c.in-Count.caller c.in-Count.node c.in-Count.is)
           c.note_count.ensures.exact;

@@ -1,7 +1,7 @@
 use Rattle.std.proofs.Common.{◌∷◌}
+use Rattle.std.proofs.lemmas.Result.{on_ok_weaker}
 use Rattle.ist_core.specs.StartLayout.{start}
 use Rattle.check_state.proofs.StayingLemmas.{keys_stay}
-use Rattle.check_state.proofs.TableLemmas.{on_success}
 use Rattle.check_state.proofs.WayTableLemmas.{ways_stay}
 use Rattle.check_state.proofs.ways.remember_ways.Goals as goal
 
@@ -16,7 +16,7 @@ returns-then-not-yes c =
 pub returns-in-Some : goal.returns-in-Some
 returns-in-Some c =
     record {
-      exact = on_success c.add_ways.result
+      exact = on_ok_weaker c.add_ways.result
           (λ exact pairs words log law mirrors k h.
           exact pairs words (c.args.event.now ∷ log) law mirrors k
           (ways_stay (start pairs words) log c.args.event.now c.args.slots.now k

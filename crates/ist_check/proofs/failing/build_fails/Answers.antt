@@ -1,14 +1,14 @@
 use Rattle.std.proofs.Common.{◌∙◌, sym, ap}
+use Rattle.std.proofs.lemmas.Result.{IfOk-weaker}
 use Rattle.ist_core.specs.declared.events.Event.TheVariants.{Root, Place, Lose}
 use Rattle.ist_core.specs.Lawful.{state_of}
-use Rattle.check_fairness.proofs.AnswerLemmas.{if_ok}
 use Rattle.ist_check.proofs.KindLemmas.{tells_by}
 use Rattle.ist_check.proofs.StandingLemmas.{held_are_free}
 use Rattle.ist_check.proofs.failing.build_fails.Goals as goal
 
 pub returns-in-Root : goal.returns-in-Root
 returns-in-Root c = record {
-  exact = if_ok c.root_fails.result _ _
+  exact = IfOk-weaker c.root_fails.result _ _
       (λ fails exact pairs words log knows build. tells_by pairs words log
       (ap (Root c.in-Root.caller c.in-Root.rebuild c.in-Root.word) c.as_slice.ensures.value
       ∙ sym c.in-Root.is) fails (exact (state_of pairs words log) knows.mirrors
@@ -27,7 +27,7 @@ pub returns-in-Place : goal.returns-in-Place
 returns-in-Place c =
     let i = c.in-Place in
     record {
-      exact = if_ok c.place_fails.result _ _
+      exact = IfOk-weaker c.place_fails.result _ _
           (λ fails exact pairs words log knows build. tells_by pairs words log
           (ap (Place i.caller i.rebuild i.part i.word) c.as_slice-in-Place.ensures.value ∙ sym i.is)
           fails (exact (state_of pairs words log) knows.mirrors
@@ -37,7 +37,7 @@ returns-in-Place c =
 
 pub returns-in-Lose : goal.returns-in-Lose
 returns-in-Lose c = record {
-  exact = if_ok c.lose_fails.result _ _
+  exact = IfOk-weaker c.lose_fails.result _ _
       (λ fails exact pairs words log knows build. tells_by pairs words log
       (ap (Lose c.in-Lose.caller) c.as_slice-in-Lose.ensures.value ∙ sym c.in-Lose.is) fails
       (exact (state_of pairs words log) log knows.mirrors knows.remembers.lists

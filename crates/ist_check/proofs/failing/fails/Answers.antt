@@ -1,8 +1,8 @@
 use Rattle.std.proofs.Common.{◌∙◌, sym, ap}
+use Rattle.std.proofs.lemmas.Result.{IfOk-weaker}
 use Rattle.ist_core.specs.declared.events.Event.TheVariants.{Install}
 use Rattle.ist_core.specs.StartLayout.{start}
 use Rattle.ist_core.specs.Lawful.{state_of}
-use Rattle.check_fairness.proofs.AnswerLemmas.{if_ok}
 use Rattle.check_state.proofs.StayingLemmas.{keys_stay}
 use Rattle.ist_check.proofs.KindLemmas.{of_build, tells_by}
 use Rattle.ist_check.proofs.failing.fails.Goals as goal
@@ -15,7 +15,7 @@ returns-in-Enter c = record {
 
 pub returns-in-Reserve : goal.returns-in-Reserve
 returns-in-Reserve c = record {
-  exact = if_ok c.reserve_fails.result _ _
+  exact = IfOk-weaker c.reserve_fails.result _ _
       (λ fails exact pairs words log knows. tells_by pairs words log (sym c.in-Reserve.is) fails
       (exact (state_of pairs words log) knows.mirrors knows.remembers.lists))
       c.reserve_fails.ensures.exact;
@@ -80,7 +80,7 @@ pub returns-in_default : goal.returns-in_default
 returns-in_default c =
     let o = c.in_default in
     record {
-      exact = if_ok c.build_fails.result _ _
+      exact = IfOk-weaker c.build_fails.result _ _
           (λ fails exact pairs words log knows. exact pairs words log knows
           (of_build c.args.event.now o.not-Enter o.not-Reserve o.not-Install o.not-Okay o.not-Decide
           o.not-Resolve o.not-Count o.not-Mark o.not-Pass o.not-Finish))

@@ -1,9 +1,9 @@
 use Rattle.std.proofs.Common.{◌≡◌, ◌∙◌, true, false, List, Option, Some, None, IfSome, sym, subst}
+use Rattle.std.proofs.lemmas.Result.{IfOk-weaker}
 use Rattle.ist_core.specs.StartLayout.{start}
 use Rattle.check_reasons.specs.Conditions.{says_of}
 use Rattle.check_reasons.specs.declared.conditions.Condition.{Condition}
 use Rattle.check_reasons.specs.Failing.{Stated, Tells}
-use Rattle.check_fairness.proofs.AnswerLemmas.{if_ok}
 use Rattle.ist_check.proofs.ReasonLemmas.{all_hold}
 use Rattle.ist_check.proofs.judging.refused_for.Goals as goal
 
@@ -27,12 +27,12 @@ returns-then-branch c =
 pub returns : goal.returns
 returns c =
     record {
-      may = if_ok c.fails.result _ _
+      may = IfOk-weaker c.fails.result _ _
           (λ found f pairs words log knows none.
           all_hold (start pairs words) log c.args.event.now
           (subst (Tells (says_of (start pairs words) log c.args.event.now)) none
           (f pairs words log knows))) c.fails.ensures.exact;
-      refused = if_ok c.fails.result _ _
+      refused = IfOk-weaker c.fails.result _ _
           (λ found f pairs words log knows.
           told found (says_of (start pairs words) log c.args.event.now) (λ can. clash (sym c.if-branch.false
           ∙ (c.in_ok-may_come.ensures.exact pairs words log knows).1 can)) (f pairs words log knows))

@@ -1,8 +1,9 @@
 use Rattle.std.proofs.Common.{◌≡◌, sym, ap, ◌∙◌, eq-eqb, arith}
+use Rattle.std.proofs.lemmas.Bool.{eqb-true}
 use Rattle.ist_core.specs.Writing.{place_of_status}
 use Rattle.ist_rule.proofs.GoingOnLemmas.{looked_goes_on}
 use Rattle.ist_dcss.proofs.CallingLemmas.{open_unrefused}
-use Rattle.ist_dcss.proofs.OpeningLemmas.{status_low, shows_open, open_shows, same_words}
+use Rattle.ist_dcss.proofs.OpeningLemmas.{status_low, shows_open, open_shows}
 use Rattle.ist_dcss.proofs.opening.is_open.Goals as goal
 
 -- the status lies within the table
@@ -24,7 +25,7 @@ pub returns-clause-open : goal.returns-clause-open
 returns-clause-open c =
     let at = c.status_place.ensures.value ∙ ap place_of_status c.from.ensures in (
       λ t. shows_open _ c.know.ensures.sound c.args.node _ _ _ c.load.ensures.looked
-          c.requires.node at (same_words _ _ t ∙ c.to_word.ensures.value),
+          c.requires.node at (eqb-true _ _ t ∙ c.to_word.ensures.value),
       λ is. eq-eqb _ _ (open_shows _ c.args.node _ _ _ c.load.ensures.looked at is
           ∙ sym c.to_word.ensures.value),
     )
@@ -35,4 +36,4 @@ returns-clause-unrefused c number t =
     let at = c.status_place.ensures.value ∙ ap place_of_status c.from.ensures in
     open_unrefused _ c.load.ensures.looked.sound number c.args.node
     (shows_open _ c.know.ensures.sound c.args.node _ _ _ c.load.ensures.looked c.requires.node at
-    (same_words _ _ t ∙ c.to_word.ensures.value))
+    (eqb-true _ _ t ∙ c.to_word.ensures.value))

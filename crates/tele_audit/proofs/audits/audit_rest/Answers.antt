@@ -1,7 +1,8 @@
 use Rattle.std.proofs.Common.{◌≡◌, ◌∙◌, ◌++◌, ap, sym, subst, drop, Some, []}
+use Rattle.tele_io.proofs.OutcomeLemmas.{at_ok}
 use Rattle.tele_audit.specs.Dumps.{IsLawfulDump}
 use Rattle.tele_audit.specs.Flaws.{IsFirstFlaw, number_of, used_told}
-use Rattle.tele_audit.proofs.FrontLemmas.{Reaches, reached_flaw, reached_all, ok_so, on_ok, some_so}
+use Rattle.tele_audit.proofs.FrontLemmas.{Reaches, reached_flaw, reached_all, ok_so, some_so}
 use Rattle.tele_audit.proofs.FrontLemmas.{extended_head, extended_used}
 use Rattle.tele_audit.proofs.audits.audit_rest.Goals as goal
 
@@ -71,7 +72,7 @@ returns-in-None-clause-whole g c =
       found_is = c.length_flaw.ensures.value;
     } in
     let all = reached_all _ _ _ _ _ _ _ _ h c.in-None.is in
-    on_ok c.audit_bytes.result
+    at_ok c.audit_bytes.result
     (some_so _ (λ left. g.S.Source.left c.take_bytes.new.source ≡ Some []) _ (λ left p. p.1) all)
 
 pub returns-in-None-clause-flaw : goal.returns-in-None-clause-flaw

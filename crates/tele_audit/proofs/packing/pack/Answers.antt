@@ -1,11 +1,12 @@
 use Rattle.std.proofs.Common.{ap, Err}
+use Rattle.std.proofs.lemmas.Result.{on_err_weaker}
 use Rattle.ist_core.specs.Map.{map_of}
 use Rattle.tele_lines.specs.Answer.{bad_text}
 use Rattle.tele_audit.specs.declared.jobs.Job.TheVariants.{Pack}
 use Rattle.tele_audit.specs.declared.outcomes.TheConstants.{DONE, BAD_LINE}
 use Rattle.tele_audit.specs.Dumps.{dump_of}
 use Rattle.tele_audit.proofs.RunLemmas.{writes_if, part_if, packed_due, bad_due, done_text}
-use Rattle.tele_audit.proofs.RunLemmas.{on_err, same_bad, same_bad_part}
+use Rattle.tele_audit.proofs.RunLemmas.{same_bad, same_bad_part}
 use Rattle.tele_audit.proofs.packing.pack.Goals as goal
 
 -- the dump was written
@@ -24,7 +25,7 @@ returns-in-Ok-lay-clause-part g c =
     let words = c.in-Ok-lay.words.items in
     let due = packed_due (g.S.Source.left c.args.source.now) (map_of c.in-Ok.plain) words
     c.in-Ok.ensures.left c.in-Ok-lay.ensures.table in
-    on_err c.write_table.result
+    on_err_weaker c.write_table.result
     (part_if Pack (g.O.Sink.written c.args.out.now) (g.O.Sink.written c.write_table.new.out)
     (dump_of words) DONE (g.S.Source.left c.args.source.now) due)
     c.write_table.ensures.part

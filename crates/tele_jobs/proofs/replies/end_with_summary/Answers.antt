@@ -1,5 +1,5 @@
-use Rattle.tele_jobs.proofs.StepLemmas.{at_refusal}
 use Rattle.tele_jobs.proofs.PassLemmas.{part_passed}
+use Rattle.tele_io.proofs.OutcomeLemmas.{at_refusal}
 use Rattle.tele_jobs.proofs.replies.end_with_summary.Goals as goal
 
 -- what was printed stays taken if it isn't passed on

@@ -1,12 +1,7 @@
 use Rattle.std.proofs.Common.{arith, add-one, drop-cons}
-use Rattle.std.specs.Prelude.{Result, Ok, Err, OnErr}
+use Rattle.tele_io.proofs.OutcomeLemmas.{at_refusal}
 use Rattle.tele_jobs.proofs.RepliesLemmas.{one_printed, part_printed}
 use Rattle.tele_jobs.proofs.replies.print_answers.Goals as goal
-
--- a fact holds if a call fails
-at_refusal : {A E P : Type 0} (r : Result A E) → P → OnErr r P
-at_refusal (Ok a) p = tt
-at_refusal (Err e) p = p
 
 -- a part of one more answer
 pub returns-in_err-print_answer-clause-part : goal.returns-in_err-print_answer-clause-part

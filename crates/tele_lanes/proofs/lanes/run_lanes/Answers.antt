@@ -1,8 +1,8 @@
 -- Each lane is what its run left of it.
 use Rattle.std.proofs.Common.{◌≡◌, ◌<◌, rules, subst, sym, ap, ◌∙◌, length}
 use Rattle.std.specs.Prelude.{IfSome, IfNone, Some, slice_get, option_map}
+use Rattle.ist_core.proofs.ElementLemmas.{map_same}
 use Rattle.tele_lanes.specs.Lines.{commands_of, CallInOrder, AnswerInOrder, TellReplies}
-use Rattle.tele_lanes.proofs.OrderLemmas.{map_same}
 use Rattle.tele_lanes.proofs.lanes.run_lanes.Goals as goal
 
 -- what the lanes were given they keep

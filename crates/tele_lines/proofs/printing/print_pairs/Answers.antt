@@ -1,13 +1,8 @@
 use Rattle.std.proofs.Common.{◌∙◌, subst, arith, add-one, drop-cons}
-use Rattle.std.specs.Prelude.{Result, Ok, Err, OnErr}
 use Rattle.tele_io.specs.Bytes.{Appends, AppendsPart}
+use Rattle.tele_io.proofs.OutcomeLemmas.{at_refusal}
 use Rattle.tele_lines.proofs.PrintedLemmas.{one_printed, part_printed}
 use Rattle.tele_lines.proofs.printing.print_pairs.Goals as goal
-
--- what holds anyway holds on an error
-at_refusal : {A E P : Type 0} (r : Result A E) → P → OnErr r P
-at_refusal (Ok a) p = tt
-at_refusal (Err e) p = p
 
 -- a part of one more pair
 pub returns-in_err-write_whole-clause-part : goal.returns-in_err-write_whole-clause-part

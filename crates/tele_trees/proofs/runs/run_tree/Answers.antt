@@ -55,5 +55,5 @@ returns g c =
           gathered.full (λ came answers left full.
           came_to _ _ _ _ _ _ _ _ made.made made.tasks ran.tasks ran.ties _ c.deref.ensures.value
           ran.ran c.requires.same_tree c.requires.none_taken back.same_tree back.made back.taken
-          back.seen back.causes _ _ _ answers left full));
+          back.seen back.known _ _ _ answers left full));
     }

@@ -1,4 +1,5 @@
--- The calls of passes in the order of their numbers. Serves `TreeTables::run`.
+-- The calls of passes in the order of their numbers. Serves `TreeTables::run` and
+-- `Map::run`.
 use Rattle.std.proofs.Common.{◌≡◌, ℕ, zero, suc, ◌+◌, ◌<◌, ◌==◌, ◌≢◌, ◌⊎◌, true, false, List, []}
 use Rattle.std.proofs.Common.{◌∷◌, length, map, refl, arith, inl, inr}
 use Rattle.std.proofs.lemmas.Bool.Decides.{eqb_tells}

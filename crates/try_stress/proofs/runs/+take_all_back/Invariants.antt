@@ -1,5 +1,0 @@
-use Rattle.std.proofs.Common.{length}
-use Rattle.try_stress.proofs.runs.+take_all_back.Given as goal
-
-abbrev pub decreases-take_all_back : goal.decreases-take_all_back
-decreases-take_all_back l = length l.workers.items
