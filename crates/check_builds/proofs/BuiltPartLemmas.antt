@@ -64,25 +64,6 @@ module _ (n j left : ℕ) (slots : List ℕ) (leaves : List PlacedLeaf) (above :
               (subst (λ ps. BuildsAll slots ps above used) no_part b))),
         )
 
-    -- if no slot but a part is left, no number of the rows builds the parts
-    pub parts_left : length slots < 1 → left ≢ 0 → CountsRows AllBuild rows None
-    parts_left none some used rest is b =
-        let no_slot = empty_list slots (omega arith) in
-        let whole = cut_first n j left (min (part_len n j) (length leaves)) leaves some refl in
-        all_inverted [] (take (min (part_len n j) (length leaves)) leaves ∷ cut
-        (part_lens_from n (j + 1) (left - 1)) (from leaves (min (part_len n j) (length leaves)))) above
-        used
-        (subst (λ ws. BuildsAll ws (take (min (part_len n j) (length leaves)) leaves ∷ cut
-        (part_lens_from n (j + 1) (left - 1)) (from leaves (min (part_len n j) (length leaves)))) above
-        used) no_slot (subst (λ ps. BuildsAll slots ps above used) whole b))
-
-    -- if a slot but no part is left, no number of the rows builds the parts
-    pub parts_over : 1 ≤ length slots → left ≡ 0 → CountsRows AllBuild rows None
-    parts_over some e used rest is b =
-        all_inverted (get_or slots 0 0 ∷ behind slots) [] above used
-        (subst (λ ws. BuildsAll ws [] above used) (first_word slots some)
-        (subst (λ ps. BuildsAll slots ps above used) (cut_last n j left leaves e) b))
-
     module _ (end : ℕ) (long : 1 ≤ length slots) (some : left ≢ 0) (end_is : end ≡ min (part_len n j)
         (length leaves)) where
       -- the rows are the rows of the parts after the first
@@ -159,8 +140,3 @@ module _ (n j left : ℕ) (slots : List ℕ) (leaves : List PlacedLeaf) (above :
                 (from xs a)
             taken xs a b h = both_taken xs a b ∙ ap (λ ys. take a xs ++ take b ys)
                 (sym (from-drop xs a))
-
-        -- the rows fit
-        pub parts_within : (m : ℕ) → m ≤ length (from rows k) → k + m ≤ length rows
-        parts_within m h = let l = ap length (from-drop rows k) in let less = length-drop k rows in
-            omega arith

@@ -12,7 +12,7 @@ use Rattle.check_events.specs.declared.pasts.Slot.{Slot}
 use Rattle.check_events.specs.Remembering.{SlotsRise, KnowsSlots}
 use Rattle.check_events.specs.Ways.{Climbs, at_top, up, ClimbsBy, here, higher, IsJump}
 use Rattle.check_fairness.proofs.AnswerLemmas.{iff_trans}
-use Rattle.check_events.proofs.WayLemmas.{comes_is}
+use Rattle.check_events.proofs.WayUpLemmas.{comes_is}
 
 module _ (slots : BTreeMap ℕ Slot) (n : ℕ) (slot : Slot) (e : tree.get nat_cmp slots n ≡ Some slot)
   where

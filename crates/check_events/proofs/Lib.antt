@@ -1,7 +1,7 @@
 pub mod MirrorLemmas
 pub mod DecisionLemmas
 pub mod MarkLemmas
-pub mod WayLemmas
+pub mod WayUpLemmas
 pub mod ClimbLemmas
 pub mod CountLemmas
 pub mod KindLemmas

@@ -76,8 +76,8 @@ use Rattle.laws_links.proofs.ReadStepLemmas.{
   was_anchor,
   was_row,
 }
-use Rattle.laws_rebuilds.proofs.ContentLemmas.{linked_set}
-use Rattle.laws_rebuilds.proofs.ReturnLemmas.{leads_back}
+use Rattle.laws_links.proofs.ContentLemmas.{linked_set}
+use Rattle.laws_links.proofs.ReturnLemmas.{leads_back}
 use Rattle.check_state.specs.Hanging.{Hangs, hangs_here}
 use Rattle.check_state.proofs.HangingLemmas.{hangs_on}
 

@@ -19,7 +19,7 @@ use Rattle.check_events.specs.declared.pasts.Slot.{Slot}
 use Rattle.check_events.specs.declared.pasts.Way.{Way}
 use Rattle.check_events.specs.Remembering.{KnowsSlots, KnowsWays, IsWay}
 use Rattle.check_events.specs.Ways.{KeysStay}
-use Rattle.check_events.proofs.WayLemmas.{ever_at, at_ever, linked_leads, climbs_is}
+use Rattle.check_events.proofs.WayUpLemmas.{ever_at, at_ever, linked_leads, climbs_is}
 use Rattle.check_state.proofs.TableLemmas.{updated_here, updated_other}
 
 -- ---- a longer log

@@ -22,7 +22,7 @@ use Rattle.check_events.specs.declared.pasts.Slot.{Slot}
 use Rattle.check_events.specs.declared.pasts.Way.{Way}
 use Rattle.check_events.specs.Remembering.{KnowsSlots, IsWay}
 use Rattle.check_events.specs.Ways.{Climbs, at_top, up, here, higher, KeysStay}
-use Rattle.check_events.proofs.WayLemmas.{linked_in, linked_out, climbs_is, comes_is}
+use Rattle.check_events.proofs.WayUpLemmas.{linked_in, linked_out, climbs_is, comes_is}
 use Rattle.check_events.proofs.ClimbLemmas.{climbs_on, comes_low, comes_high, comes_via}
 use Rattle.check_state.specs.Hanging.{HasSlot}
 use Rattle.check_state.proofs.WayTableLemmas.{same_or_not}

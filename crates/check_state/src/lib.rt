@@ -1,7 +1,7 @@
 //! Brings the checker's copy of a table forward by an event.
 //!
 //! Read `writes.rt`, then `advancing.rt`. Stands on `ist_core`, `ist_layout`, `ist_math`, `ist_image`,
-//! `check_fairness`, `check_events` and `check_builds`, and on the laws of `laws_links` and `laws_rebuilds`.
+//! `check_fairness`, `check_events` and `check_builds`, and on the laws of `laws_links`.
 #![tactic(auto)]
 
 mod advancing;

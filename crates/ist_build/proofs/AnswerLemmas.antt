@@ -7,7 +7,7 @@ use Rattle.ist_core.specs.Pieces.{Rebuild}
 use Rattle.ist_core.specs.References.{Ref, InnerAt, LeafAt, ref_of}
 use Rattle.ist_core.proofs.NamingLemmas.{RootNames}
 use Rattle.ist_core.proofs.OrderLemmas.{names}
-use Rattle.laws_rebuilds.proofs.FinishedLeafLemmas.{finished_leaves}
+use Rattle.laws_links.proofs.FinishedLeafLemmas.{finished_leaves}
 use Rattle.ist_rule.specs.declared.view.View.{View}
 use Rattle.ist_rule.specs.Going.{WentOn}
 use Rattle.ist_rule.specs.Rule.{IsSound}

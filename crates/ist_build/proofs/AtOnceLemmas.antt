@@ -18,7 +18,7 @@ use Rattle.ist_rows.proofs.BlockLemmas.{holds_them}
 use Rattle.ist_rows.proofs.ReserveLemmas.{next_low}
 use Rattle.ist_build.specs.Laying.{BuiltOn, ArePlaced, HaveLeaves, AreKeysOf, IsDue, IsLaid, IsShort, IsWritten, IsLaidBelow}
 use Rattle.ist_build.proofs.BuiltLemmas.{built_grow, built_more, built_next, loads_built, rewritten_built}
-use Rattle.ist_build.proofs.MidwayLemmas.{published_on}
+use Rattle.ist_build.proofs.HalfBuiltLemmas.{published_on}
 use Rattle.ist_build.proofs.KeyLemmas.{keys_on}
 use Rattle.ist_build.proofs.LayingLemmas.{row_within}
 use Rattle.ist_build.proofs.RowOpenedLemmas.{at_rewritten}
@@ -52,84 +52,84 @@ placed_on v w b bases leaves a =
 
 -- what was built in rows that were reserved together
 pub record BlockBuilt (old new : Caller) (leaves : List ℕ) (word : ℕ) : Type 0 where
-  pub built : BuiltOn old.seat.view new.seat.view
-  pub laid : (placed : List PlacedLeaf) → ArePlaced (now old.seat.view) leaves placed
-      → IsLaid new.seat.view new.number (now old.seat.view).next word placed
+  pub built : BuiltOn old.token.view new.token.view
+  pub laid : (placed : List PlacedLeaf) → ArePlaced (now old.token.view) leaves placed
+      → IsLaid new.token.view new.number (now old.token.view).next word placed
   pub taken : HasTaken old (shape (length leaves)) new
 
 -- the rows are there to be laid, and what is known once they are
 pub record BlockReady (old new : Caller) (leaves keys : List ℕ) (base : ℕ) : Type 0 where
-  pub held : HoldsBlock (now new.seat.view) new.number base (shape (length leaves))
-  pub fresh : (place : ℕ) → base ≤ place → own_at new.seat.view.own place ≡ 0
+  pub held : HoldsBlock (now new.token.view) new.number base (shape (length leaves))
+  pub fresh : (place : ℕ) → base ≤ place → own_at new.token.view.own place ≡ 0
   pub low : base ≤ place_limit
-  pub leaves_are : HaveLeaves (now new.seat.view) leaves
-  pub keys_are : AreKeysOf (now new.seat.view) leaves keys
+  pub leaves_are : HaveLeaves (now new.token.view) leaves
+  pub keys_are : AreKeysOf (now new.token.view) leaves keys
   pub laid : (last : Caller) (end word : ℕ) → IsWritten new last base end
-      → ((placed : List PlacedLeaf) → ArePlaced (now new.seat.view) leaves placed
-      → IsLaidBelow last.seat.view last.number base end word placed)
+      → ((placed : List PlacedLeaf) → ArePlaced (now new.token.view) leaves placed
+      → IsLaidBelow last.token.view last.number base end word placed)
       → BlockBuilt old last leaves word
 
 module _ (old new : Caller) (leaves keys : List ℕ) (at base : ℕ) (base_is : base ≡ at)
-    (s : IsSound old.seat.view) (c : IsCaller old) (two : 2 ≤ length leaves) (same : new ≡ record old { seat = new.seat })
-    (reserved : ReservedAll old.seat.view old.number at (shape (length leaves)) new.seat.view)
+    (s : IsSound old.token.view) (c : IsCaller old) (two : 2 ≤ length leaves) (same : new ≡ record old { token = new.token })
+    (reserved : ReservedAll old.token.view old.number at (shape (length leaves)) new.token.view)
     (was_taken : HasTaken old (shape (length leaves)) new)
-    (have : HaveLeaves (now old.seat.view) leaves)
-    (have_keys : AreKeysOf (now old.seat.view) leaves keys) where
+    (have : HaveLeaves (now old.token.view) leaves)
+    (have_keys : AreKeysOf (now old.token.view) leaves keys) where
   abbrev sizes : List ℕ
   sizes = shape (length leaves)
 
-  r : ReservedAll old.seat.view old.number base sizes new.seat.view
+  r : ReservedAll old.token.view old.number base sizes new.token.view
   r =
-      subst (λ b. ReservedAll old.seat.view old.number b sizes new.seat.view) (sym base_is) reserved
+      subst (λ b. ReservedAll old.token.view old.number b sizes new.token.view) (sym base_is) reserved
 
-  built : BuiltOn old.seat.view new.seat.view
-  built = reserved_all_built old.seat.view old.number base sizes new.seat.view r
+  built : BuiltOn old.token.view new.token.view
+  built = reserved_all_built old.token.view old.number base sizes new.token.view r
 
-  fresh : IsFreshBlock old.seat.view base new.seat.view
+  fresh : IsFreshBlock old.token.view base new.token.view
   fresh =
-      fresh_block old.seat.view s old.number base sizes (some_rows (length leaves) two) new.seat.view r
+      fresh_block old.token.view s old.number base sizes (some_rows (length leaves) two) new.token.view r
 
   -- they are held
-  block_held : HoldsBlock (now new.seat.view) new.number base sizes
+  block_held : HoldsBlock (now new.token.view) new.number base sizes
   block_held =
-      subst (λ k. HoldsBlock (now new.seat.view) k base sizes) (sym (ap (λ (x : Caller). x.number) same))
-      (holds_them old new.seat base sizes c r)
+      subst (λ k. HoldsBlock (now new.token.view) k base sizes) (sym (ap (λ (x : Caller). x.number) same))
+      (holds_them old new.token base sizes c r)
 
   -- they lie in the table
   block_low : base ≤ place_limit
   block_low =
-      let row = (block_first (now new.seat.view) new.number base (length leaves) two block_held).0 in
-      let inside = (row_within new.seat.view reserved.reserved.sound new.number base
+      let row = (block_first (now new.token.view) new.number base (length leaves) two block_held).0 in
+      let inside = (row_within new.token.view reserved.reserved.sound new.number base
       (inner_words (degree (length leaves))) row).1 in
-      let low = next_low new.seat.view reserved.reserved.sound in
+      let low = next_low new.token.view reserved.reserved.sound in
       let free = low.0 in
       let all = low.1 in
       omega arith
 
   module _ (last : Caller) (end word : ℕ) (written : IsWritten new last base end) where
     -- the caller only reserved, and stored into what it reserved
-    block_built : BuiltOn old.seat.view last.seat.view
+    block_built : BuiltOn old.token.view last.token.view
     block_built =
         let high = fresh.high in
-        subst (λ (x : Caller). BuiltOn old.seat.view x.seat.view) (sym written.same)
-        (rewritten_built old.seat.view new.seat.view last.seat.view.own built
-        (subst (λ (x : Caller). IsSound x.seat.view) written.same written.sound)
+        subst (λ (x : Caller). BuiltOn old.token.view x.token.view) (sym written.same)
+        (rewritten_built old.token.view new.token.view last.token.view.own built
+        (subst (λ (x : Caller). IsSound x.token.view) written.same written.sound)
         (λ place low. written.below place (omega arith)))
 
     -- the word is laid
-    block_laid : ((placed : List PlacedLeaf) → ArePlaced (now new.seat.view) leaves placed
-        → IsLaidBelow last.seat.view last.number base end word placed)
-        → (placed : List PlacedLeaf) → ArePlaced (now old.seat.view) leaves placed
-        → IsLaid last.seat.view last.number (now old.seat.view).next word placed
+    block_laid : ((placed : List PlacedLeaf) → ArePlaced (now new.token.view) leaves placed
+        → IsLaidBelow last.token.view last.number base end word placed)
+        → (placed : List PlacedLeaf) → ArePlaced (now old.token.view) leaves placed
+        → IsLaid last.token.view last.number (now old.token.view).next word placed
     block_laid laid placed a =
-        laid_lower last.seat.view last.number (now old.seat.view).next base word placed fresh.high
-        (laid placed (placed_on old.seat.view new.seat.view built leaves placed a)).laid
+        laid_lower last.token.view last.number (now old.token.view).next base word placed fresh.high
+        (laid placed (placed_on old.token.view new.token.view built leaves placed a)).laid
 
     -- and the caller has taken all rows
     block_taken : HasTaken old sizes last
     block_taken stuck done rest h =
         subst (λ (x : Caller). IsInBuild x stuck (done ++ sizes) rest) (sym written.same)
-        (at_rewritten new last.seat.view.own stuck (done ++ sizes) rest (was_taken stuck done rest h))
+        (at_rewritten new last.token.view.own stuck (done ++ sizes) rest (was_taken stuck done rest h))
 
   -- the rows are there to be laid
   pub block_ready : BlockReady old new leaves keys base
@@ -138,9 +138,9 @@ module _ (old new : Caller) (leaves keys : List ℕ) (at base : ℕ) (base_is : 
         held = block_held;
         fresh = fresh.zero_words;
         low = block_low;
-        leaves_are = (have.0, placed_on old.seat.view new.seat.view built leaves have.0 have.1);
-        keys_are = keys_on (now old.seat.view) (now new.seat.view)
-            (built_grow old.seat.view new.seat.view built) leaves keys have_keys;
+        leaves_are = (have.0, placed_on old.token.view new.token.view built leaves have.0 have.1);
+        keys_are = keys_on (now old.token.view) (now new.token.view)
+            (built_grow old.token.view new.token.view built) leaves keys have_keys;
         laid = λ last end word written laid. record {
           built = block_built last end word written;
           laid = block_laid last end word written laid;
@@ -152,40 +152,40 @@ module _ (old new : Caller) (leaves keys : List ℕ) (at base : ℕ) (base_is : 
 
 -- what a build gives after loads
 pub record LaterBuilt (old new : Caller) (words : ℕ) (leaves : List ℕ) (answer : Result ℕ Full) : Type 0 where
-  pub built : BuiltOn old.seat.view new.seat.view
+  pub built : BuiltOn old.token.view new.token.view
   pub laid : IfOk answer (λ word. (placed : List PlacedLeaf)
-      → ArePlaced (now old.seat.view) leaves placed
-      → IsLaid new.seat.view new.number (now old.seat.view).next word placed)
+      → ArePlaced (now old.token.view) leaves placed
+      → IsLaid new.token.view new.number (now old.token.view).next word placed)
   pub taken : IfOk answer (λ word. HasTaken old (shape (length leaves)) new)
-  pub full : IfErr answer (λ full. IsShort old.seat.view words (length leaves) full new.seat.view)
+  pub full : IfErr answer (λ full. IsShort old.token.view words (length leaves) full new.token.view)
 
 -- a build that began after loads
 pub later_built : (old mid new : Caller) (words : ℕ) (leaves : List ℕ) → IsCaller old
-    → mid ≡ record old { seat = mid.seat } → GoesOnTo old.seat.view mid.seat.view
-    → BuiltOn mid.seat.view new.seat.view → (answer : Result ℕ Full)
+    → mid ≡ record old { token = mid.token } → GoesOnTo old.token.view mid.token.view
+    → BuiltOn mid.token.view new.token.view → (answer : Result ℕ Full)
     → IfOk answer (λ word. (placed : List PlacedLeaf)
-    → ArePlaced (now mid.seat.view) leaves placed
-    → IsLaid new.seat.view new.number (now mid.seat.view).next word placed)
+    → ArePlaced (now mid.token.view) leaves placed
+    → IsLaid new.token.view new.number (now mid.token.view).next word placed)
     → IfOk answer (λ word. HasTaken mid (shape (length leaves)) new)
-    → IfErr answer (λ full. IsShort mid.seat.view words (length leaves) full new.seat.view)
+    → IfErr answer (λ full. IsShort mid.token.view words (length leaves) full new.token.view)
     → LaterBuilt old new words leaves answer
 later_built old mid new words leaves c same g b (Ok word) laid taken full =
-    let v = old.seat.view in
-    let on = loads_built v mid.seat.view g in
+    let v = old.token.view in
+    let on = loads_built v mid.token.view g in
     record {
-      built = built_more v mid.seat.view new.seat.view on b;
-      laid = λ placed a. laid_lower new.seat.view new.number (now v).next (now mid.seat.view).next word
-          placed (built_next v mid.seat.view on)
-          (laid placed (placed_on v mid.seat.view on leaves placed a));
-      taken = taken_on old mid.seat (shape (length leaves)) new c g
+      built = built_more v mid.token.view new.token.view on b;
+      laid = λ placed a. laid_lower new.token.view new.number (now v).next (now mid.token.view).next word
+          placed (built_next v mid.token.view on)
+          (laid placed (placed_on v mid.token.view on leaves placed a));
+      taken = taken_on old mid.token (shape (length leaves)) new c g
           (subst (λ (x : Caller). HasTaken x (shape (length leaves)) new) same taken);
       full = tt;
     }
 later_built old mid new words leaves c same g b (Err full) laid taken short =
-    let v = old.seat.view in
+    let v = old.token.view in
     record {
-      built = built_more v mid.seat.view new.seat.view (loads_built v mid.seat.view g) b;
+      built = built_more v mid.token.view new.token.view (loads_built v mid.token.view g) b;
       laid = tt;
       taken = tt;
-      full = short_on v mid.seat.view g words (length leaves) full new.seat.view short;
+      full = short_on v mid.token.view g words (length leaves) full new.token.view short;
     }

@@ -6,7 +6,7 @@ use Rattle.ist_core.specs.After.{after}
 use Rattle.ist_core.specs.Snapshots.{Snapshot, bases_of, sizes_of, without}
 use Rattle.ist_rule.specs.declared.view.View.{View}
 use Rattle.ist_core.specs.Authors.{Later}
-use Rattle.ist_rule.specs.Faces.{SeatFace}
+use Rattle.ist_rule.specs.Faces.{TokenFace}
 use Rattle.ist_rule.specs.Rule.{IsSound}
 use Rattle.ist_rule.specs.Learning.{now, made_behind, Logged, LoggedLoad, GoesOnTo}
 use Rattle.ist_rows.specs.declared.callers.Caller.{Caller}
@@ -22,25 +22,25 @@ use Rattle.ist_rule.proofs.WentOnLemmas.{goes_on_now}
 use Rattle.ist_build.specs.Laying.{BuiltOn, OwnsRows}
 use Rattle.ist_build.specs.Calls.{Builds}
 use Rattle.ist_build.specs.Back.{IsFreeToBuild, IsBack, HasBuilt}
-use Rattle.ist_build.proofs.AwayLemmas.{refused_back, caller_back}
+use Rattle.ist_build.proofs.HeldBeforeLemmas.{refused_back, caller_back}
 use Rattle.ist_build.proofs.BuiltLemmas.{built_same}
 use Rattle.ist_build.proofs.PutOnLemmas.{built_put, put_more, loads_put}
 use Rattle.ist_build.proofs.TopBegunLemmas.{sizes_on}
 
 module _ (old mid : Caller) (h : HasBuilt old mid) (rows : List Row)
-    (owns : OwnsRows mid.seat.view mid.number (now old.seat.view).next rows)
+    (owns : OwnsRows mid.token.view mid.number (now old.token.view).next rows)
     (sizes : sizes_built mid ≡ sizes_built old ++ sizes_of rows)
     (event : Event) (is : Builds event) (made : (n : ℕ) → made_behind event n ≡ n)
     (drops : (t : Snapshot) → (after t event).held ≡ without (bases_of rows) t.held)
-    (seat : SeatFace) where
+    (token : TokenFace) where
   abbrev v : View
-  v = old.seat.view
+  v = old.token.view
 
   abbrev w : View
-  w = mid.seat.view
+  w = mid.token.view
 
   abbrev last : Caller
-  last = record mid { seat = seat }
+  last = record mid { token = token }
 
   owns_old : OwnsRows w old.number (now v).next rows
   owns_old = subst (λ n. OwnsRows w n (now v).next rows) h.number owns
@@ -49,7 +49,7 @@ module _ (old mid : Caller) (h : HasBuilt old mid) (rows : List Row)
   sizes_old = ap₂ (λ n own. build_sizes (now w) n own) (sym h.number) (sym h.rows) ∙ sizes
 
   -- the caller is back once the event is the last of its log
-  pub back_logged : Logged w event seat.view → IsBack old last
+  pub back_logged : Logged w event token.view → IsBack old last
   back_logged l =
       let b = h.built in
       let start_is = ap (λ x. x.start) l.view ∙ ap (λ x. x.start) b.same in
@@ -66,12 +66,12 @@ module _ (old mid : Caller) (h : HasBuilt old mid) (rows : List Row)
         };
         number = h.number;
         rows = h.rows;
-        put = put_more v w seat.view (built_put v w b)
-            (logged_laid Builds w event seat.view l is (made w.made));
+        put = put_more v w token.view (built_put v w b)
+            (logged_laid Builds w event token.view l is (made w.made));
       }
 
   -- and so it is if that event was made with a load
-  pub back_lost : (place word : ℕ) → LoggedLoad w event place word seat.view → IsBack old last
+  pub back_lost : (place word : ℕ) → LoggedLoad w event place word token.view → IsBack old last
   back_lost place word l =
       let b = h.built in
       let start_is = ap (λ x. x.start) l.view ∙ ap (λ x. x.start) b.same in
@@ -88,43 +88,43 @@ module _ (old mid : Caller) (h : HasBuilt old mid) (rows : List Row)
         };
         number = h.number;
         rows = h.rows;
-        put = put_more v w seat.view (built_put v w b)
-            (logged_load_laid Builds w event place word seat.view l is (made w.made));
+        put = put_more v w token.view (built_put v w b)
+            (logged_load_laid Builds w event place word token.view l is (made w.made));
       }
 
 -- the same holds after loads
-pub back_loads : (who : Caller) (seat : SeatFace) → IsFreeToBuild who → GoesOnTo who.seat.view seat.view
-    → IsBack who (record who { seat = seat })
-back_loads who seat r g =
-    let v = who.seat.view in
+pub back_loads : (who : Caller) (token : TokenFace) → IsFreeToBuild who → GoesOnTo who.token.view token.view
+    → IsBack who (record who { token = token })
+back_loads who token r g =
+    let v = who.token.view in
     let c = r.caller in
-    let lawful : Lawful v.start v.words seat.view.log =
-    subst (λ p. Lawful p v.words seat.view.log) (ap (λ x. x.start) g.same)
-    (subst (λ n. Lawful seat.view.start n seat.view.log) (ap (λ x. x.words) g.same)
+    let lawful : Lawful v.start v.words token.view.log =
+    subst (λ p. Lawful p v.words token.view.log) (ap (λ x. x.start) g.same)
+    (subst (λ n. Lawful token.view.start n token.view.log) (ap (λ x. x.words) g.same)
     g.sound.lawful) in
     record {
       ready = record {
-        caller = caller_goes_on who seat c g;
-        refused = subst (AreStuck (now seat.view)) (sym (sizes_on who seat c g))
-            (all_stuck_on (now v) (now seat.view)
-            (subst (ComesBehind (now v)) (sym (goes_on_now v seat.view g))
-            (comes_behind v.start v.words who.number v.log seat.view.log lawful
-            (subst (λ x. Later x v.log seat.view.log) c.mine g.later)))
+        caller = caller_goes_on who token c g;
+        refused = subst (AreStuck (now token.view)) (sym (sizes_on who token c g))
+            (all_stuck_on (now v) (now token.view)
+            (subst (ComesBehind (now v)) (sym (goes_on_now v token.view g))
+            (comes_behind v.start v.words who.number v.log token.view.log lawful
+            (subst (λ x. Later x v.log token.view.log) c.mine g.later)))
             (sizes_built who) r.refused);
       };
       number = refl;
       rows = refl;
-      put = loads_put v seat.view g;
+      put = loads_put v token.view g;
     }
 
 -- a caller that may build is back from the start
-pub back_same : (who : Caller) → IsFreeToBuild who → IsSound who.seat.view → IsBack who who
+pub back_same : (who : Caller) → IsFreeToBuild who → IsSound who.token.view → IsBack who who
 back_same who r s =
     record {
       ready = r;
       number = refl;
       rows = refl;
-      put = built_put who.seat.view who.seat.view (built_same who.seat.view s);
+      put = built_put who.token.view who.token.view (built_same who.token.view s);
     }
 
 -- it stays back
@@ -134,16 +134,16 @@ back_more old mid new a b =
       ready = b.ready;
       number = b.number ∙ a.number;
       rows = b.rows ∙ a.rows;
-      put = put_more old.seat.view mid.seat.view new.seat.view a.put b.put;
+      put = put_more old.token.view mid.token.view new.token.view a.put b.put;
     }
 
 -- a caller whose build was refused is back
 pub back_refused : (old new : Caller) → new.number ≡ old.number → spares_of new ≡ spares_of old
-    → BuiltOn old.seat.view new.seat.view → IsCaller new → HasRefused new → IsBack old new
+    → BuiltOn old.token.view new.token.view → IsCaller new → HasRefused new → IsBack old new
 back_refused old new number rows b c refused =
     record {
       ready = record { caller = c; refused = refused };
       number = number;
       rows = rows;
-      put = built_put old.seat.view new.seat.view b;
+      put = built_put old.token.view new.token.view b;
     }

@@ -14,14 +14,14 @@ use Rattle.ist_rule.specs.declared.view.OwnWord.{OwnWord}
 use Rattle.ist_rule.specs.Rule.{IsSound, own_at}
 use Rattle.ist_rule.specs.Learning.{now}
 use Rattle.ist_rule.specs.Conditions.{StoredAll}
-use Rattle.laws_rows.specs.Dividing.{parts_to, share_of}
-use Rattle.laws_rows.proofs.PartLemmas.{parts_next}
+use Rattle.laws_calls.specs.Dividing.{parts_to, share_of}
+use Rattle.laws_calls.proofs.PartLemmas.{parts_next}
 use Rattle.ist_rows.specs.Block.{HoldsBlock}
 use Rattle.ist_build.specs.Laying.{IsLaidBelow}
 use Rattle.ist_build.specs.Midway.{words_at, AreLaidBelow, setting}
 use Rattle.ist_build.proofs.OwnWordLemmas.{words_at_same, words_at_more}
 use Rattle.ist_build.proofs.RowOpenedLemmas.{at_slot, elsewhere}
-use Rattle.ist_build.proofs.TogetherLemmas.{are_laid_more, more_rows}
+use Rattle.ist_build.proofs.JoinedSubtreeLemmas.{are_laid_more, more_rows}
 
 -- ---- a block
 

@@ -18,8 +18,8 @@ use Rattle.ist_core.proofs.ReferenceLemmas.{ref_of-word_of}
 use Rattle.ist_core.proofs.RootLemmas.{least_degree-le}
 use Rattle.ist_core.proofs.RoomLemmas.{next_within, words_same}
 use Rattle.ist_core.proofs.ShapeLemmas.{shape_none, shape_one, shape_many}
-use Rattle.laws_rows.specs.Dividing.{lens_to, parts_to, share_of}
-use Rattle.laws_rows.proofs.PartLemmas.{parts_all, lens_all}
+use Rattle.laws_calls.specs.Dividing.{lens_to, parts_to, share_of}
+use Rattle.laws_calls.proofs.PartLemmas.{parts_all, lens_all}
 use Rattle.ist_rule.specs.declared.view.View.{View}
 use Rattle.ist_rule.specs.Rule.{IsSound}
 use Rattle.ist_rule.specs.Learning.{now, GoesOnTo}
@@ -31,8 +31,8 @@ use Rattle.ist_rows.specs.Building.{IsInBuild, IsNext, HasTaken, HasRefused}
 use Rattle.ist_build.specs.Laying.{BuiltOn, ArePlaced, HaveLeaves, IsLaid, IsDue, IsShort}
 use Rattle.ist_build.specs.Midway.{words_at, AreLaid, lens_from, IsOpened, IsMidway, IsTopRowRefused}
 use Rattle.ist_build.proofs.BuiltLemmas.{built_more, loads_built}
-use Rattle.ist_build.proofs.TogetherLemmas.{laid_top}
-use Rattle.ist_build.proofs.MidwayLemmas.{part_placed, length-share_of}
+use Rattle.ist_build.proofs.JoinedSubtreeLemmas.{laid_top}
+use Rattle.ist_build.proofs.HalfBuiltLemmas.{part_placed, length-share_of}
 use Rattle.ist_build.proofs.PartsLemmas.{lens_first, lens_last, sizes_left}
 use Rattle.ist_rows.proofs.ShortLemmas.{short_from}
 use Rattle.ist_build.proofs.ShortLemmas.{short_for_more}
@@ -111,15 +111,15 @@ full_built v words size full w f =
 -- so no row of the build is there, and the caller is where it was
 pub row_refused : (old new : Caller) (words n d : ℕ) (full : Full) → 2 ≤ n → d ≡ degree n
     → IsCaller new → new.number ≡ old.number → spares_of new ≡ spares_of old
-    → IsFull old.seat.view words (inner_words d) full new.seat.view → HasRefused new
+    → IsFull old.token.view words (inner_words d) full new.token.view → HasRefused new
     → IsTopRowRefused old words n full new
 row_refused old new words n d full two same caller number rows f refused =
     record {
       caller = caller;
       number = number;
       rows = rows;
-      built = full_built old.seat.view words (inner_words d) full new.seat.view f;
-      short = row_short old.seat.view words n d full new.seat.view two same f;
+      built = full_built old.token.view words (inner_words d) full new.token.view f;
+      short = row_short old.token.view words n d full new.token.view two same f;
       refused = refused;
     }
 
@@ -153,11 +153,11 @@ module _ (old who : Caller) (leaves : List ℕ) (base d j : ℕ) (m : IsMidway o
   n = length leaves
 
   -- its leaves are published
-  pub part_leaves : HaveLeaves (now old.seat.view) leaves → HaveLeaves (now who.seat.view) own
+  pub part_leaves : HaveLeaves (now old.token.view) leaves → HaveLeaves (now who.token.view) own
   part_leaves have = (
     share_of n j have.0,
-    subst (λ bases. ArePlaced (now who.seat.view) bases (share_of n j have.0)) (sym own_is)
-        (part_placed old.seat.view who.seat.view m.built n j leaves have.0 have.1),
+    subst (λ bases. ArePlaced (now who.token.view) bases (share_of n j have.0)) (sym own_is)
+        (part_placed old.token.view who.token.view m.built n j leaves have.0 have.1),
   )
 
   -- it has the length of the part
@@ -182,21 +182,21 @@ module _ (old who : Caller) (leaves : List ℕ) (base d j : ℕ) (m : IsMidway o
 
   -- if too few words are left for one of them, too few are left for the whole
   pub part_short : (words : ℕ) (full : Full) (w : View) → length own ≤ n
-      → IsShort who.seat.view words (length own) full w → IsShort old.seat.view words n full w
+      → IsShort who.token.view words (length own) full w → IsShort old.token.view words n full w
   part_short words full w le h =
-      short_for_more BuiltOn BuiltOn old.seat.view who.seat.view
-      (λ x. built_more old.seat.view who.seat.view x m.built) words (length own) n full w le h
+      short_for_more BuiltOn BuiltOn old.token.view who.token.view
+      (λ x. built_more old.token.view who.token.view x m.built) words (length own) n full w le h
 
 -- ---- all parts
 
 -- all parts are laid, by the number of leaves
 record Facts (who : Caller) (base : ℕ) (placed : List PlacedLeaf) (n : ℕ) : Type 0 where
-  held : HoldsRow (now who.seat.view) who.number base (inner_words (degree n))
-  opened : IsOpened who.seat.view.own base (degree n) n
-  keys : words_at who.seat.view.own (base + 4) (degree n - 1)
+  held : HoldsRow (now who.token.view) who.number base (inner_words (degree n))
+  opened : IsOpened who.token.view.own base (degree n) n
+  keys : words_at who.token.view.own (base + 4) (degree n - 1)
       ≡ first_keys (λ leaf. leaf.row.key) (drop 1 (parts_to n (degree n) placed))
-  laid : AreLaid who.seat.view who.number (base + inner_words (degree n)) base
-      (words_at who.seat.view.own (base + 3 + degree n) (degree n)) (parts_to n (degree n) placed)
+  laid : AreLaid who.token.view who.number (base + inner_words (degree n)) base
+      (words_at who.token.view.own (base + 3 + degree n) (degree n)) (parts_to n (degree n) placed)
   two : 2 ≤ n
 
 module _ (old who : Caller) (leaves : List ℕ) (base d j : ℕ) (m : IsMidway old leaves base d j who)
@@ -208,12 +208,12 @@ module _ (old who : Caller) (leaves : List ℕ) (base d j : ℕ) (m : IsMidway o
 
   -- once all parts are set, the row is laid
   pub all_laid : (word : ℕ) → word ≡ word_of (InnerAt base) → (placed : List PlacedLeaf)
-      → ArePlaced (now old.seat.view) leaves placed
-      → IsLaid who.seat.view who.number (now old.seat.view).next word placed
+      → ArePlaced (now old.token.view) leaves placed
+      → IsLaid who.token.view who.number (now old.token.view).next word placed
   all_laid word is placed a =
       let k : length placed ≡ length leaves =
       sym (length-map placed (λ (leaf : PlacedLeaf). leaf.base)) ∙ ap length a.bases_are in
-      subst (λ n. Facts who base placed n → IsLaid who.seat.view who.number (now old.seat.view).next
+      subst (λ n. Facts who base placed n → IsLaid who.token.view who.number (now old.token.view).next
       word placed) k by_length
       record {
         held = whole.held;
@@ -225,18 +225,18 @@ module _ (old who : Caller) (leaves : List ℕ) (base d j : ℕ) (m : IsMidway o
     where
       good : ref_of word ≡ Some (InnerAt base)
       good = ap ref_of is ∙ ref_of-word_of (InnerAt base)
-          (held_good who.seat.view m.built.sound who.number base (inner_words d) m.held)
+          (held_good who.token.view m.built.sound who.number base (inner_words d) m.held)
 
       by_length : Facts who base placed (length placed)
-          → IsLaid who.seat.view who.number (now old.seat.view).next word placed
+          → IsLaid who.token.view who.number (now old.token.view).next word placed
       by_length f =
-          laid_top who.seat.view m.built.sound who.number (now old.seat.view).next base word placed
+          laid_top who.token.view m.built.sound who.number (now old.token.view).next base word placed
           f.two m.high f.held f.opened
           (f.keys ∙ ap (λ ps. first_keys (λ (leaf : PlacedLeaf). leaf.row.key) (drop 1 ps))
           (parts_all placed))
-          (subst (AreLaid who.seat.view who.number (base + inner_words (degree (length placed)))
+          (subst (AreLaid who.token.view who.number (base + inner_words (degree (length placed)))
           base
-          (words_at who.seat.view.own (base + 3 + degree (length placed)) (degree (length placed))))
+          (words_at who.token.view.own (base + 3 + degree (length placed)) (degree (length placed))))
           (parts_all placed) f.laid)
           (least_degree-le (length placed)) good
 

@@ -24,7 +24,7 @@ use Rattle.ist_core.proofs.RowLemmas.{changed_at-same}
 use Rattle.ist_rule.specs.declared.view.View.{View}
 use Rattle.ist_core.specs.declared.events.Who.TheVariants.{Caller as CallerOf}
 use Rattle.ist_rule.specs.Conditions.{CanAdd}
-use Rattle.ist_rule.specs.Faces.{SeatFace}
+use Rattle.ist_rule.specs.Faces.{TokenFace}
 use Rattle.ist_rule.specs.Rule.{IsSound}
 use Rattle.ist_rule.specs.Learning.{now, Looked, Logged, GoesOnTo}
 use Rattle.ist_rule.specs.Watching.{number_of}
@@ -99,42 +99,42 @@ drawing_drops number rebuild part t =
     (λ h i. refl))
 
 -- the next part may be drawn, and where the caller is then
-pub record MayDraw (old : Caller) (seat : SeatFace) (place word d : ℕ) : Type 0 where
-  pub low : place < seat.view.words
-  pub looked : IsBack old (record old { seat = seat })
-  pub allowed : word < d → CanAdd seat.view place (drawing seat.view place)
-  pub back : (last : SeatFace) (part : ℕ)
-      → Logged seat.view (drawing seat.view place part) last.view
-      → IsBack old (record old { seat = last })
+pub record MayDraw (old : Caller) (token : TokenFace) (place word d : ℕ) : Type 0 where
+  pub low : place < token.view.words
+  pub looked : IsBack old (record old { token = token })
+  pub allowed : word < d → CanAdd token.view place (drawing token.view place)
+  pub back : (last : TokenFace) (part : ℕ)
+      → Logged token.view (drawing token.view place part) last.view
+      → IsBack old (record old { token = last })
 
-module _ (old : Caller) (seat : SeatFace) (r : IsFreeToBuild old) (s : IsSound old.seat.view)
-    (shared : Shared) (sh : IsSharedAs (now old.seat.view) shared) (place word : ℕ)
+module _ (old : Caller) (token : TokenFace) (r : IsFreeToBuild old) (s : IsSound old.token.view)
+    (shared : Shared) (sh : IsSharedAs (now old.token.view) shared) (place word : ℕ)
     (place_is : place ≡ shared.rebuild + rebuild_draw_offset)
-    (l : Looked old.seat.view place word seat.view) where
-  gone : GoesOnTo old.seat.view seat.view
-  gone = looked_goes_on old.seat.view place word seat.view l
+    (l : Looked old.token.view place word token.view) where
+  gone : GoesOnTo old.token.view token.view
+  gone = looked_goes_on old.token.view place word token.view l
 
-  there : IsShared (now seat.view) shared.rebuild shared.target shared.root shared.keys
+  there : IsShared (now token.view) shared.rebuild shared.target shared.root shared.keys
   there =
-      shared_now old.seat.view seat.view gone shared.rebuild shared.target shared.root shared.keys sh.is
+      shared_now old.token.view token.view gone shared.rebuild shared.target shared.root shared.keys sh.is
 
-  mine : seat.view.who ≡ CallerOf old.number
+  mine : token.view.who ≡ CallerOf old.number
   mine = ap (λ x. x.who) gone.same ∙ r.caller.mine
 
   told_draw : word ≡ there.row.draw
   told_draw =
-      looked_row old.seat.view place word seat.view l shared.rebuild (Rebuild there.row) 4 there.row.draw
+      looked_row old.token.view place word token.view l shared.rebuild (Rebuild there.row) 4 there.row.draw
       there.published refl place_is
 
   -- the place of the draw word lies in the table
-  draw_low : place < seat.view.words
+  draw_low : place < token.view.words
   draw_low =
-      let low = (row_low seat.view gone.sound shared.rebuild (Rebuild there.row) there.published 4
+      let low = (row_low token.view gone.sound shared.rebuild (Rebuild there.row) there.published 4
       (omega arith)).0 in
       omega arith
 
   can : word < shared.degree
-      → CanDraw (now seat.view) seat.view.log old.number shared.rebuild there.row.draw
+      → CanDraw (now token.view) token.view.log old.number shared.rebuild there.row.draw
   can less =
       record {
         known = gone.sound.is_true.low old.number mine;
@@ -142,16 +142,16 @@ module _ (old : Caller) (seat : SeatFace) (r : IsFreeToBuild old) (s : IsSound o
         published = there.published;
         rooted = set_by there.row.root _ there.root_is (λ q. cc);
         k = shared.keys;
-        finished = subst (λ n. IsFinishedWith (now seat.view) n shared.keys) (sym there.target_is)
+        finished = subst (λ n. IsFinishedWith (now token.view) n shared.keys) (sym there.target_is)
             there.finished;
         shared = there.shared;
         part_is = refl;
         not_past = λ earlier i.
-            let it = was_drawn seat.view.start seat.view.words old.number shared.rebuild earlier
-            seat.view.log
+            let it = was_drawn token.view.start token.view.words old.number shared.rebuild earlier
+            token.view.log
             gone.sound.lawful.enabled i in
             let below = it.below in
-            let same = ap (λ r. r.draw) (same_rebuild ((now seat.view).pieces shared.rebuild) it.row
+            let same = ap (λ r. r.draw) (same_rebuild ((now token.view).pieces shared.rebuild) it.row
             there.row
             it.published there.published) in
             let is = told_draw in
@@ -159,44 +159,44 @@ module _ (old : Caller) (seat : SeatFace) (r : IsFreeToBuild old) (s : IsSound o
             omega arith;
       }
 
-  drawing_is : drawing seat.view place ≡ (λ found. Draw old.number shared.rebuild found)
+  drawing_is : drawing token.view place ≡ (λ found. Draw old.number shared.rebuild found)
   drawing_is =
       ap₂ (λ n o. λ found. Draw n o found) (ap number_of mine)
       (let q : place - rebuild_draw_offset ≡ shared.rebuild = omega arith in q)
 
   -- the part may be drawn
-  draw_allowed : word < shared.degree → CanAdd seat.view place (drawing seat.view place)
+  draw_allowed : word < shared.degree → CanAdd token.view place (drawing token.view place)
   draw_allowed less =
-      subst (CanAdd seat.view place) (sym drawing_is)
-      (subst (λ p. CanAdd seat.view p (λ found. Draw old.number shared.rebuild found)) (sym place_is)
-      (draw_comes seat.view gone.sound old.number mine shared.rebuild there.row.draw (can less)))
+      subst (CanAdd token.view place) (sym drawing_is)
+      (subst (λ p. CanAdd token.view p (λ found. Draw old.number shared.rebuild found)) (sym place_is)
+      (draw_comes token.view gone.sound old.number mine shared.rebuild there.row.draw (can less)))
 
   -- and the caller is where it was
-  draw_back : (last : SeatFace) (part : ℕ)
-      → Logged seat.view (drawing seat.view place part) last.view
-      → IsBack old (record old { seat = last })
+  draw_back : (last : TokenFace) (part : ℕ)
+      → Logged token.view (drawing token.view place part) last.view
+      → IsBack old (record old { token = last })
   draw_back last part x =
       let event = Draw old.number shared.rebuild part in
-      let logged = subst (λ (e : Event). Logged seat.view e last.view)
+      let logged = subst (λ (e : Event). Logged token.view e last.view)
       (ap (λ f. f part) drawing_is) x in
-      back_logged old (record old { seat = seat })
+      back_logged old (record old { token = token })
       record {
         ready = r;
         sound = s;
         number = refl;
         rows = refl;
-        built = loads_built old.seat.view seat.view gone;
+        built = loads_built old.token.view token.view gone;
       } []
       record { stored = tt; held = tt; once = tt; rising = tt; high = tt }
-      (sizes_on old seat r.caller gone ∙ sym (append-nil (sizes_built old))) event tt (λ n. refl)
+      (sizes_on old token r.caller gone ∙ sym (append-nil (sizes_built old))) event tt (λ n. refl)
       (drawing_drops old.number shared.rebuild part) last logged
 
   -- the next part may be drawn
-  pub may_draw : MayDraw old seat place word shared.degree
+  pub may_draw : MayDraw old token place word shared.degree
   may_draw =
       record {
         low = draw_low;
-        looked = back_loads old seat r gone;
+        looked = back_loads old token r gone;
         allowed = draw_allowed;
         back = draw_back;
       }
@@ -216,28 +216,28 @@ set_on v w b node j h =
     }
 
 -- at first no slot is filled
-pub filling_begun : (who : Caller) (s : Shared) → IsFreeToBuild who → IsSound who.seat.view
-    → IsSharedAs (now who.seat.view) s → IsFilling who s 0 who
+pub filling_begun : (who : Caller) (s : Shared) → IsFreeToBuild who → IsSound who.token.view
+    → IsSharedAs (now who.token.view) s → IsFilling who s 0 who
 filling_begun who s r sound sh =
     record { back = back_same who r sound; shared = sh; filled = λ j less. absurd (omega arith) }
 
 -- once slot i is set, one more slot is filled
 pub filling_more : (old who new : Caller) (s : Shared) (i : ℕ) → IsFilling old s i who
-    → IsBack who new → IsSlotSet (now new.seat.view) s.root i → IsFilling old s (i + 1) new
+    → IsBack who new → IsSlotSet (now new.token.view) s.root i → IsFilling old s (i + 1) new
 filling_more old who new s i f b set =
     record {
       back = back_more old who new f.back b;
       shared = shared_back who new s b f.shared;
       filled = λ j less. ⊎_elim
-          (λ low. set_on who.seat.view new.seat.view b.put s.root j (f.filled j low))
-          (λ high. subst (IsSlotSet (now new.seat.view) s.root) (let q : i ≡ j = omega arith in q)
+          (λ low. set_on who.token.view new.token.view b.put s.root j (f.filled j low))
+          (λ high. subst (IsSlotSet (now new.token.view) s.root) (let q : i ≡ j = omega arith in q)
           set)
           (cases_lt j i);
     }
 
 -- once all are set, the rebuild is built out
 pub filling_done : (old who : Caller) (s : Shared) (i : ℕ) → IsFilling old s i who → s.degree ≤ i
-    → IsBuiltOut (now who.seat.view) s.rebuild
+    → IsBuiltOut (now who.token.view) s.rebuild
 filling_done old who s i f all =
-    many_filled who.seat.view f.back.put.sound s.rebuild s.target s.root s.keys f.shared.is
+    many_filled who.token.view f.back.put.sound s.rebuild s.target s.root s.keys f.shared.is
     (λ j less. f.filled j (let q = f.shared.degree_is in omega arith))

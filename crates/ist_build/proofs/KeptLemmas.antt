@@ -17,29 +17,29 @@ use Rattle.ist_build.proofs.RootReadyLemmas.{told_on}
 
 -- a shared root stays one
 pub shared_back : (old new : Caller) (s : Shared) → IsBack old new
-    → IsSharedAs (now old.seat.view) s → IsSharedAs (now new.seat.view) s
+    → IsSharedAs (now old.token.view) s → IsSharedAs (now new.token.view) s
 shared_back old new s b h =
     record {
-      is = shared_on (now old.seat.view) (now new.seat.view)
-          (put_grow old.seat.view new.seat.view b.put) s.rebuild s.target s.root s.keys h.is;
+      is = shared_on (now old.token.view) (now new.token.view)
+          (put_grow old.token.view new.token.view b.put) s.rebuild s.target s.root s.keys h.is;
       degree_is = h.degree_is;
     }
 
 -- a rebuild that may be built stays one
 pub buildable_back : (old new : Caller) (rebuild : ℕ) → IsBack old new
-    → IsBuildable (now old.seat.view) rebuild → IsBuildable (now new.seat.view) rebuild
+    → IsBuildable (now old.token.view) rebuild → IsBuildable (now new.token.view) rebuild
 buildable_back old new rebuild b h =
     record {
       k = h.k;
-      told = told_on (now old.seat.view) (now new.seat.view)
-          (put_grow old.seat.view new.seat.view b.put) rebuild h.k h.told;
+      told = told_on (now old.token.view) (now new.token.view)
+          (put_grow old.token.view new.token.view b.put) rebuild h.k h.told;
     }
 
 -- a rebuild with a root keeps one
 pub rooted_back : (old new : Caller) (rebuild : ℕ) → IsBack old new
-    → IsRooted (now old.seat.view) rebuild → IsRooted (now new.seat.view) rebuild
+    → IsRooted (now old.token.view) rebuild → IsRooted (now new.token.view) rebuild
 rooted_back old new rebuild b h =
-    rooted_on (now old.seat.view) (now new.seat.view) (put_grow old.seat.view new.seat.view b.put)
+    rooted_on (now old.token.view) (now new.token.view) (put_grow old.token.view new.token.view b.put)
     rebuild h
 
 -- the target of a shared root is finished
@@ -55,26 +55,26 @@ shared_told t s h =
 -- ---- refusals
 
 -- what stops the caller stops it since its earlier state too
-stopped_back : (old mid : Caller) (rebuild words : ℕ) → IsBuildable (now old.seat.view) rebuild
-    → IsBack old mid → (full : Full) (w : View) → IsStopped mid.seat.view rebuild words full w
-    → IsStopped old.seat.view rebuild words full w
+stopped_back : (old mid : Caller) (rebuild words : ℕ) → IsBuildable (now old.token.view) rebuild
+    → IsBack old mid → (full : Full) (w : View) → IsStopped mid.token.view rebuild words full w
+    → IsStopped old.token.view rebuild words full w
 stopped_back old mid rebuild words h b full w stopped =
-    err_stopped_on old.seat.view mid.seat.view w rebuild words h.k h.told b.put full stopped
+    err_stopped_on old.token.view mid.token.view w rebuild words h.k h.told b.put full stopped
 
 -- the same, of a shared root
 pub shared_stopped : (old mid : Caller) (s : Shared) (words : ℕ)
-    → IsSharedAs (now old.seat.view) s → IsBack old mid → (full : Full) (w : View)
-    → IsStopped mid.seat.view s.rebuild words full w
-    → IsStopped old.seat.view s.rebuild words full w
+    → IsSharedAs (now old.token.view) s → IsBack old mid → (full : Full) (w : View)
+    → IsStopped mid.token.view s.rebuild words full w
+    → IsStopped old.token.view s.rebuild words full w
 shared_stopped old mid s words h b full w stopped =
     stopped_back old mid s.rebuild words
-    record { k = s.keys; told = shared_told (now old.seat.view) s h } b full w stopped
+    record { k = s.keys; told = shared_told (now old.token.view) s h } b full w stopped
 
 -- the same, of an answer
 pub err_stopped : {A : Type 0} (old mid : Caller) (rebuild words : ℕ) (w : View)
-    → IsBuildable (now old.seat.view) rebuild → IsBack old mid → (answer : Result A Full)
-    → IfErr answer (λ full. IsStopped mid.seat.view rebuild words full w)
-    → IfErr answer (λ full. IsStopped old.seat.view rebuild words full w)
+    → IsBuildable (now old.token.view) rebuild → IsBack old mid → (answer : Result A Full)
+    → IfErr answer (λ full. IsStopped mid.token.view rebuild words full w)
+    → IfErr answer (λ full. IsStopped old.token.view rebuild words full w)
 err_stopped old mid rebuild words w h b (Ok x) stopped = tt
 err_stopped old mid rebuild words w h b (Err full) stopped =
     stopped_back old mid rebuild words h b full w stopped

@@ -11,14 +11,14 @@ use Rattle.ist_core.specs.Pieces.{Leaf}
 use Rattle.ist_core.specs.Snapshots.{Snapshot}
 use Rattle.ist_core.specs.Arithmetic.{part_len, part_start}
 use Rattle.ist_core.proofs.GrowingLemmas.{leaf_there}
-use Rattle.laws_rows.specs.Dividing.{share_of}
+use Rattle.laws_calls.specs.Dividing.{share_of}
 use Rattle.ist_rule.specs.declared.view.View.{View}
 use Rattle.ist_rule.specs.Learning.{now, GoesOnTo}
 use Rattle.ist_rows.specs.declared.callers.Caller.{Caller}
 use Rattle.ist_build.specs.Laying.{ArePlaced, HaveLeaves, IsLeaf, IsKeyOf, AreKeysOf}
 use Rattle.ist_build.specs.Midway.{IsMidway}
 use Rattle.ist_build.proofs.BuiltLemmas.{leaf_goes_on, built_grow, loads_built}
-use Rattle.ist_build.proofs.MidwayLemmas.{part_placed}
+use Rattle.ist_build.proofs.HalfBuiltLemmas.{part_placed}
 
 -- keys stay as rows grow
 pub keys_on : (t u : Snapshot) → AllGrow t.pieces u.pieces → (bases keys : List ℕ)
@@ -151,31 +151,31 @@ key_first t (base ∷ bases) [] h leaf others is there = absurd h
 -- ---- a part
 
 module _ (old who : Caller) (leaves keys : List ℕ) (base d j : ℕ)
-    (m : IsMidway old leaves base d j who) (have : AreKeysOf (now old.seat.view) leaves keys)
+    (m : IsMidway old leaves base d j who) (have : AreKeysOf (now old.token.view) leaves keys)
     (own_keys : List ℕ) (keys_are : own_keys ≡ share_of (length leaves) j keys) where
   abbrev n : ℕ
   n = length leaves
 
-  shared : AreKeysOf (now who.seat.view) (share_of n j leaves) (share_of n j keys)
+  shared : AreKeysOf (now who.token.view) (share_of n j leaves) (share_of n j keys)
   shared =
-      keys_share (now who.seat.view) n j leaves keys
-      (keys_on (now old.seat.view) (now who.seat.view)
-      (built_grow old.seat.view who.seat.view m.built) leaves keys have)
+      keys_share (now who.token.view) n j leaves keys
+      (keys_on (now old.token.view) (now who.token.view)
+      (built_grow old.token.view who.token.view m.built) leaves keys have)
 
   -- its keys are its leaves' keys
   pub part_keys : (own : List ℕ) → own ≡ share_of n j leaves
-      → AreKeysOf (now who.seat.view) own own_keys
+      → AreKeysOf (now who.token.view) own own_keys
   part_keys own own_is =
-      subst (λ xs. AreKeysOf (now who.seat.view) xs own_keys) (sym own_is)
-      (subst (AreKeysOf (now who.seat.view) (share_of n j leaves)) (sym keys_are) shared)
+      subst (λ xs. AreKeysOf (now who.token.view) xs own_keys) (sym own_is)
+      (subst (AreKeysOf (now who.token.view) (share_of n j leaves)) (sym keys_are) shared)
 
   -- and the first is its first leaf's key
-  pub part_key : (placed : List PlacedLeaf) → ArePlaced (now old.seat.view) leaves placed
+  pub part_key : (placed : List PlacedLeaf) → ArePlaced (now old.token.view) leaves placed
       → (leaf : PlacedLeaf) (others : List PlacedLeaf) → share_of n j placed ≡ leaf ∷ others
       → slice_index_or own_keys 0 0 ≡ leaf.row.key
   part_key placed a leaf others is =
-      let it = subst (ArePlaced (now who.seat.view) (share_of n j leaves)) is
-      (part_placed old.seat.view who.seat.view m.built n j leaves placed a) in
+      let it = subst (ArePlaced (now who.token.view) (share_of n j leaves)) is
+      (part_placed old.token.view who.token.view m.built n j leaves placed a) in
       ap (λ xs. slice_index_or xs 0 0) keys_are
-      ∙ key_first (now who.seat.view) (share_of n j leaves) (share_of n j keys) shared leaf others
+      ∙ key_first (now who.token.view) (share_of n j leaves) (share_of n j keys) shared leaf others
       it.bases_are it.published.0

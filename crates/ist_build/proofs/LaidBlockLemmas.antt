@@ -15,8 +15,8 @@ use Rattle.ist_core.specs.Snapshots.{HoldsRow}
 use Rattle.ist_core.proofs.ReferenceLemmas.{ref_of-word_of}
 use Rattle.ist_core.proofs.RootLemmas.{least_degree-le}
 use Rattle.ist_core.proofs.ShapeLemmas.{shape_many}
-use Rattle.laws_rows.specs.Dividing.{lens_to, parts_to}
-use Rattle.laws_rows.proofs.PartLemmas.{parts_all, lens_all}
+use Rattle.laws_calls.specs.Dividing.{lens_to, parts_to}
+use Rattle.laws_calls.proofs.PartLemmas.{parts_all, lens_all}
 use Rattle.ist_rule.specs.declared.view.View.{View}
 use Rattle.ist_rule.specs.Learning.{now}
 use Rattle.ist_rows.specs.declared.callers.Caller.{Caller}
@@ -24,7 +24,7 @@ use Rattle.ist_build.specs.Laying.{ArePlaced, IsLaidBelow}
 use Rattle.ist_build.specs.Midway.{words_at, AreLaidBelow, IsOpened, IsLaying}
 use Rattle.ist_build.proofs.BuildingLemmas.{held_good}
 use Rattle.ist_build.proofs.OwnWordLemmas.{length-words_at}
-use Rattle.ist_build.proofs.TogetherLemmas.{laid_top, top_rows}
+use Rattle.ist_build.proofs.JoinedSubtreeLemmas.{laid_top, top_rows}
 
 -- the rows of all parts end where the rows of the whole end
 pub block_end : (n base d j : ℕ) → 2 ≤ n → d ≡ degree n → j ≡ d
@@ -41,12 +41,12 @@ block_end n base d j two d_is all =
 
 -- all parts are laid, by the number of leaves
 record Facts (who : Caller) (base high : ℕ) (placed : List PlacedLeaf) (n : ℕ) : Type 0 where
-  held : HoldsRow (now who.seat.view) who.number base (inner_words (degree n))
-  opened : IsOpened who.seat.view.own base (degree n) n
-  keys : words_at who.seat.view.own (base + 4) (degree n - 1)
+  held : HoldsRow (now who.token.view) who.number base (inner_words (degree n))
+  opened : IsOpened who.token.view.own base (degree n) n
+  keys : words_at who.token.view.own (base + 4) (degree n - 1)
       ≡ first_keys (λ leaf. leaf.row.key) (drop 1 (parts_to n (degree n) placed))
-  laid : AreLaidBelow who.seat.view who.number (base + inner_words (degree n)) high base
-      (words_at who.seat.view.own (base + 3 + degree n) (degree n)) (parts_to n (degree n) placed)
+  laid : AreLaidBelow who.token.view who.number (base + inner_words (degree n)) high base
+      (words_at who.token.view.own (base + 3 + degree n) (degree n)) (parts_to n (degree n) placed)
   room : base + inner_words (degree n) ≤ high
   two : 2 ≤ n
 
@@ -57,7 +57,7 @@ module _ (old who : Caller) (leaves : List ℕ) (base d j next : ℕ)
   n = length leaves
 
   abbrev w : View
-  w = who.seat.view
+  w = who.token.view
 
   whole : IsLaying old leaves base (degree n) (degree n) next who
   whole =
@@ -66,7 +66,7 @@ module _ (old who : Caller) (leaves : List ℕ) (base d j next : ℕ)
 
   -- the whole is laid
   pub all_laid_below : (word : ℕ) → word ≡ word_of (InnerAt base) → (placed : List PlacedLeaf)
-      → ArePlaced (now old.seat.view) leaves placed
+      → ArePlaced (now old.token.view) leaves placed
       → IsLaidBelow w who.number base next word placed
   all_laid_below word is placed a =
       let k : length placed ≡ n =

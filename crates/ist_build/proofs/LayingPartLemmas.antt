@@ -16,12 +16,12 @@ use Rattle.ist_rule.specs.Rule.{IsSound, own_at}
 use Rattle.ist_rule.specs.Learning.{now}
 use Rattle.ist_rows.specs.declared.callers.Caller.{Caller}
 use Rattle.ist_rows.specs.Rows.{IsCaller}
-use Rattle.laws_rows.specs.Dividing.{lens_to, parts_to, share_of}
-use Rattle.laws_rows.proofs.PartLemmas.{keys_next}
+use Rattle.laws_calls.specs.Dividing.{lens_to, parts_to, share_of}
+use Rattle.laws_calls.proofs.PartLemmas.{keys_next}
 use Rattle.ist_rows.specs.Block.{HoldsBlock}
 use Rattle.ist_build.specs.Laying.{ArePlaced, HaveLeaves, AreKeysOf, IsWritten, IsLaidBelow}
 use Rattle.ist_build.specs.Midway.{words_at, lens_from, IsLaying, setting}
-use Rattle.ist_build.proofs.MidwayLemmas.{each_take, each_drop, length-share_of, some_first}
+use Rattle.ist_build.proofs.HalfBuiltLemmas.{each_take, each_drop, length-share_of, some_first}
 use Rattle.ist_build.proofs.OwnWordLemmas.{words_at_same, words_at_more}
 use Rattle.ist_build.proofs.PartsLemmas.{sizes_next, sizes_left}
 use Rattle.ist_build.proofs.RowOpenedLemmas.{at_key, elsewhere, opened_on, setting_is}
@@ -57,14 +57,14 @@ share_key t n j bases keys own_keys have keys_are placed a leaf others is =
 -- the rows of a part, and the rows of the parts after it
 part_block : (old who : Caller) (leaves : List ℕ) (base d j next : ℕ)
     → IsLaying old leaves base d j next who → j < degree (length leaves)
-    → HoldsBlock (now who.seat.view) who.number next (shape (part_len (length leaves) j))
-    × HoldsBlock (now who.seat.view) who.number (next + sum (shape (part_len (length leaves) j)))
+    → HoldsBlock (now who.token.view) who.number next (shape (part_len (length leaves) j))
+    × HoldsBlock (now who.token.view) who.number (next + sum (shape (part_len (length leaves) j)))
     (flat_map shape (lens_from (length leaves) (j + 1)))
 part_block old who leaves base d j next m less =
     let n = length leaves in
-    holds_split (now who.seat.view) who.number next (shape (part_len n j))
+    holds_split (now who.token.view) who.number next (shape (part_len n j))
     (flat_map shape (lens_from n (j + 1)))
-    (subst (HoldsBlock (now who.seat.view) who.number next) (sizes_left n j less) m.rest)
+    (subst (HoldsBlock (now who.token.view) who.number next) (sizes_left n j less) m.rest)
 
 -- ---- before a part is laid
 
@@ -73,8 +73,8 @@ module _ (old who : Caller) (leaves keys : List ℕ) (base d j next : ℕ)
     (own own_keys : List ℕ) (own_is : own ≡ share_of (length leaves) j leaves)
     (keys_are : own_keys ≡ share_of (length leaves) j keys) where
   -- nothing but words was stored
-  same_state : now who.seat.view ≡ now old.seat.view
-  same_state = ap (λ (x : Caller). now x.seat.view) m.written.same
+  same_state : now who.token.view ≡ now old.token.view
+  same_state = ap (λ (x : Caller). now x.token.view) m.written.same
 
   -- it has the length of the part, and one key per leaf
   pub long_part : length own ≡ part_len (length leaves) j
@@ -86,35 +86,35 @@ module _ (old who : Caller) (leaves keys : List ℕ) (base d j next : ℕ)
       ap length keys_are ∙ length-share_of (length leaves) j keys many less ∙ sym long_part
 
   -- its rows are held
-  pub held_part : HoldsBlock (now who.seat.view) who.number next (shape (length own))
+  pub held_part : HoldsBlock (now who.token.view) who.number next (shape (length own))
   held_part =
-      subst (λ k. HoldsBlock (now who.seat.view) who.number next (shape k)) (sym long_part)
+      subst (λ k. HoldsBlock (now who.token.view) who.number next (shape k)) (sym long_part)
       (part_block old who leaves base d j next m less).0
 
   -- its leaves are published, and its keys are theirs
-  pub leaves_part : HaveLeaves (now old.seat.view) leaves → HaveLeaves (now who.seat.view) own
+  pub leaves_part : HaveLeaves (now old.token.view) leaves → HaveLeaves (now who.token.view) own
   leaves_part have =
       subst (λ t. HaveLeaves t own) (sym same_state) (
         share_of (length leaves) j have.0,
-        subst (λ xs. ArePlaced (now old.seat.view) xs (share_of (length leaves) j have.0)) (sym own_is)
-            (share_placed (now old.seat.view) (length leaves) j leaves have.0 have.1),
+        subst (λ xs. ArePlaced (now old.token.view) xs (share_of (length leaves) j have.0)) (sym own_is)
+            (share_placed (now old.token.view) (length leaves) j leaves have.0 have.1),
       )
 
   -- if the keys are the leaves' keys, the part's keys are the keys of the part's leaves
-  pub keys_part : AreKeysOf (now old.seat.view) leaves keys → AreKeysOf (now who.seat.view) own own_keys
+  pub keys_part : AreKeysOf (now old.token.view) leaves keys → AreKeysOf (now who.token.view) own own_keys
   keys_part have =
       subst (λ t. AreKeysOf t own own_keys) (sym same_state)
-      (subst (λ xs. AreKeysOf (now old.seat.view) xs own_keys) (sym own_is)
-      (subst (AreKeysOf (now old.seat.view) (share_of (length leaves) j leaves)) (sym keys_are)
-      (keys_share (now old.seat.view) (length leaves) j leaves keys have)))
+      (subst (λ xs. AreKeysOf (now old.token.view) xs own_keys) (sym own_is)
+      (subst (AreKeysOf (now old.token.view) (share_of (length leaves) j leaves)) (sym keys_are)
+      (keys_share (now old.token.view) (length leaves) j leaves keys have)))
 
   -- and its first key is its first leaf's key
-  pub key_part : AreKeysOf (now old.seat.view) leaves keys
-      → (placed : List PlacedLeaf) → ArePlaced (now old.seat.view) leaves placed
+  pub key_part : AreKeysOf (now old.token.view) leaves keys
+      → (placed : List PlacedLeaf) → ArePlaced (now old.token.view) leaves placed
       → (leaf : PlacedLeaf) (others : List PlacedLeaf) → share_of (length leaves) j placed ≡ leaf ∷ others
       → slice_index_or own_keys 0 0 ≡ leaf.row.key
   key_part have placed a leaf others is =
-      share_key (now old.seat.view) (length leaves) j leaves keys own_keys have keys_are placed a leaf others
+      share_key (now old.token.view) (length leaves) j leaves keys own_keys have keys_are placed a leaf others
       is
 
 -- ---- once it is laid
@@ -122,14 +122,14 @@ module _ (old who : Caller) (leaves keys : List ℕ) (base d j next : ℕ)
 module _ (old who : Caller) (leaves : List ℕ) (base d j next end key word : ℕ)
     (nown : List OwnWord) (m : IsLaying old leaves base d j next who)
     (d_is : d ≡ degree (length leaves)) (less : j < d) (some : 1 ≤ part_len (length leaves) j)
-    (sound : IsSound (record who.seat.view { own = nown }))
-    (below : (p : ℕ) → p < next → own_at nown p ≡ own_at who.seat.view.own p)
-    (above : (p : ℕ) → end ≤ p → own_at nown p ≡ own_at who.seat.view.own p)
+    (sound : IsSound (record who.token.view { own = nown }))
+    (below : (p : ℕ) → p < next → own_at nown p ≡ own_at who.token.view.own p)
+    (above : (p : ℕ) → end ≤ p → own_at nown p ≡ own_at who.token.view.own p)
     (end_is : end ≡ next + sum (shape (part_len (length leaves) j))) (low : end ≤ place_limit)
     (laid : (part : List PlacedLeaf)
-    → ArePlaced (now who.seat.view) (share_of (length leaves) j leaves) part
-    → IsLaidBelow (record who.seat.view { own = nown }) who.number next end word part)
-    (key_is : (placed : List PlacedLeaf) → ArePlaced (now old.seat.view) leaves placed
+    → ArePlaced (now who.token.view) (share_of (length leaves) j leaves) part
+    → IsLaidBelow (record who.token.view { own = nown }) who.number next end word part)
+    (key_is : (placed : List PlacedLeaf) → ArePlaced (now old.token.view) leaves placed
     → (leaf : PlacedLeaf) (others : List PlacedLeaf)
     → share_of (length leaves) j placed ≡ leaf ∷ others → key ≡ leaf.row.key)
   where
@@ -137,7 +137,7 @@ module _ (old who : Caller) (leaves : List ℕ) (base d j next end key word : �
     n = length leaves
 
     abbrev v : View
-    v = who.seat.view
+    v = who.token.view
 
     abbrev c : View
     c = record v { own = nown }
@@ -146,7 +146,7 @@ module _ (old who : Caller) (leaves : List ℕ) (base d j next end key word : �
     words = (setting c base d j key word).own
 
     abbrev last : Caller
-    last = record who { seat = record who.seat { view = record v { own = words } } }
+    last = record who { token = record who.token { view = record v { own = words } } }
 
     in_row : base + inner_words d ≤ next
     in_row = let is = m.next_is in omega arith
@@ -159,8 +159,8 @@ module _ (old who : Caller) (leaves : List ℕ) (base d j next end key word : �
         → own_at words p ≡ own_at v.own p
     stays p l ne nk = elsewhere c base d j key word less p ne nk ∙ below p l
 
-    same_now : now v ≡ now old.seat.view
-    same_now = ap (λ (x : Caller). now x.seat.view) m.written.same
+    same_now : now v ≡ now old.token.view
+    same_now = ap (λ (x : Caller). now x.token.view) m.written.same
 
     all_sizes : end ≡ base + inner_words d + sum (flat_map shape (lens_to n (j + 1)))
     all_sizes =
@@ -169,7 +169,7 @@ module _ (old who : Caller) (leaves : List ℕ) (base d j next end key word : �
         ∙ sum_by-append (λ x. x) (flat_map shape (lens_to n j)) (shape (part_len n j)) in
         omega arith
 
-    keys_more : (placed : List PlacedLeaf) → ArePlaced (now old.seat.view) leaves placed
+    keys_more : (placed : List PlacedLeaf) → ArePlaced (now old.token.view) leaves placed
         → words_at words (base + 4) (j + 1 - 1)
         ≡ first_keys (λ (leaf : PlacedLeaf). leaf.row.key) (drop 1 (parts_to n (j + 1) placed))
     keys_more placed a = at j refl
@@ -211,7 +211,7 @@ module _ (old who : Caller) (leaves : List ℕ) (base d j next end key word : �
         record {
           written = record {
             same = ap (λ (x : Caller). record x {
-              seat = record x.seat { view = record x.seat.view { own = words } };
+              token = record x.token { view = record x.token.view { own = words } };
             }) m.written.same;
             caller = caller;
             sound = sound_last;
@@ -245,29 +245,29 @@ pub laying_part : (old who new last : Caller) (leaves : List ℕ) (base d j next
     → 1 ≤ part_len (length leaves) j → IsWritten who new next end
     → end ≡ next + sum (shape (part_len (length leaves) j)) → end ≤ place_limit
     → ((part : List PlacedLeaf)
-    → ArePlaced (now who.seat.view) (share_of (length leaves) j leaves) part
-    → IsLaidBelow new.seat.view new.number next end word part)
-    → ((placed : List PlacedLeaf) → ArePlaced (now old.seat.view) leaves placed
+    → ArePlaced (now who.token.view) (share_of (length leaves) j leaves) part
+    → IsLaidBelow new.token.view new.number next end word part)
+    → ((placed : List PlacedLeaf) → ArePlaced (now old.token.view) leaves placed
     → (leaf : PlacedLeaf) (others : List PlacedLeaf)
     → share_of (length leaves) j placed ≡ leaf ∷ others → key ≡ leaf.row.key)
-    → last ≡ record new { seat = record new.seat { view = setting new.seat.view base d j key word } }
-    → IsCaller last → IsSound last.seat.view → IsLaying old leaves base d (j + 1) end last
+    → last ≡ record new { token = record new.token { view = setting new.token.view base d j key word } }
+    → IsCaller last → IsSound last.token.view → IsLaying old leaves base d (j + 1) end last
 laying_part old who new last leaves base d j next end key word m d_is less some written end_is low laid
     key_is is caller sound =
-    let nown = new.seat.view.own in
+    let nown = new.token.view.own in
     let there : Caller =
-    record who { seat = record who.seat { view = record who.seat.view { own = nown } } } in
+    record who { token = record who.token { view = record who.token.view { own = nown } } } in
     let set = λ (x : Caller). record x {
-      seat = record x.seat { view = setting x.seat.view base d j key word };
+      token = record x.token { view = setting x.token.view base d j key word };
     } in
-    let view_is = setting_is there.seat.view base d j key word less in
+    let view_is = setting_is there.token.view base d j key word less in
     let whole = is ∙ ap set written.same
-    ∙ ap (λ v. record there { seat = record there.seat { view = v } }) view_is in
+    ∙ ap (λ v. record there { token = record there.token { view = v } }) view_is in
     subst (IsLaying old leaves base d (j + 1) end) (sym whole)
     (laying_set old who leaves base d j next end key word nown m d_is less some
-    (subst (λ (x : Caller). IsSound x.seat.view) written.same written.sound)
+    (subst (λ (x : Caller). IsSound x.token.view) written.same written.sound)
     written.below written.above end_is low
-    (λ part a. subst (λ (x : Caller). IsLaidBelow x.seat.view x.number next end word part) written.same
+    (λ part a. subst (λ (x : Caller). IsLaidBelow x.token.view x.number next end word part) written.same
     (laid part a))
     key_is (subst IsCaller whole caller)
-    (subst (λ (x : Caller). IsSound x.seat.view) whole sound))
+    (subst (λ (x : Caller). IsSound x.token.view) whole sound))

@@ -3,10 +3,10 @@ pub mod LaidOnLemmas
 pub mod OwnWordLemmas
 pub mod BuiltLemmas
 pub mod LayingLemmas
-pub mod TogetherLemmas
+pub mod JoinedSubtreeLemmas
 pub mod PartsLemmas
 pub mod RowOpenedLemmas
-pub mod MidwayLemmas
+pub mod HalfBuiltLemmas
 pub mod KeyLemmas
 pub mod BuildingLemmas
 pub mod BlockLemmas
@@ -26,7 +26,7 @@ pub mod AtOnceLemmas
 pub mod UnsetLemmas
 pub mod RisingListLemmas
 pub mod HeldMoreLemmas
-pub mod AwayLemmas
+pub mod HeldBeforeLemmas
 pub mod TopBegunLemmas
 pub mod TopLemmas
 pub mod TopLeafLemmas

@@ -15,11 +15,11 @@ use Rattle.ist_core.specs.Snapshots.{bases_of, sizes_of}
 use Rattle.ist_core.specs.StartLayout.{start}
 use Rattle.ist_core.specs.Writing.{place_of_slot}
 use Rattle.ist_core.proofs.PlaceLemmas.{placed, claimed_within}
-use Rattle.laws_rebuilds.proofs.FinishedLeafLemmas.{finished_leaves}
+use Rattle.laws_links.proofs.FinishedLeafLemmas.{finished_leaves}
 use Rattle.ist_rule.specs.declared.view.View.{View}
 use Rattle.ist_core.specs.declared.events.Who.TheVariants.{Caller as CallerOf}
 use Rattle.ist_rule.specs.Conditions.{CanExchangeOrLose}
-use Rattle.ist_rule.specs.Faces.{SeatFace}
+use Rattle.ist_rule.specs.Faces.{TokenFace}
 use Rattle.ist_rule.specs.Learning.{now, Logged, LoggedLoad, ExchangedOrLost, GoesOnTo}
 use Rattle.ist_rule.specs.Watching.{number_of}
 use Rattle.ist_rows.specs.declared.callers.Caller.{Caller}
@@ -38,9 +38,9 @@ use Rattle.ist_build.proofs.KeptLemmas.{shared_told}
 use Rattle.ist_build.proofs.PutOnLemmas.{put_same, short_stopped}
 use Rattle.ist_build.proofs.ShareLemmas.{short_more}
 use Rattle.ist_build.proofs.BuiltLemmas.{built_grow, loads_built}
-use Rattle.laws_rows.specs.Dividing.{share_of}
-use Rattle.laws_rows.proofs.PartLemmas.{part_is}
-use Rattle.ist_build.proofs.MidwayLemmas.{length-share_of}
+use Rattle.laws_calls.specs.Dividing.{share_of}
+use Rattle.laws_calls.proofs.PartLemmas.{part_is}
+use Rattle.ist_build.proofs.HalfBuiltLemmas.{length-share_of}
 use Rattle.ist_build.proofs.LayingLemmas.{rows_free}
 use Rattle.ist_core.specs.Parts.{parts}
 use Rattle.std.proofs.lemmas.Bool.Decides.{eqb_tells}
@@ -54,30 +54,30 @@ use Rattle.ist_build.proofs.PartSlotLemmas.{degree_low, part_lost, part_put, par
 
 -- the exchange may be made, and what is known after it
 pub record MayPut (old mid : Caller) (s : Shared) (i place word : ℕ) : Type 0 where
-  pub allowed : CanExchangeOrLose mid.seat.view place unset_word word
-      (placing mid.seat.view s.rebuild i word) (losing mid.seat.view word)
+  pub allowed : CanExchangeOrLose mid.token.view place unset_word word
+      (placing mid.token.view s.rebuild i word) (losing mid.token.view word)
   -- after the exchange, whatever word it found, the slot is set
-  pub behind : (seat : SeatFace) (found : ℕ)
-      → ExchangedOrLost mid.seat.view (placing mid.seat.view s.rebuild i word)
-      (losing mid.seat.view word) place unset_word found seat.view
-      → IsFilledAt old (record mid { seat = seat }) s.root i
-  pub low : place < mid.seat.view.words
+  pub behind : (token : TokenFace) (found : ℕ)
+      → ExchangedOrLost mid.token.view (placing mid.token.view s.rebuild i word)
+      (losing mid.token.view word) place unset_word found token.view
+      → IsFilledAt old (record mid { token = token }) s.root i
+  pub low : place < mid.token.view.words
 
 module _ (old mid : Caller) (s : Shared) (i word : ℕ) (m : IsPartMade old mid s i word) where
   abbrev a : HasBuilt old mid
   a = m.has_built
 
-  abbrev sh : IsShared (now old.seat.view) s.rebuild s.target s.root s.keys
+  abbrev sh : IsShared (now old.token.view) s.rebuild s.target s.root s.keys
   sh = m.shared.is
 
   less : i < degree s.keys
   less = subst (λ n. i < n) m.shared.degree_is m.within
 
   abbrev v : View
-  v = old.seat.view
+  v = old.token.view
 
   abbrev w : View
-  w = mid.seat.view
+  w = mid.token.view
 
   some : (leaves : List PlacedLeaf) × HasLeaves (now v).pieces (Some (InnerAt s.target)) leaves
       × (length leaves ≡ s.keys)
@@ -191,34 +191,34 @@ module _ (old mid : Caller) (s : Shared) (i word : ℕ) (m : IsPartMade old mid 
         (Lose mid.number (bases_of h.rows))) (sym placing_is) can)
 
     -- after it the slot is set, whoever was first
-    part_behind : (seat : SeatFace) (found : ℕ)
-        → ExchangedOrLost w (placing w s.rebuild i word) (losing w word) place unset_word found seat.view
-        → IsFilledAt old (record mid { seat = seat }) s.root i
-    part_behind seat found x =
+    part_behind : (token : TokenFace) (found : ℕ)
+        → ExchangedOrLost w (placing w s.rebuild i word) (losing w word) place unset_word found token.view
+        → IsFilledAt old (record mid { token = token }) s.root i
+    part_behind token found x =
         ⊎_elim (λ same. hit (x.0 same.1)) (λ other. miss other.1 (x.1 other.1))
         (eqb_tells found unset_word)
       where
-        hit : Logged w (placing w s.rebuild i word) seat.view
-            → IsFilledAt old (record mid { seat = seat }) s.root i
+        hit : Logged w (placing w s.rebuild i word) token.view
+            → IsFilledAt old (record mid { token = token }) s.root i
         hit l =
             let event = Place mid.number s.rebuild i word h.rows in
-            let logged = subst (λ (e : Event). Logged w e seat.view) placing_is l in
+            let logged = subst (λ (e : Event). Logged w e token.view) placing_is l in
             record {
-              back = back_logged old mid a h.rows h.owns sizes event tt (λ n. refl) (λ t. refl) seat
+              back = back_logged old mid a h.rows h.owns sizes event tt (λ n. refl) (λ t. refl) token
                   logged;
-              set = part_put w seat.view mid.number s.rebuild i word h.rows s.root on.row on.published
+              set = part_put w token.view mid.number s.rebuild i word h.rows s.root on.row on.published
                   on.root_is (topped_set word (bases_of h.rows) topped) logged;
             }
 
-        miss : found ≢ unset_word → LoggedLoad w (losing w word) place found seat.view
-            → IsFilledAt old (record mid { seat = seat }) s.root i
+        miss : found ≢ unset_word → LoggedLoad w (losing w word) place found token.view
+            → IsFilledAt old (record mid { token = token }) s.root i
         miss differs l =
             let event = Lose mid.number (bases_of h.rows) in
-            let lost = subst (λ (e : Event). LoggedLoad w e place found seat.view) losing_is l in
+            let lost = subst (λ (e : Event). LoggedLoad w e place found token.view) losing_is l in
             record {
-              back = back_lost old mid a h.rows h.owns sizes event tt (λ n. refl) (λ t. refl) seat place
+              back = back_lost old mid a h.rows h.owns sizes event tt (λ n. refl) (λ t. refl) token place
                   found lost;
-              set = part_lost w seat.view mid.number place found (bases_of h.rows) s.root
+              set = part_lost w token.view mid.number place found (bases_of h.rows) s.root
                   (degree s.keys) i on.node less is_place differs lost;
             }
 
@@ -247,23 +247,23 @@ shared_now v w g rebuild target root k h =
 pub record SlotBuilt (old new : Caller) (s : Shared) (i words : ℕ) (answer : Result ℕ Full) : Type 0 where
   pub made : IfOk answer (λ word. IsPartMade old new s i word)
   pub back : IfErr answer (λ full. IsBack old new)
-  pub full : IfErr answer (λ full. IsStopped old.seat.view s.rebuild words full new.seat.view)
+  pub full : IfErr answer (λ full. IsStopped old.token.view s.rebuild words full new.token.view)
 
 -- a build over the share of a slot that was Unset
 pub slot_built : (old new : Caller) (s : Shared) (i len start words : ℕ) → HasBuilt old new
-    → IsCaller new → IsSharedAs (now old.seat.view) s → i < s.degree
-    → WasUnset old.seat.view old.number (slot_place s.root s.degree i)
+    → IsCaller new → IsSharedAs (now old.token.view) s → i < s.degree
+    → WasUnset old.token.view old.number (slot_place s.root s.degree i)
     → start ≡ part_start s.keys i → len ≡ part_len s.keys i → len < s.keys
     → (answer : Result ℕ Full)
     → IfOk answer (λ word. (all : List PlacedLeaf)
-    → HasLeaves (now old.seat.view).pieces (Some (InnerAt s.target)) all
-    → IsLaid new.seat.view new.number (now old.seat.view).next word (take len (drop start all)))
+    → HasLeaves (now old.token.view).pieces (Some (InnerAt s.target)) all
+    → IsLaid new.token.view new.number (now old.token.view).next word (take len (drop start all)))
     → IfOk answer (λ word. 2 ≤ len → IsInBuild new (sizes_built old) (shape len) [])
-    → IfErr answer (λ full. IsShort old.seat.view words len full new.seat.view)
+    → IfErr answer (λ full. IsShort old.token.view words len full new.token.view)
     → IfErr answer (λ full. HasRefused new) → SlotBuilt old new s i words answer
 slot_built old new s i len start words b c sh within unset start_is len_is fewer (Ok word) laid at full
     refused =
-    let low = (now old.seat.view).next in
+    let low = (now old.token.view).next in
     let two : 2 ≤ len = let t = part_two s.keys i sh.is.shared in omega arith in
     record {
       made = record {
@@ -271,9 +271,9 @@ slot_built old new s i len start words b c sh within unset start_is len_is fewer
         shared = sh;
         within = within;
         laid = λ all has.
-            subst (λ n. IsLaid new.seat.view new.number low word
+            subst (λ n. IsLaid new.token.view new.number low word
             (take n (drop (part_start s.keys i) all))) len_is
-            (subst (λ n. IsLaid new.seat.view new.number low word (take len (drop n all))) start_is
+            (subst (λ n. IsLaid new.token.view new.number low word (take len (drop n all))) start_is
             (laid all has));
         at = subst (λ n. IsInBuild new (sizes_built old) (shape n) []) len_is (at two);
         unset = unset;
@@ -283,11 +283,11 @@ slot_built old new s i len start words b c sh within unset start_is len_is fewer
     }
 slot_built old new s i len start words b c sh within unset start_is len_is fewer (Err full) laid at
     short refused =
-    let v = old.seat.view in
+    let v = old.token.view in
     record {
       made = tt;
       back = back_refused old new b.number b.rows b.built c refused;
-      full = short_stopped v v new.seat.view s.rebuild words s.keys full (shared_told (now v) s sh)
+      full = short_stopped v v new.token.view s.rebuild words s.keys full (shared_told (now v) s sh)
           (put_same v b.sound)
-          (short_more v words len s.keys full new.seat.view (let q = fewer in omega arith) short);
+          (short_more v words len s.keys full new.token.view (let q = fewer in omega arith) short);
     }

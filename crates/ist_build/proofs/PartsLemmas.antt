@@ -4,8 +4,8 @@ use Rattle.std.specs.List.{flat_map, range_with_len}
 use Rattle.std.proofs.lemmas.List.Concat.{flat_map-append, flat_map-cons}
 use Rattle.ist_core.specs.Arithmetic.{degree, part_len, part_lens}
 use Rattle.ist_core.specs.Shapes.{shape}
-use Rattle.laws_rows.specs.Dividing.{lens_to}
-use Rattle.laws_rows.proofs.PartLemmas.{lens_more}
+use Rattle.laws_calls.specs.Dividing.{lens_to}
+use Rattle.laws_calls.proofs.PartLemmas.{lens_more}
 use Rattle.ist_build.specs.Midway.{lens_from}
 
 -- ---- lengths

@@ -5,7 +5,7 @@ use Rattle.ist_core.specs.Leaves.{PlacedLeaf, HasLeaves}
 use Rattle.ist_core.specs.References.{InnerAt}
 use Rattle.ist_core.specs.Shapes.{shape}
 use Rattle.ist_rule.specs.declared.view.View.{View}
-use Rattle.ist_rule.specs.Faces.{SeatFace}
+use Rattle.ist_rule.specs.Faces.{TokenFace}
 use Rattle.ist_rule.specs.Rule.{IsSound}
 use Rattle.ist_rule.specs.Learning.{now, GoesOnTo}
 use Rattle.ist_rule.proofs.GoingOnLemmas.{goes_on_more}
@@ -45,50 +45,50 @@ has_read_out v u w s target from to old new none h first second read =
         (enough_leaves v s target (from.skip + length old) h all has) (read all has))
 
 -- the rows over what was read out are due
-pub out_due : (who : Caller) (seat : SeatFace) (target start len : ℕ) (bases : List ℕ)
-    → IsCaller who → HasReadOut who.seat.view target start len bases seat.view
+pub out_due : (who : Caller) (token : TokenFace) (target start len : ℕ) (bases : List ℕ)
+    → IsCaller who → HasReadOut who.token.view target start len bases token.view
     → (2 ≤ len → IsDue who len) → 2 ≤ length bases
-    → IsDue (record who { seat = seat }) (length bases)
-out_due who seat target start len bases c r due two =
-    subst (IsDue (record who { seat = seat })) (sym r.size)
-    (due_on who seat len c r.seen (due (subst (λ n. 2 ≤ n) r.size two)))
+    → IsDue (record who { token = token }) (length bases)
+out_due who token target start len bases c r due two =
+    subst (IsDue (record who { token = token })) (sym r.size)
+    (due_on who token len c r.seen (due (subst (λ n. 2 ≤ n) r.size two)))
 
 -- what a build over the leaves from number `start` on gives
 pub record OutBuilt (old new : Caller) (words target start len : ℕ) (answer : Result ℕ Full) : Type 0 where
-  pub built : BuiltOn old.seat.view new.seat.view
+  pub built : BuiltOn old.token.view new.token.view
   pub laid : IfOk answer (λ word. (all : List PlacedLeaf)
-      → HasLeaves (now old.seat.view).pieces (Some (InnerAt target)) all
-      → IsLaid new.seat.view new.number (now old.seat.view).next word (take len (drop start all)))
+      → HasLeaves (now old.token.view).pieces (Some (InnerAt target)) all
+      → IsLaid new.token.view new.number (now old.token.view).next word (take len (drop start all)))
   pub taken : IfOk answer (λ word. HasTaken old (shape len) new)
-  pub full : IfErr answer (λ full. IsShort old.seat.view words len full new.seat.view)
+  pub full : IfErr answer (λ full. IsShort old.token.view words len full new.token.view)
 
 -- what a build over leaves that were read out gives
-pub out_built : (who : Caller) (seat : SeatFace) (new : Caller) (words target start len : ℕ)
-    (bases : List ℕ) → IsCaller who → HasReadOut who.seat.view target start len bases seat.view
-    → BuiltOn seat.view new.seat.view → (answer : Result ℕ Full)
-    → IfOk answer (λ word. (placed : List PlacedLeaf) → ArePlaced (now seat.view) bases placed
-    → IsLaid new.seat.view new.number (now seat.view).next word placed)
-    → IfOk answer (λ word. HasTaken (record who { seat = seat }) (shape (length bases)) new)
-    → IfErr answer (λ full. IsShort seat.view words (length bases) full new.seat.view)
+pub out_built : (who : Caller) (token : TokenFace) (new : Caller) (words target start len : ℕ)
+    (bases : List ℕ) → IsCaller who → HasReadOut who.token.view target start len bases token.view
+    → BuiltOn token.view new.token.view → (answer : Result ℕ Full)
+    → IfOk answer (λ word. (placed : List PlacedLeaf) → ArePlaced (now token.view) bases placed
+    → IsLaid new.token.view new.number (now token.view).next word placed)
+    → IfOk answer (λ word. HasTaken (record who { token = token }) (shape (length bases)) new)
+    → IfErr answer (λ full. IsShort token.view words (length bases) full new.token.view)
     → OutBuilt who new words target start len answer
-out_built who seat new words target start len bases c r b (Ok word) laid taken full =
-    let v = who.seat.view in
-    let on = loads_built v seat.view r.seen in
+out_built who token new words target start len bases c r b (Ok word) laid taken full =
+    let v = who.token.view in
+    let on = loads_built v token.view r.seen in
     record {
-      built = built_more v seat.view new.seat.view on b;
-      laid = λ all has. laid_lower new.seat.view new.number (now v).next (now seat.view).next word
-          (take len (drop start all)) (built_next v seat.view on)
+      built = built_more v token.view new.token.view on b;
+      laid = λ all has. laid_lower new.token.view new.number (now v).next (now token.view).next word
+          (take len (drop start all)) (built_next v token.view on)
           (laid (take len (drop start all)) (r.placed all has));
-      taken = taken_on who seat (shape len) new c r.seen
-          (subst (λ n. HasTaken (record who { seat = seat }) (shape n) new) r.size taken);
+      taken = taken_on who token (shape len) new c r.seen
+          (subst (λ n. HasTaken (record who { token = token }) (shape n) new) r.size taken);
       full = tt;
     }
-out_built who seat new words target start len bases c r b (Err full) laid taken short =
-    let v = who.seat.view in
+out_built who token new words target start len bases c r b (Err full) laid taken short =
+    let v = who.token.view in
     record {
-      built = built_more v seat.view new.seat.view (loads_built v seat.view r.seen) b;
+      built = built_more v token.view new.token.view (loads_built v token.view r.seen) b;
       laid = tt;
       taken = tt;
-      full = short_on v seat.view r.seen words len full new.seat.view
-          (subst (λ n. IsShort seat.view words n full new.seat.view) r.size short);
+      full = short_on v token.view r.seen words len full new.token.view
+          (subst (λ n. IsShort token.view words n full new.token.view) r.size short);
     }

@@ -14,7 +14,7 @@ use Rattle.ist_core.proofs.LeafLemmas.{reached, slots_reached}
 use Rattle.ist_core.proofs.SlotLemmas.{same_inner}
 use Rattle.laws_links.specs.Linking.{IsFinished}
 use Rattle.laws_links.proofs.FinishedLemmas.{finished_slot}
-use Rattle.laws_rebuilds.proofs.NumberLemmas.{number_is}
+use Rattle.laws_links.proofs.NumberLemmas.{number_is}
 use Rattle.ist_rule.specs.declared.view.View.{View}
 use Rattle.ist_rule.specs.Rule.{IsSound}
 use Rattle.ist_rule.specs.Learning.{now, GoesOnTo}

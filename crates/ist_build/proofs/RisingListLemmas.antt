@@ -22,32 +22,6 @@ keeps_none p [] h = refl
 keeps_none p (x ∷ xs) h =
     ap₂ (λ b ys. if b then x ∷ ys else ys) (h x (inl refl)) (keeps_none p xs (λ y i. h y (inr i)))
 
-filter_at : {A : Type 0} (p : A → Bool) (x : A) (xs : List A) (b : Bool) → p x ≡ b
-    → filter p (x ∷ xs) ≡ (if b then x ∷ filter p xs else filter p xs)
-filter_at p x xs b e = ap (λ v. if v then x ∷ filter p xs else filter p xs) e
-
--- two filters, in either order
-pub filter_swap : {A : Type 0} (p q : A → Bool) (xs : List A)
-    → filter p (filter q xs) ≡ filter q (filter p xs)
-filter_swap p q [] = refl
-filter_swap p q (x ∷ xs) = at (filter_swap p q xs) (p x) refl (q x) refl
-  where
-    at : filter p (filter q xs) ≡ filter q (filter p xs) → (a : Bool) → p x ≡ a → (b : Bool)
-        → q x ≡ b → filter p (filter q (x ∷ xs)) ≡ filter q (filter p (x ∷ xs))
-    at rest true e true f =
-        ap (filter p) (filter_at q x xs true f) ∙ filter_at p x (filter q xs) true e
-        ∙ ap (λ ys. x ∷ ys) rest ∙ sym (filter_at q x (filter p xs) true f)
-        ∙ ap (filter q) (sym (filter_at p x xs true e))
-    at rest true e false f =
-        ap (filter p) (filter_at q x xs false f) ∙ rest ∙ sym (filter_at q x (filter p xs) false f)
-        ∙ ap (filter q) (sym (filter_at p x xs true e))
-    at rest false e true f =
-        ap (filter p) (filter_at q x xs true f) ∙ filter_at p x (filter q xs) false e ∙ rest
-        ∙ ap (filter q) (sym (filter_at p x xs false e))
-    at rest false e false f =
-        ap (filter p) (filter_at q x xs false f) ∙ rest
-        ∙ ap (filter q) (sym (filter_at p x xs false e))
-
 -- an element splits its list in two
 around : (x : ℕ) (ys : List ℕ) → Among x ys → (left : List ℕ) × (right : List ℕ)
     × (ys ≡ left ++ x ∷ right)

@@ -59,30 +59,30 @@ whole_share t target k h few =
     }
 
 -- if the whole subtree was built, its word is a root
-pub ok_whole : (old new : Caller) (target k : ℕ) → IsSound old.seat.view → new.number ≡ old.number
-    → BuiltOn old.seat.view new.seat.view → IsTarget (now old.seat.view) target k → k < share_from
+pub ok_whole : (old new : Caller) (target k : ℕ) → IsSound old.token.view → new.number ≡ old.number
+    → BuiltOn old.token.view new.token.view → IsTarget (now old.token.view) target k → k < share_from
     → 2 ≤ k → (answer : Result ℕ Full)
     → IfOk answer (λ word. (all : List PlacedLeaf)
-    → HasLeaves (now old.seat.view).pieces (Some (InnerAt target)) all
-    → IsLaid new.seat.view new.number (now old.seat.view).next word (take k (drop 0 all)))
+    → HasLeaves (now old.token.view).pieces (Some (InnerAt target)) all
+    → IsLaid new.token.view new.number (now old.token.view).next word (take k (drop 0 all)))
     → IfOk answer (λ word. 2 ≤ k → IsInBuild new (sizes_built old) (shape k) [])
     → IfOk answer (λ word. (leaves : List PlacedLeaf)
-    → HasLeaves (now old.seat.view).pieces (Some (InnerAt target)) leaves
+    → HasLeaves (now old.token.view).pieces (Some (InnerAt target)) leaves
     → IsRootLaid old new target k word leaves)
 ok_whole old new target k s number b t few several (Ok word) laid at =
     λ leaves has. whole_laid old new target k word s number b t leaves has few (laid leaves has) (at several)
 ok_whole old new target k s number b t few several (Err full) laid at = tt
 
 -- if the top row was built, its word is a root
-pub ok_top : (old new : Caller) (target k : ℕ) → IsSound old.seat.view → new.number ≡ old.number
-    → BuiltOn old.seat.view new.seat.view → IsTarget (now old.seat.view) target k → share_from ≤ k
+pub ok_top : (old new : Caller) (target k : ℕ) → IsSound old.token.view → new.number ≡ old.number
+    → BuiltOn old.token.view new.token.view → IsTarget (now old.token.view) target k → share_from ≤ k
     → (answer : Result ℕ Full)
     → IfOk answer (λ word. (all : List PlacedLeaf)
-    → HasLeaves (now old.seat.view).pieces (Some (InnerAt target)) all
-    → IsTopLaid new.seat.view new.number (now old.seat.view).next word all)
+    → HasLeaves (now old.token.view).pieces (Some (InnerAt target)) all
+    → IsTopLaid new.token.view new.number (now old.token.view).next word all)
     → IfOk answer (λ word. sizes_built new ≡ sizes_built old ++ inner_words (degree k) ∷ [])
     → IfOk answer (λ word. (leaves : List PlacedLeaf)
-    → HasLeaves (now old.seat.view).pieces (Some (InnerAt target)) leaves
+    → HasLeaves (now old.token.view).pieces (Some (InnerAt target)) leaves
     → IsRootLaid old new target k word leaves)
 ok_top old new target k s number b t many (Ok word) laid sizes =
     λ leaves has. top_root old new target k word s number b t leaves has many (laid leaves has) sizes
@@ -90,12 +90,12 @@ ok_top old new target k s number b t many (Err full) laid sizes = tt
 
 -- what was built over a target with several keys is a root made for its rebuild
 pub root_made : (old new : Caller) (rebuild target keys word : ℕ) → IsFreeToBuild old
-    → IsSound old.seat.view → new.number ≡ old.number → spares_of new ≡ spares_of old
-    → BuiltOn old.seat.view new.seat.view → IsTold (now old.seat.view) rebuild keys
-    → HasTarget (now old.seat.view) rebuild target → 2 ≤ keys
-    → WasUnset old.seat.view old.number (rebuild + rebuild_root_offset)
+    → IsSound old.token.view → new.number ≡ old.number → spares_of new ≡ spares_of old
+    → BuiltOn old.token.view new.token.view → IsTold (now old.token.view) rebuild keys
+    → HasTarget (now old.token.view) rebuild target → 2 ≤ keys
+    → WasUnset old.token.view old.number (rebuild + rebuild_root_offset)
     → ((leaves : List PlacedLeaf)
-    → HasLeaves (now old.seat.view).pieces (Some (InnerAt target)) leaves
+    → HasLeaves (now old.token.view).pieces (Some (InnerAt target)) leaves
     → IsRootLaid old new target keys word leaves)
     → IsRootMade old new rebuild word
 root_made old new rebuild target keys word r s number rows b told target_is several unset laid =

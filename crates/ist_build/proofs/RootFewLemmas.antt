@@ -19,7 +19,7 @@ use Rattle.ist_core.proofs.ReferenceLemmas.{ref_of-unset, ref_of-word_of}
 use Rattle.ist_rule.specs.declared.view.View.{View}
 use Rattle.ist_core.specs.declared.events.Who.TheVariants.{Caller as CallerOf}
 use Rattle.ist_rule.specs.Conditions.{CanExchange}
-use Rattle.ist_rule.specs.Faces.{SeatFace}
+use Rattle.ist_rule.specs.Faces.{TokenFace}
 use Rattle.ist_rule.specs.Rule.{IsSound}
 use Rattle.ist_rule.specs.Learning.{now, Looked, Logged, GoesOnTo}
 use Rattle.ist_rule.specs.Watching.{number_of}
@@ -35,8 +35,8 @@ use Rattle.ist_build.specs.Naming.{rooting_few}
 use Rattle.ist_build.specs.Calls.{IsTold}
 use Rattle.ist_build.proofs.BuiltLemmas.{built_grow, loads_built, leaf_goes_on}
 use Rattle.ist_build.proofs.ReadingLemmas.{leaves_number}
-use Rattle.laws_rebuilds.proofs.FinishedLeafLemmas.{finished_leaves}
-use Rattle.laws_rebuilds.proofs.FewLeafLemmas.{leaves_stand}
+use Rattle.laws_links.proofs.FinishedLeafLemmas.{finished_leaves}
+use Rattle.laws_links.proofs.FewLeafLemmas.{leaves_stand}
 use Rattle.laws_links.specs.Linking.{IsFinished}
 use Rattle.laws_coming.proofs.BeatenLemmas.{finished_once}
 use Rattle.ist_build.proofs.TopBegunLemmas.{sizes_on}
@@ -112,38 +112,38 @@ rooting_few_is v number rebuild place word mine at =
     (let q : place - rebuild_root_offset ≡ rebuild = omega arith in q)
 
 -- the exchange may be made, and what is known after it
-pub record MayRootFew (old : Caller) (seat : SeatFace) (rebuild word place : ℕ) : Type 0 where
-  pub low : place < seat.view.words
+pub record MayRootFew (old : Caller) (token : TokenFace) (rebuild word place : ℕ) : Type 0 where
+  pub low : place < token.view.words
   pub allowed : (unset : ℕ) → unset ≡ unset_word
-      → CanExchange seat.view place unset word (rooting_few seat.view place word)
-  pub hit : (last : SeatFace) → Logged seat.view (rooting_few seat.view place word) last.view
-      → HasPutRoot old (record old { seat = last }) rebuild word
-  pub missed : (last : SeatFace) (found : ℕ) → found ≢ unset_word
-      → Looked seat.view place found last.view
-      → HasPutRoot old (record old { seat = last }) rebuild found
+      → CanExchange token.view place unset word (rooting_few token.view place word)
+  pub hit : (last : TokenFace) → Logged token.view (rooting_few token.view place word) last.view
+      → HasPutRoot old (record old { token = last }) rebuild word
+  pub missed : (last : TokenFace) (found : ℕ) → found ≢ unset_word
+      → Looked token.view place found last.view
+      → HasPutRoot old (record old { token = last }) rebuild found
 
-module _ (old : Caller) (seat : SeatFace) (r : IsFreeToBuild old)
-    (s : IsSound old.seat.view) (gone : GoesOnTo old.seat.view seat.view)
-    (rebuild target k word : ℕ) (told : IsTold (now old.seat.view) rebuild k)
-    (g : HasTarget (now old.seat.view) rebuild target)
+module _ (old : Caller) (token : TokenFace) (r : IsFreeToBuild old)
+    (s : IsSound old.token.view) (gone : GoesOnTo old.token.view token.view)
+    (rebuild target k word : ℕ) (told : IsTold (now old.token.view) rebuild k)
+    (g : HasTarget (now old.token.view) rebuild target)
     (root : (leaves : List PlacedLeaf)
-    → HasLeaves (now old.seat.view).pieces (Some (InnerAt target)) leaves
-    → IsRoot (now seat.view).pieces word k leaves target [])
+    → HasLeaves (now old.token.view).pieces (Some (InnerAt target)) leaves
+    → IsRoot (now token.view).pieces word k leaves target [])
     (place : ℕ) (at : place ≡ rebuild + rebuild_root_offset) where
   abbrev mid : Caller
-  mid = record old { seat = seat }
+  mid = record old { token = token }
 
-  b : BuiltOn old.seat.view seat.view
-  b = loads_built old.seat.view seat.view gone
+  b : BuiltOn old.token.view token.view
+  b = loads_built old.token.view token.view gone
 
-  t : IsTarget (now old.seat.view) target k
-  t = told_target (now old.seat.view) rebuild target k told g
+  t : IsTarget (now old.token.view) target k
+  t = told_target (now old.token.view) rebuild target k told g
 
-  some : (leaves : List PlacedLeaf) × HasLeaves (now old.seat.view).pieces (Some (InnerAt target))
+  some : (leaves : List PlacedLeaf) × HasLeaves (now old.token.view).pieces (Some (InnerAt target))
       leaves
       × (length leaves ≡ k)
   some =
-      finished_leaves old.seat.view.start old.seat.view.words s.lawful.opens old.seat.view.log
+      finished_leaves old.token.view.start old.token.view.words s.lawful.opens old.token.view.log
       s.lawful.enabled target k t.finished
 
   few_laid : IsRootLaid old mid target k word some.0
@@ -152,35 +152,35 @@ module _ (old : Caller) (seat : SeatFace) (r : IsFreeToBuild old)
         rows = [];
         owns = record { stored = tt; held = tt; once = tt; rising = tt; high = tt };
         root = root some.0 some.1;
-        sizes = sizes_on old seat r.caller gone ∙ sym (append-nil (sizes_built old));
+        sizes = sizes_on old token r.caller gone ∙ sym (append-nil (sizes_built old));
       }
 
-  ready : IsRootBuilt (now seat.view) old.number rebuild word []
+  ready : IsRootBuilt (now token.view) old.number rebuild word []
   unfolding few_laid
   ready = root_ready old mid rebuild target k word s b told g some.0 some.1 few_laid
 
-  mine : seat.view.who ≡ CallerOf old.number
+  mine : token.view.who ≡ CallerOf old.number
   mine = ap (λ x. x.who) gone.same ∙ r.caller.mine
 
   -- an exchange of the Unset root for this word may be made, and is a Root without rows
   few_allowed : (unset : ℕ) → unset ≡ unset_word
-      → CanExchange seat.view place unset word (rooting_few seat.view place word)
+      → CanExchange token.view place unset word (rooting_few token.view place word)
   few_allowed unset is =
-      subst (λ (e : Event). CanExchange seat.view place unset word e)
-      (sym (rooting_few_is seat.view old.number rebuild place word mine at))
-      (subst (λ q. CanExchange seat.view q unset word (Root old.number rebuild word [])) (sym at)
-      (subst (λ q. CanExchange seat.view (rebuild + rebuild_root_offset) q word
+      subst (λ (e : Event). CanExchange token.view place unset word e)
+      (sym (rooting_few_is token.view old.number rebuild place word mine at))
+      (subst (λ q. CanExchange token.view q unset word (Root old.number rebuild word [])) (sym at)
+      (subst (λ q. CanExchange token.view (rebuild + rebuild_root_offset) q word
       (Root old.number rebuild word [])) (sym is)
-      (root_comes seat.view gone.sound old.number rebuild word [] mine tt ready)))
+      (root_comes token.view gone.sound old.number rebuild word [] mine tt ready)))
 
   few_set : word ≢ unset_word
   few_set = at_root (root some.0 some.1)
     where
-      at_root : IsRoot (now seat.view).pieces word k some.0 target [] → word ≢ unset_word
+      at_root : IsRoot (now token.view).pieces word k some.0 target [] → word ≢ unset_word
       at_root (root_whole ref less e ideal) f = by ref some.0 ideal
           (sym e ∙ ap ref_of f ∙ ref_of-unset)
         where
-          by : (x : Ref) (ls : List PlacedLeaf) → IsIdeal (now seat.view).pieces x ls target []
+          by : (x : Ref) (ls : List PlacedLeaf) → IsIdeal (now token.view).pieces x ls target []
               → Some x ≡ Some Unset → ⊥
           by _ _ of_none h = cc
           by _ _ (of_one same there) h = cc
@@ -188,43 +188,43 @@ module _ (old : Caller) (seat : SeatFace) (r : IsFreeToBuild old)
           absurd (let n = ap length one in omega arith)
 
   -- if it was made, the rebuild has this word as its root
-  few_hit : (last : SeatFace) → Logged seat.view (rooting_few seat.view place word) last.view
-      → HasPutRoot old (record old { seat = last }) rebuild word
+  few_hit : (last : TokenFace) → Logged token.view (rooting_few token.view place word) last.view
+      → HasPutRoot old (record old { token = last }) rebuild word
   few_hit last l =
       let event = Root old.number rebuild word [] in
-      let logged = subst (λ (e : Event). Logged seat.view e last.view)
-      (rooting_few_is seat.view old.number rebuild place word mine at) l in
+      let logged = subst (λ (e : Event). Logged token.view e last.view)
+      (rooting_few_is token.view old.number rebuild place word mine at) l in
       record {
         back = back_logged old mid
             record { ready = r; sound = s; number = refl; rows = refl; built = b } []
             record { stored = tt; held = tt; once = tt; rising = tt; high = tt }
-            (sizes_on old seat r.caller gone ∙ sym (append-nil (sizes_built old))) event tt (λ n. refl)
+            (sizes_on old token r.caller gone ∙ sym (append-nil (sizes_built old))) event tt (λ n. refl)
             (λ x. refl) last logged;
-        root = root_put seat.view last.view old.number rebuild word [] few_set logged;
+        root = root_put token.view last.view old.number rebuild word [] few_set logged;
       }
 
   -- if another word was found there, the rebuild has that word as its root
-  few_missed : (last : SeatFace) (found : ℕ) → found ≢ unset_word
-      → Looked seat.view place found last.view
-      → HasPutRoot old (record old { seat = last }) rebuild found
+  few_missed : (last : TokenFace) (found : ℕ) → found ≢ unset_word
+      → Looked token.view place found last.view
+      → HasPutRoot old (record old { token = last }) rebuild found
   few_missed last found set l =
       record {
         back = back_loads old last r
-            (goes_on_more old.seat.view seat.view last.view gone
-            (looked_goes_on seat.view place found last.view l));
-        root = root_looked seat.view last.view rebuild place found ready.row ready.published at l
+            (goes_on_more old.token.view token.view last.view gone
+            (looked_goes_on token.view place found last.view l));
+        root = root_looked token.view last.view rebuild place found ready.row ready.published at l
             set;
       }
 
   -- the place of the root word lies in the table
-  few_low : place < seat.view.words
+  few_low : place < token.view.words
   few_low =
-      let low = (row_low seat.view gone.sound rebuild (Rebuild ready.row) ready.published 3
+      let low = (row_low token.view gone.sound rebuild (Rebuild ready.row) ready.published 3
       (omega arith)).0 in
       omega arith
 
   -- a root without rows may be put in place
-  pub may_root_few : MayRootFew old seat rebuild word place
+  pub may_root_few : MayRootFew old token rebuild word place
   may_root_few = record { low = few_low; allowed = few_allowed; hit = few_hit; missed = few_missed }
 
 -- ---- before the build
@@ -232,9 +232,9 @@ module _ (old : Caller) (seat : SeatFace) (r : IsFreeToBuild old)
 -- what was found of a rebuild by loads
 pub record IsFound (old new : Caller) (rebuild target k : ℕ) : Type 0 where
   pub back : IsBack old new
-  pub seen : GoesOnTo old.seat.view new.seat.view
-  pub told : IsTold (now new.seat.view) rebuild k
-  pub target_is : HasTarget (now new.seat.view) rebuild target
+  pub seen : GoesOnTo old.token.view new.token.view
+  pub told : IsTold (now new.token.view) rebuild k
+  pub target_is : HasTarget (now new.token.view) rebuild target
 
 target_on : (t u : Snapshot) → AllGrow t.pieces u.pieces → (rebuild target : ℕ)
     → HasTarget t rebuild target → HasTarget u rebuild target
@@ -250,18 +250,18 @@ target_done v w g rebuild target k told h =
     (k, (told_target (now w) rebuild target k on h).finished)
 
 -- what was found by loads, as one record
-pub found_so : (old : Caller) (seat last : SeatFace) → IsFreeToBuild old
-    → (first : GoesOnTo old.seat.view seat.view) → (second : GoesOnTo seat.view last.view)
-    → (rebuild target k n : ℕ) → IsTold (now old.seat.view) rebuild k
-    → HasTarget (now seat.view) rebuild target → IsFinishedWith (now last.view) target n
-    → IsFound old (record old { seat = last }) rebuild target n
-found_so old seat last r first second rebuild target k n told h f =
-    let v = old.seat.view in
-    let goes = goes_on_more v seat.view last.view first second in
+pub found_so : (old : Caller) (token last : TokenFace) → IsFreeToBuild old
+    → (first : GoesOnTo old.token.view token.view) → (second : GoesOnTo token.view last.view)
+    → (rebuild target k n : ℕ) → IsTold (now old.token.view) rebuild k
+    → HasTarget (now token.view) rebuild target → IsFinishedWith (now last.view) target n
+    → IsFound old (record old { token = last }) rebuild target n
+found_so old token last r first second rebuild target k n told h f =
+    let v = old.token.view in
+    let goes = goes_on_more v token.view last.view first second in
     let on = told_on (now v) (now last.view) (built_grow v last.view (loads_built v last.view goes))
     rebuild k told in
-    let there = target_on (now seat.view) (now last.view)
-    (built_grow seat.view last.view (loads_built seat.view last.view second)) rebuild target h in
+    let there = target_on (now token.view) (now last.view)
+    (built_grow token.view last.view (loads_built token.view last.view second)) rebuild target h in
     let t = told_target (now last.view) rebuild target k on there in
     let same : k ≡ n = finished_once (now last.view) target k n t.finished f in
     record {
@@ -272,10 +272,10 @@ found_so old seat last r first second rebuild target k n told h f =
     }
 
 -- a place that was seen Unset was seen so after loads too
-pub found_unset : (old new : Caller) → GoesOnTo old.seat.view new.seat.view → IsCaller old
-    → new.number ≡ old.number → (place : ℕ) → WasUnset old.seat.view old.number place
-    → WasUnset new.seat.view new.number place
+pub found_unset : (old new : Caller) → GoesOnTo old.token.view new.token.view → IsCaller old
+    → new.number ≡ old.number → (place : ℕ) → WasUnset old.token.view old.number place
+    → WasUnset new.token.view new.number place
 found_unset old new g c number place was =
-    subst (λ n. WasUnset new.seat.view n place) (sym number)
-    (unset_built old.seat.view new.seat.view old.number place c.mine
-    (loads_built old.seat.view new.seat.view g) was)
+    subst (λ n. WasUnset new.token.view n place) (sym number)
+    (unset_built old.token.view new.token.view old.number place c.mine
+    (loads_built old.token.view new.token.view g) was)

@@ -30,8 +30,8 @@ use Rattle.laws_links.proofs.QuietLemmas.{start_quiet}
 use Rattle.laws_links.proofs.ComesLemmas.{rebuild_comes}
 use Rattle.laws_links.proofs.FormLemmas.{finished_with_grows}
 use Rattle.laws_links.proofs.OriginLemmas.{RebuildComes, rebuild_was, is_begun, is_rooted, is_drawn}
-use Rattle.laws_rebuilds.proofs.NewTreeLemmas.{ideal_whole}
-use Rattle.laws_rebuilds.proofs.NumberLemmas.{number_is}
+use Rattle.laws_links.proofs.NewTreeLemmas.{ideal_whole}
+use Rattle.laws_links.proofs.NumberLemmas.{number_is}
 use Rattle.laws_stability.proofs.SetLemmas.{set_later}
 
 -- the inner row has no Unset slot

@@ -156,33 +156,33 @@ published_low v s node k f =
     let some = it.some in
     omega arith
 
-module _ (old new : Caller) (target k word : ℕ) (s : IsSound old.seat.view) (number : new.number ≡ old.number)
-    (b : BuiltOn old.seat.view new.seat.view) (t : IsTarget (now old.seat.view) target k)
+module _ (old new : Caller) (target k word : ℕ) (s : IsSound old.token.view) (number : new.number ≡ old.number)
+    (b : BuiltOn old.token.view new.token.view) (t : IsTarget (now old.token.view) target k)
     (leaves : List PlacedLeaf)
-    (has : HasLeaves (now old.seat.view).pieces (Some (InnerAt target)) leaves) where
+    (has : HasLeaves (now old.token.view).pieces (Some (InnerAt target)) leaves) where
   -- the target has k leaves
   pub many : length leaves ≡ k
-  many = leaves_number old.seat.view s target k t.finished leaves has
+  many = leaves_number old.token.view s target k t.finished leaves has
 
   -- the target lies below the first free word
-  pub low : target < (now old.seat.view).next
-  low = published_low old.seat.view s target k t.finished
+  pub low : target < (now old.token.view).next
+  low = published_low old.token.view s target k t.finished
 
   -- its rows have the sizes of a root
-  sizes_fit : (rows : List Row) → OwnsRows new.seat.view new.number (now old.seat.view).next rows
-      → IsRoot (with_inners (now new.seat.view).pieces rows) word k leaves target (bases_of rows)
+  sizes_fit : (rows : List Row) → OwnsRows new.token.view new.number (now old.token.view).next rows
+      → IsRoot (with_inners (now new.token.view).pieces rows) word k leaves target (bases_of rows)
       → IsRootSizes k (sizes_of rows)
   sizes_fit rows o root =
-      root_sizes (now new.seat.view).pieces rows word k leaves target o.once
-      (rows_free new.seat.view b.sound new.number rows o.held) many root
+      root_sizes (now new.token.view).pieces rows word k leaves target o.once
+      (rows_free new.token.view b.sound new.number rows o.held) many root
 
   -- an ideal subtree over all leaves of a target with few keys is a root for it
   pub whole_laid : k < share_from
-      → IsLaid new.seat.view new.number (now old.seat.view).next word (take k (drop 0 leaves))
+      → IsLaid new.token.view new.number (now old.token.view).next word (take k (drop 0 leaves))
       → IsInBuild new (sizes_built old) (shape k) [] → IsRootLaid old new target k word leaves
   whole_laid few h at =
       let root = root_whole h.ref few h.ref_is
-      (subst (λ xs. IsIdeal (with_inners (now new.seat.view).pieces h.rows) h.ref xs target (bases_of h.rows))
+      (subst (λ xs. IsIdeal (with_inners (now new.token.view).pieces h.rows) h.ref xs target (bases_of h.rows))
       (take_all k leaves (let m = many in omega arith)) (h.ideal target low)) in
       record {
         rows = h.rows;
@@ -197,7 +197,7 @@ module _ (old new : Caller) (target k word : ℕ) (s : IsSound old.seat.view) (n
 
   -- the top row with Unset slots is a root for a target with enough keys for a shared root
   pub top_root : share_from ≤ k
-      → IsTopLaid new.seat.view new.number (now old.seat.view).next word leaves
+      → IsTopLaid new.token.view new.number (now old.token.view).next word leaves
       → sizes_built new ≡ sizes_built old ++ inner_words (degree k) ∷ []
       → IsRootLaid old new target k word leaves
   top_root more h is =
@@ -214,16 +214,16 @@ module _ (old new : Caller) (target k word : ℕ) (s : IsSound old.seat.view) (n
       fit (of_top great e) = e
 
 -- it may be put in place
-pub root_ready : (old new : Caller) (rebuild target k word : ℕ) → IsSound old.seat.view
-    → BuiltOn old.seat.view new.seat.view → IsTold (now old.seat.view) rebuild k
-    → HasTarget (now old.seat.view) rebuild target → (leaves : List PlacedLeaf)
-    → HasLeaves (now old.seat.view).pieces (Some (InnerAt target)) leaves
+pub root_ready : (old new : Caller) (rebuild target k word : ℕ) → IsSound old.token.view
+    → BuiltOn old.token.view new.token.view → IsTold (now old.token.view) rebuild k
+    → HasTarget (now old.token.view) rebuild target → (leaves : List PlacedLeaf)
+    → HasLeaves (now old.token.view).pieces (Some (InnerAt target)) leaves
     → (h : IsRootLaid old new target k word leaves)
-    → IsRootBuilt (now new.seat.view) new.number rebuild word h.rows
+    → IsRootBuilt (now new.token.view) new.number rebuild word h.rows
 unfolding told_target
 root_ready old new rebuild target k word s b told g leaves has h =
-    let v = old.seat.view in
-    let w = new.seat.view in
+    let v = old.token.view in
+    let w = new.token.view in
     let on = told_on (now v) (now w) (built_grow v w b) rebuild k told in
     let t = told_target (now v) rebuild target k told g in
     let it = rebuild_there (now v).pieces (now w).pieces (built_grow v w b) rebuild t.row t.published in

@@ -20,17 +20,17 @@ use Rattle.ist_rows.specs.Rows.{spares_of, IsCaller, Reserved, HoldsPlace}
 use Rattle.ist_rows.specs.Building.{IsInBuild, HasTaken}
 use Rattle.ist_rows.proofs.BuildingCallLemmas.{took, at_storing}
 use Rattle.ist_build.specs.Laying.{Reserves}
-use Rattle.laws_rows.specs.Dividing.{lens_to}
+use Rattle.laws_calls.specs.Dividing.{lens_to}
 use Rattle.ist_rule.proofs.StoreLemmas.{own_here, own_else}
 use Rattle.ist_build.specs.Midway.{lens_from, IsOpened, IsMidway, opening, setting}
 use Rattle.ist_build.proofs.BuiltLemmas.{reserved_built, rewritten_built}
 use Rattle.ist_build.proofs.LaidOnLemmas.{next_between}
-use Rattle.ist_build.proofs.TogetherLemmas.{are_laid_none}
+use Rattle.ist_build.proofs.JoinedSubtreeLemmas.{are_laid_none}
 use Rattle.ist_build.proofs.PartsLemmas.{lens_first}
 
 -- who holds a row holds each place of it
 pub holds_place : (who : Caller) (base d at : ℕ)
-    → HoldsRow (now who.seat.view) who.number base (inner_words d) → at < inner_words d
+    → HoldsRow (now who.token.view) who.number base (inner_words d) → at < inner_words d
     → HoldsPlace who base at
 holds_place who base d at held less = record { size = inner_words d; held = held; within = less }
 
@@ -63,37 +63,37 @@ fresh_row v s number base size w r =
     }
 
 -- who reserved a row holds it
-pub reserved_held : (old new : Caller) → IsSound old.seat.view → new.number ≡ old.number
-    → (base size : ℕ) → Reserved old.seat.view old.number base size new.seat.view
-    → HoldsRow (now new.seat.view) new.number base size
+pub reserved_held : (old new : Caller) → IsSound old.token.view → new.number ≡ old.number
+    → (base size : ℕ) → Reserved old.token.view old.number base size new.token.view
+    → HoldsRow (now new.token.view) new.number base size
 reserved_held old new s number base size r =
-    subst (λ n. HoldsRow (now new.seat.view) n base size) (sym number)
-    (fresh_row old.seat.view s old.number base size new.seat.view r).held
+    subst (λ n. HoldsRow (now new.token.view) n base size) (sym number)
+    (fresh_row old.token.view s old.number base size new.token.view r).held
 
 -- ---- the first row
 
-module _ (old new : Caller) (leaves : List ℕ) (base : ℕ) (s : IsSound old.seat.view)
-    (mine : old.seat.view.who ≡ CallerOf old.number)
+module _ (old new : Caller) (leaves : List ℕ) (base : ℕ) (s : IsSound old.token.view)
+    (mine : old.token.view.who ≡ CallerOf old.number)
     (two : 2 ≤ length leaves)
     (number : new.number ≡ old.number) (rows : spares_of new ≡ spares_of old)
-    (r : Reserved old.seat.view old.number base (inner_words (degree (length leaves))) new.seat.view)
+    (r : Reserved old.token.view old.number base (inner_words (degree (length leaves))) new.token.view)
     (taken : HasTaken old (inner_words (degree (length leaves)) ∷ []) new) where
   abbrev d : ℕ
   d = degree (length leaves)
 
   abbrev view : View
-  view = opening new.seat.view base d (length leaves)
+  view = opening new.token.view base d (length leaves)
 
   abbrev who : Caller
-  who = record new { seat = record new.seat { view = view } }
+  who = record new { token = record new.token { view = view } }
 
-  fresh : IsFreshRow old.seat.view old.number base (inner_words d) new.seat.view
-  fresh = fresh_row old.seat.view s old.number base (inner_words d) new.seat.view r
+  fresh : IsFreshRow old.token.view old.number base (inner_words d) new.token.view
+  fresh = fresh_row old.token.view s old.number base (inner_words d) new.token.view r
 
   -- its first words are stored
   pub opened : IsOpened view.own base d (length leaves)
   opened =
-      let o = new.seat.view.own in
+      let o = new.token.view.own in
       let first = record { place = base + 2; word = d } ∷ o in
       record {
         status = own_else first (base + 3) (length leaves) base (λ e. omega arith)
@@ -113,7 +113,7 @@ module _ (old new : Caller) (leaves : List ℕ) (base : ℕ) (s : IsSound old.se
       let whole : shape (length leaves) ≡ inner_words d ∷ flat_map shape (lens_from (length leaves) 0) =
       shape_many (length leaves) two
       ∙ ap (λ xs. inner_words d ∷ flat_map shape xs) (sym (lens_first (length leaves))) in
-      at_storing (record new { seat = record new.seat { view = storing new.seat.view (base + 2) d } })
+      at_storing (record new { token = record new.token { view = storing new.token.view (base + 2) d } })
       (base + 3) (length leaves) stuck _ _
       (at_storing new (base + 2) d stuck _ _
       (taken stuck done (flat_map shape (lens_from (length leaves) 0) ++ rest)
@@ -127,13 +127,13 @@ module _ (old new : Caller) (leaves : List ℕ) (base : ℕ) (s : IsSound old.se
         caller = caller;
         number = number;
         rows = rows;
-        built = rewritten_built old.seat.view new.seat.view view.own
-            (reserved_built old.seat.view old.number base (inner_words d) new.seat.view r) sound
-            (λ p low. own_else (record { place = base + 2; word = d } ∷ new.seat.view.own)
+        built = rewritten_built old.token.view new.token.view view.own
+            (reserved_built old.token.view old.number base (inner_words d) new.token.view r) sound
+            (λ p low. own_else (record { place = base + 2; word = d } ∷ new.token.view.own)
             (base + 3) (length leaves) p (λ e. omega arith)
-            ∙ own_else new.seat.view.own (base + 2) d p (λ e. omega arith));
+            ∙ own_else new.token.view.own (base + 2) d p (λ e. omega arith));
         high = fresh.high;
-        held = subst (λ n. HoldsRow (now new.seat.view) n base (inner_words d)) (sym number) fresh.held;
+        held = subst (λ n. HoldsRow (now new.token.view) n base (inner_words d)) (sym number) fresh.held;
         opened = opened;
         laid = λ placed a. are_laid_none view new.number (base + inner_words d) base;
         keys = λ placed a. refl;
@@ -228,7 +228,7 @@ module _ (v : View) (base d j key word : ℕ) (less : j < d) where
 -- a caller with other words of its own is where it was
 pub at_rewritten : (who : Caller) (own : List OwnWord) (stuck done rest : List ℕ)
     → IsInBuild who stuck done rest
-    → IsInBuild (record who { seat = record who.seat { view = record who.seat.view { own = own } } })
+    → IsInBuild (record who { token = record who.token { view = record who.token.view { own = own } } })
     stuck done rest
 at_rewritten who own stuck done rest h =
     record { sizes = h.sizes; all_stuck = h.all_stuck; building = h.building }

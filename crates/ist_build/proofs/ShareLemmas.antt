@@ -10,10 +10,10 @@ use Rattle.ist_core.specs.References.{InnerAt}
 use Rattle.ist_core.specs.Shapes.{shape, share_from_is}
 use Rattle.ist_core.specs.Snapshots.{Snapshot}
 use Rattle.ist_core.proofs.PartLemmas.{part_end-le, part_len-le}
-use Rattle.laws_rebuilds.proofs.FewLeafLemmas.{leaves_stand}
-use Rattle.laws_rebuilds.proofs.FinishedLeafLemmas.{finished_leaves, finished_few}
+use Rattle.laws_links.proofs.FewLeafLemmas.{leaves_stand}
+use Rattle.laws_links.proofs.FinishedLeafLemmas.{finished_leaves, finished_few}
 use Rattle.ist_rule.specs.declared.view.View.{View}
-use Rattle.ist_rule.specs.Faces.{SeatFace}
+use Rattle.ist_rule.specs.Faces.{TokenFace}
 use Rattle.ist_rule.specs.Rule.{IsSound}
 use Rattle.ist_rule.specs.Learning.{now, GoesOnTo}
 use Rattle.ist_rows.specs.declared.callers.Caller.{Caller}
@@ -25,8 +25,8 @@ use Rattle.ist_build.specs.Calls.{IsShare, share_whole, share_part, MayBuild, Ha
 use Rattle.ist_build.specs.Laying.{ArePlaced, IsLaid, IsDue, IsShort, BuiltOn}
 use Rattle.ist_build.specs.Reading.{HasRead, read_all}
 use Rattle.ist_build.proofs.BuiltLemmas.{loads_built, built_more}
-use Rattle.ist_build.proofs.TogetherLemmas.{high_more}
-use Rattle.ist_build.proofs.MidwayLemmas.{each_take, each_drop, published_on}
+use Rattle.ist_build.proofs.JoinedSubtreeLemmas.{high_more}
+use Rattle.ist_build.proofs.HalfBuiltLemmas.{each_take, each_drop, published_on}
 use Rattle.ist_build.proofs.ReadLemmas.{read_is}
 use Rattle.ist_build.proofs.ReadingLemmas.{leaves_number}
 use Rattle.ist_build.proofs.ShortLemmas.{short_for_more}
@@ -112,22 +112,22 @@ laid_lower w number low high word leaves le h =
     }
 
 -- the next rows of a build stay the same after loads
-pub due_on : (who : Caller) (seat : SeatFace) (keys : ℕ) → IsCaller who
-    → GoesOnTo who.seat.view seat.view → IsDue who keys → IsDue (record who { seat = seat }) keys
-due_on who seat keys c g h =
+pub due_on : (who : Caller) (token : TokenFace) (keys : ℕ) → IsCaller who
+    → GoesOnTo who.token.view token.view → IsDue who keys → IsDue (record who { token = token }) keys
+due_on who token keys c g h =
     record {
       stuck = h.stuck;
       done = h.done;
       rest = h.rest;
-      at = at_goes_on who seat h.stuck h.done (shape keys ++ h.rest) c g h.at;
+      at = at_goes_on who token h.stuck h.done (shape keys ++ h.rest) c g h.at;
     }
 
 -- rows taken after loads were taken
-pub taken_on : (who : Caller) (seat : SeatFace) (sizes : List ℕ) (new : Caller) → IsCaller who
-    → GoesOnTo who.seat.view seat.view → HasTaken (record who { seat = seat }) sizes new
+pub taken_on : (who : Caller) (token : TokenFace) (sizes : List ℕ) (new : Caller) → IsCaller who
+    → GoesOnTo who.token.view token.view → HasTaken (record who { token = token }) sizes new
     → HasTaken who sizes new
-taken_on who seat sizes new c g t stuck done rest h =
-    t stuck done rest (at_goes_on who seat stuck done (sizes ++ rest) c g h)
+taken_on who token sizes new c g t stuck done rest h =
+    t stuck done rest (at_goes_on who token stuck done (sizes ++ rest) c g h)
 
 -- a build that was short of words after loads was short of words
 pub short_on : (v w : View) → GoesOnTo v w → (words keys : ℕ) (full : Full) (x : View)
@@ -159,7 +159,7 @@ share_build k start len (share_part j many less first all) two =
 
 -- the rows of a share come next
 share_at : (who : Caller) (target start len : ℕ) → HasRefused who
-    → MayBuild (now who.seat.view) target start len → 2 ≤ len
+    → MayBuild (now who.token.view) target start len → 2 ≤ len
     → IsInBuild who (sizes_built who) [] (shape len ++ [])
 share_at who target start len refused m two =
     record {
@@ -171,7 +171,7 @@ share_at who target start len refused m two =
         published = m.published;
         started = m.started;
         k = m.k;
-        finished = subst (λ n. IsFinishedWith (now who.seat.view) n m.k) (sym m.target_is)
+        finished = subst (λ n. IsFinishedWith (now who.token.view) n m.k) (sym m.target_is)
             m.finished;
         build = subst (IsBuild m.k) (sym (append-nil (shape len)))
             (share_build m.k start len m.share two);
@@ -180,7 +180,7 @@ share_at who target start len refused m two =
 
 -- the rows over a share are the next rows of a build that begins
 pub share_due : (who : Caller) (target start len : ℕ) → HasRefused who
-    → MayBuild (now who.seat.view) target start len → 2 ≤ len → IsDue who len
+    → MayBuild (now who.token.view) target start len → 2 ≤ len → IsDue who len
 share_due who target start len refused m two =
     record {
       stuck = sizes_built who;
@@ -218,7 +218,7 @@ share_few v s target start len m = at m.k m.finished m.share
 
 -- a caller that took the rows over a share has all of them in its build
 pub at_share : (who new : Caller) (len : ℕ) (target start : ℕ) → HasRefused who
-    → MayBuild (now who.seat.view) target start len → HasTaken who (shape len) new → 2 ≤ len
+    → MayBuild (now who.token.view) target start len → HasTaken who (shape len) new → 2 ≤ len
     → IsInBuild new (sizes_built who) (shape len) []
 at_share who new len target start refused m taken two =
     taken (sizes_built who) [] [] (share_at who target start len refused m two)
@@ -226,7 +226,7 @@ at_share who new len target start refused m taken two =
 -- the same, for a result that may be an error
 pub at_share_ok : (who new : Caller) (len target start : ℕ) (answer : Result ℕ Full) → HasRefused
     who
-    → MayBuild (now who.seat.view) target start len
+    → MayBuild (now who.token.view) target start len
     → IfOk answer (λ word. HasTaken who (shape len) new)
     → IfOk answer (λ word. 2 ≤ len → IsInBuild new (sizes_built who) (shape len) [])
 at_share_ok who new len target start (Ok word) refused m taken =

@@ -22,7 +22,7 @@ use Rattle.ist_build.proofs.BuiltLemmas.{built_held}
 use Rattle.ist_build.proofs.BuildingLemmas.{slice_part, part_leaves, length_own, part_due, part_short}
 use Rattle.ist_build.proofs.KeyLemmas.{part_keys, part_key}
 use Rattle.ist_build.proofs.LayingPartLemmas.{long_part, long_keys, held_part, leaves_part, keys_part, key_part, laying_part}
-use Rattle.ist_build.proofs.MidwayLemmas.{length-share_of, midway_part}
+use Rattle.ist_build.proofs.HalfBuiltLemmas.{length-share_of, midway_part}
 
 -- ---- the slices
 
@@ -55,16 +55,16 @@ part_long n j leaves keys own own_keys all p =
 -- what a build of the part asks for
 pub record PartAsked (who : Caller) (n : ℕ) (own own_keys : List ℕ) : Type 0 where
   pub due : IsDue who (length own)
-  pub leaves : HaveLeaves (now who.seat.view) own
-  pub keys : AreKeysOf (now who.seat.view) own own_keys
+  pub leaves : HaveLeaves (now who.token.view) own
+  pub keys : AreKeysOf (now who.token.view) own own_keys
   pub many : length own_keys ≡ length own
   pub long : length own ≤ n
 
 -- it is there
 pub part_asked : (old who : Caller) (leaves keys : List ℕ) (base d j : ℕ) (own own_keys : List ℕ)
     → IsMidway old leaves base d j who → IsPart (length leaves) j leaves keys own own_keys
-    → IsDue old (length leaves) → HaveLeaves (now old.seat.view) leaves
-    → AreKeysOf (now old.seat.view) leaves keys → length keys ≡ length leaves
+    → IsDue old (length leaves) → HaveLeaves (now old.token.view) leaves
+    → AreKeysOf (now old.token.view) leaves keys → length keys ≡ length leaves
     → PartAsked who (length leaves) own own_keys
 part_asked old who leaves keys base d j own own_keys m p due have keys_have many =
     record {
@@ -79,16 +79,16 @@ part_asked old who leaves keys base d j own own_keys m p due have keys_have many
 -- the caller holds the row after the build of a part
 pub midway_held : (old who new : Caller) (leaves : List ℕ) (base d j : ℕ)
     → IsMidway old leaves base d j who → new.number ≡ who.number
-    → BuiltOn who.seat.view new.seat.view → HoldsRow (now new.seat.view) new.number base (inner_words d)
+    → BuiltOn who.token.view new.token.view → HoldsRow (now new.token.view) new.number base (inner_words d)
 midway_held old who new leaves base d j m number b =
-    subst (λ n. HoldsRow (now new.seat.view) n base (inner_words d)) (sym number)
-    (built_held who.seat.view new.seat.view b who.number base (inner_words d) m.caller.mine m.held)
+    subst (λ n. HoldsRow (now new.token.view) n base (inner_words d)) (sym number)
+    (built_held who.token.view new.token.view b who.number base (inner_words d) m.caller.mine m.held)
 
 -- what stops the build of the part stops the whole
 pub part_stops : (old who : Caller) (leaves keys : List ℕ) (base d j : ℕ) (own own_keys : List ℕ)
     → IsMidway old leaves base d j who → IsPart (length leaves) j leaves keys own own_keys
-    → (words : ℕ) (full : Full) (w : View) → IsShort who.seat.view words (length own) full w
-    → IsShort old.seat.view words (length leaves) full w
+    → (words : ℕ) (full : Full) (w : View) → IsShort who.token.view words (length own) full w
+    → IsShort old.token.view words (length leaves) full w
 part_stops old who leaves keys base d j own own_keys m p words full w short =
     part_short old who leaves base d j m p.less p.some own p.own_is words full w
     (part_long (length leaves) j leaves keys own own_keys refl p) short
@@ -96,24 +96,24 @@ part_stops old who leaves keys base d j own own_keys m p words full w short =
 -- the part was built, and its word and key were stored
 pub midway_more : (old who new last : Caller) (leaves keys : List ℕ) (base d j word : ℕ)
     (own own_keys : List ℕ) → IsMidway old leaves base d j who
-    → IsPart (length leaves) j leaves keys own own_keys → AreKeysOf (now old.seat.view) leaves keys
+    → IsPart (length leaves) j leaves keys own own_keys → AreKeysOf (now old.token.view) leaves keys
     → d ≡ degree (length leaves) → j < d → IsCaller new → new.number ≡ who.number
-    → spares_of new ≡ spares_of who → BuiltOn who.seat.view new.seat.view
-    → ((part : List PlacedLeaf) → ArePlaced (now who.seat.view) own part
-    → IsLaid new.seat.view new.number (now who.seat.view).next word part)
+    → spares_of new ≡ spares_of who → BuiltOn who.token.view new.token.view
+    → ((part : List PlacedLeaf) → ArePlaced (now who.token.view) own part
+    → IsLaid new.token.view new.number (now who.token.view).next word part)
     → HasTaken who (shape (length own)) new
     → last ≡ record new {
-      seat = record new.seat {
-        view = setting new.seat.view base d j (slice_index_or own_keys 0 0) word;
+      token = record new.token {
+        view = setting new.token.view base d j (slice_index_or own_keys 0 0) word;
       };
     }
-    → IsCaller last → IsSound last.seat.view → IsMidway old leaves base d (j + 1) last
+    → IsCaller last → IsSound last.token.view → IsMidway old leaves base d (j + 1) last
 midway_more old who new last leaves keys base d j word own own_keys m p have d_is less caller number
     rows b laid taken is caller_last sound =
     midway_part old who new last leaves base d j (slice_index_or own_keys 0 0) word m.built.sound m
     d_is less caller number rows b
     (λ part a. laid part
-    (subst (λ bases. ArePlaced (now who.seat.view) bases part) (sym p.own_is) a))
+    (subst (λ bases. ArePlaced (now who.token.view) bases part) (sym p.own_is) a))
     (subst (λ k. HasTaken who (shape k) new)
     (length_own old who leaves base d j m p.less p.some own p.own_is) taken)
     (part_key old who leaves keys base d j m have own_keys p.keys_are) p.some is caller_last sound
@@ -122,18 +122,18 @@ midway_more old who new last leaves keys base d j word own own_keys m p have d_i
 
 -- what a laying of the part asks for
 pub record LayAsked (who : Caller) (n next : ℕ) (own own_keys : List ℕ) : Type 0 where
-  pub held : HoldsBlock (now who.seat.view) who.number next (shape (length own))
-  pub fresh : (place : ℕ) → next ≤ place → own_at who.seat.view.own place ≡ 0
-  pub leaves : HaveLeaves (now who.seat.view) own
-  pub keys : AreKeysOf (now who.seat.view) own own_keys
+  pub held : HoldsBlock (now who.token.view) who.number next (shape (length own))
+  pub fresh : (place : ℕ) → next ≤ place → own_at who.token.view.own place ≡ 0
+  pub leaves : HaveLeaves (now who.token.view) own
+  pub keys : AreKeysOf (now who.token.view) own own_keys
   pub many : length own_keys ≡ length own
   pub long : length own ≤ n
 
 -- it is there
 pub lay_asked : (old who : Caller) (leaves keys : List ℕ) (base d j next : ℕ) (own own_keys : List ℕ)
     → IsLaying old leaves base d j next who → IsPart (length leaves) j leaves keys own own_keys
-    → ((place : ℕ) → base ≤ place → own_at old.seat.view.own place ≡ 0)
-    → HaveLeaves (now old.seat.view) leaves → AreKeysOf (now old.seat.view) leaves keys
+    → ((place : ℕ) → base ≤ place → own_at old.token.view.own place ≡ 0)
+    → HaveLeaves (now old.token.view) leaves → AreKeysOf (now old.token.view) leaves keys
     → length keys ≡ length leaves → LayAsked who (length leaves) next own own_keys
 lay_asked old who leaves keys base d j next own own_keys m p fresh have keys_have many =
     let next_is = m.next_is in
@@ -152,17 +152,17 @@ lay_asked old who leaves keys base d j next own own_keys m p fresh have keys_hav
 -- the part was laid, and its word and key were stored
 pub laying_more : (old who new last : Caller) (leaves keys : List ℕ) (base d j next end word : ℕ)
     (own own_keys : List ℕ) → IsLaying old leaves base d j next who
-    → IsPart (length leaves) j leaves keys own own_keys → AreKeysOf (now old.seat.view) leaves keys
+    → IsPart (length leaves) j leaves keys own own_keys → AreKeysOf (now old.token.view) leaves keys
     → d ≡ degree (length leaves) → j < d → IsWritten who new next end
     → end ≡ next + sum (shape (length own)) → end ≤ place_limit
-    → ((part : List PlacedLeaf) → ArePlaced (now who.seat.view) own part
-    → IsLaidBelow new.seat.view new.number next end word part)
+    → ((part : List PlacedLeaf) → ArePlaced (now who.token.view) own part
+    → IsLaidBelow new.token.view new.number next end word part)
     → last ≡ record new {
-      seat = record new.seat {
-        view = setting new.seat.view base d j (slice_index_or own_keys 0 0) word;
+      token = record new.token {
+        view = setting new.token.view base d j (slice_index_or own_keys 0 0) word;
       };
     }
-    → IsCaller last → IsSound last.seat.view → IsLaying old leaves base d (j + 1) end last
+    → IsCaller last → IsSound last.token.view → IsLaying old leaves base d (j + 1) end last
 laying_more old who new last leaves keys base d j next end word own own_keys m p have d_is less written
     end_is low laid is caller sound =
     let long = long_part old who leaves keys base d j next m p.less own own_keys p.own_is p.keys_are
@@ -170,6 +170,6 @@ laying_more old who new last leaves keys base d j next end word own own_keys m p
     laying_part old who new last leaves base d j next end (slice_index_or own_keys 0 0) word m d_is
     less p.some written (end_is ∙ ap (λ k. next + sum (shape k)) long) low
     (λ part a. laid part
-    (subst (λ bases. ArePlaced (now who.seat.view) bases part) (sym p.own_is) a))
+    (subst (λ bases. ArePlaced (now who.token.view) bases part) (sym p.own_is) a))
     (key_part old who leaves keys base d j next m p.less own own_keys p.own_is p.keys_are have) is
     caller sound

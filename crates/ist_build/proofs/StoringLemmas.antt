@@ -86,23 +86,23 @@ block_first t number base n two h =
 
 -- ---- the row
 
-module _ (old : Caller) (leaves : List ℕ) (base d : ℕ) (s : IsSound old.seat.view)
+module _ (old : Caller) (leaves : List ℕ) (base d : ℕ) (s : IsSound old.token.view)
     (some : 1 ≤ d)
-    (held : HoldsRow (now old.seat.view) old.number base (inner_words d))
-    (rest : HoldsBlock (now old.seat.view) old.number (base + inner_words d)
+    (held : HoldsRow (now old.token.view) old.number base (inner_words d))
+    (rest : HoldsBlock (now old.token.view) old.number (base + inner_words d)
     (flat_map shape (lens_from (length leaves) 0)))
-    (fresh : (place : ℕ) → base ≤ place → own_at old.seat.view.own place ≡ 0) where
+    (fresh : (place : ℕ) → base ≤ place → own_at old.token.view.own place ≡ 0) where
   abbrev n : ℕ
   n = length leaves
 
   abbrev view : View
-  view = opening old.seat.view base d n
+  view = opening old.token.view base d n
 
   abbrev who : Caller
-  who = record old { seat = record old.seat { view = view } }
+  who = record old { token = record old.token { view = view } }
 
   abbrev o : List OwnWord
-  o = old.seat.view.own
+  o = old.token.view.own
 
   abbrev first : List OwnWord
   first = record { place = base + 2; word = d } ∷ o
@@ -114,8 +114,8 @@ module _ (old : Caller) (leaves : List ℕ) (base d : ℕ) (s : IsSound old.seat
   -- nothing is laid yet
   pub laying_first : IsCaller who → IsSound view → IsLaying old leaves base d 0 (base + (2 * d + 3)) who
   laying_first caller sound =
-      let inside = (row_within old.seat.view s old.number base (inner_words d) held).0 in
-      let low = next_low old.seat.view s in
+      let inside = (row_within old.token.view s old.number base (inner_words d) held).0 in
+      let low = next_low old.token.view s in
       let free = low.0 in
       let all = low.1 in
       record {
@@ -129,7 +129,7 @@ module _ (old : Caller) (leaves : List ℕ) (base d : ℕ) (s : IsSound old.seat
         next_is = let q : base + (2 * d + 3) ≡ base + inner_words d + 0 = omega arith in q;
         low = omega arith;
         held = held;
-        rest = subst (λ b. HoldsBlock (now old.seat.view) old.number b
+        rest = subst (λ b. HoldsBlock (now old.token.view) old.number b
             (flat_map shape (lens_from (length leaves) 0)))
             (let q : base + inner_words d ≡ base + (2 * d + 3) = omega arith in q) rest;
         opened = record {
@@ -152,15 +152,15 @@ module _ (old : Caller) (leaves : List ℕ) (base d : ℕ) (s : IsSound old.seat
       }
 
 -- the same, in the form of the clauses of `open_row`
-pub laying_opened : (old last : Caller) (leaves : List ℕ) (base d : ℕ) → IsSound old.seat.view
+pub laying_opened : (old last : Caller) (leaves : List ℕ) (base d : ℕ) → IsSound old.token.view
     → 2 ≤ length leaves → d ≡ degree (length leaves)
-    → HoldsBlock (now old.seat.view) old.number base (shape (length leaves))
-    → ((place : ℕ) → base ≤ place → own_at old.seat.view.own place ≡ 0)
-    → last ≡ record old { seat = record old.seat { view = opening old.seat.view base d (length leaves) } }
-    → IsCaller last → IsSound last.seat.view
+    → HoldsBlock (now old.token.view) old.number base (shape (length leaves))
+    → ((place : ℕ) → base ≤ place → own_at old.token.view.own place ≡ 0)
+    → last ≡ record old { token = record old.token { view = opening old.token.view base d (length leaves) } }
+    → IsCaller last → IsSound last.token.view
     → IsLaying old leaves base d 0 (base + (2 * d + 3)) last
 laying_opened old last leaves base d s two d_is held fresh is caller sound =
-    let t = now old.seat.view in
+    let t = now old.token.view in
     let it = block_first t old.number base (length leaves) two held in
     let some = least_degree-le (length leaves) in
     subst (IsLaying old leaves base d 0 (base + (2 * d + 3))) (sym is)
@@ -169,4 +169,4 @@ laying_opened old last leaves base d s two d_is held fresh is caller sound =
     (subst (λ k. HoldsBlock t old.number (base + inner_words k)
     (flat_map shape (lens_from (length leaves) 0))) (sym d_is) it.1)
     fresh (subst IsCaller is caller)
-    (subst (λ (who : Caller). IsSound who.seat.view) is sound))
+    (subst (λ (who : Caller). IsSound who.token.view) is sound))

@@ -14,7 +14,7 @@ use Rattle.ist_core.proofs.DrawLemmas.{finished_grows}
 use Rattle.ist_core.proofs.KeepingLemmas.{finished_leaves_stay}
 use Rattle.ist_rule.specs.declared.view.View.{View}
 use Rattle.ist_core.specs.Authors.{Later}
-use Rattle.ist_rule.specs.Faces.{SeatFace}
+use Rattle.ist_rule.specs.Faces.{TokenFace}
 use Rattle.ist_rule.specs.Rule.{IsSound}
 use Rattle.ist_rule.specs.Learning.{now, GoesOnTo}
 use Rattle.ist_rows.specs.declared.callers.Caller.{Caller}
@@ -54,7 +54,7 @@ keys_on v w b target k least f le =
 -- ---- where the caller is
 
 -- the top row comes next
-pub top_at : (who : Caller) (target k : ℕ) → HasRefused who → IsTarget (now who.seat.view) target k
+pub top_at : (who : Caller) (target k : ℕ) → HasRefused who → IsTarget (now who.token.view) target k
     → share_from ≤ k → IsInBuild who (sizes_built who) [] (inner_words (degree k) ∷ [])
 top_at who target k refused t many =
     record {
@@ -66,51 +66,51 @@ top_at who target k refused t many =
         published = t.published;
         started = t.started;
         k = k;
-        finished = subst (λ n. IsFinishedWith (now who.seat.view) n k) (sym t.target_is) t.finished;
+        finished = subst (λ n. IsFinishedWith (now who.token.view) n k) (sym t.target_is) t.finished;
         build = build_top many;
       };
     }
 
 -- the top row is the next row of a build that begins
-pub top_next : (who : Caller) (target k d : ℕ) → HasRefused who → IsTarget (now who.seat.view) target k
+pub top_next : (who : Caller) (target k d : ℕ) → HasRefused who → IsTarget (now who.token.view) target k
     → share_from ≤ k → d ≡ degree k → IsNext who (inner_words d)
 top_next who target k d refused t many is =
     subst (λ n. IsNext who (inner_words n)) (sym is)
     record { stuck = sizes_built who; done = []; rest = []; at = top_at who target k refused t many }
 
 -- loads leave the sizes of its builds
-pub sizes_on : (who : Caller) (seat : SeatFace) → IsCaller who → GoesOnTo who.seat.view seat.view
-    → sizes_built (record who { seat = seat }) ≡ sizes_built who
-sizes_on who seat c g =
-    let v = who.seat.view in
-    let lawful : Lawful v.start v.words seat.view.log =
-    subst (λ p. Lawful p v.words seat.view.log) (ap (λ x. x.start) g.same)
-    (subst (λ n. Lawful seat.view.start n seat.view.log) (ap (λ x. x.words) g.same)
+pub sizes_on : (who : Caller) (token : TokenFace) → IsCaller who → GoesOnTo who.token.view token.view
+    → sizes_built (record who { token = token }) ≡ sizes_built who
+sizes_on who token c g =
+    let v = who.token.view in
+    let lawful : Lawful v.start v.words token.view.log =
+    subst (λ p. Lawful p v.words token.view.log) (ap (λ x. x.start) g.same)
+    (subst (λ n. Lawful token.view.start n token.view.log) (ap (λ x. x.words) g.same)
     g.sound.lawful) in
-    ap (λ t. build_sizes t who.number (spares_of who)) (goes_on_now v seat.view g)
+    ap (λ t. build_sizes t who.number (spares_of who)) (goes_on_now v token.view g)
     ∙ ap (λ hs. map (λ (h : HeldRow). h.size) (filter (λ h. not (is_spare (spares_of who) h.base)) hs))
-    (held_by_later v.start v.words who.number v.log seat.view.log lawful.enabled
-    (subst (λ x. Later x v.log seat.view.log) c.mine g.later))
+    (held_by_later v.start v.words who.number v.log token.view.log lawful.enabled
+    (subst (λ x. Later x v.log token.view.log) c.mine g.later))
 
 -- ---- the row was opened
 
-module _ (old new : Caller) (target k d base : ℕ) (s : IsSound old.seat.view)
-    (refused : HasRefused old) (t : IsTarget (now old.seat.view) target k) (many : share_from ≤ k)
+module _ (old new : Caller) (target k d base : ℕ) (s : IsSound old.token.view)
+    (refused : HasRefused old) (t : IsTarget (now old.token.view) target k) (many : share_from ≤ k)
     (d_is : d ≡ degree k) (number : new.number ≡ old.number) (rows : spares_of new ≡ spares_of old)
-    (r : Reserved old.seat.view old.number base (inner_words d) new.seat.view)
+    (r : Reserved old.token.view old.number base (inner_words d) new.token.view)
     (taken : HasTaken old (inner_words d ∷ []) new) where
   abbrev view : View
-  view = opening new.seat.view base d k
+  view = opening new.token.view base d k
 
   abbrev who : Caller
-  who = record new { seat = record new.seat { view = view } }
+  who = record new { token = record new.token { view = view } }
 
-  fresh : IsFreshRow old.seat.view old.number base (inner_words d) new.seat.view
-  fresh = fresh_row old.seat.view s old.number base (inner_words d) new.seat.view r
+  fresh : IsFreshRow old.token.view old.number base (inner_words d) new.token.view
+  fresh = fresh_row old.token.view s old.number base (inner_words d) new.token.view r
 
   opened : IsOpened view.own base d k
   opened =
-      let o = new.seat.view.own in
+      let o = new.token.view.own in
       let first = record { place = base + 2; word = d } ∷ o in
       record {
         status = own_else first (base + 3) k base (λ e. omega arith)
@@ -136,13 +136,13 @@ module _ (old new : Caller) (target k d base : ℕ) (s : IsSound old.seat.view)
         caller = caller;
         number = number;
         rows = rows;
-        built = rewritten_built old.seat.view new.seat.view view.own
-            (reserved_built old.seat.view old.number base (inner_words d) new.seat.view r) sound
-            (λ p low. own_else (record { place = base + 2; word = d } ∷ new.seat.view.own)
+        built = rewritten_built old.token.view new.token.view view.own
+            (reserved_built old.token.view old.number base (inner_words d) new.token.view r) sound
+            (λ p low. own_else (record { place = base + 2; word = d } ∷ new.token.view.own)
             (base + 3) k p (λ e. omega arith)
-            ∙ own_else new.seat.view.own (base + 2) d p (λ e. omega arith));
+            ∙ own_else new.token.view.own (base + 2) d p (λ e. omega arith));
         high = fresh.high;
-        held = subst (λ n. HoldsRow (now new.seat.view) n base (inner_words d)) (sym number) fresh.held;
+        held = subst (λ n. HoldsRow (now new.token.view) n base (inner_words d)) (sym number) fresh.held;
         opened = opened;
         slots = refl;
         keys = λ leaves has. refl;
@@ -150,32 +150,32 @@ module _ (old new : Caller) (target k d base : ℕ) (s : IsSound old.seat.view)
       }
 
   -- after the stores of its first words the top row is half-built, with no slot set yet
-  pub top_opened : (last : Caller) → last ≡ who → IsCaller last → IsSound last.seat.view
+  pub top_opened : (last : Caller) → last ≡ who → IsCaller last → IsSound last.token.view
       → IsTopMidway old target k base d 0 last
   top_opened last is caller sound =
       subst (IsTopMidway old target k base d 0) (sym is)
-      (top_begun (subst IsCaller is caller) (subst (λ (w : Caller). IsSound w.seat.view) is sound))
+      (top_begun (subst IsCaller is caller) (subst (λ (w : Caller). IsSound w.token.view) is sound))
 
 -- ---- after loads
 
 -- a half-built top row is the same after loads
-pub top_loaded : (old who : Caller) (seat : SeatFace) (target k base d j : ℕ)
-    → IsTopMidway old target k base d j who → GoesOnTo who.seat.view seat.view
-    → IsTopMidway old target k base d j (record who { seat = seat })
-top_loaded old who seat target k base d j m g =
-    let v = who.seat.view in
-    let w = seat.view in
+pub top_loaded : (old who : Caller) (token : TokenFace) (target k base d j : ℕ)
+    → IsTopMidway old target k base d j who → GoesOnTo who.token.view token.view
+    → IsTopMidway old target k base d j (record who { token = token })
+top_loaded old who token target k base d j m g =
+    let v = who.token.view in
+    let w = token.view in
     let b = loads_built v w g in
     let own_is : w.own ≡ v.own = ap (λ x. x.own) g.same in
     record {
-      caller = caller_goes_on who seat m.caller g;
+      caller = caller_goes_on who token m.caller g;
       number = m.number;
       rows = m.rows;
-      built = built_more old.seat.view v w m.built b;
+      built = built_more old.token.view v w m.built b;
       high = m.high;
       held = built_held v w b who.number base (inner_words d) m.caller.mine m.held;
       opened = subst (λ o. IsOpened o base d k) (sym own_is) m.opened;
       slots = ap (λ o. words_at o (base + 3 + d) j) own_is ∙ m.slots;
       keys = λ leaves has. ap (λ o. words_at o (base + 4) (j - 1)) own_is ∙ m.keys leaves has;
-      sizes = sizes_on who seat m.caller g ∙ m.sizes;
+      sizes = sizes_on who token m.caller g ∙ m.sizes;
     }

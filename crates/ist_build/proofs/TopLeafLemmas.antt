@@ -11,8 +11,8 @@ use Rattle.ist_core.specs.References.{InnerAt}
 use Rattle.ist_core.specs.RowLayout.{place_limit}
 use Rattle.ist_core.specs.Shapes.{share_from, share_from_is}
 use Rattle.ist_core.proofs.RootLemmas.{square_root-le}
-use Rattle.laws_rebuilds.proofs.FewLeafLemmas.{leaves_stand}
-use Rattle.laws_rebuilds.proofs.FinishedLeafLemmas.{finished_few}
+use Rattle.laws_links.proofs.FewLeafLemmas.{leaves_stand}
+use Rattle.laws_links.proofs.FinishedLeafLemmas.{finished_few}
 use Rattle.ist_rule.specs.declared.view.View.{View}
 use Rattle.ist_rule.specs.Rule.{IsSound}
 use Rattle.ist_rule.specs.Learning.{now, GoesOnTo}
@@ -22,7 +22,7 @@ use Rattle.std.proofs.lemmas.List.{length-drop}
 use Rattle.ist_build.specs.Calls.{HasKeys}
 use Rattle.ist_build.specs.Laying.{IsLeaf}
 use Rattle.ist_build.proofs.BuiltLemmas.{leaf_goes_on}
-use Rattle.ist_build.proofs.MidwayLemmas.{some_first, each_drop}
+use Rattle.ist_build.proofs.HalfBuiltLemmas.{some_first, each_drop}
 use Rattle.ist_build.proofs.ShareLemmas.{some_leaves}
 
 -- ---- one leaf

@@ -21,13 +21,13 @@ use Rattle.ist_rows.specs.declared.callers.Caller.{Caller}
 use Rattle.ist_rows.specs.Rows.{IsCaller}
 use Rattle.ist_rows.specs.Building.{sizes_built}
 use Rattle.ist_build.specs.Laying.{BuiltOn, IsTopLaid}
-use Rattle.laws_rows.specs.Dividing.{parts_to, share_of}
-use Rattle.laws_rows.proofs.PartLemmas.{parts_all, keys_next}
+use Rattle.laws_calls.specs.Dividing.{parts_to, share_of}
+use Rattle.laws_calls.proofs.PartLemmas.{parts_all, keys_next}
 use Rattle.ist_build.specs.Midway.{words_at, IsOpened, IsTopMidway, setting}
 use Rattle.ist_build.proofs.BuiltLemmas.{rewritten_built}
 use Rattle.ist_build.proofs.BuildingLemmas.{held_good}
 use Rattle.ist_build.proofs.RowOpenedLemmas.{opened_on, at_slot, at_key, elsewhere, setting_is}
-use Rattle.ist_build.proofs.MidwayLemmas.{some_first, length-share_of}
+use Rattle.ist_build.proofs.HalfBuiltLemmas.{some_first, length-share_of}
 use Rattle.ist_build.proofs.OwnWordLemmas.{length-words_at, get-words_at, words_at_same, words_at_more, row_of_words, words_of_row, inner_of_row}
 use Rattle.ist_build.proofs.ReadingLemmas.{leaves_number}
 use Rattle.ist_build.proofs.TopBegunLemmas.{leaves_on}
@@ -47,16 +47,16 @@ take_first zero xs y ys e = cc
 take_first (suc n) [] y ys e = cc
 take_first (suc n) (x ∷ xs) y ys e = (xs, let same : x ≡ y = cc in ap (λ z. z ∷ xs) same)
 
-module _ (old who : Caller) (target k base d j key : ℕ) (s : IsSound old.seat.view)
-    (finished : IsFinishedWith (now old.seat.view) target k)
+module _ (old who : Caller) (target k base d j key : ℕ) (s : IsSound old.token.view)
+    (finished : IsFinishedWith (now old.token.view) target k)
     (m : IsTopMidway old target k base d j who) (d_is : d ≡ degree k) (less : j < d)
     (some : 1 ≤ part_len k j)
     (key_is : (leaves : List PlacedLeaf)
-    → HasLeaves (now old.seat.view).pieces (Some (InnerAt target)) leaves
+    → HasLeaves (now old.token.view).pieces (Some (InnerAt target)) leaves
     → (leaf : PlacedLeaf) (others : List PlacedLeaf) → share_of k j leaves ≡ leaf ∷ others
     → key ≡ leaf.row.key) where
   abbrev v : View
-  v = who.seat.view
+  v = who.token.view
 
   abbrev words : List OwnWord
   words = (setting v base d j key unset_word).own
@@ -65,7 +65,7 @@ module _ (old who : Caller) (target k base d j key : ℕ) (s : IsSound old.seat.
   w = record v { own = words }
 
   abbrev set : Caller
-  set = record who { seat = record who.seat { view = w } }
+  set = record who { token = record who.token { view = w } }
 
   slots_more : words_at words (base + 3 + d) (j + 1) ≡ replicate (j + 1) unset_word
   slots_more =
@@ -78,16 +78,16 @@ module _ (old who : Caller) (target k base d j key : ℕ) (s : IsSound old.seat.
       ∙ replicate_more j unset_word
 
   first_part : (leaves : List PlacedLeaf)
-      → HasLeaves (now old.seat.view).pieces (Some (InnerAt target)) leaves
+      → HasLeaves (now old.token.view).pieces (Some (InnerAt target)) leaves
       → (leaf : PlacedLeaf) × (others : List PlacedLeaf) × (share_of k j leaves ≡ leaf ∷ others)
   first_part leaves has =
-      let many = leaves_number old.seat.view s target k finished leaves has in
+      let many = leaves_number old.token.view s target k finished leaves has in
       let len = length-share_of k j leaves many (let q : j < degree k = omega (arith, d_is) in q) in
       let one = some in
       some_first (share_of k j leaves) (omega arith)
 
   keys_more : (leaves : List PlacedLeaf)
-      → HasLeaves (now old.seat.view).pieces (Some (InnerAt target)) leaves
+      → HasLeaves (now old.token.view).pieces (Some (InnerAt target)) leaves
       → words_at words (base + 4) (j + 1 - 1)
       ≡ first_keys (λ leaf. leaf.row.key) (drop 1 (parts_to k (j + 1) leaves))
   keys_more leaves has = at j refl
@@ -119,7 +119,7 @@ module _ (old who : Caller) (target k base d j key : ℕ) (s : IsSound old.seat.
         caller = caller;
         number = m.number;
         rows = m.rows;
-        built = rewritten_built old.seat.view v words m.built sound
+        built = rewritten_built old.token.view v words m.built sound
             (λ p low. elsewhere v base d j key unset_word less p (λ e. omega arith)
             (λ one e. omega arith));
         high = m.high;
@@ -134,30 +134,30 @@ module _ (old who : Caller) (target k base d j key : ℕ) (s : IsSound old.seat.
 
   -- when slot j is set to Unset with its key, the half-built top row has one slot more
   pub top_set : (last : Caller) (word : ℕ) → word ≡ unset_word
-      → last ≡ record who { seat = record who.seat { view = setting v base d j key word } }
-      → IsCaller last → IsSound last.seat.view → IsTopMidway old target k base d (j + 1) last
+      → last ≡ record who { token = record who.token { view = setting v base d j key word } }
+      → IsCaller last → IsSound last.token.view → IsTopMidway old target k base d (j + 1) last
   top_set last word unset is caller sound =
       let whole : last ≡ set =
-      is ∙ ap (λ x. record who { seat = record who.seat { view = setting v base d j key x } }) unset
-      ∙ ap (λ x. record who { seat = record who.seat { view = x } })
+      is ∙ ap (λ x. record who { token = record who.token { view = setting v base d j key x } }) unset
+      ∙ ap (λ x. record who { token = record who.token { view = x } })
       (setting_is v base d j key unset_word less) in
       subst (IsTopMidway old target k base d (j + 1)) (sym whole)
-      (top_more (subst IsCaller whole caller) (subst (λ (c : Caller). IsSound c.seat.view) whole sound))
+      (top_more (subst IsCaller whole caller) (subst (λ (c : Caller). IsSound c.token.view) whole sound))
 
 -- the loaded key is the key of the part's first leaf
-pub key_first : (old who : Caller) (target k j start key : ℕ) → BuiltOn old.seat.view who.seat.view
-    → IsFinishedWith (now old.seat.view) target k → start ≡ part_start k j
+pub key_first : (old who : Caller) (target k j start key : ℕ) → BuiltOn old.token.view who.token.view
+    → IsFinishedWith (now old.token.view) target k → start ≡ part_start k j
     → ((leaves : List PlacedLeaf)
-    → HasLeaves (now who.seat.view).pieces (Some (InnerAt target)) leaves
+    → HasLeaves (now who.token.view).pieces (Some (InnerAt target)) leaves
     → (leaf : PlacedLeaf) (others : List PlacedLeaf) → drop start leaves ≡ leaf ∷ others
     → key ≡ leaf.row.key)
     → (leaves : List PlacedLeaf)
-    → HasLeaves (now old.seat.view).pieces (Some (InnerAt target)) leaves
+    → HasLeaves (now old.token.view).pieces (Some (InnerAt target)) leaves
     → (leaf : PlacedLeaf) (others : List PlacedLeaf) → share_of k j leaves ≡ leaf ∷ others
     → key ≡ leaf.row.key
 key_first old who target k j start key b f is told leaves has leaf others e =
     let it = take_first (part_len k j) (drop (part_start k j) leaves) leaf others e in
-    told leaves (leaves_on old.seat.view who.seat.view b target k f leaves has) leaf it.0
+    told leaves (leaves_on old.token.view who.token.view b target k f leaves has) leaf it.0
     (ap (λ n. drop n leaves) is ∙ it.1)
 
 -- ---- the whole
@@ -223,22 +223,22 @@ module _ (w : View) (number low base word : ℕ) (leaves : List PlacedLeaf)
 
 -- all slots are Unset, by the number of leaves
 record Facts (who : Caller) (base : ℕ) (leaves : List PlacedLeaf) (n : ℕ) : Type 0 where
-  held : HoldsRow (now who.seat.view) who.number base (inner_words (degree n))
-  opened : IsOpened who.seat.view.own base (degree n) n
-  keys : words_at who.seat.view.own (base + 4) (degree n - 1)
+  held : HoldsRow (now who.token.view) who.number base (inner_words (degree n))
+  opened : IsOpened who.token.view.own base (degree n) n
+  keys : words_at who.token.view.own (base + 4) (degree n - 1)
       ≡ first_keys (λ leaf. leaf.row.key) (drop 1 (parts_to n (degree n) leaves))
-  slots : words_at who.seat.view.own (base + 3 + degree n) (degree n) ≡ replicate (degree n) unset_word
+  slots : words_at who.token.view.own (base + 3 + degree n) (degree n) ≡ replicate (degree n) unset_word
   pub two : 2 ≤ n
 
 -- after the last slot the top row is built
-pub all_top : (old who : Caller) (target k base d j word : ℕ) → IsSound old.seat.view
-    → IsFinishedWith (now old.seat.view) target k → 2 ≤ k
+pub all_top : (old who : Caller) (target k base d j word : ℕ) → IsSound old.token.view
+    → IsFinishedWith (now old.token.view) target k → 2 ≤ k
     → IsTopMidway old target k base d j who → d ≡ degree k → j ≡ d
     → word ≡ word_of (InnerAt base) → (leaves : List PlacedLeaf)
-    → HasLeaves (now old.seat.view).pieces (Some (InnerAt target)) leaves
-    → IsTopLaid who.seat.view who.number (now old.seat.view).next word leaves
+    → HasLeaves (now old.token.view).pieces (Some (InnerAt target)) leaves
+    → IsTopLaid who.token.view who.number (now old.token.view).next word leaves
 all_top old who target k base d j word s f two m d_is all is leaves has =
-    let many = leaves_number old.seat.view s target k f leaves has in
+    let many = leaves_number old.token.view s target k f leaves has in
     let whole = subst (λ n. IsTopMidway old target k base n (degree k) who) d_is
     (subst (λ n. IsTopMidway old target k base d n who) (all ∙ d_is) m) in
     by_length (subst (Facts who base leaves) (sym many)
@@ -253,12 +253,12 @@ all_top old who target k base d j word s f two m d_is all is leaves has =
     good : ref_of word ≡ Some (InnerAt base)
     good =
         ap ref_of is ∙ ref_of-word_of (InnerAt base)
-        (held_good who.seat.view m.built.sound who.number base (inner_words d) m.held)
+        (held_good who.token.view m.built.sound who.number base (inner_words d) m.held)
 
     by_length : Facts who base leaves (length leaves)
-        → IsTopLaid who.seat.view who.number (now old.seat.view).next word leaves
+        → IsTopLaid who.token.view who.number (now old.token.view).next word leaves
     by_length x =
-        top_laid who.seat.view who.number (now old.seat.view).next base word leaves x.two m.high x.held
+        top_laid who.token.view who.number (now old.token.view).next base word leaves x.two m.high x.held
         x.opened
         (x.keys ∙ ap (λ ps. first_keys (λ (leaf : PlacedLeaf). leaf.row.key) (drop 1 ps))
         (parts_all leaves))

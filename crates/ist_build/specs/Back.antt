@@ -30,15 +30,15 @@ pub record IsBack (old new : Caller) : Type 0 where
   pub ready : IsFreeToBuild new
   pub number : new.number ≡ old.number
   pub rows : spares_of new ≡ spares_of old
-  pub put : PutOn old.seat.view new.seat.view
+  pub put : PutOn old.token.view new.token.view
 
 -- a caller that might build has only built since then, and it has the same other rows
 pub record HasBuilt (old new : Caller) : Type 0 where
   pub ready : IsFreeToBuild old
-  pub sound : IsSound old.seat.view
+  pub sound : IsSound old.token.view
   pub number : new.number ≡ old.number
   pub rows : spares_of new ≡ spares_of old
-  pub built : BuiltOn old.seat.view new.seat.view
+  pub built : BuiltOn old.token.view new.token.view
 
 -- ---- a root
 
@@ -47,13 +47,13 @@ pub record IsRootMade (old new : Caller) (rebuild word : ℕ) : Type 0 where
   pub has_built : HasBuilt old new
   pub target : ℕ
   pub keys : ℕ
-  pub told : IsTold (now old.seat.view) rebuild keys
-  pub target_is : HasTarget (now old.seat.view) rebuild target
+  pub told : IsTold (now old.token.view) rebuild keys
+  pub target_is : HasTarget (now old.token.view) rebuild target
   pub several : 2 ≤ keys
   pub laid : (leaves : List PlacedLeaf)
-      → HasLeaves (now old.seat.view).pieces (Some (InnerAt target)) leaves
+      → HasLeaves (now old.token.view).pieces (Some (InnerAt target)) leaves
       → IsRootLaid old new target keys word leaves
-  pub unset : WasUnset old.seat.view old.number (rebuild + rebuild_root_offset)
+  pub unset : WasUnset old.token.view old.number (rebuild + rebuild_root_offset)
 
 -- it was built since some earlier state
 pub record RootWasMade (new : Caller) (rebuild word : ℕ) : Type 0 where
@@ -63,7 +63,7 @@ pub record RootWasMade (new : Caller) (rebuild word : ℕ) : Type 0 where
 -- the caller is back, and the rebuild has this root
 pub record HasPutRoot (old new : Caller) (rebuild word : ℕ) : Type 0 where
   pub back : IsBack old new
-  pub root : HasRoot (now new.seat.view) rebuild word
+  pub root : HasRoot (now new.token.view) rebuild word
 
 -- whenever the word was built, the caller is back, and the rebuild has the root `found`
 abbrev pub EndsRoot : Caller → ℕ → ℕ → Caller → ℕ → Type 0
@@ -81,14 +81,14 @@ pub record IsSharedAs (t : Snapshot) (s : Shared) : Type 0 where
 -- state
 pub record IsPartMade (old new : Caller) (s : Shared) (i word : ℕ) : Type 0 where
   pub has_built : HasBuilt old new
-  pub shared : IsSharedAs (now old.seat.view) s
+  pub shared : IsSharedAs (now old.token.view) s
   pub within : i < s.degree
   pub laid : (all : List PlacedLeaf)
-      → HasLeaves (now old.seat.view).pieces (Some (InnerAt s.target)) all
-      → IsLaid new.seat.view new.number (now old.seat.view).next word
+      → HasLeaves (now old.token.view).pieces (Some (InnerAt s.target)) all
+      → IsLaid new.token.view new.number (now old.token.view).next word
       (take (part_len s.keys i) (drop (part_start s.keys i) all))
   pub at : IsInBuild new (sizes_built old) (shape (part_len s.keys i)) []
-  pub unset : WasUnset old.seat.view old.number (slot_place s.root s.degree i)
+  pub unset : WasUnset old.token.view old.number (slot_place s.root s.degree i)
 
 -- it was built since some earlier state
 pub record PartWasMade (new : Caller) (s : Shared) (i word : ℕ) : Type 0 where
@@ -98,7 +98,7 @@ pub record PartWasMade (new : Caller) (s : Shared) (i word : ℕ) : Type 0 where
 -- the caller is back, and the slot is set
 pub record IsFilledAt (old new : Caller) (root i : ℕ) : Type 0 where
   pub back : IsBack old new
-  pub set : IsSlotSet (now new.seat.view) root i
+  pub set : IsSlotSet (now new.token.view) root i
 
 -- whenever the word was built, the caller is back, and the slot is set
 abbrev pub EndsPart : Caller → Shared → ℕ → ℕ → Caller → Type 0
@@ -108,5 +108,5 @@ EndsPart mid s i word new =
 -- the caller is filling the slots of a shared root: the first i are set
 pub record IsFilling (old : Caller) (s : Shared) (i : ℕ) (who : Caller) : Type 0 where
   pub back : IsBack old who
-  pub shared : IsSharedAs (now who.seat.view) s
-  pub filled : (j : ℕ) → j < i → IsSlotSet (now who.seat.view) s.root j
+  pub shared : IsSharedAs (now who.token.view) s
+  pub filled : (j : ℕ) → j < i → IsSlotSet (now who.token.view) s.root j

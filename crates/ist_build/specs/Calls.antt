@@ -86,9 +86,9 @@ pub record IsLeafAmong (leaves : List PlacedLeaf) (i : ℕ) (ref : Ref) : Type 0
 -- earlier state: above each row that was published then
 pub record IsPartLaid (old new : Caller) (ref : Ref) (leaves : List PlacedLeaf) : Type 0 where
   pub rows : List Row
-  pub owns : OwnsRows new.seat.view new.number (now old.seat.view).next rows
-  pub ideal : (above : ℕ) → above < (now old.seat.view).next
-      → IsIdeal (with_inners (now new.seat.view).pieces rows) ref leaves above (bases_of rows)
+  pub owns : OwnsRows new.token.view new.number (now old.token.view).next rows
+  pub ideal : (above : ℕ) → above < (now old.token.view).next
+      → IsIdeal (with_inners (now new.token.view).pieces rows) ref leaves above (bases_of rows)
 
 -- the rebuild has this root
 pub record HasRootAs (t : Snapshot) (rebuild : ℕ) (ref : Ref) : Type 0 where

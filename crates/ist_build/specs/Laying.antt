@@ -117,8 +117,8 @@ pub record IsTopLaid (w : View) (number low word : ℕ) (leaves : List PlacedLea
 -- its earlier state; its other rows are the ones that it had then
 pub record IsRootLaid (old new : Caller) (target k word : ℕ) (leaves : List PlacedLeaf) : Type 0 where
   pub rows : List Row
-  pub owns : OwnsRows new.seat.view new.number (now old.seat.view).next rows
-  pub root : IsRoot (with_inners (now new.seat.view).pieces rows) word k leaves target (bases_of rows)
+  pub owns : OwnsRows new.token.view new.number (now old.token.view).next rows
+  pub root : IsRoot (with_inners (now new.token.view).pieces rows) word k leaves target (bases_of rows)
   pub sizes : sizes_built new ≡ sizes_built old ++ sizes_of rows
 
 -- ---- a build
@@ -150,14 +150,14 @@ IsShort v words keys full w = IsShortFor BuiltOn v words keys full w
 pub record IsWritten (old new : Caller) (low high : ℕ) : Type 0 where
   pub same : new
       ≡ record old {
-        seat = record old.seat { view = record old.seat.view { own = new.seat.view.own } };
+        token = record old.token { view = record old.token.view { own = new.token.view.own } };
       }
   pub caller : IsCaller new
-  pub sound : IsSound new.seat.view
-  pub below : (place : ℕ) → place < low → own_at new.seat.view.own place
-      ≡ own_at old.seat.view.own place
-  pub above : (place : ℕ) → high ≤ place → own_at new.seat.view.own place
-      ≡ own_at old.seat.view.own place
+  pub sound : IsSound new.token.view
+  pub below : (place : ℕ) → place < low → own_at new.token.view.own place
+      ≡ own_at old.token.view.own place
+  pub above : (place : ℕ) → high ≤ place → own_at new.token.view.own place
+      ≡ own_at old.token.view.own place
 
 -- the same as `IsLaid`, in rows that end at `high` or before
 pub record IsLaidBelow (w : View) (number low high word : ℕ) (leaves : List PlacedLeaf) : Type 0 where

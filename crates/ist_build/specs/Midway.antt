@@ -13,7 +13,7 @@ use Rattle.ist_core.specs.References.{InnerAt, unset_word}
 use Rattle.ist_core.specs.RowLayout.{inner_words, place_limit}
 use Rattle.ist_core.specs.Shapes.{shape}
 use Rattle.ist_core.specs.Snapshots.{bases_of, HoldsRow}
-use Rattle.laws_rows.specs.Dividing.{lens_to, parts_to, share_of}
+use Rattle.laws_calls.specs.Dividing.{lens_to, parts_to, share_of}
 use Rattle.ist_rule.specs.declared.view.View.{View}
 use Rattle.ist_rule.specs.declared.view.OwnWord.{OwnWord}
 use Rattle.ist_rule.specs.Rule.{own_at}
@@ -53,15 +53,15 @@ pub record IsMidway (old : Caller) (leaves : List ℕ) (base d j : ℕ) (who : C
   pub caller : IsCaller who
   pub number : who.number ≡ old.number
   pub rows : spares_of who ≡ spares_of old
-  pub built : BuiltOn old.seat.view who.seat.view
-  pub high : (now old.seat.view).next ≤ base
-  pub held : HoldsRow (now who.seat.view) who.number base (inner_words d)
-  pub opened : IsOpened who.seat.view.own base d (length leaves)
-  pub laid : (placed : List PlacedLeaf) → ArePlaced (now old.seat.view) leaves placed
-      → AreLaid who.seat.view who.number (base + inner_words d) base
-      (words_at who.seat.view.own (base + 3 + d) j) (parts_to (length leaves) j placed)
-  pub keys : (placed : List PlacedLeaf) → ArePlaced (now old.seat.view) leaves placed
-      → words_at who.seat.view.own (base + 4) (j - 1)
+  pub built : BuiltOn old.token.view who.token.view
+  pub high : (now old.token.view).next ≤ base
+  pub held : HoldsRow (now who.token.view) who.number base (inner_words d)
+  pub opened : IsOpened who.token.view.own base d (length leaves)
+  pub laid : (placed : List PlacedLeaf) → ArePlaced (now old.token.view) leaves placed
+      → AreLaid who.token.view who.number (base + inner_words d) base
+      (words_at who.token.view.own (base + 3 + d) j) (parts_to (length leaves) j placed)
+  pub keys : (placed : List PlacedLeaf) → ArePlaced (now old.token.view) leaves placed
+      → words_at who.token.view.own (base + 4) (j - 1)
       ≡ first_keys (λ leaf. leaf.row.key) (drop 1 (parts_to (length leaves) j placed))
   pub due : (stuck done rest : List ℕ) → IsInBuild old stuck done (shape (length leaves) ++ rest)
       → IsInBuild who stuck
@@ -74,8 +74,8 @@ pub record IsTopRowRefused (old : Caller) (words keys : ℕ) (full : Full) (who 
   pub caller : IsCaller who
   pub number : who.number ≡ old.number
   pub rows : spares_of who ≡ spares_of old
-  pub built : BuiltOn old.seat.view who.seat.view
-  pub short : IsShort old.seat.view words keys full who.seat.view
+  pub built : BuiltOn old.token.view who.token.view
+  pub short : IsShort old.token.view words keys full who.token.view
   pub refused : HasRefused who
 
 -- the same as `AreLaid`, in rows that end at `high` or before
@@ -90,15 +90,15 @@ pub record IsLaying (old : Caller) (leaves : List ℕ) (base d j next : ℕ) (wh
   pub written : IsWritten old who base next
   pub next_is : next ≡ base + inner_words d + sum (flat_map shape (lens_to (length leaves) j))
   pub low : next ≤ place_limit
-  pub held : HoldsRow (now who.seat.view) who.number base (inner_words d)
-  pub rest : HoldsBlock (now who.seat.view) who.number next
+  pub held : HoldsRow (now who.token.view) who.number base (inner_words d)
+  pub rest : HoldsBlock (now who.token.view) who.number next
       (flat_map shape (lens_from (length leaves) j))
-  pub opened : IsOpened who.seat.view.own base d (length leaves)
-  pub laid : (placed : List PlacedLeaf) → ArePlaced (now old.seat.view) leaves placed
-      → AreLaidBelow who.seat.view who.number (base + inner_words d) next base
-      (words_at who.seat.view.own (base + 3 + d) j) (parts_to (length leaves) j placed)
-  pub keys : (placed : List PlacedLeaf) → ArePlaced (now old.seat.view) leaves placed
-      → words_at who.seat.view.own (base + 4) (j - 1)
+  pub opened : IsOpened who.token.view.own base d (length leaves)
+  pub laid : (placed : List PlacedLeaf) → ArePlaced (now old.token.view) leaves placed
+      → AreLaidBelow who.token.view who.number (base + inner_words d) next base
+      (words_at who.token.view.own (base + 3 + d) j) (parts_to (length leaves) j placed)
+  pub keys : (placed : List PlacedLeaf) → ArePlaced (now old.token.view) leaves placed
+      → words_at who.token.view.own (base + 4) (j - 1)
       ≡ first_keys (λ leaf. leaf.row.key) (drop 1 (parts_to (length leaves) j placed))
 
 -- since its earlier state the caller reserved the row at the base, and has set the first j slots of it
@@ -107,14 +107,14 @@ pub record IsTopMidway (old : Caller) (target k base d j : ℕ) (who : Caller) :
   pub caller : IsCaller who
   pub number : who.number ≡ old.number
   pub rows : spares_of who ≡ spares_of old
-  pub built : BuiltOn old.seat.view who.seat.view
-  pub high : (now old.seat.view).next ≤ base
-  pub held : HoldsRow (now who.seat.view) who.number base (inner_words d)
-  pub opened : IsOpened who.seat.view.own base d k
-  pub slots : words_at who.seat.view.own (base + 3 + d) j ≡ replicate j unset_word
+  pub built : BuiltOn old.token.view who.token.view
+  pub high : (now old.token.view).next ≤ base
+  pub held : HoldsRow (now who.token.view) who.number base (inner_words d)
+  pub opened : IsOpened who.token.view.own base d k
+  pub slots : words_at who.token.view.own (base + 3 + d) j ≡ replicate j unset_word
   pub keys : (leaves : List PlacedLeaf)
-      → HasLeaves (now old.seat.view).pieces (Some (InnerAt target)) leaves
-      → words_at who.seat.view.own (base + 4) (j - 1)
+      → HasLeaves (now old.token.view).pieces (Some (InnerAt target)) leaves
+      → words_at who.token.view.own (base + 4) (j - 1)
       ≡ first_keys (λ leaf. leaf.row.key) (drop 1 (parts_to k j leaves))
   pub sizes : sizes_built who ≡ sizes_built old ++ inner_words d ∷ []
 

@@ -28,27 +28,27 @@ pub(crate) fn lay(
     leaves: &[u32],
     keys: &[u64],
 ) -> u64
-    requires same_table { who.old.seat.table ≡ table.now.table }
+    requires same_table { who.old.token.table ≡ table.now.table }
     requires caller { IsCaller who.old }
-    requires held { HoldsBlock (now who.old.seat.view) who.old.number next.old
+    requires held { HoldsBlock (now who.old.token.view) who.old.number next.old
         (shape (length leaves.now)) }
-    requires fresh { (place : ℕ) → next.old ≤ place → own_at who.old.seat.view.own place ≡ 0 }
-    requires leaves { HaveLeaves (now who.old.seat.view) leaves.now }
-    requires keys { AreKeysOf (now who.old.seat.view) leaves.now keys.now }
+    requires fresh { (place : ℕ) → next.old ≤ place → own_at who.old.token.view.own place ≡ 0 }
+    requires leaves { HaveLeaves (now who.old.token.view) leaves.now }
+    requires keys { AreKeysOf (now who.old.token.view) leaves.now keys.now }
     requires many { length keys.now ≡ length leaves.now }
     requires few { length leaves.now < place_limit }
     requires low { next.old ≤ place_limit }
-    ensures same_table { who.new.seat.table ≡ table.now.table }
+    ensures same_table { who.new.token.table ≡ table.now.table }
     ensures written { IsWritten who.old who.new next.old next.new }
     ensures next { next.new ≡ next.old + sum (shape (length leaves.now)) }
     ensures low { next.new ≤ place_limit }
     ensures laid { (placed : List PlacedLeaf)
-        → ArePlaced (now who.old.seat.view) leaves.now placed
-        → IsLaidBelow who.new.seat.view who.new.number next.old next.new result placed }
+        → ArePlaced (now who.old.token.view) leaves.now placed
+        → IsLaidBelow who.new.token.view who.new.number next.old next.new result placed }
 {
-    know(&who.seat);
+    know(&who.token);
     if leaves.len() < 2 {
-        return small_word(&who.seat, leaves);
+        return small_word(&who.token, leaves);
     }
     let size = leaves.len() as u64;
     let degree = degree(size);
@@ -70,18 +70,18 @@ pub(crate) fn lay(
 fn reserve_shape(table: &TreeTable, who: &mut Caller, size: u64) -> Option<u32>
     ghost sizes: { List ℕ }
     requires sizes { sizes ≡ shape size }
-    requires same_table { who.old.seat.table ≡ table.now.table }
+    requires same_table { who.old.token.table ≡ table.now.table }
     requires caller { IsCaller who.old }
     requires due { IsDue who.old size }
     requires several { 2 ≤ size }
     requires few { size < place_limit }
-    ensures same_table { who.new.seat.table ≡ table.now.table }
+    ensures same_table { who.new.token.table ≡ table.now.table }
     ensures caller { IsCaller who.new }
-    ensures same { who.new ≡ record who.old { seat = who.new.seat } }
+    ensures same { who.new ≡ record who.old { token = who.new.token } }
     ensures reserved { IfSome result (λ base.
-        ReservedAll who.old.seat.view who.old.number base (shape size) who.new.seat.view) }
+        ReservedAll who.old.token.view who.old.number base (shape size) who.new.token.view) }
     ensures taken { IfSome result (λ base. HasTaken who.old (shape size) who.new) }
-    ensures none { result ≡ None → GoesOnTo who.old.seat.view who.new.seat.view }
+    ensures none { result ≡ None → GoesOnTo who.old.token.view who.new.token.view }
 {
     let inner = ideal_words(size) - 2 * size;
     reserve_block(table, who, inner)
@@ -94,27 +94,27 @@ pub(crate) fn build_at_once(
     leaves: &[u32],
     keys: &[u64],
 ) -> Result<u64, Full>
-    requires same_table { who.old.seat.table ≡ table.now.table }
+    requires same_table { who.old.token.table ≡ table.now.table }
     requires caller { IsCaller who.old }
     requires due { 2 ≤ length leaves.now → IsDue who.old (length leaves.now) }
-    requires leaves { HaveLeaves (now who.old.seat.view) leaves.now }
-    requires keys { AreKeysOf (now who.old.seat.view) leaves.now keys.now }
+    requires leaves { HaveLeaves (now who.old.token.view) leaves.now }
+    requires keys { AreKeysOf (now who.old.token.view) leaves.now keys.now }
     requires many { length keys.now ≡ length leaves.now }
     requires few { length leaves.now < place_limit }
-    ensures same_table { who.new.seat.table ≡ table.now.table }
+    ensures same_table { who.new.token.table ≡ table.now.table }
     ensures caller { IsCaller who.new }
     ensures number { who.new.number ≡ who.old.number }
     ensures rows { spares_of who.new ≡ spares_of who.old }
-    ensures built { BuiltOn who.old.seat.view who.new.seat.view }
+    ensures built { BuiltOn who.old.token.view who.new.token.view }
     ensures laid { IfOk result (λ word. (placed : List PlacedLeaf)
-        → ArePlaced (now who.old.seat.view) leaves.now placed
-        → IsLaid who.new.seat.view who.new.number (now who.old.seat.view).next word placed) }
+        → ArePlaced (now who.old.token.view) leaves.now placed
+        → IsLaid who.new.token.view who.new.number (now who.old.token.view).next word placed) }
     ensures taken { IfOk result (λ word. HasTaken who.old (shape (length leaves.now)) who.new) }
-    ensures full { IfErr result (λ full. IsShort who.old.seat.view (word_count_of table.now)
-        (length leaves.now) full who.new.seat.view) }
+    ensures full { IfErr result (λ full. IsShort who.old.token.view (word_count_of table.now)
+        (length leaves.now) full who.new.token.view) }
     ensures refused { IfErr result (λ full. HasRefused who.new) }
 {
-    know(&who.seat);
+    know(&who.token);
     if leaves.len() < 2 {
         return build(table, who, leaves, keys);
     }

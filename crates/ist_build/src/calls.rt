@@ -19,7 +19,7 @@ use crate::root::place_root;
 use ist_core::Full;
 use ist_layout::Ref;
 use ist_rows::Caller;
-use ist_rule::{TreeSeat, TreeTable, know};
+use ist_rule::{TreeTable, TreeToken, know};
 
 // Returns the reference that the word encodes.
 fn named(word: u64) -> Ref
@@ -38,38 +38,38 @@ fn named(word: u64) -> Ref
 ///
 /// Leaves are shared by the old subtree and the new one. The search goes down by the finished counts,
 /// and skips what lies before the leaf.
-pub fn leaf_at(table: &TreeTable, seat: &mut TreeSeat, target: u32, i: u64) -> Ref
-    requires same_table { seat.old.table ≡ table.now.table }
-    requires finished { HasKeys (now seat.old.view) target (i + 1) }
-    ensures same_table { seat.new.table ≡ seat.old.table }
-    ensures seen { GoesOnTo seat.old.view seat.new.view }
+pub fn leaf_at(table: &TreeTable, token: &mut TreeToken, target: u32, i: u64) -> Ref
+    requires same_table { token.old.table ≡ table.now.table }
+    requires finished { HasKeys (now token.old.view) target (i + 1) }
+    ensures same_table { token.new.table ≡ token.old.table }
+    ensures seen { GoesOnTo token.old.view token.new.view }
     ensures leaf { (leaves : List PlacedLeaf)
-        → HasLeaves (now seat.old.view).pieces (Some (InnerAt target)) leaves
+        → HasLeaves (now token.old.view).pieces (Some (InnerAt target)) leaves
         → IsLeafAmong leaves i (ref_meant result) }
     ensures good { IsGoodRef (ref_meant result) }
 {
-    leaf_and_loads(table, seat, target, i).0
+    leaf_and_loads(table, token, target, i).0
 }
 
 /// Returns the same leaf as `leaf_at`, and how many words were loaded on the way to it.
 ///
 /// A row on the way costs one load, and at most four for each slot up to the one that is entered:
 /// its word, what a change in it would take out, the target of a rebuild, and a finished count.
-pub fn leaf_and_loads(table: &TreeTable, seat: &mut TreeSeat, target: u32, i: u64) -> (Ref, u64)
-    requires same_table { seat.old.table ≡ table.now.table }
-    requires finished { HasKeys (now seat.old.view) target (i + 1) }
-    ensures same_table { seat.new.table ≡ seat.old.table }
-    ensures seen { GoesOnTo seat.old.view seat.new.view }
+pub fn leaf_and_loads(table: &TreeTable, token: &mut TreeToken, target: u32, i: u64) -> (Ref, u64)
+    requires same_table { token.old.table ≡ table.now.table }
+    requires finished { HasKeys (now token.old.view) target (i + 1) }
+    ensures same_table { token.new.table ≡ token.old.table }
+    ensures seen { GoesOnTo token.old.view token.new.view }
     ensures leaf { (leaves : List PlacedLeaf)
-        → HasLeaves (now seat.old.view).pieces (Some (InnerAt target)) leaves
+        → HasLeaves (now token.old.view).pieces (Some (InnerAt target)) leaves
         → IsLeafAmong leaves i (ref_meant result.0) }
     ensures good { IsGoodRef (ref_meant result.0) }
-    ensures counted { seat.new.view.loaded ≡ seat.old.view.loaded + result.1 }
+    ensures counted { token.new.view.loaded ≡ token.old.view.loaded + result.1 }
     ensures fits { result.1 ≤ 2 ^ 59 }
 {
-    know(seat);
-    let reached = leaf_base(table, seat, target, i);
-    know(seat);
+    know(token);
+    let reached = leaf_base(table, token, target, i);
+    know(token);
     (Ref::Leaf { base: reached.base }, reached.loads)
 }
 
@@ -87,27 +87,27 @@ pub fn build_part(
     start: u64,
     len: u64,
 ) -> Result<Ref, Full>
-    requires same_table { who.old.seat.table ≡ table.now.table }
+    requires same_table { who.old.token.table ≡ table.now.table }
     requires caller { IsCaller who.old }
     requires refused { HasRefused who.old }
-    requires share { MayBuild (now who.old.seat.view) target start len }
-    ensures same_table { who.new.seat.table ≡ table.now.table }
+    requires share { MayBuild (now who.old.token.view) target start len }
+    ensures same_table { who.new.token.table ≡ table.now.table }
     ensures caller { IsCaller who.new }
     ensures number { who.new.number ≡ who.old.number }
     ensures rows { spares_of who.new ≡ spares_of who.old }
-    ensures went { WentOn Builds who.old.seat.view who.new.seat.view }
-    ensures words { KeepsWords who.old.seat.view who.new.seat.view }
+    ensures went { WentOn Builds who.old.token.view who.new.token.view }
+    ensures words { KeepsWords who.old.token.view who.new.token.view }
     ensures laid { IfOk result (λ part. (all : List PlacedLeaf)
-        → HasLeaves (now who.old.seat.view).pieces (Some (InnerAt target)) all
+        → HasLeaves (now who.old.token.view).pieces (Some (InnerAt target)) all
         → IsPartLaid who.old who.new (ref_meant part) (take len (drop start all))) }
     ensures good { IfOk result (λ part. IsGoodRef (ref_meant part)) }
     ensures held { IfOk result (λ part. 2 ≤ len
         → IsInBuild who.new (sizes_built who.old) (shape len) []) }
     ensures full { IfErr result (λ full.
-        IsOutOfWords who.old.seat.view (word_count_of table.now) len full who.new.seat.view) }
+        IsOutOfWords who.old.token.view (word_count_of table.now) len full who.new.token.view) }
     ensures refused { IfErr result (λ full. HasRefused who.new) }
 {
-    know(&who.seat);
+    know(&who.token);
     let word = build_share(table, who, target, start, len)?;
     Ok(named(word))
 }
@@ -120,25 +120,25 @@ pub fn build_part(
 /// first word in this call left too few words for a row of the build; its rows stay held. Never
 /// allocates, always returns.
 pub fn set_root(table: &TreeTable, who: &mut Caller, rebuild: u32) -> Result<Ref, Full>
-    requires same_table { who.old.seat.table ≡ table.now.table }
+    requires same_table { who.old.token.table ≡ table.now.table }
     requires caller { IsCaller who.old }
     requires refused { HasRefused who.old }
-    requires buildable { IsBuildable (now who.old.seat.view) rebuild }
-    ensures same_table { who.new.seat.table ≡ table.now.table }
+    requires buildable { IsBuildable (now who.old.token.view) rebuild }
+    ensures same_table { who.new.token.table ≡ table.now.table }
     ensures caller { IsCaller who.new }
     ensures number { who.new.number ≡ who.old.number }
     ensures rows { spares_of who.new ≡ spares_of who.old }
-    ensures went { WentOn Builds who.old.seat.view who.new.seat.view }
-    ensures words { KeepsWords who.old.seat.view who.new.seat.view }
+    ensures went { WentOn Builds who.old.token.view who.new.token.view }
+    ensures words { KeepsWords who.old.token.view who.new.token.view }
     ensures root { IfOk result (λ root.
-        HasRootAs (now who.new.seat.view) rebuild (ref_meant root)) }
+        HasRootAs (now who.new.token.view) rebuild (ref_meant root)) }
     ensures full { IfErr result (λ full.
-        RebuildIsShort who.old.seat.view rebuild (word_count_of table.now) full who.new.seat.view) }
+        RebuildIsShort who.old.token.view rebuild (word_count_of table.now) full who.new.token.view) }
     ensures refused { HasRefused who.new }
 {
-    know(&who.seat);
+    know(&who.token);
     let word = place_root(table, who, rebuild)?;
-    know(&who.seat);
+    know(&who.token);
     Ok(named(word))
 }
 
@@ -150,22 +150,22 @@ pub fn set_root(table: &TreeTable, who: &mut Caller, rebuild: u32) -> Result<Ref
 /// this call left too few words for a row of a part; the rows of that build stay held. Never allocates,
 /// always returns.
 pub fn fill_parts(table: &TreeTable, who: &mut Caller, rebuild: u32) -> Result<(), Full>
-    requires same_table { who.old.seat.table ≡ table.now.table }
+    requires same_table { who.old.token.table ≡ table.now.table }
     requires caller { IsCaller who.old }
     requires refused { HasRefused who.old }
-    requires buildable { IsBuildable (now who.old.seat.view) rebuild }
-    requires rooted { IsRooted (now who.old.seat.view) rebuild }
-    ensures same_table { who.new.seat.table ≡ table.now.table }
+    requires buildable { IsBuildable (now who.old.token.view) rebuild }
+    requires rooted { IsRooted (now who.old.token.view) rebuild }
+    ensures same_table { who.new.token.table ≡ table.now.table }
     ensures caller { IsCaller who.new }
     ensures number { who.new.number ≡ who.old.number }
     ensures rows { spares_of who.new ≡ spares_of who.old }
-    ensures went { WentOn Builds who.old.seat.view who.new.seat.view }
-    ensures words { KeepsWords who.old.seat.view who.new.seat.view }
-    ensures filled { IfOk result (λ done. IsBuiltOut (now who.new.seat.view) rebuild) }
+    ensures went { WentOn Builds who.old.token.view who.new.token.view }
+    ensures words { KeepsWords who.old.token.view who.new.token.view }
+    ensures filled { IfOk result (λ done. IsBuiltOut (now who.new.token.view) rebuild) }
     ensures full { IfErr result (λ full.
-        RebuildIsShort who.old.seat.view rebuild (word_count_of table.now) full who.new.seat.view) }
+        RebuildIsShort who.old.token.view rebuild (word_count_of table.now) full who.new.token.view) }
     ensures refused { HasRefused who.new }
 {
-    know(&who.seat);
+    know(&who.token);
     fill_root(table, who, rebuild)
 }

@@ -9,7 +9,7 @@ ghost use Rattle.ist_build.specs.Reading.{HasReadOne};
 
 use crate::below::Below;
 use crate::reading::{degree_of, look_below};
-use ist_rule::{TreeSeat, TreeTable, know};
+use ist_rule::{TreeTable, TreeToken, know};
 
 // A leaf, and how many words were loaded on the way to it.
 #[derive(Clone, Copy, Drop)]
@@ -20,23 +20,23 @@ pub(crate) struct Reached {
 
 // Goes down to the leaf number `i` below a finished node: skips what lies before it by the finished
 // counts, and enters one child per row.
-fn go_down(table: &TreeTable, seat: &mut TreeSeat, node: u32, i: u64) -> Reached
-    requires same_table { seat.old.table ≡ table.now.table }
-    requires finished { HasKeys (now seat.old.view) node (i + 1) }
-    ensures same_table { seat.new.table ≡ seat.old.table }
-    ensures seen { GoesOnTo seat.old.view seat.new.view }
+fn go_down(table: &TreeTable, token: &mut TreeToken, node: u32, i: u64) -> Reached
+    requires same_table { token.old.table ≡ table.now.table }
+    requires finished { HasKeys (now token.old.view) node (i + 1) }
+    ensures same_table { token.new.table ≡ token.old.table }
+    ensures seen { GoesOnTo token.old.view token.new.view }
     ensures read { (leaves : List PlacedLeaf)
-        → HasLeaves (now seat.old.view).pieces (Some (InnerAt node)) leaves
+        → HasLeaves (now token.old.view).pieces (Some (InnerAt node)) leaves
         → HasReadOne i leaves result.base }
-    ensures counted { seat.new.view.loaded ≡ seat.old.view.loaded + result.loads }
+    ensures counted { token.new.view.loaded ≡ token.old.view.loaded + result.loads }
     ensures fits { result.loads ≤ (place_limit - node) * 2 ^ 31 }
 {
-    know(seat);
-    let degree = degree_of(table, seat, node);
+    know(token);
+    let degree = degree_of(table, token, node);
     let mut skip = i;
     let mut loads = 1;
     for index in 0..degree {
-        let below = look_below(table, seat, node, degree, index);
+        let below = look_below(table, token, node, degree, index);
         loads += below.1;
         match below.0 {
             Below::Nothing => {}
@@ -48,7 +48,7 @@ fn go_down(table: &TreeTable, seat: &mut TreeSeat, node: u32, i: u64) -> Reached
             }
             Below::Row { base, keys } => {
                 if skip < keys {
-                    let reached = go_down(table, seat, base, skip);
+                    let reached = go_down(table, token, base, skip);
                     return Reached {
                         base: reached.base,
                         loads: loads + reached.loads,
@@ -63,17 +63,17 @@ fn go_down(table: &TreeTable, seat: &mut TreeSeat, node: u32, i: u64) -> Reached
 
 /// Returns the leaf of the key number `i` of a finished target, counted from 0, and how many loads
 /// it took.
-pub(crate) fn leaf_base(table: &TreeTable, seat: &mut TreeSeat, target: u32, i: u64) -> Reached
-    requires same_table { seat.old.table ≡ table.now.table }
-    requires finished { HasKeys (now seat.old.view) target (i + 1) }
-    ensures same_table { seat.new.table ≡ seat.old.table }
-    ensures seen { GoesOnTo seat.old.view seat.new.view }
+pub(crate) fn leaf_base(table: &TreeTable, token: &mut TreeToken, target: u32, i: u64) -> Reached
+    requires same_table { token.old.table ≡ table.now.table }
+    requires finished { HasKeys (now token.old.view) target (i + 1) }
+    ensures same_table { token.new.table ≡ token.old.table }
+    ensures seen { GoesOnTo token.old.view token.new.view }
     ensures leaf { (leaves : List PlacedLeaf)
-        → HasLeaves (now seat.old.view).pieces (Some (InnerAt target)) leaves
+        → HasLeaves (now token.old.view).pieces (Some (InnerAt target)) leaves
         → map (λ leaf. leaf.base) (take 1 (drop i leaves)) ≡ result.base ∷ [] }
-    ensures counted { seat.new.view.loaded ≡ seat.old.view.loaded + result.loads }
+    ensures counted { token.new.view.loaded ≡ token.old.view.loaded + result.loads }
     ensures fits { result.loads ≤ 2 ^ 59 }
 {
-    know(seat);
-    go_down(table, seat, target, i)
+    know(token);
+    go_down(table, token, target, i)
 }

@@ -20,24 +20,24 @@ use ist_core::Full;
 use ist_layout::{REBUILD_DRAW_OFFSET, REBUILD_ROOT_OFFSET, Ref, slot_place};
 use ist_math::{SHARE_FROM, degree, part};
 use ist_rows::Caller;
-use ist_rule::{TreeSeat, TreeTable, add, exchange_or_lose, know, load};
+use ist_rule::{TreeTable, TreeToken, add, exchange_or_lose, know, load};
 
 // Returns the word in a slot of a shared root.
 fn slot_of(table: &TreeTable, who: &mut Caller, shared: Shared, i: u64) -> u64
-    requires same_table { who.old.seat.table ≡ table.now.table }
+    requires same_table { who.old.token.table ≡ table.now.table }
     requires ready { IsFreeToBuild who.old }
-    requires shared { IsSharedAs (now who.old.seat.view) shared }
+    requires shared { IsSharedAs (now who.old.token.view) shared }
     requires within { i < shared.degree }
-    ensures same_table { who.new.seat.table ≡ table.now.table }
+    ensures same_table { who.new.token.table ≡ table.now.table }
     ensures back { IsBack who.old who.new }
-    ensures set { result ≢ unset_word → IsSlotSet (now who.new.seat.view) shared.root i }
-    ensures unset { result ≡ unset_word → WasUnset who.new.seat.view who.new.number
+    ensures set { result ≢ unset_word → IsSlotSet (now who.new.token.view) shared.root i }
+    ensures unset { result ≡ unset_word → WasUnset who.new.token.view who.new.number
         (slot_place shared.root shared.degree i) }
 {
-    know(&who.seat);
+    know(&who.token);
     load(
         table,
-        &mut who.seat,
+        &mut who.token,
         slot_place(shared.root, shared.degree, i),
     )
 }
@@ -45,67 +45,67 @@ fn slot_of(table: &TreeTable, who: &mut Caller, shared: Shared, i: u64) -> u64
 // Puts the word, part `i` of the rebuild, into its slot if the slot is Unset.
 fn put_part(
     table: &TreeTable,
-    seat: &mut TreeSeat,
+    token: &mut TreeToken,
     _rebuild: u32,
     _i: u64,
     place: u64,
     word: u64,
 ) -> u64
     ghost which: { ℕ × ℕ }
-    requires same_table { seat.old.table ≡ table.now.table }
+    requires same_table { token.old.table ≡ table.now.table }
     requires within { place < word_count_of table.now }
-    requires events { CanExchangeOrLose seat.old.view place unset_word word
-        (placing seat.old.view which.0 which.1 word) (losing seat.old.view word) }
-    ensures same_table { seat.new.table ≡ seat.old.table }
-    ensures exchanged { ExchangedOrLost seat.old.view (placing seat.old.view which.0 which.1 word)
-        (losing seat.old.view word) place unset_word result seat.new.view }
+    requires events { CanExchangeOrLose token.old.view place unset_word word
+        (placing token.old.view which.0 which.1 word) (losing token.old.view word) }
+    ensures same_table { token.new.table ≡ token.old.table }
+    ensures exchanged { ExchangedOrLost token.old.view (placing token.old.view which.0 which.1 word)
+        (losing token.old.view word) place unset_word result token.new.view }
 {
     // Place, or the Lose of these rows. Meets another caller's part.
-    exchange_or_lose(table, seat, place, Ref::Unset.to_word(), word)
+    exchange_or_lose(table, token, place, Ref::Unset.to_word(), word)
 }
 
 // Puts part `i` of a shared root, which was built, into its slot if that is still Unset.
 fn put_slot(table: &TreeTable, who: &mut Caller, shared: Shared, i: u64, word: u64)
-    requires same_table { who.old.seat.table ≡ table.now.table }
+    requires same_table { who.old.token.table ≡ table.now.table }
     requires made { PartWasMade who.old shared i word }
-    ensures same_table { who.new.seat.table ≡ table.now.table }
+    ensures same_table { who.new.token.table ≡ table.now.table }
     ensures put { EndsPart who.old shared i word who.new }
 {
-    know(&who.seat);
+    know(&who.token);
     let place = slot_place(shared.root, shared.degree, i);
-    put_part(table, &mut who.seat, shared.rebuild, i, place, word);
+    put_part(table, &mut who.token, shared.rebuild, i, place, word);
 }
 
 // Builds part `i` of a shared root, whose slot was Unset, and returns its word.
 fn build_slot(table: &TreeTable, who: &mut Caller, shared: Shared, i: u64) -> Result<u64, Full>
-    requires same_table { who.old.seat.table ≡ table.now.table }
+    requires same_table { who.old.token.table ≡ table.now.table }
     requires ready { IsFreeToBuild who.old }
-    requires shared { IsSharedAs (now who.old.seat.view) shared }
+    requires shared { IsSharedAs (now who.old.token.view) shared }
     requires within { i < shared.degree }
-    requires unset { WasUnset who.old.seat.view who.old.number
+    requires unset { WasUnset who.old.token.view who.old.number
         (slot_place shared.root shared.degree i) }
-    ensures same_table { who.new.seat.table ≡ table.now.table }
+    ensures same_table { who.new.token.table ≡ table.now.table }
     ensures made { IfOk result (λ word. IsPartMade who.old who.new shared i word) }
     ensures back { IfErr result (λ full. IsBack who.old who.new) }
-    ensures full { IfErr result (λ full. IsStopped who.old.seat.view shared.rebuild
-        (word_count_of table.now) full who.new.seat.view) }
+    ensures full { IfErr result (λ full. IsStopped who.old.token.view shared.rebuild
+        (word_count_of table.now) full who.new.token.view) }
 {
-    know(&who.seat);
+    know(&who.token);
     let share = part(shared.keys, i);
     build_share(table, who, shared.target, share.start, share.len)
 }
 
 // Builds part `i` of a shared root and puts it in place, if its slot is Unset.
 fn fill_slot(table: &TreeTable, who: &mut Caller, shared: Shared, i: u64) -> Result<(), Full>
-    requires same_table { who.old.seat.table ≡ table.now.table }
+    requires same_table { who.old.token.table ≡ table.now.table }
     requires ready { IsFreeToBuild who.old }
-    requires shared { IsSharedAs (now who.old.seat.view) shared }
+    requires shared { IsSharedAs (now who.old.token.view) shared }
     requires within { i < shared.degree }
-    ensures same_table { who.new.seat.table ≡ table.now.table }
+    ensures same_table { who.new.token.table ≡ table.now.table }
     ensures back { IsBack who.old who.new }
-    ensures set { IfOk result (λ done. IsSlotSet (now who.new.seat.view) shared.root i) }
-    ensures full { IfErr result (λ full. IsStopped who.old.seat.view shared.rebuild
-        (word_count_of table.now) full who.new.seat.view) }
+    ensures set { IfOk result (λ done. IsSlotSet (now who.new.token.view) shared.root i) }
+    ensures full { IfErr result (λ full. IsStopped who.old.token.view shared.rebuild
+        (word_count_of table.now) full who.new.token.view) }
 {
     if slot_of(table, who, shared, i) != Ref::Unset.to_word() {
         return Ok(());
@@ -119,33 +119,33 @@ fn fill_slot(table: &TreeTable, who: &mut Caller, shared: Shared, i: u64) -> Res
 // number of slots. It loads the draw word before each draw, so that a draw past the last part is the
 // caller's last.
 fn draw(table: &TreeTable, who: &mut Caller, shared: Shared) -> u64
-    requires same_table { who.old.seat.table ≡ table.now.table }
+    requires same_table { who.old.token.table ≡ table.now.table }
     requires ready { IsFreeToBuild who.old }
-    requires shared { IsSharedAs (now who.old.seat.view) shared }
-    ensures same_table { who.new.seat.table ≡ table.now.table }
+    requires shared { IsSharedAs (now who.old.token.view) shared }
+    ensures same_table { who.new.token.table ≡ table.now.table }
     ensures back { IsBack who.old who.new }
 {
-    know(&who.seat);
+    know(&who.token);
     let place = u64::from(shared.rebuild) + REBUILD_DRAW_OFFSET;
-    let next = load(table, &mut who.seat, place);
+    let next = load(table, &mut who.token, place);
     if next >= shared.degree {
         return next;
     }
     // Draw. Meets the draws of other callers.
-    add(table, &mut who.seat, place)
+    add(table, &mut who.token, place)
 }
 
 // Draws parts and fills them, as long as there are parts to draw.
 fn fill_drawn(table: &TreeTable, who: &mut Caller, shared: Shared) -> Result<(), Full>
-    requires same_table { who.old.seat.table ≡ table.now.table }
+    requires same_table { who.old.token.table ≡ table.now.table }
     requires ready { IsFreeToBuild who.old }
-    requires shared { IsSharedAs (now who.old.seat.view) shared }
-    ensures same_table { who.new.seat.table ≡ table.now.table }
+    requires shared { IsSharedAs (now who.old.token.view) shared }
+    ensures same_table { who.new.token.table ≡ table.now.table }
     ensures back { IsBack who.old who.new }
-    ensures full { IfErr result (λ full. IsStopped who.old.seat.view shared.rebuild
-        (word_count_of table.now) full who.new.seat.view) }
+    ensures full { IfErr result (λ full. IsStopped who.old.token.view shared.rebuild
+        (word_count_of table.now) full who.new.token.view) }
 {
-    know(&who.seat);
+    know(&who.token);
     for _ in 0..shared.degree {
         let i = draw(table, who, shared);
         if i >= shared.degree {
@@ -158,16 +158,16 @@ fn fill_drawn(table: &TreeTable, who: &mut Caller, shared: Shared) -> Result<(),
 
 // Fills each slot that is still Unset.
 fn fill_unset(table: &TreeTable, who: &mut Caller, shared: Shared) -> Result<(), Full>
-    requires same_table { who.old.seat.table ≡ table.now.table }
+    requires same_table { who.old.token.table ≡ table.now.table }
     requires ready { IsFreeToBuild who.old }
-    requires shared { IsSharedAs (now who.old.seat.view) shared }
-    ensures same_table { who.new.seat.table ≡ table.now.table }
+    requires shared { IsSharedAs (now who.old.token.view) shared }
+    ensures same_table { who.new.token.table ≡ table.now.table }
     ensures back { IsBack who.old who.new }
-    ensures filled { IfOk result (λ done. IsBuiltOut (now who.new.seat.view) shared.rebuild) }
-    ensures full { IfErr result (λ full. IsStopped who.old.seat.view shared.rebuild
-        (word_count_of table.now) full who.new.seat.view) }
+    ensures filled { IfOk result (λ done. IsBuiltOut (now who.new.token.view) shared.rebuild) }
+    ensures full { IfErr result (λ full. IsStopped who.old.token.view shared.rebuild
+        (word_count_of table.now) full who.new.token.view) }
 {
-    know(&who.seat);
+    know(&who.token);
     for i in 0..shared.degree {
         fill_slot(table, who, shared, i)?;
     }
@@ -176,14 +176,14 @@ fn fill_unset(table: &TreeTable, who: &mut Caller, shared: Shared) -> Result<(),
 
 // Fills a shared root: first the parts that it draws, and then what is left.
 fn fill_shared(table: &TreeTable, who: &mut Caller, shared: Shared) -> Result<(), Full>
-    requires same_table { who.old.seat.table ≡ table.now.table }
+    requires same_table { who.old.token.table ≡ table.now.table }
     requires ready { IsFreeToBuild who.old }
-    requires shared { IsSharedAs (now who.old.seat.view) shared }
-    ensures same_table { who.new.seat.table ≡ table.now.table }
+    requires shared { IsSharedAs (now who.old.token.view) shared }
+    ensures same_table { who.new.token.table ≡ table.now.table }
     ensures back { IsBack who.old who.new }
-    ensures filled { IfOk result (λ done. IsBuiltOut (now who.new.seat.view) shared.rebuild) }
-    ensures full { IfErr result (λ full. IsStopped who.old.seat.view shared.rebuild
-        (word_count_of table.now) full who.new.seat.view) }
+    ensures filled { IfOk result (λ done. IsBuiltOut (now who.new.token.view) shared.rebuild) }
+    ensures full { IfErr result (λ full. IsStopped who.old.token.view shared.rebuild
+        (word_count_of table.now) full who.new.token.view) }
 {
     fill_drawn(table, who, shared)?;
     fill_unset(table, who, shared)
@@ -191,22 +191,22 @@ fn fill_shared(table: &TreeTable, who: &mut Caller, shared: Shared) -> Result<()
 
 // Returns the shared root of a rebuild.
 fn shared_root(table: &TreeTable, who: &mut Caller, rebuild: u32, target: Target) -> Shared
-    requires same_table { who.old.seat.table ≡ table.now.table }
+    requires same_table { who.old.token.table ≡ table.now.table }
     requires ready { IsFreeToBuild who.old }
-    requires told { IsTold (now who.old.seat.view) rebuild target.keys }
-    requires target { HasTarget (now who.old.seat.view) rebuild target.base }
-    requires rooted { IsRooted (now who.old.seat.view) rebuild }
+    requires told { IsTold (now who.old.token.view) rebuild target.keys }
+    requires target { HasTarget (now who.old.token.view) rebuild target.base }
+    requires rooted { IsRooted (now who.old.token.view) rebuild }
     requires many { share_from ≤ target.keys }
-    ensures same_table { who.new.seat.table ≡ table.now.table }
+    ensures same_table { who.new.token.table ≡ table.now.table }
     ensures back { IsBack who.old who.new }
-    ensures shared { IsSharedAs (now who.new.seat.view) result }
+    ensures shared { IsSharedAs (now who.new.token.view) result }
     ensures rebuild { result.rebuild ≡ rebuild }
 {
-    know(&who.seat);
+    know(&who.token);
     // The word of an inner row is 8 * base + 2.
     let root = load(
         table,
-        &mut who.seat,
+        &mut who.token,
         u64::from(rebuild) + REBUILD_ROOT_OFFSET,
     ) / 8;
     Shared {
@@ -220,17 +220,17 @@ fn shared_root(table: &TreeTable, who: &mut Caller, rebuild: u32, target: Target
 
 // Fills the shared root of a rebuild.
 fn fill_many(table: &TreeTable, who: &mut Caller, rebuild: u32, target: Target) -> Result<(), Full>
-    requires same_table { who.old.seat.table ≡ table.now.table }
+    requires same_table { who.old.token.table ≡ table.now.table }
     requires ready { IsFreeToBuild who.old }
-    requires told { IsTold (now who.old.seat.view) rebuild target.keys }
-    requires target { HasTarget (now who.old.seat.view) rebuild target.base }
-    requires rooted { IsRooted (now who.old.seat.view) rebuild }
+    requires told { IsTold (now who.old.token.view) rebuild target.keys }
+    requires target { HasTarget (now who.old.token.view) rebuild target.base }
+    requires rooted { IsRooted (now who.old.token.view) rebuild }
     requires many { share_from ≤ target.keys }
-    ensures same_table { who.new.seat.table ≡ table.now.table }
+    ensures same_table { who.new.token.table ≡ table.now.table }
     ensures back { IsBack who.old who.new }
-    ensures filled { IfOk result (λ done. IsBuiltOut (now who.new.seat.view) rebuild) }
+    ensures filled { IfOk result (λ done. IsBuiltOut (now who.new.token.view) rebuild) }
     ensures full { IfErr result (λ full.
-        IsStopped who.old.seat.view rebuild (word_count_of table.now) full who.new.seat.view) }
+        IsStopped who.old.token.view rebuild (word_count_of table.now) full who.new.token.view) }
 {
     let shared = shared_root(table, who, rebuild, target);
     fill_shared(table, who, shared)
@@ -243,18 +243,18 @@ fn fill_many(table: &TreeTable, who: &mut Caller, rebuild: u32, target: Target) 
 /// slot that is still Unset, so that it waits for nobody. Returns `Full` if too few words are left for
 /// a row of a part; its rows stay held.
 pub(crate) fn fill_root(table: &TreeTable, who: &mut Caller, rebuild: u32) -> Result<(), Full>
-    requires same_table { who.old.seat.table ≡ table.now.table }
+    requires same_table { who.old.token.table ≡ table.now.table }
     requires ready { IsFreeToBuild who.old }
-    requires buildable { IsBuildable (now who.old.seat.view) rebuild }
-    requires rooted { IsRooted (now who.old.seat.view) rebuild }
-    ensures same_table { who.new.seat.table ≡ table.now.table }
+    requires buildable { IsBuildable (now who.old.token.view) rebuild }
+    requires rooted { IsRooted (now who.old.token.view) rebuild }
+    ensures same_table { who.new.token.table ≡ table.now.table }
     ensures back { IsBack who.old who.new }
-    ensures filled { IfOk result (λ done. IsBuiltOut (now who.new.seat.view) rebuild) }
+    ensures filled { IfOk result (λ done. IsBuiltOut (now who.new.token.view) rebuild) }
     ensures full { IfErr result (λ full.
-        IsStopped who.old.seat.view rebuild (word_count_of table.now) full who.new.seat.view) }
+        IsStopped who.old.token.view rebuild (word_count_of table.now) full who.new.token.view) }
 {
     let target = find_target(table, who, rebuild);
-    know(&who.seat);
+    know(&who.token);
     if target.keys < SHARE_FROM {
         return Ok(());
     }

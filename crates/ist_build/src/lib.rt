@@ -2,7 +2,7 @@
 //!
 //! Read `specs/Calls.antt`, then `calls.rt`, `reading.rt` and `building.rt`. Uses `ist_core`,
 //! `ist_layout`, `ist_math`, `ist_rule`, `ist_rows`, `ist_dcss`, `ist_mark`, and the laws of
-//! `laws_links`, `laws_rebuilds`, `laws_stability`, `laws_rows` and `laws_coming`.
+//! `laws_links`, `laws_stability`, `laws_calls` and `laws_coming`.
 #![tactic(auto)]
 
 mod below;

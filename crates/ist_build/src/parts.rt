@@ -18,7 +18,7 @@ use crate::building::load_keys;
 use crate::reading::{Cursor, read_leaves};
 use ist_core::Full;
 use ist_rows::Caller;
-use ist_rule::{TreeSeat, TreeTable, know};
+use ist_rule::{TreeTable, TreeToken, know};
 
 // A target with fewer than `SHARE_FROM` keys has no more leaves than this.
 const FEW: usize = 256;
@@ -29,29 +29,29 @@ const MANY: usize = 16388;
 // Reads the leaves from number `start` on, one per element of `leaves`, and then loads their keys.
 fn read_out(
     table: &TreeTable,
-    seat: &mut TreeSeat,
+    token: &mut TreeToken,
     target: u32,
     start: u64,
     leaves: &mut [u32],
     keys: &mut [u64],
 )
-    requires same_table { seat.old.table ≡ table.now.table }
-    requires finished { HasKeys (now seat.old.view) target (start + length leaves.old) }
+    requires same_table { token.old.table ≡ table.now.table }
+    requires finished { HasKeys (now token.old.view) target (start + length leaves.old) }
     requires many { length keys.old ≡ length leaves.old }
-    ensures same_table { seat.new.table ≡ seat.old.table }
-    ensures read { HasReadOut seat.old.view target start (length leaves.old) leaves.new
-        seat.new.view }
+    ensures same_table { token.new.table ≡ token.old.table }
+    ensures read { HasReadOut token.old.view target start (length leaves.old) leaves.new
+        token.new.view }
     ensures many { length keys.new ≡ length leaves.new }
-    ensures keys { AreKeysOf (now seat.new.view) leaves.new keys.new }
+    ensures keys { AreKeysOf (now token.new.view) leaves.new keys.new }
 {
-    know(seat);
+    know(token);
     let at = Cursor {
         skip: start,
         count: 0,
     };
-    read_leaves(table, seat, target, leaves, at);
-    know(seat);
-    load_keys(table, seat, leaves, keys);
+    read_leaves(table, token, target, leaves, at);
+    know(token);
+    load_keys(table, token, leaves, keys);
 }
 
 // Builds over the leaves from number `start` on, one per element of `leaves`. It reads all leaves,
@@ -64,28 +64,28 @@ fn build_read(
     leaves: &mut [u32],
     keys: &mut [u64],
 ) -> Result<u64, Full>
-    requires same_table { who.old.seat.table ≡ table.now.table }
+    requires same_table { who.old.token.table ≡ table.now.table }
     requires caller { IsCaller who.old }
     requires due { 2 ≤ length leaves.old → IsDue who.old (length leaves.old) }
-    requires finished { HasKeys (now who.old.seat.view) target (start + length leaves.old) }
+    requires finished { HasKeys (now who.old.token.view) target (start + length leaves.old) }
     requires many { length keys.old ≡ length leaves.old }
     requires few { length leaves.old < place_limit }
-    ensures same_table { who.new.seat.table ≡ table.now.table }
+    ensures same_table { who.new.token.table ≡ table.now.table }
     ensures caller { IsCaller who.new }
     ensures number { who.new.number ≡ who.old.number }
     ensures rows { spares_of who.new ≡ spares_of who.old }
-    ensures built { BuiltOn who.old.seat.view who.new.seat.view }
+    ensures built { BuiltOn who.old.token.view who.new.token.view }
     ensures laid { IfOk result (λ word. (all : List PlacedLeaf)
-        → HasLeaves (now who.old.seat.view).pieces (Some (InnerAt target)) all
-        → IsLaid who.new.seat.view who.new.number (now who.old.seat.view).next word
+        → HasLeaves (now who.old.token.view).pieces (Some (InnerAt target)) all
+        → IsLaid who.new.token.view who.new.number (now who.old.token.view).next word
         (take (length leaves.old) (drop start all))) }
     ensures taken { IfOk result (λ word. HasTaken who.old (shape (length leaves.old)) who.new) }
-    ensures full { IfErr result (λ full. IsShort who.old.seat.view (word_count_of table.now)
-        (length leaves.old) full who.new.seat.view) }
+    ensures full { IfErr result (λ full. IsShort who.old.token.view (word_count_of table.now)
+        (length leaves.old) full who.new.token.view) }
     ensures refused { IfErr result (λ full. HasRefused who.new) }
 {
-    know(&who.seat);
-    read_out(table, &mut who.seat, target, start, leaves, keys);
+    know(&who.token);
+    read_out(table, &mut who.token, target, start, leaves, keys);
     build_at_once(table, who, leaves, keys)
 }
 
@@ -96,23 +96,23 @@ fn build_few(
     start: u64,
     len: u64,
 ) -> Result<u64, Full>
-    requires same_table { who.old.seat.table ≡ table.now.table }
+    requires same_table { who.old.token.table ≡ table.now.table }
     requires caller { IsCaller who.old }
     requires due { 2 ≤ len → IsDue who.old len }
-    requires finished { HasKeys (now who.old.seat.view) target (start + len) }
+    requires finished { HasKeys (now who.old.token.view) target (start + len) }
     requires few { len ≤ 256 }
-    ensures same_table { who.new.seat.table ≡ table.now.table }
+    ensures same_table { who.new.token.table ≡ table.now.table }
     ensures caller { IsCaller who.new }
     ensures number { who.new.number ≡ who.old.number }
     ensures rows { spares_of who.new ≡ spares_of who.old }
-    ensures built { BuiltOn who.old.seat.view who.new.seat.view }
+    ensures built { BuiltOn who.old.token.view who.new.token.view }
     ensures laid { IfOk result (λ word. (all : List PlacedLeaf)
-        → HasLeaves (now who.old.seat.view).pieces (Some (InnerAt target)) all
-        → IsLaid who.new.seat.view who.new.number (now who.old.seat.view).next word
+        → HasLeaves (now who.old.token.view).pieces (Some (InnerAt target)) all
+        → IsLaid who.new.token.view who.new.number (now who.old.token.view).next word
         (take len (drop start all))) }
     ensures taken { IfOk result (λ word. HasTaken who.old (shape len) who.new) }
-    ensures full { IfErr result (λ full. IsShort who.old.seat.view (word_count_of table.now) len
-        full who.new.seat.view) }
+    ensures full { IfErr result (λ full. IsShort who.old.token.view (word_count_of table.now) len
+        full who.new.token.view) }
     ensures refused { IfErr result (λ full. HasRefused who.new) }
 {
     let mut leaves = [0; FEW];
@@ -135,23 +135,23 @@ fn build_many(
     start: u64,
     len: u64,
 ) -> Result<u64, Full>
-    requires same_table { who.old.seat.table ≡ table.now.table }
+    requires same_table { who.old.token.table ≡ table.now.table }
     requires caller { IsCaller who.old }
     requires due { 2 ≤ len → IsDue who.old len }
-    requires finished { HasKeys (now who.old.seat.view) target (start + len) }
+    requires finished { HasKeys (now who.old.token.view) target (start + len) }
     requires few { len ≤ 16388 }
-    ensures same_table { who.new.seat.table ≡ table.now.table }
+    ensures same_table { who.new.token.table ≡ table.now.table }
     ensures caller { IsCaller who.new }
     ensures number { who.new.number ≡ who.old.number }
     ensures rows { spares_of who.new ≡ spares_of who.old }
-    ensures built { BuiltOn who.old.seat.view who.new.seat.view }
+    ensures built { BuiltOn who.old.token.view who.new.token.view }
     ensures laid { IfOk result (λ word. (all : List PlacedLeaf)
-        → HasLeaves (now who.old.seat.view).pieces (Some (InnerAt target)) all
-        → IsLaid who.new.seat.view who.new.number (now who.old.seat.view).next word
+        → HasLeaves (now who.old.token.view).pieces (Some (InnerAt target)) all
+        → IsLaid who.new.token.view who.new.number (now who.old.token.view).next word
         (take len (drop start all))) }
     ensures taken { IfOk result (λ word. HasTaken who.old (shape len) who.new) }
-    ensures full { IfErr result (λ full. IsShort who.old.seat.view (word_count_of table.now) len
-        full who.new.seat.view) }
+    ensures full { IfErr result (λ full. IsShort who.old.token.view (word_count_of table.now) len
+        full who.new.token.view) }
     ensures refused { IfErr result (λ full. HasRefused who.new) }
 {
     let mut leaves = [0; MANY];
@@ -179,28 +179,28 @@ pub(crate) fn build_share(
     start: u64,
     len: u64,
 ) -> Result<u64, Full>
-    requires same_table { who.old.seat.table ≡ table.now.table }
+    requires same_table { who.old.token.table ≡ table.now.table }
     requires caller { IsCaller who.old }
     requires refused { HasRefused who.old }
-    requires share { MayBuild (now who.old.seat.view) target start len }
-    ensures same_table { who.new.seat.table ≡ table.now.table }
+    requires share { MayBuild (now who.old.token.view) target start len }
+    ensures same_table { who.new.token.table ≡ table.now.table }
     ensures caller { IsCaller who.new }
     ensures number { who.new.number ≡ who.old.number }
     ensures rows { spares_of who.new ≡ spares_of who.old }
-    ensures built { BuiltOn who.old.seat.view who.new.seat.view }
+    ensures built { BuiltOn who.old.token.view who.new.token.view }
     ensures laid { IfOk result (λ word. (all : List PlacedLeaf)
-        → HasLeaves (now who.old.seat.view).pieces (Some (InnerAt target)) all
-        → IsLaid who.new.seat.view who.new.number (now who.old.seat.view).next word
+        → HasLeaves (now who.old.token.view).pieces (Some (InnerAt target)) all
+        → IsLaid who.new.token.view who.new.number (now who.old.token.view).next word
         (take len (drop start all))) }
     ensures at { IfOk result (λ word. 2 ≤ len
         → IsInBuild who.new (sizes_built who.old) (shape len) []) }
-    ensures full { IfErr result (λ full. IsShort who.old.seat.view (word_count_of table.now) len
-        full who.new.seat.view) }
+    ensures full { IfErr result (λ full. IsShort who.old.token.view (word_count_of table.now) len
+        full who.new.token.view) }
     ensures refused { IfErr result (λ full. HasRefused who.new) }
 {
     if len <= FEW as u64 {
         return build_few(table, who, target, start, len);
     }
-    know(&who.seat);
+    know(&who.token);
     build_many(table, who, target, start, len)
 }

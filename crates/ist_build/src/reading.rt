@@ -12,7 +12,7 @@ ghost use Rattle.ist_build.specs.Reading.{HasSlots, IsUnder, HasRead};
 use crate::below::Below;
 use ist_dcss::{change_in, target_of};
 use ist_layout::{CHANGE_FROM_OFFSET, INNER_DEGREE_OFFSET, INNER_STATUS_OFFSET, Ref, slot_place};
-use ist_rule::{TreeSeat, TreeTable, know, load};
+use ist_rule::{TreeTable, TreeToken, know, load};
 
 // How far the reading is: how many leaves must still be skipped, and how many were written.
 #[derive(Clone, Copy, Drop)]
@@ -27,40 +27,43 @@ pub(crate) struct Cursor {
 #[inline(always)]
 fn passed_word(
     table: &TreeTable,
-    seat: &mut TreeSeat,
+    token: &mut TreeToken,
     node: u32,
     degree: u64,
     index: u64,
 ) -> (u64, u64)
-    requires same_table { seat.old.table ≡ table.now.table }
-    requires slots { HasSlots seat.old.view node degree }
+    requires same_table { token.old.table ≡ table.now.table }
+    requires slots { HasSlots token.old.view node degree }
     requires within { index < degree }
-    ensures same_table { seat.new.table ≡ seat.old.table }
-    ensures seen { GoesOnTo seat.old.view seat.new.view }
-    ensures frozen { IsFrozen seat.new.view.log node index result.0 }
-    ensures counted { seat.new.view.loaded ≡ seat.old.view.loaded + result.1 }
+    ensures same_table { token.new.table ≡ token.old.table }
+    ensures seen { GoesOnTo token.old.view token.new.view }
+    ensures frozen { IsFrozen token.new.view.log node index result.0 }
+    ensures counted { token.new.view.loaded ≡ token.old.view.loaded + result.1 }
     ensures few { result.1 ≤ 2 }
 {
-    know(seat);
-    let word = load(table, seat, slot_place(node, degree, index));
+    know(token);
+    let word = load(table, token, slot_place(node, degree, index));
     match change_in(word) {
-        Some(change) => (load(table, seat, u64::from(change) + CHANGE_FROM_OFFSET), 2),
+        Some(change) => (
+            load(table, token, u64::from(change) + CHANGE_FROM_OFFSET),
+            2,
+        ),
         None => (word, 1),
     }
 }
 
 // Returns the number of keys with which the node is finished.
-pub(crate) fn keys_of(table: &TreeTable, seat: &mut TreeSeat, node: u32) -> u64
-    requires same_table { seat.old.table ≡ table.now.table }
-    requires finished { IsFinished (now seat.old.view) node }
-    ensures same_table { seat.new.table ≡ seat.old.table }
-    ensures seen { GoesOnTo seat.old.view seat.new.view }
-    ensures finished { IsFinishedWith (now seat.new.view) node result }
-    ensures counted { seat.new.view.loaded ≡ seat.old.view.loaded + 1 }
+pub(crate) fn keys_of(table: &TreeTable, token: &mut TreeToken, node: u32) -> u64
+    requires same_table { token.old.table ≡ table.now.table }
+    requires finished { IsFinished (now token.old.view) node }
+    ensures same_table { token.new.table ≡ token.old.table }
+    ensures seen { GoesOnTo token.old.view token.new.view }
+    ensures finished { IsFinishedWith (now token.new.view) node result }
+    ensures counted { token.new.view.loaded ≡ token.old.view.loaded + 1 }
 {
-    know(seat);
+    know(token);
     // A finished status is 4 * keys + 3.
-    load(table, seat, u64::from(node) + INNER_STATUS_OFFSET) / 4
+    load(table, token, u64::from(node) + INNER_STATUS_OFFSET) / 4
 }
 
 // Returns what hangs below a slot of the finished node, and how many loads it took to find out. Inlined
@@ -68,32 +71,32 @@ pub(crate) fn keys_of(table: &TreeTable, seat: &mut TreeSeat, node: u32) -> u64
 #[inline(always)]
 pub(crate) fn look_below(
     table: &TreeTable,
-    seat: &mut TreeSeat,
+    token: &mut TreeToken,
     node: u32,
     degree: u64,
     index: u64,
 ) -> (Below, u64)
-    requires same_table { seat.old.table ≡ table.now.table }
-    requires slots { HasSlots seat.old.view node degree }
+    requires same_table { token.old.table ≡ table.now.table }
+    requires slots { HasSlots token.old.view node degree }
     requires within { index < degree }
-    ensures same_table { seat.new.table ≡ seat.old.table }
-    ensures seen { GoesOnTo seat.old.view seat.new.view }
-    ensures under { IsUnder seat.new.view node index result.0 }
-    ensures counted { seat.new.view.loaded ≡ seat.old.view.loaded + result.1 }
+    ensures same_table { token.new.table ≡ token.old.table }
+    ensures seen { GoesOnTo token.old.view token.new.view }
+    ensures under { IsUnder token.new.view node index result.0 }
+    ensures counted { token.new.view.loaded ≡ token.old.view.loaded + result.1 }
     ensures few { result.1 ≤ 4 }
 {
-    let passed = passed_word(table, seat, node, degree, index);
-    know(seat);
+    let passed = passed_word(table, token, node, degree, index);
+    know(token);
     match Ref::from_word(passed.0) {
         Some(Ref::Empty) => (Below::Nothing, passed.1),
         Some(Ref::Leaf { base }) => (Below::Leaf { base }, passed.1),
         Some(Ref::Inner { base }) => {
-            let keys = keys_of(table, seat, base);
+            let keys = keys_of(table, token, base);
             (Below::Row { base, keys }, passed.1 + 1)
         }
         Some(Ref::Rebuild { base }) => {
-            let target = target_of(table, seat, base);
-            let keys = keys_of(table, seat, target);
+            let target = target_of(table, token, base);
+            let keys = keys_of(table, token, target);
             (Below::Row { base: target, keys }, passed.1 + 2)
         }
         Some(Ref::Unset) => unreachable!(),
@@ -126,43 +129,43 @@ fn take_leaf(base: u32, into: &mut [u32], at: Cursor) -> Cursor
 }
 
 // Returns the number of slots of the finished node.
-pub(crate) fn degree_of(table: &TreeTable, seat: &mut TreeSeat, node: u32) -> u64
-    requires same_table { seat.old.table ≡ table.now.table }
-    requires finished { IsFinished (now seat.old.view) node }
-    ensures same_table { seat.new.table ≡ seat.old.table }
-    ensures seen { GoesOnTo seat.old.view seat.new.view }
-    ensures slots { HasSlots seat.new.view node result }
-    ensures counted { seat.new.view.loaded ≡ seat.old.view.loaded + 1 }
+pub(crate) fn degree_of(table: &TreeTable, token: &mut TreeToken, node: u32) -> u64
+    requires same_table { token.old.table ≡ table.now.table }
+    requires finished { IsFinished (now token.old.view) node }
+    ensures same_table { token.new.table ≡ token.old.table }
+    ensures seen { GoesOnTo token.old.view token.new.view }
+    ensures slots { HasSlots token.new.view node result }
+    ensures counted { token.new.view.loaded ≡ token.old.view.loaded + 1 }
 {
-    know(seat);
-    load(table, seat, u64::from(node) + INNER_DEGREE_OFFSET)
+    know(token);
+    load(table, token, u64::from(node) + INNER_DEGREE_OFFSET)
 }
 
 // Reads the leaves below one slot.
 #[cycle(reading)]
 fn read_slot(
     table: &TreeTable,
-    seat: &mut TreeSeat,
+    token: &mut TreeToken,
     node: u32,
     degree: u64,
     index: u64,
     into: &mut [u32],
     at: Cursor,
 ) -> Cursor
-    requires same_table { seat.old.table ≡ table.now.table }
-    requires slots { HasSlots seat.old.view node degree }
+    requires same_table { token.old.table ≡ table.now.table }
+    requires slots { HasSlots token.old.view node degree }
     requires index_within { index < degree }
     requires within { at.count ≤ length into.old }
-    ensures same_table { seat.new.table ≡ seat.old.table }
-    ensures seen { GoesOnTo seat.old.view seat.new.view }
+    ensures same_table { token.new.table ≡ token.old.table }
+    ensures seen { GoesOnTo token.old.view token.new.view }
     ensures within { result.count ≤ length into.new }
     ensures read { (word : ℕ) (leaves : List PlacedLeaf)
-        → SlotHolds (now seat.old.view) node index word
-        → HasLeaves (now seat.old.view).pieces (logical (now seat.old.view).pieces word) leaves
+        → SlotHolds (now token.old.view) node index word
+        → HasLeaves (now token.old.view).pieces (logical (now token.old.view).pieces word) leaves
         → HasRead into.old at leaves into.new result }
 {
-    know(seat);
-    match look_below(table, seat, node, degree, index).0 {
+    know(token);
+    match look_below(table, token, node, degree, index).0 {
         Below::Nothing => at,
         Below::Leaf { base } => take_leaf(base, into, at),
         Below::Row { base, keys } => {
@@ -172,7 +175,7 @@ fn read_slot(
                     count: at.count,
                 };
             }
-            read_leaves(table, seat, base, into, at)
+            read_leaves(table, token, base, into, at)
         }
     }
 }
@@ -182,29 +185,29 @@ fn read_slot(
 #[cycle(reading)]
 pub(crate) fn read_leaves(
     table: &TreeTable,
-    seat: &mut TreeSeat,
+    token: &mut TreeToken,
     node: u32,
     into: &mut [u32],
     at: Cursor,
 ) -> Cursor
-    requires same_table { seat.old.table ≡ table.now.table }
-    requires finished { IsFinished (now seat.old.view) node }
+    requires same_table { token.old.table ≡ table.now.table }
+    requires finished { IsFinished (now token.old.view) node }
     requires within { at.count ≤ length into.old }
-    ensures same_table { seat.new.table ≡ seat.old.table }
-    ensures seen { GoesOnTo seat.old.view seat.new.view }
+    ensures same_table { token.new.table ≡ token.old.table }
+    ensures seen { GoesOnTo token.old.view token.new.view }
     ensures within { result.count ≤ length into.new }
     ensures read { (leaves : List PlacedLeaf)
-        → HasLeaves (now seat.old.view).pieces (Some (InnerAt node)) leaves
+        → HasLeaves (now token.old.view).pieces (Some (InnerAt node)) leaves
         → HasRead into.old at leaves into.new result }
 {
-    know(seat);
-    let degree = degree_of(table, seat, node);
+    know(token);
+    let degree = degree_of(table, token, node);
     let mut at = at;
     for index in 0..degree {
         if at.count == into.len() {
             return at;
         }
-        at = read_slot(table, seat, node, degree, index, into, at);
+        at = read_slot(table, token, node, degree, index, into, at);
     }
     at
 }

@@ -24,23 +24,23 @@ use ist_core::Full;
 use ist_layout::{REBUILD_ROOT_OFFSET, Ref};
 use ist_math::SHARE_FROM;
 use ist_rows::Caller;
-use ist_rule::{TreeSeat, TreeTable, exchange, exchange_or_lose, know, load};
+use ist_rule::{TreeTable, TreeToken, exchange, exchange_or_lose, know, load};
 
 // Returns the word in a rebuild's root field.
 fn root_of(table: &TreeTable, who: &mut Caller, rebuild: u32) -> u64
-    requires same_table { who.old.seat.table ≡ table.now.table }
+    requires same_table { who.old.token.table ≡ table.now.table }
     requires ready { IsFreeToBuild who.old }
-    requires buildable { IsBuildable (now who.old.seat.view) rebuild }
-    ensures same_table { who.new.seat.table ≡ table.now.table }
+    requires buildable { IsBuildable (now who.old.token.view) rebuild }
+    ensures same_table { who.new.token.table ≡ table.now.table }
     ensures back { IsBack who.old who.new }
-    ensures set { result ≢ unset_word → HasRoot (now who.new.seat.view) rebuild result }
+    ensures set { result ≢ unset_word → HasRoot (now who.new.token.view) rebuild result }
     ensures unset { result ≡ unset_word
-        → WasUnset who.new.seat.view who.new.number (rebuild + rebuild_root_offset) }
+        → WasUnset who.new.token.view who.new.number (rebuild + rebuild_root_offset) }
 {
-    know(&who.seat);
+    know(&who.token);
     load(
         table,
-        &mut who.seat,
+        &mut who.token,
         u64::from(rebuild) + REBUILD_ROOT_OFFSET,
     )
 }
@@ -48,24 +48,24 @@ fn root_of(table: &TreeTable, who: &mut Caller, rebuild: u32) -> u64
 // Builds a root over the leaves of a finished target with two keys or more, and returns its word: the
 // whole ideal subtree, or from `SHARE_FROM` keys on only its top row.
 fn build_root(table: &TreeTable, who: &mut Caller, target: u32, keys: u64) -> Result<u64, Full>
-    requires same_table { who.old.seat.table ≡ table.now.table }
+    requires same_table { who.old.token.table ≡ table.now.table }
     requires caller { IsCaller who.old }
     requires refused { HasRefused who.old }
-    requires target { IsTarget (now who.old.seat.view) target keys }
+    requires target { IsTarget (now who.old.token.view) target keys }
     requires several { 2 ≤ keys }
-    ensures same_table { who.new.seat.table ≡ table.now.table }
+    ensures same_table { who.new.token.table ≡ table.now.table }
     ensures caller { IsCaller who.new }
     ensures number { who.new.number ≡ who.old.number }
     ensures rows { spares_of who.new ≡ spares_of who.old }
-    ensures built { BuiltOn who.old.seat.view who.new.seat.view }
+    ensures built { BuiltOn who.old.token.view who.new.token.view }
     ensures laid { IfOk result (λ word. (leaves : List PlacedLeaf)
-        → HasLeaves (now who.old.seat.view).pieces (Some (InnerAt target)) leaves
+        → HasLeaves (now who.old.token.view).pieces (Some (InnerAt target)) leaves
         → IsRootLaid who.old who.new target keys word leaves) }
     ensures full { IfErr result (λ full.
-        IsShort who.old.seat.view (word_count_of table.now) keys full who.new.seat.view) }
+        IsShort who.old.token.view (word_count_of table.now) keys full who.new.token.view) }
     ensures refused { IfErr result (λ full. HasRefused who.new) }
 {
-    know(&who.seat);
+    know(&who.token);
     if keys < SHARE_FROM {
         return build_share(table, who, target, 0, keys);
     }
@@ -75,75 +75,75 @@ fn build_root(table: &TreeTable, who: &mut Caller, target: u32, keys: u64) -> Re
 // Puts a root that was built in place, if the rebuild has none yet, and returns the root that it then
 // has.
 fn put_root(table: &TreeTable, who: &mut Caller, rebuild: u32, word: u64) -> u64
-    requires same_table { who.old.seat.table ≡ table.now.table }
+    requires same_table { who.old.token.table ≡ table.now.table }
     requires made { RootWasMade who.old rebuild word }
-    ensures same_table { who.new.seat.table ≡ table.now.table }
+    ensures same_table { who.new.token.table ≡ table.now.table }
     ensures put { EndsRoot who.old rebuild word who.new result }
 {
-    know(&who.seat);
+    know(&who.token);
     let unset = Ref::Unset.to_word();
     let place = u64::from(rebuild) + REBUILD_ROOT_OFFSET;
     // Root, or the Lose of these rows. Meets another caller's root.
-    let stood = exchange_or_lose(table, &mut who.seat, place, unset, word);
+    let stood = exchange_or_lose(table, &mut who.token, place, unset, word);
     if stood == unset { word } else { stood }
 }
 
 // Builds a root of inner rows and puts it in place, and returns the root that the rebuild then has.
 fn set_rows(table: &TreeTable, who: &mut Caller, rebuild: u32, target: Target) -> Result<u64, Full>
-    requires same_table { who.old.seat.table ≡ table.now.table }
+    requires same_table { who.old.token.table ≡ table.now.table }
     requires ready { IsFreeToBuild who.old }
-    requires told { IsTold (now who.old.seat.view) rebuild target.keys }
-    requires target { HasTarget (now who.old.seat.view) rebuild target.base }
+    requires told { IsTold (now who.old.token.view) rebuild target.keys }
+    requires target { HasTarget (now who.old.token.view) rebuild target.base }
     requires several { 2 ≤ target.keys }
-    requires unset { WasUnset who.old.seat.view who.old.number (rebuild + rebuild_root_offset) }
-    ensures same_table { who.new.seat.table ≡ table.now.table }
+    requires unset { WasUnset who.old.token.view who.old.number (rebuild + rebuild_root_offset) }
+    ensures same_table { who.new.token.table ≡ table.now.table }
     ensures back { IsBack who.old who.new }
-    ensures root { IfOk result (λ word. HasRoot (now who.new.seat.view) rebuild word) }
+    ensures root { IfOk result (λ word. HasRoot (now who.new.token.view) rebuild word) }
     ensures full { IfErr result (λ full.
-        IsStopped who.old.seat.view rebuild (word_count_of table.now) full who.new.seat.view) }
+        IsStopped who.old.token.view rebuild (word_count_of table.now) full who.new.token.view) }
 {
-    know(&who.seat);
+    know(&who.token);
     let word = build_root(table, who, target.base, target.keys)?;
     Ok(put_root(table, who, rebuild, word))
 }
 
 // Returns the root over no key or over one, which has no rows.
-fn small_root(table: &TreeTable, seat: &mut TreeSeat, target: u32, keys: u64) -> u64
-    requires same_table { seat.old.table ≡ table.now.table }
-    requires finished { IsFinishedWith (now seat.old.view) target keys }
+fn small_root(table: &TreeTable, token: &mut TreeToken, target: u32, keys: u64) -> u64
+    requires same_table { token.old.table ≡ table.now.table }
+    requires finished { IsFinishedWith (now token.old.view) target keys }
     requires few { keys < 2 }
-    ensures same_table { seat.new.table ≡ seat.old.table }
-    ensures seen { GoesOnTo seat.old.view seat.new.view }
+    ensures same_table { token.new.table ≡ token.old.table }
+    ensures seen { GoesOnTo token.old.view token.new.view }
     ensures root { (leaves : List PlacedLeaf)
-        → HasLeaves (now seat.old.view).pieces (Some (InnerAt target)) leaves
-        → IsRoot (now seat.new.view).pieces result keys leaves target [] }
+        → HasLeaves (now token.old.view).pieces (Some (InnerAt target)) leaves
+        → IsRoot (now token.new.view).pieces result keys leaves target [] }
 {
-    know(seat);
+    know(token);
     if keys == 0 {
         return Ref::Empty.to_word();
     }
-    let base = leaf_base(table, seat, target, 0).base;
+    let base = leaf_base(table, token, target, 0).base;
     Ref::Leaf { base }.to_word()
 }
 
 // Puts a root without rows in place, and returns the root that the rebuild then has.
 fn set_small(table: &TreeTable, who: &mut Caller, rebuild: u32, target: Target) -> u64
-    requires same_table { who.old.seat.table ≡ table.now.table }
+    requires same_table { who.old.token.table ≡ table.now.table }
     requires ready { IsFreeToBuild who.old }
-    requires told { IsTold (now who.old.seat.view) rebuild target.keys }
-    requires target { HasTarget (now who.old.seat.view) rebuild target.base }
+    requires told { IsTold (now who.old.token.view) rebuild target.keys }
+    requires target { HasTarget (now who.old.token.view) rebuild target.base }
     requires few { target.keys < 2 }
-    ensures same_table { who.new.seat.table ≡ table.now.table }
+    ensures same_table { who.new.token.table ≡ table.now.table }
     ensures back { IsBack who.old who.new }
-    ensures root { HasRoot (now who.new.seat.view) rebuild result }
+    ensures root { HasRoot (now who.new.token.view) rebuild result }
 {
-    know(&who.seat);
-    let word = small_root(table, &mut who.seat, target.base, target.keys);
-    know(&who.seat);
+    know(&who.token);
+    let word = small_root(table, &mut who.token, target.base, target.keys);
+    know(&who.token);
     let unset = Ref::Unset.to_word();
     let place = u64::from(rebuild) + REBUILD_ROOT_OFFSET;
     // Root. Meets another caller's: then there are no rows to lose, and it is a load.
-    let stood = exchange(table, &mut who.seat, place, unset, word);
+    let stood = exchange(table, &mut who.token, place, unset, word);
     if stood == unset { word } else { stood }
 }
 
@@ -154,14 +154,14 @@ fn set_small(table: &TreeTable, who: &mut Caller, rebuild: u32, target: Target) 
 /// first, that root is returned, and what this caller built is lost. Returns `Full` if too few words
 /// are left for a row of the build; its rows stay held.
 pub(crate) fn place_root(table: &TreeTable, who: &mut Caller, rebuild: u32) -> Result<u64, Full>
-    requires same_table { who.old.seat.table ≡ table.now.table }
+    requires same_table { who.old.token.table ≡ table.now.table }
     requires ready { IsFreeToBuild who.old }
-    requires buildable { IsBuildable (now who.old.seat.view) rebuild }
-    ensures same_table { who.new.seat.table ≡ table.now.table }
+    requires buildable { IsBuildable (now who.old.token.view) rebuild }
+    ensures same_table { who.new.token.table ≡ table.now.table }
     ensures back { IsBack who.old who.new }
-    ensures root { IfOk result (λ word. HasRoot (now who.new.seat.view) rebuild word) }
+    ensures root { IfOk result (λ word. HasRoot (now who.new.token.view) rebuild word) }
     ensures full { IfErr result (λ full.
-        IsStopped who.old.seat.view rebuild (word_count_of table.now) full who.new.seat.view) }
+        IsStopped who.old.token.view rebuild (word_count_of table.now) full who.new.token.view) }
 {
     let stood = root_of(table, who, rebuild);
     if stood != Ref::Unset.to_word() {

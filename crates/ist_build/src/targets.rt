@@ -19,16 +19,16 @@ pub(crate) struct Target {
 
 // Finds the target of a started rebuild, which is finished.
 pub(crate) fn find_target(table: &TreeTable, who: &mut Caller, rebuild: u32) -> Target
-    requires same_table { who.old.seat.table ≡ table.now.table }
+    requires same_table { who.old.token.table ≡ table.now.table }
     requires ready { IsFreeToBuild who.old }
-    requires buildable { IsBuildable (now who.old.seat.view) rebuild }
-    ensures same_table { who.new.seat.table ≡ table.now.table }
+    requires buildable { IsBuildable (now who.old.token.view) rebuild }
+    ensures same_table { who.new.token.table ≡ table.now.table }
     ensures back { IsBack who.old who.new }
-    ensures seen { GoesOnTo who.old.seat.view who.new.seat.view }
-    ensures told { IsTold (now who.new.seat.view) rebuild result.keys }
-    ensures target { HasTarget (now who.new.seat.view) rebuild result.base }
+    ensures seen { GoesOnTo who.old.token.view who.new.token.view }
+    ensures told { IsTold (now who.new.token.view) rebuild result.keys }
+    ensures target { HasTarget (now who.new.token.view) rebuild result.base }
 {
-    let base = target_of(table, &mut who.seat, rebuild);
-    let keys = keys_of(table, &mut who.seat, base);
+    let base = target_of(table, &mut who.token, rebuild);
+    let keys = keys_of(table, &mut who.token, base);
     Target { base, keys }
 }

@@ -19,22 +19,22 @@ use ist_core::Full;
 use ist_layout::Ref;
 use ist_math::{degree, part};
 use ist_rows::{Caller, reserve_inner};
-use ist_rule::{TreeSeat, TreeTable, know};
+use ist_rule::{TreeTable, TreeToken, know};
 
 // Returns the key number `i` of a finished target, counted from 0.
-fn key_at(table: &TreeTable, seat: &mut TreeSeat, target: u32, i: u64) -> u64
-    requires same_table { seat.old.table ≡ table.now.table }
-    requires finished { HasKeys (now seat.old.view) target (i + 1) }
-    ensures same_table { seat.new.table ≡ seat.old.table }
-    ensures seen { GoesOnTo seat.old.view seat.new.view }
+fn key_at(table: &TreeTable, token: &mut TreeToken, target: u32, i: u64) -> u64
+    requires same_table { token.old.table ≡ table.now.table }
+    requires finished { HasKeys (now token.old.view) target (i + 1) }
+    ensures same_table { token.new.table ≡ token.old.table }
+    ensures seen { GoesOnTo token.old.view token.new.view }
     ensures key { (leaves : List PlacedLeaf)
-        → HasLeaves (now seat.old.view).pieces (Some (InnerAt target)) leaves
+        → HasLeaves (now token.old.view).pieces (Some (InnerAt target)) leaves
         → (leaf : PlacedLeaf) → (others : List PlacedLeaf) → drop i leaves ≡ leaf ∷ others
         → result ≡ leaf.row.key }
 {
-    know(seat);
-    let leaf = leaf_base(table, seat, target, i).base;
-    key_of(table, seat, leaf)
+    know(token);
+    let leaf = leaf_base(table, token, target, i).base;
+    key_of(table, token, leaf)
 }
 
 // Reserves the top row of the ideal tree over a finished target, and stores its first words.
@@ -45,20 +45,20 @@ fn begin_top(
     keys: u64,
     degree: u64,
 ) -> Result<u32, Full>
-    requires same_table { who.old.seat.table ≡ table.now.table }
+    requires same_table { who.old.token.table ≡ table.now.table }
     requires caller { IsCaller who.old }
     requires refused { HasRefused who.old }
-    requires target { IsTarget (now who.old.seat.view) target keys }
+    requires target { IsTarget (now who.old.token.view) target keys }
     requires many { share_from ≤ keys }
     requires degree_is { degree ≡ degree_of keys }
     requires some { 1 ≤ degree }
     requires small { degree < place_limit }
-    ensures same_table { who.new.seat.table ≡ table.now.table }
+    ensures same_table { who.new.token.table ≡ table.now.table }
     ensures begun { IfOk result (λ base. IsTopMidway who.old target keys base degree 0 who.new) }
     ensures refused { IfErr result (λ full. IsTopRowRefused who.old (word_count_of table.now) keys full
         who.new) }
 {
-    know(&who.seat);
+    know(&who.token);
     let base = reserve_inner(table, who, degree)?;
     open_row(table, who, base, degree, keys);
     Ok(base)
@@ -72,33 +72,33 @@ pub(crate) fn build_top(
     target: u32,
     keys: u64,
 ) -> Result<u64, Full>
-    requires same_table { who.old.seat.table ≡ table.now.table }
+    requires same_table { who.old.token.table ≡ table.now.table }
     requires caller { IsCaller who.old }
     requires refused { HasRefused who.old }
-    requires target { IsTarget (now who.old.seat.view) target keys }
+    requires target { IsTarget (now who.old.token.view) target keys }
     requires many { share_from ≤ keys }
-    ensures same_table { who.new.seat.table ≡ table.now.table }
+    ensures same_table { who.new.token.table ≡ table.now.table }
     ensures caller { IsCaller who.new }
     ensures number { who.new.number ≡ who.old.number }
     ensures rows { spares_of who.new ≡ spares_of who.old }
-    ensures built { BuiltOn who.old.seat.view who.new.seat.view }
+    ensures built { BuiltOn who.old.token.view who.new.token.view }
     ensures laid { IfOk result (λ word. (leaves : List PlacedLeaf)
-        → HasLeaves (now who.old.seat.view).pieces (Some (InnerAt target)) leaves
-        → IsTopLaid who.new.seat.view who.new.number (now who.old.seat.view).next word leaves) }
+        → HasLeaves (now who.old.token.view).pieces (Some (InnerAt target)) leaves
+        → IsTopLaid who.new.token.view who.new.number (now who.old.token.view).next word leaves) }
     ensures sizes { IfOk result (λ word.
         sizes_built who.new ≡ sizes_built who.old ++ inner_words (degree_of keys) ∷ []) }
     ensures full { IfErr result (λ full.
-        IsShort who.old.seat.view (word_count_of table.now) keys full who.new.seat.view) }
+        IsShort who.old.token.view (word_count_of table.now) keys full who.new.token.view) }
     ensures refused { IfErr result (λ full. HasRefused who.new) }
 {
-    know(&who.seat);
+    know(&who.token);
     let degree = degree(keys);
     let base = begin_top(table, who, target, keys, degree)?;
     for j in 0..degree {
         let first = part(keys, j).start;
-        let key = key_at(table, &mut who.seat, target, first);
+        let key = key_at(table, &mut who.token, target, first);
         set_part(table, who, base, degree, j, key, Ref::Unset.to_word());
     }
-    know(&who.seat);
+    know(&who.token);
     Ok(Ref::Inner { base }.to_word())
 }

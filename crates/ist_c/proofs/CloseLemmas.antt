@@ -8,7 +8,7 @@ use Rattle.ist_core.specs.Replies.{Answered}
 use Rattle.ist_core.specs.Resting.{StandsFor}
 use Rattle.laws_histories.specs.Telling.{map_now}
 use Rattle.laws_histories.proofs.ContentLemmas.{pairs_rise_at}
-use Rattle.ist_words.specs.RestingWords.{HoldPairs}
+use Rattle.ist_rest.specs.RestingWords.{HoldPairs}
 use Rattle.ist_rest.specs.Standings.{Stands}
 use Rattle.ist_tree.specs.Closing.{ClosesWith, told_to}
 use Rattle.ist_tree.specs.Faces.{TreeFace, MakerFace}

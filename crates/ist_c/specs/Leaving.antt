@@ -4,7 +4,7 @@ use Rattle.ist_core.specs.declared.pairs.Pair.{Pair}
 use Rattle.ist_core.specs.Replies.{Answered}
 use Rattle.ist_core.specs.Resting.{StandsFor}
 use Rattle.ist_core.specs.Spending.{spent}
-use Rattle.ist_words.specs.RestingWords.{HoldPairs}
+use Rattle.ist_rest.specs.RestingWords.{HoldPairs}
 use Rattle.ist_c.specs.declared.closed_trees.LeftPairs.{LeftPairs}
 
 -- these are the pairs that the closed words hold, how many words there are, and how many were spent by

@@ -5,7 +5,7 @@ use Rattle.ist_core.specs.Map.{pairs_of}
 use Rattle.ist_core.specs.Replies.{Answered}
 use Rattle.ist_core.specs.Resting.{StandsFor}
 use Rattle.laws_histories.specs.Telling.{map_now}
-use Rattle.ist_words.specs.RestingWords.{HoldPairs}
+use Rattle.ist_rest.specs.RestingWords.{HoldPairs}
 use Rattle.ist_tree.specs.declared.faults.OpenFault.{OpenFault}
 use Rattle.ist_tree.specs.declared.faults.OpenFault.TheVariants.{Small, Memory}
 use Rattle.ist_tree.specs.Faces.{TreeFace, MakerFace}

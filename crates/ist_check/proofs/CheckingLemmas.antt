@@ -15,9 +15,9 @@ use Rattle.ist_core.specs.Logs.{Log}
 use Rattle.check_events.specs.declared.pasts.Past.{Past}
 use Rattle.check_events.specs.declared.pasts.Slot.{Slot}
 use Rattle.check_events.specs.declared.pasts.Way.{Way}
-use Rattle.check_reasons.specs.declared.conditions.Condition.{Condition}
-use Rattle.check_reasons.specs.Conditions.{says_of}
-use Rattle.check_reasons.specs.Failing.{Tells}
+use Rattle.ist_check.specs.declared.conditions.Condition.{Condition}
+use Rattle.ist_check.specs.Conditions.{says_of}
+use Rattle.ist_check.specs.Failing.{Tells}
 use Rattle.ist_check.specs.Knowing.{Knows, Remembers}
 use Rattle.ist_check.specs.Verdicts.{IsFirstUnlawful, FailsAt}
 use Rattle.ist_check.proofs.ReasonLemmas.{not_covered}

@@ -8,9 +8,9 @@ use Rattle.ist_core.specs.declared.pairs.Pair.{Pair}
 use Rattle.ist_core.specs.StartLayout.{start}
 use Rattle.ist_core.specs.Logs.{Log}
 use Rattle.ist_core.specs.Enabled.{Enabled}
-use Rattle.check_reasons.specs.declared.conditions.Condition.{Condition}
-use Rattle.check_reasons.specs.Conditions.{says_of}
-use Rattle.check_reasons.specs.Failing.{Tells}
+use Rattle.ist_check.specs.declared.conditions.Condition.{Condition}
+use Rattle.ist_check.specs.Conditions.{says_of}
+use Rattle.ist_check.specs.Failing.{Tells}
 use Rattle.ist_check.specs.Knowing.{IsOfBuild}
 
 module _ (pairs : List Pair) (words : ℕ) (log : Log) {other event : Event} (is : other ≡ event) where

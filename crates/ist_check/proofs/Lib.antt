@@ -1,3 +1,5 @@
+pub mod TellLemmas
+pub mod FinishedLemmas
 pub mod EntryLemmas
 pub mod StandingLemmas
 pub mod OpeningLemmas

@@ -18,11 +18,11 @@ use Rattle.ist_core.proofs.ReferenceLemmas.{ref_of-unset}
 use Rattle.laws_links.proofs.ClosedLemmas.{closed_was_linked}
 use Rattle.laws_links.proofs.FormedLemmas.{rooted_is_finished}
 use Rattle.laws_links.proofs.LinkLemmas.{linked_or_finished}
-use Rattle.laws_rebuilds.proofs.ContentLemmas.{linked_set}
-use Rattle.check_reasons.specs.declared.conditions.Condition.{Condition}
-use Rattle.check_reasons.specs.declared.conditions.Condition.TheVariants.{Finished, InSlot, Known, Marked, NoChange, NotPast, PartIs, Published, Rooted, Set, Shared}
-use Rattle.check_reasons.specs.Conditions.{says_of, pass_says, draw_says}
-use Rattle.check_reasons.specs.Failing.{Tells}
+use Rattle.laws_links.proofs.ContentLemmas.{linked_set}
+use Rattle.ist_check.specs.declared.conditions.Condition.{Condition}
+use Rattle.ist_check.specs.declared.conditions.Condition.TheVariants.{Finished, InSlot, Known, Marked, NoChange, NotPast, PartIs, Published, Rooted, Set, Shared}
+use Rattle.ist_check.specs.Conditions.{says_of, pass_says, draw_says}
+use Rattle.ist_check.specs.Failing.{Tells}
 use Rattle.ist_check.specs.Verdicts.{IsCovered}
 
 -- ---- if all hold

@@ -49,8 +49,8 @@ use Rattle.ist_core.proofs.RowLemmas.{changed_at-same}
 use Rattle.ist_core.proofs.SoundLemmas.{sound}
 use Rattle.ist_core.proofs.StartLemmas.{sound_start}
 use Rattle.ist_core.proofs.YesLemmas.{count_low}
-use Rattle.laws_rebuilds.proofs.FinishedLeafLemmas.{finished_few}
-use Rattle.laws_rebuilds.proofs.DrawWordLemmas.{draw_low}
+use Rattle.laws_links.proofs.FinishedLeafLemmas.{finished_few}
+use Rattle.laws_links.proofs.DrawWordLemmas.{draw_low}
 use Rattle.check_events.specs.declared.replicas.Replica.{Replica}
 use Rattle.check_events.specs.Holding.{by_base, LiesBelow}
 use Rattle.check_events.specs.Mirroring.{Mirrors}

@@ -8,10 +8,10 @@ use Rattle.ist_core.specs.StartLayout.{start}
 use Rattle.ist_core.specs.Enabled.{Enabled}
 use Rattle.ist_core.specs.Lawful.{Lawful, state_of}
 use Rattle.ist_core.specs.Snapshots.{Shows}
-use Rattle.check_reasons.specs.declared.conditions.Condition.{Condition}
-use Rattle.check_reasons.specs.declared.conditions.Condition.TheVariants.{Finished, Set}
-use Rattle.check_reasons.specs.Conditions.{says_of}
-use Rattle.check_reasons.specs.Failing.{Tells}
+use Rattle.ist_check.specs.declared.conditions.Condition.{Condition}
+use Rattle.ist_check.specs.declared.conditions.Condition.TheVariants.{Finished, Set}
+use Rattle.ist_check.specs.Conditions.{says_of}
+use Rattle.ist_check.specs.Failing.{Tells}
 use Rattle.ist_check.specs.declared.judging.Judgement.{Judgement}
 use Rattle.ist_check.specs.declared.judging.Judgement.TheVariants.{AllLawful, Refused}
 

@@ -3,16 +3,18 @@ ghost use Rattle.std.specs.Prelude.{ℕ, List, IfOk};
 ghost use Rattle.ist_core.specs.declared.pairs.Pair.{Pair as APair};
 ghost use Rattle.ist_core.specs.StartLayout.{start};
 ghost use Rattle.ist_core.specs.Logs.{Log};
-ghost use Rattle.check_reasons.specs.Conditions.{says_of};
-ghost use Rattle.check_reasons.specs.Failing.{Tells};
+ghost use Rattle.ist_check.specs.Conditions.{says_of};
+ghost use Rattle.ist_check.specs.Failing.{Tells};
 ghost use Rattle.ist_check.specs.Knowing.{Knows, IsOfBuild};
 
-use check_events::{Past, Replica};
-use check_reasons::{
-    Condition, count_fails, decide_fails, draw_fails, enter_fails, finish_fails, install_fails,
-    lose_fails, mark_fails, okay_fails, pass_fails, place_fails, reserve_fails, resolve_fails,
-    root_fails,
+use crate::builds::{draw_fails, lose_fails, place_fails, root_fails};
+use crate::changes::{
+    count_fails, decide_fails, enter_fails, okay_fails, reserve_fails, resolve_fails,
 };
+use crate::conditions::Condition;
+use crate::installs::install_fails;
+use crate::nodes::{finish_fails, mark_fails, pass_fails};
+use check_events::{Past, Replica};
 use ist_core::Event;
 use std::alloc::{AllocError, Global};
 

@@ -16,7 +16,7 @@ use ist_layout::{
     CHANGE_DECISION_OFFSET, CHANGE_FROM_OFFSET, CHANGE_INDEX_OFFSET, CHANGE_NODE_OFFSET,
     CHANGE_TO_OFFSET, DECIDED_NO, DECIDED_YES, Ref, UNDECIDED,
 };
-use ist_rule::{TreeSeat, TreeTable, exchange, know, load, load_okay};
+use ist_rule::{TreeTable, TreeToken, exchange, know, load, load_okay};
 
 // Returns how a change must be decided if its node had this status.
 fn decision_for(status: u64) -> u64
@@ -49,38 +49,38 @@ fn side_offset(decision: Decision) -> u64
 }
 
 // Loads a word of the change's row.
-fn field(table: &TreeTable, seat: &mut TreeSeat, change: u32, offset: u64) -> u64
-    requires same_table { seat.old.table ≡ table.now.table }
-    requires may_help { MayHelp seat.old.view change }
+fn field(table: &TreeTable, token: &mut TreeToken, change: u32, offset: u64) -> u64
+    requires same_table { token.old.table ≡ table.now.table }
+    requires may_help { MayHelp token.old.view change }
     requires within { offset < change_words }
-    ensures same_table { seat.new.table ≡ seat.old.table }
-    ensures went { WentOn (Serves change) seat.old.view seat.new.view }
-    ensures search { KeepsSearch seat.old.view seat.new.view }
-    ensures field { IsField seat.new.view change offset result }
+    ensures same_table { token.new.table ≡ token.old.table }
+    ensures went { WentOn (Serves change) token.old.view token.new.view }
+    ensures search { KeepsSearch token.old.view token.new.view }
+    ensures field { IsField token.new.view change offset result }
 {
-    know(seat);
-    load(table, seat, u64::from(change) + offset)
+    know(token);
+    load(table, token, u64::from(change) + offset)
 }
 
 // Looks at the node, decides the change by what it saw, and returns the decision that holds.
-fn decide(table: &TreeTable, seat: &mut TreeSeat, change: u32) -> Decision
-    requires same_table { seat.old.table ≡ table.now.table }
-    requires may_help { MayHelp seat.old.view change }
-    ensures same_table { seat.new.table ≡ seat.old.table }
-    ensures went { WentOn (Serves change) seat.old.view seat.new.view }
-    ensures search { KeepsSearch seat.old.view seat.new.view }
-    ensures decided { IsDecided seat.new.view change (is_yes result) }
+fn decide(table: &TreeTable, token: &mut TreeToken, change: u32) -> Decision
+    requires same_table { token.old.table ≡ table.now.table }
+    requires may_help { MayHelp token.old.view change }
+    ensures same_table { token.new.table ≡ token.old.table }
+    ensures went { WentOn (Serves change) token.old.view token.new.view }
+    ensures search { KeepsSearch token.old.view token.new.view }
+    ensures decided { IsDecided token.new.view change (is_yes result) }
 {
-    let node = field(table, seat, change, CHANGE_NODE_OFFSET);
+    let node = field(table, token, change, CHANGE_NODE_OFFSET);
     // Okay if the node is open and no one has decided the change, and otherwise a load. Meets a
     // mark of the node, and another helper's Decide.
-    let status = load_okay(table, seat, change, status_place(node));
-    know(seat);
+    let status = load_okay(table, token, change, status_place(node));
+    know(token);
     let wanted = decision_for(status);
     // Decide. Meets another helper's.
     let stood = exchange(
         table,
-        seat,
+        token,
         u64::from(change) + CHANGE_DECISION_OFFSET,
         UNDECIDED,
         wanted,
@@ -89,35 +89,35 @@ fn decide(table: &TreeTable, seat: &mut TreeSeat, change: u32) -> Decision
 }
 
 // Returns the place of the change's slot.
-fn slot_of(table: &TreeTable, seat: &mut TreeSeat, change: u32) -> u64
-    requires same_table { seat.old.table ≡ table.now.table }
-    requires may_help { MayHelp seat.old.view change }
-    ensures same_table { seat.new.table ≡ seat.old.table }
-    ensures went { WentOn (Serves change) seat.old.view seat.new.view }
-    ensures search { KeepsSearch seat.old.view seat.new.view }
-    ensures slot { IsSlotOf seat.new.view change result }
+fn slot_of(table: &TreeTable, token: &mut TreeToken, change: u32) -> u64
+    requires same_table { token.old.table ≡ table.now.table }
+    requires may_help { MayHelp token.old.view change }
+    ensures same_table { token.new.table ≡ token.old.table }
+    ensures went { WentOn (Serves change) token.old.view token.new.view }
+    ensures search { KeepsSearch token.old.view token.new.view }
+    ensures slot { IsSlotOf token.new.view change result }
 {
-    let node = field(table, seat, change, CHANGE_NODE_OFFSET);
-    let index = field(table, seat, change, CHANGE_INDEX_OFFSET);
-    slot_at(table, seat, node, index)
+    let node = field(table, token, change, CHANGE_NODE_OFFSET);
+    let index = field(table, token, change, CHANGE_INDEX_OFFSET);
+    slot_at(table, token, node, index)
 }
 
 // Takes a decided change out of its slot, if no one has done so.
-fn resolve(table: &TreeTable, seat: &mut TreeSeat, change: u32, decision: Decision)
-    requires same_table { seat.old.table ≡ table.now.table }
-    requires may_help { MayHelp seat.old.view change }
-    requires decided { IsDecided seat.old.view change (is_yes decision) }
-    ensures same_table { seat.new.table ≡ seat.old.table }
-    ensures went { WentOn (Serves change) seat.old.view seat.new.view }
-    ensures search { KeepsSearch seat.old.view seat.new.view }
-    ensures out { IsOut seat.new.view change }
+fn resolve(table: &TreeTable, token: &mut TreeToken, change: u32, decision: Decision)
+    requires same_table { token.old.table ≡ table.now.table }
+    requires may_help { MayHelp token.old.view change }
+    requires decided { IsDecided token.old.view change (is_yes decision) }
+    ensures same_table { token.new.table ≡ token.old.table }
+    ensures went { WentOn (Serves change) token.old.view token.new.view }
+    ensures search { KeepsSearch token.old.view token.new.view }
+    ensures out { IsOut token.new.view change }
 {
-    let place = slot_of(table, seat, change);
-    let side = field(table, seat, change, side_offset(decision));
-    know(seat);
+    let place = slot_of(table, token, change);
+    let side = field(table, token, change, side_offset(decision));
+    know(token);
     let word = Ref::Change { base: change }.to_word();
     // Resolve. Meets another helper's, and what was installed after it.
-    exchange(table, seat, place, word, side);
+    exchange(table, token, place, word, side);
 }
 
 /// Decides an installed change, if no one has, takes it out of its slot, and returns how it was
@@ -125,18 +125,18 @@ fn resolve(table: &TreeTable, seat: &mut TreeSeat, change: u32, decision: Decisi
 ///
 /// Returns `Yes` only if its node was open at a step after the installing, and `No` only if the
 /// node wasn't open at one. Takes a bounded number of steps.
-pub fn help(table: &TreeTable, seat: &mut TreeSeat, change: u32) -> Decision
-    requires same_table { seat.old.table ≡ table.now.table }
-    requires may_help { MayHelp seat.old.view change }
-    ensures same_table { seat.new.table ≡ seat.old.table }
-    ensures went { WentOn (Serves change) seat.old.view seat.new.view }
-    ensures search { KeepsSearch seat.old.view seat.new.view }
-    ensures decided { IsDecided seat.new.view change (is_yes result) }
-    ensures yes { result ≡ Yes → WasOpen seat.new.view change }
-    ensures no { result ≡ No → WasClosed seat.new.view change }
-    ensures out { IsOut seat.new.view change }
+pub fn help(table: &TreeTable, token: &mut TreeToken, change: u32) -> Decision
+    requires same_table { token.old.table ≡ table.now.table }
+    requires may_help { MayHelp token.old.view change }
+    ensures same_table { token.new.table ≡ token.old.table }
+    ensures went { WentOn (Serves change) token.old.view token.new.view }
+    ensures search { KeepsSearch token.old.view token.new.view }
+    ensures decided { IsDecided token.new.view change (is_yes result) }
+    ensures yes { result ≡ Yes → WasOpen token.new.view change }
+    ensures no { result ≡ No → WasClosed token.new.view change }
+    ensures out { IsOut token.new.view change }
 {
-    let decision = decide(table, seat, change);
-    resolve(table, seat, change, decision);
+    let decision = decide(table, token, change);
+    resolve(table, token, change, decision);
     decision
 }

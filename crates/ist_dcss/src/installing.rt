@@ -8,20 +8,20 @@ ghost use Rattle.ist_dcss.specs.Naming.{HasFilled, IsAimed};
 use crate::decisions::Installed;
 use crate::slots::slot_at;
 use ist_layout::{CHANGE_FROM_OFFSET, CHANGE_INDEX_OFFSET, CHANGE_NODE_OFFSET, Ref};
-use ist_rule::{TreeSeat, TreeTable, exchange, know, load};
+use ist_rule::{TreeTable, TreeToken, exchange, know, load};
 
 // Loads a word of a row that the caller holds and has filled.
-fn own_word(table: &TreeTable, seat: &mut TreeSeat, base: u32, offset: u64) -> u64
+fn own_word(table: &TreeTable, token: &mut TreeToken, base: u32, offset: u64) -> u64
     ghost words: { List ℕ }
-    requires same_table { seat.old.table ≡ table.now.table }
-    requires filled { HasFilled seat.old.view base words }
+    requires same_table { token.old.table ≡ table.now.table }
+    requires filled { HasFilled token.old.view base words }
     requires within { offset < length words }
-    ensures same_table { seat.new.table ≡ seat.old.table }
-    ensures seen { GoesOnTo seat.old.view seat.new.view }
+    ensures same_table { token.new.table ≡ token.old.table }
+    ensures seen { GoesOnTo token.old.view token.new.view }
     ensures value { slice_get words offset ≡ Some result }
 {
-    know(seat);
-    load(table, seat, u64::from(base) + offset)
+    know(token);
+    load(table, token, u64::from(base) + offset)
 }
 
 // The place of a change's slot, and the word that the change expects there.
@@ -32,17 +32,17 @@ struct Aim {
 }
 
 // Reads from the filled row of a change what its install aims at.
-fn aim_of(table: &TreeTable, seat: &mut TreeSeat, change: u32) -> Aim
+fn aim_of(table: &TreeTable, token: &mut TreeToken, change: u32) -> Aim
     ghost filling: { Filling }
-    requires same_table { seat.old.table ≡ table.now.table }
-    requires may_install { IsInstallable seat.old.view change filling }
-    ensures same_table { seat.new.table ≡ seat.old.table }
-    ensures aimed { IsAimed seat.old.view filling result.place result.from seat.new.view }
+    requires same_table { token.old.table ≡ table.now.table }
+    requires may_install { IsInstallable token.old.view change filling }
+    ensures same_table { token.new.table ≡ token.old.table }
+    ensures aimed { IsAimed token.old.view filling result.place result.from token.new.view }
 {
-    let node = own_word(table, seat, change, CHANGE_NODE_OFFSET);
-    let index = own_word(table, seat, change, CHANGE_INDEX_OFFSET);
-    let from = own_word(table, seat, change, CHANGE_FROM_OFFSET);
-    let place = slot_at(table, seat, node, index);
+    let node = own_word(table, token, change, CHANGE_NODE_OFFSET);
+    let index = own_word(table, token, change, CHANGE_INDEX_OFFSET);
+    let from = own_word(table, token, change, CHANGE_FROM_OFFSET);
+    let place = slot_at(table, token, node, index);
     Aim { place, from }
 }
 
@@ -51,21 +51,21 @@ fn aim_of(table: &TreeTable, seat: &mut TreeSeat, change: u32) -> Aim
 /// Returns `Yes` exactly if the slot held that word at the last step of the call: the slot then
 /// holds the change, and none of its rows is held any more. Otherwise returns the word that the
 /// slot held; no word changes, and the rows stay held.
-pub fn install(table: &TreeTable, seat: &mut TreeSeat, change: u32) -> Installed
+pub fn install(table: &TreeTable, token: &mut TreeToken, change: u32) -> Installed
     ghost filling: { Filling }
-    requires same_table { seat.old.table ≡ table.now.table }
-    requires may_install { IsInstallable seat.old.view change filling }
-    ensures same_table { seat.new.table ≡ seat.old.table }
-    ensures yes { result ≡ Yes → IsInstalled seat.old.view change filling seat.new.view }
+    requires same_table { token.old.table ≡ table.now.table }
+    requires may_install { IsInstallable token.old.view change filling }
+    ensures same_table { token.new.table ≡ token.old.table }
+    ensures yes { result ≡ Yes → IsInstalled token.old.view change filling token.new.view }
     ensures other { (word : ℕ) → result ≡ Other word
-        → IsOther seat.old.view change filling word seat.new.view }
+        → IsOther token.old.view change filling word token.new.view }
 {
-    know(seat);
-    let Aim { place, from } = aim_of(table, seat, change);
-    know(seat);
+    know(token);
+    let Aim { place, from } = aim_of(table, token, change);
+    know(token);
     let word = Ref::Change { base: change }.to_word();
     // Install. Meets another caller's in the slot, and what a helper left there.
-    let found = exchange(table, seat, place, from, word);
+    let found = exchange(table, token, place, from, word);
     if found == from {
         Installed::Yes
     } else {

@@ -7,7 +7,7 @@ ghost use Rattle.ist_rule.specs.Learning.{now, GoesOnTo};
 ghost use Rattle.ist_rule.specs.Watching.{IsNode};
 
 use ist_layout::{ANCHOR, ANCHOR_STATUS_PLACE, Status};
-use ist_rule::{TreeSeat, TreeTable, know, load};
+use ist_rule::{TreeTable, TreeToken, know, load};
 
 /// Returns the place of the node's status.
 pub(crate) fn status_place(node: u64) -> u64
@@ -25,16 +25,16 @@ pub(crate) fn status_place(node: u64) -> u64
 /// This is so in the log that the caller has seen after the load. A node that isn't open is never
 /// open again (`laws::nodes_close_once`). If it is open, none of the caller's changes on it was
 /// decided no.
-pub fn is_open(table: &TreeTable, seat: &mut TreeSeat, node: u32) -> bool
-    requires same_table { seat.old.table ≡ table.now.table }
-    requires node { IsNode (now seat.old.view) node }
-    ensures same_table { seat.new.table ≡ seat.old.table }
-    ensures seen { GoesOnTo seat.old.view seat.new.view }
-    ensures open { IsTrue result ↔ IsOpen (now seat.new.view) node }
+pub fn is_open(table: &TreeTable, token: &mut TreeToken, node: u32) -> bool
+    requires same_table { token.old.table ≡ table.now.table }
+    requires node { IsNode (now token.old.view) node }
+    ensures same_table { token.new.table ≡ token.old.table }
+    ensures seen { GoesOnTo token.old.view token.new.view }
+    ensures open { IsTrue result ↔ IsOpen (now token.new.view) node }
     ensures unrefused { (number : ℕ) → IsTrue result
-        → IsUnrefused (now seat.new.view) number node }
+        → IsUnrefused (now token.new.view) number node }
 {
-    know(seat);
+    know(token);
     // A load. Meets a mark of the node.
-    load(table, seat, status_place(u64::from(node))) == Status::Clear.to_word()
+    load(table, token, status_place(u64::from(node))) == Status::Clear.to_word()
 }

@@ -6,7 +6,7 @@ ghost use Rattle.ist_rule.specs.Learning.{now, GoesOnTo};
 ghost use Rattle.ist_dcss.specs.Reading.{IsNoChange, IsRebuildRow};
 
 use ist_layout::{REBUILD_TARGET_OFFSET, Ref};
-use ist_rule::{TreeSeat, TreeTable, know, load};
+use ist_rule::{TreeTable, TreeToken, know, load};
 
 /// Returns the change that the word names, if it names one.
 pub fn change_in(word: u64) -> Option<u32>
@@ -20,15 +20,15 @@ pub fn change_in(word: u64) -> Option<u32>
 }
 
 /// Returns the node that a rebuild replaces or will replace, by one load.
-pub fn target_of(table: &TreeTable, seat: &mut TreeSeat, rebuild: u32) -> u32
-    requires same_table { seat.old.table ≡ table.now.table }
-    requires published { IsRebuildRow (now seat.old.view) rebuild }
-    ensures same_table { seat.new.table ≡ seat.old.table }
-    ensures seen { GoesOnTo seat.old.view seat.new.view }
-    ensures target { HasTarget (now seat.new.view) rebuild result }
-    ensures counted { seat.new.view.loaded ≡ seat.old.view.loaded + 1 }
+pub fn target_of(table: &TreeTable, token: &mut TreeToken, rebuild: u32) -> u32
+    requires same_table { token.old.table ≡ table.now.table }
+    requires published { IsRebuildRow (now token.old.view) rebuild }
+    ensures same_table { token.new.table ≡ token.old.table }
+    ensures seen { GoesOnTo token.old.view token.new.view }
+    ensures target { HasTarget (now token.new.view) rebuild result }
+    ensures counted { token.new.view.loaded ≡ token.old.view.loaded + 1 }
 {
-    know(seat);
+    know(token);
     // A load. The word never changes.
-    load(table, seat, u64::from(rebuild) + REBUILD_TARGET_OFFSET) as u32
+    load(table, token, u64::from(rebuild) + REBUILD_TARGET_OFFSET) as u32
 }

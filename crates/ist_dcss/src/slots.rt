@@ -5,20 +5,20 @@ ghost use Rattle.ist_rule.specs.Learning.{now, GoesOnTo};
 ghost use Rattle.ist_dcss.specs.Naming.{IsSlot};
 
 use ist_layout::{ANCHOR, ANCHOR_SLOT_PLACE, INNER_DEGREE_OFFSET, slot_place};
-use ist_rule::{TreeSeat, TreeTable, know, load};
+use ist_rule::{TreeTable, TreeToken, know, load};
 
 /// Returns the place of slot `index` of the node. The anchor has one slot, in a word of its own.
-pub fn slot_at(table: &TreeTable, seat: &mut TreeSeat, node: u64, index: u64) -> u64
-    requires same_table { seat.old.table ≡ table.now.table }
-    requires slot { IsSlot seat.old.view node index }
-    ensures same_table { seat.new.table ≡ seat.old.table }
-    ensures seen { GoesOnTo seat.old.view seat.new.view }
-    ensures place { result ≡ place_of_slot (now seat.new.view) node index }
+pub fn slot_at(table: &TreeTable, token: &mut TreeToken, node: u64, index: u64) -> u64
+    requires same_table { token.old.table ≡ table.now.table }
+    requires slot { IsSlot token.old.view node index }
+    ensures same_table { token.new.table ≡ token.old.table }
+    ensures seen { GoesOnTo token.old.view token.new.view }
+    ensures place { result ≡ place_of_slot (now token.new.view) node index }
 {
-    know(seat);
+    know(token);
     if node == u64::from(ANCHOR) {
         return ANCHOR_SLOT_PLACE;
     }
-    let degree = load(table, seat, node + INNER_DEGREE_OFFSET);
+    let degree = load(table, token, node + INNER_DEGREE_OFFSET);
     slot_place(node as u32, degree, index)
 }

@@ -12,8 +12,8 @@ use Rattle.ist_rule.specs.declared.view.View.{View}
 use Rattle.ist_rule.specs.Rule.{IsSound}
 use Rattle.ist_rule.specs.Learning.{now, GoesOnTo}
 use Rattle.laws_histories.proofs.PositionLemmas.{look_up}
-use Rattle.laws_walks.specs.Walking.{ComesBy, begins_by, goes_by}
-use Rattle.laws_walks.proofs.WalkLemmas.{meeting_comes, met_chain}
+use Rattle.laws_calls.specs.Walking.{ComesBy, begins_by, goes_by}
+use Rattle.laws_calls.proofs.WalkLemmas.{meeting_comes, met_chain}
 use Rattle.ist_math.specs.Guess.{guess_in, distance}
 use Rattle.ist_rule.specs.Watching.{IsNode, is_anchor, is_inner}
 use Rattle.ist_find.specs.Searches.{IsRow, HasFewLoads, keys_at, row_cost, cost_of}

@@ -16,7 +16,7 @@ use Rattle.ist_core.specs.Lawful.{EachEnabled, state_of}
 use Rattle.ist_core.proofs.FateLemmas.{enabled_before}
 use Rattle.ist_core.proofs.NamingLemmas.{slot_names}
 use Rattle.ist_core.proofs.OrderLemmas.{names}
-use Rattle.laws_rebuilds.proofs.ContentLemmas.{linked_set}
+use Rattle.laws_links.proofs.ContentLemmas.{linked_set}
 use Rattle.ist_rule.specs.declared.view.View.{View}
 use Rattle.ist_rule.specs.Rule.{IsSound}
 use Rattle.ist_rule.specs.Learning.{now, GoesOnTo}
@@ -24,8 +24,8 @@ use Rattle.ist_rule.proofs.GoingOnLemmas.{goes_on_more}
 use Rattle.ist_dcss.proofs.SlotPlaceLemmas.{shown_in_slot}
 use Rattle.laws_histories.specs.Loads.{log_at, IsLoad}
 use Rattle.laws_histories.specs.Searching.{ReadsSide}
-use Rattle.laws_walks.specs.Walking.{ComesBy, goes_by}
-use Rattle.laws_walks.proofs.WalkLemmas.{meeting_comes, meeting_on}
+use Rattle.laws_calls.specs.Walking.{ComesBy, goes_by}
+use Rattle.laws_calls.proofs.WalkLemmas.{meeting_comes, meeting_on}
 use Rattle.laws_histories.proofs.LoadOnLemmas.{at_on, at_prefix, load_on, side_on}
 use Rattle.laws_histories.proofs.LoadLemmas.{look_of, comes_of}
 use Rattle.laws_histories.proofs.SearchLemmas.{seen, leads_linked, there_on}

@@ -20,8 +20,8 @@ use Rattle.ist_core.specs.Authors.{Later}
 use Rattle.ist_core.proofs.PrefixLemmas.{goes_on_length}
 use Rattle.laws_histories.specs.Loads.{log_at, IsLoad}
 use Rattle.laws_histories.specs.Searching.{LooksAt, ComesTo, HasPosition}
-use Rattle.laws_walks.specs.Walking.{begins_by}
-use Rattle.laws_walks.proofs.WalkLemmas.{meeting_comes}
+use Rattle.laws_calls.specs.Walking.{begins_by}
+use Rattle.laws_calls.proofs.WalkLemmas.{meeting_comes}
 use Rattle.laws_histories.proofs.ChangeLemmas.{changes_rise}
 use Rattle.laws_histories.proofs.LoadOnLemmas.{at_on, at_prefix, load_on, come_on, side_on, target_on, at_same}
 use Rattle.laws_histories.proofs.PositionLemmas.{search_position, node_met}

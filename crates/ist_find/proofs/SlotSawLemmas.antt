@@ -19,7 +19,7 @@ use Rattle.ist_core.proofs.FateLemmas.{enabled_before, grow_between}
 use Rattle.ist_core.proofs.GrowingLemmas.{inner_there}
 use Rattle.ist_core.proofs.OrderLemmas.{names, child_above}
 use Rattle.ist_core.proofs.PlaceLemmas.{anchor_free}
-use Rattle.laws_rebuilds.proofs.ContentLemmas.{linked_set}
+use Rattle.laws_links.proofs.ContentLemmas.{linked_set}
 use Rattle.laws_histories.specs.Loads.{log_at}
 use Rattle.laws_histories.specs.Searching.{ReadsSide}
 use Rattle.laws_histories.specs.Telling.{map_now}

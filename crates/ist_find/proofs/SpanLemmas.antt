@@ -24,7 +24,7 @@ use Rattle.ist_find.specs.Searches.{IsRow, keys_at, row_cost}
 use Rattle.ist_find.specs.Reads.{HasLooked, IsFoundAs, TellsValue, loaded_in}
 use Rattle.ist_find.specs.Spans.{pair_value, AllCome, AllLooked, LooksFewOver, HasFewSpanLoads}
 use Rattle.ist_find.proofs.LoadLemmas.{by_table, goes_log, goes_length, looked_load, load_later}
-use Rattle.laws_walks.proofs.WalkLemmas.{met_chain}
+use Rattle.laws_calls.proofs.WalkLemmas.{met_chain}
 use Rattle.ist_rule.proofs.WentOnLemmas.{goes_on_grow}
 use Rattle.ist_find.proofs.CostLemmas.{rows_met, cost_on, cost_more}
 use Rattle.ist_find.proofs.LookLemmas.{comes_later, look_comes}

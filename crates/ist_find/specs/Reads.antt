@@ -5,7 +5,7 @@ use Rattle.ist_core.specs.References.{Ref, Empty, Unset, LeafAt, InnerAt, Change
 use Rattle.ist_rule.specs.declared.view.View.{View}
 use Rattle.ist_rule.specs.Learning.{GoesOnTo}
 use Rattle.laws_histories.specs.Searching.{ReadsSide, ReadsTarget, LooksAt, ReadsValue}
-use Rattle.laws_walks.specs.Walking.{ComesBy}
+use Rattle.laws_calls.specs.Walking.{ComesBy}
 use Rattle.ist_find.specs.Searches.{IsRow, SeesLeaf, Names, cost_of}
 
 -- ---- what is read

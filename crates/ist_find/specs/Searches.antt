@@ -14,7 +14,7 @@ use Rattle.ist_core.specs.Authors.{Later}
 use Rattle.ist_rule.specs.Rule.{IsSound}
 use Rattle.ist_rule.specs.Learning.{now}
 use Rattle.laws_histories.specs.Searching.{Searched}
-use Rattle.laws_walks.specs.Walking.{ComesBy, IsChainOf}
+use Rattle.laws_calls.specs.Walking.{ComesBy, IsChainOf}
 
 -- ---- nodes
 

@@ -7,7 +7,7 @@ use Rattle.ist_core.specs.Pieces.{Inner}
 use Rattle.ist_core.specs.References.{Ref}
 use Rattle.ist_core.specs.Snapshots.{Snapshot}
 use Rattle.ist_rule.specs.declared.view.View.{View}
-use Rattle.laws_walks.specs.Walking.{IsChainOf}
+use Rattle.laws_calls.specs.Walking.{IsChainOf}
 use Rattle.ist_find.specs.Searches.{Came, HasFound, cost_of}
 use Rattle.ist_find.specs.Reads.{HasLooked}
 

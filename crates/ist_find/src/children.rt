@@ -14,32 +14,32 @@ use crate::answers::{Child, Counted, Look, Place};
 use crate::keys::{child_for, key_count};
 use crate::reading::{past_change, past_rebuild};
 use ist_layout::{ANCHOR, ANCHOR_SLOT_PLACE, slot_place};
-use ist_rule::{TreeSeat, TreeTable, know, load};
+use ist_rule::{TreeTable, TreeToken, know, load};
 
 /// Returns the slot for the key of an inner row, and how many loads this took.
 #[inline(always)]
 pub(crate) fn place_in_row(
     table: &TreeTable,
-    seat: &mut TreeSeat,
+    token: &mut TreeToken,
     node: u32,
     key: u64,
 ) -> Counted<Place>
-    requires same_table { seat.old.table ≡ table.now.table }
-    requires row { IsRow seat.old.view node }
-    ensures same_table { seat.new.table ≡ seat.old.table }
-    ensures seen { GoesOnTo seat.old.view seat.new.view }
+    requires same_table { token.old.table ≡ table.now.table }
+    requires row { IsRow token.old.view node }
+    ensures same_table { token.new.table ≡ token.old.table }
+    ensures seen { GoesOnTo token.old.view token.new.view }
     ensures at { let place = result.value in
-        IsSlotForKey seat.new.view node key place.index place.count }
-    ensures counted { seat.new.view.loaded ≡ seat.old.view.loaded + result.loads }
-    ensures loads { let guess = guess_in (keys_at seat.old.view node) key in
+        IsSlotForKey token.new.view node key place.index place.count }
+    ensures counted { token.new.view.loaded ≡ token.old.view.loaded + result.loads }
+    ensures loads { let guess = guess_in (keys_at token.old.view node) key in
         result.loads ≤ distance guess result.value.index + 6 }
-    ensures loads_far { let guess = guess_in (keys_at seat.old.view node) key in
+    ensures loads_far { let guess = guess_in (keys_at token.old.view node) key in
         (k : ℕ) → distance guess result.value.index < 2 ^ k → result.loads ≤ 2 * k + 5 }
     ensures fits { result.loads + 1 < 2 ^ 30 }
     ensures within { result.value.index ≤ result.value.count }
 {
-    let count = key_count(table, seat, node);
-    let index = child_for(table, seat, node, count, key);
+    let count = key_count(table, token, node);
+    let index = child_for(table, token, node, count, key);
     Counted {
         value: Place {
             count,
@@ -53,22 +53,22 @@ pub(crate) fn place_in_row(
 #[inline(always)]
 pub(crate) fn slot_of_row(
     table: &TreeTable,
-    seat: &mut TreeSeat,
+    token: &mut TreeToken,
     node: u32,
     count: u64,
     index: u64,
 ) -> u64
-    requires same_table { seat.old.table ≡ table.now.table }
-    requires row { IsRow seat.old.view node }
-    requires count { count ≡ length (keys_at seat.old.view node) }
+    requires same_table { token.old.table ≡ table.now.table }
+    requires row { IsRow token.old.view node }
+    requires count { count ≡ length (keys_at token.old.view node) }
     requires within { index ≤ count }
-    ensures same_table { seat.new.table ≡ seat.old.table }
-    ensures seen { GoesOnTo seat.old.view seat.new.view }
-    ensures loads { seat.new.view.loaded ≡ seat.old.view.loaded + 1 }
-    ensures word { SlotHolds (now seat.new.view) node index result }
+    ensures same_table { token.new.table ≡ token.old.table }
+    ensures seen { GoesOnTo token.old.view token.new.view }
+    ensures loads { token.new.view.loaded ≡ token.old.view.loaded + 1 }
+    ensures word { SlotHolds (now token.new.view) node index result }
 {
-    know(seat);
-    load(table, seat, slot_place(node, count + 1, index))
+    know(token);
+    load(table, token, slot_place(node, count + 1, index))
 }
 
 /// Returns the child for the key of an inner row that is published in the caller's log, and the
@@ -79,42 +79,42 @@ pub(crate) fn slot_of_row(
 /// two, four, .. keys, and halves what lies between once it passed the child.
 ///
 /// Source: Perl, Itai and Avni, "Interpolation search", CACM 1978.
-pub fn child_at(table: &TreeTable, seat: &mut TreeSeat, node: u32, key: u64) -> Child
-    requires same_table { seat.old.table ≡ table.now.table }
-    requires row { IsRow seat.old.view node }
-    ensures same_table { seat.new.table ≡ seat.old.table }
-    ensures index { IsChildFor (now seat.new.view) node key result.index }
-    ensures word { SlotHolds (now seat.new.view) node result.index result.word }
-    ensures seen { GoesOnTo seat.old.view seat.new.view }
-    ensures loads { let guess = guess_in (keys_at seat.old.view node) key in
-        seat.new.view.loaded ≤ seat.old.view.loaded + distance guess result.index + 7 }
-    ensures loads_far { let guess = guess_in (keys_at seat.old.view node) key in
+pub fn child_at(table: &TreeTable, token: &mut TreeToken, node: u32, key: u64) -> Child
+    requires same_table { token.old.table ≡ table.now.table }
+    requires row { IsRow token.old.view node }
+    ensures same_table { token.new.table ≡ token.old.table }
+    ensures index { IsChildFor (now token.new.view) node key result.index }
+    ensures word { SlotHolds (now token.new.view) node result.index result.word }
+    ensures seen { GoesOnTo token.old.view token.new.view }
+    ensures loads { let guess = guess_in (keys_at token.old.view node) key in
+        token.new.view.loaded ≤ token.old.view.loaded + distance guess result.index + 7 }
+    ensures loads_far { let guess = guess_in (keys_at token.old.view node) key in
         (k : ℕ) → distance guess result.index < 2 ^ k
-        → seat.new.view.loaded ≤ seat.old.view.loaded + 2 * k + 6 }
+        → token.new.view.loaded ≤ token.old.view.loaded + 2 * k + 6 }
 {
-    child_and_loads(table, seat, node, key).value
+    child_and_loads(table, token, node, key).value
 }
 
 // The same, with its loads.
 #[inline(always)]
-fn child_and_loads(table: &TreeTable, seat: &mut TreeSeat, node: u32, key: u64) -> Counted<Child>
-    requires same_table { seat.old.table ≡ table.now.table }
-    requires row { IsRow seat.old.view node }
-    ensures same_table { seat.new.table ≡ seat.old.table }
-    ensures index { IsChildFor (now seat.new.view) node key result.value.index }
-    ensures word { SlotHolds (now seat.new.view) node result.value.index result.value.word }
-    ensures seen { GoesOnTo seat.old.view seat.new.view }
-    ensures counted { seat.new.view.loaded ≡ seat.old.view.loaded + result.loads }
-    ensures loads { let guess = guess_in (keys_at seat.old.view node) key in
+fn child_and_loads(table: &TreeTable, token: &mut TreeToken, node: u32, key: u64) -> Counted<Child>
+    requires same_table { token.old.table ≡ table.now.table }
+    requires row { IsRow token.old.view node }
+    ensures same_table { token.new.table ≡ token.old.table }
+    ensures index { IsChildFor (now token.new.view) node key result.value.index }
+    ensures word { SlotHolds (now token.new.view) node result.value.index result.value.word }
+    ensures seen { GoesOnTo token.old.view token.new.view }
+    ensures counted { token.new.view.loaded ≡ token.old.view.loaded + result.loads }
+    ensures loads { let guess = guess_in (keys_at token.old.view node) key in
         result.loads ≤ distance guess result.value.index + 7 }
-    ensures loads_far { let guess = guess_in (keys_at seat.old.view node) key in
+    ensures loads_far { let guess = guess_in (keys_at token.old.view node) key in
         (k : ℕ) → distance guess result.value.index < 2 ^ k → result.loads ≤ 2 * k + 6 }
     ensures fits { result.loads < 2 ^ 30 }
 {
-    let place = place_in_row(table, seat, node, key);
+    let place = place_in_row(table, token, node, key);
     let index = place.value.index;
-    let word = slot_of_row(table, seat, node, place.value.count, index);
-    know(seat);
+    let word = slot_of_row(table, token, node, place.value.count, index);
+    know(token);
     Counted {
         value: Child { index, word },
         loads: place.loads + 1,
@@ -125,53 +125,53 @@ fn child_and_loads(table: &TreeTable, seat: &mut TreeSeat, node: u32, key: u64) 
 #[inline(always)]
 pub(crate) fn slot_for(
     table: &TreeTable,
-    seat: &mut TreeSeat,
+    token: &mut TreeToken,
     node: u32,
     key: u64,
 ) -> Counted<Child>
-    requires same_table { seat.old.table ≡ table.now.table }
-    requires node { IsNode (now seat.old.view) node }
-    ensures same_table { seat.new.table ≡ seat.old.table }
-    ensures index { IsChildFor (now seat.new.view) node key result.value.index }
-    ensures word { SlotHolds (now seat.new.view) node result.value.index result.value.word }
-    ensures seen { GoesOnTo seat.old.view seat.new.view }
-    ensures counted { seat.new.view.loaded ≡ seat.old.view.loaded + result.loads }
+    requires same_table { token.old.table ≡ table.now.table }
+    requires node { IsNode (now token.old.view) node }
+    ensures same_table { token.new.table ≡ token.old.table }
+    ensures index { IsChildFor (now token.new.view) node key result.value.index }
+    ensures word { SlotHolds (now token.new.view) node result.value.index result.value.word }
+    ensures seen { GoesOnTo token.old.view token.new.view }
+    ensures counted { token.new.view.loaded ≡ token.old.view.loaded + result.loads }
     ensures anchor_loads { node ≡ anchor → result.loads ≤ 1 }
-    ensures row_loads { IsRow seat.old.view node →
-        let guess = guess_in (keys_at seat.old.view node) key in
+    ensures row_loads { IsRow token.old.view node →
+        let guess = guess_in (keys_at token.old.view node) key in
         result.loads ≤ distance guess result.value.index + 7 }
     ensures fits { result.loads < 2 ^ 30 }
 {
     if node == ANCHOR {
-        know(seat);
-        let word = load(table, seat, ANCHOR_SLOT_PLACE);
+        know(token);
+        let word = load(table, token, ANCHOR_SLOT_PLACE);
         return Counted {
             value: Child { index: 0, word },
             loads: 1,
         };
     }
-    child_and_loads(table, seat, node, key)
+    child_and_loads(table, token, node, key)
 }
 
 /// What the slot of a node for the key reads as, after its change and its rebuild are followed.
 #[inline(always)]
 pub(crate) fn read_child(
     table: &TreeTable,
-    seat: &mut TreeSeat,
+    token: &mut TreeToken,
     node: u32,
     key: u64,
 ) -> Counted<Look>
-    requires same_table { seat.old.table ≡ table.now.table }
-    requires node { IsNode (now seat.old.view) node }
-    ensures same_table { seat.new.table ≡ seat.old.table }
-    ensures read { let look = result.value in ReadsChild seat.old.view seat.new.view node key
+    requires same_table { token.old.table ≡ table.now.table }
+    requires node { IsNode (now token.old.view) node }
+    ensures same_table { token.new.table ≡ token.old.table }
+    ensures read { let look = result.value in ReadsChild token.old.view token.new.view node key
         look.index result.loads (ref_meant look.reference) }
 {
-    know(seat);
-    let child = slot_for(table, seat, node, key);
-    know(seat);
-    let side = past_change(table, seat, child.value.word);
-    let reference = past_rebuild(table, seat, side.value);
+    know(token);
+    let child = slot_for(table, token, node, key);
+    know(token);
+    let side = past_change(table, token, child.value.word);
+    let reference = past_rebuild(table, token, side.value);
     Counted {
         value: Look {
             index: child.value.index,

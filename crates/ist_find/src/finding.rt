@@ -13,20 +13,20 @@ use crate::answers::{Counted, Found, Look};
 use crate::children::read_child;
 use crate::reading::value_in;
 use ist_layout::{ANCHOR, Ref};
-use ist_rule::{TreeSeat, TreeTable, begin_search, know};
+use ist_rule::{TreeTable, TreeToken, begin_search, know};
 
 // Looks at the slot for the key of a node that the search has reached. Inlined, so that callers who
 // ignore the number of loads pay nothing for it.
 #[inline(always)]
-fn look_at(table: &TreeTable, seat: &mut TreeSeat, node: u32, key: u64) -> Counted<Look>
-    requires same_table { seat.old.table ≡ table.now.table }
-    requires come { Came seat.old.view key node }
-    ensures same_table { seat.new.table ≡ seat.old.table }
-    ensures looked { let look = result.value in LooksAtChild seat.old.view seat.new.view node key
+fn look_at(table: &TreeTable, token: &mut TreeToken, node: u32, key: u64) -> Counted<Look>
+    requires same_table { token.old.table ≡ table.now.table }
+    requires come { Came token.old.view key node }
+    ensures same_table { token.new.table ≡ token.old.table }
+    ensures looked { let look = result.value in LooksAtChild token.old.view token.new.view node key
         look.index result.loads (ref_meant look.reference) }
 {
-    know(seat);
-    read_child(table, seat, node, key)
+    know(token);
+    read_child(table, token, node, key)
 }
 
 /// Searches for the key from the anchor down, only by loads, and returns its value, if it has one.
@@ -38,49 +38,49 @@ fn look_at(table: &TreeTable, seat: &mut TreeSeat, node: u32, key: u64) -> Count
 /// Never blocks: each row lies above the one before it. The rows that it enters are the chain of
 /// the node in which it ends. It makes at most 10 loads, plus for each of these rows 12 and the
 /// distance of the guess from the child for the key.
-pub fn find_from_anchor(table: &TreeTable, seat: &mut TreeSeat, key: u64) -> Found
-    requires same_table { seat.old.table ≡ table.now.table }
-    ensures same_table { seat.new.table ≡ seat.old.table }
-    ensures seen { HasSearched seat.old.view seat.new.view }
-    ensures value { let w = seat.new.view in
-        HasPosition w.start w.words seat.old.view.log w.log key result.value }
-    ensures found { HasFound seat.new.view key result.node result.index result.value }
-    ensures linked { let w = seat.new.view in WasLinked (start w.start w.words) w.log result.node }
-    ensures index { IsChildFor (now seat.new.view) result.node key result.index }
-    ensures loads { HasFewLoads seat.old.view seat.new.view key result.node }
+pub fn find_from_anchor(table: &TreeTable, token: &mut TreeToken, key: u64) -> Found
+    requires same_table { token.old.table ≡ table.now.table }
+    ensures same_table { token.new.table ≡ token.old.table }
+    ensures seen { HasSearched token.old.view token.new.view }
+    ensures value { let w = token.new.view in
+        HasPosition w.start w.words token.old.view.log w.log key result.value }
+    ensures found { HasFound token.new.view key result.node result.index result.value }
+    ensures linked { let w = token.new.view in WasLinked (start w.start w.words) w.log result.node }
+    ensures index { IsChildFor (now token.new.view) result.node key result.index }
+    ensures loads { HasFewLoads token.old.view token.new.view key result.node }
 {
-    find_and_loads(table, seat, key).value
+    find_and_loads(table, token, key).value
 }
 
 /// The same search, which also returns how many words it loaded.
-pub fn find_and_loads(table: &TreeTable, seat: &mut TreeSeat, key: u64) -> Counted<Found>
-    requires same_table { seat.old.table ≡ table.now.table }
-    ensures same_table { seat.new.table ≡ seat.old.table }
-    ensures seen { HasSearched seat.old.view seat.new.view }
-    ensures value { let w = seat.new.view in
-        HasPosition w.start w.words seat.old.view.log w.log key result.value.value }
+pub fn find_and_loads(table: &TreeTable, token: &mut TreeToken, key: u64) -> Counted<Found>
+    requires same_table { token.old.table ≡ table.now.table }
+    ensures same_table { token.new.table ≡ token.old.table }
+    ensures seen { HasSearched token.old.view token.new.view }
+    ensures value { let w = token.new.view in
+        HasPosition w.start w.words token.old.view.log w.log key result.value.value }
     ensures found { let it = result.value in
-        HasFound seat.new.view key it.node it.index it.value }
-    ensures linked { let w = seat.new.view in
+        HasFound token.new.view key it.node it.index it.value }
+    ensures linked { let w = token.new.view in
         WasLinked (start w.start w.words) w.log result.value.node }
     ensures index { let it = result.value in
-        IsChildFor (now seat.new.view) it.node key it.index }
-    ensures loads { HasFewLoads seat.old.view seat.new.view key result.value.node }
-    ensures counted { seat.new.view.loaded ≡ seat.old.view.loaded + result.loads }
+        IsChildFor (now token.new.view) it.node key it.index }
+    ensures loads { HasFewLoads token.old.view token.new.view key result.value.node }
+    ensures counted { token.new.view.loaded ≡ token.old.view.loaded + result.loads }
 {
     // One load begins the search.
-    begin_search(table, seat);
-    know(seat);
+    begin_search(table, token);
+    know(token);
     let mut node = ANCHOR;
-    let mut look = look_at(table, seat, node, key);
+    let mut look = look_at(table, token, node, key);
     let mut loads = look.loads + 1;
     while let Ref::Inner { base } = look.value.reference {
         node = base;
-        look = look_at(table, seat, node, key);
+        look = look_at(table, token, node, key);
         loads += look.loads;
     }
-    let value = value_in(table, seat, look.value.reference, key);
-    know(seat);
+    let value = value_in(table, token, look.value.reference, key);
+    know(token);
     Counted {
         value: Found {
             value: value.value,

@@ -10,35 +10,35 @@ ghost use Rattle.ist_find.specs.Looks.{FindsChild};
 use crate::answers::Counted;
 use ist_layout::{INNER_DEGREE_OFFSET, key_place};
 use ist_math::{FEW_KEYS, Gallop, guess};
-use ist_rule::{TreeSeat, TreeTable, know, load};
+use ist_rule::{TreeTable, TreeToken, know, load};
 
 /// Returns how many keys an inner row has.
-pub(crate) fn key_count(table: &TreeTable, seat: &mut TreeSeat, node: u32) -> u64
-    requires same_table { seat.old.table ≡ table.now.table }
-    requires row { IsRow seat.old.view node }
-    ensures same_table { seat.new.table ≡ seat.old.table }
-    ensures seen { GoesOnTo seat.old.view seat.new.view }
-    ensures loads { seat.new.view.loaded ≡ seat.old.view.loaded + 1 }
-    ensures value { result ≡ length (keys_at seat.old.view node) }
+pub(crate) fn key_count(table: &TreeTable, token: &mut TreeToken, node: u32) -> u64
+    requires same_table { token.old.table ≡ table.now.table }
+    requires row { IsRow token.old.view node }
+    ensures same_table { token.new.table ≡ token.old.table }
+    ensures seen { GoesOnTo token.old.view token.new.view }
+    ensures loads { token.new.view.loaded ≡ token.old.view.loaded + 1 }
+    ensures value { result ≡ length (keys_at token.old.view node) }
     ensures low { result + 1 < place_limit }
 {
-    know(seat);
-    let degree = load(table, seat, u64::from(node) + INNER_DEGREE_OFFSET);
+    know(token);
+    let degree = load(table, token, u64::from(node) + INNER_DEGREE_OFFSET);
     degree - 1
 }
 
 /// Returns key `j` of an inner row, counted from 0.
-pub(crate) fn key_at(table: &TreeTable, seat: &mut TreeSeat, node: u32, j: u64) -> u64
-    requires same_table { seat.old.table ≡ table.now.table }
-    requires row { IsRow seat.old.view node }
-    requires within { j < length (keys_at seat.old.view node) }
-    ensures same_table { seat.new.table ≡ seat.old.table }
-    ensures seen { GoesOnTo seat.old.view seat.new.view }
-    ensures loads { seat.new.view.loaded ≡ seat.old.view.loaded + 1 }
-    ensures value { result ≡ slice_index (keys_at seat.old.view node) j }
+pub(crate) fn key_at(table: &TreeTable, token: &mut TreeToken, node: u32, j: u64) -> u64
+    requires same_table { token.old.table ≡ table.now.table }
+    requires row { IsRow token.old.view node }
+    requires within { j < length (keys_at token.old.view node) }
+    ensures same_table { token.new.table ≡ token.old.table }
+    ensures seen { GoesOnTo token.old.view token.new.view }
+    ensures loads { token.new.view.loaded ≡ token.old.view.loaded + 1 }
+    ensures value { result ≡ slice_index (keys_at token.old.view node) j }
 {
-    know(seat);
-    load(table, seat, key_place(node, j + 1))
+    know(token);
+    load(table, token, key_place(node, j + 1))
 }
 
 // The keys at both ends of a row.
@@ -49,37 +49,37 @@ struct EndKeys {
 }
 
 // The keys at both ends of a row that has keys.
-fn end_keys(table: &TreeTable, seat: &mut TreeSeat, node: u32, count: u64) -> EndKeys
-    requires same_table { seat.old.table ≡ table.now.table }
-    requires row { IsRow seat.old.view node }
-    requires count { count ≡ length (keys_at seat.old.view node) }
+fn end_keys(table: &TreeTable, token: &mut TreeToken, node: u32, count: u64) -> EndKeys
+    requires same_table { token.old.table ≡ table.now.table }
+    requires row { IsRow token.old.view node }
+    requires count { count ≡ length (keys_at token.old.view node) }
     requires some { 1 ≤ count }
-    ensures same_table { seat.new.table ≡ seat.old.table }
-    ensures seen { GoesOnTo seat.old.view seat.new.view }
-    ensures loads { seat.new.view.loaded ≡ seat.old.view.loaded + 2 }
-    ensures first { result.first ≡ slice_index (keys_at seat.old.view node) 0 }
-    ensures last { let keys = keys_at seat.old.view node in
+    ensures same_table { token.new.table ≡ token.old.table }
+    ensures seen { GoesOnTo token.old.view token.new.view }
+    ensures loads { token.new.view.loaded ≡ token.old.view.loaded + 2 }
+    ensures first { result.first ≡ slice_index (keys_at token.old.view node) 0 }
+    ensures last { let keys = keys_at token.old.view node in
         result.last ≡ slice_index keys (length keys - 1) }
 {
-    let first = key_at(table, seat, node, 0);
-    let last = key_at(table, seat, node, count - 1);
+    let first = key_at(table, token, node, 0);
+    let last = key_at(table, token, node, count - 1);
     EndKeys { first, last }
 }
 
 // How many keys of a row are at most `key`, found by a look at each.
-fn count_through(table: &TreeTable, seat: &mut TreeSeat, node: u32, count: u64, key: u64) -> u64
-    requires same_table { seat.old.table ≡ table.now.table }
-    requires row { IsRow seat.old.view node }
-    requires count { count ≡ length (keys_at seat.old.view node) }
-    ensures same_table { seat.new.table ≡ seat.old.table }
-    ensures seen { GoesOnTo seat.old.view seat.new.view }
-    ensures loads { seat.new.view.loaded ≡ seat.old.view.loaded + count }
-    ensures value { result ≡ child_count (keys_at seat.old.view node) key }
+fn count_through(table: &TreeTable, token: &mut TreeToken, node: u32, count: u64, key: u64) -> u64
+    requires same_table { token.old.table ≡ table.now.table }
+    requires row { IsRow token.old.view node }
+    requires count { count ≡ length (keys_at token.old.view node) }
+    ensures same_table { token.new.table ≡ token.old.table }
+    ensures seen { GoesOnTo token.old.view token.new.view }
+    ensures loads { token.new.view.loaded ≡ token.old.view.loaded + count }
+    ensures value { result ≡ child_count (keys_at token.old.view node) key }
 {
-    know(seat);
+    know(token);
     let mut found = 0;
     for j in 0..count {
-        if key_at(table, seat, node, j) <= key {
+        if key_at(table, token, node, j) <= key {
             found += 1;
         }
     }
@@ -89,31 +89,31 @@ fn count_through(table: &TreeTable, seat: &mut TreeSeat, node: u32, count: u64, 
 // The child for a key between the end keys, found by a gallop from a guess, and its loads.
 fn gallop_from(
     table: &TreeTable,
-    seat: &mut TreeSeat,
+    token: &mut TreeToken,
     node: u32,
     count: u64,
     from: u64,
     key: u64,
 ) -> Counted<u64>
-    requires same_table { seat.old.table ≡ table.now.table }
-    requires row { IsRow seat.old.view node }
-    requires count { count ≡ length (keys_at seat.old.view node) }
+    requires same_table { token.old.table ≡ table.now.table }
+    requires row { IsRow token.old.view node }
+    requires count { count ≡ length (keys_at token.old.view node) }
     requires fits { count < place_limit }
     requires some { 1 ≤ from }
     requires within { from < count }
-    requires first { slice_index (keys_at seat.old.view node) 0 ≤ key }
-    requires last { let keys = keys_at seat.old.view node in
+    requires first { slice_index (keys_at token.old.view node) 0 ≤ key }
+    requires last { let keys = keys_at token.old.view node in
         key < slice_index keys (length keys - 1) }
-    ensures same_table { seat.new.table ≡ seat.old.table }
-    ensures finds { FindsChild seat.old.view seat.new.view node key count from 0 result.value
+    ensures same_table { token.new.table ≡ token.old.table }
+    ensures finds { FindsChild token.old.view token.new.view node key count from 0 result.value
         result.loads }
 {
-    know(seat);
-    let mut gallop = Gallop::begin(count, from, key_at(table, seat, node, from) > key);
+    know(token);
+    let mut gallop = Gallop::begin(count, from, key_at(table, token, node, from) > key);
     let mut loads = 1;
     while gallop.is_open() {
         let at = gallop.probe();
-        gallop = gallop.told(at, key_at(table, seat, node, at) > key);
+        gallop = gallop.told(at, key_at(table, token, node, at) > key);
         loads += 1;
     }
     Counted {
@@ -126,22 +126,22 @@ fn gallop_from(
 #[inline(always)]
 fn child_among_many(
     table: &TreeTable,
-    seat: &mut TreeSeat,
+    token: &mut TreeToken,
     node: u32,
     count: u64,
     key: u64,
 ) -> Counted<u64>
-    requires same_table { seat.old.table ≡ table.now.table }
-    requires row { IsRow seat.old.view node }
-    requires count { count ≡ length (keys_at seat.old.view node) }
+    requires same_table { token.old.table ≡ table.now.table }
+    requires row { IsRow token.old.view node }
+    requires count { count ≡ length (keys_at token.old.view node) }
     requires fits { count < place_limit }
     requires many { 4 < count }
-    ensures same_table { seat.new.table ≡ seat.old.table }
-    ensures finds { let guess = guess_in (keys_at seat.old.view node) key in
-        FindsChild seat.old.view seat.new.view node key count guess 2 result.value result.loads }
+    ensures same_table { token.new.table ≡ token.old.table }
+    ensures finds { let guess = guess_in (keys_at token.old.view node) key in
+        FindsChild token.old.view token.new.view node key count guess 2 result.value result.loads }
 {
-    know(seat);
-    let ends = end_keys(table, seat, node, count);
+    know(token);
+    let ends = end_keys(table, token, node, count);
     if key < ends.first {
         return Counted { value: 0, loads: 2 };
     }
@@ -150,7 +150,7 @@ fn child_among_many(
         return Counted { value, loads: 2 };
     }
     let from = guess(ends.first, ends.last, count, key);
-    let child = gallop_from(table, seat, node, count, from, key);
+    let child = gallop_from(table, token, node, count, from, key);
     let loads = child.loads + 2;
     let value = child.value;
     Counted { value, loads }
@@ -161,23 +161,23 @@ fn child_among_many(
 #[inline(always)]
 pub(crate) fn child_for(
     table: &TreeTable,
-    seat: &mut TreeSeat,
+    token: &mut TreeToken,
     node: u32,
     count: u64,
     key: u64,
 ) -> Counted<u64>
-    requires same_table { seat.old.table ≡ table.now.table }
-    requires row { IsRow seat.old.view node }
-    requires count { count ≡ length (keys_at seat.old.view node) }
+    requires same_table { token.old.table ≡ table.now.table }
+    requires row { IsRow token.old.view node }
+    requires count { count ≡ length (keys_at token.old.view node) }
     requires fits { count < place_limit }
-    ensures same_table { seat.new.table ≡ seat.old.table }
-    ensures finds { let guess = guess_in (keys_at seat.old.view node) key in
-        FindsChild seat.old.view seat.new.view node key count guess 2 result.value result.loads }
+    ensures same_table { token.new.table ≡ token.old.table }
+    ensures finds { let guess = guess_in (keys_at token.old.view node) key in
+        FindsChild token.old.view token.new.view node key count guess 2 result.value result.loads }
 {
     if count <= FEW_KEYS {
-        let value = count_through(table, seat, node, count, key);
+        let value = count_through(table, token, node, count, key);
         let loads = count;
         return Counted { value, loads };
     }
-    child_among_many(table, seat, node, count, key)
+    child_among_many(table, token, node, count, key)
 }

@@ -1,8 +1,8 @@
 //! The search without waiting: it loads words, never writes one, and ends.
 //!
 //! Read `specs/Searches.antt`, then `finding.rt`, `walking.rt` and `children.rt`. Builds on `ist_core`,
-//! `ist_layout`, `ist_math`, `ist_rule`, `ist_dcss`, and on the laws of `laws_rebuilds`, `laws_histories`
-//! and `laws_walks`.
+//! `ist_layout`, `ist_math`, `ist_rule`, `ist_dcss`, and on the laws of `laws_links`, `laws_histories`
+//! and `laws_calls`.
 #![tactic(auto)]
 
 mod answers;

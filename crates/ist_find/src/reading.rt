@@ -15,7 +15,7 @@ use ist_layout::{
     CHANGE_DECISION_OFFSET, CHANGE_FROM_OFFSET, CHANGE_TO_OFFSET, DECIDED_YES, LEAF_KEY_OFFSET,
     LEAF_VALUE_OFFSET, REBUILD_TARGET_OFFSET, Ref,
 };
-use ist_rule::{TreeSeat, TreeTable, know, load};
+use ist_rule::{TreeTable, TreeToken, know, load};
 
 // Which word of a change its slot reads as, if this is its decision.
 fn side_offset(decision: u64) -> u64
@@ -31,33 +31,33 @@ fn side_offset(decision: u64) -> u64
 
 // What the slot of the change at `base` reads as: `to` if the change was decided yes at the first
 // step of this call, and otherwise `from`.
-fn side(table: &TreeTable, seat: &mut TreeSeat, word: u64, base: u32) -> u64
-    requires same_table { seat.old.table ≡ table.now.table }
+fn side(table: &TreeTable, token: &mut TreeToken, word: u64, base: u32) -> u64
+    requires same_table { token.old.table ≡ table.now.table }
     requires change { ref_of word ≡ Some (ChangeAt base) }
-    requires row { SeesChange seat.old.view base }
-    ensures same_table { seat.new.table ≡ seat.old.table }
-    ensures side { TellsSide seat.old.view seat.new.view word result }
-    ensures loads { seat.new.view.loaded ≡ seat.old.view.loaded + 2 }
+    requires row { SeesChange token.old.view base }
+    ensures same_table { token.new.table ≡ token.old.table }
+    ensures side { TellsSide token.old.view token.new.view word result }
+    ensures loads { token.new.view.loaded ≡ token.old.view.loaded + 2 }
 {
-    know(seat);
-    let decision = load(table, seat, u64::from(base) + CHANGE_DECISION_OFFSET);
-    know(seat);
-    load(table, seat, u64::from(base) + side_offset(decision))
+    know(token);
+    let decision = load(table, token, u64::from(base) + CHANGE_DECISION_OFFSET);
+    know(token);
+    load(table, token, u64::from(base) + side_offset(decision))
 }
 
 /// What the word of a slot reads as after its change, if it names one, is followed.
-pub(crate) fn past_change(table: &TreeTable, seat: &mut TreeSeat, word: u64) -> Counted<u64>
-    requires same_table { seat.old.table ≡ table.now.table }
-    requires names { Names seat.old.view (ref_of word) }
-    ensures same_table { seat.new.table ≡ seat.old.table }
-    ensures side { TellsSide seat.old.view seat.new.view word result.value }
-    ensures counted { seat.new.view.loaded ≡ seat.old.view.loaded + result.loads }
+pub(crate) fn past_change(table: &TreeTable, token: &mut TreeToken, word: u64) -> Counted<u64>
+    requires same_table { token.old.table ≡ table.now.table }
+    requires names { Names token.old.view (ref_of word) }
+    ensures same_table { token.new.table ≡ token.old.table }
+    ensures side { TellsSide token.old.view token.new.view word result.value }
+    ensures counted { token.new.view.loaded ≡ token.old.view.loaded + result.loads }
     ensures loads { result.loads ≤ 2 }
 {
-    know(seat);
+    know(token);
     match change_in(word) {
         Some(base) => {
-            let value = side(table, seat, word, base);
+            let value = side(table, token, word, base);
             Counted { value, loads: 2 }
         }
         None => Counted {
@@ -90,36 +90,36 @@ fn named(word: u64) -> Ref
 }
 
 // The target of the rebuild at `base`.
-fn target(table: &TreeTable, seat: &mut TreeSeat, word: u64, base: u32) -> Ref
-    requires same_table { seat.old.table ≡ table.now.table }
+fn target(table: &TreeTable, token: &mut TreeToken, word: u64, base: u32) -> Ref
+    requires same_table { token.old.table ≡ table.now.table }
     requires rebuild { ref_of word ≡ Some (RebuildAt base) }
-    requires row { SeesRebuild seat.old.view base }
-    ensures same_table { seat.new.table ≡ seat.old.table }
-    ensures target { TellsTarget seat.old.view seat.new.view word (ref_meant result) }
-    ensures loads { seat.new.view.loaded ≡ seat.old.view.loaded + 1 }
+    requires row { SeesRebuild token.old.view base }
+    ensures same_table { token.new.table ≡ token.old.table }
+    ensures target { TellsTarget token.old.view token.new.view word (ref_meant result) }
+    ensures loads { token.new.view.loaded ≡ token.old.view.loaded + 1 }
 {
-    know(seat);
-    let target = load(table, seat, u64::from(base) + REBUILD_TARGET_OFFSET);
-    know(seat);
+    know(token);
+    let target = load(table, token, u64::from(base) + REBUILD_TARGET_OFFSET);
+    know(token);
     Ref::Inner {
         base: target as u32,
     }
 }
 
 /// What such a word reads as after its rebuild, if it names one, is followed too.
-pub(crate) fn past_rebuild(table: &TreeTable, seat: &mut TreeSeat, word: u64) -> Counted<Ref>
-    requires same_table { seat.old.table ≡ table.now.table }
-    requires names { Names seat.old.view (ref_of word) }
+pub(crate) fn past_rebuild(table: &TreeTable, token: &mut TreeToken, word: u64) -> Counted<Ref>
+    requires same_table { token.old.table ≡ table.now.table }
+    requires names { Names token.old.view (ref_of word) }
     requires plain { IsPlain (ref_of word) }
-    ensures same_table { seat.new.table ≡ seat.old.table }
-    ensures target { TellsTarget seat.old.view seat.new.view word (ref_meant result.value) }
-    ensures counted { seat.new.view.loaded ≡ seat.old.view.loaded + result.loads }
+    ensures same_table { token.new.table ≡ token.old.table }
+    ensures target { TellsTarget token.old.view token.new.view word (ref_meant result.value) }
+    ensures counted { token.new.view.loaded ≡ token.old.view.loaded + result.loads }
     ensures loads { result.loads ≤ 1 }
 {
-    know(seat);
+    know(token);
     match rebuild_in(word) {
         Some(base) => {
-            let value = target(table, seat, word, base);
+            let value = target(table, token, word, base);
             Counted { value, loads: 1 }
         }
         None => Counted {
@@ -141,23 +141,23 @@ pub(crate) fn leaf_in(reference: Ref) -> Option<u32>
 }
 
 // The value that the leaf gives the key.
-fn leaf_value(table: &TreeTable, seat: &mut TreeSeat, base: u32, key: u64) -> Counted<Option<u64>>
-    requires same_table { seat.old.table ≡ table.now.table }
-    requires leaf { SeesLeaf seat.old.view base }
-    ensures same_table { seat.new.table ≡ seat.old.table }
-    ensures value { TellsValue seat.old.view seat.new.view key (LeafAt base) result.value }
-    ensures counted { seat.new.view.loaded ≡ seat.old.view.loaded + result.loads }
+fn leaf_value(table: &TreeTable, token: &mut TreeToken, base: u32, key: u64) -> Counted<Option<u64>>
+    requires same_table { token.old.table ≡ table.now.table }
+    requires leaf { SeesLeaf token.old.view base }
+    ensures same_table { token.new.table ≡ token.old.table }
+    ensures value { TellsValue token.old.view token.new.view key (LeafAt base) result.value }
+    ensures counted { token.new.view.loaded ≡ token.old.view.loaded + result.loads }
     ensures loads { result.loads ≤ 2 }
 {
-    know(seat);
-    if load(table, seat, u64::from(base) + LEAF_KEY_OFFSET) != key {
+    know(token);
+    if load(table, token, u64::from(base) + LEAF_KEY_OFFSET) != key {
         return Counted {
             value: None,
             loads: 1,
         };
     }
-    know(seat);
-    let value = load(table, seat, u64::from(base) + LEAF_VALUE_OFFSET);
+    know(token);
+    let value = load(table, token, u64::from(base) + LEAF_VALUE_OFFSET);
     Counted {
         value: Some(value),
         loads: 2,
@@ -167,20 +167,20 @@ fn leaf_value(table: &TreeTable, seat: &mut TreeSeat, base: u32, key: u64) -> Co
 /// The value that an empty slot or a leaf gives the key.
 pub(crate) fn value_in(
     table: &TreeTable,
-    seat: &mut TreeSeat,
+    token: &mut TreeToken,
     reference: Ref,
     key: u64,
 ) -> Counted<Option<u64>>
-    requires same_table { seat.old.table ≡ table.now.table }
-    requires end { IsEnd seat.old.view (ref_meant reference) }
-    ensures same_table { seat.new.table ≡ seat.old.table }
-    ensures value { TellsValue seat.old.view seat.new.view key (ref_meant reference) result.value }
-    ensures counted { seat.new.view.loaded ≡ seat.old.view.loaded + result.loads }
+    requires same_table { token.old.table ≡ table.now.table }
+    requires end { IsEnd token.old.view (ref_meant reference) }
+    ensures same_table { token.new.table ≡ token.old.table }
+    ensures value { TellsValue token.old.view token.new.view key (ref_meant reference) result.value }
+    ensures counted { token.new.view.loaded ≡ token.old.view.loaded + result.loads }
     ensures loads { result.loads ≤ 2 }
 {
-    know(seat);
+    know(token);
     match leaf_in(reference) {
-        Some(base) => leaf_value(table, seat, base, key),
+        Some(base) => leaf_value(table, token, base, key),
         None => Counted {
             value: None,
             loads: 0,

@@ -21,156 +21,156 @@ use crate::keys::{key_at, key_count};
 use crate::reading::leaf_in;
 use ist_core::Pair;
 use ist_layout::{ANCHOR, LEAF_KEY_OFFSET, LEAF_VALUE_OFFSET, Ref};
-use ist_rule::{TreeSeat, TreeTable, begin_search, know, load};
+use ist_rule::{TreeTable, TreeToken, begin_search, know, load};
 
 // ---- which keys share a child
 
 // The least key from `first` on that isn't below the child's keys.
-fn first_of(table: &TreeTable, seat: &mut TreeSeat, node: u32, index: u64, first: u64) -> u64
-    requires same_table { seat.old.table ≡ table.now.table }
-    requires row { IsRow seat.old.view node }
-    requires within { index ≤ length (keys_at seat.old.view node) }
-    ensures same_table { seat.new.table ≡ seat.old.table }
-    ensures seen { GoesOnTo seat.old.view seat.new.view }
-    ensures loads { seat.new.view.loaded ≤ seat.old.view.loaded + 1 }
+fn first_of(table: &TreeTable, token: &mut TreeToken, node: u32, index: u64, first: u64) -> u64
+    requires same_table { token.old.table ≡ table.now.table }
+    requires row { IsRow token.old.view node }
+    requires within { index ≤ length (keys_at token.old.view node) }
+    ensures same_table { token.new.table ≡ token.old.table }
+    ensures seen { GoesOnTo token.old.view token.new.view }
+    ensures loads { token.new.view.loaded ≤ token.old.view.loaded + 1 }
     ensures low { first ≤ result }
-    ensures above { 0 < index → slice_index (keys_at seat.old.view node) (index - 1) ≤ result }
-    ensures edge { first < result → Among result (keys_at seat.old.view node) }
+    ensures above { 0 < index → slice_index (keys_at token.old.view node) (index - 1) ≤ result }
+    ensures edge { first < result → Among result (keys_at token.old.view node) }
     ensures least { (key : ℕ) → first ≤ key
-        → (0 < index → slice_index (keys_at seat.old.view node) (index - 1) ≤ key)
+        → (0 < index → slice_index (keys_at token.old.view node) (index - 1) ≤ key)
         → result ≤ key }
 {
-    know(seat);
+    know(token);
     if index == 0 {
         return first;
     }
-    let low = key_at(table, seat, node, index - 1);
+    let low = key_at(table, token, node, index - 1);
     if first < low { low } else { first }
 }
 
 // The greatest key up to `last` that isn't above the child's keys.
 pub(crate) fn last_of(
     table: &TreeTable,
-    seat: &mut TreeSeat,
+    token: &mut TreeToken,
     node: u32,
     count: u64,
     index: u64,
     key: u64,
     last: u64,
 ) -> u64
-    requires same_table { seat.old.table ≡ table.now.table }
-    requires row { IsRow seat.old.view node }
-    requires count { count ≡ length (keys_at seat.old.view node) }
-    requires within { index ≤ length (keys_at seat.old.view node) }
-    requires below { index < length (keys_at seat.old.view node)
-        → key < slice_index (keys_at seat.old.view node) index }
-    ensures same_table { seat.new.table ≡ seat.old.table }
-    ensures seen { GoesOnTo seat.old.view seat.new.view }
-    ensures loads { seat.new.view.loaded ≤ seat.old.view.loaded + 1 }
+    requires same_table { token.old.table ≡ table.now.table }
+    requires row { IsRow token.old.view node }
+    requires count { count ≡ length (keys_at token.old.view node) }
+    requires within { index ≤ length (keys_at token.old.view node) }
+    requires below { index < length (keys_at token.old.view node)
+        → key < slice_index (keys_at token.old.view node) index }
+    ensures same_table { token.new.table ≡ token.old.table }
+    ensures seen { GoesOnTo token.old.view token.new.view }
+    ensures loads { token.new.view.loaded ≤ token.old.view.loaded + 1 }
     ensures high { result ≤ last }
-    ensures under { index < length (keys_at seat.old.view node)
-        → result < slice_index (keys_at seat.old.view node) index }
-    ensures edge { result < last → Among (result + 1) (keys_at seat.old.view node) }
+    ensures under { index < length (keys_at token.old.view node)
+        → result < slice_index (keys_at token.old.view node) index }
+    ensures edge { result < last → Among (result + 1) (keys_at token.old.view node) }
     ensures most { (k : ℕ) → k ≤ last
-        → (index < length (keys_at seat.old.view node)
-        → k < slice_index (keys_at seat.old.view node) index)
+        → (index < length (keys_at token.old.view node)
+        → k < slice_index (keys_at token.old.view node) index)
         → k ≤ result }
 {
-    know(seat);
+    know(token);
     if index == count {
         return last;
     }
-    let next = key_at(table, seat, node, index);
+    let next = key_at(table, token, node, index);
     if next <= last { next - 1 } else { last }
 }
 
 // The keys between these ends that have the same child of an inner row as `key`.
 fn row_ends(
     table: &TreeTable,
-    seat: &mut TreeSeat,
+    token: &mut TreeToken,
     node: u32,
     index: u64,
     key: u64,
     ends: Ends,
 ) -> Ends
-    requires same_table { seat.old.table ≡ table.now.table }
-    requires row { IsRow seat.old.view node }
-    requires child { index ≡ child_count (keys_at seat.old.view node) key }
+    requires same_table { token.old.table ≡ table.now.table }
+    requires row { IsRow token.old.view node }
+    requires child { index ≡ child_count (keys_at token.old.view node) key }
     requires first { ends.first ≤ key }
     requires last { key ≤ ends.last }
-    ensures same_table { seat.new.table ≡ seat.old.table }
-    ensures seen { GoesOnTo seat.old.view seat.new.view }
-    ensures loads { seat.new.view.loaded ≤ seat.old.view.loaded + 3 }
+    ensures same_table { token.new.table ≡ token.old.table }
+    ensures seen { GoesOnTo token.old.view token.new.view }
+    ensures loads { token.new.view.loaded ≤ token.old.view.loaded + 3 }
     ensures low { ends.first ≤ result.first }
     ensures first { result.first ≤ key }
     ensures last { key ≤ result.last }
     ensures high { result.last ≤ ends.last }
     ensures first_edge { ends.first < result.first
-        → Among result.first (keys_at seat.old.view node) }
+        → Among result.first (keys_at token.old.view node) }
     ensures last_edge { result.last < ends.last
-        → Among (result.last + 1) (keys_at seat.old.view node) }
+        → Among (result.last + 1) (keys_at token.old.view node) }
     ensures share { (k : ℕ) → result.first ≤ k → k ≤ result.last
-        → child_count (keys_at seat.old.view node) k ≡ index }
+        → child_count (keys_at token.old.view node) k ≡ index }
 {
-    know(seat);
-    let count = key_count(table, seat, node);
-    let first = first_of(table, seat, node, index, ends.first);
-    let last = last_of(table, seat, node, count, index, key, ends.last);
+    know(token);
+    let count = key_count(table, token, node);
+    let first = first_of(table, token, node, index, ends.first);
+    let last = last_of(table, token, node, count, index, key, ends.last);
     Ends { first, last }
 }
 
 // The same, also for the anchor, which has one child for all keys.
 fn shared_ends(
     table: &TreeTable,
-    seat: &mut TreeSeat,
+    token: &mut TreeToken,
     node: u32,
     index: u64,
     key: u64,
     ends: Ends,
 ) -> Ends
-    requires same_table { seat.old.table ≡ table.now.table }
-    requires node { IsNode (now seat.old.view) node }
-    requires child { IsChildFor (now seat.old.view) node key index }
+    requires same_table { token.old.table ≡ table.now.table }
+    requires node { IsNode (now token.old.view) node }
+    requires child { IsChildFor (now token.old.view) node key index }
     requires first { ends.first ≤ key }
     requires last { key ≤ ends.last }
-    requires edges { EndAtEdges (now seat.old.view) ends.first ends.last }
-    ensures same_table { seat.new.table ≡ seat.old.table }
-    ensures seen { GoesOnTo seat.old.view seat.new.view }
-    ensures loads { seat.new.view.loaded ≤ seat.old.view.loaded + 3 }
-    ensures anchor_loads { node ≡ anchor → seat.new.view.loaded ≡ seat.old.view.loaded }
+    requires edges { EndAtEdges (now token.old.view) ends.first ends.last }
+    ensures same_table { token.new.table ≡ token.old.table }
+    ensures seen { GoesOnTo token.old.view token.new.view }
+    ensures loads { token.new.view.loaded ≤ token.old.view.loaded + 3 }
+    ensures anchor_loads { node ≡ anchor → token.new.view.loaded ≡ token.old.view.loaded }
     ensures low { ends.first ≤ result.first }
     ensures first { result.first ≤ key }
     ensures last { key ≤ result.last }
     ensures high { result.last ≤ ends.last }
-    ensures edges { EndAtEdges (now seat.new.view) result.first result.last }
+    ensures edges { EndAtEdges (now token.new.view) result.first result.last }
     ensures share { (k : ℕ) → result.first ≤ k → k ≤ result.last
-        → IsChildFor (now seat.old.view) node k index }
+        → IsChildFor (now token.old.view) node k index }
 {
-    know(seat);
+    know(token);
     if node == ANCHOR {
         return ends;
     }
-    row_ends(table, seat, node, index, key, ends)
+    row_ends(table, token, node, index, key, ends)
 }
 
 // ---- a look for all of them
 
 // Looks at the key's slot of a node that the search for each key between these ends has reached. By
 // the same loads, the search for each key with this child has looked there.
-fn look_for_all(table: &TreeTable, seat: &mut TreeSeat, node: u32, key: u64, ends: Ends) -> Shared
-    requires same_table { seat.old.table ≡ table.now.table }
-    requires come { AllCome seat.old.view ends.first ends.last node }
+fn look_for_all(table: &TreeTable, token: &mut TreeToken, node: u32, key: u64, ends: Ends) -> Shared
+    requires same_table { token.old.table ≡ table.now.table }
+    requires come { AllCome token.old.view ends.first ends.last node }
     requires first { ends.first ≤ key }
     requires last { key ≤ ends.last }
-    requires edges { EndAtEdges (now seat.old.view) ends.first ends.last }
-    ensures same_table { seat.new.table ≡ seat.old.table }
-    ensures looked { let shared = result.ends in LooksForAll seat.old.view seat.new.view node key
+    requires edges { EndAtEdges (now token.old.view) ends.first ends.last }
+    ensures same_table { token.new.table ≡ token.old.table }
+    ensures looked { let shared = result.ends in LooksForAll token.old.view token.new.view node key
         ends.first ends.last result.index shared.first shared.last (ref_meant result.reference) }
 {
-    know(seat);
-    let look = read_child(table, seat, node, key);
+    know(token);
+    let look = read_child(table, token, node, key);
     let index = look.value.index;
-    let shared = shared_ends(table, seat, node, index, key, ends);
+    let shared = shared_ends(table, token, node, index, key, ends);
     Shared {
         index,
         reference: look.value.reference,
@@ -179,35 +179,35 @@ fn look_for_all(table: &TreeTable, seat: &mut TreeSeat, node: u32, key: u64, end
 }
 
 // The pair of the leaf. It gives its key a value, and gives no other key one.
-fn leaf_pair(table: &TreeTable, seat: &mut TreeSeat, base: u32) -> Pair
-    requires same_table { seat.old.table ≡ table.now.table }
-    requires leaf { SeesLeaf seat.old.view base }
-    ensures same_table { seat.new.table ≡ seat.old.table }
-    ensures seen { GoesOnTo seat.old.view seat.new.view }
-    ensures loads { seat.new.view.loaded ≡ seat.old.view.loaded + 2 }
-    ensures values { (k : ℕ) → TellsValue seat.old.view seat.new.view k (LeafAt base)
+fn leaf_pair(table: &TreeTable, token: &mut TreeToken, base: u32) -> Pair
+    requires same_table { token.old.table ≡ table.now.table }
+    requires leaf { SeesLeaf token.old.view base }
+    ensures same_table { token.new.table ≡ token.old.table }
+    ensures seen { GoesOnTo token.old.view token.new.view }
+    ensures loads { token.new.view.loaded ≡ token.old.view.loaded + 2 }
+    ensures values { (k : ℕ) → TellsValue token.old.view token.new.view k (LeafAt base)
         (pair_value (Some result) k) }
 {
-    know(seat);
-    let key = load(table, seat, u64::from(base) + LEAF_KEY_OFFSET);
-    know(seat);
-    let value = load(table, seat, u64::from(base) + LEAF_VALUE_OFFSET);
+    know(token);
+    let key = load(table, token, u64::from(base) + LEAF_KEY_OFFSET);
+    know(token);
+    let value = load(table, token, u64::from(base) + LEAF_VALUE_OFFSET);
     Pair { key, value }
 }
 
 // The pair in the slot, if it holds a leaf.
-pub(crate) fn end_pair(table: &TreeTable, seat: &mut TreeSeat, reference: Ref) -> Option<Pair>
-    requires same_table { seat.old.table ≡ table.now.table }
-    requires end { IsEnd seat.old.view (ref_meant reference) }
-    ensures same_table { seat.new.table ≡ seat.old.table }
-    ensures seen { GoesOnTo seat.old.view seat.new.view }
-    ensures loads { seat.new.view.loaded ≤ seat.old.view.loaded + 2 }
-    ensures values { (k : ℕ) → TellsValue seat.old.view seat.new.view k (ref_meant reference)
+pub(crate) fn end_pair(table: &TreeTable, token: &mut TreeToken, reference: Ref) -> Option<Pair>
+    requires same_table { token.old.table ≡ table.now.table }
+    requires end { IsEnd token.old.view (ref_meant reference) }
+    ensures same_table { token.new.table ≡ token.old.table }
+    ensures seen { GoesOnTo token.old.view token.new.view }
+    ensures loads { token.new.view.loaded ≤ token.old.view.loaded + 2 }
+    ensures values { (k : ℕ) → TellsValue token.old.view token.new.view k (ref_meant reference)
         (pair_value result k) }
 {
-    know(seat);
+    know(token);
     match leaf_in(reference) {
-        Some(base) => Some(leaf_pair(table, seat, base)),
+        Some(base) => Some(leaf_pair(table, token, base)),
         None => None,
     }
 }
@@ -236,33 +236,33 @@ pub(crate) fn pair_within(pair: Option<Pair>, ends: Ends) -> Option<Pair>
 /// Returns the range of that slot and the pair in it. Each key of the range has the value that the
 /// result gives it, at a position of its own during the call. The range ends at keys of inner rows.
 /// Never blocks. Its bound on loads is the bound of `find_from_anchor`, plus three for each row.
-pub fn find_span(table: &TreeTable, seat: &mut TreeSeat, key: u64) -> Span
-    requires same_table { seat.old.table ≡ table.now.table }
-    ensures same_table { seat.new.table ≡ seat.old.table }
-    ensures seen { HasSearched seat.old.view seat.new.view }
+pub fn find_span(table: &TreeTable, token: &mut TreeToken, key: u64) -> Span
+    requires same_table { token.old.table ≡ table.now.table }
+    ensures same_table { token.new.table ≡ token.old.table }
+    ensures seen { HasSearched token.old.view token.new.view }
     ensures first { result.first ≤ key }
     ensures last { key ≤ result.last }
     ensures within { IfSome result.pair (λ p. (result.first ≤ p.key) × (p.key ≤ result.last)) }
-    ensures values { let w = seat.new.view in (k : ℕ) → result.first ≤ k → k ≤ result.last
-        → HasPosition w.start w.words seat.old.view.log w.log k (pair_value result.pair k) }
-    ensures edges { EndAtEdges (now seat.new.view) result.first result.last }
+    ensures values { let w = token.new.view in (k : ℕ) → result.first ≤ k → k ≤ result.last
+        → HasPosition w.start w.words token.old.view.log w.log k (pair_value result.pair k) }
+    ensures edges { EndAtEdges (now token.new.view) result.first result.last }
     ensures loads { let value = pair_value result.pair key in
-        HasFewSpanLoads seat.old.view seat.new.view key value }
+        HasFewSpanLoads token.old.view token.new.view key value }
 {
-    begin_search(table, seat);
-    know(seat);
+    begin_search(table, token);
+    know(token);
     let mut node = ANCHOR;
     let all = Ends {
         first: 0,
         last: u64::MAX,
     };
-    let mut look = look_for_all(table, seat, node, key, all);
+    let mut look = look_for_all(table, token, node, key, all);
     while let Ref::Inner { base } = look.reference {
         node = base;
-        look = look_for_all(table, seat, node, key, look.ends);
+        look = look_for_all(table, token, node, key, look.ends);
     }
-    let pair = end_pair(table, seat, look.reference);
-    know(seat);
+    let pair = end_pair(table, token, look.reference);
+    know(token);
     let its_pair = pair_within(pair, look.ends);
     Span {
         first: look.ends.first,

@@ -15,7 +15,7 @@ use crate::reading::{past_change, past_rebuild};
 use crate::spans::{end_pair, last_of, pair_within};
 use ist_core::Pair;
 use ist_layout::{ANCHOR, ANCHOR_SLOT_PLACE, Ref};
-use ist_rule::{TreeSeat, TreeTable, know, load};
+use ist_rule::{TreeTable, TreeToken, know, load};
 use std::alloc::AllocError;
 
 // What a slot of a node read as, and the last of its keys.
@@ -26,104 +26,104 @@ struct SlotRead {
 }
 
 // The slot of a node for the key. The anchor has no keys, and one slot.
-fn first_slot(table: &TreeTable, seat: &mut TreeSeat, node: u32, key: u64) -> Place
-    requires same_table { seat.old.table ≡ table.now.table }
-    requires node { IsNode (now seat.old.view) node }
-    ensures same_table { seat.new.table ≡ seat.old.table }
-    ensures seen { GoesOnTo seat.old.view seat.new.view }
-    ensures loads { seat.new.view.loaded ≤ seat.old.view.loaded + starting seat.old.view node key }
-    ensures at { IsSlotForKey seat.new.view node key result.index result.count }
+fn first_slot(table: &TreeTable, token: &mut TreeToken, node: u32, key: u64) -> Place
+    requires same_table { token.old.table ≡ table.now.table }
+    requires node { IsNode (now token.old.view) node }
+    ensures same_table { token.new.table ≡ token.old.table }
+    ensures seen { GoesOnTo token.old.view token.new.view }
+    ensures loads { token.new.view.loaded ≤ token.old.view.loaded + starting token.old.view node key }
+    ensures at { IsSlotForKey token.new.view node key result.index result.count }
 {
-    know(seat);
+    know(token);
     if node == ANCHOR {
         return Place { count: 0, index: 0 };
     }
-    place_in_row(table, seat, node, key).value
+    place_in_row(table, token, node, key).value
 }
 
 // The greatest key up to `last` that has the same slot as `from`.
 fn slot_end(
     table: &TreeTable,
-    seat: &mut TreeSeat,
+    token: &mut TreeToken,
     node: u32,
     place: Place,
     from: u64,
     last: u64,
 ) -> u64
-    requires same_table { seat.old.table ≡ table.now.table }
-    requires at { IsSlotForKey seat.old.view node from place.index place.count }
+    requires same_table { token.old.table ≡ table.now.table }
+    requires at { IsSlotForKey token.old.view node from place.index place.count }
     requires some { from ≤ last }
-    ensures same_table { seat.new.table ≡ seat.old.table }
-    ensures seen { GoesOnTo seat.old.view seat.new.view }
-    ensures loads { seat.new.view.loaded ≤ seat.old.view.loaded + 1 }
-    ensures ends { SlotEnds seat.old.view node from result last place.index place.count }
+    ensures same_table { token.new.table ≡ token.old.table }
+    ensures seen { GoesOnTo token.old.view token.new.view }
+    ensures loads { token.new.view.loaded ≤ token.old.view.loaded + 1 }
+    ensures ends { SlotEnds token.old.view node from result last place.index place.count }
 {
-    know(seat);
+    know(token);
     if node == ANCHOR {
         return last;
     }
-    last_of(table, seat, node, place.count, place.index, from, last)
+    last_of(table, token, node, place.count, place.index, from, last)
 }
 
 // The word in a slot of a node.
-fn slot_word(table: &TreeTable, seat: &mut TreeSeat, node: u32, place: Place) -> u64
-    requires same_table { seat.old.table ≡ table.now.table }
-    requires node { IsNode (now seat.old.view) node }
-    requires count { place.count ≡ length (keys_at seat.old.view node) }
+fn slot_word(table: &TreeTable, token: &mut TreeToken, node: u32, place: Place) -> u64
+    requires same_table { token.old.table ≡ table.now.table }
+    requires node { IsNode (now token.old.view) node }
+    requires count { place.count ≡ length (keys_at token.old.view node) }
     requires within { place.index ≤ place.count }
-    ensures same_table { seat.new.table ≡ seat.old.table }
-    ensures seen { GoesOnTo seat.old.view seat.new.view }
-    ensures loads { seat.new.view.loaded ≡ seat.old.view.loaded + 1 }
-    ensures holds { SlotHolds (now seat.new.view) node place.index result }
+    ensures same_table { token.new.table ≡ token.old.table }
+    ensures seen { GoesOnTo token.old.view token.new.view }
+    ensures loads { token.new.view.loaded ≡ token.old.view.loaded + 1 }
+    ensures holds { SlotHolds (now token.new.view) node place.index result }
 {
-    know(seat);
+    know(token);
     if node == ANCHOR {
-        return load(table, seat, ANCHOR_SLOT_PLACE);
+        return load(table, token, ANCHOR_SLOT_PLACE);
     }
-    slot_of_row(table, seat, node, place.count, place.index)
+    slot_of_row(table, token, node, place.count, place.index)
 }
 
 // What a slot of a node reads as, by loads that are a look for each key of that slot.
-fn read_slot(table: &TreeTable, seat: &mut TreeSeat, node: u32, place: Place) -> Ref
-    requires same_table { seat.old.table ≡ table.now.table }
-    requires node { IsNode (now seat.old.view) node }
-    requires count { place.count ≡ length (keys_at seat.old.view node) }
+fn read_slot(table: &TreeTable, token: &mut TreeToken, node: u32, place: Place) -> Ref
+    requires same_table { token.old.table ≡ table.now.table }
+    requires node { IsNode (now token.old.view) node }
+    requires count { place.count ≡ length (keys_at token.old.view node) }
     requires within { place.index ≤ place.count }
-    ensures same_table { seat.new.table ≡ seat.old.table }
-    ensures seen { GoesOnTo seat.old.view seat.new.view }
-    ensures loads { seat.new.view.loaded ≤ seat.old.view.loaded + 4 }
-    ensures found { IsFoundAs seat.new.view (ref_meant result) }
-    ensures looked { (key least : ℕ) → least ≤ length seat.old.view.log
-        → IsChildFor (now seat.old.view) node key place.index
-        → LookedSince seat.new.view key least node place.index (ref_meant result) }
+    ensures same_table { token.new.table ≡ token.old.table }
+    ensures seen { GoesOnTo token.old.view token.new.view }
+    ensures loads { token.new.view.loaded ≤ token.old.view.loaded + 4 }
+    ensures found { IsFoundAs token.new.view (ref_meant result) }
+    ensures looked { (key least : ℕ) → least ≤ length token.old.view.log
+        → IsChildFor (now token.old.view) node key place.index
+        → LookedSince token.new.view key least node place.index (ref_meant result) }
 {
-    know(seat);
-    let word = slot_word(table, seat, node, place);
-    know(seat);
-    let side = past_change(table, seat, word);
-    let reference = past_rebuild(table, seat, side.value);
+    know(token);
+    let word = slot_word(table, token, node, place);
+    know(token);
+    let side = past_change(table, token, word);
+    let reference = past_rebuild(table, token, side.value);
     reference.value
 }
 
 // Reads the slot of the key `from`, and which keys up to `last` share it.
 fn read_from(
     table: &TreeTable,
-    seat: &mut TreeSeat,
+    token: &mut TreeToken,
     node: u32,
     place: Place,
     from: u64,
     last: u64,
 ) -> SlotRead
-    requires same_table { seat.old.table ≡ table.now.table }
-    requires at { IsSlotForKey seat.old.view node from place.index place.count }
+    requires same_table { token.old.table ≡ table.now.table }
+    requires at { IsSlotForKey token.old.view node from place.index place.count }
     requires some { from ≤ last }
-    ensures same_table { seat.new.table ≡ seat.old.table }
-    ensures read { HasReadSlot seat.old.view seat.new.view node from result.to last
+    ensures same_table { token.new.table ≡ token.old.table }
+    ensures read { HasReadSlot token.old.view token.new.view node from result.to last
         place.index place.count (ref_meant result.reference) }
 {
-    know(seat);
-    let to = slot_end(table, seat, node, place, from, last);
-    let reference = read_slot(table, seat, node, place);
+    know(token);
+    let to = slot_end(table, token, node, place, from, last);
+    let reference = read_slot(table, token, node, place);
     SlotRead { reference, to }
 }
 
@@ -143,19 +143,19 @@ fn push_pair(found: &mut Vec<Pair>, pair: Option<Pair>) -> Result<(), AllocError
 // Adds the pair of a slot that holds no row, if its key is one of those that are asked for.
 fn sweep_end(
     table: &TreeTable,
-    seat: &mut TreeSeat,
+    token: &mut TreeToken,
     from: u64,
     read: SlotRead,
     found: &mut Vec<Pair>,
 ) -> Result<(), AllocError>
-    requires same_table { seat.old.table ≡ table.now.table }
-    requires end { IsEnd seat.old.view (ref_meant read.reference) }
-    ensures same_table { seat.new.table ≡ seat.old.table }
-    ensures seen { GoesOnTo seat.old.view seat.new.view }
-    ensures read { OnOk result (HasReadEnd seat.old.view seat.new.view from read.to
+    requires same_table { token.old.table ≡ table.now.table }
+    requires end { IsEnd token.old.view (ref_meant read.reference) }
+    ensures same_table { token.new.table ≡ token.old.table }
+    ensures seen { GoesOnTo token.old.view token.new.view }
+    ensures read { OnOk result (HasReadEnd token.old.view token.new.view from read.to
         (ref_meant read.reference) found.old.items found.new.items) }
 {
-    let pair = end_pair(table, seat, read.reference);
+    let pair = end_pair(table, token, read.reference);
     let ends = Ends {
         first: from,
         last: read.to,
@@ -167,23 +167,23 @@ fn sweep_end(
 #[cycle(sweeping)]
 fn sweep_slot(
     table: &TreeTable,
-    seat: &mut TreeSeat,
+    token: &mut TreeToken,
     node: u32,
     from: u64,
     read: SlotRead,
     found: &mut Vec<Pair>,
 ) -> Result<(), AllocError>
-    requires same_table { seat.old.table ≡ table.now.table }
-    requires below { LeadsBelow seat.old.view node from read.to (ref_meant read.reference) }
+    requires same_table { token.old.table ≡ table.now.table }
+    requires below { LeadsBelow token.old.view node from read.to (ref_meant read.reference) }
     requires some { from ≤ read.to }
-    ensures same_table { seat.new.table ≡ seat.old.table }
-    ensures seen { GoesOnTo seat.old.view seat.new.view }
-    ensures swept { OnOk result (HasSweptSlot seat.old.view seat.new.view from read.to
+    ensures same_table { token.new.table ≡ token.old.table }
+    ensures seen { GoesOnTo token.old.view token.new.view }
+    ensures swept { OnOk result (HasSweptSlot token.old.view token.new.view from read.to
         (ref_meant read.reference) found.old.items found.new.items) }
 {
     match read.reference {
-        Ref::Inner { base } => sweep_below(table, seat, base, from, read.to, found),
-        _ => sweep_end(table, seat, from, read, found),
+        Ref::Inner { base } => sweep_below(table, token, base, from, read.to, found),
+        _ => sweep_end(table, token, from, read, found),
     }
 }
 
@@ -192,26 +192,26 @@ fn sweep_slot(
 #[cycle(sweeping)]
 fn sweep_below(
     table: &TreeTable,
-    seat: &mut TreeSeat,
+    token: &mut TreeToken,
     node: u32,
     first: u64,
     last: u64,
     found: &mut Vec<Pair>,
 ) -> Result<(), AllocError>
-    requires same_table { seat.old.table ≡ table.now.table }
-    requires led { WereLed seat.old.view first last node }
+    requires same_table { token.old.table ≡ table.now.table }
+    requires led { WereLed token.old.view first last node }
     requires some { first ≤ last }
-    ensures same_table { seat.new.table ≡ seat.old.table }
-    ensures seen { GoesOnTo seat.old.view seat.new.view }
-    ensures swept { OnOk result (HasSwept seat.old.view seat.new.view first (last + 1) last node 0
-        (starting seat.old.view node first) found.old.items found.new.items) }
+    ensures same_table { token.new.table ≡ token.old.table }
+    ensures seen { GoesOnTo token.old.view token.new.view }
+    ensures swept { OnOk result (HasSwept token.old.view token.new.view first (last + 1) last node 0
+        (starting token.old.view node first) found.old.items found.new.items) }
 {
-    know(seat);
-    let mut place = first_slot(table, seat, node, first);
+    know(token);
+    let mut place = first_slot(table, token, node, first);
     let mut from = first;
     'slots: loop {
-        let read = read_from(table, seat, node, place, from, last);
-        sweep_slot(table, seat, node, from, read, found)?;
+        let read = read_from(table, token, node, place, from, last);
+        sweep_slot(table, token, node, from, read, found)?;
         if read.to == last {
             return Ok(());
         }
@@ -231,18 +231,18 @@ fn sweep_below(
 /// it returns an error; `found` then has some of the pairs.
 pub fn sweep(
     table: &TreeTable,
-    seat: &mut TreeSeat,
+    token: &mut TreeToken,
     first: u64,
     last: u64,
     found: &mut Vec<Pair>,
 ) -> Result<(), AllocError>
-    requires same_table { seat.old.table ≡ table.now.table }
+    requires same_table { token.old.table ≡ table.now.table }
     requires some { first ≤ last }
-    ensures same_table { seat.new.table ≡ seat.old.table }
-    ensures seen { GoesOnTo seat.old.view seat.new.view }
-    ensures swept { OnOk result (SweptBetween seat.old.view seat.new.view first last
+    ensures same_table { token.new.table ≡ token.old.table }
+    ensures seen { GoesOnTo token.old.view token.new.view }
+    ensures swept { OnOk result (SweptBetween token.old.view token.new.view first last
         found.old.items found.new.items) }
 {
-    know(seat);
-    sweep_below(table, seat, ANCHOR, first, last, found)
+    know(token);
+    sweep_below(table, token, ANCHOR, first, last, found)
 }

@@ -7,7 +7,7 @@ ghost use Rattle.ist_find.specs.Searches.{HasCome, Came, Names};
 
 use crate::answers::Child;
 use crate::children::slot_for;
-use ist_rule::{TreeSeat, TreeTable, know};
+use ist_rule::{TreeTable, TreeToken, know};
 
 /// Returns the child for the key of a node that the caller's search has reached, and the word that
 /// its slot held at the last step of this call.
@@ -16,24 +16,24 @@ use ist_rule::{TreeSeat, TreeTable, know};
 /// search has reached that row too, by one more row, and it lies above the node. Any other word,
 /// which may name a change or a rebuild, ends the walk: the search has come as far as the node. The
 /// word is never Unset.
-pub fn step_down(table: &TreeTable, seat: &mut TreeSeat, node: u32, key: u64) -> Child
-    requires same_table { seat.old.table ≡ table.now.table }
-    requires come { Came seat.old.view key node }
-    ensures same_table { seat.new.table ≡ seat.old.table }
-    ensures index { IsChildFor (now seat.new.view) node key result.index }
-    ensures word { SlotHolds (now seat.new.view) node result.index result.word }
-    ensures seen { GoesOnTo seat.old.view seat.new.view }
-    ensures named { Names seat.new.view (ref_of result.word) }
+pub fn step_down(table: &TreeTable, token: &mut TreeToken, node: u32, key: u64) -> Child
+    requires same_table { token.old.table ≡ table.now.table }
+    requires come { Came token.old.view key node }
+    ensures same_table { token.new.table ≡ token.old.table }
+    ensures index { IsChildFor (now token.new.view) node key result.index }
+    ensures word { SlotHolds (now token.new.view) node result.index result.word }
+    ensures seen { GoesOnTo token.old.view token.new.view }
+    ensures named { Names token.new.view (ref_of result.word) }
     ensures set { ref_of result.word ≢ Some Unset }
-    ensures stays { (rows : List ℕ) → HasCome seat.old.view key node rows
-        → HasCome seat.new.view key node rows }
-    ensures down { (rows : List ℕ) (child : ℕ) → HasCome seat.old.view key node rows
+    ensures stays { (rows : List ℕ) → HasCome token.old.view key node rows
+        → HasCome token.new.view key node rows }
+    ensures down { (rows : List ℕ) (child : ℕ) → HasCome token.old.view key node rows
         → ref_of result.word ≡ Some (InnerAt child)
-        → HasCome seat.new.view key child (rows ++ child ∷ []) }
+        → HasCome token.new.view key child (rows ++ child ∷ []) }
     ensures above { (child : ℕ) → ref_of result.word ≡ Some (InnerAt child) → node < child }
 {
-    know(seat);
-    let child = slot_for(table, seat, node, key);
-    know(seat);
+    know(token);
+    let child = slot_for(table, token, node, key);
+    know(token);
     child.value
 }

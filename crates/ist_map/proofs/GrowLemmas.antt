@@ -7,8 +7,8 @@ use Rattle.ist_core.specs.declared.pairs.Pair.{Pair}
 use Rattle.ist_core.specs.declared.ports.Full.{Full}
 use Rattle.ist_core.specs.Replies.{Answered}
 use Rattle.ist_core.specs.RowLayout.{place_limit}
-use Rattle.ist_words.specs.RestingWords.{HoldPairs}
-use Rattle.ist_words.proofs.WholeLemmas.{same_pairs}
+use Rattle.ist_rest.specs.RestingWords.{HoldPairs}
+use Rattle.ist_rest.proofs.WholeLemmas.{same_pairs}
 use Rattle.ist_rest.specs.Standings.{Stands}
 use Rattle.ist_tree.specs.Faces.{TreeFace, MakerFace}
 use Rattle.ist_tree.specs.Opening.{words_for}
@@ -20,11 +20,6 @@ use Rattle.ist_map.specs.Running.{HasRunTo, HasStopped, IsUnderway, OpensEnough}
 use Rattle.ist_map.proofs.RunLemmas.{run_none, run_on}
 
 -- ---- how many words a tree has
-
--- if the pairs fit in the words that were asked for, the tree has these
-pub words_asked : (asked : ℕ) (pairs : List Pair) → words_for pairs ≤ asked
-    → asked ≡ tree_words asked pairs
-words_asked asked pairs low = omega arith
 
 -- otherwise it has as many as the pairs take, which the closed words hold
 pub words_needed : (closed : List ℕ) (asked needed : ℕ) (pairs start : List Pair)

@@ -10,8 +10,8 @@ use Rattle.ist_core.specs.Resting.{told_by_call}
 use Rattle.laws_histories.specs.Telling.{map_now}
 use Rattle.plain_map.specs.Rising.{IsRising}
 use Rattle.plain_map.proofs.EntriesLemmas.{pairs_of-map_of}
-use Rattle.ist_words.specs.RestingWords.{HoldPairs}
-use Rattle.ist_words.proofs.WholeLemmas.{same_pairs}
+use Rattle.ist_rest.specs.RestingWords.{HoldPairs}
+use Rattle.ist_rest.proofs.WholeLemmas.{same_pairs}
 use Rattle.ist_rest.specs.Standings.{Stands}
 use Rattle.ist_rest.proofs.MapLemmas.{hold_map}
 use Rattle.ist_tree.specs.Faces.{MakerFace}

@@ -2,7 +2,7 @@
 use Rattle.std.specs.Prelude.{◌≡◌, ℕ, ◌*◌, ◌<◌, ◌≤◌, max, List, [], ◌∷◌}
 use Rattle.ist_core.specs.declared.pairs.Pair.{Pair}
 use Rattle.ist_core.specs.RowLayout.{place_limit}
-use Rattle.ist_words.specs.RestingWords.{HoldPairs}
+use Rattle.ist_rest.specs.RestingWords.{HoldPairs}
 use Rattle.ist_tree.specs.declared.faults.OpenFault.{OpenFault}
 use Rattle.ist_tree.specs.declared.faults.OpenFault.TheVariants as opening
 use Rattle.ist_tree.specs.Opening.{words_for}

@@ -6,7 +6,7 @@ use Rattle.ist_core.specs.Replies.{Answered}
 use Rattle.ist_core.specs.Resting.{StandsFor}
 use Rattle.ist_core.specs.RowLayout.{place_limit}
 use Rattle.laws_histories.specs.Telling.{map_now}
-use Rattle.ist_words.specs.RestingWords.{HoldPairs}
+use Rattle.ist_rest.specs.RestingWords.{HoldPairs}
 use Rattle.ist_tree.specs.declared.faults.OpenFault.{OpenFault}
 use Rattle.ist_tree.specs.declared.faults.OpenFault.TheVariants as opening
 use Rattle.ist_tree.specs.Faces.{TreeFace, MakerFace}

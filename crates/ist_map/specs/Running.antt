@@ -6,7 +6,7 @@ use Rattle.ist_core.specs.Map.{map_of}
 use Rattle.ist_core.specs.Histories.{IsLegal}
 use Rattle.ist_core.specs.RowLayout.{place_limit}
 use Rattle.ist_core.specs.Replies.{Answered}
-use Rattle.ist_words.specs.RestingWords.{HoldPairs}
+use Rattle.ist_rest.specs.RestingWords.{HoldPairs}
 use Rattle.ist_tree.specs.Faces.{TreeFace, MakerFace}
 use Rattle.ist_map.specs.declared.faults.ReopenFault.{ReopenFault}
 use Rattle.ist_map.specs.Generations.{Generation, FollowOn, map_told}

@@ -4,7 +4,7 @@ ghost use Rattle.std.specs.Prelude.{OnOk, OnErr, IfOk, IfErr};
 ghost use Rattle.std.specs.List.Sorted.{IsStrictlyIncreasing};
 ghost use Rattle.ist_core.specs.Enabled.{caller_limit};
 ghost use Rattle.ist_core.specs.RowLayout.{place_limit};
-ghost use Rattle.ist_words.specs.RestingWords.{HoldPairs};
+ghost use Rattle.ist_rest.specs.RestingWords.{HoldPairs};
 ghost use Rattle.ist_tree.specs.Opening.{IsNewTree};
 ghost use Rattle.ist_map.specs.Growing.{IsFirstFault, IsGrowFault};
 ghost use Rattle.ist_map.specs.Running.{HasRunOn, HasRunTo, HasStopped, OpensEnough};

@@ -16,7 +16,7 @@ use Rattle.ist_core.proofs.GrowingLemmas.{inner_there}
 use Rattle.ist_core.proofs.RowLemmas.{changed_at-same}
 use Rattle.ist_core.proofs.ShapedLemmas.{shaped}
 use Rattle.laws_links.proofs.FinishedLemmas.{finished_passed}
-use Rattle.laws_rebuilds.proofs.FinishedLeafLemmas.{finished_few}
+use Rattle.laws_links.proofs.FinishedLeafLemmas.{finished_few}
 use Rattle.ist_rule.specs.declared.view.View.{View}
 use Rattle.ist_rule.specs.Rule.{IsSound}
 use Rattle.ist_rule.specs.Learning.{now, Looked, Logged, Exchanged}

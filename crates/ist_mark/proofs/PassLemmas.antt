@@ -45,7 +45,7 @@ use Rattle.ist_mark.proofs.NodeLemmas.{closed_status}
 use Rattle.laws_links.proofs.ClosedLemmas.{closed_was_linked}
 use Rattle.laws_links.proofs.LinkLemmas.{linked_or_finished}
 use Rattle.laws_links.proofs.ResolvedLemmas.{resolved_gone}
-use Rattle.laws_rebuilds.proofs.ContentLemmas.{linked_set}
+use Rattle.laws_links.proofs.ContentLemmas.{linked_set}
 use Rattle.ist_rule.proofs.WatchLemmas.{place_inner}
 use Rattle.ist_rule.proofs.WentOnLemmas.{went_now}
 

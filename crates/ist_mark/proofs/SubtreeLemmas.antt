@@ -6,7 +6,7 @@ use Rattle.ist_core.specs.Logs.{Log, Passes}
 use Rattle.ist_core.specs.Snapshots.{Snapshot}
 use Rattle.laws_links.proofs.FinishedLemmas.{target_grows}
 use Rattle.ist_rule.specs.declared.view.View.{View}
-use Rattle.ist_rule.specs.Faces.{SeatFace}
+use Rattle.ist_rule.specs.Faces.{TokenFace}
 use Rattle.ist_rule.specs.Rule.{IsSound}
 use Rattle.ist_rule.specs.Learning.{now, GoesOnTo}
 use Rattle.ist_rule.specs.Going.{WentOn, KeepsSearch}
@@ -174,7 +174,7 @@ marked_help node base u v w a m h =
 -- ---- callers that only mark
 
 -- marking on twice
-pub mark_more : (node : ℕ) (a b c : SeatFace) → HasMarked node a b → HasMarked node b c
+pub mark_more : (node : ℕ) (a b c : TokenFace) → HasMarked node a b → HasMarked node b c
     → HasMarked node a c
 mark_more node a b c first second =
     record {
@@ -184,7 +184,7 @@ mark_more node a b c first second =
     }
 
 -- marking on below the node
-pub mark_lower : (node child : ℕ) (a b c : SeatFace) → HasMarked node a b
+pub mark_lower : (node child : ℕ) (a b c : TokenFace) → HasMarked node a b
     → LiesUnder (now b.view) b.view.log node child → HasMarked child b c → HasMarked node a c
 mark_lower node child a b c first under second =
     record {
@@ -194,7 +194,7 @@ mark_lower node child a b c first under second =
     }
 
 -- a caller that did nothing has only marked
-pub mark_same : (node : ℕ) (a : SeatFace) → IsSound a.view → HasMarked node a a
+pub mark_same : (node : ℕ) (a : TokenFace) → IsSound a.view → HasMarked node a a
 mark_same node a s =
     record {
       same_table = refl;
@@ -203,7 +203,7 @@ mark_same node a s =
     }
 
 -- and so has one that made loads
-pub mark_loads : (node : ℕ) (a b : SeatFace) → b.table ≡ a.table → GoesOnTo a.view b.view
+pub mark_loads : (node : ℕ) (a b : TokenFace) → b.table ≡ a.table → GoesOnTo a.view b.view
     → HasMarked node a b
 mark_loads node a b same g =
     record {
@@ -213,7 +213,7 @@ mark_loads node a b same g =
     }
 
 -- and one that helped a change which it met in a slot of the node
-pub mark_help : (node base : ℕ) (a b c : SeatFace) → HasMarked node a b → IsMetAt b.view node base
+pub mark_help : (node base : ℕ) (a b c : TokenFace) → HasMarked node a b → IsMetAt b.view node base
     → c.table ≡ b.table → WentOn (Serves base) b.view c.view → KeepsSearch b.view c.view
     → HasMarked node a c
 mark_help node base a b c first met same went search =
@@ -224,11 +224,11 @@ mark_help node base a b c first met same went search =
     }
 
 -- a node that may be marked may be marked still
-pub may_mark_on : (node : ℕ) (a b : SeatFace) → HasMarked node a b → MayMark a.view node
+pub may_mark_on : (node : ℕ) (a b : TokenFace) → HasMarked node a b → MayMark a.view node
     → MayMark b.view node
 may_mark_on node a b h m = may_mark_went (Marks b.view node) a.view b.view h.went node m
 
 -- and so may its slots be passed
-pub may_pass_on : (node degree : ℕ) (a b : SeatFace) → HasMarked node a b → MayPass a.view node degree
+pub may_pass_on : (node degree : ℕ) (a b : TokenFace) → HasMarked node a b → MayPass a.view node degree
     → MayPass b.view node degree
 may_pass_on node degree a b h m = may_pass_went (Marks b.view node) a.view b.view h.went node degree m

@@ -9,7 +9,7 @@ use Rattle.ist_core.specs.Logs.{Happened, Log, Resolves}
 use Rattle.ist_core.specs.Marking.{IsCalled, IsFrozen, CountsFor}
 use Rattle.ist_rule.specs.declared.view.View.{View}
 use Rattle.ist_core.specs.declared.events.Who.TheVariants.{Caller}
-use Rattle.ist_rule.specs.Faces.{SeatFace}
+use Rattle.ist_rule.specs.Faces.{TokenFace}
 use Rattle.ist_rule.specs.Going.{WentOn, KeepsSearch}
 use Rattle.ist_rule.specs.Learning.{now}
 use Rattle.ist_dcss.specs.Helping.{MayHelp}
@@ -39,7 +39,7 @@ pub record IsMetAt (v : View) (node change : ℕ) : Type 0 where
   pub unresolved : ¬ (Happened (Resolves change) v.log)
 
 -- the caller only marked: it has made steps of marking the subtree of the node, and kept its search
-pub record HasMarked (node : ℕ) (old new : SeatFace) : Type 0 where
+pub record HasMarked (node : ℕ) (old new : TokenFace) : Type 0 where
   pub same_table : new.table ≡ old.table
   pub went : WentOn (Marks new.view node) old.view new.view
   pub search : KeepsSearch old.view new.view

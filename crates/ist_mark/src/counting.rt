@@ -9,20 +9,20 @@ ghost use Rattle.ist_mark.specs.Passing.{MayPass, HasMarked, IsSlotCounted};
 use crate::below::Below;
 use crate::passing::pass_slot;
 use crate::statuses::{degree_of, finish, mark};
-use ist_rule::{TreeSeat, TreeTable, know};
+use ist_rule::{TreeTable, TreeToken, know};
 
 // Passes a slot of the node, marks what hangs below it, and returns how many keys that has.
 #[cycle(marking)]
-fn count_slot(table: &TreeTable, seat: &mut TreeSeat, node: u32, degree: u64, index: u64) -> u64
-    requires same_table { seat.old.table ≡ table.now.table }
-    requires may_pass { MayPass seat.old.view node degree }
+fn count_slot(table: &TreeTable, token: &mut TreeToken, node: u32, degree: u64, index: u64) -> u64
+    requires same_table { token.old.table ≡ table.now.table }
+    requires may_pass { MayPass token.old.view node degree }
     requires within { index < degree }
-    ensures marked { HasMarked node seat.old seat.new }
-    ensures counted { IsSlotCounted seat.new.view node index result }
+    ensures marked { HasMarked node token.old token.new }
+    ensures counted { IsSlotCounted token.new.view node index result }
 {
-    match pass_slot(table, seat, node, degree, index) {
+    match pass_slot(table, token, node, degree, index) {
         Below::Keys(keys) => keys,
-        Below::Node(child) => mark_and_count(table, seat, child),
+        Below::Node(child) => mark_and_count(table, token, child),
     }
 }
 
@@ -33,23 +33,23 @@ fn count_slot(table: &TreeTable, seat: &mut TreeSeat, node: u32, degree: u64, in
 /// and what it leaves is counted. Several callers may mark one subtree at the same time, and all
 /// return the same number. Helps what others install there, and always returns.
 #[cycle(marking)]
-pub fn mark_and_count(table: &TreeTable, seat: &mut TreeSeat, node: u32) -> u64
-    requires same_table { seat.old.table ≡ table.now.table }
-    requires may_mark { MayMark seat.old.view node }
-    ensures same_table { seat.new.table ≡ seat.old.table }
-    ensures went { WentOn (Marks seat.new.view node) seat.old.view seat.new.view }
-    ensures search { KeepsSearch seat.old.view seat.new.view }
-    ensures finished { IsFinishedWith (now seat.new.view) node result }
+pub fn mark_and_count(table: &TreeTable, token: &mut TreeToken, node: u32) -> u64
+    requires same_table { token.old.table ≡ table.now.table }
+    requires may_mark { MayMark token.old.view node }
+    ensures same_table { token.new.table ≡ token.old.table }
+    ensures went { WentOn (Marks token.new.view node) token.old.view token.new.view }
+    ensures search { KeepsSearch token.old.view token.new.view }
+    ensures finished { IsFinishedWith (now token.new.view) node result }
 {
-    if let Some(keys) = mark(table, seat, node) {
+    if let Some(keys) = mark(table, token, node) {
         return keys;
     }
-    let degree = degree_of(table, seat, node);
-    know(seat);
+    let degree = degree_of(table, token, node);
+    know(token);
     let mut keys = 0;
     for index in 0..degree {
-        keys += count_slot(table, seat, node, degree, index);
+        keys += count_slot(table, token, node, degree, index);
     }
-    finish(table, seat, node, keys);
+    finish(table, token, node, keys);
     keys
 }

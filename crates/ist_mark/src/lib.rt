@@ -1,8 +1,7 @@
 //! Marking a subtree and counting its keys: no later update of it succeeds.
 //!
 //! Read `specs/Marking.antt`, then `counting.rt`, `passing.rt`, `statuses.rt` and `spreading.rt`. Uses
-//! `ist_core`, `ist_layout`, `ist_rule`, `ist_rows`, `ist_dcss`, and the laws of `laws_links`,
-//! `laws_rebuilds`, `laws_stability` and `laws_coming`.
+//! `ist_core`, `ist_layout`, `ist_rule`, `ist_rows`, `ist_dcss`, and the laws of `laws_links`, `laws_stability` and `laws_coming`.
 #![tactic(auto)]
 
 mod below;

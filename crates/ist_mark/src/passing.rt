@@ -8,40 +8,40 @@ ghost use Rattle.ist_mark.specs.Passing.{HasMarked, MayPass, IsMetAt, PassedWith
 use crate::below::Below;
 use ist_dcss::{change_in, help, target_of};
 use ist_layout::{Ref, slot_place};
-use ist_rule::{TreeSeat, TreeTable, know, load_pass};
+use ist_rule::{TreeTable, TreeToken, know, load_pass};
 
 // Loads a slot of the node and returns its word. The slot is then passed, unless the word is a
 // change's.
-fn look(table: &TreeTable, seat: &mut TreeSeat, node: u32, degree: u64, index: u64) -> u64
-    requires same_table { seat.old.table ≡ table.now.table }
-    requires may_pass { MayPass seat.old.view node degree }
+fn look(table: &TreeTable, token: &mut TreeToken, node: u32, degree: u64, index: u64) -> u64
+    requires same_table { token.old.table ≡ table.now.table }
+    requires may_pass { MayPass token.old.view node degree }
     requires within { index < degree }
-    ensures marked { HasMarked node seat.old seat.new }
+    ensures marked { HasMarked node token.old token.new }
     ensures change { (change : ℕ) → ref_of result ≡ Some (ChangeAt change)
-        → IsMetAt seat.new.view node change }
-    ensures frozen { IsNoChange result → IsFrozen seat.new.view.log node index result }
+        → IsMetAt token.new.view node change }
+    ensures frozen { IsNoChange result → IsFrozen token.new.view.log node index result }
 {
-    know(seat);
+    know(token);
     let place = slot_place(node, degree, index);
     // Pass, if the node is marked and the word isn't a change's: else a load. Meets an install in the
     // slot, and another's finish of the node.
-    load_pass(table, seat, node, index, place)
+    load_pass(table, token, node, index, place)
 }
 
 // Passes a slot of the node, and returns its word. Helps each change that it meets there. Helping
 // resolves the change, so that there are few.
-fn pass(table: &TreeTable, seat: &mut TreeSeat, node: u32, degree: u64, index: u64) -> u64
-    requires same_table { seat.old.table ≡ table.now.table }
-    requires may_pass { MayPass seat.old.view node degree }
+fn pass(table: &TreeTable, token: &mut TreeToken, node: u32, degree: u64, index: u64) -> u64
+    requires same_table { token.old.table ≡ table.now.table }
+    requires may_pass { MayPass token.old.view node degree }
     requires within { index < degree }
-    ensures marked { HasMarked node seat.old seat.new }
-    ensures frozen { IsFrozen seat.new.view.log node index result }
+    ensures marked { HasMarked node token.old token.new }
+    ensures frozen { IsFrozen token.new.view.log node index result }
 {
-    know(seat);
+    know(token);
     'turns: loop {
-        let word = look(table, seat, node, degree, index);
+        let word = look(table, token, node, degree, index);
         match change_in(word) {
-            Some(change) => help(table, seat, change),
+            Some(change) => help(table, token, change),
             None => return word,
         };
     }
@@ -50,22 +50,22 @@ fn pass(table: &TreeTable, seat: &mut TreeSeat, node: u32, degree: u64, index: u
 /// Passes a slot of the node, and returns what hangs below it.
 pub(crate) fn pass_slot(
     table: &TreeTable,
-    seat: &mut TreeSeat,
+    token: &mut TreeToken,
     node: u32,
     degree: u64,
     index: u64,
 ) -> Below
-    requires same_table { seat.old.table ≡ table.now.table }
-    requires may_pass { MayPass seat.old.view node degree }
+    requires same_table { token.old.table ≡ table.now.table }
+    requires may_pass { MayPass token.old.view node degree }
     requires within { index < degree }
-    ensures marked { HasMarked node seat.old seat.new }
-    ensures passed { PassedWith seat.new.view node index result }
+    ensures marked { HasMarked node token.old token.new }
+    ensures passed { PassedWith token.new.view node index result }
 {
-    let word = pass(table, seat, node, degree, index);
-    know(seat);
+    let word = pass(table, token, node, degree, index);
+    know(token);
     match Ref::from_word(word) {
         Some(Ref::Inner { base }) => Below::Node(base),
-        Some(Ref::Rebuild { base }) => Below::Node(target_of(table, seat, base)),
+        Some(Ref::Rebuild { base }) => Below::Node(target_of(table, token, base)),
         Some(Ref::Leaf { base: _ }) => Below::Keys(1),
         Some(Ref::Empty) => Below::Keys(0),
         Some(Ref::Unset) => unreachable!(),

@@ -11,7 +11,7 @@ use crate::counting::mark_and_count;
 use crate::passing::pass_slot;
 use crate::statuses::{degree_of, mark, own_word};
 use ist_layout::{INNER_DEGREE_OFFSET, INNER_STATUS_OFFSET, Status};
-use ist_rule::{TreeSeat, TreeTable, know};
+use ist_rule::{TreeTable, TreeToken, know};
 
 // A node with fewer slots is marked only in the order of its slots.
 const WIDE: u64 = 8;
@@ -40,21 +40,21 @@ fn nth_slot(first: u64, k: u64, degree: u64) -> u64
 // Passes a slot of the node, and returns the inner row below it if that is still open.
 fn open_below(
     table: &TreeTable,
-    seat: &mut TreeSeat,
+    token: &mut TreeToken,
     node: u32,
     degree: u64,
     index: u64,
 ) -> Option<u32>
-    requires same_table { seat.old.table ≡ table.now.table }
-    requires may_pass { MayPass seat.old.view node degree }
+    requires same_table { token.old.table ≡ table.now.table }
+    requires may_pass { MayPass token.old.view node degree }
     requires within { index < degree }
-    ensures marked { HasMarked node seat.old seat.new }
-    ensures below { IfSome result (λ child. MayGoOn seat.new.view node child) }
+    ensures marked { HasMarked node token.old token.new }
+    ensures below { IfSome result (λ child. MayGoOn token.new.view node child) }
 {
-    match pass_slot(table, seat, node, degree, index) {
+    match pass_slot(table, token, node, degree, index) {
         Below::Keys(_) => None,
         Below::Node(child) => {
-            let status = own_word(table, seat, child, INNER_STATUS_OFFSET);
+            let status = own_word(table, token, child, INNER_STATUS_OFFSET);
             if status == Status::Clear.to_word() {
                 return Some(child);
             }
@@ -64,51 +64,58 @@ fn open_below(
 }
 
 // Marks the node if it has many slots, and returns their number, unless the node is finished.
-fn begin_wide(table: &TreeTable, seat: &mut TreeSeat, node: u32) -> Option<u64>
-    requires same_table { seat.old.table ≡ table.now.table }
-    requires may_mark { MayMark seat.old.view node }
-    ensures marked { HasMarked node seat.old seat.new }
-    ensures slots { IfSome result (λ degree. MayPass seat.new.view node degree) }
+fn begin_wide(table: &TreeTable, token: &mut TreeToken, node: u32) -> Option<u64>
+    requires same_table { token.old.table ≡ table.now.table }
+    requires may_mark { MayMark token.old.view node }
+    ensures marked { HasMarked node token.old token.new }
+    ensures slots { IfSome result (λ degree. MayPass token.new.view node degree) }
     ensures few { IfSome result (λ degree. degree < 2 ^ 32) }
 {
-    if own_word(table, seat, node, INNER_DEGREE_OFFSET) < WIDE {
+    if own_word(table, token, node, INNER_DEGREE_OFFSET) < WIDE {
         return None;
     }
-    if mark(table, seat, node).is_some() {
+    if mark(table, token, node).is_some() {
         return None;
     }
-    let degree = degree_of(table, seat, node);
-    know(seat);
+    let degree = degree_of(table, token, node);
+    know(token);
     Some(degree)
 }
 
 // Passes a slot of the node. An inner row below it that is still open is marked and counted.
 #[cycle(spreading)]
-fn mark_slot(table: &TreeTable, seat: &mut TreeSeat, node: u32, degree: u64, index: u64, turn: u32)
-    requires same_table { seat.old.table ≡ table.now.table }
-    requires may_pass { MayPass seat.old.view node degree }
+fn mark_slot(
+    table: &TreeTable,
+    token: &mut TreeToken,
+    node: u32,
+    degree: u64,
+    index: u64,
+    turn: u32,
+)
+    requires same_table { token.old.table ≡ table.now.table }
+    requires may_pass { MayPass token.old.view node degree }
     requires within { index < degree }
-    ensures marked { HasMarked node seat.old seat.new }
+    ensures marked { HasMarked node token.old token.new }
 {
-    if let Some(child) = open_below(table, seat, node, degree, index) {
-        mark_and_count_from(table, seat, child, turn);
+    if let Some(child) = open_below(table, token, node, degree, index) {
+        mark_and_count_from(table, token, child, turn);
     }
 }
 
 // Marks a node of many slots, and goes once through them, starting from the slot that `turn` chooses.
 #[cycle(spreading)]
-fn mark_ahead(table: &TreeTable, seat: &mut TreeSeat, node: u32, turn: u32)
-    requires same_table { seat.old.table ≡ table.now.table }
-    requires may_mark { MayMark seat.old.view node }
-    ensures marked { HasMarked node seat.old seat.new }
+fn mark_ahead(table: &TreeTable, token: &mut TreeToken, node: u32, turn: u32)
+    requires same_table { token.old.table ≡ table.now.table }
+    requires may_mark { MayMark token.old.view node }
+    ensures marked { HasMarked node token.old token.new }
 {
-    let Some(degree) = begin_wide(table, seat, node) else {
+    let Some(degree) = begin_wide(table, token, node) else {
         return;
     };
-    know(seat);
+    know(token);
     let first = first_slot(turn, degree);
     for k in 0..degree {
-        mark_slot(table, seat, node, degree, nth_slot(first, k, degree), turn);
+        mark_slot(table, token, node, degree, nth_slot(first, k, degree), turn);
     }
 }
 
@@ -118,14 +125,14 @@ fn mark_ahead(table: &TreeTable, seat: &mut TreeSeat, node: u32, turn: u32)
 /// and counts the rows below that it finds open. So callers with different turns begin with different
 /// rows, and find the other callers' rows finished. Never allocates, always returns.
 #[cycle(spreading)]
-pub fn mark_and_count_from(table: &TreeTable, seat: &mut TreeSeat, node: u32, turn: u32) -> u64
-    requires same_table { seat.old.table ≡ table.now.table }
-    requires may_mark { MayMark seat.old.view node }
-    ensures same_table { seat.new.table ≡ seat.old.table }
-    ensures went { WentOn (Marks seat.new.view node) seat.old.view seat.new.view }
-    ensures search { KeepsSearch seat.old.view seat.new.view }
-    ensures finished { IsFinishedWith (now seat.new.view) node result }
+pub fn mark_and_count_from(table: &TreeTable, token: &mut TreeToken, node: u32, turn: u32) -> u64
+    requires same_table { token.old.table ≡ table.now.table }
+    requires may_mark { MayMark token.old.view node }
+    ensures same_table { token.new.table ≡ token.old.table }
+    ensures went { WentOn (Marks token.new.view node) token.old.view token.new.view }
+    ensures search { KeepsSearch token.old.view token.new.view }
+    ensures finished { IsFinishedWith (now token.new.view) node result }
 {
-    mark_ahead(table, seat, node, turn);
-    mark_and_count(table, seat, node)
+    mark_ahead(table, token, node, turn);
+    mark_and_count(table, token, node)
 }

@@ -7,7 +7,7 @@ ghost use Rattle.ist_mark.specs.Marking.{MayMark};
 ghost use Rattle.ist_mark.specs.Passing.{HasMarked, IsClosed, MayPass, MayFinish};
 
 use ist_layout::{INNER_DEGREE_OFFSET, INNER_STATUS_OFFSET, Status};
-use ist_rule::{TreeSeat, TreeTable, exchange, know, load};
+use ist_rule::{TreeTable, TreeToken, exchange, know, load};
 
 // Returns the number of keys of a node with this status, if it is finished.
 fn keys_of(status: u64) -> Option<u64>
@@ -20,44 +20,44 @@ fn keys_of(status: u64) -> Option<u64>
 }
 
 // Loads one of the first three words of a row that may be marked: its status, its count or its degree.
-pub(crate) fn own_word(table: &TreeTable, seat: &mut TreeSeat, node: u32, offset: u64) -> u64
-    requires same_table { seat.old.table ≡ table.now.table }
-    requires may_mark { MayMark seat.old.view node }
+pub(crate) fn own_word(table: &TreeTable, token: &mut TreeToken, node: u32, offset: u64) -> u64
+    requires same_table { token.old.table ≡ table.now.table }
+    requires may_mark { MayMark token.old.view node }
     requires first { offset < 3 }
-    ensures same_table { seat.new.table ≡ seat.old.table }
-    ensures looked { Looked seat.old.view (node + offset) result seat.new.view }
+    ensures same_table { token.new.table ≡ token.old.table }
+    ensures looked { Looked token.old.view (node + offset) result token.new.view }
 {
-    know(seat);
+    know(token);
     // No event.
-    load(table, seat, u64::from(node) + offset)
+    load(table, token, u64::from(node) + offset)
 }
 
 // Returns the number of keys of the node, if it is finished.
-fn finished_keys(table: &TreeTable, seat: &mut TreeSeat, node: u32) -> Option<u64>
-    requires same_table { seat.old.table ≡ table.now.table }
-    requires may_mark { MayMark seat.old.view node }
-    ensures same_table { seat.new.table ≡ seat.old.table }
-    ensures seen { GoesOnTo seat.old.view seat.new.view }
-    ensures finished { (k : ℕ) → result ≡ Some k → IsFinishedWith (now seat.new.view) node k }
+fn finished_keys(table: &TreeTable, token: &mut TreeToken, node: u32) -> Option<u64>
+    requires same_table { token.old.table ≡ table.now.table }
+    requires may_mark { MayMark token.old.view node }
+    ensures same_table { token.new.table ≡ token.old.table }
+    ensures seen { GoesOnTo token.old.view token.new.view }
+    ensures finished { (k : ℕ) → result ≡ Some k → IsFinishedWith (now token.new.view) node k }
 {
-    know(seat);
-    let status = own_word(table, seat, node, INNER_STATUS_OFFSET);
+    know(token);
+    let status = own_word(table, token, node, INNER_STATUS_OFFSET);
     keys_of(status)
 }
 
 // Marks the node if it is open, and returns its number of keys if it is finished.
-fn mark_open(table: &TreeTable, seat: &mut TreeSeat, node: u32) -> Option<u64>
-    requires same_table { seat.old.table ≡ table.now.table }
-    requires may_mark { MayMark seat.old.view node }
-    ensures marked { HasMarked node seat.old seat.new }
-    ensures closed { IsClosed (now seat.new.view) node }
-    ensures finished { (k : ℕ) → result ≡ Some k → IsFinishedWith (now seat.new.view) node k }
+fn mark_open(table: &TreeTable, token: &mut TreeToken, node: u32) -> Option<u64>
+    requires same_table { token.old.table ≡ table.now.table }
+    requires may_mark { MayMark token.old.view node }
+    ensures marked { HasMarked node token.old token.new }
+    ensures closed { IsClosed (now token.new.view) node }
+    ensures finished { (k : ℕ) → result ≡ Some k → IsFinishedWith (now token.new.view) node k }
 {
-    know(seat);
+    know(token);
     // Mark. Meets the Okay of a change in a slot of the node, and another's mark.
     let stood = exchange(
         table,
-        seat,
+        token,
         u64::from(node) + INNER_STATUS_OFFSET,
         Status::Clear.to_word(),
         Status::Marked.to_word(),
@@ -67,45 +67,45 @@ fn mark_open(table: &TreeTable, seat: &mut TreeSeat, node: u32) -> Option<u64>
 
 // Marks the node if it is open, and returns its number of keys if it is finished. A caller that comes late
 // finds it finished by a load, and so takes the cache line of its status from nobody.
-pub(crate) fn mark(table: &TreeTable, seat: &mut TreeSeat, node: u32) -> Option<u64>
-    requires same_table { seat.old.table ≡ table.now.table }
-    requires may_mark { MayMark seat.old.view node }
-    ensures marked { HasMarked node seat.old seat.new }
-    ensures may_mark { MayMark seat.new.view node }
-    ensures closed { IsClosed (now seat.new.view) node }
-    ensures finished { (k : ℕ) → result ≡ Some k → IsFinishedWith (now seat.new.view) node k }
+pub(crate) fn mark(table: &TreeTable, token: &mut TreeToken, node: u32) -> Option<u64>
+    requires same_table { token.old.table ≡ table.now.table }
+    requires may_mark { MayMark token.old.view node }
+    ensures marked { HasMarked node token.old token.new }
+    ensures may_mark { MayMark token.new.view node }
+    ensures closed { IsClosed (now token.new.view) node }
+    ensures finished { (k : ℕ) → result ≡ Some k → IsFinishedWith (now token.new.view) node k }
 {
-    match finished_keys(table, seat, node) {
+    match finished_keys(table, token, node) {
         Some(keys) => Some(keys),
-        None => mark_open(table, seat, node),
+        None => mark_open(table, token, node),
     }
 }
 
 // Returns the number of slots of the node.
-pub(crate) fn degree_of(table: &TreeTable, seat: &mut TreeSeat, node: u32) -> u64
-    requires same_table { seat.old.table ≡ table.now.table }
-    requires may_mark { MayMark seat.old.view node }
-    requires closed { IsClosed (now seat.old.view) node }
-    ensures same_table { seat.new.table ≡ seat.old.table }
-    ensures seen { GoesOnTo seat.old.view seat.new.view }
-    ensures degree { MayPass seat.new.view node result }
+pub(crate) fn degree_of(table: &TreeTable, token: &mut TreeToken, node: u32) -> u64
+    requires same_table { token.old.table ≡ table.now.table }
+    requires may_mark { MayMark token.old.view node }
+    requires closed { IsClosed (now token.old.view) node }
+    ensures same_table { token.new.table ≡ token.old.table }
+    ensures seen { GoesOnTo token.old.view token.new.view }
+    ensures degree { MayPass token.new.view node result }
 {
-    own_word(table, seat, node, INNER_DEGREE_OFFSET)
+    own_word(table, token, node, INNER_DEGREE_OFFSET)
 }
 
 // Finishes the node, all of whose slots were passed, with this number of keys.
-pub(crate) fn finish(table: &TreeTable, seat: &mut TreeSeat, node: u32, keys: u64)
-    requires same_table { seat.old.table ≡ table.now.table }
-    requires may_finish { MayFinish seat.old.view node keys }
-    ensures marked { HasMarked node seat.old seat.new }
-    ensures finished { IsFinishedWith (now seat.new.view) node keys }
+pub(crate) fn finish(table: &TreeTable, token: &mut TreeToken, node: u32, keys: u64)
+    requires same_table { token.old.table ≡ table.now.table }
+    requires may_finish { MayFinish token.old.view node keys }
+    ensures marked { HasMarked node token.old token.new }
+    ensures finished { IsFinishedWith (now token.new.view) node keys }
 {
-    know(seat);
+    know(token);
     let keys = keys as u32;
     // Finish. Meets another's, which has the same number.
     exchange(
         table,
-        seat,
+        token,
         u64::from(node) + INNER_STATUS_OFFSET,
         Status::Marked.to_word(),
         Status::Finished { keys }.to_word(),

@@ -5,8 +5,8 @@ use Rattle.std.specs.Result.{IsErr}
 use Rattle.ist_build.specs.Laying.{Reserves}
 use Rattle.ist_core.specs.declared.ports.Full.{Full}
 use Rattle.ist_core.specs.Slots.{IsOpen}
-use Rattle.laws_settling.specs.Settling.{StartsAreDone}
-use Rattle.ist_rule.specs.Faces.{SeatFace}
+use Rattle.laws_calls.specs.Settling.{StartsAreDone}
+use Rattle.ist_rule.specs.Faces.{TokenFace}
 use Rattle.ist_rule.specs.Going.{WentOn}
 use Rattle.ist_rule.specs.Learning.{now, GoesOnTo}
 use Rattle.ist_rule.specs.Rule.{IsSound}
@@ -37,9 +37,9 @@ reserved_begun target old new r =
       caller = r.caller;
       number = r.number;
       fresh = r.fresh;
-      went = went_all Reserves Begins begins_reserving old.seat.view new.seat.view r.went;
-      aims = went_all Reserves (StartsAt target) (aims_reserving target) old.seat.view
-          new.seat.view r.went;
+      went = went_all Reserves Begins begins_reserving old.token.view new.token.view r.went;
+      aims = went_all Reserves (StartsAt target) (aims_reserving target) old.token.view
+          new.token.view r.went;
       quiet = r.quiet;
       refused = r.refused;
     }
@@ -52,8 +52,8 @@ begun_more target old mid new a b =
       caller = b.caller;
       number = b.number ∙ a.number;
       fresh = (b.fresh.0 ∙ a.fresh.0, b.fresh.1 ∙ a.fresh.1);
-      went = went_more Begins old.seat.view mid.seat.view new.seat.view a.went b.went;
-      aims = went_more (StartsAt target) old.seat.view mid.seat.view new.seat.view a.aims b.aims;
+      went = went_more Begins old.token.view mid.token.view new.token.view a.went b.went;
+      aims = went_more (StartsAt target) old.token.view mid.token.view new.token.view a.aims b.aims;
       quiet = b.quiet;
       refused = λ was. b.refused (a.refused was);
     }
@@ -62,22 +62,22 @@ begun_more target old mid new a b =
 
 module _ (old new : Caller) (c : IsCaller old) (q : IsQuiet old) (r : HasReserved old new)
     (parent index target : ℕ) where
-  abbrev g : WentOn Reserves old.seat.view new.seat.view
+  abbrev g : WentOn Reserves old.token.view new.token.view
   g = r.went
 
-  done : StartsAreDone (now old.seat.view) old.number → StartsAreDone (now new.seat.view) old.number
-  done = starts_reserving old.seat.view new.seat.view g old.number c.mine q.resolved
+  done : StartsAreDone (now old.token.view) old.number → StartsAreDone (now new.token.view) old.number
+  done = starts_reserving old.token.view new.token.view g old.number c.mine q.resolved
 
-  none : StartsNone (now old.seat.view) (now new.seat.view) old.number
-  none = starts_none_reserving old.seat.view new.seat.view g old.number c.mine q.resolved
+  none : StartsNone (now old.token.view) (now new.token.view) old.number
+  none = starts_none_reserving old.token.view new.token.view g old.number c.mine q.resolved
 
   -- the slot held another word
-  pub other_told : (word : ℕ) → StoodInstead new.seat.view parent index target word
+  pub other_told : (word : ℕ) → StoodInstead new.token.view parent index target word
       → TellsStart old new parent index target (Ok (Other word))
   other_told word stood =
       record {
         yes = λ rebuild e. absurd (cc e);
-        other = λ other e. subst (StoodInstead new.seat.view parent index target)
+        other = λ other e. subst (StoodInstead new.token.view parent index target)
             (same_word word other (same_answer (Other word) (Other other) e)) stood;
         marked = λ e. absurd (cc e);
         done = done;
@@ -86,7 +86,7 @@ module _ (old new : Caller) (c : IsCaller old) (q : IsQuiet old) (r : HasReserve
       }
 
   -- the parent isn't open
-  pub closed_told : ¬ (IsOpen (now new.seat.view) parent)
+  pub closed_told : ¬ (IsOpen (now new.token.view) parent)
       → TellsStart old new parent index target (Ok Marked)
   closed_told closed =
       record {
@@ -121,11 +121,11 @@ module _ (old new : Caller) (c : IsCaller old) (q : IsQuiet old) (r : HasReserve
         yes = t.yes;
         other = t.other;
         marked = t.marked;
-        done = behind_done old.seat.view new.seat.view last.seat.view g old.number new.number
+        done = behind_done old.token.view new.token.view last.token.view g old.number new.number
             c.mine q.resolved r.number answer t.done;
-        unstarted = behind_unstarted old.seat.view new.seat.view last.seat.view g old.number
+        unstarted = behind_unstarted old.token.view new.token.view last.token.view g old.number
             new.number c.mine q.resolved r.number answer t.unstarted;
-        uninstalled = behind_uninstalled old.seat.view new.seat.view last.seat.view g answer
+        uninstalled = behind_uninstalled old.token.view new.token.view last.token.view g answer
             t.uninstalled;
       }
 
@@ -133,34 +133,34 @@ module _ (old new : Caller) (c : IsCaller old) (q : IsQuiet old) (r : HasReserve
 
 module _ (who : Caller) (parent index target rebuild change : ℕ) (f : Filling)
     (ready : IsStartReady who rebuild change f)
-    (is : f ≡ start_filling who.number parent index target rebuild) (s : IsSound who.seat.view)
-    (seat : SeatFace) where
+    (is : f ≡ start_filling who.number parent index target rebuild) (s : IsSound who.token.view)
+    (token : TokenFace) where
   -- the slot held another word: the caller only made loads
-  pub other_begun : GoesOnTo who.seat.view seat.view → HasBegun target who (record who { seat = seat })
+  pub other_begun : GoesOnTo who.token.view token.view → HasBegun target who (record who { token = token })
   other_begun g =
-      reserved_begun target who (record who { seat = seat })
-      (loads_reserved who seat ready.caller ready.quiet g)
+      reserved_begun target who (record who { token = token })
+      (loads_reserved who token ready.caller ready.quiet g)
 
   -- and that is told
-  pub other_told_of : (word : ℕ) → IsOther who.seat.view change f word seat.view
-      → TellsStart who (record who { seat = seat }) parent index target (Ok (Other word))
+  pub other_told_of : (word : ℕ) → IsOther who.token.view change f word token.view
+      → TellsStart who (record who { token = token }) parent index target (Ok (Other word))
   other_told_of word o =
-      other_told who (record who { seat = seat }) ready.caller ready.quiet
-      (loads_reserved who seat ready.caller ready.quiet o.seen) parent index target word
-      (other_stood f who.number parent index target rebuild change who.seat.view word seat.view is
+      other_told who (record who { token = token }) ready.caller ready.quiet
+      (loads_reserved who token ready.caller ready.quiet o.seen) parent index target word
+      (other_stood f who.number parent index target rebuild change who.token.view word token.view is
       o)
 
-  module _ (i : IsInstalled who.seat.view change f seat.view) (last : SeatFace)
-      (helped : WentOn (Serves change) seat.view last.view) where
+  module _ (i : IsInstalled who.token.view change f token.view) (last : TokenFace)
+      (helped : WentOn (Serves change) token.view last.view) where
     abbrev bare : Caller
-    bare = record who { seat = last; change = None; rebuild = None }
+    bare = record who { token = last; change = None; rebuild = None }
 
     put : (said : Bool) → IsDecided last.view change said
-        → HasPutIn who.seat.view change
+        → HasPutIn who.token.view change
         (start_filling who.number parent index target rebuild) said last.view
     put said d =
-        has_put who.seat.view change f (start_filling who.number parent index target rebuild) said
-        seat.view last.view is i helped d
+        has_put who.token.view change f (start_filling who.number parent index target rebuild) said
+        token.view last.view is i helped d
 
     -- it was installed and is out of its slot
     pub put_begun : (said : Bool) → IsDecided last.view change said → IsOut last.view change
@@ -168,16 +168,16 @@ module _ (who : Caller) (parent index target rebuild change : ℕ) (f : Filling)
     put_begun said d out =
         let bases = start_bases who.number parent index target rebuild change f is in
         record {
-          caller = put_caller who rebuild change ready.rows ready.caller f bases seat i last helped;
+          caller = put_caller who rebuild change ready.rows ready.caller f bases token i last helped;
           number = refl;
           fresh = (refl, refl);
           went = put_begins who parent index target rebuild change f ready s last.view said
               (put said d);
           aims = put_aims who parent index target rebuild change f ready s last.view said
               (put said d);
-          quiet = put_quiet who rebuild change ready.rows ready.caller f bases seat i last helped
+          quiet = put_quiet who rebuild change ready.rows ready.caller f bases token i last helped
               ready.quiet out;
-          refused = put_refused who rebuild change ready.rows ready.caller f bases seat i last
+          refused = put_refused who rebuild change ready.rows ready.caller f bases token i last
               helped;
         }
 

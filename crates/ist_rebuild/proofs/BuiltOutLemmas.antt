@@ -9,7 +9,7 @@ use Rattle.laws_links.proofs.FormLemmas.{finished_with_grows}
 use Rattle.ist_rule.specs.declared.view.View.{View}
 use Rattle.ist_core.specs.declared.events.Who.TheVariants.{Caller as CallerOf}
 use Rattle.ist_rule.specs.Going.{WentOn}
-use Rattle.ist_rule.specs.Faces.{SeatFace}
+use Rattle.ist_rule.specs.Faces.{TokenFace}
 use Rattle.ist_rule.specs.Learning.{now, GoesOnTo}
 use Rattle.ist_rule.proofs.WentOnLemmas.{went_grow}
 use Rattle.ist_rows.specs.declared.callers.Caller.{Caller}
@@ -68,31 +68,31 @@ target_went P v w g rebuild target h =
 -- ---- marking
 
 -- the caller has marked the rebuild's target, so that it may be built
-pub record HasMarked (who : Caller) (seat : SeatFace) (rebuild : ℕ) : Type 0 where
-  pub helped : HasHelped who (record who { seat = seat })
-  pub buildable : IsBuildable (now seat.view) rebuild
+pub record HasMarked (who : Caller) (token : TokenFace) (rebuild : ℕ) : Type 0 where
+  pub helped : HasHelped who (record who { token = token })
+  pub buildable : IsBuildable (now token.view) rebuild
 
 -- a caller that loaded the target and marked it may build the rebuild
-pub has_marked : (who : Caller) (mid seat : SeatFace) (rebuild target keys : ℕ) → IsReady who
-    → IsStarted (now who.seat.view) rebuild → GoesOnTo who.seat.view mid.view
-    → HasTarget (now mid.view) rebuild target → WentOn (Marks seat.view target) mid.view seat.view
-    → IsFinishedWith (now seat.view) target keys → HasMarked who seat rebuild
-has_marked who mid seat rebuild target keys ready started seen h marks finished =
+pub has_marked : (who : Caller) (mid token : TokenFace) (rebuild target keys : ℕ) → IsReady who
+    → IsStarted (now who.token.view) rebuild → GoesOnTo who.token.view mid.view
+    → HasTarget (now mid.view) rebuild target → WentOn (Marks token.view target) mid.view token.view
+    → IsFinishedWith (now token.view) target keys → HasMarked who token rebuild
+has_marked who mid token rebuild target keys ready started seen h marks finished =
     let first = loads_helped who mid ready seen in
-    let all = helped_more who (record who { seat = mid }) (record who { seat = seat }) first
-    (marks_helped (record who { seat = mid }) seat seat.view target (still_ready first.on) marks) in
+    let all = helped_more who (record who { token = mid }) (record who { token = token }) first
+    (marks_helped (record who { token = mid }) token token.view target (still_ready first.on) marks) in
     record {
       helped = all;
-      buildable = told_buildable (now seat.view) rebuild target keys
-          (target_went (Marks seat.view target) mid.view seat.view marks rebuild target h)
-          (started_went Serves who.seat.view seat.view all.on.gone.went rebuild started) finished;
+      buildable = told_buildable (now token.view) rebuild target keys
+          (target_went (Marks token.view target) mid.view token.view marks rebuild target h)
+          (started_went Serves who.token.view token.view all.on.gone.went rebuild started) finished;
     }
 
 -- the caller might mark the target
-pub may_mark : (who : Caller) (mid : SeatFace) (rebuild target : ℕ) → IsReady who
-    → IsStarted (now who.seat.view) rebuild → GoesOnTo who.seat.view mid.view
+pub may_mark : (who : Caller) (mid : TokenFace) (rebuild target : ℕ) → IsReady who
+    → IsStarted (now who.token.view) rebuild → GoesOnTo who.token.view mid.view
     → HasTarget (now mid.view) rebuild target → MayMark mid.view target
 may_mark who mid rebuild target ready started seen h =
     let first = loads_helped who mid ready seen in
     may_mark_target mid.view who.number rebuild target first.on.gone.caller.mine h
-    (started_went Serves who.seat.view mid.view first.on.gone.went rebuild started)
+    (started_went Serves who.token.view mid.view first.on.gone.went rebuild started)

@@ -8,7 +8,7 @@ use Rattle.laws_links.proofs.FormLemmas.{started_grows}
 use Rattle.ist_rule.specs.declared.view.View.{View}
 use Rattle.ist_rule.specs.declared.view.OwnWord.{OwnWord}
 use Rattle.ist_rule.specs.Conditions.{IsResolved}
-use Rattle.ist_rule.specs.Faces.{SeatFace}
+use Rattle.ist_rule.specs.Faces.{TokenFace}
 use Rattle.ist_rule.specs.Going.{WentOn}
 use Rattle.ist_rule.specs.Learning.{now, GoesOnTo}
 use Rattle.ist_rule.specs.Rule.{IsSound}
@@ -37,7 +37,7 @@ use Rattle.ist_rebuild.proofs.ReservedLemmas.{refused_reserved}
 -- ---- together
 
 -- who does nothing has helped
-pub helped_same : (who : Caller) → IsReady who → IsSound who.seat.view → HasHelped who who
+pub helped_same : (who : Caller) → IsReady who → IsSound who.token.view → HasHelped who who
 helped_same who ready s =
     record { on = ready_same Serves who s ready; fresh = (refl, refl) }
 
@@ -57,40 +57,40 @@ started_went P v w g rebuild s = started_grows (now v) (now w) (went_grow P v w 
 -- ---- events that keep the caller's rows
 
 -- a caller that went on by such events has helped
-kept_helped : (who : Caller) (seat : SeatFace) → IsReady who → (P : Event → Type 0)
+kept_helped : (who : Caller) (token : TokenFace) → IsReady who → (P : Event → Type 0)
     → ((event : Event) → P event → KeepsRows event) → ((event : Event) → P event → Serves event)
-    → WentOn P who.seat.view seat.view → HasHelped who (record who { seat = seat })
-kept_helped who seat ready P keeps serves g =
+    → WentOn P who.token.view token.view → HasHelped who (record who { token = token })
+kept_helped who token ready P keeps serves g =
     record {
-      on = ready_all P Serves serves who (record who { seat = seat })
-          (kept_ready P keeps who seat ready g);
+      on = ready_all P Serves serves who (record who { token = token })
+          (kept_ready P keeps who token ready g);
       fresh = (refl, refl);
     }
 
 -- loads
-pub loads_helped : (who : Caller) (seat : SeatFace) → IsReady who → GoesOnTo who.seat.view seat.view
-    → HasHelped who (record who { seat = seat })
-loads_helped who seat ready g =
-    record { on = loads_ready Serves who seat ready g; fresh = (refl, refl) }
+pub loads_helped : (who : Caller) (token : TokenFace) → IsReady who → GoesOnTo who.token.view token.view
+    → HasHelped who (record who { token = token })
+loads_helped who token ready g =
+    record { on = loads_ready Serves who token ready g; fresh = (refl, refl) }
 
 -- help for a change
-pub help_helped : (who : Caller) (seat : SeatFace) (change : ℕ) → IsReady who
-    → WentOn (HelpsWith change) who.seat.view seat.view → HasHelped who (record who { seat = seat })
-help_helped who seat change ready g =
-    kept_helped who seat ready (HelpsWith change) (serves_keep change) (change_serves change) g
+pub help_helped : (who : Caller) (token : TokenFace) (change : ℕ) → IsReady who
+    → WentOn (HelpsWith change) who.token.view token.view → HasHelped who (record who { token = token })
+help_helped who token change ready g =
+    kept_helped who token ready (HelpsWith change) (serves_keep change) (change_serves change) g
 
 -- marking
-pub marks_helped : (who : Caller) (seat : SeatFace) (v : View) (node : ℕ) → IsReady who
-    → WentOn (Marks v node) who.seat.view seat.view → HasHelped who (record who { seat = seat })
-marks_helped who seat v node ready g =
-    kept_helped who seat ready (Marks v node) (marks_keep v node) (marks_serve v node) g
+pub marks_helped : (who : Caller) (token : TokenFace) (v : View) (node : ℕ) → IsReady who
+    → WentOn (Marks v node) who.token.view token.view → HasHelped who (record who { token = token })
+marks_helped who token v node ready g =
+    kept_helped who token ready (Marks v node) (marks_keep v node) (marks_serve v node) g
 
 -- ---- events of builds
 
 -- a caller that made steps of building, and is still a caller, has helped
 pub builds_helped : (old new : Caller) → IsReady old → IsCaller new → HasRefused new
     → new.number ≡ old.number → new.leaf ≡ old.leaf → new.pair ≡ old.pair
-    → WentOn Builds old.seat.view new.seat.view → HasHelped old new
+    → WentOn Builds old.token.view new.token.view → HasHelped old new
 builds_helped old new ready c refused number leaf pair g =
     record {
       on = record {
@@ -98,15 +98,15 @@ builds_helped old new ready c refused number leaf pair g =
           caller = c;
           number = number;
           refused = refused;
-          went = went_all Builds Serves builds_serve old.seat.view new.seat.view g;
+          went = went_all Builds Serves builds_serve old.token.view new.token.view g;
         };
         quiet = record {
           pending = ready.quiet.pending;
           in_call = ap (λ x. x.pending) g.same ∙ ready.quiet.in_call;
-          resolved = subst (IsResolved new.seat.view) (sym number)
-              (resolved_went old.seat.view new.seat.view old.number ready.caller.mine
+          resolved = subst (IsResolved new.token.view) (sym number)
+              (resolved_went old.token.view new.token.view old.number ready.caller.mine
               ready.quiet.resolved
-              (went_all Builds InstallsNone builds_install_none old.seat.view new.seat.view g));
+              (went_all Builds InstallsNone builds_install_none old.token.view new.token.view g));
         };
       };
       fresh = (leaf, pair);
@@ -115,7 +115,7 @@ builds_helped old new ready c refused number leaf pair g =
 -- building
 pub built_helped : (old new : Caller) → IsReady old → IsCaller new → HasRefused new
     → new.number ≡ old.number → spares_of new ≡ spares_of old
-    → WentOn Builds old.seat.view new.seat.view → HasHelped old new
+    → WentOn Builds old.token.view new.token.view → HasHelped old new
 built_helped old new ready c refused number rows g =
     builds_helped old new ready c refused number (ap (λ own. own.leaf) rows)
     (ap (λ own. own.pair) rows) g
@@ -132,12 +132,12 @@ pub record HasRow (old new : Caller) (answer : Result ℕ Full) : Type 0 where
 -- a row was reserved
 reserved_helped : (old new : Caller) (base : ℕ) → IsReady old → IsCaller new
     → new.number ≡ old.number → old.change ≡ None
-    → Reserved old.seat.view old.number base (kind_words Change) new.seat.view
+    → Reserved old.token.view old.number base (kind_words Change) new.token.view
     → spares_of new ≡ with_row Change base (spares_of old)
-    → HasHelped old new × WentOn Builds old.seat.view new.seat.view
+    → HasHelped old new × WentOn Builds old.token.view new.token.view
 reserved_helped old new base ready c number none r rows =
-    let v = old.seat.view in
-    let w = new.seat.view in
+    let v = old.token.view in
+    let w = new.token.view in
     let went : WentOn Builds v w =
     went_more Builds v r.before w (goes_on_went Builds v r.before r.seen)
     (logged_went Builds r.before (Reserve old.number base (kind_words Change)) w r.reserved tt
@@ -151,11 +151,11 @@ reserved_helped old new base ready c number none r rows =
 -- the caller has a change row then
 pub record HasTakenRow (old new : Caller) (base : ℕ) : Type 0 where
   pub helped : HasHelped old new
-  pub by : WentOn Builds old.seat.view new.seat.view
+  pub by : WentOn Builds old.token.view new.token.view
   pub row : new.change ≡ Some base
 
 -- a caller that may help and reserved a change row has it
-pub took_row : (old new : Caller) (base : ℕ) → IsReady old → IsSound old.seat.view
+pub took_row : (old new : Caller) (base : ℕ) → IsReady old → IsSound old.token.view
     → HasRow old new (Ok base) → HasTakenRow old new base
 took_row old new base ready s h = at old.change refl h.held
   where
@@ -168,7 +168,7 @@ took_row old new base ready s h = at old.change refl h.held
     at (Some held) is k =
         subst (λ x. HasTakenRow old x base) (sym k.1) record {
           helped = helped_same old ready s;
-          by = went_same Builds old.seat.view s;
+          by = went_same Builds old.token.view s;
           row = is ∙ ap (λ n. Some n) (sym (one base held k.0));
         }
     at None is k =
@@ -181,12 +181,12 @@ pub refused_row : (old new : Caller) (words : ℕ) (full : Full) → IsReady old
     → IsCaller new → new.number ≡ old.number → IsKindRefused words Change old new full
     → HasHelped old new
 refused_row old new words full ready c number h =
-    let v = old.seat.view in
-    let w = new.seat.view in
+    let v = old.token.view in
+    let w = new.token.view in
     let g : GoesOnTo v w =
     goes_on_more v h.cause.short.before w h.cause.short.seen
     (looked_goes_on h.cause.short.before _ full.next w h.cause.short.looked) in
-    let it = still_ready (loads_ready Serves old new.seat ready g) in
+    let it = still_ready (loads_ready Serves old new.token ready g) in
     builds_helped old new ready c
     (subst (HasRefused) (same new.number new.leaf new.pair new.change new.rebuild number
     (ap (λ own. own.leaf) h.same) (ap (λ own. own.pair) h.same) (ap (λ own. own.change) h.same)
@@ -195,21 +195,21 @@ refused_row old new words full ready c number h =
   where
     same : (n : ℕ) (a b c d : Option ℕ) → n ≡ old.number → a ≡ old.leaf → b ≡ old.pair
         → c ≡ old.change → d ≡ old.rebuild
-        → record old { seat = new.seat }
-        ≡ record { seat = new.seat; number = n; leaf = a; pair = b; change = c; rebuild = d }
+        → record old { token = new.token }
+        ≡ record { token = new.token; number = n; leaf = a; pair = b; change = c; rebuild = d }
     same n a b c d e f g h i = cc
 
 -- ---- own words
 
 -- a caller that stored words
 pub own_helped : (old : Caller) (own : List OwnWord) → IsReady old
-    → IsSound (with_own old own).seat.view → HasHelped old (with_own old own)
+    → IsSound (with_own old own).token.view → HasHelped old (with_own old own)
 own_helped old own ready s =
     record { on = own_ready Serves old own ready s; fresh = (refl, refl) }
 
 -- loads after other steps of help
-pub helped_loads : (old mid : Caller) (seat : SeatFace) → HasHelped old mid
-    → GoesOnTo mid.seat.view seat.view → HasHelped old (record mid { seat = seat })
-helped_loads old mid seat h g =
-    helped_more old mid (record mid { seat = seat }) h
-    (loads_helped mid seat (still_ready h.on) g)
+pub helped_loads : (old mid : Caller) (token : TokenFace) → HasHelped old mid
+    → GoesOnTo mid.token.view token.view → HasHelped old (record mid { token = token })
+helped_loads old mid token h g =
+    helped_more old mid (record mid { token = token }) h
+    (loads_helped mid token (still_ready h.on) g)

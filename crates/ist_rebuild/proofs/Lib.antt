@@ -18,4 +18,4 @@ pub mod SlotLemmas
 pub mod RefusalLemmas
 pub mod BuiltOutLemmas
 pub mod PreparedLemmas
-pub mod CarryLemmas
+pub mod HelpedFinishLemmas

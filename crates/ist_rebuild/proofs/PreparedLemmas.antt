@@ -36,7 +36,7 @@ no_update u = ⊎_elim (λ e. let four : ◌≡◌ {A = ℕ} 4 1 = e in omega ar
 module _ (mid : Caller) (plan : Plan) (change : ℕ) (row : mid.change ≡ Some change)
     (words : List ℕ) (words_are : words ≡ words_of (Change (finish_row plan mid.number))) where
   abbrev w : View
-  w = (filled_with mid change words).seat.view
+  w = (filled_with mid change words).token.view
 
   abbrev new : Caller
   new = filled_with mid change words
@@ -46,16 +46,16 @@ module _ (mid : Caller) (plan : Plan) (change : ℕ) (row : mid.change ≡ Some 
   filled_helped ready s = own_helped mid w.own ready s
 
   is : (filling_at w change).change ≡ finish_row plan mid.number
-  is = subst (λ ws. (filling_at (filled_with mid change ws).seat.view change).change
+  is = subst (λ ws. (filling_at (filled_with mid change ws).token.view change).change
       ≡ finish_row plan mid.number) (sym words_are)
-      (read_back mid.seat.view change (finish_row plan mid.number))
+      (read_back mid.token.view change (finish_row plan mid.number))
 
   stored : (k : ℕ) → k < 9
       → slice_get (words_of (Change (finish_row plan mid.number))) k
       ≡ Some (own_at w.own (change + k))
   stored k less =
       subst (λ ws. slice_get ws k ≡ Some (own_at w.own (change + k))) words_are
-      (stored_at mid.seat.view.own change words k
+      (stored_at mid.token.view.own change words k
       (subst (λ ws. k < length ws) (sym words_are) less))
 
   -- the finish may be installed
@@ -106,24 +106,24 @@ pub record HasPrepared (old who : Caller) (plan : Plan) (change : ℕ) : Type 0 
 
 -- a caller that reserved and filled its change row has helped and prepared it
 pub has_prepared : (old mid who : Caller) (plan : Plan) (change : ℕ) (words : List ℕ) → IsReady old
-    → IsSound old.seat.view → IsPlan old.seat.view plan
-    → IsUnrefused (now old.seat.view) old.number plan.parent → HasRow old mid (Ok change)
+    → IsSound old.token.view → IsPlan old.token.view plan
+    → IsUnrefused (now old.token.view) old.number plan.parent → HasRow old mid (Ok change)
     → words ≡ words_of (Change (finish_row plan mid.number))
-    → who ≡ filled_with mid change words → IsSound who.seat.view → HasPrepared old who plan change
+    → who ≡ filled_with mid change words → IsSound who.token.view → HasPrepared old who plan change
 has_prepared old mid who plan change words ready s p unrefused row words_are stored sound =
     let t = took_row old mid change ready s row in
     let new = filled_with mid change words in
-    let w = new.seat.view in
-    let here = subst (λ (x : Caller). IsSound x.seat.view) stored sound in
+    let w = new.token.view in
+    let here = subst (λ (x : Caller). IsSound x.token.view) stored sound in
     let filled = filled_helped mid plan change t.row words words_are
     (still_ready t.helped.on) here in
     let all = helped_more old mid new t.helped filled in
-    let none = unrefused_went old.seat.view mid.seat.view old.number ready.caller.mine
-    (went_all Builds InstallsNone builds_install_none old.seat.view mid.seat.view t.by)
+    let none = unrefused_went old.token.view mid.token.view old.number ready.caller.mine
+    (went_all Builds InstallsNone builds_install_none old.token.view mid.token.view t.by)
     ready.quiet.resolved plan.parent unrefused in
     subst (λ x. HasPrepared old x plan change) (sym stored) record {
       helped = all;
       prepared = filled_prepared mid plan change t.row words words_are (still_ready filled.on) here
-          (plan_went Serves old.seat.view w all.on.gone.went plan p)
-          (subst (λ n. IsUnrefused (now mid.seat.view) n plan.parent) (sym row.number) none);
+          (plan_went Serves old.token.view w all.on.gone.went plan p)
+          (subst (λ n. IsUnrefused (now mid.token.view) n plan.parent) (sym row.number) none);
     }

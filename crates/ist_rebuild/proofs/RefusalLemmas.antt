@@ -41,11 +41,11 @@ short_refused v w rebuild words full h =
 -- the refusal of a row for the change
 pub row_refused : (old new : Caller) (rebuild words : ℕ) (full : Full)
     → IsKindRefused words Change old new full
-    → IsHelpRefused old.seat.view rebuild words full new.seat.view
+    → IsHelpRefused old.token.view rebuild words full new.token.view
 row_refused old new rebuild words full h =
     record {
-      short = short_from GoesOnTo (WentOn Serves) old.seat.view old.seat.view
-          (λ x. goes_on_went Serves old.seat.view x) words full new.seat.view h.cause.short;
+      short = short_from GoesOnTo (WentOn Serves) old.token.view old.token.view
+          (λ x. goes_on_went Serves old.token.view x) words full new.token.view h.cause.short;
       asked = for_change h.cause.asked;
     }
 

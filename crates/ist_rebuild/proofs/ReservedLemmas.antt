@@ -58,14 +58,14 @@ filter_same p q (x ∷ xs) h =
 
 -- a caller that had no change row and took one
 module _ (old new : Caller) (base : ℕ) (c : IsCaller old) (none : old.change ≡ None)
-    (r : Reserved old.seat.view old.number base (kind_words Change) new.seat.view)
+    (r : Reserved old.token.view old.number base (kind_words Change) new.token.view)
     (number_is : new.number ≡ old.number)
     (rows_are : spares_of new ≡ with_row Change base (spares_of old)) where
   abbrev v : View
-  v = old.seat.view
+  v = old.token.view
 
-  abbrev it : Took v old.number base (kind_words Change) new.seat.view
-  it = took v old.number base (kind_words Change) new.seat.view r
+  abbrev it : Took v old.number base (kind_words Change) new.token.view
+  it = took v old.number base (kind_words Change) new.token.view r
 
   abbrev number : ℕ
   number = old.number
@@ -131,9 +131,9 @@ module _ (old new : Caller) (base : ℕ) (c : IsCaller old) (none : old.change �
       (behind_between v.start v.words it.before
       (Reserve number base (kind_words Change) ∷ it.before) it.lawful (one_event _ same_log)) _
       was) in
-      subst (λ rows. AreStuck (now new.seat.view) (build_sizes (now new.seat.view) new.number rows))
+      subst (λ rows. AreStuck (now new.token.view) (build_sizes (now new.token.view) new.number rows))
       (sym rows_are)
-      (subst (λ n. AreStuck (now new.seat.view)
-      (build_sizes (now new.seat.view) n (with_row Change base own))) (sym number_is)
+      (subst (λ n. AreStuck (now new.token.view)
+      (build_sizes (now new.token.view) n (with_row Change base own))) (sym number_is)
       (subst (λ x. AreStuck x (build_sizes x number (with_row Change base own))) (sym it.now_is)
       is))

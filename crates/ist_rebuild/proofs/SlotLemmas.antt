@@ -12,7 +12,7 @@ use Rattle.ist_core.proofs.PlaceLemmas.{anchor_free, placed, claimed_within}
 use Rattle.ist_core.proofs.ReferenceLemmas.{word_of-ref_of}
 use Rattle.ist_core.proofs.RoomLemmas.{next_within, words_same}
 use Rattle.ist_core.proofs.SlotLemmas.{slot_once}
-use Rattle.laws_rebuilds.proofs.RebuiltLemmas.{started_reads, read_unreplaced}
+use Rattle.laws_links.proofs.RebuiltLemmas.{started_reads, read_unreplaced}
 use Rattle.ist_rule.specs.declared.view.View.{View}
 use Rattle.ist_rule.specs.Going.{WentOn}
 use Rattle.ist_rule.specs.Learning.{now, GoesOnTo, Looked}

@@ -9,7 +9,7 @@ use Rattle.ist_core.specs.References.{IsGoodBase}
 use Rattle.ist_core.specs.Rows.{Apart}
 use Rattle.ist_core.specs.RowLayout.{change_words, rebuild_words}
 use Rattle.ist_core.specs.Slots.{IsOpen}
-use Rattle.laws_settling.specs.Settling.{StartsAreDone}
+use Rattle.laws_calls.specs.Settling.{StartsAreDone}
 use Rattle.ist_rule.specs.declared.view.View.{View}
 use Rattle.ist_core.specs.declared.events.Who.TheVariants.{Caller as CallerOf}
 use Rattle.ist_rule.specs.Conditions.{IsResolved}
@@ -74,9 +74,9 @@ serving_but number change (Resolve c other) is = tt
 serving_but number change _ is = absurd is
 
 module _ (who : Caller) (parent index target rebuild change : ℕ) (f : Filling)
-    (ready : IsStartReady who rebuild change f) (s : IsSound who.seat.view) (w : View) where
+    (ready : IsStartReady who rebuild change f) (s : IsSound who.token.view) (w : View) where
   abbrev v : View
-  v = who.seat.view
+  v = who.token.view
 
   abbrev plan : Filling
   plan = start_filling who.number parent index target rebuild

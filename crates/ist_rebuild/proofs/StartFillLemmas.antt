@@ -48,47 +48,47 @@ held_apart v s g h i j differ =
 module _ (who : Caller) (rebuild change : ℕ) (rows : HasStartRows who rebuild change)
     (c : IsCaller who) where
   -- the caller holds the rebuild's row
-  pub rebuild_held : HoldsRow (now who.seat.view) who.number rebuild rebuild_words
+  pub rebuild_held : HoldsRow (now who.token.view) who.number rebuild rebuild_words
   rebuild_held = c.rows RebuildKind rebuild rows.rebuild_is
 
   -- the caller holds the change's row
-  pub change_held : HoldsRow (now who.seat.view) who.number change change_words
+  pub change_held : HoldsRow (now who.token.view) who.number change change_words
   change_held = c.rows ChangeKind change rows.change_is
 
   -- the base of the rebuild is good
-  pub rebuild_good : IsSound who.seat.view → IsGoodBase rebuild
+  pub rebuild_good : IsSound who.token.view → IsGoodBase rebuild
   rebuild_good s =
-      held_good who.seat.view s record { caller = who.number; base = rebuild; size = rebuild_words }
+      held_good who.token.view s record { caller = who.number; base = rebuild; size = rebuild_words }
       rebuild_held
 
   -- the two rows don't overlap
-  pub rows_apart : IsSound who.seat.view → Apart rebuild rebuild_words change change_words
+  pub rows_apart : IsSound who.token.view → Apart rebuild rebuild_words change change_words
   rows_apart s =
-      held_apart who.seat.view s
+      held_apart who.token.view s
       record { caller = who.number; base = rebuild; size = rebuild_words }
       record { caller = who.number; base = change; size = change_words }
       rebuild_held change_held (λ e. omega arith)
 
-  module _ (s : IsSound who.seat.view) (parent index target : ℕ) where
+  module _ (s : IsSound who.token.view) (parent index target : ℕ) where
     abbrev full : Caller
     full = filled_start who rebuild change parent index target
 
     -- the words of both rows are stored
-    pub start_stored : StoredAll full.seat.view
+    pub start_stored : StoredAll full.token.view
         (rows_of (start_filling who.number parent index target rebuild) change)
     start_stored =
         let row = start_change who.number parent index target rebuild in
         let words = words_of (new_rebuild row target) in
-        let first = storing_all who.seat.view.own rebuild words in (
+        let first = storing_all who.token.view.own rebuild words in (
           stored_at first change (words_of (Change row)),
           (
-            stored_first who.seat.view.own rebuild words change (words_of (Change row))
+            stored_first who.token.view.own rebuild words change (words_of (Change row))
                 (rows_apart s),
             tt,
           ),
         )
 
     -- the caller holds the rows of the start
-    pub start_held : HoldsRows (now who.seat.view) who.number
+    pub start_held : HoldsRows (now who.token.view) who.number
         (rows_of (start_filling who.number parent index target rebuild) change)
     start_held = (change_held, (rebuild_held, tt))

@@ -21,8 +21,8 @@ use Rattle.laws_links.proofs.ChangeLemmas.{undecided_unresolved}
 use Rattle.laws_links.proofs.ComesLemmas.{change_comes}
 use Rattle.laws_links.proofs.OriginLemmas.{ChangeComes, change_was, is_decided, is_installed}
 use Rattle.laws_stability.proofs.LaterLemmas.{goes_on}
-use Rattle.laws_settling.specs.Settling.{IsDoneStart, StartsAreDone}
-use Rattle.laws_settling.proofs.DoneLemmas.{done_stays}
+use Rattle.laws_calls.specs.Settling.{IsDoneStart, StartsAreDone}
+use Rattle.laws_calls.proofs.DoneLemmas.{done_stays}
 use Rattle.ist_rule.specs.declared.view.View.{View}
 use Rattle.ist_core.specs.declared.events.Who.TheVariants.{Caller}
 use Rattle.ist_rule.specs.Conditions.{IsResolved}

@@ -5,7 +5,7 @@ use Rattle.ist_core.specs.declared.events.Event.TheVariants.{Install, Okay, Deci
 use Rattle.ist_core.specs.Snapshots.{bases_of}
 use Rattle.ist_core.specs.declared.events.Who.TheVariants.{Caller as CallerOf}
 use Rattle.ist_core.specs.Authors.{whose}
-use Rattle.ist_rule.specs.Faces.{SeatFace}
+use Rattle.ist_rule.specs.Faces.{TokenFace}
 use Rattle.ist_rule.specs.Going.{WentOn}
 use Rattle.ist_rule.specs.Learning.{GoesOnTo}
 use Rattle.ist_rule.proofs.WentOnLemmas.{goes_on_went, went_all}
@@ -31,21 +31,21 @@ serving_keeps change _ is = absurd is
 
 -- ---- if the slot held another word
 
-module _ (who : Caller) (seat : SeatFace) (c : IsCaller who) (g : GoesOnTo who.seat.view seat.view)
+module _ (who : Caller) (token : TokenFace) (c : IsCaller who) (g : GoesOnTo who.token.view token.view)
   where
     -- after loads each build of which the caller holds rows is still refused
-    pub loads_refused : HasRefused who → HasRefused (record who { seat = seat })
+    pub loads_refused : HasRefused who → HasRefused (record who { token = token })
     loads_refused r =
-        refused_went who seat c r (goes_on_went KeepsRows who.seat.view seat.view g)
+        refused_went who token c r (goes_on_went KeepsRows who.token.view token.view g)
 
     -- after loads a quiet caller is still quiet
-    pub loads_quiet : IsQuiet who → IsQuiet (record who { seat = seat })
+    pub loads_quiet : IsQuiet who → IsQuiet (record who { token = token })
     loads_quiet q =
         record {
           pending = q.pending;
           in_call = ap (λ x. x.pending) g.same ∙ q.in_call;
-          resolved = resolved_went who.seat.view seat.view who.number c.mine q.resolved
-              (goes_on_went InstallsNone who.seat.view seat.view g);
+          resolved = resolved_went who.token.view token.view who.number c.mine q.resolved
+              (goes_on_went InstallsNone who.token.view token.view g);
         }
 
 -- ---- if it was installed
@@ -59,46 +59,46 @@ start_bases number parent index target rebuild change f is =
 
 module _ (who : Caller) (rebuild change : ℕ) (rows : HasStartRows who rebuild change)
     (c : IsCaller who) (f : Filling) (bases : bases_of (rows_of f change) ≡ change ∷ rebuild ∷ [])
-    (seat : SeatFace) (i : IsInstalled who.seat.view change f seat.view) where
+    (token : TokenFace) (i : IsInstalled who.token.view change f token.view) where
   -- the caller before the install, and after it without the rows
   abbrev before : Caller
-  before = record who { seat = record who.seat { view = i.before } }
+  before = record who { token = record who.token { view = i.before } }
 
-  abbrev bare : SeatFace → Caller
-  bare at = record who { seat = at; change = None; rebuild = None }
+  abbrev bare : TokenFace → Caller
+  bare at = record who { token = at; change = None; rebuild = None }
 
   before_caller : IsCaller before
-  before_caller = caller_goes_on who (record who.seat { view = i.before }) c i.seen
+  before_caller = caller_goes_on who (record who.token { view = i.before }) c i.seen
 
   its : whose (Install i.number change (rows_of f change)) ≡ CallerOf who.number
   its = sym i.mine ∙ c.mine
 
-  bare_caller : IsCaller (bare seat)
+  bare_caller : IsCaller (bare token)
   bare_caller =
-      caller_made before (bare seat) (Change ∷ Rebuild ∷ [])
+      caller_made before (bare token) (Change ∷ Rebuild ∷ [])
       (Install i.number change (rows_of f change)) (change ∷ rebuild ∷ []) before_caller
-      i.logged.before (logged_made i.before _ seat.view i.logged) its bases
+      i.logged.before (logged_made i.before _ token.view i.logged) its bases
       (rows.change_is, (rows.rebuild_is, tt)) record { number = refl; rows = refl }
 
-  bare_refused : HasRefused who → HasRefused (bare seat)
+  bare_refused : HasRefused who → HasRefused (bare token)
   bare_refused r =
-      refused_made before (bare seat) (Change ∷ Rebuild ∷ [])
+      refused_made before (bare token) (Change ∷ Rebuild ∷ [])
       (Install i.number change (rows_of f change)) (change ∷ rebuild ∷ []) before_caller
-      i.logged.before (logged_made i.before _ seat.view i.logged) its bases
+      i.logged.before (logged_made i.before _ token.view i.logged) its bases
       (rows.change_is, (rows.rebuild_is, tt)) record { number = refl; rows = refl }
-      (loads_refused who (record who.seat { view = i.before }) c i.seen r)
+      (loads_refused who (record who.token { view = i.before }) c i.seen r)
 
-  module _ (last : SeatFace) (g : WentOn (Serves change) seat.view last.view) where
-    kept : WentOn KeepsRows seat.view last.view
-    kept = went_all (Serves change) KeepsRows (serving_keeps change) seat.view last.view g
+  module _ (last : TokenFace) (g : WentOn (Serves change) token.view last.view) where
+    kept : WentOn KeepsRows token.view last.view
+    kept = went_all (Serves change) KeepsRows (serving_keeps change) token.view last.view g
 
     -- after the help it is a caller without the two rows
     pub put_caller : IsCaller (bare last)
-    put_caller = caller_went (bare seat) last bare_caller kept
+    put_caller = caller_went (bare token) last bare_caller kept
 
     -- the refused builds of the caller are still refused
     pub put_refused : HasRefused who → HasRefused (bare last)
-    put_refused r = refused_went (bare seat) last bare_caller (bare_refused r) kept
+    put_refused r = refused_went (bare token) last bare_caller (bare_refused r) kept
 
     -- the caller is quiet again
     pub put_quiet : IsQuiet who → IsOut last.view change → IsQuiet (bare last)
@@ -107,6 +107,6 @@ module _ (who : Caller) (rebuild change : ℕ) (rows : HasStartRows who rebuild 
           pending = q.pending;
           in_call = ap (λ x. x.pending) g.same ∙ ap (λ x. x.pending) i.logged.view
               ∙ ap (λ x. x.pending) i.seen.same ∙ q.in_call;
-          resolved = resolved_helped who.seat.view seat.view last.view who.number change f c.mine
+          resolved = resolved_helped who.token.view token.view last.view who.number change f c.mine
               q.resolved i g out;
         }

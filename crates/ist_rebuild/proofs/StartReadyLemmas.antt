@@ -92,14 +92,14 @@ due_on old new g due =
 
 -- a caller that reserved is in its call, and all its changes are resolved
 pub reserved_quiet : (old new : Caller) → IsCaller old → new.number ≡ old.number
-    → WentOn Reserves old.seat.view new.seat.view → IsQuiet old → IsQuiet new
+    → WentOn Reserves old.token.view new.token.view → IsQuiet old → IsQuiet new
 reserved_quiet old new c same g q =
     record {
       pending = q.pending;
       in_call = ap (λ (x : View). x.pending) g.same ∙ q.in_call;
-      resolved = subst (IsResolved new.seat.view) (sym same)
-          (resolved_went old.seat.view new.seat.view old.number c.mine q.resolved
-          (went_all Reserves InstallsNone reserving_installs old.seat.view new.seat.view g));
+      resolved = subst (IsResolved new.token.view) (sym same)
+          (resolved_went old.token.view new.token.view old.number c.mine q.resolved
+          (went_all Reserves InstallsNone reserving_installs old.token.view new.token.view g));
     }
 
 -- a caller that may start may do so still once it made loads
@@ -135,16 +135,16 @@ filled_quiet mid who rebuild change parent index target is q =
 module _ (v : View) (parent index target : ℕ) (m : MayStart v parent index target)
     (mid who : Caller) (rebuild change : ℕ) (rows : HasStartRows mid rebuild change)
     (c : IsCaller mid)
-    (g : WentOn Reserves v mid.seat.view) (quiet : IsQuiet mid)
-    (none : IsUnrefused (now mid.seat.view) mid.number parent)
+    (g : WentOn Reserves v mid.token.view) (quiet : IsQuiet mid)
+    (none : IsUnrefused (now mid.token.view) mid.number parent)
     (is : who ≡ filled_start mid rebuild change parent index target) (cw : IsCaller who) where
   abbrev u : View
-  u = mid.seat.view
+  u = mid.token.view
 
   abbrev full : Caller
   full = filled_start mid rebuild change parent index target
 
-  s : IsSound mid.seat.view
+  s : IsSound mid.token.view
   s = g.sound
 
   fits : IsSound v → FitsKind (start u.start u.words) u.log
@@ -179,7 +179,7 @@ module _ (v : View) (parent index target : ℕ) (m : MayStart v parent index tar
       (later_by-goes_on g.later) m.linked)
 
   -- the change may be installed, with the view in which the rows are filled
-  installable : IsSound v → IsInstallable full.seat.view change
+  installable : IsSound v → IsInstallable full.token.view change
       (start_filling mid.number parent index target rebuild)
   installable sv =
       let slot = start_slot v sv parent index target m in

@@ -1,6 +1,5 @@
 -- What reserving the rows of a start leaves of its caller. Serves `reserve_rows`.
-use Rattle.std.proofs.Common.{◌≡◌, ◌≢◌, ℕ, ◌==◌, ◌||◌, not, true, false, if◌then◌else◌, List, [], ◌∷◌, ◌++◌, map, filter, Option, Some, None, Result, Ok, Err, IfSome, IfErr, refl, sym, ap, ap₂, ◌∙◌, subst, inl, inr, ⊎_elim, arith}
-use Rattle.std.proofs.lemmas.Bool.Decides.{eqb_tells}
+use Rattle.std.proofs.Common.{◌≡◌, ◌≢◌, ℕ, ◌==◌, ◌||◌, not, false, if◌then◌else◌, List, [], ◌∷◌, ◌++◌, map, filter, Option, Some, None, Result, Ok, Err, IfSome, IfErr, refl, sym, ap, ap₂, ◌∙◌, subst, inl, inr, ⊎_elim, arith}
 use Rattle.ist_build.specs.Laying.{Reserves}
 use Rattle.ist_core.specs.declared.events.Event.TheVariants.{Reserve}
 use Rattle.ist_core.specs.declared.lists.HeldRow.{HeldRow}
@@ -25,14 +24,13 @@ use Rattle.ist_rule.proofs.LaterLemmas.{later-goes_on}
 use Rattle.ist_rule.proofs.WentOnLemmas.{goes_on_went, logged_went, went_more, went_same, went_all}
 use Rattle.ist_rows.specs.declared.callers.Caller.{Caller}
 use Rattle.ist_rows.specs.declared.kinds.Kind.{Kind}
-use Rattle.ist_rows.specs.declared.kinds.Kind.TheVariants.{Leaf, Pair as PairKind, Change, Rebuild}
 use Rattle.ist_rows.specs.Building.{AreStuck, HasRefused}
 use Rattle.ist_rows.specs.CallerLaws.{KeepsRows}
 use Rattle.ist_rows.specs.Kinds.{kind_words}
-use Rattle.ist_rows.specs.Rows.{Spares, spares_of, row_of, with_row, is_base, is_spare, held_by, build_sizes, IsCaller, Reserved, IsFull, IsFreshRow, IsKindRefused}
+use Rattle.ist_rows.specs.Rows.{Spares, spares_of, row_of, with_row, is_spare, held_by, build_sizes, IsCaller, Reserved, IsFull, IsFreshRow, IsKindRefused}
 use Rattle.ist_rows.proofs.BuildingCallLemmas.{Took, took}
 use Rattle.ist_rows.proofs.BuildingLemmas.{all_stuck_on}
-use Rattle.ist_rows.proofs.CallerGoingLemmas.{base_same, or_any}
+use Rattle.ist_rows.proofs.CallerGoingLemmas.{spare_else, spare_here}
 use Rattle.ist_rows.proofs.CallerLawLemmas.{refused_went}
 use Rattle.ist_rows.proofs.HeldBehindLemmas.{filter_at, held_by_own, behind_between}
 use Rattle.ist_rows.proofs.HeldListLemmas.{held_by_later}
@@ -42,47 +40,6 @@ use Rattle.ist_rebuild.proofs.StartGoingLemmas.{begins_reserving}
 use Rattle.ist_rows.proofs.ShortLemmas.{short_from}
 
 -- ---- spare rows
-
-base_differs : (base x : ℕ) → base ≢ x → (base == x) ≡ false
-base_differs base x ne = ⊎_elim (λ k. absurd (ne k.1)) (λ k. k.0) (eqb_tells base x)
-
--- another row is as spare as it was
-spare_else : (own : Spares) (kind : Kind) (base x : ℕ) → row_of kind own ≡ None → base ≢ x
-    → is_spare (with_row kind base own) x ≡ is_spare own x
-spare_else own Leaf base x none ne =
-    ap (λ a. a || (is_base own.pair x || (is_base own.change x || is_base own.rebuild x)))
-    (base_differs base x ne ∙ sym (ap (λ o. is_base o x) none))
-spare_else own PairKind base x none ne =
-    ap (λ a. is_base own.leaf x || (a || (is_base own.change x || is_base own.rebuild x)))
-    (base_differs base x ne ∙ sym (ap (λ o. is_base o x) none))
-spare_else own Change base x none ne =
-    ap (λ a. is_base own.leaf x || (is_base own.pair x || (a || is_base own.rebuild x)))
-    (base_differs base x ne ∙ sym (ap (λ o. is_base o x) none))
-spare_else own Rebuild base x none ne =
-    ap (λ a. is_base own.leaf x || (is_base own.pair x || (is_base own.change x || a)))
-    (base_differs base x ne ∙ sym (ap (λ o. is_base o x) none))
-
--- the new row is spare
-spare_here : (own : Spares) (kind : Kind) (base : ℕ) → is_spare (with_row kind base own) base ≡ true
-spare_here own Leaf base =
-    ap (λ a. a || (is_base own.pair base
-    || (is_base own.change base || is_base own.rebuild base))) (base_same base)
-spare_here own PairKind base =
-    ap (λ a. is_base own.leaf base
-    || (a || (is_base own.change base || is_base own.rebuild base))) (base_same base)
-    ∙ or_any (is_base own.leaf base)
-spare_here own Change base =
-    ap (λ a. is_base own.leaf base || (is_base own.pair base || (a || is_base own.rebuild base)))
-    (base_same base)
-    ∙ ap (λ a. is_base own.leaf base || a) (or_any (is_base own.pair base))
-    ∙ or_any (is_base own.leaf base)
-spare_here own Rebuild base =
-    ap (λ a. is_base own.leaf base || (is_base own.pair base || (is_base own.change base || a)))
-    (base_same base)
-    ∙ ap (λ a. is_base own.leaf base || (is_base own.pair base || a))
-    (or_any (is_base own.change base))
-    ∙ ap (λ a. is_base own.leaf base || a) (or_any (is_base own.pair base))
-    ∙ or_any (is_base own.leaf base)
 
 -- the rows of builds are the same, if one more spare row is held
 builds_beside : (own : Spares) (kind : Kind) (row : HeldRow) (held : List HeldRow)
@@ -100,26 +57,26 @@ builds_beside own kind row (h ∷ held) none apart =
 -- ---- refused builds
 
 -- refused builds depend only on the state, the number and the spare rows
-refused_as : (a b : Caller) → now b.seat.view ≡ now a.seat.view → b.number ≡ a.number
+refused_as : (a b : Caller) → now b.token.view ≡ now a.token.view → b.number ≡ a.number
     → spares_of b ≡ spares_of a → HasRefused a → HasRefused b
 refused_as a b now_is number_is rows_are r =
-    subst (λ own. AreStuck (now b.seat.view) (build_sizes (now b.seat.view) b.number own))
+    subst (λ own. AreStuck (now b.token.view) (build_sizes (now b.token.view) b.number own))
     (sym rows_are)
-    (subst (λ n. AreStuck (now b.seat.view) (build_sizes (now b.seat.view) n (spares_of a)))
+    (subst (λ n. AreStuck (now b.token.view) (build_sizes (now b.token.view) n (spares_of a)))
     (sym number_is)
     (subst (λ t. AreStuck t (build_sizes t a.number (spares_of a))) (sym now_is) r))
 
 -- refused builds stay refused if a spare row is reserved
 refused_beside : (old new : Caller) (kind : Kind) (base : ℕ) → IsCaller old
     → row_of kind (spares_of old) ≡ None
-    → Reserved old.seat.view old.number base (kind_words kind) new.seat.view
+    → Reserved old.token.view old.number base (kind_words kind) new.token.view
     → new.number ≡ old.number → spares_of new ≡ with_row kind base (spares_of old)
     → HasRefused old → HasRefused new
 refused_beside old new kind base c none r number_is rows_are h =
-    subst (λ own. AreStuck (now new.seat.view) (build_sizes (now new.seat.view) new.number own))
+    subst (λ own. AreStuck (now new.token.view) (build_sizes (now new.token.view) new.number own))
     (sym rows_are)
-    (subst (λ n. AreStuck (now new.seat.view)
-    (build_sizes (now new.seat.view) n (with_row kind base own)))
+    (subst (λ n. AreStuck (now new.token.view)
+    (build_sizes (now new.token.view) n (with_row kind base own)))
     (sym number_is)
     (subst (λ x. AreStuck x (build_sizes x old.number (with_row kind base own)))
     (sym it.now_is) behind))
@@ -128,10 +85,10 @@ refused_beside old new kind base c none r number_is rows_are h =
     own = spares_of old
 
     v : View
-    v = old.seat.view
+    v = old.token.view
 
-    it : Took v old.number base (kind_words kind) new.seat.view
-    it = took v old.number base (kind_words kind) new.seat.view r
+    it : Took v old.number base (kind_words kind) new.token.view
+    it = took v old.number base (kind_words kind) new.token.view r
 
     later : Later (CallerOf old.number) v.log it.before
     later = subst (λ who. Later who v.log it.before) c.mine it.later
@@ -194,21 +151,21 @@ module _ (words : ℕ) (kind : Kind) (old new : Caller) (answer : Result ℕ Ful
     (fresh : IsFreshRow kind old new answer)
     (full : IfErr answer (λ f. IsKindRefused words kind old new f)) where
   -- the caller has reserved at most
-  pub reserve_went : IsSound old.seat.view → WentOn Reserves old.seat.view new.seat.view
+  pub reserve_went : IsSound old.token.view → WentOn Reserves old.token.view new.token.view
   reserve_went s = at (row_of kind (spares_of old)) refl held answer refl fresh full
     where
       at : (o : Option ℕ) → row_of kind (spares_of old) ≡ o
           → IfSome o (λ base. (answer ≡ Ok base) × (new ≡ old))
           → (a : Result ℕ Full) → answer ≡ a → IsFreshRow kind old new a
           → IfErr a (λ f. IsKindRefused words kind old new f)
-          → WentOn Reserves old.seat.view new.seat.view
+          → WentOn Reserves old.token.view new.token.view
       at (Some base) e h a is f r =
-          subst (λ (x : Caller). WentOn Reserves old.seat.view x.seat.view) (sym h.1)
-          (went_same Reserves old.seat.view s)
+          subst (λ (x : Caller). WentOn Reserves old.token.view x.token.view) (sym h.1)
+          (went_same Reserves old.token.view s)
       at None e h (Ok base) is f r =
-          reserved_went old.seat.view old.number base (kind_words kind) new.seat.view (f e).0
+          reserved_went old.token.view old.number base (kind_words kind) new.token.view (f e).0
       at None e h (Err x) is f r =
-          goes_on_went Reserves old.seat.view new.seat.view
+          goes_on_went Reserves old.token.view new.token.view
           (goes_on_more _ _ _ r.cause.short.seen (looked_goes_on _ _ _ _ r.cause.short.looked))
 
   -- the refused builds of the caller stay refused
@@ -224,9 +181,9 @@ module _ (words : ℕ) (kind : Kind) (old new : Caller) (answer : Result ℕ Ful
       at None e h (Ok base) f r =
           refused_beside old new kind base c e (f e).0 number_is (f e).1 was
       at None e h (Err x) f r =
-          refused_as (record old { seat = new.seat }) new refl number_is r.same
-          (refused_went old new.seat c was
-          (goes_on_went KeepsRows old.seat.view new.seat.view
+          refused_as (record old { token = new.token }) new refl number_is r.same
+          (refused_went old new.token c was
+          (goes_on_went KeepsRows old.token.view new.token.view
           (goes_on_more _ _ _ r.cause.short.seen (looked_goes_on _ _ _ _ r.cause.short.looked))))
 
 -- ---- too few words

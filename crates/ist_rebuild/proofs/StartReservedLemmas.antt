@@ -3,7 +3,7 @@ use Rattle.std.proofs.Common.{◌≡◌, ◌∙◌, ℕ, Option, Some, None, Res
 use Rattle.ist_build.specs.Laying.{Reserves}
 use Rattle.ist_core.specs.declared.ports.Full.{Full}
 use Rattle.ist_rule.specs.declared.view.View.{View}
-use Rattle.ist_rule.specs.Faces.{SeatFace}
+use Rattle.ist_rule.specs.Faces.{TokenFace}
 use Rattle.ist_rule.specs.Learning.{GoesOnTo}
 use Rattle.ist_rule.specs.Rule.{IsSound}
 use Rattle.ist_rule.proofs.WentOnLemmas.{goes_on_went, went_more}
@@ -19,16 +19,16 @@ use Rattle.ist_rebuild.proofs.StartReadyLemmas.{filled_quiet, reserved_quiet}
 use Rattle.ist_rebuild.proofs.StartReserveLemmas.{reserve_refused, reserve_went}
 
 -- a caller that only made loads
-pub loads_reserved : (who : Caller) (seat : SeatFace) → IsCaller who → IsQuiet who
-    → GoesOnTo who.seat.view seat.view → HasReserved who (record who { seat = seat })
-loads_reserved who seat c q g =
+pub loads_reserved : (who : Caller) (token : TokenFace) → IsCaller who → IsQuiet who
+    → GoesOnTo who.token.view token.view → HasReserved who (record who { token = token })
+loads_reserved who token c q g =
     record {
-      caller = caller_goes_on who seat c g;
+      caller = caller_goes_on who token c g;
       number = refl;
       fresh = (refl, refl);
-      quiet = loads_quiet who seat c g q;
-      refused = loads_refused who seat c g;
-      went = goes_on_went Reserves who.seat.view seat.view g;
+      quiet = loads_quiet who token c g q;
+      refused = loads_refused who token c g;
+      went = goes_on_went Reserves who.token.view token.view g;
     }
 
 -- reserving twice
@@ -41,7 +41,7 @@ reserved_more old mid new a b =
       fresh = (b.fresh.0 ∙ a.fresh.0, b.fresh.1 ∙ a.fresh.1);
       quiet = b.quiet;
       refused = λ was. b.refused (a.refused was);
-      went = went_more Reserves old.seat.view mid.seat.view new.seat.view a.went b.went;
+      went = went_more Reserves old.token.view mid.token.view new.token.view a.went b.went;
     }
 
 module _ (words : ℕ) (kind : Kind) (old new : Caller) (answer : Result ℕ Full)
@@ -68,7 +68,7 @@ module _ (words : ℕ) (kind : Kind) (old new : Caller) (answer : Result ℕ Ful
           (ap (λ (s : Spares). s.leaf) r.same, ap (λ (s : Spares). s.pair) r.same)
 
   -- what the reserving of a rebuild's or a change's row leaves
-  pub row_reserved : IsSound old.seat.view → IsCaller old → IsQuiet old → IsCaller new
+  pub row_reserved : IsSound old.token.view → IsCaller old → IsQuiet old → IsCaller new
       → new.number ≡ old.number → HasReserved old new
   row_reserved s c q d same =
       let went = reserve_went words kind old new answer held taken full s in
@@ -84,7 +84,7 @@ module _ (words : ℕ) (kind : Kind) (old new : Caller) (answer : Result ℕ Ful
 -- a caller that then filled the rows of a start
 pub filled_reserved : (old mid full : Caller) (rebuild change parent index target : ℕ)
     → full ≡ filled_start mid rebuild change parent index target → IsCaller full
-    → IsSound full.seat.view → HasReserved old mid → HasReserved old full
+    → IsSound full.token.view → HasReserved old mid → HasReserved old full
 filled_reserved old mid full rebuild change parent index target is d s r =
     subst (HasReserved old) (sym is)
     record {
@@ -95,9 +95,9 @@ filled_reserved old mid full rebuild change parent index target is d s r =
       refused = r.refused;
       went = record {
         later = r.went.later;
-        sound = subst (λ (x : Caller). IsSound x.seat.view) is s;
+        sound = subst (λ (x : Caller). IsSound x.token.view) is s;
         same = ap (λ (x : View). record x {
-          own = (filled_start mid rebuild change parent index target).seat.view.own;
+          own = (filled_start mid rebuild change parent index target).token.view.own;
         }) r.went.same;
         loaded = r.went.loaded;
       };

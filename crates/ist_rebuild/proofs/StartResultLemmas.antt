@@ -15,7 +15,7 @@ use Rattle.ist_core.proofs.InstallLemmas.{with_installed}
 use Rattle.ist_core.proofs.NamingStepLemmas.{changed_at-fixed, installed_stands}
 use Rattle.ist_core.proofs.ReferenceLemmas.{ref_of-word_of}
 use Rattle.ist_core.proofs.RowLemmas.{with_row-same, with_row-other}
-use Rattle.laws_settling.proofs.RefusedLemmas.{refused_closed}
+use Rattle.laws_calls.proofs.RefusedLemmas.{refused_closed}
 use Rattle.ist_rule.specs.declared.view.View.{View}
 use Rattle.ist_rule.specs.Learning.{now}
 use Rattle.ist_rule.specs.Rule.{IsSound}

@@ -73,5 +73,5 @@ filling_at v base =
 -- the caller holds its change row, and may install what it stored there: the finish of the plan
 pub record IsPrepared (who : Caller) (plan : Plan) (change : ℕ) : Type 0 where
   pub row : who.change ≡ Some change
-  pub is : (filling_at who.seat.view change).change ≡ finish_row plan who.number
-  pub may_install : IsInstallable who.seat.view change (filling_at who.seat.view change)
+  pub is : (filling_at who.token.view change).change ≡ finish_row plan who.number
+  pub may_install : IsInstallable who.token.view change (filling_at who.token.view change)

@@ -9,7 +9,7 @@ use Rattle.ist_core.specs.Pieces.{Change, row_at, words_of}
 use Rattle.ist_core.specs.References.{InnerAt, RebuildAt, word_of}
 use Rattle.ist_core.specs.Slots.{IsOpen}
 use Rattle.ist_core.specs.Statuses.{undecided, start_kind}
-use Rattle.laws_settling.specs.Settling.{StartsAreDone}
+use Rattle.laws_calls.specs.Settling.{StartsAreDone}
 use Rattle.ist_rule.specs.Going.{WentOn}
 use Rattle.ist_rule.specs.Learning.{now}
 use Rattle.ist_rows.specs.declared.callers.Caller.{Caller}
@@ -69,7 +69,7 @@ pub record IsStartReady (who : Caller) (rebuild change : ℕ) (f : Filling) : Ty
   pub caller : IsCaller who
   pub rows : HasStartRows who rebuild change
   pub quiet : IsQuiet who
-  pub may_install : IsInstallable who.seat.view change f
+  pub may_install : IsInstallable who.token.view change f
 
 -- ---- how it went
 
@@ -81,15 +81,15 @@ pub record HasReserved (old new : Caller) : Type 0 where
   pub fresh : KeepsFresh old new
   pub quiet : IsQuiet new
   pub refused : HasRefused old → HasRefused new
-  pub went : WentOn Reserves old.seat.view new.seat.view
+  pub went : WentOn Reserves old.token.view new.token.view
 
 -- the caller made only steps of a start of this target; otherwise as with reservings
 pub record HasBegun (target : ℕ) (old new : Caller) : Type 0 where
   pub caller : IsCaller new
   pub number : new.number ≡ old.number
   pub fresh : KeepsFresh old new
-  pub went : WentOn Begins old.seat.view new.seat.view
-  pub aims : WentOn (StartsAt target) old.seat.view new.seat.view
+  pub went : WentOn Begins old.token.view new.token.view
+  pub aims : WentOn (StartsAt target) old.token.view new.token.view
   pub quiet : IsQuiet new
   pub refused : HasRefused old → HasRefused new
 
@@ -97,11 +97,11 @@ pub record HasBegun (target : ℕ) (old new : Caller) : Type 0 where
 pub record TellsStart (old new : Caller) (parent index target : ℕ)
     (answer : Result Started Full) : Type 0 where
   pub yes : (rebuild : ℕ) → answer ≡ Ok (Yes rebuild)
-      → IsStartedAt (now new.seat.view) rebuild parent index target
+      → IsStartedAt (now new.token.view) rebuild parent index target
   pub other : (word : ℕ) → answer ≡ Ok (Other word)
-      → StoodInstead new.seat.view parent index target word
-  pub marked : answer ≡ Ok Marked → ¬ (IsOpen (now new.seat.view) parent)
-  pub done : StartsAreDone (now old.seat.view) old.number
-      → LeavesDone (now new.seat.view) old.number answer
-  pub unstarted : LeavesUnstarted (now old.seat.view) (now new.seat.view) old.number answer
-  pub uninstalled : LeavesUninstalled old.seat.view new.seat.view answer
+      → StoodInstead new.token.view parent index target word
+  pub marked : answer ≡ Ok Marked → ¬ (IsOpen (now new.token.view) parent)
+  pub done : StartsAreDone (now old.token.view) old.number
+      → LeavesDone (now new.token.view) old.number answer
+  pub unstarted : LeavesUnstarted (now old.token.view) (now new.token.view) old.number answer
+  pub uninstalled : LeavesUninstalled old.token.view new.token.view answer

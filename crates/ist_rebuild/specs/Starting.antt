@@ -19,7 +19,7 @@ use Rattle.ist_build.specs.Laying.{Reserves}
 use Rattle.ist_rule.specs.declared.view.View.{View}
 use Rattle.ist_rule.specs.Going.{WentOn}
 use Rattle.ist_rule.specs.Learning.{now}
-use Rattle.laws_settling.specs.Settling.{IsDoneStart, StartsAreDone}
+use Rattle.laws_calls.specs.Settling.{IsDoneStart, StartsAreDone}
 use Rattle.ist_rebuild.specs.declared.answers.Started.{Started}
 use Rattle.ist_rebuild.specs.declared.answers.Started.TheVariants.{Yes, Other, Marked}
 use Rattle.ist_rebuild.specs.Going.{Begins}

@@ -38,18 +38,18 @@ enum Tried {
 
 /// Gives the rebuild its root, and fills the root's parts.
 pub(crate) fn build_out(table: &TreeTable, who: &mut Caller, rebuild: u32) -> Result<(), Full>
-    requires same_table { who.old.seat.table ≡ table.now.table }
+    requires same_table { who.old.token.table ≡ table.now.table }
     requires ready { IsReady who.old }
-    requires buildable { IsBuildable (now who.old.seat.view) rebuild }
-    ensures same_table { who.new.seat.table ≡ table.now.table }
+    requires buildable { IsBuildable (now who.old.token.view) rebuild }
+    ensures same_table { who.new.token.table ≡ table.now.table }
     ensures helped { HasHelped who.old who.new }
-    ensures built { IfOk result (λ done. IsBuiltOut (now who.new.seat.view) rebuild) }
+    ensures built { IfOk result (λ done. IsBuiltOut (now who.new.token.view) rebuild) }
     ensures full { IfErr result (λ full.
-        IsHelpRefused who.old.seat.view rebuild (word_count_of table.now) full who.new.seat.view) }
+        IsHelpRefused who.old.token.view rebuild (word_count_of table.now) full who.new.token.view) }
 {
-    know(&who.seat);
+    know(&who.token);
     set_root(table, who, rebuild)?;
-    know(&who.seat);
+    know(&who.token);
     fill_parts(table, who, rebuild)
 }
 
@@ -74,48 +74,48 @@ fn finish_words(plan: Plan, owner: u32) -> [u64; 9]
 
 // Fills the caller's change row as the finish of the plan, and returns it.
 fn prepare(table: &TreeTable, who: &mut Caller, plan: Plan) -> Result<u32, Full>
-    requires same_table { who.old.seat.table ≡ table.now.table }
+    requires same_table { who.old.token.table ≡ table.now.table }
     requires ready { IsReady who.old }
-    requires plan { IsPlan who.old.seat.view plan }
-    requires unrefused { IsUnrefused (now who.old.seat.view) who.old.number plan.parent }
-    ensures same_table { who.new.seat.table ≡ table.now.table }
+    requires plan { IsPlan who.old.token.view plan }
+    requires unrefused { IsUnrefused (now who.old.token.view) who.old.number plan.parent }
+    ensures same_table { who.new.token.table ≡ table.now.table }
     ensures helped { HasHelped who.old who.new }
     ensures prepared { IfOk result (λ change. IsPrepared who.new plan change) }
-    ensures full { IfErr result (λ full. IsHelpRefused who.old.seat.view plan.rebuild
-        (word_count_of table.now) full who.new.seat.view) }
+    ensures full { IfErr result (λ full. IsHelpRefused who.old.token.view plan.rebuild
+        (word_count_of table.now) full who.new.token.view) }
 {
-    know(&who.seat);
+    know(&who.token);
     // Reserve, unless the caller holds a change row. Meets the reserving of others.
     let change = reserve(table, who, Kind::Change)?;
-    know(&who.seat);
+    know(&who.token);
     let words = finish_words(plan, who.number);
     fill_row(table, who, Kind::Change, change, &words);
-    know(&who.seat);
+    know(&who.token);
     Ok(change)
 }
 
 // Installs the prepared finish and helps it, if the slot holds the rebuild.
 fn carry(table: &TreeTable, who: &mut Caller, plan: Plan, change: u32) -> Tried
-    requires same_table { who.old.seat.table ≡ table.now.table }
+    requires same_table { who.old.token.table ≡ table.now.table }
     requires ready { IsReady who.old }
-    requires plan { IsPlan who.old.seat.view plan }
+    requires plan { IsPlan who.old.token.view plan }
     requires prepared { IsPrepared who.old plan change }
-    ensures same_table { who.new.seat.table ≡ table.now.table }
+    ensures same_table { who.new.token.table ≡ table.now.table }
     ensures helped { HasHelped who.old who.new }
-    ensures yes { result ≡ Yes → IsReplaced (now who.new.seat.view) plan.rebuild }
-    ensures no { result ≡ No → ¬ (IsOpen (now who.new.seat.view) plan.parent) }
+    ensures yes { result ≡ Yes → IsReplaced (now who.new.token.view) plan.rebuild }
+    ensures no { result ≡ No → ¬ (IsOpen (now who.new.token.view) plan.parent) }
     ensures other { (word : ℕ) → result ≡ Other word
-        → SlotHolds (now who.new.seat.view) plan.parent plan.index word }
+        → SlotHolds (now who.new.token.view) plan.parent plan.index word }
     ensures differs { (word : ℕ) → result ≡ Other word → word ≢ word_of (RebuildAt plan.rebuild) }
 {
-    know(&who.seat);
+    know(&who.token);
     // Install. Meets another helper's finish, and the start that is still in the slot.
-    match install(table, &mut who.seat, change) {
+    match install(table, &mut who.token, change) {
         Installed::Yes => {
             who.change = None;
-            know(&who.seat);
+            know(&who.token);
             // Okay, Decide and Resolve. Meets a mark of the parent, and any helper of the change.
-            match help(table, &mut who.seat, change) {
+            match help(table, &mut who.token, change) {
                 Decision::Yes => Tried::Yes,
                 Decision::No => Tried::No,
             }
@@ -126,29 +126,29 @@ fn carry(table: &TreeTable, who: &mut Caller, plan: Plan, change: u32) -> Tried
 
 // Returns what a try says of the rebuild, if anything; helps a change that was met in its slot.
 fn conclude(table: &TreeTable, who: &mut Caller, plan: Plan, tried: Tried) -> Option<Helped>
-    requires same_table { who.old.seat.table ≡ table.now.table }
+    requires same_table { who.old.token.table ≡ table.now.table }
     requires ready { IsReady who.old }
-    requires plan { IsPlan who.old.seat.view plan }
-    requires yes { tried ≡ Yes → IsReplaced (now who.old.seat.view) plan.rebuild }
-    requires no { tried ≡ No → ¬ (IsOpen (now who.old.seat.view) plan.parent) }
+    requires plan { IsPlan who.old.token.view plan }
+    requires yes { tried ≡ Yes → IsReplaced (now who.old.token.view) plan.rebuild }
+    requires no { tried ≡ No → ¬ (IsOpen (now who.old.token.view) plan.parent) }
     requires other { (word : ℕ) → tried ≡ Other word
-        → SlotHolds (now who.old.seat.view) plan.parent plan.index word }
+        → SlotHolds (now who.old.token.view) plan.parent plan.index word }
     requires differs { (word : ℕ) → tried ≡ Other word → word ≢ word_of (RebuildAt plan.rebuild) }
-    ensures same_table { who.new.seat.table ≡ table.now.table }
+    ensures same_table { who.new.token.table ≡ table.now.table }
     ensures helped { HasHelped who.old who.new }
-    ensures replaced { result ≡ Some Replaced → IsReplaced (now who.new.seat.view) plan.rebuild }
+    ensures replaced { result ≡ Some Replaced → IsReplaced (now who.new.token.view) plan.rebuild }
     ensures left { result ≡ Some ParentMarked
-        → IsLeftToParent (now who.new.seat.view) plan.rebuild }
-    ensures further { result ≡ None → CameFurther who.old.seat.view who.new.seat.view }
+        → IsLeftToParent (now who.new.token.view) plan.rebuild }
+    ensures further { result ≡ None → CameFurther who.old.token.view who.new.token.view }
 {
-    know(&who.seat);
+    know(&who.token);
     match tried {
         Tried::Yes => Some(Helped::Replaced),
         Tried::No => Some(settle(table, who, plan)),
         Tried::Other(word) => match meet(word, plan.rebuild) {
             Met::Change(change) => {
                 // Okay, Decide and Resolve. Meets any helper of the change.
-                help(table, &mut who.seat, change);
+                help(table, &mut who.token, change);
                 None
             }
             Met::Itself => unreachable!(),
@@ -159,22 +159,22 @@ fn conclude(table: &TreeTable, who: &mut Caller, plan: Plan, tried: Tried) -> Op
 
 // Tries once to put the root of the rebuild in its place.
 fn try_finish(table: &TreeTable, who: &mut Caller, plan: Plan) -> Result<Option<Helped>, Full>
-    requires same_table { who.old.seat.table ≡ table.now.table }
+    requires same_table { who.old.token.table ≡ table.now.table }
     requires ready { IsReady who.old }
-    requires plan { IsPlan who.old.seat.view plan }
-    ensures same_table { who.new.seat.table ≡ table.now.table }
+    requires plan { IsPlan who.old.token.view plan }
+    ensures same_table { who.new.token.table ≡ table.now.table }
     ensures helped { HasHelped who.old who.new }
     ensures replaced { result ≡ Ok (Some Replaced)
-        → IsReplaced (now who.new.seat.view) plan.rebuild }
+        → IsReplaced (now who.new.token.view) plan.rebuild }
     ensures left { result ≡ Ok (Some ParentMarked)
-        → IsLeftToParent (now who.new.seat.view) plan.rebuild }
-    ensures further { result ≡ Ok None → CameFurther who.old.seat.view who.new.seat.view }
-    ensures full { IfErr result (λ full. IsHelpRefused who.old.seat.view plan.rebuild
-        (word_count_of table.now) full who.new.seat.view) }
+        → IsLeftToParent (now who.new.token.view) plan.rebuild }
+    ensures further { result ≡ Ok None → CameFurther who.old.token.view who.new.token.view }
+    ensures full { IfErr result (λ full. IsHelpRefused who.old.token.view plan.rebuild
+        (word_count_of table.now) full who.new.token.view) }
 {
-    know(&who.seat);
+    know(&who.token);
     // A load. Meets a mark of the parent.
-    if !is_open(table, &mut who.seat, plan.parent) {
+    if !is_open(table, &mut who.token, plan.parent) {
         return Ok(Some(settle(table, who, plan)));
     }
     let change = prepare(table, who, plan)?;
@@ -185,18 +185,18 @@ fn try_finish(table: &TreeTable, who: &mut Caller, plan: Plan) -> Result<Option<
 /// Puts the root of the rebuild in its place, or finds that the rebuild was replaced, or that it is
 /// in its slot and its parent isn't open.
 pub(crate) fn finish(table: &TreeTable, who: &mut Caller, plan: Plan) -> Result<Helped, Full>
-    requires same_table { who.old.seat.table ≡ table.now.table }
+    requires same_table { who.old.token.table ≡ table.now.table }
     requires ready { IsReady who.old }
-    requires plan { IsPlan who.old.seat.view plan }
-    ensures same_table { who.new.seat.table ≡ table.now.table }
+    requires plan { IsPlan who.old.token.view plan }
+    ensures same_table { who.new.token.table ≡ table.now.table }
     ensures helped { HasHelped who.old who.new }
-    ensures replaced { result ≡ Ok Replaced → IsReplaced (now who.new.seat.view) plan.rebuild }
+    ensures replaced { result ≡ Ok Replaced → IsReplaced (now who.new.token.view) plan.rebuild }
     ensures left { result ≡ Ok ParentMarked
-        → IsLeftToParent (now who.new.seat.view) plan.rebuild }
-    ensures full { IfErr result (λ full. IsHelpRefused who.old.seat.view plan.rebuild
-        (word_count_of table.now) full who.new.seat.view) }
+        → IsLeftToParent (now who.new.token.view) plan.rebuild }
+    ensures full { IfErr result (λ full. IsHelpRefused who.old.token.view plan.rebuild
+        (word_count_of table.now) full who.new.token.view) }
 {
-    know(&who.seat);
+    know(&who.token);
     'turns: loop {
         if let Some(helped) = try_finish(table, who, plan)? {
             return Ok(helped);

@@ -19,16 +19,16 @@ use ist_rule::{TreeTable, know};
 
 // Marks the target of a started rebuild, and counts its keys; then the rebuild may be built.
 fn mark_target(table: &TreeTable, who: &mut Caller, rebuild: u32)
-    requires same_table { who.old.seat.table ≡ table.now.table }
+    requires same_table { who.old.token.table ≡ table.now.table }
     requires ready { IsReady who.old }
-    requires started { IsStarted (now who.old.seat.view) rebuild }
-    ensures same_table { who.new.seat.table ≡ table.now.table }
+    requires started { IsStarted (now who.old.token.view) rebuild }
+    ensures same_table { who.new.token.table ≡ table.now.table }
     ensures helped { HasHelped who.old who.new }
-    ensures buildable { IsBuildable (now who.new.seat.view) rebuild }
+    ensures buildable { IsBuildable (now who.new.token.view) rebuild }
 {
-    know(&who.seat);
-    let target = target_of(table, &mut who.seat, rebuild);
-    mark_and_count_from(table, &mut who.seat, target, who.number);
+    know(&who.token);
+    let target = target_of(table, &mut who.token, rebuild);
+    mark_and_count_from(table, &mut who.token, target, who.number);
 }
 
 /// Helps a started rebuild until it is done: marks its target and counts the keys, sets its root,
@@ -45,20 +45,20 @@ fn mark_target(table: &TreeTable, who: &mut Caller, rebuild: u32)
 /// Source: Brown, Prokopec and Alistarh, "Non-Blocking Interpolation Search Trees with
 /// Doubly-Logarithmic Running Time", PPoPP 2020.
 pub fn help_rebuild(table: &TreeTable, who: &mut Caller, rebuild: u32) -> Result<Helped, Full>
-    requires same_table { who.old.seat.table ≡ table.now.table }
+    requires same_table { who.old.token.table ≡ table.now.table }
     requires ready { IsReady who.old }
-    requires started { IsStarted (now who.old.seat.view) rebuild }
-    ensures same_table { who.new.seat.table ≡ table.now.table }
+    requires started { IsStarted (now who.old.token.view) rebuild }
+    ensures same_table { who.new.token.table ≡ table.now.table }
     ensures helped { HasHelped who.old who.new }
-    ensures finished { IsBuildable (now who.new.seat.view) rebuild }
-    ensures replaced { result ≡ Ok Replaced → IsReplaced (now who.new.seat.view) rebuild }
+    ensures finished { IsBuildable (now who.new.token.view) rebuild }
+    ensures replaced { result ≡ Ok Replaced → IsReplaced (now who.new.token.view) rebuild }
     ensures parent_marked { result ≡ Ok ParentMarked
-        → IsLeftToParent (now who.new.seat.view) rebuild }
-    ensures full { IfErr result (λ full. IsHelpRefused who.old.seat.view rebuild
-        (word_count_of table.now) full who.new.seat.view) }
+        → IsLeftToParent (now who.new.token.view) rebuild }
+    ensures full { IfErr result (λ full. IsHelpRefused who.old.token.view rebuild
+        (word_count_of table.now) full who.new.token.view) }
 {
     mark_target(table, who, rebuild);
     build_out(table, who, rebuild)?;
-    let plan = plan_of(table, &mut who.seat, rebuild);
+    let plan = plan_of(table, &mut who.token, rebuild);
     finish(table, who, plan)
 }

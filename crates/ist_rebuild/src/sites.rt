@@ -17,7 +17,7 @@ use crate::answers::Helped;
 use ist_dcss::{help, slot_at};
 use ist_layout::{REBUILD_INDEX_OFFSET, REBUILD_PARENT_OFFSET, REBUILD_ROOT_OFFSET, Ref};
 use ist_rows::Caller;
-use ist_rule::{TreeSeat, TreeTable, know, load};
+use ist_rule::{TreeTable, TreeToken, know, load};
 
 /// What the finish of a rebuild will do: put this root into slot `index` of the parent.
 #[derive(Clone, Copy, Drop)]
@@ -40,33 +40,33 @@ pub(crate) enum Met {
 }
 
 // Loads a word of the rebuild's row.
-fn field(table: &TreeTable, seat: &mut TreeSeat, rebuild: u32, offset: u64) -> u64
-    requires same_table { seat.old.table ≡ table.now.table }
-    requires published { IsRebuildRow (now seat.old.view) rebuild }
+fn field(table: &TreeTable, token: &mut TreeToken, rebuild: u32, offset: u64) -> u64
+    requires same_table { token.old.table ≡ table.now.table }
+    requires published { IsRebuildRow (now token.old.view) rebuild }
     requires within { offset < rebuild_words }
-    ensures same_table { seat.new.table ≡ seat.old.table }
-    ensures seen { GoesOnTo seat.old.view seat.new.view }
-    ensures field { IsWordOf (now seat.new.view) rebuild offset result }
+    ensures same_table { token.new.table ≡ token.old.table }
+    ensures seen { GoesOnTo token.old.view token.new.view }
+    ensures field { IsWordOf (now token.new.view) rebuild offset result }
 {
-    know(seat);
-    load(table, seat, u64::from(rebuild) + offset)
+    know(token);
+    load(table, token, u64::from(rebuild) + offset)
 }
 
 /// Returns what the finish of a started rebuild will do, once its root is built.
-pub(crate) fn plan_of(table: &TreeTable, seat: &mut TreeSeat, rebuild: u32) -> Plan
-    requires same_table { seat.old.table ≡ table.now.table }
-    requires started { IsStarted (now seat.old.view) rebuild }
-    requires built { IsBuiltOut (now seat.old.view) rebuild }
-    ensures same_table { seat.new.table ≡ seat.old.table }
-    ensures seen { GoesOnTo seat.old.view seat.new.view }
+pub(crate) fn plan_of(table: &TreeTable, token: &mut TreeToken, rebuild: u32) -> Plan
+    requires same_table { token.old.table ≡ table.now.table }
+    requires started { IsStarted (now token.old.view) rebuild }
+    requires built { IsBuiltOut (now token.old.view) rebuild }
+    ensures same_table { token.new.table ≡ token.old.table }
+    ensures seen { GoesOnTo token.old.view token.new.view }
     ensures rebuild { result.rebuild ≡ rebuild }
-    ensures plan { IsPlan seat.new.view result }
+    ensures plan { IsPlan token.new.view result }
 {
-    know(seat);
-    let parent = field(table, seat, rebuild, REBUILD_PARENT_OFFSET);
-    let index = field(table, seat, rebuild, REBUILD_INDEX_OFFSET);
-    let root = field(table, seat, rebuild, REBUILD_ROOT_OFFSET);
-    know(seat);
+    know(token);
+    let parent = field(table, token, rebuild, REBUILD_PARENT_OFFSET);
+    let index = field(table, token, rebuild, REBUILD_INDEX_OFFSET);
+    let root = field(table, token, rebuild, REBUILD_ROOT_OFFSET);
+    know(token);
     let parent = parent as u32;
     Plan {
         rebuild,
@@ -101,39 +101,39 @@ pub(crate) fn meet(word: u64, rebuild: u32) -> Met
 }
 
 // Loads the word in the slot of the rebuild.
-fn slot_word(table: &TreeTable, seat: &mut TreeSeat, plan: Plan) -> u64
-    requires same_table { seat.old.table ≡ table.now.table }
-    requires plan { IsPlan seat.old.view plan }
-    ensures same_table { seat.new.table ≡ seat.old.table }
-    ensures seen { GoesOnTo seat.old.view seat.new.view }
-    ensures holds { SlotHolds (now seat.new.view) plan.parent plan.index result }
+fn slot_word(table: &TreeTable, token: &mut TreeToken, plan: Plan) -> u64
+    requires same_table { token.old.table ≡ table.now.table }
+    requires plan { IsPlan token.old.view plan }
+    ensures same_table { token.new.table ≡ token.old.table }
+    ensures seen { GoesOnTo token.old.view token.new.view }
+    ensures holds { SlotHolds (now token.new.view) plan.parent plan.index result }
 {
-    know(seat);
-    let place = slot_at(table, seat, u64::from(plan.parent), plan.index);
-    know(seat);
+    know(token);
+    let place = slot_at(table, token, u64::from(plan.parent), plan.index);
+    know(token);
     // A load. Meets an install in the slot, and what a helper leaves there.
-    load(table, seat, place)
+    load(table, token, place)
 }
 
 /// Returns what became of a rebuild whose parent isn't open, by a last load of its slot, after
 /// helping the changes that are there. Each help resolves one, so that there are few.
 pub(crate) fn settle(table: &TreeTable, who: &mut Caller, plan: Plan) -> Helped
-    requires same_table { who.old.seat.table ≡ table.now.table }
+    requires same_table { who.old.token.table ≡ table.now.table }
     requires ready { IsReady who.old }
-    requires plan { IsPlan who.old.seat.view plan }
-    requires closed { ¬ (IsOpen (now who.old.seat.view) plan.parent) }
-    ensures same_table { who.new.seat.table ≡ table.now.table }
+    requires plan { IsPlan who.old.token.view plan }
+    requires closed { ¬ (IsOpen (now who.old.token.view) plan.parent) }
+    ensures same_table { who.new.token.table ≡ table.now.table }
     ensures helped { HasHelped who.old who.new }
-    ensures replaced { result ≡ Replaced → IsReplaced (now who.new.seat.view) plan.rebuild }
-    ensures left { result ≡ ParentMarked → IsLeftToParent (now who.new.seat.view) plan.rebuild }
+    ensures replaced { result ≡ Replaced → IsReplaced (now who.new.token.view) plan.rebuild }
+    ensures left { result ≡ ParentMarked → IsLeftToParent (now who.new.token.view) plan.rebuild }
 {
-    know(&who.seat);
+    know(&who.token);
     'turns: loop {
-        let word = slot_word(table, &mut who.seat, plan);
-        know(&who.seat);
+        let word = slot_word(table, &mut who.token, plan);
+        know(&who.token);
         match meet(word, plan.rebuild) {
             // Okay, Decide and Resolve. Meets any helper of the change.
-            Met::Change(change) => help(table, &mut who.seat, change),
+            Met::Change(change) => help(table, &mut who.token, change),
             Met::Itself => return Helped::ParentMarked,
             Met::Another => return Helped::Replaced,
         };

@@ -24,16 +24,16 @@ pub(crate) struct StartRows {
 
 // Reserves the rows of a start, if the caller doesn't hold them.
 fn reserve_rows(table: &TreeTable, who: &mut Caller) -> Result<StartRows, Full>
-    requires same_table { who.old.seat.table ≡ table.now.table }
+    requires same_table { who.old.token.table ≡ table.now.table }
     requires caller { IsCaller who.old }
     requires quiet { IsQuiet who.old }
-    ensures same_table { who.new.seat.table ≡ table.now.table }
+    ensures same_table { who.new.token.table ≡ table.now.table }
     ensures reserved { HasReserved who.old who.new }
     ensures rows { IfOk result (λ rows. HasStartRows who.new rows.rebuild rows.change) }
     ensures full { IfErr result (λ full.
-        IsStartRefused who.old.seat.view (word_count_of table.now) full who.new.seat.view) }
+        IsStartRefused who.old.token.view (word_count_of table.now) full who.new.token.view) }
 {
-    know(&who.seat);
+    know(&who.token);
     // Reserve. Meets another caller's.
     let rebuild = reserve(table, who, Kind::Rebuild)?;
     // Reserve. Meets another caller's.
@@ -50,15 +50,15 @@ fn fill_rows(
     index: u64,
     target: u32,
 )
-    requires same_table { who.old.seat.table ≡ table.now.table }
+    requires same_table { who.old.token.table ≡ table.now.table }
     requires caller { IsCaller who.old }
     requires rows { HasStartRows who.old rows.rebuild rows.change }
     requires target { IsGoodBase target }
-    ensures same_table { who.new.seat.table ≡ table.now.table }
+    ensures same_table { who.new.token.table ≡ table.now.table }
     ensures caller { IsCaller who.new }
     ensures filled { who.new ≡ filled_start who.old rows.rebuild rows.change parent index target }
 {
-    know(&who.seat);
+    know(&who.token);
     let StartRows { rebuild, change } = rows;
     let node = u64::from(parent);
     let unset = Ref::Unset.to_word();
@@ -79,22 +79,22 @@ pub(crate) fn prepare(
     index: u64,
     target: u32,
 ) -> Result<StartRows, Full>
-    requires same_table { who.old.seat.table ≡ table.now.table }
+    requires same_table { who.old.token.table ≡ table.now.table }
     requires caller { IsCaller who.old }
     requires quiet { IsQuiet who.old }
-    requires may_start { MayStart who.old.seat.view parent index target }
-    requires unrefused { IsUnrefused (now who.old.seat.view) who.old.number parent }
-    ensures same_table { who.new.seat.table ≡ table.now.table }
+    requires may_start { MayStart who.old.token.view parent index target }
+    requires unrefused { IsUnrefused (now who.old.token.view) who.old.number parent }
+    ensures same_table { who.new.token.table ≡ table.now.table }
     ensures reserved { HasReserved who.old who.new }
     ensures ready { let number = who.new.number in
         IfOk result (λ rows. IsStartReady who.new rows.rebuild rows.change
         (start_filling number parent index target rows.rebuild)) }
     ensures full { IfErr result (λ full.
-        IsStartRefused who.old.seat.view (word_count_of table.now) full who.new.seat.view) }
+        IsStartRefused who.old.token.view (word_count_of table.now) full who.new.token.view) }
 {
-    know(&who.seat);
+    know(&who.token);
     let rows = reserve_rows(table, who)?;
     fill_rows(table, who, rows, parent, index, target);
-    know(&who.seat);
+    know(&who.token);
     Ok(rows)
 }

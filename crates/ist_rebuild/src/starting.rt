@@ -9,7 +9,7 @@ ghost use Rattle.ist_rule.specs.Going.{WentOn};
 ghost use Rattle.ist_rule.specs.Learning.{now};
 ghost use Rattle.ist_rows.specs.Building.{HasRefused};
 ghost use Rattle.ist_rows.specs.Rows.{IsCaller};
-ghost use Rattle.laws_settling.specs.Settling.{StartsAreDone};
+ghost use Rattle.laws_calls.specs.Settling.{StartsAreDone};
 ghost use Rattle.ist_rebuild.specs.Going.{Begins, KeepsFresh, StartsAt};
 ghost use Rattle.ist_rows.specs.Going.{IsQuiet};
 ghost use Rattle.ist_rebuild.specs.Starting.{MayStart, IsStartedAt, StoodInstead, LeavesDone};
@@ -36,23 +36,23 @@ struct Plan {
 // Installs the change whose rows are filled, and helps it until it is out of its slot.
 fn put_in(table: &TreeTable, who: &mut Caller, plan: Plan) -> Started
     ghost filling: { Filling }
-    requires same_table { who.old.seat.table ≡ table.now.table }
+    requires same_table { who.old.token.table ≡ table.now.table }
     requires ready { IsStartReady who.old plan.rows.rebuild plan.rows.change filling }
     requires filled { let number = who.old.number in filling
         ≡ start_filling number plan.parent plan.index plan.target plan.rows.rebuild }
-    ensures same_table { who.new.seat.table ≡ table.now.table }
+    ensures same_table { who.new.token.table ≡ table.now.table }
     ensures begun { HasBegun plan.target who.old who.new }
     ensures told { TellsStart who.old who.new plan.parent plan.index plan.target (Ok result) }
 {
-    know(&who.seat);
+    know(&who.token);
     // Install. Meets another caller's in the slot, and what a helper left there.
-    if let Installed::Other(word) = install(table, &mut who.seat, plan.rows.change) {
+    if let Installed::Other(word) = install(table, &mut who.token, plan.rows.change) {
         return Started::Other(word);
     }
     who.change = None;
     who.rebuild = None;
     // Okay, Decide and Resolve. Meets a mark of the parent, and any other helper of the change.
-    match help(table, &mut who.seat, plan.rows.change) {
+    match help(table, &mut who.token, plan.rows.change) {
         Decision::Yes => Started::Yes {
             rebuild: plan.rows.rebuild,
         },
@@ -62,19 +62,19 @@ fn put_in(table: &TreeTable, who: &mut Caller, plan: Plan) -> Started
 
 // Returns whether the parent is open.
 fn parent_is_open(table: &TreeTable, who: &mut Caller, parent: u32, index: u64, target: u32) -> bool
-    requires same_table { who.old.seat.table ≡ table.now.table }
+    requires same_table { who.old.token.table ≡ table.now.table }
     requires caller { IsCaller who.old }
     requires quiet { IsQuiet who.old }
-    requires may_start { MayStart who.old.seat.view parent index target }
-    ensures same_table { who.new.seat.table ≡ table.now.table }
+    requires may_start { MayStart who.old.token.view parent index target }
+    ensures same_table { who.new.token.table ≡ table.now.table }
     ensures reserved { HasReserved who.old who.new }
-    ensures may_start { MayStart who.new.seat.view parent index target }
-    ensures open { IsTrue result → IsUnrefused (now who.new.seat.view) who.new.number parent }
-    ensures closed { result ≡ false → ¬ (IsOpen (now who.new.seat.view) parent) }
+    ensures may_start { MayStart who.new.token.view parent index target }
+    ensures open { IsTrue result → IsUnrefused (now who.new.token.view) who.new.number parent }
+    ensures closed { result ≡ false → ¬ (IsOpen (now who.new.token.view) parent) }
 {
-    know(&who.seat);
+    know(&who.token);
     // A load. Meets a mark of the parent.
-    is_open(table, &mut who.seat, parent)
+    is_open(table, &mut who.token, parent)
 }
 
 // Starts the rebuild in a parent that was open, if there is room for its rows.
@@ -85,16 +85,16 @@ fn start_open(
     index: u64,
     target: u32,
 ) -> Result<Started, Full>
-    requires same_table { who.old.seat.table ≡ table.now.table }
+    requires same_table { who.old.token.table ≡ table.now.table }
     requires caller { IsCaller who.old }
     requires quiet { IsQuiet who.old }
-    requires may_start { MayStart who.old.seat.view parent index target }
-    requires unrefused { IsUnrefused (now who.old.seat.view) who.old.number parent }
-    ensures same_table { who.new.seat.table ≡ table.now.table }
+    requires may_start { MayStart who.old.token.view parent index target }
+    requires unrefused { IsUnrefused (now who.old.token.view) who.old.number parent }
+    ensures same_table { who.new.token.table ≡ table.now.table }
     ensures begun { HasBegun target who.old who.new }
     ensures told { TellsStart who.old who.new parent index target result }
     ensures full { IfErr result (λ full.
-        IsStartRefused who.old.seat.view (word_count_of table.now) full who.new.seat.view) }
+        IsStartRefused who.old.token.view (word_count_of table.now) full who.new.token.view) }
 {
     let rows = prepare(table, who, parent, index, target)?;
     let plan = Plan {
@@ -114,15 +114,15 @@ fn start_if_open(
     index: u64,
     target: u32,
 ) -> Result<Started, Full>
-    requires same_table { who.old.seat.table ≡ table.now.table }
+    requires same_table { who.old.token.table ≡ table.now.table }
     requires caller { IsCaller who.old }
     requires quiet { IsQuiet who.old }
-    requires may_start { MayStart who.old.seat.view parent index target }
-    ensures same_table { who.new.seat.table ≡ table.now.table }
+    requires may_start { MayStart who.old.token.view parent index target }
+    ensures same_table { who.new.token.table ≡ table.now.table }
     ensures begun { HasBegun target who.old who.new }
     ensures told { TellsStart who.old who.new parent index target result }
     ensures full { IfErr result (λ full.
-        IsStartRefused who.old.seat.view (word_count_of table.now) full who.new.seat.view) }
+        IsStartRefused who.old.token.view (word_count_of table.now) full who.new.token.view) }
 {
     if parent_is_open(table, who, parent, index, target) {
         start_open(table, who, parent, index, target)
@@ -150,30 +150,30 @@ pub fn start(
     index: u64,
     target: u32,
 ) -> Result<Started, Full>
-    requires same_table { who.old.seat.table ≡ table.now.table }
+    requires same_table { who.old.token.table ≡ table.now.table }
     requires caller { IsCaller who.old }
     requires quiet { IsQuiet who.old }
-    requires may_start { MayStart who.old.seat.view parent index target }
-    ensures same_table { who.new.seat.table ≡ table.now.table }
+    requires may_start { MayStart who.old.token.view parent index target }
+    ensures same_table { who.new.token.table ≡ table.now.table }
     ensures caller { IsCaller who.new }
     ensures number { who.new.number ≡ who.old.number }
     ensures fresh { KeepsFresh who.old who.new }
-    ensures went { WentOn Begins who.old.seat.view who.new.seat.view }
-    ensures aims { WentOn (StartsAt target) who.old.seat.view who.new.seat.view }
+    ensures went { WentOn Begins who.old.token.view who.new.token.view }
+    ensures aims { WentOn (StartsAt target) who.old.token.view who.new.token.view }
     ensures quiet { IsQuiet who.new }
     ensures refused { HasRefused who.old → HasRefused who.new }
     ensures yes { (rebuild : ℕ) → result ≡ Ok (Yes rebuild)
-        → IsStartedAt (now who.new.seat.view) rebuild parent index target }
+        → IsStartedAt (now who.new.token.view) rebuild parent index target }
     ensures other { (word : ℕ) → result ≡ Ok (Other word)
-        → StoodInstead who.new.seat.view parent index target word }
-    ensures marked { result ≡ Ok Marked → ¬ (IsOpen (now who.new.seat.view) parent) }
+        → StoodInstead who.new.token.view parent index target word }
+    ensures marked { result ≡ Ok Marked → ¬ (IsOpen (now who.new.token.view) parent) }
     ensures full { IfErr result (λ full.
-        IsStartRefused who.old.seat.view (word_count_of table.now) full who.new.seat.view) }
-    ensures done { StartsAreDone (now who.old.seat.view) who.old.number
-        → LeavesDone (now who.new.seat.view) who.old.number result }
-    ensures unstarted { let old = now who.old.seat.view in
-        LeavesUnstarted old (now who.new.seat.view) who.old.number result }
-    ensures uninstalled { LeavesUninstalled who.old.seat.view who.new.seat.view result }
+        IsStartRefused who.old.token.view (word_count_of table.now) full who.new.token.view) }
+    ensures done { StartsAreDone (now who.old.token.view) who.old.number
+        → LeavesDone (now who.new.token.view) who.old.number result }
+    ensures unstarted { let old = now who.old.token.view in
+        LeavesUnstarted old (now who.new.token.view) who.old.number result }
+    ensures uninstalled { LeavesUninstalled who.old.token.view who.new.token.view result }
 {
     start_if_open(table, who, parent, index, target)
 }

@@ -11,9 +11,9 @@ use Rattle.ist_core.specs.Spending.{spent}
 use Rattle.ist_core.proofs.SpendingLemmas.{words_are_spent}
 use Rattle.laws_histories.specs.Telling.{map_now}
 use Rattle.laws_histories.proofs.ContentLemmas.{contents_at}
-use Rattle.ist_words.specs.RestingWords.{HoldPairs, Hold, AreListed}
-use Rattle.ist_words.proofs.WholeLemmas.{same_pairs}
-use Rattle.ist_words.specs.WordRows.{word_at}
+use Rattle.ist_rest.specs.RestingWords.{HoldPairs, Hold, AreListed}
+use Rattle.ist_rest.proofs.WholeLemmas.{same_pairs}
+use Rattle.ist_rest.specs.WordRows.{word_at}
 use Rattle.ist_rest.specs.Standings.{Stands}
 use Rattle.ist_rest.proofs.PublishedLemmas.{IsStood}
 use Rattle.ist_rest.proofs.StandingLemmas.{hold_contents}

@@ -36,12 +36,12 @@ use Rattle.ist_core.proofs.UnderLemmas.{slot_reads_as}
 use Rattle.ist_core.proofs.LeafOrderLemmas.{leaves_lie, next_from_rising}
 use Rattle.ist_core.proofs.KeyLemmas.{keys_rising}
 use Rattle.laws_links.proofs.ResolvedLemmas.{resolved_gone}
-use Rattle.ist_words.specs.WordRows.{word_at, leaf_key, row_degree, row_keys, row_slots}
-use Rattle.ist_words.specs.WordRows.{past_change_in, past_rebuild_in, rows_on}
-use Rattle.ist_words.specs.WordRows.{IsWithinUsed}
-use Rattle.ist_words.specs.Walks.{Visit, LeadsBy, HasDecision, IsGoodLeaf, IsGoodRow, Reads}
-use Rattle.ist_words.specs.RestingWords.{HasGoodBounds}
-use Rattle.laws_rows.proofs.SizedLemmas.{row_sized}
+use Rattle.ist_rest.specs.WordRows.{word_at, leaf_key, row_degree, row_keys, row_slots}
+use Rattle.ist_rest.specs.WordRows.{past_change_in, past_rebuild_in, rows_on}
+use Rattle.ist_rest.specs.WordRows.{IsWithinUsed}
+use Rattle.ist_rest.specs.Walks.{Visit, LeadsBy, HasDecision, IsGoodLeaf, IsGoodRow, Reads}
+use Rattle.ist_rest.specs.RestingWords.{HasGoodBounds}
+use Rattle.laws_calls.proofs.SizedLemmas.{row_sized}
 use Rattle.ist_rest.proofs.RowLemmas.{first_word, degree_is, size_word, keys_are}
 use Rattle.ist_rest.proofs.RowLemmas.{slots_are}
 

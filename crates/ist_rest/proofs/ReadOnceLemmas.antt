@@ -22,9 +22,9 @@ use Rattle.ist_core.proofs.ParentLemmas.{one_home}
 use Rattle.ist_core.proofs.LeadingLemmas.{LiesIn, lies_above, child_is}
 use Rattle.ist_core.proofs.UnderLemmas.{slot_reads_as}
 use Rattle.laws_links.proofs.ResolvedLemmas.{resolved_gone}
-use Rattle.ist_words.specs.WordRows.{rows_on, Span}
-use Rattle.ist_words.specs.Walks.{Visit}
-use Rattle.ist_words.specs.Walks.{Walks}
+use Rattle.ist_rest.specs.WordRows.{rows_on, Span}
+use Rattle.ist_rest.specs.Walks.{Visit}
+use Rattle.ist_rest.specs.Walks.{Walks}
 use Rattle.ist_rest.proofs.UnderLemmas.{as_rebuild, up_here, IsUnder, row_under}
 use Rattle.ist_rest.proofs.UnderLemmas.{bases, AreRows, add_row}
 use Rattle.ist_rest.proofs.PublishedLemmas.{IsStood, all_names, free, IsAt}

@@ -8,7 +8,7 @@ use Rattle.ist_core.specs.declared.states.InnerRow.{InnerRow}
 use Rattle.ist_core.specs.Naming.{HasDegree}
 use Rattle.ist_core.specs.Pieces.{Piece, Inner, words_of, size_of}
 use Rattle.ist_core.specs.Images.{StandsAt}
-use Rattle.ist_words.specs.WordRows.{word_at, row_degree, row_size, row_keys, row_slots}
+use Rattle.ist_rest.specs.WordRows.{word_at, row_degree, row_size, row_keys, row_slots}
 
 -- one word of a row
 pub word_is : (words : List ℕ) (base k : ℕ) (p : Piece) → StandsAt words base p → k < size_of p

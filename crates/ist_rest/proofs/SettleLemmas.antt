@@ -8,12 +8,12 @@ use Rattle.ist_core.specs.References.{InnerAt}
 use Rattle.ist_core.specs.RowLayout.{next_place}
 use Rattle.ist_core.specs.Elements.{Among, Each}
 use Rattle.ist_core.proofs.ElementLemmas.{each-append}
-use Rattle.ist_words.specs.WordRows.{Span, word_at, row_degree, row_keys, row_slots, reads_in}
-use Rattle.ist_words.specs.Walks.{Way, Visit, IsGood, IsGoodAs, IsGoodRow, visits_from}
-use Rattle.ist_words.specs.Walks.{visits_below, Walks, ends, goes_on, first_visit}
-use Rattle.ist_words.specs.RestingWords.{HoldPairs}
-use Rattle.ist_words.specs.Steps.{IsRowHere}
-use Rattle.ist_words.proofs.RowLemmas.{row_lengths}
+use Rattle.ist_rest.specs.WordRows.{Span, word_at, row_degree, row_keys, row_slots, reads_in}
+use Rattle.ist_rest.specs.Walks.{Way, Visit, IsGood, IsGoodAs, IsGoodRow, visits_from}
+use Rattle.ist_rest.specs.Walks.{visits_below, Walks, ends, goes_on, first_visit}
+use Rattle.ist_rest.specs.RestingWords.{HoldPairs}
+use Rattle.ist_rest.specs.Steps.{IsRowHere}
+use Rattle.ist_rest.proofs.WordRowLemmas.{row_lengths}
 use Rattle.ist_rest.specs.Settling.{ReachedFrom, itself, through, IsSettledRow, AreSettledFrom}
 use Rattle.ist_rest.specs.Settling.{AreInShapeFrom}
 

@@ -24,8 +24,8 @@ use Rattle.ist_core.specs.Logs.{Log}
 use Rattle.ist_core.specs.Lawful.{state_of}
 use Rattle.ist_core.proofs.NamingLemmas.{InnerHere, slot_names}
 use Rattle.ist_core.proofs.HomeLemmas.{mentioned_here}
-use Rattle.ist_words.specs.WordRows.{word_at, row_size}
-use Rattle.ist_words.specs.WordRows.{reads_in}
+use Rattle.ist_rest.specs.WordRows.{word_at, row_size}
+use Rattle.ist_rest.specs.WordRows.{reads_in}
 use Rattle.ist_rest.proofs.RowLemmas.{word_is, first_word, size_word}
 use Rattle.ist_rest.proofs.PublishedLemmas.{IsStood, all_names, free, room, told, stands, shape}
 use Rattle.ist_rest.proofs.PublishedLemmas.{slots_there}

@@ -5,9 +5,9 @@ use Rattle.std.proofs.lemmas.Bool.Decides.{eqb_tells}
 use Rattle.ist_core.specs.References.{InnerAt}
 use Rattle.ist_core.specs.RowLayout.{next_place}
 use Rattle.ist_core.specs.Elements.{Among}
-use Rattle.ist_words.specs.WordRows.{word_at, row_degree, row_slots, reads_in}
-use Rattle.ist_words.specs.Walks.{Visit, IsGood, IsGoodRow}
-use Rattle.ist_words.specs.Steps.{IsRowHere}
+use Rattle.ist_rest.specs.WordRows.{word_at, row_degree, row_slots, reads_in}
+use Rattle.ist_rest.specs.Walks.{Visit, IsGood, IsGoodRow}
+use Rattle.ist_rest.specs.Steps.{IsRowHere}
 use Rattle.ist_rest.specs.Settling.{itself, through, IsSettledRow, AreSettledFrom, AreInShapeFrom}
 use Rattle.ist_rest.proofs.SettleLemmas.{slot_among, slot_number, shape_child, child_good, row_here}
 use Rattle.ist_rest.proofs.SettleLemmas.{settled_all, below_more}

@@ -26,12 +26,12 @@ use Rattle.ist_core.proofs.OrderLemmas.{child_above}
 use Rattle.ist_core.proofs.LeadingLemmas.{lies_above}
 use Rattle.ist_core.proofs.UnderLemmas.{slot_reads_as}
 use Rattle.ist_core.proofs.LeafOrderLemmas.{leaves_lie}
-use Rattle.ist_words.specs.WordRows.{word_at, row_degree, row_slots}
-use Rattle.ist_words.specs.WordRows.{Span}
-use Rattle.ist_words.specs.Walks.{Visit, IsGood}
-use Rattle.ist_words.specs.Walks.{rows_read, pairs_read, visits_from, visits_below, Walks, ends}
-use Rattle.ist_words.specs.Walks.{goes_on, first_visit, IsApartFrom, AreApart}
-use Rattle.ist_words.specs.RestingWords.{HoldPairs, AreLawful}
+use Rattle.ist_rest.specs.WordRows.{word_at, row_degree, row_slots}
+use Rattle.ist_rest.specs.WordRows.{Span}
+use Rattle.ist_rest.specs.Walks.{Visit, IsGood}
+use Rattle.ist_rest.specs.Walks.{rows_read, pairs_read, visits_from, visits_below, Walks, ends}
+use Rattle.ist_rest.specs.Walks.{goes_on, first_visit, IsApartFrom, AreApart}
+use Rattle.ist_rest.specs.RestingWords.{HoldPairs, AreLawful}
 use Rattle.ist_rest.proofs.UnderLemmas.{HasHome, as_child, as_rebuild, up_here, IsUnder, row_under}
 use Rattle.ist_rest.proofs.UnderLemmas.{leaf_under, rebuild_inner, no_home, one_under, not_below}
 use Rattle.ist_rest.proofs.UnderLemmas.{under_child, bases, AreRows, add_row}

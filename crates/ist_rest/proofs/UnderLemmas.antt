@@ -18,7 +18,7 @@ use Rattle.ist_core.proofs.MentionLemmas.{child_mentioned}
 use Rattle.ist_core.proofs.OrderLemmas.{child_above}
 use Rattle.ist_core.proofs.SlotLemmas.{no_row, same_inner}
 use Rattle.ist_core.proofs.LeadingLemmas.{LiesIn}
-use Rattle.ist_words.specs.WordRows.{Span}
+use Rattle.ist_rest.specs.WordRows.{Span}
 
 -- the row hangs in the slot, as its child or as a rebuild for it
 pub data HasHome (t : Snapshot) (m k b : ℕ) : Type 0 where

@@ -8,7 +8,7 @@ use Rattle.ist_core.specs.Images.{IsImage}
 use Rattle.ist_core.specs.Lawful.{CanOpen}
 use Rattle.ist_core.specs.Resting.{StandsFor}
 use Rattle.laws_histories.specs.Telling.{map_now}
-use Rattle.ist_words.specs.RestingWords.{HoldPairs, AreLawful}
+use Rattle.ist_rest.specs.RestingWords.{HoldPairs, AreLawful}
 
 -- words that represent some pairs and calls hold the pairs of the map after the changes of their
 -- log

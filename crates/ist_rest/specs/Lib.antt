@@ -1,4 +1,12 @@
 -- what the public contracts rest on, in the order to read them
+pub mod WordRows
+pub mod Walks
+pub mod RestingWords
+pub mod WordLaws
+pub mod Readings
+pub mod Steps
+pub mod Listing
+pub mod Auditing
 pub mod Standings
 pub mod Settling
 pub mod Laws

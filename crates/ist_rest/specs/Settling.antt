@@ -6,9 +6,9 @@ use Rattle.ist_core.specs.RowLayout.{anchor_slot_place, inner_count_offset}
 use Rattle.ist_core.specs.References.{InnerAt}
 use Rattle.ist_core.specs.Statuses.{open_word}
 use Rattle.ist_core.specs.Elements.{Among}
-use Rattle.ist_words.specs.WordRows.{word_at, row_size, row_slots, reads_in}
-use Rattle.ist_words.specs.Walks.{Visit, IsGood}
-use Rattle.ist_words.specs.Steps.{IsRowHere}
+use Rattle.ist_rest.specs.WordRows.{word_at, row_size, row_slots, reads_in}
+use Rattle.ist_rest.specs.Walks.{Visit, IsGood}
+use Rattle.ist_rest.specs.Steps.{IsRowHere}
 
 -- the second inner row is the first, or is reached from it slot by slot
 pub data ReachedFrom (words : List ℕ) : ℕ → ℕ → Type 0 where

@@ -9,16 +9,17 @@ ghost use Rattle.ist_core.specs.Resting.{StandsFor, IsSettled};
 ghost use Rattle.ist_core.specs.RowLayout.{next_place};
 ghost use Rattle.ist_core.specs.Spending.{spent};
 ghost use Rattle.laws_histories.specs.Telling.{map_now};
-ghost use Rattle.ist_words.specs.RestingWords.{HoldPairs, AreListed};
-ghost use Rattle.ist_words.specs.WordRows.{word_at};
+ghost use Rattle.ist_rest.specs.RestingWords.{HoldPairs, AreListed};
+ghost use Rattle.ist_rest.specs.WordRows.{word_at};
 ghost use Rattle.ist_rest.specs.Settling.{AreSettled};
 ghost use Rattle.ist_rest.specs.Standings.{Stands};
 
+use crate::listing::{all_words, list_words};
 use crate::settling::are_settled;
+use crate::words::WordList;
 use atomic_table::Closed as Kept;
 use ist_core::Pair;
 use ist_layout::NEXT_PLACE;
-use ist_words::{WordList, all_words, list_words};
 use std::alloc::{AllocError, Global};
 use std::marker::Model;
 

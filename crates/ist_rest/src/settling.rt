@@ -6,18 +6,20 @@
 ghost use Rattle.std.specs.Prelude.{◌≡◌, ℕ, ◌+◌, ◌<◌, ◌≤◌, ◌^◌, ◌↔◌, length, IsTrue, IfSome};
 ghost use Rattle.std.specs.Prelude.{Some, None};
 ghost use Rattle.ist_core.specs.RowLayout.{next_place, place_limit, first_row};
-ghost use Rattle.ist_words.specs.WordRows.{word_at, reads_in};
+ghost use Rattle.ist_rest.specs.WordRows.{word_at, reads_in};
 ghost use Rattle.ist_core.specs.References.{InnerAt};
-ghost use Rattle.ist_words.specs.Walks.{Visit, IsGood};
-ghost use Rattle.ist_words.specs.Steps.{IsRowHere};
-ghost use Rattle.ist_words.specs.RestingWords.{Hold};
+ghost use Rattle.ist_rest.specs.Walks.{Visit, IsGood};
+ghost use Rattle.ist_rest.specs.Steps.{IsRowHere};
+ghost use Rattle.ist_rest.specs.RestingWords.{Hold};
 ghost use Rattle.ist_rest.specs.Settling.{AreSettled, AreSettledFrom, AreInShapeFrom, IsSettledRow};
 
+use crate::reading::reads;
+use crate::rows::{degree_at, slot_at};
+use crate::words::WordList;
 use ist_layout::{
     ANCHOR_SLOT_PLACE, INNER_COUNT_OFFSET, INNER_SIZE_OFFSET, INNER_STATUS_OFFSET, Ref,
 };
 use ist_math::limit;
-use ist_words::{WordList, degree_at, reads, slot_at};
 
 /// Returns whether each inner row that is reached is open, with a count below its limit.
 pub fn are_settled<W: WordList>(words: &W) -> bool

@@ -18,7 +18,7 @@ use Rattle.ist_core.specs.declared.events.Who.TheVariants.{Caller as CallerOf}
 use Rattle.ist_core.proofs.ElementLemmas.{among_left, among_right}
 use Rattle.ist_core.proofs.RoomLemmas.{words_same}
 use Rattle.ist_rule.specs.declared.view.View.{View}
-use Rattle.ist_rule.specs.Faces.{SeatFace}
+use Rattle.ist_rule.specs.Faces.{TokenFace}
 use Rattle.ist_rule.specs.Rule.{IsSound}
 use Rattle.ist_rule.specs.Learning.{now, GoesOnTo}
 use Rattle.ist_rule.specs.Conditions.{CanMake}
@@ -134,10 +134,10 @@ none_made number base (size ∷ more) made = none_made number (base + size) more
 -- ---- may be reserved
 
 -- a caller may take all next rows of its build, whatever others do meanwhile
-pub may_take_all : (who : Caller) (sizes : List ℕ) → IsSound who.seat.view → IsCaller who
-    → AreNext who sizes → MayTakeAll who.seat.view who.number sizes
+pub may_take_all : (who : Caller) (sizes : List ℕ) → IsSound who.token.view → IsCaller who
+    → AreNext who sizes → MayTakeAll who.token.view who.number sizes
 may_take_all who sizes s c n log m room =
-    let v = who.seat.view in
+    let v = who.token.view in
     let l = subst (λ w. Later w v.log log) c.mine m.later in
     let h = at_later v.start v.words v.log log who.number (spares_of who) n.stuck n.done
     (sizes ++ n.rest) m.lawful l
@@ -163,7 +163,7 @@ may_take_all_on v w number sizes g fair log m =
     (sym (ap (λ x. x.words) g.same))
     (fair log (may_come_before v w g log m)))
 
--- any seat of the caller may make each of the reservings
+-- any token of the caller may make each of the reservings
 make_all : (who number base : _) (sizes : List ℕ) → who ≡ CallerOf number
     → Each (λ event. (w : View) → w.who ≡ who → CanMake w event) (reservings number base sizes)
 make_all who number base [] is = tt
@@ -205,7 +205,7 @@ pub record TookAll (v : View) (number base : ℕ) (sizes : List ℕ) (w : View) 
   pub now_is : now w ≡ state_of v.start v.words (with_events (reservings number base sizes) before)
   pub who_is : w.who ≡ v.who
 
--- a seat that reserved these rows has such a log
+-- a token that reserved these rows has such a log
 pub took_all : (v : View) (number base : ℕ) (sizes : List ℕ) (w : View)
     → ReservedAll v number base sizes w → TookAll v number base sizes w
 took_all v number base sizes w r =
@@ -226,13 +226,13 @@ took_all v number base sizes w r =
       who_is = ap (λ x. x.who) l.view ∙ goes_on_who r.seen;
     }
 
-module _ (who : Caller) (seat : SeatFace) (base : ℕ) (sizes : List ℕ) (c : IsCaller who)
-    (r : ReservedAll who.seat.view who.number base sizes seat.view) where
+module _ (who : Caller) (token : TokenFace) (base : ℕ) (sizes : List ℕ) (c : IsCaller who)
+    (r : ReservedAll who.token.view who.number base sizes token.view) where
   abbrev v : View
-  v = who.seat.view
+  v = who.token.view
 
-  it : TookAll v who.number base sizes seat.view
-  it = took_all v who.number base sizes seat.view r
+  it : TookAll v who.number base sizes token.view
+  it = took_all v who.number base sizes token.view r
 
   later : Later (CallerOf who.number) v.log it.before
   later = subst (λ x. Later x v.log it.before) c.mine it.later
@@ -245,8 +245,8 @@ module _ (who : Caller) (seat : SeatFace) (base : ℕ) (sizes : List ℕ) (c : I
   }
 
   both : (stuck done rest : List ℕ) → IsInBuild who stuck done (sizes ++ rest)
-      → IsCallerIn (now seat.view) who.number (spares_of who)
-      × IsInBuildIn (now seat.view) who.number (spares_of who) stuck (done ++ sizes) rest
+      → IsCallerIn (now token.view) who.number (spares_of who)
+      × IsInBuildIn (now token.view) who.number (spares_of who) stuck (done ++ sizes) rest
   both stuck done rest h =
       subst (λ t. IsCallerIn t who.number (spares_of who)
       × IsInBuildIn t who.number (spares_of who) stuck (done ++ sizes) rest) (sym it.now_is)
@@ -259,19 +259,19 @@ module _ (who : Caller) (seat : SeatFace) (base : ℕ) (sizes : List ℕ) (c : I
       record { sizes = h.sizes; all_stuck = h.all_stuck; building = h.building }))
 
   -- a caller that took the rows is a caller
-  pub caller_took_all : AreNext who sizes → IsCaller (record who { seat = seat })
+  pub caller_took_all : AreNext who sizes → IsCaller (record who { token = token })
   caller_took_all n =
       let there = (both n.stuck n.done n.rest n.at).0 in
       record { mine = it.who_is ∙ c.mine; rows = there.rows; builds = there.builds }
 
   -- the caller has taken the rows
-  pub has_taken_all : HasTaken who sizes (record who { seat = seat })
+  pub has_taken_all : HasTaken who sizes (record who { token = token })
   has_taken_all stuck done rest h =
       let there = (both stuck done rest h).1 in
       record { sizes = there.sizes; all_stuck = there.all_stuck; building = there.building }
 
   -- the caller holds the rows
-  pub holds_them : HoldsBlock (now seat.view) who.number base sizes
+  pub holds_them : HoldsBlock (now token.view) who.number base sizes
   holds_them =
       subst (λ t. HoldsBlock t who.number base sizes) (sym it.now_is)
       (holds_all v.start v.words who.number it.before sizes base)
@@ -279,21 +279,21 @@ module _ (who : Caller) (seat : SeatFace) (base : ℕ) (sizes : List ℕ) (c : I
 -- ---- what a reserving of all returns
 
 -- a caller is still one after it, whatever it returns
-pub caller_after_all : (who : Caller) (seat : SeatFace) (words asked : ℕ) (sizes : List ℕ)
+pub caller_after_all : (who : Caller) (token : TokenFace) (words asked : ℕ) (sizes : List ℕ)
     (answer : Option ℕ) → IsCaller who → AreNext who sizes
-    → IfSome answer (λ base. ReservedAll who.seat.view who.number base sizes seat.view)
-    → (answer ≡ None → HasNoRoom who.seat.view words asked seat.view)
-    → IsCaller (record who { seat = seat })
-caller_after_all who seat words asked sizes (Some base) c n ok none =
-    caller_took_all who seat base sizes c ok n
-caller_after_all who seat words asked sizes None c n ok none =
+    → IfSome answer (λ base. ReservedAll who.token.view who.number base sizes token.view)
+    → (answer ≡ None → HasNoRoom who.token.view words asked token.view)
+    → IsCaller (record who { token = token })
+caller_after_all who token words asked sizes (Some base) c n ok none =
+    caller_took_all who token base sizes c ok n
+caller_after_all who token words asked sizes None c n ok none =
     let it = none refl in
-    caller_goes_on who seat c (read_on _ _ _ it.read)
+    caller_goes_on who token c (read_on _ _ _ it.read)
 
 -- if it returns a base, the caller has taken the rows
-pub taken_after_all : (who : Caller) (seat : SeatFace) (sizes : List ℕ) (answer : Option ℕ)
+pub taken_after_all : (who : Caller) (token : TokenFace) (sizes : List ℕ) (answer : Option ℕ)
     → IsCaller who
-    → IfSome answer (λ base. ReservedAll who.seat.view who.number base sizes seat.view)
-    → IfSome answer (λ base. HasTaken who sizes (record who { seat = seat }))
-taken_after_all who seat sizes (Some base) c ok = has_taken_all who seat base sizes c ok
-taken_after_all who seat sizes None c ok = tt
+    → IfSome answer (λ base. ReservedAll who.token.view who.number base sizes token.view)
+    → IfSome answer (λ base. HasTaken who sizes (record who { token = token }))
+taken_after_all who token sizes (Some base) c ok = has_taken_all who token base sizes c ok
+taken_after_all who token sizes None c ok = tt

@@ -9,7 +9,7 @@ use Rattle.ist_core.proofs.RoomLemmas.{words_same}
 use Rattle.ist_rule.specs.declared.view.View.{View}
 use Rattle.ist_core.specs.declared.events.Who.TheVariants.{Caller as CallerOf}
 use Rattle.ist_core.specs.Authors.{Later}
-use Rattle.ist_rule.specs.Faces.{SeatFace}
+use Rattle.ist_rule.specs.Faces.{TokenFace}
 use Rattle.ist_rule.specs.Learning.{now, GoesOnTo, storing}
 use Rattle.ist_rule.proofs.LaterLemmas.{later_more}
 use Rattle.ist_rule.proofs.GoingOnLemmas.{goes_on_who, goes_on_more, looked_goes_on}
@@ -30,7 +30,7 @@ pub record Took (v : View) (number base size : ℕ) (w : View) : Type 0 where
   pub now_is : now w ≡ state_of v.start v.words (Reserve number base size ∷ before)
   pub who_is : w.who ≡ v.who
 
--- a seat that reserved a row has such a log
+-- a token that reserved a row has such a log
 pub took : (v : View) (number base size : ℕ) (w : View) → Reserved v number base size w
     → Took v number base size w
 took v number base size w r =
@@ -52,13 +52,13 @@ took v number base size w r =
     }
 
 -- a caller that took the next row of its build is a caller, and is at the row after it
-module _ (who : Caller) (seat : SeatFace) (base size : ℕ) (c : IsCaller who)
-    (r : Reserved who.seat.view who.number base size seat.view) where
+module _ (who : Caller) (token : TokenFace) (base size : ℕ) (c : IsCaller who)
+    (r : Reserved who.token.view who.number base size token.view) where
   abbrev v : View
-  v = who.seat.view
+  v = who.token.view
 
   abbrev w : View
-  w = seat.view
+  w = token.view
 
   it : Took v who.number base size w
   it = took v who.number base size w r
@@ -81,7 +81,7 @@ module _ (who : Caller) (seat : SeatFace) (base size : ℕ) (c : IsCaller who)
       later record { sizes = h.sizes; all_stuck = h.all_stuck; building = h.building }
 
   -- a caller that took the next row is a caller
-  pub caller_took : IsNext who size → IsCaller (record who { seat = seat })
+  pub caller_took : IsNext who size → IsCaller (record who { token = token })
   caller_took n =
       let there = subst (λ t. IsCallerIn t who.number (spares_of who)) (sym it.now_is)
       (taken_inner v.start v.words it.before who.number (spares_of who) size base it.lawful.enabled
@@ -92,7 +92,7 @@ module _ (who : Caller) (seat : SeatFace) (base size : ℕ) (c : IsCaller who)
 
   -- the caller is at the row after the one that it took
   pub at_took : (stuck done rest : List ℕ) → IsInBuild who stuck done (size ∷ rest)
-      → IsInBuild (record who { seat = seat }) stuck (done ++ size ∷ []) rest
+      → IsInBuild (record who { token = token }) stuck (done ++ size ∷ []) rest
   at_took stuck done rest h =
       let there = subst (λ t. IsInBuildIn t who.number (spares_of who) stuck
       (done ++ size ∷ []) rest) (sym it.now_is)
@@ -100,44 +100,44 @@ module _ (who : Caller) (seat : SeatFace) (base size : ℕ) (c : IsCaller who)
       caller_before stuck done rest (at_before stuck done (size ∷ rest) h)) in
       record { sizes = there.sizes; all_stuck = there.all_stuck; building = there.building }
 
--- ---- the seat goes on
+-- ---- the token goes on
 
--- a caller is at its build if its seat made loads
-pub at_goes_on : (who : Caller) (seat : SeatFace) (stuck done rest : List ℕ) → IsCaller who
-    → GoesOnTo who.seat.view seat.view → IsInBuild who stuck done rest
-    → IsInBuild (record who { seat = seat }) stuck done rest
-at_goes_on who seat stuck done rest c g h =
-    let v = who.seat.view in
-    let lawful : Lawful v.start v.words seat.view.log =
-    subst (λ p. Lawful p v.words seat.view.log) (ap (λ x. x.start) g.same)
-    (subst (λ n. Lawful seat.view.start n seat.view.log) (ap (λ x. x.words) g.same)
+-- a caller is at its build if its token made loads
+pub at_goes_on : (who : Caller) (token : TokenFace) (stuck done rest : List ℕ) → IsCaller who
+    → GoesOnTo who.token.view token.view → IsInBuild who stuck done rest
+    → IsInBuild (record who { token = token }) stuck done rest
+at_goes_on who token stuck done rest c g h =
+    let v = who.token.view in
+    let lawful : Lawful v.start v.words token.view.log =
+    subst (λ p. Lawful p v.words token.view.log) (ap (λ x. x.start) g.same)
+    (subst (λ n. Lawful token.view.start n token.view.log) (ap (λ x. x.words) g.same)
     g.sound.lawful) in
     let there = subst (λ t. IsInBuildIn t who.number (spares_of who) stuck done rest)
-    (sym (goes_on_now v seat.view g))
-    (at_later v.start v.words v.log seat.view.log who.number (spares_of who) stuck done rest lawful
-    (subst (λ w. Later w v.log seat.view.log) c.mine g.later)
+    (sym (goes_on_now v token.view g))
+    (at_later v.start v.words v.log token.view.log who.number (spares_of who) stuck done rest lawful
+    (subst (λ w. Later w v.log token.view.log) c.mine g.later)
     record { sizes = h.sizes; all_stuck = h.all_stuck; building = h.building }) in
     record { sizes = there.sizes; all_stuck = there.all_stuck; building = there.building }
 
 -- a caller is at its build if it stored a word
 pub at_storing : (who : Caller) (place word : ℕ) (stuck done rest : List ℕ)
     → IsInBuild who stuck done rest
-    → IsInBuild (record who { seat = record who.seat { view = storing who.seat.view place word } })
+    → IsInBuild (record who { token = record who.token { view = storing who.token.view place word } })
     stuck done rest
 at_storing who place word stuck done rest h =
     record { sizes = h.sizes; all_stuck = h.all_stuck; building = h.building }
 
 -- a caller whose build was refused has only refused builds
-pub refused : (who : Caller) (seat : SeatFace) (words size : ℕ) (full : Full) → IsCaller who
-    → words ≡ who.seat.view.words
-    → IsNext who size → IsFull who.seat.view words size full seat.view
-    → HasRefused (record who { seat = seat })
-refused who seat words size full c words_is n f =
-    let v = who.seat.view in
-    let w = seat.view in
+pub refused : (who : Caller) (token : TokenFace) (words size : ℕ) (full : Full) → IsCaller who
+    → words ≡ who.token.view.words
+    → IsNext who size → IsFull who.token.view words size full token.view
+    → HasRefused (record who { token = token })
+refused who token words size full c words_is n f =
+    let v = who.token.view in
+    let w = token.view in
     let s = f.short in
     let g = goes_on_more _ _ _ s.seen (looked_goes_on _ _ _ _ s.looked) in
-    let h = at_goes_on who seat n.stuck n.done (size ∷ n.rest) c g n.at in
+    let h = at_goes_on who token n.stuck n.done (size ∷ n.rest) c g n.at in
     let next = looked_next s.before full.next w s.looked in
     let all = words_same w.start w.words g.sound.lawful.opens w.log in
     let same = ap (λ (x : View). x.words) g.same in
@@ -154,29 +154,29 @@ refused who seat words size full c words_is n f =
 -- ---- what a reserving answers
 
 -- a caller is a caller after the call, whatever it returns
-pub caller_behind : (who : Caller) (seat : SeatFace) (words size : ℕ) (answer : Result ℕ Full)
+pub caller_behind : (who : Caller) (token : TokenFace) (words size : ℕ) (answer : Result ℕ Full)
     → IsCaller who → IsNext who size
-    → IfOk answer (λ base. Reserved who.seat.view who.number base size seat.view)
-    → IfErr answer (λ full. IsFull who.seat.view words size full seat.view)
-    → IsCaller (record who { seat = seat })
-caller_behind who seat words size (Ok base) c n ok err = caller_took who seat base size c ok n
-caller_behind who seat words size (Err full) c n ok err =
-    caller_refused who seat words size full c err
+    → IfOk answer (λ base. Reserved who.token.view who.number base size token.view)
+    → IfErr answer (λ full. IsFull who.token.view words size full token.view)
+    → IsCaller (record who { token = token })
+caller_behind who token words size (Ok base) c n ok err = caller_took who token base size c ok n
+caller_behind who token words size (Err full) c n ok err =
+    caller_refused who token words size full c err
 
 -- if it returns a row, the caller has taken it
-pub taken_behind : (who : Caller) (seat : SeatFace) (size : ℕ) (answer : Result ℕ Full)
+pub taken_behind : (who : Caller) (token : TokenFace) (size : ℕ) (answer : Result ℕ Full)
     → IsCaller who
-    → IfOk answer (λ base. Reserved who.seat.view who.number base size seat.view)
-    → IfOk answer (λ base. HasTaken who (size ∷ []) (record who { seat = seat }))
-taken_behind who seat size (Ok base) c ok =
-    λ stuck done rest h. at_took who seat base size c ok stuck done rest h
-taken_behind who seat size (Err full) c ok = tt
+    → IfOk answer (λ base. Reserved who.token.view who.number base size token.view)
+    → IfOk answer (λ base. HasTaken who (size ∷ []) (record who { token = token }))
+taken_behind who token size (Ok base) c ok =
+    λ stuck done rest h. at_took who token base size c ok stuck done rest h
+taken_behind who token size (Err full) c ok = tt
 
 -- if no row is returned, its build was refused
-pub refused_behind : (who : Caller) (seat : SeatFace) (words size : ℕ) (answer : Result ℕ Full)
-    → IsCaller who → words ≡ who.seat.view.words → IsNext who size
-    → IfErr answer (λ full. IsFull who.seat.view words size full seat.view)
-    → IfErr answer (λ full. HasRefused (record who { seat = seat }))
-refused_behind who seat words size (Ok base) c words_is n err = tt
-refused_behind who seat words size (Err full) c words_is n err =
-    refused who seat words size full c words_is n err
+pub refused_behind : (who : Caller) (token : TokenFace) (words size : ℕ) (answer : Result ℕ Full)
+    → IsCaller who → words ≡ who.token.view.words → IsNext who size
+    → IfErr answer (λ full. IsFull who.token.view words size full token.view)
+    → IfErr answer (λ full. HasRefused (record who { token = token }))
+refused_behind who token words size (Ok base) c words_is n err = tt
+refused_behind who token words size (Err full) c words_is n err =
+    refused who token words size full c words_is n err

@@ -96,10 +96,10 @@ next_fair pairs words log enabled number own stuck done rest size c h =
     (builds_behind t stuck (done ++ size ∷ []) h.all_stuck last))
 
 -- a caller may take the next row of its build, whatever others do meanwhile
-pub may_take_inner : (who : Caller) (size : ℕ) → IsSound who.seat.view → IsCaller who
-    → IsNext who size → MayTake who.seat.view who.number size
+pub may_take_inner : (who : Caller) (size : ℕ) → IsSound who.token.view → IsCaller who
+    → IsNext who size → MayTake who.token.view who.number size
 may_take_inner who size s c n log m =
-    let v = who.seat.view in
+    let v = who.token.view in
     let l = subst (λ w. Later w v.log log) c.mine m.later in
     let h = at_later v.start v.words v.log log who.number (spares_of who) n.stuck n.done
     (size ∷ n.rest) m.lawful l

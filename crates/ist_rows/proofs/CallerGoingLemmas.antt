@@ -1,4 +1,4 @@
--- A caller goes on with its seat: by loads, by a row reserved, by a word stored. Serves
+-- A caller goes on with its token: by loads, by a row reserved, by a word stored. Serves
 -- `reserving`.
 use Rattle.std.proofs.Common.{◌≡◌, ◌≢◌, ℕ, ◌+◌, ◌<◌, ◌≤◌, ◌⊎◌, ◌==◌, ◌||◌, not, Bool, true, false, if◌then◌else◌, List, [], ◌∷◌, ◌++◌, map, filter, Some, None, refl, sym, ap, ap₂, ◌∙◌, subst, inl, inr, ⊎_elim, append-nil, arith}
 use Rattle.std.proofs.lemmas.Bool.Decides.{eqb_tells}
@@ -23,7 +23,7 @@ use Rattle.ist_rule.specs.declared.view.View.{View}
 use Rattle.ist_core.specs.declared.events.Who.TheVariants.{Caller as CallerOf}
 use Rattle.ist_core.specs.Authors.{Later}
 use Rattle.ist_rule.specs.Rule.{IsSound}
-use Rattle.ist_rule.specs.Faces.{SeatFace}
+use Rattle.ist_rule.specs.Faces.{TokenFace}
 use Rattle.ist_rule.specs.Learning.{now, GoesOnTo}
 use Rattle.ist_rule.specs.Conditions.{IsOwn}
 use Rattle.ist_rule.proofs.LaterLemmas.{later_more}
@@ -38,29 +38,29 @@ use Rattle.ist_rows.specs.Rows.{Spares, spares_of, row_of, with_row, is_base, is
 use Rattle.ist_rows.proofs.BuildLemmas.{ComesBehind, builds_on}
 use Rattle.ist_rows.proofs.CallerLemmas.{IsCallerIn, caller_later}
 
--- ---- a caller's seat goes on
+-- ---- a caller's token goes on
 
--- a caller whose seat made loads is a caller
-pub caller_goes_on : (who : Caller) (seat : SeatFace) → IsCaller who
-    → GoesOnTo who.seat.view seat.view → IsCaller (record who { seat = seat })
-caller_goes_on who seat c g =
-    let v = who.seat.view in
-    let lawful : Lawful v.start v.words seat.view.log =
-    subst (λ p. Lawful p v.words seat.view.log) (ap (λ x. x.start) g.same)
-    (subst (λ n. Lawful seat.view.start n seat.view.log) (ap (λ x. x.words) g.same)
+-- a caller whose token made loads is a caller
+pub caller_goes_on : (who : Caller) (token : TokenFace) → IsCaller who
+    → GoesOnTo who.token.view token.view → IsCaller (record who { token = token })
+caller_goes_on who token c g =
+    let v = who.token.view in
+    let lawful : Lawful v.start v.words token.view.log =
+    subst (λ p. Lawful p v.words token.view.log) (ap (λ x. x.start) g.same)
+    (subst (λ n. Lawful token.view.start n token.view.log) (ap (λ x. x.words) g.same)
     g.sound.lawful) in
-    let it = caller_later v.start v.words v.log seat.view.log who.number (spares_of who) lawful
-    (subst (λ w. Later w v.log seat.view.log) c.mine g.later) record {
+    let it = caller_later v.start v.words v.log token.view.log who.number (spares_of who) lawful
+    (subst (λ w. Later w v.log token.view.log) c.mine g.later) record {
       rows =
           c.rows;
       builds = c.builds;
     } in
-    let there = subst (λ t. IsCallerIn t who.number (spares_of who)) (sym (goes_on_now v seat.view g))
+    let there = subst (λ t. IsCallerIn t who.number (spares_of who)) (sym (goes_on_now v token.view g))
     it in
     record { mine = goes_on_who g ∙ c.mine; rows = there.rows; builds = there.builds }
 
 -- a test of a base with one that differs
-base_differs : (base x : ℕ) → base ≢ x → (base == x) ≡ false
+pub base_differs : (base x : ℕ) → base ≢ x → (base == x) ≡ false
 base_differs base x ne = ⊎_elim (λ k. absurd (ne k.1)) (λ k. k.0) (eqb_tells base x)
 
 -- a base equals itself by the test
@@ -73,7 +73,7 @@ or_any true = refl
 or_any false = refl
 
 -- another row is as spare as it was
-spare_else : (own : Spares) (kind : Kind) (base x : ℕ) → row_of kind own ≡ None → base ≢ x
+pub spare_else : (own : Spares) (kind : Kind) (base x : ℕ) → row_of kind own ≡ None → base ≢ x
     → is_spare (with_row kind base own) x ≡ is_spare own x
 spare_else own Leaf base x none ne =
     ap (λ a. a || (is_base own.pair x || (is_base own.change x || is_base own.rebuild x)))
@@ -89,7 +89,7 @@ spare_else own Rebuild base x none ne =
     (base_differs base x ne ∙ sym (ap (λ o. is_base o x) none))
 
 -- the new row is spare
-spare_here : (own : Spares) (kind : Kind) (base : ℕ) → is_spare (with_row kind base own) base ≡ true
+pub spare_here : (own : Spares) (kind : Kind) (base : ℕ) → is_spare (with_row kind base own) base ≡ true
 spare_here own Leaf base = ap (λ a. a ||
     (is_base own.pair base || (is_base own.change base || is_base own.rebuild base)))
     (base_same base)
@@ -110,7 +110,7 @@ spare_here own Rebuild base =
     (is_base own.leaf base)
 
 -- filters whose tests agree on each element
-filter_same : {A : Type 0} (p q : A → Bool) (xs : List A) → ((x : A) → Among x xs → p x ≡ q x)
+pub filter_same : {A : Type 0} (p q : A → Bool) (xs : List A) → ((x : A) → Among x xs → p x ≡ q x)
     → filter p xs ≡ filter q xs
 filter_same p q [] h = refl
 filter_same p q (x ∷ xs) h =
@@ -210,11 +210,11 @@ module _ (pairs : List Pair) (words : ℕ) (log : Log) (number : ℕ) (own : Spa
 -- a caller that reserved a row is a caller with that row
 pub caller_reserved : (old new : Caller) (kind : Kind) (base : ℕ) → IsCaller old
     → row_of kind (spares_of old) ≡ None
-    → Reserved old.seat.view old.number base (kind_words kind) new.seat.view
+    → Reserved old.token.view old.number base (kind_words kind) new.token.view
     → new.number ≡ old.number → spares_of new ≡ with_row kind base (spares_of old) → IsCaller new
 caller_reserved old new kind base c none r number rows =
-    let v = old.seat.view in
-    let w = new.seat.view in
+    let v = old.token.view in
+    let w = new.token.view in
     let m = r.before in
     let l = r.reserved in
     let event = Reserve old.number base (kind_words kind) in
@@ -251,10 +251,10 @@ caller_reserved old new kind base c none r number rows =
     }
 
 -- a word of an own row lies within the table
-pub place_low : (who : Caller) (base at : ℕ) → IsSound who.seat.view → IsCaller who
-    → HoldsPlace who base at → IsOwn who.seat.view (base + at) × (base + at < who.seat.view.words)
+pub place_low : (who : Caller) (base at : ℕ) → IsSound who.token.view → IsCaller who
+    → HoldsPlace who base at → IsOwn who.token.view (base + at) × (base + at < who.token.view.words)
 place_low who base at s c h =
-    let v = who.seat.view in
+    let v = who.token.view in
     let loose = held_loose v.start v.words v.log s.lawful.enabled record {
       caller =
           who.number;
@@ -281,9 +281,9 @@ pub words_low : (v : View) → IsSound v → v.words ≤ place_limit
 words_low v s = s.lawful.opens.within
 
 -- a caller whose reserving was refused is a caller
-pub caller_refused : (who : Caller) (seat : SeatFace) (words size : ℕ) (full : Full) → IsCaller who
-    → IsFull who.seat.view words size full seat.view
-    → IsCaller (record who { seat = seat })
-caller_refused who seat words size full c f =
-    caller_goes_on who seat c
+pub caller_refused : (who : Caller) (token : TokenFace) (words size : ℕ) (full : Full) → IsCaller who
+    → IsFull who.token.view words size full token.view
+    → IsCaller (record who { token = token })
+caller_refused who token words size full c f =
+    caller_goes_on who token c
     (goes_on_more _ _ _ f.short.seen (looked_goes_on _ _ _ _ f.short.looked))

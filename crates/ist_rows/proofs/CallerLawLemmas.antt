@@ -1,4 +1,4 @@
--- A caller whose seat went on by its own events, in terms of its views. Serves `laws`.
+-- A caller whose token went on by its own events, in terms of its views. Serves `laws`.
 use Rattle.std.proofs.Common.{◌≡◌, ℕ, ◌==◌, not, List, ◌∷◌, map, filter, sym, ap, ◌∙◌, subst, inl, inr}
 use Rattle.ist_core.specs.declared.events.Event.{Event}
 use Rattle.ist_core.specs.declared.lists.HeldRow.{HeldRow}
@@ -13,7 +13,7 @@ use Rattle.ist_core.proofs.ElementLemmas.{among-filter, among_filter}
 use Rattle.ist_rule.specs.declared.view.View.{View}
 use Rattle.ist_core.specs.declared.events.Who.TheVariants.{Caller as CallerOf}
 use Rattle.ist_rule.specs.Conditions.{IsResolved}
-use Rattle.ist_rule.specs.Faces.{SeatFace}
+use Rattle.ist_rule.specs.Faces.{TokenFace}
 use Rattle.ist_rule.specs.Going.{WentOn}
 use Rattle.ist_rule.specs.Learning.{now, Logged, LoggedLoad}
 use Rattle.ist_rule.specs.Rule.{IsSound}
@@ -36,17 +36,17 @@ use Rattle.ist_rows.proofs.HeldListLemmas.{held_by_later}
 -- ---- many events
 
 -- what the caller holds stays
-same_held : (who : Caller) (seat : SeatFace) → IsCaller who
-    → WentOn KeepsRows who.seat.view seat.view
-    → held_by (now seat.view) who.number ≡ held_by (now who.seat.view) who.number
-same_held who seat c g =
-    let v = who.seat.view in
-    ap (λ t. held_by t who.number) (went_now KeepsRows v seat.view g)
-    ∙ held_by_went v.start v.words who.number v.log seat.view.log
-    (went_lawful KeepsRows v seat.view g).enabled
-    (subst (λ w. LaterBy w KeepsRows v.log seat.view.log) c.mine g.later)
+same_held : (who : Caller) (token : TokenFace) → IsCaller who
+    → WentOn KeepsRows who.token.view token.view
+    → held_by (now token.view) who.number ≡ held_by (now who.token.view) who.number
+same_held who token c g =
+    let v = who.token.view in
+    ap (λ t. held_by t who.number) (went_now KeepsRows v token.view g)
+    ∙ held_by_went v.start v.words who.number v.log token.view.log
+    (went_lawful KeepsRows v token.view g).enabled
+    (subst (λ w. LaterBy w KeepsRows v.log token.view.log) c.mine g.later)
 
--- a row that its seat's caller holds is held still
+-- a row that its token's caller holds is held still
 pub row_went : (v w : View) → WentOn KeepsRows v w → (h : HeldRow) → v.who ≡ CallerOf h.caller
     → Among h (now v).held → Among h (now w).held
 row_went v w g h mine i =
@@ -58,35 +58,35 @@ row_went v w g h mine i =
     (among_filter (λ (x : HeldRow). x.caller == h.caller) h (now v).held i
     (own_number h.caller)))).0
 
--- a caller whose seat went on by events that keep rows is still a caller
-pub caller_went : (who : Caller) (seat : SeatFace) → IsCaller who
-    → WentOn KeepsRows who.seat.view seat.view → IsCaller (record who { seat = seat })
-caller_went who seat c g =
-    let v = who.seat.view in
-    let lawful = went_lawful KeepsRows v seat.view g in
-    let is = went_now KeepsRows v seat.view g in
-    let it = caller_between v.start v.words v.log seat.view.log who.number (spares_of who) lawful
+-- a caller whose token went on by events that keep rows is still a caller
+pub caller_went : (who : Caller) (token : TokenFace) → IsCaller who
+    → WentOn KeepsRows who.token.view token.view → IsCaller (record who { token = token })
+caller_went who token c g =
+    let v = who.token.view in
+    let lawful = went_lawful KeepsRows v token.view g in
+    let is = went_now KeepsRows v token.view g in
+    let it = caller_between v.start v.words v.log token.view.log who.number (spares_of who) lawful
     (later_by-goes_on g.later)
-    (ap (λ t. held_by t who.number) (sym is) ∙ same_held who seat c g)
+    (ap (λ t. held_by t who.number) (sym is) ∙ same_held who token c g)
     record { rows = c.rows; builds = c.builds } in
     let there = subst (λ t. IsCallerIn t who.number (spares_of who)) (sym is) it in
     record {
-      mine = went_who KeepsRows v seat.view g ∙ c.mine;
+      mine = went_who KeepsRows v token.view g ∙ c.mine;
       rows = there.rows;
       builds = there.builds;
     }
 
 -- the refused builds of such a caller are still refused
-pub refused_went : (who : Caller) (seat : SeatFace) → IsCaller who → HasRefused who
-    → WentOn KeepsRows who.seat.view seat.view → HasRefused (record who { seat = seat })
-refused_went who seat c r g =
-    let v = who.seat.view in
-    let lawful = went_lawful KeepsRows v seat.view g in
-    let behind = subst (ComesBehind (now v)) (sym (went_now KeepsRows v seat.view g))
-    (behind_between v.start v.words v.log seat.view.log lawful (later_by-goes_on g.later)) in
-    subst (λ held. AreStuck (now seat.view)
+pub refused_went : (who : Caller) (token : TokenFace) → IsCaller who → HasRefused who
+    → WentOn KeepsRows who.token.view token.view → HasRefused (record who { token = token })
+refused_went who token c r g =
+    let v = who.token.view in
+    let lawful = went_lawful KeepsRows v token.view g in
+    let behind = subst (ComesBehind (now v)) (sym (went_now KeepsRows v token.view g))
+    (behind_between v.start v.words v.log token.view.log lawful (later_by-goes_on g.later)) in
+    subst (λ held. AreStuck (now token.view)
     (map (λ (h : HeldRow). h.size) (filter (λ h. not (is_spare (spares_of who) h.base)) held)))
-    (sym (same_held who seat c g)) (all_stuck_on (now v) (now seat.view) behind _ r)
+    (sym (same_held who token c g)) (all_stuck_on (now v) (now token.view) behind _ r)
 
 -- changes that are resolved stay so if the caller installs none
 resolved_by : (pairs : List Pair) (words : ℕ) (number : ℕ) (old log : Log)
@@ -101,7 +101,7 @@ resolved_by pairs words number old _ enabled (one_more {log = log} event l (inr 
     resolved_on pairs words log event enabled number (λ base rows e. subst InstallsNone e is)
     (resolved_by pairs words number old log enabled.0 l all)
 
--- resolved changes stay resolved, if the seat installs none
+-- resolved changes stay resolved, if the token installs none
 pub resolved_went : (v w : View) (number : ℕ) → v.who ≡ CallerOf number → IsResolved v number
     → WentOn InstallsNone v w → IsResolved w number
 resolved_went v w number mine all g =
@@ -111,14 +111,14 @@ resolved_went v w number mine all g =
 
 -- ---- one event
 
--- a seat has made the event after this log
+-- a token has made the event after this log
 pub record HasLogged (v : View) (event : Event) (before : Log) (w : View) : Type 0 where
   pub later : Later v.who v.log before
   pub lawful : Lawful v.start v.words (event ∷ before)
   pub now_is : now w ≡ state_of v.start v.words (event ∷ before)
   pub who_is : w.who ≡ v.who
 
--- a seat that logged an event has made it
+-- a token that logged an event has made it
 pub logged_made : (v : View) (event : Event) (w : View) (l : Logged v event w)
     → HasLogged v event l.before w
 logged_made v event w l =
@@ -130,7 +130,7 @@ logged_made v event w l =
       who_is = ap (λ x. x.who) l.view;
     }
 
--- a seat that logged an event at a load has made it
+-- a token that logged an event at a load has made it
 pub loaded_made : (v : View) (event : Event) (place word : ℕ) (w : View)
     → (l : LoggedLoad v event place word w) → HasLogged v event l.before w
 loaded_made v event place word w l =
@@ -153,11 +153,11 @@ held_made v w number event before mine its m =
     m.lawful.enabled.0 (subst (λ who. Later who v.log before) mine m.later))
 
 module _ (old new : Caller) (kinds : List Kind) (event : Event) (bases : List ℕ) (c : IsCaller old)
-    (before : Log) (m : HasLogged old.seat.view event before new.seat.view)
+    (before : Log) (m : HasLogged old.token.view event before new.token.view)
     (its : whose event ≡ CallerOf old.number) (gives : GivesUp event bases)
     (a : AreBasesOf kinds (spares_of old) bases) (without : IsWithout kinds old new) where
   abbrev v : View
-  v = old.seat.view
+  v = old.token.view
 
   later : Later (CallerOf old.number) v.log before
   later = subst (λ who. Later who v.log before) c.mine m.later
@@ -174,8 +174,8 @@ module _ (old new : Caller) (kinds : List Kind) (event : Event) (bases : List �
   caller_made =
       let it = caller_given v.start v.words before event m.lawful old.number its bases gives kinds
       (spares_of old) a caller_before in
-      let there = subst (λ own. IsCallerIn (now new.seat.view) new.number own) (sym without.rows)
-      (subst (λ n. IsCallerIn (now new.seat.view) n (without_rows kinds (spares_of old)))
+      let there = subst (λ own. IsCallerIn (now new.token.view) new.number own) (sym without.rows)
+      (subst (λ n. IsCallerIn (now new.token.view) n (without_rows kinds (spares_of old)))
       (sym without.number)
       (subst (λ t. IsCallerIn t old.number (without_rows kinds (spares_of old))) (sym m.now_is)
       it)) in
@@ -203,9 +203,9 @@ module _ (old new : Caller) (kinds : List Kind) (event : Event) (bases : List �
       (sym (sizes_given v.start v.words before event m.lawful old.number its bases gives kinds
       (spares_of old) a caller_before))
       (all_stuck_on t u on _ was) in
-      subst (λ own. AreStuck (now new.seat.view) (build_sizes (now new.seat.view) new.number own))
+      subst (λ own. AreStuck (now new.token.view) (build_sizes (now new.token.view) new.number own))
       (sym without.rows)
-      (subst (λ n. AreStuck (now new.seat.view)
-      (build_sizes (now new.seat.view) n (without_rows kinds (spares_of old)))) (sym without.number)
+      (subst (λ n. AreStuck (now new.token.view)
+      (build_sizes (now new.token.view) n (without_rows kinds (spares_of old)))) (sym without.number)
       (subst (λ x. AreStuck x (build_sizes x old.number (without_rows kinds (spares_of old))))
       (sym m.now_is) is))

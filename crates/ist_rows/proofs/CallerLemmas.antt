@@ -1,4 +1,4 @@
--- Callers across the steps of their seats. Serves `enter`, `reserve` and `fill`.
+-- Callers across the steps of their tokens. Serves `enter`, `reserve` and `fill`.
 use Rattle.std.proofs.Common.{◌≡◌, ℕ, ◌≤◌, ◌⊎◌, ◌==◌, ◌||◌, not, Bool, true, false, List, [], ◌∷◌, ◌++◌, map, filter, Option, Some, None, refl, sym, ap, ◌∙◌, subst, le_refl, inl, inr, ⊎_elim, arith}
 use Rattle.std.proofs.lemmas.Bool.Decides.{eqb_tells}
 use Rattle.ist_core.specs.declared.pairs.Pair.{Pair}
@@ -268,11 +268,11 @@ module _ (pairs : List Pair) (words : ℕ) (log : Log) (enabled : EachEnabled (s
       }
 
 -- a caller without a row of the kind may take one, whatever others do meanwhile
-pub may_take : (who : Caller) (kind : Kind) → IsSound who.seat.view → IsCaller who
+pub may_take : (who : Caller) (kind : Kind) → IsSound who.token.view → IsCaller who
     → row_of kind (spares_of who) ≡ None
-    → MayTake who.seat.view who.number (kind_words kind)
+    → MayTake who.token.view who.number (kind_words kind)
 may_take who kind s c none log m =
-    let v = who.seat.view in
+    let v = who.token.view in
     fair_with v.start v.words log m.lawful.enabled who.number (spares_of who)
     (caller_later v.start v.words v.log log who.number (spares_of who) m.lawful
     (subst (λ w. Later w v.log log) c.mine m.later) record { rows = c.rows; builds = c.builds })

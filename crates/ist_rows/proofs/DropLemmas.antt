@@ -5,7 +5,7 @@ use Rattle.ist_core.specs.declared.events.Event.TheVariants.{Lose}
 use Rattle.ist_core.specs.RowLayout.{inner_status_offset}
 use Rattle.ist_rule.specs.declared.view.View.{View}
 use Rattle.ist_core.specs.declared.events.Who.TheVariants.{Caller as CallerOf}
-use Rattle.ist_rule.specs.Faces.{SeatFace}
+use Rattle.ist_rule.specs.Faces.{TokenFace}
 use Rattle.ist_rule.specs.Learning.{LoggedLoad, LoadedAs, as_event, as_load}
 use Rattle.ist_rule.specs.Watching.{number_of, past_of, CanLoadPast}
 use Rattle.ist_rows.specs.declared.callers.Caller.{Caller}
@@ -16,7 +16,7 @@ use Rattle.ist_rows.proofs.CallerLawLemmas.{loaded_made, caller_made}
 
 -- the caller may load the node's status, and so lose the row
 pub may_drop : (who : Caller) (pair node : ℕ) → IsCaller who → HasPairBelow who node
-    → who.pair ≡ Some pair → CanLoadPast who.seat.view pair node
+    → who.pair ≡ Some pair → CanLoadPast who.token.view pair node
 may_drop who pair node c h is =
     let same : h.pair ≡ pair = one h.pair (sym h.held ∙ is) in
     record {
@@ -53,12 +53,12 @@ has_lost v number pair node place word w who at (as_event event l e) = (
         ∙ one (Lose (number_of v.who) (pair ∷ [])) event e
 
 -- who lost its pair row is a caller without it
-pub caller_dropped : (who : Caller) (seat : SeatFace) (pair place word : ℕ) → IsCaller who
+pub caller_dropped : (who : Caller) (token : TokenFace) (pair place word : ℕ) → IsCaller who
     → who.pair ≡ Some pair
-    → LoggedLoad who.seat.view (Lose who.number (pair ∷ [])) place word seat.view
-    → IsCaller (record who { seat = seat; pair = None })
-caller_dropped who seat pair place word c is l =
-    caller_made who (record who { seat = seat; pair = None }) (Pair ∷ [])
+    → LoggedLoad who.token.view (Lose who.number (pair ∷ [])) place word token.view
+    → IsCaller (record who { token = token; pair = None })
+caller_dropped who token pair place word c is l =
+    caller_made who (record who { token = token; pair = None }) (Pair ∷ [])
     (Lose who.number (pair ∷ [])) (pair ∷ []) c l.before
-    (loaded_made who.seat.view (Lose who.number (pair ∷ [])) place word seat.view l) refl refl
+    (loaded_made who.token.view (Lose who.number (pair ∷ [])) place word token.view l) refl refl
     (is, tt) record { number = refl; rows = refl }

@@ -122,7 +122,7 @@ entered v w found s who l =
       who = ap (λ x. x.who) l.view ∙ who;
     }
 
--- a maker that has a seat to give gives it to the caller that it entered last
+-- a maker that has a token to give gives it to the caller that it entered last
 pub gives_seat : (w : View) → w.who ≡ Maker → w.given < w.made
     → (split_left w ≡ record w { given = w.given + 1 })
     × (split_right w ≡ plain w (CallerOf w.given) [])
@@ -148,17 +148,17 @@ none_held (h ∷ held) number out =
     at rest (inr k) = ap (λ b. if b then h ∷ filter (λ g. g.caller == number) held else filter
         (λ g. g.caller == number) held) k.0 ∙ rest
 
--- a caller that was not given a seat before holds no row
+-- a caller that was not given a token before holds no row
 pub new_holds_none : (w : View) (number : ℕ) → IsSound w → w.who ≡ Maker → w.given ≤ number
     → held_by (now w) number ≡ []
 new_holds_none w number s who above =
     none_held (now w).held number (idle_holds w.start w.words w.log number s.lawful.enabled
     (s.is_true.idle who number above))
 
--- what the maker that has entered a caller and its seat are, once they are split
+-- what the maker that has entered a caller and its token are, once they are split
 pub record Parts (v : View) (number : ℕ) (left right : View) : Type 0 where
   pub entered : HasEntered v number left
-  pub seat : right ≡ plain left (CallerOf number) []
+  pub token : right ≡ plain left (CallerOf number) []
   pub idle : IsIdleIn (CallerOf number) right.log
   pub held : held_by (now right) number ≡ []
 
@@ -176,7 +176,7 @@ parts v w number who l s given less =
         later = l.later;
         view = g.0 ∙ ap (λ (x : View). record x { given = x.given + 1 }) l.view;
       };
-      seat = right ∙ ap (λ x. plain x (CallerOf number) []) (sym g.0);
+      token = right ∙ ap (λ x. plain x (CallerOf number) []) (sym g.0);
       idle = subst (λ x. IsIdleIn (CallerOf number) x.log) (sym right)
           (s.is_true.idle maker number (omega arith));
       held = subst (λ x. held_by (now x) number ≡ []) (sym right)
@@ -190,20 +190,20 @@ no_rows Pair base e = cc
 no_rows Change base e = cc
 no_rows Rebuild base e = cc
 
--- the caller that is given its seat holds no row
+-- the caller that is given its token holds no row
 pub new_caller : (w : View) (who : Caller) → IsSound w → w.who ≡ Maker → w.given < w.made
-    → who.seat.view ≡ split_right w → who.number ≡ w.given
+    → who.token.view ≡ split_right w → who.number ≡ w.given
     → spares_of who ≡ record { leaf = None; pair = None; change = None; rebuild = None }
     → IsCaller who
 new_caller w who s maker less view number none =
     let g = gives_seat w maker less in
-    let now_is : now who.seat.view ≡ now w = ap now (view ∙ g.1) in
-    let held : held_by (now who.seat.view) who.number ≡ [] =
+    let now_is : now who.token.view ≡ now w = ap now (view ∙ g.1) in
+    let held : held_by (now who.token.view) who.number ≡ [] =
     ap₂ held_by now_is number ∙ new_holds_none w w.given s maker (le_refl w.given) in
     record {
       mine = ap (λ x. x.who) (view ∙ g.1) ∙ ap CallerOf (sym number);
       rows = λ kind base e. absurd (no_rows kind base (sym (ap (row_of kind) none) ∙ e));
-      builds = subst (λ xs. AreBuilds (now who.seat.view)
+      builds = subst (λ xs. AreBuilds (now who.token.view)
           (map (λ h. h.size) (filter (λ h. not (is_spare (spares_of who) h.base)) xs))) (sym held)
           no_build;
     }

@@ -55,22 +55,22 @@ stored_at own place (word ∷ words) (suc k) less =
 pub stored_step : (old who new : Caller) (base at i : ℕ) (words : List ℕ) → i < length words
     → at ≡ i → who ≡ filled_with old base (take i words)
     → new ≡ record who {
-      seat = record who.seat { view = storing who.seat.view (base + at) (get_or words i 0) };
+      token = record who.token { view = storing who.token.view (base + at) (get_or words i 0) };
     }
     → new ≡ filled_with old base (take (i + 1) words)
 stored_step old who new base at i words less at_is was is =
     let x : ℕ = get_or words i 0 in
-    let before : List OwnWord = storing_all old.seat.view.own base (take i words) in
+    let before : List OwnWord = storing_all old.token.view.own base (take i words) in
     let place : base + at ≡ base + length (take i words) =
     let all : length (take i words) ≡ i = length-take-le i words (omega arith) in omega arith in
     let owns : record { place = base + at; word = x } ∷ before
-    ≡ storing_all old.seat.view.own base (take (i + 1) words) =
+    ≡ storing_all old.token.view.own base (take (i + 1) words) =
     ap {B = List OwnWord} (λ p. record { place = p; word = x } ∷ before) place
-    ∙ sym (storing_all-more old.seat.view.own base (take i words) x)
-    ∙ ap (storing_all old.seat.view.own base) (sym (take_more words i 0 less)) in
+    ∙ sym (storing_all-more old.token.view.own base (take i words) x)
+    ∙ ap (storing_all old.token.view.own base) (sym (take_more words i 0 less)) in
     is
     ∙ ap {B = Caller} (λ (c : Caller). record c {
-      seat = record c.seat { view = storing c.seat.view (base + at) x };
+      token = record c.token { view = storing c.token.view (base + at) x };
     }) was
     ∙ ap {B = Caller} (with_own old) owns
 

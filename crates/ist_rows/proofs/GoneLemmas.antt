@@ -1,11 +1,11 @@
--- Callers whose seats went on. Serves the functions of the crates above.
+-- Callers whose tokens went on. Serves the functions of the crates above.
 use Rattle.std.proofs.Common.{◌≡◌, ◌≤◌, List, refl, sym, ap, ◌∙◌, subst, le_refl}
 use Rattle.ist_core.specs.declared.events.Event.{Event}
 use Rattle.ist_core.specs.declared.events.Event.TheVariants.{Enter, Reserve, Install, Okay, Decide, Resolve, Count, Mark, Pass, Finish, Root, Draw, Place, Lose}
 use Rattle.ist_core.specs.Authors.{no_more, LaterBy}
 use Rattle.ist_rule.specs.declared.view.OwnWord.{OwnWord}
 use Rattle.ist_rule.specs.declared.view.View.{View}
-use Rattle.ist_rule.specs.Faces.{SeatFace}
+use Rattle.ist_rule.specs.Faces.{TokenFace}
 use Rattle.ist_rule.specs.Going.{WentOn}
 use Rattle.ist_rule.specs.Learning.{GoesOnTo}
 use Rattle.ist_rule.specs.Rule.{IsSound}
@@ -20,7 +20,7 @@ use Rattle.ist_rows.proofs.CallerLawLemmas.{caller_went, refused_went, resolved_
 
 -- ---- going on
 
--- a seat that stored words of its own went on
+-- a token that stored words of its own went on
 pub own_went : (P : Event → Type 0) (v w : View) → IsSound w → w ≡ record v { own = w.own }
     → WentOn P v w
 own_went P v w s e =
@@ -36,30 +36,30 @@ own_went P v w s e =
       loaded = subst (λ n. v.loaded ≤ n) (sym (ap (λ x. x.loaded) e)) (le_refl v.loaded);
     }
 
--- a caller whose seat went on by events that change nothing of what it holds has gone so
+-- a caller whose token went on by events that change nothing of what it holds has gone so
 pub caller_gone : (P : Event → Type 0) → ((event : Event) → P event → KeepsRows event)
-    → (who : Caller) (seat : SeatFace) → IsCaller who → HasRefused who
-    → WentOn P who.seat.view seat.view → HasGone P who (record who { seat = seat })
-caller_gone P all who seat c r g =
-    let kept = went_all P KeepsRows all who.seat.view seat.view g in
+    → (who : Caller) (token : TokenFace) → IsCaller who → HasRefused who
+    → WentOn P who.token.view token.view → HasGone P who (record who { token = token })
+caller_gone P all who token c r g =
+    let kept = went_all P KeepsRows all who.token.view token.view g in
     record {
-      caller = caller_went who seat c kept;
+      caller = caller_went who token c kept;
       number = refl;
-      refused = refused_went who seat c r kept;
+      refused = refused_went who token c r kept;
       went = g;
     }
 
--- so has one whose seat made loads
-pub loads_gone : (P : Event → Type 0) → (who : Caller) (seat : SeatFace) → IsCaller who
-    → HasRefused who → GoesOnTo who.seat.view seat.view → HasGone P who (record who { seat = seat })
-loads_gone P who seat c r g =
-    let it = caller_gone (λ event. ⊥) (λ event none. absurd none) who seat c r
-    (goes_on_went (λ event. ⊥) who.seat.view seat.view g) in
+-- so has one whose token made loads
+pub loads_gone : (P : Event → Type 0) → (who : Caller) (token : TokenFace) → IsCaller who
+    → HasRefused who → GoesOnTo who.token.view token.view → HasGone P who (record who { token = token })
+loads_gone P who token c r g =
+    let it = caller_gone (λ event. ⊥) (λ event none. absurd none) who token c r
+    (goes_on_went (λ event. ⊥) who.token.view token.view g) in
     record {
       caller = it.caller;
       number = refl;
       refused = it.refused;
-      went = goes_on_went P who.seat.view seat.view g;
+      went = goes_on_went P who.token.view token.view g;
     }
 
 -- having gone twice
@@ -70,7 +70,7 @@ gone_more P old mid new a b =
       caller = b.caller;
       number = b.number ∙ a.number;
       refused = b.refused;
-      went = went_more P old.seat.view mid.seat.view new.seat.view a.went b.went;
+      went = went_more P old.token.view mid.token.view new.token.view a.went b.went;
     }
 
 -- having gone by events of which more may be said
@@ -81,7 +81,7 @@ gone_all P Q all old new a =
       caller = a.caller;
       number = a.number;
       refused = a.refused;
-      went = went_all P Q all old.seat.view new.seat.view a.went;
+      went = went_all P Q all old.token.view new.token.view a.went;
     }
 
 -- ---- staying ready
@@ -91,7 +91,7 @@ pub still_ready : {P : Event → Type 0} {old new : Caller} → StaysReady P old
 still_ready on = record { caller = on.gone.caller; refused = on.gone.refused; quiet = on.quiet }
 
 -- a ready caller that does nothing stays ready
-pub ready_same : (P : Event → Type 0) (who : Caller) → IsSound who.seat.view → IsReady who
+pub ready_same : (P : Event → Type 0) (who : Caller) → IsSound who.token.view → IsReady who
     → StaysReady P who who
 ready_same P who s ready =
     record {
@@ -99,7 +99,7 @@ ready_same P who s ready =
         caller = ready.caller;
         number = refl;
         refused = ready.refused;
-        went = went_same P who.seat.view s;
+        went = went_same P who.token.view s;
       };
       quiet = ready.quiet;
     }
@@ -132,34 +132,34 @@ keeping_installs_none (Draw caller rebuild part) is = tt
 keeping_installs_none (Place caller rebuild i word rows) is = tt
 keeping_installs_none (Lose caller bases) is = tt
 
--- a ready caller whose seat went on by events that change nothing of what it holds stays ready
+-- a ready caller whose token went on by events that change nothing of what it holds stays ready
 pub kept_ready : (P : Event → Type 0) → ((event : Event) → P event → KeepsRows event)
-    → (who : Caller) (seat : SeatFace) → IsReady who → WentOn P who.seat.view seat.view
-    → StaysReady P who (record who { seat = seat })
-kept_ready P all who seat ready g =
-    let kept = went_all P KeepsRows all who.seat.view seat.view g in
+    → (who : Caller) (token : TokenFace) → IsReady who → WentOn P who.token.view token.view
+    → StaysReady P who (record who { token = token })
+kept_ready P all who token ready g =
+    let kept = went_all P KeepsRows all who.token.view token.view g in
     record {
-      gone = caller_gone P all who seat ready.caller ready.refused g;
+      gone = caller_gone P all who token ready.caller ready.refused g;
       quiet = record {
         pending = ready.quiet.pending;
         in_call = ap (λ (x : View). x.pending) g.same ∙ ready.quiet.in_call;
-        resolved = resolved_went who.seat.view seat.view who.number ready.caller.mine
+        resolved = resolved_went who.token.view token.view who.number ready.caller.mine
             ready.quiet.resolved
-            (went_all KeepsRows InstallsNone keeping_installs_none who.seat.view seat.view kept);
+            (went_all KeepsRows InstallsNone keeping_installs_none who.token.view token.view kept);
       };
     }
 
--- so does one whose seat made loads
-pub loads_ready : (P : Event → Type 0) (who : Caller) (seat : SeatFace) → IsReady who
-    → GoesOnTo who.seat.view seat.view → StaysReady P who (record who { seat = seat })
-loads_ready P who seat ready g =
-    ready_all (λ event. ⊥) P (λ event none. absurd none) who (record who { seat = seat })
-    (kept_ready (λ event. ⊥) (λ event none. absurd none) who seat ready
-    (goes_on_went (λ event. ⊥) who.seat.view seat.view g))
+-- so does one whose token made loads
+pub loads_ready : (P : Event → Type 0) (who : Caller) (token : TokenFace) → IsReady who
+    → GoesOnTo who.token.view token.view → StaysReady P who (record who { token = token })
+loads_ready P who token ready g =
+    ready_all (λ event. ⊥) P (λ event none. absurd none) who (record who { token = token })
+    (kept_ready (λ event. ⊥) (λ event none. absurd none) who token ready
+    (goes_on_went (λ event. ⊥) who.token.view token.view g))
 
 -- so does one that stored words
 pub own_ready : (P : Event → Type 0) (who : Caller) (own : List OwnWord) → IsReady who
-    → IsSound (with_own who own).seat.view → StaysReady P who (with_own who own)
+    → IsSound (with_own who own).token.view → StaysReady P who (with_own who own)
 own_ready P who own ready s =
     record {
       gone = record {
@@ -170,7 +170,7 @@ own_ready P who own ready s =
         };
         number = refl;
         refused = ready.refused;
-        went = own_went P who.seat.view (with_own who own).seat.view s refl;
+        went = own_went P who.token.view (with_own who own).token.view s refl;
       };
       quiet = record {
         pending = ready.quiet.pending;

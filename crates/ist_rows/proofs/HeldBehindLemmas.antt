@@ -38,7 +38,7 @@ pub filter_at : {A : Type 0} (p : A → Bool) (x : A) (xs : List A) (b : Bool) �
 filter_at p x xs b e = ap (λ v. if v then x ∷ filter p xs else filter p xs) e
 
 -- two filters, in either order
-filter_swap : {A : Type 0} (p q : A → Bool) (xs : List A)
+pub filter_swap : {A : Type 0} (p q : A → Bool) (xs : List A)
     → filter p (filter q xs) ≡ filter q (filter p xs)
 filter_swap p q [] = refl
 filter_swap p q (x ∷ xs) = at (filter_swap p q xs) (p x) refl (q x) refl

@@ -68,7 +68,7 @@ pub looked_next : (v : View) (word : ℕ) (w : View) → Looked v next_place wor
     → word ≡ (now w).next
 looked_next v word w l = l.stood (now w).next shown_next
 
--- a seat that read the first free word has only made loads
+-- a token that read the first free word has only made loads
 pub read_on : (v : View) (next : ℕ) (w : View) → HasReadNext v next w → GoesOnTo v w
 read_on v next w r = goes_on_more v r.before w r.seen
     (looked_goes_on r.before next_place next w r.looked)

@@ -35,7 +35,7 @@ pub record AreNext (who : Caller) (sizes : List ℕ) : Type 0 where
   pub at : IsInBuild who stuck done (sizes ++ rest)
 
 -- rows of these sizes were reserved at the last step of the call, one after another in memory from the
--- base on; before it the seat only made loads
+-- base on; before it the token only made loads
 pub record ReservedAll (v : View) (number base : ℕ) (sizes : List ℕ) (w : View) : Type 0 where
   pub before : View
   pub seen : GoesOnTo v before

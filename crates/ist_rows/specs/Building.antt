@@ -14,14 +14,14 @@ pub data AreStuck (t : Snapshot) : List ℕ → Type 0 where
 
 -- the sizes of the rows that a caller holds for its builds
 abbrev pub sizes_built : Caller → List ℕ
-sizes_built who = build_sizes (now who.seat.view) who.number (spares_of who)
+sizes_built who = build_sizes (now who.token.view) who.number (spares_of who)
 
 -- the caller is in a build: it holds the rows of stuck builds, and then rows of a building list
 -- that goes on with the rest
 pub record IsInBuild (who : Caller) (stuck done rest : List ℕ) : Type 0 where
   pub sizes : sizes_built who ≡ stuck ++ done
-  pub all_stuck : AreStuck (now who.seat.view) stuck
-  pub building : IsBuilding (now who.seat.view) (done ++ rest)
+  pub all_stuck : AreStuck (now who.token.view) stuck
+  pub building : IsBuilding (now who.token.view) (done ++ rest)
 
 -- the next row of the build that the caller is in has this size
 pub record IsNext (who : Caller) (size : ℕ) : Type 0 where
@@ -32,7 +32,7 @@ pub record IsNext (who : Caller) (size : ℕ) : Type 0 where
 
 -- each build of which the caller holds rows was refused
 abbrev pub HasRefused : Caller → Type 0
-HasRefused who = AreStuck (now who.seat.view) (sizes_built who)
+HasRefused who = AreStuck (now who.token.view) (sizes_built who)
 
 -- the caller has taken rows of these sizes in the build that it was in
 abbrev pub HasTaken : Caller → List ℕ → Caller → Type 0

@@ -1,4 +1,4 @@
--- What becomes of a caller's rows and changes as its seat goes on by its own events. `src/laws.rt`
+-- What becomes of a caller's rows and changes as its token goes on by its own events. `src/laws.rt`
 -- lists the clauses.
 use Rattle.std.specs.Prelude.{◌≡◌, ℕ, List, [], ◌∷◌, ◌++◌, Some, None}
 use Rattle.ist_core.specs.declared.events.Event.{Event}
@@ -8,7 +8,7 @@ use Rattle.ist_core.specs.Snapshots.{bases_of, without}
 use Rattle.ist_rule.specs.declared.view.View.{View}
 use Rattle.ist_core.specs.declared.events.Who.TheVariants.{Caller as CallerOf}
 use Rattle.ist_core.specs.Authors.{whose}
-use Rattle.ist_rule.specs.Faces.{SeatFace}
+use Rattle.ist_rule.specs.Faces.{TokenFace}
 use Rattle.ist_rule.specs.Learning.{now, Logged, LoggedLoad}
 use Rattle.ist_rule.specs.Going.{WentOn}
 use Rattle.ist_rule.specs.Conditions.{IsResolved}
@@ -29,24 +29,24 @@ KeepsRows (Place caller rebuild i word rows) = ⊥
 KeepsRows (Lose caller bases) = ⊥
 KeepsRows _ = Unit {0}
 
--- a caller whose seat went on by such events is still a caller
+-- a caller whose token went on by such events is still a caller
 abbrev pub CallersGoOn : Type 0
 CallersGoOn =
-    (who : Caller) (seat : SeatFace) → IsCaller who → WentOn KeepsRows who.seat.view seat.view
-    → IsCaller (record who { seat = seat })
+    (who : Caller) (token : TokenFace) → IsCaller who → WentOn KeepsRows who.token.view token.view
+    → IsCaller (record who { token = token })
 
 -- its refused builds are still refused
 abbrev pub RefusedBuildsStay : Type 0
 RefusedBuildsStay =
-    (who : Caller) (seat : SeatFace) → IsCaller who → HasRefused who
-    → WentOn KeepsRows who.seat.view seat.view → HasRefused (record who { seat = seat })
+    (who : Caller) (token : TokenFace) → IsCaller who → HasRefused who
+    → WentOn KeepsRows who.token.view token.view → HasRefused (record who { token = token })
 
 -- the event installs nothing
 abbrev pub InstallsNone : Event → Type 0
 InstallsNone (Install caller change rows) = ⊥
 InstallsNone _ = Unit {0}
 
--- if all changes of a caller are resolved and its seat went on by such events, they still are
+-- if all changes of a caller are resolved and its token went on by such events, they still are
 abbrev pub ChangesStayResolved : Type 0
 ChangesStayResolved =
     (v w : View) (number : ℕ) → v.who ≡ CallerOf number → IsResolved v number
@@ -107,7 +107,7 @@ abbrev pub without_rows : List Kind → Spares → Spares
 without_rows [] own = own
 without_rows (kind ∷ kinds) own = without_row kind (without_rows kinds own)
 
--- the caller is the other one, except for its seat and the rows of these kinds
+-- the caller is the other one, except for its token and the rows of these kinds
 pub record IsWithout (kinds : List Kind) (old new : Caller) : Type 0 where
   pub number : new.number ≡ old.number
   pub rows : spares_of new ≡ without_rows kinds (spares_of old)
@@ -116,7 +116,7 @@ pub record IsWithout (kinds : List Kind) (old new : Caller) : Type 0 where
 abbrev pub GivenRowsGo : Type 0
 GivenRowsGo =
     (old new : Caller) (kinds : List Kind) (event : Event) (bases : List ℕ) → IsCaller old
-    → Logged old.seat.view event new.seat.view → whose event ≡ CallerOf old.number
+    → Logged old.token.view event new.token.view → whose event ≡ CallerOf old.number
     → GivesUp event bases → AreBasesOf kinds (spares_of old) bases → IsWithout kinds old new
     → IsCaller new
 
@@ -124,7 +124,7 @@ GivenRowsGo =
 abbrev pub LostRowsGo : Type 0
 LostRowsGo =
     (old new : Caller) (kinds : List Kind) (event : Event) (bases : List ℕ) (place word : ℕ)
-    → IsCaller old → LoggedLoad old.seat.view event place word new.seat.view
+    → IsCaller old → LoggedLoad old.token.view event place word new.token.view
     → whose event ≡ CallerOf old.number → GivesUp event bases
     → AreBasesOf kinds (spares_of old) bases → IsWithout kinds old new → IsCaller new
 
@@ -132,6 +132,6 @@ LostRowsGo =
 abbrev pub RefusedBuildsAreKept : Type 0
 RefusedBuildsAreKept =
     (old new : Caller) (kinds : List Kind) (event : Event) (bases : List ℕ) → IsCaller old
-    → HasRefused old → Logged old.seat.view event new.seat.view
+    → HasRefused old → Logged old.token.view event new.token.view
     → whose event ≡ CallerOf old.number → GivesUp event bases
     → AreBasesOf kinds (spares_of old) bases → IsWithout kinds old new → HasRefused new

@@ -14,7 +14,7 @@ pub record HasPairBelow (who : Caller) (node : ℕ) : Type 0 where
   pub held : who.pair ≡ Some pair
   pub below : pair < node
   pub row : InnerRow
-  pub published : (now who.seat.view).pieces node ≡ Some (Inner row)
+  pub published : (now who.token.view).pieces node ≡ Some (Inner row)
 
 -- the pair row was lost by a load of the node's status, which is the last event of the log
 abbrev pub HasLost : View → ℕ → ℕ → ℕ → View → Type 0

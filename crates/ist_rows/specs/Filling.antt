@@ -13,11 +13,11 @@ storing_all own place (word ∷ words) =
 -- the caller with other own words
 abbrev pub with_own : Caller → List OwnWord → Caller
 with_own who own =
-    record who { seat = record who.seat { view = record who.seat.view { own = own } } }
+    record who { token = record who.token { view = record who.token.view { own = own } } }
 
 -- the caller once it has stored these words from the base on; nothing else of it has changed
 abbrev pub filled_with : Caller → ℕ → List ℕ → Caller
-filled_with who base words = with_own who (storing_all who.seat.view.own base words)
+filled_with who base words = with_own who (storing_all who.token.view.own base words)
 
 -- the own words hold these words from the base on
 abbrev pub StandAt : List OwnWord → ℕ → List ℕ → Type 0

@@ -1,4 +1,4 @@
--- A caller in a call, and what is known of one whose seat went on.
+-- A caller in a call, and what is known of one whose token went on.
 use Rattle.std.specs.Prelude.{◌≡◌, Some}
 use Rattle.ist_core.specs.declared.events.Event.{Event}
 use Rattle.ist_rule.specs.declared.view.Pending.{Pending}
@@ -11,8 +11,8 @@ use Rattle.ist_rows.specs.Rows.{IsCaller}
 -- the caller is in a call, in which each change that it installed is resolved
 pub record IsQuiet (who : Caller) : Type 0 where
   pub pending : Pending
-  pub in_call : who.seat.view.pending ≡ Some pending
-  pub resolved : IsResolved who.seat.view who.number
+  pub in_call : who.token.view.pending ≡ Some pending
+  pub resolved : IsResolved who.token.view who.number
 
 -- the caller is well-formed and quiet, and each build of which it holds rows was refused
 pub record IsReady (who : Caller) : Type 0 where
@@ -20,13 +20,13 @@ pub record IsReady (who : Caller) : Type 0 where
   pub refused : HasRefused who
   pub quiet : IsQuiet who
 
--- the caller's seat went on by such events only; the caller has the same number and is still
+-- the caller's token went on by such events only; the caller has the same number and is still
 -- well-formed, and each build of which it holds rows was refused
 pub record HasGone (P : Event → Type 0) (old new : Caller) : Type 0 where
   pub caller : IsCaller new
   pub number : new.number ≡ old.number
   pub refused : HasRefused new
-  pub went : WentOn P old.seat.view new.seat.view
+  pub went : WentOn P old.token.view new.token.view
 
 -- the caller went on by such events only, and is quiet: it is ready
 pub record StaysReady (P : Event → Type 0) (old new : Caller) : Type 0 where

@@ -66,32 +66,32 @@ abbrev pub build_sizes : Snapshot → ℕ → Spares → List ℕ
 build_sizes t number spares =
     map (λ h. h.size) (filter (λ h. not (is_spare spares h.base)) (held_by t number))
 
--- the seat belongs to the caller with this number, each of its rows is held and of its kind, and
+-- the token belongs to the caller with this number, each of its rows is held and of its kind, and
 -- the sizes of all other rows that it holds are prefixes of building lists, each but the last being
 -- stuck
 pub record IsCaller (who : Caller) : Type 0 where
-  pub mine : who.seat.view.who ≡ CallerOf who.number
+  pub mine : who.token.view.who ≡ CallerOf who.number
   pub rows : (kind : Kind) (base : ℕ) → row_of kind (spares_of who) ≡ Some base
-      → HoldsRow (now who.seat.view) who.number base (kind_words kind)
-  pub builds : AreBuilds (now who.seat.view)
-      (build_sizes (now who.seat.view) who.number (spares_of who))
+      → HoldsRow (now who.token.view) who.number base (kind_words kind)
+  pub builds : AreBuilds (now who.token.view)
+      (build_sizes (now who.token.view) who.number (spares_of who))
 
 -- ---- reserving
 
--- a row of the size was reserved at the last step of the call; before it the seat only made loads
+-- a row of the size was reserved at the last step of the call; before it the token only made loads
 pub record Reserved (v : View) (number base size : ℕ) (w : View) : Type 0 where
   pub before : View
   pub seen : GoesOnTo v before
   pub reserved : Logged before (Reserve number base size) w
 
--- a load or a failed exchange gave the first free word; before it the seat only made loads
+-- a load or a failed exchange gave the first free word; before it the token only made loads
 pub record HasReadNext (v : View) (next : ℕ) (w : View) : Type 0 where
   pub before : View
   pub seen : GoesOnTo v before
   pub looked : Looked before next_place next w
 
 -- a load of the first word, the last step of the call, gave how many words are used, and fewer are
--- left than were asked for; until then the seat went on as `Seen` says
+-- left than were asked for; until then the token went on as `Seen` says
 pub record RanShort (Seen : View → View → Type 0) (v : View) (words : ℕ) (full : Full) (w : View)
     : Type 0 where
   pub before : View
@@ -110,13 +110,13 @@ pub record IsFull (v : View) (words size : ℕ) (full : Full) (w : View) : Type 
 abbrev pub IsFreshRow : Kind → Caller → Caller → Result ℕ Full → Type 0
 IsFreshRow kind old new answer =
     row_of kind (spares_of old) ≡ None → IfOk answer (λ base.
-    Reserved old.seat.view old.number base (kind_words kind) new.seat.view
+    Reserved old.token.view old.number base (kind_words kind) new.token.view
     × (spares_of new ≡ with_row kind base (spares_of old)))
 
 -- nothing was reserved, because no words are left
 pub record IsKindRefused (words : ℕ) (kind : Kind) (old new : Caller) (full : Full) : Type 0 where
   pub none : row_of kind (spares_of old) ≡ None
-  pub cause : IsFull old.seat.view words (kind_words kind) full new.seat.view
+  pub cause : IsFull old.token.view words (kind_words kind) full new.token.view
   pub same : spares_of new ≡ spares_of old
 
 -- ---- filling
@@ -124,5 +124,5 @@ pub record IsKindRefused (words : ℕ) (kind : Kind) (old new : Caller) (full : 
 -- the caller holds the row at the base, and the row has a word `at` places after it
 pub record HoldsPlace (who : Caller) (base at : ℕ) : Type 0 where
   pub size : ℕ
-  pub held : HoldsRow (now who.seat.view) who.number base size
+  pub held : HoldsRow (now who.token.view) who.number base size
   pub within : at < size

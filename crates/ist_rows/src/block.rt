@@ -9,35 +9,35 @@ ghost use Rattle.ist_rows.specs.Block.{AreNext, ReservedAll, HasNoRoom, MayTakeA
 
 use crate::callers::Caller;
 use ist_layout::NEXT_PLACE;
-use ist_rule::{TreeSeat, TreeTable, exchange_all, know, load, word_count};
+use ist_rule::{TreeTable, TreeToken, exchange_all, know, load, word_count};
 
 // Takes fresh rows from the front of the free words, all at one step. Each further turn met another
 // caller's Reserve, so fewer words are free than before.
-fn take_all(table: &TreeTable, seat: &mut TreeSeat, number: u32, asked: u64) -> Option<u32>
+fn take_all(table: &TreeTable, token: &mut TreeToken, number: u32, asked: u64) -> Option<u32>
     ghost sizes: { List ℕ }
-    requires same_table { seat.old.table ≡ table.now.table }
-    requires caller { seat.old.view.who ≡ CallerOf number }
-    requires fair { MayTakeAll seat.old.view number sizes }
+    requires same_table { token.old.table ≡ table.now.table }
+    requires caller { token.old.view.who ≡ CallerOf number }
+    requires fair { MayTakeAll token.old.view number sizes }
     requires several { 1 ≤ length sizes }
     requires asked { asked ≡ sum sizes }
     requires small { asked < 2 ^ 32 }
-    ensures same_table { seat.new.table ≡ table.now.table }
+    ensures same_table { token.new.table ≡ table.now.table }
     ensures reserved { IfSome result (λ base.
-        ReservedAll seat.old.view number base sizes seat.new.view) }
+        ReservedAll token.old.view number base sizes token.new.view) }
     ensures none { result ≡ None →
-        HasNoRoom seat.old.view (word_count_of table.now) asked seat.new.view }
+        HasNoRoom token.old.view (word_count_of table.now) asked token.new.view }
 {
     let words = word_count(table);
-    know(seat);
+    know(token);
     // No event. Meets another caller's Reserve.
-    let mut next = load(table, seat, NEXT_PLACE);
+    let mut next = load(table, token, NEXT_PLACE);
     'turns: loop {
         if next + asked > words {
             return None;
         }
         // A Reserve for each size. Meets another caller's: the next turn tries the word that this
         // one left.
-        let found = exchange_all(table, seat, NEXT_PLACE, next, next + asked);
+        let found = exchange_all(table, token, NEXT_PLACE, next, next + asked);
         if found == next {
             return Some(next as u32);
         }
@@ -54,21 +54,21 @@ fn take_all(table: &TreeTable, seat: &mut TreeSeat, number: u32, asked: u64) -> 
 /// reserve, allocates nothing, and always returns.
 pub fn reserve_block(table: &TreeTable, who: &mut Caller, asked: u64) -> Option<u32>
     ghost sizes: { List ℕ }
-    requires same_table { who.old.seat.table ≡ table.now.table }
+    requires same_table { who.old.token.table ≡ table.now.table }
     requires caller { IsCaller who.old }
     requires next { AreNext who.old sizes }
     requires several { 1 ≤ length sizes }
     requires asked { asked ≡ sum sizes }
     requires small { asked < 2 ^ 32 }
-    ensures same_table { who.new.seat.table ≡ table.now.table }
+    ensures same_table { who.new.token.table ≡ table.now.table }
     ensures caller { IsCaller who.new }
-    ensures same { who.new ≡ record who.old { seat = who.new.seat } }
+    ensures same { who.new ≡ record who.old { token = who.new.token } }
     ensures reserved { IfSome result (λ base.
-        ReservedAll who.old.seat.view who.old.number base sizes who.new.seat.view) }
+        ReservedAll who.old.token.view who.old.number base sizes who.new.token.view) }
     ensures taken { IfSome result (λ base. HasTaken who.old sizes who.new) }
     ensures none { result ≡ None →
-        HasNoRoom who.old.seat.view (word_count_of table.now) asked who.new.seat.view }
+        HasNoRoom who.old.token.view (word_count_of table.now) asked who.new.token.view }
 {
-    know(&who.seat);
-    take_all(table, &mut who.seat, who.number, asked)
+    know(&who.token);
+    take_all(table, &mut who.token, who.number, asked)
 }

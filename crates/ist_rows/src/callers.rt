@@ -3,14 +3,14 @@ ghost use Rattle.std.specs.Prelude.{◌≡◌};
 ghost use Rattle.ist_rows.specs.Rows.{spares_of, row_of, with_row};
 
 use crate::kinds::Kind;
-use ist_rule::TreeSeat;
+use ist_rule::TreeToken;
 
-/// The seat of one caller with its number, and the row of each kind that it holds, by its base.
+/// The token of one caller with its number, and the row of each kind that it holds, by its base.
 ///
-/// A step on the seat that publishes such a row must be followed by setting its field to `None`.
+/// A step on the token that publishes such a row must be followed by setting its field to `None`.
 #[derive(Drop)]
 pub struct Caller {
-    pub seat: TreeSeat,
+    pub token: TreeToken,
     pub number: u32,
     pub leaf: Option<u32>,
     pub pair: Option<u32>,
@@ -34,7 +34,7 @@ impl Caller {
     // Notes that the caller holds this row of this kind.
     pub(crate) fn hold(&mut self, kind: Kind, base: u32)
         ensures value { spares_of self.new ≡ with_row kind base (spares_of self.old) }
-        ensures same { (self.new.seat ≡ self.old.seat) × (self.new.number ≡ self.old.number) }
+        ensures same { (self.new.token ≡ self.old.token) × (self.new.number ≡ self.old.number) }
     {
         match kind {
             Kind::Leaf => self.leaf = Some(base),

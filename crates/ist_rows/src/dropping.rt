@@ -13,20 +13,20 @@ use ist_rule::{TreeTable, know, load_past};
 /// The row is lost: it is never published, and its words are never reserved again. The next pair row
 /// that the caller reserves is a fresh one.
 pub fn drop_pair(table: &TreeTable, who: &mut Caller, node: u32)
-    requires same_table { who.old.seat.table ≡ table.now.table }
+    requires same_table { who.old.token.table ≡ table.now.table }
     requires caller { IsCaller who.old }
     requires below { HasPairBelow who.old node }
-    ensures same_table { who.new.seat.table ≡ table.now.table }
+    ensures same_table { who.new.token.table ≡ table.now.table }
     ensures caller { IsCaller who.new }
     ensures number { who.new.number ≡ who.old.number }
     ensures rows { spares_of who.new ≡ without_row Pair (spares_of who.old) }
     ensures lost { IfSome who.old.pair (λ pair.
-        HasLost who.old.seat.view who.old.number pair node who.new.seat.view) }
+        HasLost who.old.token.view who.old.number pair node who.new.token.view) }
 {
-    know(&who.seat);
+    know(&who.token);
     if let Some(pair) = who.pair {
         // Lose. Meets no other's step: only the row's caller uses it.
-        load_past(table, &mut who.seat, pair, node);
+        load_past(table, &mut who.token, pair, node);
         who.pair = None;
     }
 }

@@ -10,28 +10,28 @@ ghost use Rattle.ist_rows.specs.Entering.{HasEntered};
 
 use crate::callers::Caller;
 use ist_layout::CALLERS_PLACE;
-use ist_rule::{TreeSeat, TreeTable, add, know, split};
+use ist_rule::{TreeTable, TreeToken, add, know, split};
 
 /// Enters the next caller. Its number is the count of the callers before it.
 ///
 /// The caller holds no row, has made no call and no event, and has the maker's start pairs, log and
 /// stamp. The entering is the last event of that log; all else that the maker knew is as it was.
-pub fn enter(table: &TreeTable, maker: &mut TreeSeat) -> Caller
+pub fn enter(table: &TreeTable, maker: &mut TreeToken) -> Caller
     requires same_table { maker.old.table ≡ table.now.table }
     requires maker { maker.old.view.who ≡ Maker }
     requires given { maker.old.view.given ≡ maker.old.view.made }
     requires few { maker.old.view.made < caller_limit }
     ensures caller { IsCaller result }
-    ensures same_table { result.seat.table ≡ table.now.table }
+    ensures same_table { result.token.table ≡ table.now.table }
     ensures maker_table { maker.new.table ≡ table.now.table }
     ensures number { result.number ≡ maker.old.view.made }
     ensures no_rows { spares_of result ≡ no_spares }
-    ensures holds_none { held_by (now result.seat.view) result.number ≡ [] }
-    ensures idle { IsIdleIn (CallerOf result.number) result.seat.view.log }
-    ensures seat { result.seat.view ≡ plain maker.new.view (CallerOf result.number) [] }
-    ensures no_calls { result.seat.view.calls ≡ [] }
-    ensures in_none { result.seat.view.pending ≡ None }
-    ensures seen { result.seat.view.log ≡ maker.new.view.log }
+    ensures holds_none { held_by (now result.token.view) result.number ≡ [] }
+    ensures idle { IsIdleIn (CallerOf result.number) result.token.view.log }
+    ensures token { result.token.view ≡ plain maker.new.view (CallerOf result.number) [] }
+    ensures no_calls { result.token.view.calls ≡ [] }
+    ensures in_none { result.token.view.pending ≡ None }
+    ensures seen { result.token.view.log ≡ maker.new.view.log }
     ensures entered { HasEntered maker.old.view result.number maker.new.view }
     ensures made { (maker.new.view.who ≡ Maker) × (maker.new.view.made ≡ maker.old.view.made + 1) }
     ensures given { maker.new.view.given ≡ maker.new.view.made }
@@ -40,9 +40,9 @@ pub fn enter(table: &TreeTable, maker: &mut TreeSeat) -> Caller
     // Enter. Meets no other's: a table has one maker.
     let number = add(table, maker, CALLERS_PLACE) as u32;
     know(maker);
-    let seat = split(table, maker);
+    let token = split(table, maker);
     Caller {
-        seat,
+        token,
         number,
         leaf: None,
         pair: None,

@@ -11,24 +11,24 @@ use crate::callers::Caller;
 use crate::kinds::Kind;
 use ist_core::Full;
 use ist_layout::{NEXT_PLACE, inner_words};
-use ist_rule::{TreeSeat, TreeTable, exchange, know, load, word_count};
+use ist_rule::{TreeTable, TreeToken, exchange, know, load, word_count};
 
 // Takes a fresh row from the front of the free words. Each further turn met another caller's
 // Reserve, so fewer words are free than before.
-fn take(table: &TreeTable, seat: &mut TreeSeat, number: u32, size: u64) -> Result<u32, Full>
-    requires same_table { seat.old.table ≡ table.now.table }
-    requires caller { seat.old.view.who ≡ CallerOf number }
-    requires fair { MayTake seat.old.view number size }
+fn take(table: &TreeTable, token: &mut TreeToken, number: u32, size: u64) -> Result<u32, Full>
+    requires same_table { token.old.table ≡ table.now.table }
+    requires caller { token.old.view.who ≡ CallerOf number }
+    requires fair { MayTake token.old.view number size }
     requires small { size < 2 ^ 32 }
-    ensures same_table { seat.new.table ≡ table.now.table }
-    ensures reserved { IfOk result (λ base. Reserved seat.old.view number base size seat.new.view) }
+    ensures same_table { token.new.table ≡ table.now.table }
+    ensures reserved { IfOk result (λ base. Reserved token.old.view number base size token.new.view) }
     ensures full { IfErr result (λ full.
-        IsFull seat.old.view (word_count_of table.now) size full seat.new.view) }
+        IsFull token.old.view (word_count_of table.now) size full token.new.view) }
 {
     let words = word_count(table);
-    know(seat);
+    know(token);
     // No event. Meets another caller's Reserve.
-    let mut next = load(table, seat, NEXT_PLACE);
+    let mut next = load(table, token, NEXT_PLACE);
     'turns: loop {
         if next + size > words {
             return Err(Full {
@@ -38,7 +38,7 @@ fn take(table: &TreeTable, seat: &mut TreeSeat, number: u32, size: u64) -> Resul
             });
         }
         // Reserve. Meets another caller's: the next turn tries the word that this one left.
-        let found = exchange(table, seat, NEXT_PLACE, next, next + size);
+        let found = exchange(table, token, NEXT_PLACE, next, next + size);
         if found == next {
             return Ok(next as u32);
         }
@@ -53,9 +53,9 @@ fn take(table: &TreeTable, seat: &mut TreeSeat, number: u32, size: u64) -> Resul
 /// `next` with `next + asked > words`, it returns `Full` and reserves nothing. Retries while others
 /// reserve, and always returns.
 pub fn reserve(table: &TreeTable, who: &mut Caller, kind: Kind) -> Result<u32, Full>
-    requires same_table { who.old.seat.table ≡ table.now.table }
+    requires same_table { who.old.token.table ≡ table.now.table }
     requires caller { IsCaller who.old }
-    ensures same_table { who.new.seat.table ≡ table.now.table }
+    ensures same_table { who.new.token.table ≡ table.now.table }
     ensures caller { IsCaller who.new }
     ensures number { who.new.number ≡ who.old.number }
     ensures held { IfSome (row_of kind (spares_of who.old)) (λ base.
@@ -67,8 +67,8 @@ pub fn reserve(table: &TreeTable, who: &mut Caller, kind: Kind) -> Result<u32, F
     if let Some(base) = who.row(kind) {
         return Ok(base);
     }
-    know(&who.seat);
-    let base = take(table, &mut who.seat, who.number, kind.words())?;
+    know(&who.token);
+    let base = take(table, &mut who.token, who.number, kind.words())?;
     who.hold(kind, base);
     Ok(base)
 }
@@ -79,21 +79,21 @@ pub fn reserve(table: &TreeTable, who: &mut Caller, kind: Kind) -> Result<u32, F
 /// `Full`. The build is then refused: nothing is reserved, and the rows that it has stay held.
 /// Retries while others reserve, and always returns.
 pub fn reserve_inner(table: &TreeTable, who: &mut Caller, degree: u64) -> Result<u32, Full>
-    requires same_table { who.old.seat.table ≡ table.now.table }
+    requires same_table { who.old.token.table ≡ table.now.table }
     requires caller { IsCaller who.old }
     requires next { IsNext who.old (inner_words degree) }
     requires small { degree < place_limit }
-    ensures same_table { who.new.seat.table ≡ table.now.table }
+    ensures same_table { who.new.token.table ≡ table.now.table }
     ensures caller { IsCaller who.new }
     ensures number { who.new.number ≡ who.old.number }
     ensures rows { spares_of who.new ≡ spares_of who.old }
     ensures reserved { IfOk result (λ base.
-        Reserved who.old.seat.view who.old.number base (inner_words degree) who.new.seat.view) }
+        Reserved who.old.token.view who.old.number base (inner_words degree) who.new.token.view) }
     ensures taken { IfOk result (λ base. HasTaken who.old (inner_words degree ∷ []) who.new) }
     ensures full { IfErr result (λ full. let asked = inner_words degree in
-        IsFull who.old.seat.view (word_count_of table.now) asked full who.new.seat.view) }
+        IsFull who.old.token.view (word_count_of table.now) asked full who.new.token.view) }
     ensures refused { IfErr result (λ full. HasRefused who.new) }
 {
-    know(&who.seat);
-    take(table, &mut who.seat, who.number, inner_words(degree))
+    know(&who.token);
+    take(table, &mut who.token, who.number, inner_words(degree))
 }

@@ -1,5 +1,5 @@
 -- What a seat learns of its own view if it has seen the whole log. Serves the invariant of
--- `TreeSeat`.
+-- `TreeToken`.
 use Rattle.std.proofs.Common.{◌≢◌, ℕ, List, sym, subst}
 use Rattle.ist_core.specs.declared.pairs.Pair.{Pair}
 use Rattle.ist_core.specs.Logs.{Log}

@@ -10,7 +10,7 @@ pub record TableFace : Type 0 where
   pub start : List Pair
 
 -- a seat: its table, and what it knows
-pub record SeatFace : Type 0 where
+pub record TokenFace : Type 0 where
   pub table : TableId
   pub view : View
 

@@ -6,11 +6,11 @@ ghost use Rattle.ist_rule.specs.Learning.{Turned, beginning, searching, ending, 
 ghost use Rattle.ist_rule.specs.Conditions.{CanBegin, CanEnd, CanGiveUp};
 
 use crate::plays::{Answered, Asked, Begins, Ends, GivesUp, Searches};
-use crate::table::{TreeSeat, TreeTable};
+use crate::table::{TreeTable, TreeToken};
 use ist_core::{Command, Reply};
 use std::marker::Brand;
 
-fn begin_as<A: Asked>(table: &TreeTable, seat: &mut TreeSeat, command: Option<Command>)
+fn begin_as<A: Asked>(table: &TreeTable, seat: &mut TreeToken, command: Option<Command>)
     requires same_table { seat.old.table ≡ table.now.table }
     requires may_begin { CanBegin seat.old.view }
     requires told { command ≡ A.command }
@@ -23,7 +23,7 @@ fn begin_as<A: Asked>(table: &TreeTable, seat: &mut TreeSeat, command: Option<Co
 }
 
 /// Begins a call of the seat's caller, with this command or with none.
-pub fn begin_call(table: &TreeTable, seat: &mut TreeSeat, command: Option<Command>)
+pub fn begin_call(table: &TreeTable, seat: &mut TreeToken, command: Option<Command>)
     requires same_table { seat.old.table ≡ table.now.table }
     requires may_begin { CanBegin seat.old.view }
     ensures same_table { seat.new.table ≡ seat.old.table }
@@ -33,7 +33,7 @@ pub fn begin_call(table: &TreeTable, seat: &mut TreeSeat, command: Option<Comman
 }
 
 /// Begins a search: clears the view's loads, notes the log's length and adds 1 to its `searches`.
-pub fn begin_search(table: &TreeTable, seat: &mut TreeSeat)
+pub fn begin_search(table: &TreeTable, seat: &mut TreeToken)
     requires same_table { seat.old.table ≡ table.now.table }
     ensures same_table { seat.new.table ≡ seat.old.table }
     ensures begun { Turned seat.old.view (searching seat.old.view) seat.new.view }
@@ -42,7 +42,7 @@ pub fn begin_search(table: &TreeTable, seat: &mut TreeSeat)
     table.table.shared.load::<Searches>(&mut seat.seat, 0);
 }
 
-fn end_as<A: Answered>(table: &TreeTable, seat: &mut TreeSeat, reply: Reply)
+fn end_as<A: Answered>(table: &TreeTable, seat: &mut TreeToken, reply: Reply)
     requires same_table { seat.old.table ≡ table.now.table }
     requires may_end { CanEnd seat.old.view A.call }
     requires reply { reply ≡ A.call.reply }
@@ -56,7 +56,7 @@ fn end_as<A: Answered>(table: &TreeTable, seat: &mut TreeSeat, reply: Reply)
 
 /// Ends the seat's call with this reply. The call is then the last of the seat's calls, with the
 /// next stamp, at the position that is shown for it.
-pub fn end_call(table: &TreeTable, seat: &mut TreeSeat, reply: Reply)
+pub fn end_call(table: &TreeTable, seat: &mut TreeToken, reply: Reply)
     ghost call: { CallOf }
     requires same_table { seat.old.table ≡ table.now.table }
     requires may_end { CanEnd seat.old.view call }
@@ -68,7 +68,7 @@ pub fn end_call(table: &TreeTable, seat: &mut TreeSeat, reply: Reply)
 }
 
 /// Ends the seat's call without a reply. The seat's calls stay as they were.
-pub fn give_up(table: &TreeTable, seat: &mut TreeSeat)
+pub fn give_up(table: &TreeTable, seat: &mut TreeToken)
     requires same_table { seat.old.table ≡ table.now.table }
     requires may_give_up { CanGiveUp seat.old.view }
     ensures same_table { seat.new.table ≡ seat.old.table }

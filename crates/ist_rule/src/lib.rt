@@ -19,6 +19,6 @@ pub use opening::{close, know, open_table, open_table_over};
 pub use plays::{Answered, Asked, Named, NamedAll, NamedByLog, NamedByWord, NamedEitherWay};
 pub use seating::{join, split};
 pub use steps::{add, exchange, exchange_all, exchange_or_lose, load, store};
-pub use table::{TreeSeat, TreeTable, word_count};
+pub use table::{TreeTable, TreeToken, word_count};
 pub use view::{About, Loads, Met, OwnWord, Pending, Taken, TreeRule, View};
 pub use watching::{load_okay, load_pass, load_past};

@@ -8,7 +8,7 @@ ghost use Rattle.ist_rule.specs.Rule.{opened_view, IsSound};
 ghost use Rattle.ist_rule.specs.Faces.{word_count_of};
 ghost use Rattle.ist_rule.specs.Seating.{IsLast};
 
-use crate::table::{TreeSeat, TreeTable};
+use crate::table::{TreeTable, TreeToken};
 use crate::view::About;
 use atomic_table::{Closed, Table};
 use ist_core::Pair;
@@ -22,7 +22,7 @@ pub fn open_table(
     alloc: Global,
     image: Vec<u64>,
     pairs: &Vec<Pair>,
-) -> Result<(TreeTable, TreeSeat), AllocError>
+) -> Result<(TreeTable, TreeToken), AllocError>
     requires opens { CanOpen pairs.now.items (length image.items) }
     requires image { IsImage (start pairs.now.items (length image.items)) image.items }
     ensures words { IfOk result (λ t. word_count_of t.0 ≡ length image.items) }
@@ -39,7 +39,7 @@ pub fn open_table_over(
     alloc: Global,
     image: &[u64],
     pairs: &Vec<Pair>,
-) -> Result<(TreeTable, TreeSeat), AllocError>
+) -> Result<(TreeTable, TreeToken), AllocError>
     requires opens { CanOpen pairs.now.items (length image.now) }
     requires image { IsImage (start pairs.now.items (length image.now)) image.now }
     ensures words { IfOk result (λ t. word_count_of t.0 ≡ length image.now) }
@@ -52,11 +52,11 @@ pub fn open_table_over(
         words: image.len() as u64,
     };
     let (table, seat) = Table::of_words(alloc, image, &about)?;
-    Ok((TreeTable { table }, TreeSeat { seat }))
+    Ok((TreeTable { table }, TreeToken { seat }))
 }
 
 /// Gives the caller what holds of each seat's view. It costs nothing.
-pub fn know(seat: &TreeSeat)
+pub fn know(seat: &TreeToken)
     ensures sound { IsSound seat.now.view }
     ensures words { seat.now.view.words ≡ seat.now.table.words }
 {
@@ -66,7 +66,7 @@ pub fn know(seat: &TreeSeat)
 /// Returns the words after the last step, without a copy.
 ///
 /// They are the image of a lawful log that goes on from the seat's own by events of others.
-pub fn close(table: TreeTable, seat: TreeSeat) -> Closed<(), Global>
+pub fn close(table: TreeTable, seat: TreeToken) -> Closed<(), Global>
     requires same_table { seat.table ≡ table.table }
     ensures full { IsFull result.words × IsFull result.slots }
     ensures counts { (slots_len result.words ≡ word_count_of table) × (slots_len result.slots ≡ 0) }

@@ -5,19 +5,19 @@ ghost use Rattle.ist_rule.specs.Learning.{Looked};
 ghost use Rattle.ist_rule.specs.Seating.{split_left, split_right, joined, CanJoin};
 
 use crate::plays::{Binds, Cuts, Looks};
-use crate::table::{TreeSeat, TreeTable};
+use crate::table::{TreeTable, TreeToken};
 
 /// Makes a seat with the log and the stamp of this one, without rows, and in no call.
 ///
 /// If a maker entered a caller that has no seat yet, the new seat is that caller's. Otherwise it is
 /// a note, which keeps the calls of the caller whose seat it was split from.
-pub fn split(table: &TreeTable, seat: &mut TreeSeat) -> TreeSeat
+pub fn split(table: &TreeTable, seat: &mut TreeToken) -> TreeToken
     requires same_table { seat.old.table ≡ table.now.table }
     ensures old { (seat.new.table ≡ seat.old.table) × (seat.new.view ≡ split_left seat.old.view) }
     ensures new { (result.table ≡ seat.old.table) × (result.view ≡ split_right seat.old.view) }
 {
     // No event, and no word: one view becomes two.
-    TreeSeat {
+    TreeToken {
         seat: table.table.shared.split_seat::<Cuts>(&mut seat.seat),
     }
 }
@@ -27,7 +27,7 @@ pub fn split(table: &TreeTable, seat: &mut TreeSeat) -> TreeSeat
 /// After the call, the seat's log goes on from each of the two logs by events of others than that
 /// log's owner; a load of word 0 learns this. The maker keeps the calls of a caller that is joined
 /// to it, and its log, from which each log to come goes on without an event of that caller.
-pub fn join(table: &TreeTable, seat: &mut TreeSeat, other: TreeSeat)
+pub fn join(table: &TreeTable, seat: &mut TreeToken, other: TreeToken)
     requires same_table { seat.old.table ≡ table.now.table }
     requires other_table { other.table ≡ table.now.table }
     requires may_join { CanJoin seat.old.view other.view }

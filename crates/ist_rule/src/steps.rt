@@ -10,11 +10,11 @@ use crate::plays::{
     Adds, Exchanges, ExchangesAll, ExchangesOrLoses, Looks, Named, NamedAll, NamedByWord,
     NamedEitherWay, Stores,
 };
-use crate::table::{TreeSeat, TreeTable};
+use crate::table::{TreeTable, TreeToken};
 use std::marker::Brand;
 
 /// Returns the word at the place at this step.
-pub fn load(table: &TreeTable, seat: &mut TreeSeat, place: u64) -> u64
+pub fn load(table: &TreeTable, seat: &mut TreeToken, place: u64) -> u64
     requires same_table { seat.old.table ≡ table.now.table }
     requires within { place < word_count_of table.now }
     ensures same_table { seat.new.table ≡ seat.old.table }
@@ -28,7 +28,7 @@ pub fn load(table: &TreeTable, seat: &mut TreeSeat, place: u64) -> u64
 }
 
 /// Stores a word into a row that the seat's caller holds.
-pub fn store(table: &TreeTable, seat: &mut TreeSeat, place: u64, word: u64)
+pub fn store(table: &TreeTable, seat: &mut TreeToken, place: u64, word: u64)
     requires same_table { seat.old.table ≡ table.now.table }
     requires within { place < word_count_of table.now }
     requires own { IsOwn seat.old.view place }
@@ -42,7 +42,7 @@ pub fn store(table: &TreeTable, seat: &mut TreeSeat, place: u64, word: u64)
         .store::<Stores>(&mut seat.seat, place as usize, word)
 }
 
-fn add_as<N: NamedByWord>(table: &TreeTable, seat: &mut TreeSeat, place: u64) -> u64
+fn add_as<N: NamedByWord>(table: &TreeTable, seat: &mut TreeToken, place: u64) -> u64
     requires same_table { seat.old.table ≡ table.now.table }
     requires within { place < word_count_of table.now }
     requires event { CanAdd seat.old.view place N.event }
@@ -58,7 +58,7 @@ fn add_as<N: NamedByWord>(table: &TreeTable, seat: &mut TreeSeat, place: u64) ->
 
 /// Adds 1 to the word at the place and returns the word before, which the place shows before the
 /// step. The step is the event that is named for that word: the last of the seat's log.
-pub fn add(table: &TreeTable, seat: &mut TreeSeat, place: u64) -> u64
+pub fn add(table: &TreeTable, seat: &mut TreeToken, place: u64) -> u64
     ghost event: { ℕ → Event }
     requires same_table { seat.old.table ≡ table.now.table }
     requires within { place < word_count_of table.now }
@@ -75,7 +75,7 @@ pub fn add(table: &TreeTable, seat: &mut TreeSeat, place: u64) -> u64
 // come. The seat's log then ends with it.
 fn exchange_as<N: Named>(
     table: &TreeTable,
-    seat: &mut TreeSeat,
+    seat: &mut TreeToken,
     place: u64,
     old: u64,
     new: u64,
@@ -97,7 +97,7 @@ fn exchange_as<N: Named>(
 ///
 /// If that was `old`, the step is the event that is named: the last of the seat's log. Otherwise no
 /// word changes, and the step is a load.
-pub fn exchange(table: &TreeTable, seat: &mut TreeSeat, place: u64, old: u64, new: u64) -> u64
+pub fn exchange(table: &TreeTable, seat: &mut TreeToken, place: u64, old: u64, new: u64) -> u64
     ghost event: { Event }
     requires same_table { seat.old.table ≡ table.now.table }
     requires within { place < word_count_of table.now }
@@ -110,7 +110,7 @@ pub fn exchange(table: &TreeTable, seat: &mut TreeSeat, place: u64, old: u64, ne
 
 fn exchange_all_as<N: NamedAll>(
     table: &TreeTable,
-    seat: &mut TreeSeat,
+    seat: &mut TreeToken,
     place: u64,
     old: u64,
     new: u64,
@@ -133,7 +133,7 @@ fn exchange_all_as<N: NamedAll>(
 /// If that was `old`, the step is all the named events: they are the last of the seat's log, in the
 /// order of the list and with no other event between them. Otherwise no word changes, and the step is
 /// a load.
-pub fn exchange_all(table: &TreeTable, seat: &mut TreeSeat, place: u64, old: u64, new: u64) -> u64
+pub fn exchange_all(table: &TreeTable, seat: &mut TreeToken, place: u64, old: u64, new: u64) -> u64
     ghost events: { List Event }
     requires same_table { seat.old.table ≡ table.now.table }
     requires within { place < word_count_of table.now }
@@ -146,7 +146,7 @@ pub fn exchange_all(table: &TreeTable, seat: &mut TreeSeat, place: u64, old: u64
 
 fn exchange_or_lose_as<N: NamedEitherWay>(
     table: &TreeTable,
-    seat: &mut TreeSeat,
+    seat: &mut TreeToken,
     place: u64,
     old: u64,
     new: u64,
@@ -171,7 +171,7 @@ fn exchange_or_lose_as<N: NamedEitherWay>(
 /// published.
 pub fn exchange_or_lose(
     table: &TreeTable,
-    seat: &mut TreeSeat,
+    seat: &mut TreeToken,
     place: u64,
     old: u64,
     new: u64,

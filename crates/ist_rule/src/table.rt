@@ -32,16 +32,16 @@ impl Model for TreeTable {
 ///
 /// Contracts see its table and what the seat knows.
 #[derive(Drop)]
-pub struct TreeSeat {
+pub struct TreeToken {
     pub(crate) seat: Seat<(), View>,
 }
 
-impl Model for TreeSeat {
+impl Model for TreeToken {
     ghost use Rattle.std.specs.Prelude.{◌≡◌, []};
     ghost use Rattle.ist_rule.specs.Rule.{IsSound};
-    ghost use Rattle.ist_rule.specs.Faces.{SeatFace};
+    ghost use Rattle.ist_rule.specs.Faces.{TokenFace};
 
-    ghost Value = { SeatFace };
+    ghost Value = { TokenFace };
 
     ghost view = { λ s. record { table = s.seat.table_id; view = s.seat.me.0 } };
 

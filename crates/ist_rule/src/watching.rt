@@ -10,14 +10,14 @@ ghost use Rattle.ist_rule.specs.Watching.{CanLoadPast, LoadedPast};
 
 use crate::opening::know;
 use crate::plays::{LoadsAs, NamedByLog};
-use crate::table::{TreeSeat, TreeTable};
+use crate::table::{TreeTable, TreeToken};
 use ist_layout::INNER_STATUS_OFFSET;
 use std::marker::Brand;
 
 // The row and the index are parameters only to name the event.
 fn load_as<N: NamedByLog>(
     table: &TreeTable,
-    seat: &mut TreeSeat,
+    seat: &mut TreeToken,
     place: u64,
     row: u32,
     index: u64,
@@ -40,7 +40,7 @@ fn load_as<N: NamedByLog>(
 ///
 /// If it is 0 and the change is undecided at this step, the step is the Okay of the change: the
 /// caller has seen the node open after the installing. Meets the mark of the node.
-pub fn load_okay(table: &TreeTable, seat: &mut TreeSeat, change: u32, place: u64) -> u64
+pub fn load_okay(table: &TreeTable, seat: &mut TreeToken, change: u32, place: u64) -> u64
     requires same_table { seat.old.table ≡ table.now.table }
     requires may_load { CanLoadOkay seat.old.view change place }
     ensures same_table { seat.new.table ≡ seat.old.table }
@@ -54,7 +54,7 @@ pub fn load_okay(table: &TreeTable, seat: &mut TreeSeat, change: u32, place: u64
 ///
 /// If the node is marked at this step and not finished, and the word is neither a change nor Unset,
 /// the step is the Pass of the slot: it is frozen from then on. Meets an installing in it.
-pub fn load_pass(table: &TreeTable, seat: &mut TreeSeat, node: u32, index: u64, place: u64) -> u64
+pub fn load_pass(table: &TreeTable, seat: &mut TreeToken, node: u32, index: u64, place: u64) -> u64
     requires same_table { seat.old.table ≡ table.now.table }
     requires may_load { CanLoadPass seat.old.view node index place }
     ensures same_table { seat.new.table ≡ seat.old.table }
@@ -66,7 +66,7 @@ pub fn load_pass(table: &TreeTable, seat: &mut TreeSeat, node: u32, index: u64, 
 
 /// Loads the status of an inner row above the held pair row `pair`, which this step loses: a Lose.
 /// Meets no other's step.
-pub fn load_past(table: &TreeTable, seat: &mut TreeSeat, pair: u32, node: u32) -> u64
+pub fn load_past(table: &TreeTable, seat: &mut TreeToken, pair: u32, node: u32) -> u64
     requires same_table { seat.old.table ≡ table.now.table }
     requires may_load { CanLoadPast seat.old.view pair node }
     ensures same_table { seat.new.table ≡ seat.old.table }

@@ -6,8 +6,8 @@ use Rattle.ist_core.specs.Logs.{Happened, Resolves}
 use Rattle.ist_core.specs.Rebuilding.{IsReplaced}
 use Rattle.ist_core.specs.References.{ChangeAt, RebuildAt, ref_of}
 use Rattle.ist_core.specs.Slots.{IsOpen}
-use Rattle.laws_settling.specs.Settling.{StartsAreDone}
-use Rattle.ist_rule.specs.Faces.{SeatFace}
+use Rattle.laws_calls.specs.Settling.{StartsAreDone}
+use Rattle.ist_rule.specs.Faces.{TokenFace}
 use Rattle.ist_rule.specs.Going.{WentOn}
 use Rattle.ist_rule.specs.Learning.{GoesOnTo, now}
 use Rattle.ist_rule.specs.Rule.{IsSound}
@@ -30,35 +30,35 @@ use Rattle.ist_tree.proofs.EventLemmas.{help_aims, help_plain, serves_start_none
 use Rattle.ist_tree.proofs.InsteadLemmas.{change_helped, none_helped, rebuild_helped}
 use Rattle.ist_tree.proofs.RebuildLemmas.{load_plain, plain_done, starts_went}
 use Rattle.ist_tree.proofs.ShortLemmas.{due_refused_more, other_refused, own_refused}
-use Rattle.ist_tree.proofs.ShutLemmas.{all_done, not_open_shut, not_shut_open, same_ok}
+use Rattle.ist_tree.proofs.HelpedRebuildLemmas.{all_done, not_open_shut, not_shut_open, same_ok}
 
 -- ---- helping the rebuild that was started
 
 module _ (old new : Caller) (due : Due) (words rebuild : ℕ) (h : HasHelped old new)
-    (at : IsStartedAt (now old.seat.view) rebuild due.parent due.index due.target) where
+    (at : IsStartedAt (now old.token.view) rebuild due.parent due.index due.target) where
   -- it was helped to its end
   pub own_helped : IsReady old
-      → IsReplaced (now new.seat.view) rebuild ⊎ IsLeftToParent (now new.seat.view) rebuild
+      → IsReplaced (now new.token.view) rebuild ⊎ IsLeftToParent (now new.token.view) rebuild
       → HelpsOwn old new due words rebuild (Ok tt)
   own_helped r either =
       record {
         on = helped_for old new due.target h;
-        shut = helped_shut old.seat.view new.seat.view h.on.gone.went rebuild due.parent due.index
+        shut = helped_shut old.token.view new.token.view h.on.gone.went rebuild due.parent due.index
             due.target at either;
-        done = λ but. all_done old.number old.seat.view new.seat.view r.caller.mine r.quiet.resolved
+        done = λ but. all_done old.number old.token.view new.token.view r.caller.mine r.quiet.resolved
             h.on.gone.went rebuild but either;
         full = tt;
       }
 
   -- too few words were left to help it
-  pub own_short : (full : Full) → IsHelpRefused old.seat.view rebuild words full new.seat.view
+  pub own_short : (full : Full) → IsHelpRefused old.token.view rebuild words full new.token.view
       → HelpsOwn old new due words rebuild (Err full)
   own_short full refused =
       record {
         on = helped_for old new due.target h;
         shut = tt;
         done = tt;
-        full = own_refused (now old.seat.view) old.seat.view new.seat.view rebuild due.parent
+        full = own_refused (now old.token.view) old.token.view new.token.view rebuild due.parent
             due.index due.target words full at h.on.gone.went refused;
       }
 
@@ -67,53 +67,53 @@ module _ (old new : Caller) (due : Due) (words rebuild : ℕ) (h : HasHelped old
 module _ (old new : Caller) (due : Due) (words word base : ℕ) (h : HasHelped old new)
     (is : ref_of word ≡ Some (RebuildAt base)) where
   -- another rebuild was helped to its end
-  pub other_rebuilt : IsReady old → IsBuildable (now new.seat.view) base
+  pub other_rebuilt : IsReady old → IsBuildable (now new.token.view) base
       → HelpsOther old new due words word (Ok tt)
   other_rebuilt r finished =
       record {
         on = helped_for old new due.target h;
-        done = starts_went Serves old.number old.seat.view new.seat.view r.caller.mine
+        done = starts_went Serves old.number old.token.view new.token.view r.caller.mine
             h.on.gone.went (serves_start_none old.number) r.quiet.resolved;
-        settled = rebuild_helped new.seat.view word base is finished;
+        settled = rebuild_helped new.token.view word base is finished;
         full = tt;
       }
 
   -- too few words were left to help it
-  pub other_short : IsSound old.seat.view
-      → StoodInstead old.seat.view due.parent due.index due.target word → (full : Full)
-      → IsHelpRefused old.seat.view base words full new.seat.view
+  pub other_short : IsSound old.token.view
+      → StoodInstead old.token.view due.parent due.index due.target word → (full : Full)
+      → IsHelpRefused old.token.view base words full new.token.view
       → HelpsOther old new due words word (Err full)
   other_short s stood full refused =
       record {
         on = helped_for old new due.target h;
         done = tt;
         settled = tt;
-        full = other_refused old.seat.view new.seat.view s due.parent due.index due.target word base
+        full = other_refused old.token.view new.token.view s due.parent due.index due.target word base
             words full stood is h.on.gone.went refused;
       }
 
 -- a change was helped
-pub other_changed : (who : Caller) (seat : SeatFace) (due : Due) (words word base : ℕ) → IsReady who
-    → WentOn (dcss.Serves base) who.seat.view seat.view → ref_of word ≡ Some (ChangeAt base)
-    → Happened (Resolves base) seat.view.log
-    → HelpsOther who (record who { seat = seat }) due words word (Ok tt)
-other_changed who seat due words word base r went is resolved =
+pub other_changed : (who : Caller) (token : TokenFace) (due : Due) (words word base : ℕ) → IsReady who
+    → WentOn (dcss.Serves base) who.token.view token.view → ref_of word ≡ Some (ChangeAt base)
+    → Happened (Resolves base) token.view.log
+    → HelpsOther who (record who { token = token }) due words word (Ok tt)
+other_changed who token due words word base r went is resolved =
     record {
       on = plain_for (dcss.Serves base) (help_plain base) due.target (help_aims due.target base) who
-          seat r went;
-      done = plain_done (dcss.Serves base) (help_plain base) who seat r went;
-      settled = change_helped seat.view word base is resolved;
+          token r went;
+      done = plain_done (dcss.Serves base) (help_plain base) who token r went;
+      settled = change_helped token.view word base is resolved;
       full = tt;
     }
 
 -- nothing was there that can be helped
-pub other_none : (who : Caller) (due : Due) (words word : ℕ) → IsSound who.seat.view → IsReady who
+pub other_none : (who : Caller) (due : Due) (words word : ℕ) → IsSound who.token.view → IsReady who
     → instead_of (ref_of word) ≡ Other → HelpsOther who who due words word (Ok tt)
 other_none who due words word s r is =
     record {
       on = goes_none who due.target s r;
       done = λ done. done;
-      settled = none_helped who.seat.view word is;
+      settled = none_helped who.token.view word is;
       full = tt;
     }
 
@@ -122,7 +122,7 @@ other_none who due words word s r is =
 -- an attempt that was refused, which is handed on
 pub tried_short : (old new : Caller) (due : Due) (words : ℕ) (answer : Result Bool Full)
     (full : Full) → IsErrAnd answer (λ x. x ≡ full) → GoesFor old new due.target
-    → IsDueRefused (now old.seat.view) new.seat.view due.target words full
+    → IsDueRefused (now old.token.view) new.token.view due.target words full
     → Tries old new due words answer
 tried_short old new due words (Ok a) full same on refused = absurd same
 tried_short old new due words (Err e) full same on refused =
@@ -131,38 +131,38 @@ tried_short old new due words (Err e) full same on refused =
       last = tt;
       further = λ is. absurd (cc);
       done = tt;
-      full = subst (IsDueRefused (now old.seat.view) new.seat.view due.target words) (sym same) refused;
+      full = subst (IsDueRefused (now old.token.view) new.token.view due.target words) (sym same) refused;
     }
 
 -- the same, after a start that wasn't refused
 pub later_short : (a b c : Caller) (due : Due) (words : ℕ) (answer : Result Bool Full)
     (full : Full) → IsErrAnd answer (λ x. x ≡ full) → GoesFor a b due.target
-    → GoesFor b c due.target → IsDueRefused (now b.seat.view) c.seat.view due.target words full
+    → GoesFor b c due.target → IsDueRefused (now b.token.view) c.token.view due.target words full
     → Tries a c due words answer
 later_short a b c due words answer full same one two refused =
     tried_short a c due words answer full same (goes_more a b c due.target one two)
-    (due_refused_more (now a.seat.view) (now b.seat.view)
-    (went_grow Rebuilds a.seat.view b.seat.view one.on.gone.went) c.seat.view due.target words full
+    (due_refused_more (now a.token.view) (now b.token.view)
+    (went_grow Rebuilds a.token.view b.token.view one.on.gone.went) c.token.view due.target words full
     refused)
 
 -- the rebuild that was started was helped to its end
 pub own_tried : (a b c : Caller) (due : Due) (words rebuild : ℕ) → GoesFor a b due.target
-    → (StartsAreDone (now a.seat.view) a.number → StartsAreDoneBut (now b.seat.view) a.number rebuild)
+    → (StartsAreDone (now a.token.view) a.number → StartsAreDoneBut (now b.token.view) a.number rebuild)
     → HelpsOwn b c due words rebuild (Ok tt) → Tries a c due words (Ok true)
 own_tried a b c due words rebuild one but h =
     record {
       on = goes_more a b c due.target one h.on;
       last = λ is. h.shut;
       further = λ is. absurd (cc);
-      done = λ done. subst (StartsAreDone (now c.seat.view)) one.on.gone.number
-          (h.done (subst (λ n. StartsAreDoneBut (now b.seat.view) n rebuild)
+      done = λ done. subst (StartsAreDone (now c.token.view)) one.on.gone.number
+          (h.done (subst (λ n. StartsAreDoneBut (now b.token.view) n rebuild)
           (sym one.on.gone.number) (but done)));
       full = tt;
     }
 
 -- the parent was marked
 pub marked_tried : (old new : Caller) (due : Due) (words : ℕ) → GoesFor old new due.target
-    → ¬ (IsOpen (now new.seat.view) due.parent) → KeepsDone old new → Tries old new due words (Ok true)
+    → ¬ (IsOpen (now new.token.view) due.parent) → KeepsDone old new → Tries old new due words (Ok true)
 marked_tried old new due words on closed done =
     record {
       on = on;
@@ -173,30 +173,30 @@ marked_tried old new due words on closed done =
     }
 
 -- what the slot held instead was helped, and then it was looked if the row is open
-pub other_tried : (a b c : Caller) (seat : SeatFace) (due : Due) (words word : ℕ) (opened : Bool)
-    → MayStart a.seat.view due.parent due.index due.target → GoesFor a b due.target
-    → StoodInstead b.seat.view due.parent due.index due.target word → KeepsDone a b
-    → HelpsOther b c due words word (Ok tt) → GoesOnTo c.seat.view seat.view
-    → IsTrue opened ↔ IsOpen (now seat.view) due.target
-    → Tries a (record c { seat = seat }) due words (Ok (not opened))
-other_tried a b c seat due words word opened may one stood kept h seen iff =
+pub other_tried : (a b c : Caller) (token : TokenFace) (due : Due) (words word : ℕ) (opened : Bool)
+    → MayStart a.token.view due.parent due.index due.target → GoesFor a b due.target
+    → StoodInstead b.token.view due.parent due.index due.target word → KeepsDone a b
+    → HelpsOther b c due words word (Ok tt) → GoesOnTo c.token.view token.view
+    → IsTrue opened ↔ IsOpen (now token.view) due.target
+    → Tries a (record c { token = token }) due words (Ok (not opened))
+other_tried a b c token due words word opened may one stood kept h seen iff =
     record {
       on = goes_more a b last due.target one
-          (goes_more b c last due.target h.on (loaded_for c seat due.target (still_ready h.on.on) seen));
-      last = λ is. inl (not_open_shut opened (IsOpen (now seat.view) due.target) iff is);
+          (goes_more b c last due.target h.on (loaded_for c token due.target (still_ready h.on.on) seen));
+      last = λ is. inl (not_open_shut opened (IsOpen (now token.view) due.target) iff is);
       further = λ is.
-          due_further Rebuilds Rebuilds a.seat.view b.seat.view c.seat.view seat.view due.parent
+          due_further Rebuilds Rebuilds a.token.view b.token.view c.token.view token.view due.parent
           due.index due.target word may one.on.gone.went stood h.on.on.gone.went h.settled seen
-          (not_shut_open opened (IsOpen (now seat.view) due.target) iff (same_ok _ _ is));
+          (not_shut_open opened (IsOpen (now token.view) due.target) iff (same_ok _ _ is));
       done = done_more a b last one.on.gone.number kept
           (done_more b c last h.on.on.gone.number h.done
-          (plain_done (λ event. ⊥) load_plain c seat (still_ready h.on.on)
-          (goes_on_went (λ event. ⊥) c.seat.view seat.view seen)));
+          (plain_done (λ event. ⊥) load_plain c token (still_ready h.on.on)
+          (goes_on_went (λ event. ⊥) c.token.view token.view seen)));
       full = tt;
     }
   where
     last : Caller
-    last = record c { seat = seat }
+    last = record c { token = token }
 
 -- ---- attempt after attempt
 
@@ -211,9 +211,9 @@ module _ (a b c : Caller) (due : Due) (words : ℕ) (one : GoesFor a b due.targe
         on = goes_more a b c due.target one t.on;
         shut = tt;
         done = tt;
-        full = subst (IsDueRefused (now a.seat.view) c.seat.view due.target words) (sym same)
-            (due_refused_more (now a.seat.view) (now b.seat.view)
-            (went_grow Rebuilds a.seat.view b.seat.view one.on.gone.went) c.seat.view due.target
+        full = subst (IsDueRefused (now a.token.view) c.token.view due.target words) (sym same)
+            (due_refused_more (now a.token.view) (now b.token.view)
+            (went_grow Rebuilds a.token.view b.token.view one.on.gone.went) c.token.view due.target
             words full t.full);
       }
 

@@ -9,7 +9,7 @@ use Rattle.laws_histories.proofs.CallLemmas.{keep_calls}
 use Rattle.ist_rule.specs.declared.view.View.{View}
 use Rattle.ist_core.specs.declared.events.Who.TheVariants.{Caller as CallerOf}
 use Rattle.ist_core.specs.Authors.{Later}
-use Rattle.ist_rule.specs.Faces.{SeatFace}
+use Rattle.ist_rule.specs.Faces.{TokenFace}
 use Rattle.ist_rule.specs.Learning.{Turned, beginning}
 use Rattle.ist_rule.specs.Rule.{IsSound}
 use Rattle.ist_rule.specs.Standings.{HasMade}
@@ -17,20 +17,20 @@ use Rattle.ist_rule.proofs.LaterLemmas.{later-goes_on}
 use Rattle.ist_rows.specs.declared.callers.Caller.{Caller}
 use Rattle.ist_updates.specs.Asking.{IsAsked}
 use Rattle.ist_tree.specs.Insides.{IsPass}
-use Rattle.ist_tree.proofs.BetweenLemmas.{between_behind, has_its_calls, no_entry_behind}
+use Rattle.ist_tree.proofs.IdleCallerLemmas.{between_behind, has_its_calls, no_entry_behind}
 use Rattle.ist_tree.proofs.GoingLemmas.{IsLaterView, caller_on, lawful_behind}
 use Rattle.std.proofs.Math.Nat.{le_refl}
 
-module _ (who : Caller) (seat : SeatFace) (command : Command) (s : IsSound who.seat.view)
+module _ (who : Caller) (token : TokenFace) (command : Command) (s : IsSound who.token.view)
     (p : IsPass who)
-    (begun : Turned who.seat.view (beginning who.seat.view (Some command)) seat.view) where
+    (begun : Turned who.token.view (beginning who.token.view (Some command)) token.view) where
   -- the view before the call
   abbrev v : View
-  v = who.seat.view
+  v = who.token.view
 
   -- the view when the call has begun
   abbrev b : View
-  b = seat.view
+  b = token.view
 
   later : Later (CallerOf who.number) v.log b.log
   later = subst (λ x. Later x v.log b.log) p.caller.mine begun.later
@@ -56,9 +56,9 @@ module _ (who : Caller) (seat : SeatFace) (command : Command) (s : IsSound who.s
       later) (le_refl v.stamp) (has_its_calls v who.number s p.caller.mine p.in_none))
 
   -- the caller was asked
-  pub begun_asked : IsAsked (record who { seat = seat }) command
+  pub begun_asked : IsAsked (record who { token = token }) command
   begun_asked =
-      let it = caller_on who seat p.caller p.refused begun_view in
+      let it = caller_on who token p.caller p.refused begun_view in
       let between = between_behind v who.number s p.caller.mine p.in_none b.log
       (lawful_behind v b begun_view) later in
       record {

@@ -17,12 +17,12 @@ use Rattle.laws_histories.proofs.CallLemmas.{stand_on}
 use Rattle.laws_histories.proofs.EntryLemmas.{entry_update}
 use Rattle.ist_rule.specs.declared.view.View.{View}
 use Rattle.ist_rule.specs.declared.view.Taken.{Taken}
-use Rattle.ist_rule.specs.Faces.{SeatFace}
+use Rattle.ist_rule.specs.Faces.{TokenFace}
 use Rattle.ist_rule.specs.Rule.{IsTakenBack}
 use Rattle.ist_rule.specs.Seating.{IsLast}
 use Rattle.ist_rule.specs.Standings.{StandsInPrefix}
 use Rattle.ist_rule.proofs.LaterLemmas.{later-goes_on, goes_on_more}
-use Rattle.laws_settling.proofs.SettledLemmas.{settled}
+use Rattle.laws_calls.proofs.SettledLemmas.{settled}
 use Rattle.ist_tree.specs.Faces.{MakerFace}
 use Rattle.ist_tree.specs.Closing.{calls_numbered, calls_taken, ClosesWith}
 use Rattle.ist_tree.specs.Insides.{taken_pass, maker_face, IsMakerWith, HasSettled}
@@ -41,14 +41,14 @@ record EndsIn (m : MakerFace) (image : List ℕ) (log : Log) (words : ℕ) : Typ
   pub settled : m.refused ≡ false → IsSettled (state_of m.tree.start words log)
 
 -- the last words of a table whose maker took all passes back
-module _ (seat : SeatFace) (image : List ℕ) (refused : Bool) (is : IsMakerWith seat.view refused)
-    (all_back : length (map taken_pass seat.view.taken) ≡ seat.view.made)
-    (last : IsLast seat.view image) where
+module _ (token : TokenFace) (image : List ℕ) (refused : Bool) (is : IsMakerWith token.view refused)
+    (all_back : length (map taken_pass token.view.taken) ≡ token.view.made)
+    (last : IsLast token.view image) where
   abbrev v : View
-  v = seat.view
+  v = token.view
 
   abbrev m : MakerFace
-  m = maker_face seat refused
+  m = maker_face token refused
 
   -- it has as many callers as passes were made
   made_is : v.made ≡ (state_of v.start v.words last.log).callers

@@ -7,16 +7,16 @@ use Rattle.ist_core.specs.declared.events.Who.TheVariants.{Caller as CallerOf}
 use Rattle.ist_core.specs.declared.ports.Full.{Full}
 use Rattle.ist_core.specs.Authors.{Later, whose}
 use Rattle.ist_core.specs.Logs.{GoesOn, Log, same_log}
-use Rattle.laws_settling.proofs.DoneLemmas.{others_count_nothing}
+use Rattle.laws_calls.proofs.DoneLemmas.{others_count_nothing}
 use Rattle.ist_rule.proofs.LaterLemmas.{goes_on_more}
-use Rattle.ist_rule.specs.Faces.{SeatFace}
+use Rattle.ist_rule.specs.Faces.{TokenFace}
 use Rattle.ist_rows.specs.declared.callers.Caller.{Caller}
 use Rattle.ist_updates.specs.Counting.{CountedNowhere}
 use Rattle.ist_tree.specs.DueRows.{CountsNowhere}
 use Rattle.ist_tree.specs.Insides.{face_as, pass_face}
-use Rattle.ist_tree.proofs.CameLemmas.{event_since, in_order, whole_or_before}
+use Rattle.ist_tree.proofs.RowAtLimitLemmas.{event_since, in_order, whole_or_before}
 use Rattle.ist_tree.proofs.InstallLemmas.{not_before}
-use Rattle.ist_tree.proofs.WayLemmas as way
+use Rattle.ist_tree.proofs.UpdateSeenLemmas as way
 
 module _ (number : ℕ) where
   -- if the caller counted nowhere in two parts of a log, it did so nowhere in both together
@@ -44,19 +44,19 @@ module _ (number : ℕ) where
       (event_since (λ event. whose event ≢ CallerOf number) (Count number node) a k.at b l k.until)
 
 -- a call whose work counted nowhere counted nowhere
-pub way_counted : (who began new : Caller) (seat : SeatFace) (command : Command)
-    → way.IsWay who began new seat command → (r q : Option Full)
-    → CountedNowhere began.seat.view.log new.seat.view.log began.number
-    → CountsNowhere (pass_face who r) (face_as seat new.number q)
-way_counted who began new seat command it r q none =
-    let v = who.seat.view.log in
-    let b = began.seat.view.log in
-    let w = new.seat.view.log in
-    let x = seat.view.log in
+pub way_counted : (who began new : Caller) (token : TokenFace) (command : Command)
+    → way.IsWay who began new token command → (r q : Option Full)
+    → CountedNowhere began.token.view.log new.token.view.log began.number
+    → CountsNowhere (pass_face who r) (face_as token new.number q)
+way_counted who began new token command it r q none =
+    let v = who.token.view.log in
+    let b = began.token.view.log in
+    let w = new.token.view.log in
+    let x = token.view.log in
     let n = who.number in
     counted_more n v b x
-    (goes_on_more (way.b_to_w who began new seat command it) (way.w_to_x who began new seat command it))
-    (others_counted n v b (way.later_b who began new seat command it))
-    (counted_more n b w x (way.w_to_x who began new seat command it)
+    (goes_on_more (way.b_to_w who began new token command it) (way.w_to_x who began new token command it))
+    (others_counted n v b (way.later_b who began new token command it))
+    (counted_more n b w x (way.w_to_x who began new token command it)
     (subst (λ m. CountedNowhere b w m) it.began_number none)
-    (others_counted n w x (way.later_x who began new seat command it)))
+    (others_counted n w x (way.later_x who began new token command it)))

@@ -18,10 +18,10 @@ use Rattle.ist_core.proofs.ReferenceLemmas.{ref_of-word_of, word_of-ref_of}
 use Rattle.laws_links.proofs.ClosedLemmas.{linked_now}
 use Rattle.laws_links.proofs.LinkLemmas.{open_unfinished}
 use Rattle.laws_links.proofs.FinishedLemmas.{target_grows}
-use Rattle.laws_settling.proofs.DueLemmas.{due_was_linked}
+use Rattle.laws_calls.proofs.DueLemmas.{due_was_linked}
 use Rattle.laws_stability.proofs.LaterLemmas.{ever_later}
-use Rattle.laws_progress.specs.Standing.{StandsAtRow, by_change, by_rebuild, its_own}
-use Rattle.laws_progress.proofs.StandingLemmas.{open_stands_for}
+use Rattle.laws_stability.specs.Standing.{StandsAtRow, by_change, by_rebuild, its_own}
+use Rattle.laws_stability.proofs.StandingLemmas.{open_stands_for}
 use Rattle.ist_rule.specs.declared.view.View.{View}
 use Rattle.ist_rule.specs.Going.{WentOn}
 use Rattle.ist_rule.specs.Learning.{now, GoesOnTo}

@@ -6,14 +6,14 @@ use Rattle.ist_core.specs.Rebuilding.{IsReplaced}
 use Rattle.ist_core.specs.Snapshots.{Snapshot}
 use Rattle.ist_rule.specs.declared.view.View.{View}
 use Rattle.ist_rule.specs.Going.{WentOn}
-use Rattle.ist_rule.specs.Faces.{SeatFace}
+use Rattle.ist_rule.specs.Faces.{TokenFace}
 use Rattle.ist_rule.specs.Learning.{GoesOnTo, now}
 use Rattle.ist_rule.specs.Rule.{IsSound}
 use Rattle.ist_rule.proofs.WentOnLemmas.{goes_on_went, went_all, went_more, went_same}
 use Rattle.ist_rows.specs.declared.callers.Caller.{Caller}
 use Rattle.ist_rows.specs.Building.{HasRefused}
 use Rattle.ist_rows.specs.Rows.{IsCaller}
-use Rattle.laws_settling.specs.Settling.{StartsAreDone}
+use Rattle.laws_calls.specs.Settling.{StartsAreDone}
 use Rattle.ist_rebuild.specs.declared.answers.Helped.{Helped}
 use Rattle.ist_rebuild.specs.declared.answers.Helped.TheVariants.{Replaced, ParentMarked}
 use Rattle.ist_rebuild.specs.declared.answers.Started.{Started}
@@ -26,14 +26,14 @@ use Rattle.ist_tree.specs.Attempts.{GoesFor}
 use Rattle.ist_tree.specs.Working.{Rebuilds, IsShut, KeepsDone}
 use Rattle.ist_tree.proofs.EventLemmas.{IsPlainHelp, begins_rebuild, serves_aims, serves_rebuild}
 use Rattle.ist_tree.proofs.RebuildLemmas.{load_plain, plain_on}
-use Rattle.ist_tree.proofs.ShutLemmas.{left_is_shut, replaced_is_shut}
+use Rattle.ist_tree.proofs.HelpedRebuildLemmas.{left_is_shut, replaced_is_shut}
 use Rattle.ist_rows.proofs.GoneLemmas.{ready_all, ready_more, ready_same}
 
 -- ---- going on
 
 -- a caller that began a rebuild went on
 pub begins_on : (old new : Caller) → IsReady old → IsCaller new → (HasRefused old → HasRefused new)
-    → IsQuiet new → WentOn Begins old.seat.view new.seat.view → new.number ≡ old.number
+    → IsQuiet new → WentOn Begins old.token.view new.token.view → new.number ≡ old.number
     → StaysReady Rebuilds old new
 begins_on old new r c refused quiet went number =
     ready_all Begins Rebuilds begins_rebuild old new record {
@@ -47,8 +47,8 @@ serves_on old new h = ready_all Serves Rebuilds serves_rebuild old new h.on
 
 -- a caller that began a rebuild of the target went on for it
 pub begins_for : (old new : Caller) (target : ℕ) → IsReady old → IsCaller new
-    → (HasRefused old → HasRefused new) → IsQuiet new → WentOn Begins old.seat.view new.seat.view
-    → new.number ≡ old.number → WentOn (StartsAt target) old.seat.view new.seat.view
+    → (HasRefused old → HasRefused new) → IsQuiet new → WentOn Begins old.token.view new.token.view
+    → new.number ≡ old.number → WentOn (StartsAt target) old.token.view new.token.view
     → GoesFor old new target
 begins_for old new target r c refused quiet went number aims =
     record { on = begins_on old new r c refused quiet went number; aims = aims }
@@ -58,35 +58,35 @@ pub helped_for : (old new : Caller) (target : ℕ) → HasHelped old new → Goe
 helped_for old new target h =
     record {
       on = serves_on old new h;
-      aims = went_all Serves (StartsAt target) (serves_aims target) old.seat.view new.seat.view
+      aims = went_all Serves (StartsAt target) (serves_aims target) old.token.view new.token.view
           h.on.gone.went;
     }
 
 -- nor did one that made only plain steps of help
 pub plain_for : (P : Event → Type 0) → ((event : Event) → P event → IsPlainHelp event)
     → (target : ℕ) → ((event : Event) → P event → StartsAt target event) → (who : Caller)
-    → (seat : SeatFace) → IsReady who → WentOn P who.seat.view seat.view
-    → GoesFor who (record who { seat = seat }) target
-plain_for P all target aims who seat r went =
+    → (token : TokenFace) → IsReady who → WentOn P who.token.view token.view
+    → GoesFor who (record who { token = token }) target
+plain_for P all target aims who token r went =
     record {
-      on = plain_on P all who seat r went;
-      aims = went_all P (StartsAt target) aims who.seat.view seat.view went;
+      on = plain_on P all who token r went;
+      aims = went_all P (StartsAt target) aims who.token.view token.view went;
     }
 
 -- nor one that loaded a word
-pub loaded_for : (who : Caller) (seat : SeatFace) (target : ℕ) → IsReady who
-    → GoesOnTo who.seat.view seat.view → GoesFor who (record who { seat = seat }) target
-loaded_for who seat target r seen =
-    plain_for (λ event. ⊥) load_plain target (λ event never. absurd never) who seat r
-    (goes_on_went (λ event. ⊥) who.seat.view seat.view seen)
+pub loaded_for : (who : Caller) (token : TokenFace) (target : ℕ) → IsReady who
+    → GoesOnTo who.token.view token.view → GoesFor who (record who { token = token }) target
+loaded_for who token target r seen =
+    plain_for (λ event. ⊥) load_plain target (λ event never. absurd never) who token r
+    (goes_on_went (λ event. ⊥) who.token.view token.view seen)
 
 -- nor one that did nothing
-pub goes_none : (who : Caller) (target : ℕ) → IsSound who.seat.view → IsReady who
+pub goes_none : (who : Caller) (target : ℕ) → IsSound who.token.view → IsReady who
     → GoesFor who who target
 goes_none who target s r =
     record {
       on = ready_same Rebuilds who s r;
-      aims = went_same (StartsAt target) who.seat.view s;
+      aims = went_same (StartsAt target) who.token.view s;
     }
 
 -- two such steps are one
@@ -95,7 +95,7 @@ pub goes_more : (a b c : Caller) (target : ℕ) → GoesFor a b target → GoesF
 goes_more a b c target one two =
     record {
       on = ready_more Rebuilds a b c one.on two.on;
-      aims = went_more (StartsAt target) a.seat.view b.seat.view c.seat.view one.aims two.aims;
+      aims = went_more (StartsAt target) a.token.view b.token.view c.token.view one.aims two.aims;
     }
 
 -- ---- what starting left done
@@ -143,5 +143,5 @@ helped_shut v w went rebuild parent index target s either =
 pub done_more : (a b c : Caller) → b.number ≡ a.number → KeepsDone a b → KeepsDone b c
     → KeepsDone a c
 done_more a b c number one two done =
-    subst (StartsAreDone (now c.seat.view)) number
-    (two (subst (StartsAreDone (now b.seat.view)) (sym number) (one done)))
+    subst (StartsAreDone (now c.token.view)) number
+    (two (subst (StartsAreDone (now b.token.view)) (sym number) (one done)))

@@ -7,7 +7,7 @@ use Rattle.ist_core.specs.Rebuilding.{IsUpdate}
 use Rattle.ist_core.specs.Statuses.{start_kind, finish_kind}
 use Rattle.ist_dcss.specs.Helping as dcss
 use Rattle.ist_rows.specs.CallerLaws.{KeepsRows, InstallsNone}
-use Rattle.laws_settling.specs.Settling.{InstallsNoStart, CountsNothing}
+use Rattle.laws_calls.specs.Settling.{InstallsNoStart, CountsNothing}
 use Rattle.ist_rebuild.specs.Going.{Begins, Serves, StartsAt}
 use Rattle.ist_updates.specs.Asking.{Updates}
 use Rattle.ist_tree.specs.Working.{Rebuilds, Works}

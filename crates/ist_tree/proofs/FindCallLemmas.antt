@@ -4,7 +4,7 @@ use Rattle.std.proofs.Common.{◌≡◌, ℕ, Option, ap}
 use Rattle.ist_core.specs.declared.ports.Full.{Full}
 use Rattle.ist_rule.specs.declared.view.View.{View}
 use Rattle.ist_rule.specs.Conditions.{CanEnd, CanGiveUp}
-use Rattle.ist_rule.specs.Faces.{SeatFace}
+use Rattle.ist_rule.specs.Faces.{TokenFace}
 use Rattle.ist_rule.specs.Learning.{Turned, ending, giving_up}
 use Rattle.ist_rows.specs.declared.callers.Caller.{Caller}
 use Rattle.ist_find.specs.declared.answers.Found.{Found}
@@ -17,20 +17,20 @@ use Rattle.ist_tree.proofs.LookedLemmas.{can_leave, find_leaves, only_saw}
 use Rattle.ist_tree.proofs.PositionLemmas.{found_call}
 
 -- what a find results in whose call ends
-pub record EndsFound (old : PassFace) (who : Caller) (refused : Option Full) (seat : SeatFace)
+pub record EndsFound (old : PassFace) (who : Caller) (refused : Option Full) (token : TokenFace)
     (key : ℕ) (value : Option ℕ) : Type 0 where
-  pub ends : FindEnds old who refused seat key value
-  pub finds : OnlyFinds old (face_as seat who.number refused)
+  pub ends : FindEnds old who refused token key value
+  pub finds : OnlyFinds old (face_as token who.number refused)
 
 -- what a find results in whose call is given up
-pub record StopsFound (old : PassFace) (who : Caller) (refused : Option Full) (seat : SeatFace)
+pub record StopsFound (old : PassFace) (who : Caller) (refused : Option Full) (token : TokenFace)
     (key : ℕ) (value : Option ℕ) : Type 0 where
-  pub pass : IsPassWith (record who { seat = seat }) refused
-  pub finds : OnlyFinds old (face_as seat who.number refused)
-  pub met : HasMetAt old (face_as seat who.number refused) key value
+  pub pass : IsPassWith (record who { token = token }) refused
+  pub finds : OnlyFinds old (face_as token who.number refused)
+  pub met : HasMetAt old (face_as token who.number refused) key value
 
 module _ (who : Caller) (key : ℕ) (found : Found) (w : View) (p : IsPass who)
-    (it : Finds who.seat.view w key found) where
+    (it : Finds who.token.view w key found) where
   -- the call may end with what was found
   pub may_end_found : CanEnd w (found_call w found.value)
   may_end_found = can_end who key found.value it.began w it.sound p it.begun it.seen it.position
@@ -39,18 +39,18 @@ module _ (who : Caller) (key : ℕ) (found : Found) (w : View) (p : IsPass who)
   pub may_stop_found : CanGiveUp w
   may_stop_found = can_leave who key found.value it.began w it.sound p it.begun it.seen it.position
 
-  module _ (seat : SeatFace) (refused : Option Full) (all : IsPassWith who refused)
-      (table : seat.table ≡ who.seat.table) (old : PassFace) (view : pass_face who refused ≡ old) where
+  module _ (token : TokenFace) (refused : Option Full) (all : IsPassWith who refused)
+      (table : token.table ≡ who.token.table) (old : PassFace) (view : pass_face who refused ≡ old) where
     -- a call that ends adds a get
-    pub ends_found : Turned w (ending w (found_call w found.value)) seat.view
-        → EndsFound old who refused seat key found.value
+    pub ends_found : Turned w (ending w (found_call w found.value)) token.view
+        → EndsFound old who refused token key found.value
     ends_found ended =
-        let e = find_ends who key found.value it.began w it.sound p it.begun it.seen it.position seat
+        let e = find_ends who key found.value it.began w it.sound p it.begun it.seen it.position token
         refused all table ended old view found.node found.index it.slot it.few in
         record {
           ends = e;
           finds = record {
-            idle = only_saw old (face_as seat who.number refused) e.seen
+            idle = only_saw old (face_as token who.number refused) e.seen
                 (ap (λ (o : PassFace). o.refused) view) e.others;
             one_walk = e.loads.once;
             done = λ none. (e.pass.settled none).starts;
@@ -58,12 +58,12 @@ module _ (who : Caller) (key : ℕ) (found : Found) (w : View) (p : IsPass who)
         }
 
     -- a call that is given up leaves the calls as they were
-    pub stops_found : Turned w (giving_up w) seat.view
-        → StopsFound old who refused seat key found.value
+    pub stops_found : Turned w (giving_up w) token.view
+        → StopsFound old who refused token key found.value
     stops_found given =
-        let l = find_leaves who key found.value it.began w it.sound p it.begun it.seen it.position seat
+        let l = find_leaves who key found.value it.began w it.sound p it.begun it.seen it.position token
         refused all table given old view in
-        let idle = only_saw old (face_as seat who.number refused) l.seen
+        let idle = only_saw old (face_as token who.number refused) l.seen
         (ap (λ (o : PassFace). o.refused) view) l.others in
         record {
           pass = l.pass;

@@ -22,7 +22,7 @@ use Rattle.ist_core.specs.Authors.{Later}
 use Rattle.ist_rule.specs.Rule.{IsSound}
 use Rattle.ist_rule.specs.Conditions.{CanEnd}
 use Rattle.ist_rule.proofs.LaterLemmas.{later-goes_on, later_more}
-use Rattle.ist_tree.proofs.BetweenLemmas.{between_behind, no_entry_behind, has_its_calls}
+use Rattle.ist_tree.proofs.IdleCallerLemmas.{between_behind, no_entry_behind, has_its_calls}
 use Rattle.ist_tree.proofs.PositionLemmas.{position_of, IsPlace, first_place, found_call}
 
 -- a longer log has no fewer changes
@@ -84,10 +84,6 @@ module _ (v : View) (number key : ℕ) (s : IsSound v) (mine : v.who ≡ CallerO
       (has_its_calls v number s mine none) (later-goes_on all_later)
       (no_entry_behind v number s mine none log lawful all_later) refl
       (its_fresh v.log (later-goes_on before)) its_read
-
-  -- the call of the get is added to the pass's calls
-  pub its_added : IsAdded v.start v.words v.log log number v.stamp v.calls (get_call v key earlier log value)
-  its_added = record { has_calls = its_calls; fresh = its_fresh v.log (later-goes_on before) }
 
   -- the call is the one that is picked
   pub found_is : (loads : Loads) (loaded searches : ℕ)

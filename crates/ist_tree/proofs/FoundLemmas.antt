@@ -8,7 +8,7 @@ use Rattle.ist_core.specs.Logs.{Log, GoesOn}
 use Rattle.ist_core.specs.Lawful.{Lawful, state_of}
 use Rattle.ist_core.specs.Standing.{IsFresh}
 use Rattle.ist_core.proofs.FateLemmas.{grow_between}
-use Rattle.laws_walks.specs.Walking.{IsChainOf}
+use Rattle.laws_calls.specs.Walking.{IsChainOf}
 use Rattle.laws_histories.specs.Calls.{HasCalls}
 use Rattle.laws_histories.specs.Searching.{HasPosition, Searched}
 use Rattle.laws_histories.proofs.LoadOnLemmas.{end_on}
@@ -19,7 +19,7 @@ use Rattle.ist_rule.specs.declared.view.Loads.{Loads}
 use Rattle.ist_core.specs.declared.events.Who.{Who}
 use Rattle.ist_core.specs.declared.events.Who.TheVariants.{Caller as CallerOf}
 use Rattle.ist_core.specs.Authors.{Later}
-use Rattle.ist_rule.specs.Faces.{SeatFace}
+use Rattle.ist_rule.specs.Faces.{TokenFace}
 use Rattle.ist_rule.specs.Rule.{IsSound}
 use Rattle.ist_rule.specs.Learning.{Turned, beginning, ending}
 use Rattle.ist_rule.specs.Conditions.{CanEnd}
@@ -29,21 +29,21 @@ use Rattle.ist_find.specs.Searches.{HasSearched, HasFound, HasFewLoads}
 use Rattle.ist_tree.specs.Faces.{PassFace}
 use Rattle.ist_tree.specs.Calls.{HasSeenMore, AddsCall, row_loads, HasLoadedFew}
 use Rattle.ist_tree.specs.Insides.{face_as, pass_face, IsPass, IsPassWith}
-use Rattle.ist_tree.proofs.BetweenLemmas.{has_its_calls}
+use Rattle.ist_tree.proofs.IdleCallerLemmas.{has_its_calls}
 use Rattle.ist_tree.proofs.GoingLemmas.{IsLaterView, lawful_behind, pass_with_later}
 use Rattle.ist_tree.proofs.LoadingLemmas.{chain_on, costs_rise}
 use Rattle.ist_tree.proofs.PositionLemmas.{found_call}
 use Rattle.ist_tree.proofs.FindingLemmas.{searched_view, get_call, its_fresh, may_end, found_is}
 
 -- what a find results in, for a pass with this face
-pub record FindEnds (old : PassFace) (who : Caller) (refused : Option Full) (seat : SeatFace)
+pub record FindEnds (old : PassFace) (who : Caller) (refused : Option Full) (token : TokenFace)
     (key : ℕ) (value : Option ℕ) : Type 0 where
-  pub pass : IsPassWith (record who { seat = seat }) refused
-  pub seen : HasSeenMore old (face_as seat who.number refused)
-  pub added : AddsCall old (face_as seat who.number refused) (Get key) value
-  pub position : HasPosition old.tree.start old.tree.words old.seen seat.view.log key value
-  pub loads : HasLoadedFew old (face_as seat who.number refused) key value
-  pub others : Later (CallerOf old.number) old.seen seat.view.log
+  pub pass : IsPassWith (record who { token = token }) refused
+  pub seen : HasSeenMore old (face_as token who.number refused)
+  pub added : AddsCall old (face_as token who.number refused) (Get key) value
+  pub position : HasPosition old.tree.start old.tree.words old.seen token.view.log key value
+  pub loads : HasLoadedFew old (face_as token who.number refused) key value
+  pub others : Later (CallerOf old.number) old.seen token.view.log
 
 -- the view after a find
 abbrev pub ended_view : View → Log → Log → Call → Loads → ℕ → ℕ → View
@@ -59,12 +59,12 @@ ended_view v log last call loads loaded searches =
     }
 
 -- the caller began a get and searched
-module _ (who : Caller) (key : ℕ) (value : Option ℕ) (b w : View) (s : IsSound who.seat.view)
-    (p : IsPass who) (begun : Turned who.seat.view (beginning who.seat.view (Some (Get key))) b)
+module _ (who : Caller) (key : ℕ) (value : Option ℕ) (b w : View) (s : IsSound who.token.view)
+    (p : IsPass who) (begun : Turned who.token.view (beginning who.token.view (Some (Get key))) b)
     (seen : HasSearched b w) (has : HasPosition w.start w.words b.log w.log key value) where
   -- the view before the find
   abbrev v : View
-  v = who.seat.view
+  v = who.token.view
 
   -- what became of its view
   pub w_is : w ≡ searched_view v key b.log w.log w.loads w.loaded w.searches
@@ -114,12 +114,12 @@ module _ (who : Caller) (key : ℕ) (value : Option ℕ) (b w : View) (s : IsSou
       its_position v.log (later-goes_on before)
 
   -- and ended it
-  module _ (seat : SeatFace) (refused : Option Full) (all : IsPassWith who refused)
-      (same_table : seat.table ≡ who.seat.table)
-      (ended : Turned w (ending w (found_call w value)) seat.view) where
+  module _ (token : TokenFace) (refused : Option Full) (all : IsPassWith who refused)
+      (same_table : token.table ≡ who.token.table)
+      (ended : Turned w (ending w (found_call w value)) token.view) where
     -- the view after the find
     abbrev x : View
-    x = seat.view
+    x = token.view
 
     x_is : x ≡ ended_view v w.log x.log call w.loads (w.loaded + 1) w.searches
     x_is =
@@ -144,12 +144,12 @@ module _ (who : Caller) (key : ℕ) (value : Option ℕ) (b w : View) (s : IsSou
         }
 
     -- it is a pass still
-    pub ended_pass : IsPassWith (record who { seat = seat }) refused
+    pub ended_pass : IsPassWith (record who { token = token }) refused
     ended_pass =
-        pass_with_later who seat refused all later_view (ap (λ (y : View). y.pending) x_is)
+        pass_with_later who token refused all later_view (ap (λ (y : View). y.pending) x_is)
 
     -- which has seen more
-    pub has_seen_more : HasSeenMore (pass_face who refused) (face_as seat who.number refused)
+    pub has_seen_more : HasSeenMore (pass_face who refused) (face_as token who.number refused)
     has_seen_more =
         record {
           tree = tree_same;
@@ -158,7 +158,7 @@ module _ (who : Caller) (key : ℕ) (value : Option ℕ) (b w : View) (s : IsSou
           stamp = let up = ap (λ (y : View). y.stamp) x_is in omega arith;
         }
       where
-        tree_same : (face_as seat who.number refused).tree ≡ (pass_face who refused).tree
+        tree_same : (face_as token who.number refused).tree ≡ (pass_face who refused).tree
         tree_same = ap₂ (λ t (y : View). record { table = t; start = y.start; words = y.words })
             same_table x_is
 
@@ -169,7 +169,7 @@ module _ (who : Caller) (key : ℕ) (value : Option ℕ) (b w : View) (s : IsSou
         (ap (λ (y : View). y.pending) x_is))
 
     -- and has one more call
-    pub adds_call : AddsCall (pass_face who refused) (face_as seat who.number refused) (Get key) value
+    pub adds_call : AddsCall (pass_face who refused) (face_as token who.number refused) (Get key) value
     adds_call =
         record {
           call = call;
@@ -198,7 +198,7 @@ module _ (who : Caller) (key : ℕ) (value : Option ℕ) (b w : View) (s : IsSou
 
     -- and few loads were made
     pub has_loaded_few : (node index : ℕ) → HasFound w key node index value → HasFewLoads b w key node
-        → HasLoadedFew (pass_face who refused) (face_as seat who.number refused) key value
+        → HasLoadedFew (pass_face who refused) (face_as token who.number refused) key value
     has_loaded_few node index found few =
         let now_lawful = lawful_behind v x later_view in
         let searched = subst (λ (y : View). Searched y.start y.words w.log key w.loads.since node value)
@@ -215,7 +215,7 @@ module _ (who : Caller) (key : ℕ) (value : Option ℕ) (b w : View) (s : IsSou
         let more = seen.searches in
         let none = ap (λ (y : View). y.searches) begun.view in
         subst (λ (y : View). HasLoadedFew (pass_face who refused)
-        (face_as record { table = seat.table; view = y } who.number refused) key value) (sym x_is)
+        (face_as record { table = token.table; view = y } who.number refused) key value) (sym x_is)
         record {
           once = omega (arith, more, none);
           began = w.loads.since;
@@ -230,9 +230,9 @@ module _ (who : Caller) (key : ℕ) (value : Option ℕ) (b w : View) (s : IsSou
     -- all of this together, for a pass with this face
     pub find_ends : (old : PassFace) → pass_face who refused ≡ old → (node index : ℕ)
         → HasFound w key node index value → HasFewLoads b w key node
-        → FindEnds old who refused seat key value
+        → FindEnds old who refused token key value
     find_ends old view node index found few =
-        subst (λ (o : PassFace). FindEnds o who refused seat key value) view
+        subst (λ (o : PassFace). FindEnds o who refused token key value) view
         record {
           pass = ended_pass;
           seen = has_seen_more;

@@ -13,7 +13,7 @@ use Rattle.ist_rule.specs.Learning.{now}
 use Rattle.ist_rule.proofs.LaterLemmas.{goes_on_more}
 use Rattle.ist_rule.proofs.WentOnLemmas.{later_by-goes_on, went_lawful, went_now}
 use Rattle.ist_rows.specs.declared.callers.Caller.{Caller}
-use Rattle.laws_settling.specs.Settling.{StartsAreDone}
+use Rattle.laws_calls.specs.Settling.{StartsAreDone}
 use Rattle.ist_tree.specs.declared.freezing.Frozen.{Frozen}
 use Rattle.ist_tree.specs.declared.freezing.Outcome.{Outcome}
 use Rattle.ist_tree.specs.declared.freezing.Site.TheVariants.{Rebuilt, Still}
@@ -57,27 +57,27 @@ target_frozen a b c words rebuild target outcome m f =
       done = λ unrefused done.
           subst (StartsAreDone (now w)) m.on.gone.number
           (f.done unrefused
-          (subst (λ n. StartsAreDoneBut (now b.seat.view) n rebuild) (sym m.on.gone.number)
+          (subst (λ n. StartsAreDoneBut (now b.token.view) n rebuild) (sym m.on.gone.number)
           (m.done done)));
       rebuilt = λ row e.
           subst (λ n. IsRebuiltIn (now w) n outcome.refused)
           (one_inner target row (sym (ap ref_meant f.root_is) ∙ e))
           record {
             rebuild = rebuild;
-            of = rebuild_on Rebuilds b.seat.view c.seat.view f.on.gone.went rebuild target m.is.0;
+            of = rebuild_on Rebuilds b.token.view c.token.view f.on.gone.went rebuild target m.is.0;
             replaced = f.replaced;
           };
       refused = cause outcome.refused f.refused;
     }
   where
-    cause : (o : Option Full) → IfSome o (IsHelpShort c.seat.view rebuild words)
-        → IfSome o (IsTopShort a.seat.view c.seat.view words)
+    cause : (o : Option Full) → IfSome o (IsHelpShort c.token.view rebuild words)
+        → IfSome o (IsTopShort a.token.view c.token.view words)
     cause None h = tt
     cause (Some full) h =
         record {
           rebuild = rebuild;
           target = target;
-          of = rebuild_on Rebuilds b.seat.view c.seat.view f.on.gone.went rebuild target m.is.0;
+          of = rebuild_on Rebuilds b.token.view c.token.view f.on.gone.went rebuild target m.is.0;
           top = record {
             at = m.is.1.at;
             since = m.is.1.since;
@@ -88,10 +88,10 @@ target_frozen a b c words rebuild target outcome m f =
         }
 
     v : View
-    v = a.seat.view
+    v = a.token.view
 
     w : View
-    w = c.seat.view
+    w = c.token.view
 
     all : StaysReady Rebuilds a c
     all = ready_more Rebuilds a b c m.on f.on

@@ -10,20 +10,20 @@ use Rattle.ist_core.specs.StartLayout.{start}
 use Rattle.ist_rule.specs.declared.view.View.{View}
 use Rattle.ist_core.specs.Authors.{Later}
 use Rattle.ist_rule.specs.Conditions.{CanGiveUp, IsResolved}
-use Rattle.ist_rule.specs.Faces.{SeatFace}
+use Rattle.ist_rule.specs.Faces.{TokenFace}
 use Rattle.ist_rule.specs.Learning.{Turned, beginning, giving_up}
 use Rattle.ist_rule.specs.Rule.{IsSound}
 use Rattle.ist_rule.specs.Standings.{HasMade, IsBetween}
 use Rattle.ist_rule.proofs.LaterLemmas.{goes_on_more, later-goes_on}
 use Rattle.ist_rule.proofs.WentOnLemmas.{later_by-goes_on}
 use Rattle.ist_rows.specs.declared.callers.Caller.{Caller}
-use Rattle.laws_settling.specs.Settling.{DueRowsAreClosed}
+use Rattle.laws_calls.specs.Settling.{DueRowsAreClosed}
 use Rattle.ist_tree.specs.Calls.{HasSeenMore}
 use Rattle.ist_tree.specs.Insides.{HasSettled, IsPass, IsPassWith, face_as, pass_face}
 use Rattle.ist_tree.specs.Working.{KeepsDone, Rebuilds}
 use Rattle.ist_rows.specs.Going.{IsReady, StaysReady}
-use Rattle.ist_tree.proofs.BetweenLemmas.{between_behind}
-use Rattle.ist_tree.proofs.CarryLemmas.{rebuilt_no_entry}
+use Rattle.ist_tree.proofs.IdleCallerLemmas.{between_behind}
+use Rattle.ist_tree.proofs.UpdateKeptLemmas.{rebuilt_no_entry}
 use Rattle.ist_tree.proofs.EventLemmas.{rebuilds_count_none}
 use Rattle.ist_tree.proofs.GoingLemmas.{IsLaterView, caller_on, lawful_behind}
 use Rattle.ist_tree.proofs.RebuildLemmas.{due_went}
@@ -31,9 +31,9 @@ use Rattle.ist_tree.proofs.SettlingLemmas.{settled_later}
 
 -- ---- the beginning
 
-module _ (who : Caller) (seat : SeatFace) (s : IsSound who.seat.view) (p : IsPass who)
-    (begun : Turned who.seat.view (beginning who.seat.view None) seat.view) where
-  begun_view : IsLaterView who.seat.view seat.view
+module _ (who : Caller) (token : TokenFace) (s : IsSound who.token.view) (p : IsPass who)
+    (begun : Turned who.token.view (beginning who.token.view None) token.view) where
+  begun_view : IsLaterView who.token.view token.view
   begun_view =
       record {
         who_is = ap (λ (y : View). y.who) begun.view;
@@ -43,54 +43,54 @@ module _ (who : Caller) (seat : SeatFace) (s : IsSound who.seat.view) (p : IsPas
         sound = begun.sound;
       }
 
-  begun_between : IsBetween who.seat.view.start who.seat.view.words seat.view.log who.number
-      who.seat.view.calls
+  begun_between : IsBetween who.token.view.start who.token.view.words token.view.log who.number
+      who.token.view.calls
   begun_between =
-      between_behind who.seat.view who.number s p.caller.mine p.in_none seat.view.log
-      (lawful_behind who.seat.view seat.view begun_view)
-      (subst (λ x. Later x who.seat.view.log seat.view.log) p.caller.mine begun.later)
+      between_behind who.token.view who.number s p.caller.mine p.in_none token.view.log
+      (lawful_behind who.token.view token.view begun_view)
+      (subst (λ x. Later x who.token.view.log token.view.log) p.caller.mine begun.later)
 
   -- the caller has all its changes resolved
-  pub begun_ready : IsReady (record who { seat = seat })
+  pub begun_ready : IsReady (record who { token = token })
   begun_ready =
-      let it = caller_on who seat p.caller p.refused begun_view in
+      let it = caller_on who token p.caller p.refused begun_view in
       record {
         caller = it.caller;
         refused = it.refused;
         quiet = record {
-          pending = record { command = None; length = length seat.view.log };
+          pending = record { command = None; length = length token.view.log };
           in_call = ap (λ (y : View). y.pending) begun.view;
           resolved =
-              subst (λ (y : View). AllResolvedOf (state_of y.start y.words seat.view.log) seat.view.log
+              subst (λ (y : View). AllResolvedOf (state_of y.start y.words token.view.log) token.view.log
               who.number) (sym begun.view) begun_between.resolved;
         };
       }
 
   -- and its entries are its calls' entries
-  pub begun_made : HasMade seat.view.start seat.view.words seat.view.log who.number seat.view.calls
+  pub begun_made : HasMade token.view.start token.view.words token.view.log who.number token.view.calls
   begun_made =
-      subst (λ (y : View). HasMade y.start y.words seat.view.log who.number y.calls) (sym begun.view)
+      subst (λ (y : View). HasMade y.start y.words token.view.log who.number y.calls) (sym begun.view)
       begun_between.made
 
 -- ---- the way of a freeze
 
 -- the pass began a call, worked in it by steps of rebuilding, and gave it up
-pub record IsWay (who began new : Caller) (seat : SeatFace) : Type 0 where
-  pub sound : IsSound who.seat.view
+pub record IsWay (who began new : Caller) (token : TokenFace) : Type 0 where
+  pub sound : IsSound who.token.view
   pub pass : IsPass who
   pub began_number : began.number ≡ who.number
-  pub begun : Turned who.seat.view (beginning who.seat.view None) began.seat.view
+  pub begun : Turned who.token.view (beginning who.token.view None) began.token.view
   pub ready : IsReady began
   pub on : StaysReady Rebuilds began new
-  pub given : Turned new.seat.view (giving_up new.seat.view) seat.view
+  pub given : Turned new.token.view (giving_up new.token.view) token.view
 
 -- so it goes
-pub way_of : (who began new : Caller) (seat : SeatFace) → IsSound who.seat.view → IsPass who
+pub way_of : (who began new : Caller) (token : TokenFace) → IsSound who.token.view → IsPass who
     → began.number ≡ who.number
-    → Turned who.seat.view (beginning who.seat.view None) began.seat.view → IsReady began
-    → StaysReady Rebuilds began new → Turned new.seat.view (giving_up new.seat.view) seat.view
-    → IsWay who began new seat
-way_of who began new seat s p number begun ready on given =
+    → Turned who.token.view (beginning who.token.view None) began.token.view → IsReady began
+    → StaysReady Rebuilds began new → Turned new.token.view (giving_up new.token.view) token.view
+    → IsWay who began new token
+way_of who began new token s p number begun ready on given =
     record {
       sound = s;
       pass = p;
@@ -102,17 +102,17 @@ way_of who began new seat s p number begun ready on given =
     }
 
 -- its call may be given up: nothing of it is an entry
-pub may_give_up : (who began new : Caller) → IsSound who.seat.view → IsPass who
+pub may_give_up : (who began new : Caller) → IsSound who.token.view → IsPass who
     → began.number ≡ who.number
-    → Turned who.seat.view (beginning who.seat.view None) began.seat.view → IsReady began
-    → StaysReady Rebuilds began new → CanGiveUp new.seat.view
+    → Turned who.token.view (beginning who.token.view None) began.token.view → IsReady began
+    → StaysReady Rebuilds began new → CanGiveUp new.token.view
 may_give_up who began new s p number begun ready on =
-    let b = began.seat.view in
-    let w = new.seat.view in
+    let b = began.token.view in
+    let w = new.token.view in
     let mine_b = ready.caller.mine in
     let none = rebuilt_no_entry b w began.number mine_b ready.quiet.resolved on.gone.went in
     let made = subst (λ n. HasMade b.start b.words b.log n b.calls) (sym number)
-    (begun_made who began.seat s p begun) in
+    (begun_made who began.token s p begun) in
     record {
       number = new.number;
       mine = on.gone.caller.mine;
@@ -125,26 +125,26 @@ may_give_up who began new s p number begun ready on =
           (sym on.gone.went.same) (none ∙ made));
     }
 
-module _ (who began new : Caller) (seat : SeatFace) (it : IsWay who began new seat) where
+module _ (who began new : Caller) (token : TokenFace) (it : IsWay who began new token) where
   -- the view before the call
   abbrev v : View
-  v = who.seat.view
+  v = who.token.view
 
   -- the view when the call has begun
   abbrev b : View
-  b = began.seat.view
+  b = began.token.view
 
   -- the view after the work
   abbrev w : View
-  w = new.seat.view
+  w = new.token.view
 
   -- the view after the call
   abbrev x : View
-  x = seat.view
+  x = token.view
 
   -- the begun view is later than the first
   pub b_view : IsLaterView v b
-  b_view = begun_view who began.seat it.sound it.pass it.begun
+  b_view = begun_view who began.token it.sound it.pass it.begun
 
   -- the last view is later than the view after the work
   pub x_view : IsLaterView w x
@@ -208,9 +208,9 @@ module _ (who began new : Caller) (seat : SeatFace) (it : IsWay who began new se
   -- ---- the pass after it
 
   -- the caller is a pass again
-  pub ended_pass : IsPass (record new { seat = seat })
+  pub ended_pass : IsPass (record new { token = token })
   ended_pass =
-      let c = caller_on new seat it.on.gone.caller it.on.gone.refused x_view in
+      let c = caller_on new token it.on.gone.caller it.on.gone.refused x_view in
       record {
         caller = c.caller;
         refused = c.refused;
@@ -241,7 +241,7 @@ module _ (who began new : Caller) (seat : SeatFace) (it : IsWay who began new se
 
   -- the caller is a pass again, and all of its own is settled if no rebuild was refused
   pub ended_pass_with : (r q : Option Full) → IsPassWith who r → (q ≡ None → r ≡ None)
-      → (q ≡ None → KeepsDone began new) → IsPassWith (record new { seat = seat }) q
+      → (q ≡ None → KeepsDone began new) → IsPassWith (record new { token = token }) q
   ended_pass_with r q all old done =
       record {
         pass = ended_pass;
@@ -254,8 +254,8 @@ module _ (who began new : Caller) (seat : SeatFace) (it : IsWay who began new se
       }
 
   -- it has seen more
-  pub has_seen_more : (r q : Option Full) → seat.table ≡ who.seat.table
-      → HasSeenMore (pass_face who r) (face_as seat new.number q)
+  pub has_seen_more : (r q : Option Full) → token.table ≡ who.token.table
+      → HasSeenMore (pass_face who r) (face_as token new.number q)
   has_seen_more r q same =
       let stamps = ap (λ (y : View). y.stamp) it.given.view
       ∙ ap (λ (y : View). y.stamp) it.on.gone.went.same
@@ -267,11 +267,11 @@ module _ (who began new : Caller) (seat : SeatFace) (it : IsWay who began new se
         stamp = omega arith;
       }
     where
-      trees : seat.table ≡ who.seat.table
-          → (face_as seat new.number q).tree ≡ (pass_face who r).tree
+      trees : token.table ≡ who.token.table
+          → (face_as token new.number q).tree ≡ (pass_face who r).tree
       trees e =
           ap₂ (λ t pairs. record { table = t; start = pairs; words = x.words }) e x_start
-          ∙ ap (λ words. record { table = who.seat.table; start = v.start; words = words }) x_words
+          ∙ ap (λ words. record { table = who.token.table; start = v.start; words = words }) x_words
 
   -- with the same calls
   pub calls_are : x.calls ≡ v.calls

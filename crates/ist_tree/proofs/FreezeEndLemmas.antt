@@ -16,13 +16,13 @@ use Rattle.ist_core.specs.StartLayout.{start}
 use Rattle.ist_core.proofs.FateLemmas.{grow_between}
 use Rattle.laws_links.proofs.FinishedLemmas.{target_grows}
 use Rattle.laws_links.proofs.FormLemmas.{replaced_grows, started_grows}
-use Rattle.laws_rows.specs.Finishing.{is_put, puts_in}
-use Rattle.laws_rows.proofs.NumberLemmas.{finished_few}
+use Rattle.laws_calls.specs.Finishing.{is_put, puts_in}
+use Rattle.laws_calls.proofs.NumberLemmas.{finished_few}
 use Rattle.laws_histories.proofs.ChangeLemmas.{changes_on}
 use Rattle.ist_rebuild.specs.Helping.{IsAskedFor, for_change, for_row}
 use Rattle.ist_rebuild.specs.Starting.{StartsNone}
 use Rattle.ist_rule.specs.declared.view.View.{View}
-use Rattle.ist_rule.specs.Faces.{SeatFace}
+use Rattle.ist_rule.specs.Faces.{TokenFace}
 use Rattle.ist_rule.specs.Learning.{now}
 use Rattle.ist_rule.proofs.LaterLemmas.{goes_on_more}
 use Rattle.ist_rows.specs.declared.callers.Caller.{Caller}
@@ -38,59 +38,59 @@ use Rattle.ist_tree.proofs.AskedLemmas.{asked_grows, held_on}
 use Rattle.ist_tree.proofs.FreezingLemmas.{was_frozen_on}
 use Rattle.ist_tree.proofs.FreezeCallLemmas.{IsWay}
 use Rattle.ist_tree.proofs.FreezeCallLemmas as way
-use Rattle.ist_tree.proofs.BetweenLemmas.{between_calls}
+use Rattle.ist_tree.proofs.IdleCallerLemmas.{between_calls}
 use Rattle.ist_tree.proofs.StartLemmas.{starts_none_later, starts_none_more}
 
-module _ (who began new : Caller) (seat : SeatFace) (it : IsWay who began new seat) where
+module _ (who began new : Caller) (token : TokenFace) (it : IsWay who began new token) where
   -- the view before the call
   abbrev v : View
-  v = who.seat.view
+  v = who.token.view
 
   -- the view when the call has begun
   abbrev b : View
-  b = began.seat.view
+  b = began.token.view
 
   -- the view after the work
   abbrev w : View
-  w = new.seat.view
+  w = new.token.view
 
   -- the view after the call
   abbrev x : View
-  x = seat.view
+  x = token.view
 
   -- ---- what it returns
 
   -- a tree that the work froze was frozen in the call
   pub has_frozen : (r q : Option Full) (frozen : Frozen)
       → WasFrozen b.start b.words b.log w.log frozen
-      → HasFrozen (pass_face who r) (face_as seat new.number q) frozen
+      → HasFrozen (pass_face who r) (face_as token new.number q) frozen
   has_frozen r q frozen was =
-      let l = way.b_view who began new seat it in
-      was_frozen_on v.start v.words v.log b.log w.log x.log (way.lawful_x who began new seat it)
-      (way.v_to_b who began new seat it) (way.w_to_x who began new seat it) frozen
+      let l = way.b_view who began new token it in
+      was_frozen_on v.start v.words v.log b.log w.log x.log (way.lawful_x who began new token it)
+      (way.v_to_b who began new token it) (way.w_to_x who began new token it) frozen
       (subst (λ pairs. WasFrozen pairs v.words b.log w.log frozen) l.start_is
       (subst (λ words. WasFrozen b.start words b.log w.log frozen) l.words_is was))
 
   -- the tree is frozen by the table that the pass has then
   pub frozen_for : (q : Option Full) (frozen : Frozen) → IsFrozen v.start v.words x.log frozen
-      → IsFrozenFor (face_as seat new.number q) frozen
+      → IsFrozenFor (face_as token new.number q) frozen
   frozen_for q frozen f =
-      subst (λ pairs. IsFrozen pairs x.words x.log frozen) (sym (way.x_start who began new seat it))
+      subst (λ pairs. IsFrozen pairs x.words x.log frozen) (sym (way.x_start who began new token it))
       (subst (λ words. IsFrozen v.start words x.log frozen)
-      (sym (way.x_words who began new seat it)) f)
+      (sym (way.x_words who began new token it)) f)
 
   -- ---- refusals
 
   abbrev had_too_few : (r q : Option Full) (words : ℕ) (full : Full) → words ≡ v.words
       → LeavesTooFew w.start words w.log full
-      → HadTooFew (pass_face who r) (face_as seat new.number q) full
+      → HadTooFew (pass_face who r) (face_as token new.number q) full
   had_too_few r q words full same s =
       record {
         at = w.log;
-        since = goes_on_more (way.v_to_b who began new seat it) (way.b_to_w who began new seat it);
-        until = (way.w_to_x who began new seat it);
+        since = goes_on_more (way.v_to_b who began new token it) (way.b_to_w who began new token it);
+        until = (way.w_to_x who began new token it);
         few = record {
-          next_is = s.next_is ∙ ap (λ pairs. spent pairs w.log) (way.w_start who began new seat it);
+          next_is = s.next_is ∙ ap (λ pairs. spent pairs w.log) (way.w_start who began new token it);
           words_is = s.words_is ∙ same;
           small = subst (λ n. n < full.next + full.asked) same s.small;
         };
@@ -101,21 +101,21 @@ module _ (who began new : Caller) (seat : SeatFace) (it : IsWay who began new se
       → LeavesTooFew w.start words w.log full
       → (full.asked ≡ rebuild_words) ⊎ (full.asked ≡ change_words)
       → HeldInnerRow b.start b.words b.log w.log
-      → IsFreezeRefused (pass_face who r) (face_as seat new.number q) full
+      → IsFreezeRefused (pass_face who r) (face_as token new.number q) full
   freeze_refused r q words full same s asked held =
-      let l = way.b_view who began new seat it in
+      let l = way.b_view who began new token it in
       record {
         had = had_too_few r q words full same s;
         asked = asked;
-        held = held_on v.start v.words v.log b.log w.log x.log (way.v_to_b who began new seat it)
-            (way.w_to_x who began new seat it)
+        held = held_on v.start v.words v.log b.log w.log x.log (way.v_to_b who began new token it)
+            (way.w_to_x who began new token it)
             (subst (λ pairs. HeldInnerRow pairs v.words b.log w.log) l.start_is
             (subst (λ words. HeldInnerRow b.start words b.log w.log) l.words_is held));
       }
 
   puts_rise : puts_in (changes_of v.start v.words w.log) ≤ puts_in (changes_of v.start v.words x.log)
   puts_rise =
-      let on = changes_on (start v.start v.words) w.log x.log (way.w_to_x who began new seat it) in
+      let on = changes_on (start v.start v.words) w.log x.log (way.w_to_x who began new token it) in
       let same = ap puts_in on.1
       ∙ ap length (filter-append (λ (e : Entry). is_put e.command) (changes_of v.start v.words w.log) on.0)
       ∙ length-append (filter (λ (e : Entry). is_put e.command) (changes_of v.start v.words w.log))
@@ -127,21 +127,21 @@ module _ (who began new : Caller) (seat : SeatFace) (it : IsWay who began new se
       → StartsNone (now v) (now x) who.number
   has_started_none none =
       starts_none_more (now v) (now b) (now x) who.number
-      (starts_none_later v b (way.b_view who began new seat it) who.number it.pass.caller.mine
+      (starts_none_later v b (way.b_view who began new token it) who.number it.pass.caller.mine
       (between_calls v who.number it.sound it.pass.caller.mine it.pass.in_none).resolved)
       (starts_none_more (now b) (now w) (now x) who.number
       (subst (StartsNone (now b) (now w)) it.began_number none)
-      (subst (StartsNone (now w) (now x)) (way.number_is who began new seat it)
-      (starts_none_later w x (way.x_view who began new seat it) new.number
+      (subst (StartsNone (now w) (now x)) (way.number_is who began new token it)
+      (starts_none_later w x (way.x_view who began new token it) new.number
       it.on.gone.caller.mine it.on.quiet.resolved)))
 
   -- what helping a rebuild took
   asked_for_rebuild : (r q : Option Full) (rebuild asked : ℕ) → IsAskedFor (now w) rebuild asked
-      → IsForRebuild (face_as seat new.number q) asked
+      → IsForRebuild (face_as token new.number q) asked
   asked_for_rebuild r q rebuild asked (for_change e) = inl e
   asked_for_rebuild r q rebuild asked (for_row row k some e fin least le is) =
-      let l = way.lawful_w who began new seat it in
-      let here = way.by_middle who began new seat it
+      let l = way.lawful_w who began new token it in
+      let here = way.by_middle who began new token it
       (λ pairs words. IsFinishedWith (state_of pairs words w.log) row.target k) fin in
       let most = finished_few v.start v.words l.opens w.log l.enabled row.target k here.row
       here.published here.status in
@@ -151,9 +151,9 @@ module _ (who began new : Caller) (seat : SeatFace) (it : IsWay who began new se
         least = least;
         most =
             subst (λ words. some ≤ length x.start + puts_in (changes_of x.start words x.log))
-            (sym (way.x_words who began new seat it))
+            (sym (way.x_words who began new token it))
             (subst (λ pairs. some ≤ length pairs + puts_in (changes_of pairs v.words x.log))
-            (sym (way.x_start who began new seat it)) (omega arith));
+            (sym (way.x_start who began new token it)) (omega arith));
         asked_is = is;
       }
 
@@ -162,24 +162,24 @@ module _ (who began new : Caller) (seat : SeatFace) (it : IsWay who began new se
       → ((t u : Snapshot) → AllGrow t.pieces u.pieces → Q t → Q u) → Q (now w)
       → Q (state_of x.start x.words x.log)
   in_last Q grows h =
-      subst (λ words. Q (state_of x.start words x.log)) (sym (way.x_words who began new seat it))
-      (subst (λ pairs. Q (state_of pairs v.words x.log)) (sym (way.x_start who began new seat it))
+      subst (λ words. Q (state_of x.start words x.log)) (sym (way.x_words who began new token it))
+      (subst (λ pairs. Q (state_of pairs v.words x.log)) (sym (way.x_start who began new token it))
       (grows (state_of v.start v.words w.log) (state_of v.start v.words x.log)
-      (grow_between v.start v.words w.log x.log (way.lawful_x who began new seat it).enabled
-      (way.w_to_x who began new seat it))
-      (way.by_middle who began new seat it (λ pairs words. Q (state_of pairs words w.log)) h)))
+      (grow_between v.start v.words w.log x.log (way.lawful_x who began new token it).enabled
+      (way.w_to_x who began new token it))
+      (way.by_middle who began new token it (λ pairs words. Q (state_of pairs words w.log)) h)))
 
   -- helping the rebuild of what was below the anchor was refused
   top_refused : (r q : Option Full) (words : ℕ) (full : Full) → words ≡ v.words
       → IsTopShort b w words full
-      → IsTopRefused (pass_face who r) (face_as seat new.number q) full
+      → IsTopRefused (pass_face who r) (face_as token new.number q) full
   top_refused r q words full same d =
-      let l = way.b_view who began new seat it in
+      let l = way.b_view who began new token it in
       record {
         row = d.target;
         at = d.top.at;
-        since = goes_on_more (way.v_to_b who began new seat it) d.top.since;
-        until = goes_on_more d.top.until (way.w_to_x who began new seat it);
+        since = goes_on_more (way.v_to_b who began new token it) d.top.since;
+        until = goes_on_more d.top.until (way.w_to_x who began new token it);
         child =
             subst (λ pairs. IsChild (state_of pairs v.words d.top.at) anchor 0 d.target) l.start_is
             (subst (λ words. IsChild (state_of b.start words d.top.at) anchor 0 d.target) l.words_is
@@ -200,7 +200,7 @@ module _ (who began new : Caller) (seat : SeatFace) (it : IsWay who began new se
   -- the first refusal is kept
   pub keeps_refusal : (r met : Option Full) (words : ℕ) → words ≡ v.words
       → IfSome met (IsTopShort b w words)
-      → KeepsRefusal (pass_face who r) (face_as seat new.number (option_or r met))
+      → KeepsRefusal (pass_face who r) (face_as token new.number (option_or r met))
   keeps_refusal r met words same cause =
       record {
         stays = λ full e. ap (λ o. option_or o met) e;
@@ -213,7 +213,7 @@ module _ (who began new : Caller) (seat : SeatFace) (it : IsWay who began new se
       from : (o m : Option Full) → IfSome m (IsTopShort b w words) → (full : Full)
           → option_or o m ≡ Some full
           → (o ≡ Some full) ⊎ IsTopRefused (pass_face who r)
-          (face_as seat new.number (option_or r met)) full
+          (face_as token new.number (option_or r met)) full
       from (Some first) m c full e = inl e
       from None (Some other) c full e =
           inr (top_refused r (option_or r met) words full same
@@ -223,45 +223,45 @@ module _ (who began new : Caller) (seat : SeatFace) (it : IsWay who began new se
 -- ---- all of this together
 
 -- the freeze was answered
-pub record FreezeEnds (old : PassFace) (new : Caller) (seat : SeatFace) (q : Option Full)
+pub record FreezeEnds (old : PassFace) (new : Caller) (token : TokenFace) (q : Option Full)
     (frozen : Frozen) : Type 0 where
-  pub pass : IsPassWith (record new { seat = seat }) q
-  pub froze : FreezesAll old (face_as seat new.number q) frozen
+  pub pass : IsPassWith (record new { token = token }) q
+  pub froze : FreezesAll old (face_as token new.number q) frozen
 
 -- a freeze that succeeds ends so
-pub freeze_ends : (who began new : Caller) (seat : SeatFace) (it : IsWay who began new seat)
-    (r q : Option Full) → IsPassWith who r → (words : ℕ) → words ≡ who.seat.view.words
-    → seat.table ≡ who.seat.table → (outcome : Outcome) → Freezes began new words outcome
+pub freeze_ends : (who began new : Caller) (token : TokenFace) (it : IsWay who began new token)
+    (r q : Option Full) → IsPassWith who r → (words : ℕ) → words ≡ who.token.view.words
+    → token.table ≡ who.token.table → (outcome : Outcome) → Freezes began new words outcome
     → q ≡ option_or r outcome.refused → (old : PassFace) → pass_face who r ≡ old
-    → FreezeEnds old new seat q outcome.frozen
-freeze_ends who began new seat it r q all words same table outcome f is old view =
-    let had = has_frozen who began new seat it r (option_or r outcome.refused) outcome.frozen
+    → FreezeEnds old new token q outcome.frozen
+freeze_ends who began new token it r q all words same table outcome f is old view =
+    let had = has_frozen who began new token it r (option_or r outcome.refused) outcome.frozen
     f.frozen in
-    let all_now = way.ended_pass_with who began new seat it r (option_or r outcome.refused) all
+    let all_now = way.ended_pass_with who began new token it r (option_or r outcome.refused) all
     (λ none. (both r outcome.refused none).0) (λ none. f.done (both r outcome.refused none).1) in
-    subst (λ (o : PassFace). FreezeEnds o new seat q outcome.frozen) view
-    (subst (λ o. FreezeEnds (pass_face who r) new seat o outcome.frozen) (sym is) record {
+    subst (λ (o : PassFace). FreezeEnds o new token q outcome.frozen) view
+    (subst (λ o. FreezeEnds (pass_face who r) new token o outcome.frozen) (sym is) record {
       pass = all_now;
       froze = record {
-        seen = way.has_seen_more who began new seat it r (option_or r outcome.refused) table;
-        still = frozen_for who began new seat it (option_or r outcome.refused) outcome.frozen
+        seen = way.has_seen_more who began new token it r (option_or r outcome.refused) table;
+        still = frozen_for who began new token it (option_or r outcome.refused) outcome.frozen
             had.frozen_is;
         pairs = had;
         rebuilt = λ row e.
             (let k = f.rebuilt row e in
             record {
               rebuild = k.rebuild;
-              started = in_last who began new seat it (λ t. IsStarted t k.rebuild)
+              started = in_last who began new token it (λ t. IsStarted t k.rebuild)
                   (λ t u g. started_grows t u g k.rebuild) k.of.started;
-              target = in_last who began new seat it (λ t. HasTarget t k.rebuild row)
+              target = in_last who began new token it (λ t. HasTarget t k.rebuild row)
                   (λ t u g. target_grows t u g k.rebuild row) k.of.target_is;
               replaced = λ none.
-                  in_last who began new seat it (λ t. IsReplaced t k.rebuild)
+                  in_last who began new token it (λ t. IsReplaced t k.rebuild)
                   (λ t u g. replaced_grows t u g k.rebuild)
                   (k.replaced (both r outcome.refused none).1);
             });
-        calls = way.calls_are who began new seat it;
-        refused = keeps_refusal who began new seat it r outcome.refused words same f.refused;
+        calls = way.calls_are who began new token it;
+        refused = keeps_refusal who began new token it r outcome.refused words same f.refused;
         done = λ none. (all_now.settled none).starts;
       };
     })
@@ -271,26 +271,26 @@ freeze_ends who began new seat it r q all words same table outcome f is old view
     both (Some full) c e = absurd (cc)
 
 -- it was refused
-pub record StopEnds (old : PassFace) (new : Caller) (seat : SeatFace) (r : Option Full) (full : Full)
+pub record StopEnds (old : PassFace) (new : Caller) (token : TokenFace) (r : Option Full) (full : Full)
     : Type 0 where
-  pub pass : IsPassWith (record new { seat = seat }) r
-  pub stopped : StopsFreeze old (face_as seat new.number r) full
+  pub pass : IsPassWith (record new { token = token }) r
+  pub stopped : StopsFreeze old (face_as token new.number r) full
 
 -- a freeze that is refused ends so
-pub stop_ends : (who began new : Caller) (seat : SeatFace) (it : IsWay who began new seat)
-    (r : Option Full) → IsPassWith who r → (words : ℕ) → words ≡ who.seat.view.words
-    → seat.table ≡ who.seat.table → (full : Full) → IsFreezeStopped began new words full
-    → (old : PassFace) → pass_face who r ≡ old → StopEnds old new seat r full
-stop_ends who began new seat it r all words same table full s old view =
-    let all_now = way.ended_pass_with who began new seat it r r all (λ none. none)
+pub stop_ends : (who began new : Caller) (token : TokenFace) (it : IsWay who began new token)
+    (r : Option Full) → IsPassWith who r → (words : ℕ) → words ≡ who.token.view.words
+    → token.table ≡ who.token.table → (full : Full) → IsFreezeStopped began new words full
+    → (old : PassFace) → pass_face who r ≡ old → StopEnds old new token r full
+stop_ends who began new token it r all words same table full s old view =
+    let all_now = way.ended_pass_with who began new token it r r all (λ none. none)
     (λ none. s.idle.done) in
-    subst (λ (o : PassFace). StopEnds o new seat r full) view record {
+    subst (λ (o : PassFace). StopEnds o new token r full) view record {
       pass = all_now;
       stopped = record {
-        seen = way.has_seen_more who began new seat it r r table;
-        cause = freeze_refused who began new seat it r r words full same s.short s.asked s.held;
-        unstarted = has_started_none who began new seat it s.idle.none;
-        calls = way.calls_are who began new seat it;
+        seen = way.has_seen_more who began new token it r r table;
+        cause = freeze_refused who began new token it r r words full same s.short s.asked s.held;
+        unstarted = has_started_none who began new token it s.idle.none;
+        calls = way.calls_are who began new token it;
         unrefused = refl;
         refused = record { stays = λ first e. e; cause = λ first e. inl e };
         done = λ none. (all_now.settled none).starts;

@@ -19,13 +19,13 @@ use Rattle.ist_rebuild.specs.Going.{Begins}
 use Rattle.ist_rebuild.specs.Starting.{IsStartedAt, IsStartRefused, LeavesUnstarted, StartsAreDoneBut, StartsNone}
 use Rattle.ist_rule.specs.declared.view.View.{View}
 use Rattle.ist_rule.specs.Going.{WentOn}
-use Rattle.ist_rule.specs.Faces.{SeatFace}
+use Rattle.ist_rule.specs.Faces.{TokenFace}
 use Rattle.ist_rule.specs.Learning.{now}
 use Rattle.ist_rule.specs.Rule.{IsSound}
 use Rattle.ist_rule.proofs.LaterLemmas.{goes_on_more}
 use Rattle.ist_rule.proofs.WentOnLemmas.{later_by-goes_on, went_grow, went_lawful}
 use Rattle.ist_rows.specs.declared.callers.Caller.{Caller}
-use Rattle.laws_settling.specs.Settling.{StartsAreDone}
+use Rattle.laws_calls.specs.Settling.{StartsAreDone}
 use Rattle.ist_tree.specs.declared.freezing.Frozen.{Frozen}
 use Rattle.ist_tree.specs.declared.freezing.Site.{Site}
 use Rattle.ist_tree.specs.declared.freezing.Site.TheVariants.{Rebuilt, Still}
@@ -79,8 +79,8 @@ pub but_more : (a b c : Caller) (o : Option ℕ) → b.number ≡ a.number → K
 but_more a b c None number one two = done_more a b c number one two
 but_more a b c (Some rebuild) number one two =
     λ done.
-    subst (λ n. StartsAreDoneBut (now c.seat.view) n rebuild) number
-    (two (subst (StartsAreDone (now b.seat.view)) (sym number) (one done)))
+    subst (λ n. StartsAreDoneBut (now c.token.view) n rebuild) number
+    (two (subst (StartsAreDone (now b.token.view)) (sym number) (one done)))
 
 -- if all are done, all but one are
 pub all_but : (a c : Caller) (rebuild : ℕ) → KeepsDone a c → KeepsDoneBut a c (Some rebuild)
@@ -90,7 +90,7 @@ all_but a c rebuild done =
 -- ---- going on without a start
 
 -- a caller goes on without a start to itself
-pub idle_same : (who : Caller) → IsSound who.seat.view → IsReady who → GoesIdle who who
+pub idle_same : (who : Caller) → IsSound who.token.view → IsReady who → GoesIdle who who
 idle_same who s r =
     record {
       on = ready_same Rebuilds who s r;
@@ -105,27 +105,27 @@ idle_more a b c one two =
       on = ready_more Rebuilds a b c one.on two.on;
       done = done_more a b c one.on.gone.number one.done two.done;
       none =
-          starts_none_more (now a.seat.view) (now b.seat.view) (now c.seat.view) a.number one.none
-          (subst (StartsNone (now b.seat.view) (now c.seat.view)) one.on.gone.number two.none);
+          starts_none_more (now a.token.view) (now b.token.view) (now c.token.view) a.number one.none
+          (subst (StartsNone (now b.token.view) (now c.token.view)) one.on.gone.number two.none);
     }
 
 -- steps that install nothing are such
 pub plain_idle : (P : Event → Type 0) → ((event : Event) → P event → IsPlainHelp event)
-    → (who : Caller) (seat : SeatFace) → IsReady who → WentOn P who.seat.view seat.view
-    → GoesIdle who (record who { seat = seat })
-plain_idle P all who seat r went =
+    → (who : Caller) (token : TokenFace) → IsReady who → WentOn P who.token.view token.view
+    → GoesIdle who (record who { token = token })
+plain_idle P all who token r went =
     record {
-      on = plain_on P all who seat r went;
-      done = plain_done P all who seat r went;
+      on = plain_on P all who token r went;
+      done = plain_done P all who token r went;
       none =
           starts_none_went P who.number
-          (λ event p. none_starts_none who.number event (all event p).installs) who.seat.view
-          seat.view r.caller.mine r.quiet.resolved went;
+          (λ event p. none_starts_none who.number event (all event p).installs) who.token.view
+          token.view r.caller.mine r.quiet.resolved went;
     }
 
 -- a start that started none is idle
 pub begins_idle : (old new : Caller) → StaysReady Rebuilds old new → KeepsDone old new
-    → StartsNone (now old.seat.view) (now new.seat.view) old.number → GoesIdle old new
+    → StartsNone (now old.token.view) (now new.token.view) old.number → GoesIdle old new
 begins_idle old new on done none = record { on = on; done = done; none = none }
 
 -- what a start that was answered by another word, or by a parent that isn't open, didn't start
@@ -154,17 +154,17 @@ met_more a b c site on done m =
       done = but_more a b c (rebuild_in site) on.gone.number done m.done;
     }
   where
-    lawful : Lawful b.seat.view.start b.seat.view.words c.seat.view.log
-    lawful = went_lawful Rebuilds b.seat.view c.seat.view m.on.gone.went
+    lawful : Lawful b.token.view.start b.token.view.words c.token.view.log
+    lawful = went_lawful Rebuilds b.token.view c.token.view m.on.gone.went
 
-    here : (s : Site) → IsSite b.seat.view c.seat.view s → IsSite a.seat.view c.seat.view s
+    here : (s : Site) → IsSite b.token.view c.token.view s → IsSite a.token.view c.token.view s
     here (Still frozen) w = (
-      frozen_more Rebuilds a.seat.view b.seat.view c.seat.view.log on.gone.went frozen
+      frozen_more Rebuilds a.token.view b.token.view c.token.view.log on.gone.went frozen
           lawful w.0,
       w.1,
     )
     here (Rebuilt rebuild target) w =
-        (w.0, top_more Rebuilds a.seat.view b.seat.view c.seat.view.log on.gone.went target w.1)
+        (w.0, top_more Rebuilds a.token.view b.token.view c.token.view.log on.gone.went target w.1)
 
 -- what may be met after idle steps may be met from the beginning
 pub may_have_met_more : (a b c : Caller) (o : Option Site) → GoesIdle a b → MayHaveMet b c o
@@ -182,23 +182,23 @@ stopped_more a b c words full g s =
       idle = idle_more a b c g s.idle;
       short = s.short;
       asked = s.asked;
-      held = by_table Rebuilds a.seat.view b.seat.view g.on.gone.went
-          (λ pairs words. HeldInnerRow pairs words a.seat.view.log c.seat.view.log)
-          (held_on b.seat.view.start b.seat.view.words a.seat.view.log b.seat.view.log
-          c.seat.view.log c.seat.view.log (later_by-goes_on g.on.gone.went.later) same_log s.held);
+      held = by_table Rebuilds a.token.view b.token.view g.on.gone.went
+          (λ pairs words. HeldInnerRow pairs words a.token.view.log c.token.view.log)
+          (held_on b.token.view.start b.token.view.words a.token.view.log b.token.view.log
+          c.token.view.log c.token.view.log (later_by-goes_on g.on.gone.went.later) same_log s.held);
     }
 
 -- a start was refused
 pub start_stopped : (old new : Caller) (words : ℕ) (full : Full) → GoesIdle old new
-    → HeldInnerRow old.seat.view.start old.seat.view.words old.seat.view.log old.seat.view.log
-    → IsStartRefused old.seat.view words full new.seat.view → IsFreezeStopped old new words full
+    → HeldInnerRow old.token.view.start old.token.view.words old.token.view.log old.token.view.log
+    → IsStartRefused old.token.view words full new.token.view → IsFreezeStopped old new words full
 start_stopped old new words full g held r =
     record {
       idle = g;
-      short = short_now Begins old.seat.view words full new.seat.view r.short;
+      short = short_now Begins old.token.view words full new.token.view r.short;
       asked = r.asked;
-      held = held_on old.seat.view.start old.seat.view.words old.seat.view.log old.seat.view.log
-          old.seat.view.log new.seat.view.log same_log (later_by-goes_on g.on.gone.went.later) held;
+      held = held_on old.token.view.start old.token.view.words old.token.view.log old.token.view.log
+          old.token.view.log new.token.view.log same_log (later_by-goes_on g.on.gone.went.later) held;
     }
 
 -- ---- a rebuild

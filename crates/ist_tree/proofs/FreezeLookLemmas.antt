@@ -21,9 +21,9 @@ use Rattle.ist_layout.specs.Meanings.{ref_meant}
 use Rattle.laws_links.proofs.FormLemmas.{started_grows}
 use Rattle.ist_rebuild.specs.Starting.{MayStart}
 use Rattle.ist_dcss.proofs.TargetLemmas.{started_rebuild}
-use Rattle.laws_settling.proofs.ReadLemmas.{read_started}
+use Rattle.laws_calls.proofs.ReadLemmas.{read_started}
 use Rattle.ist_rule.specs.declared.view.View.{View}
-use Rattle.ist_rule.specs.Faces.{SeatFace}
+use Rattle.ist_rule.specs.Faces.{TokenFace}
 use Rattle.ist_rule.specs.Going.{WentOn}
 use Rattle.ist_rule.specs.Learning.{GoesOnTo, now}
 use Rattle.ist_rule.specs.Rule.{IsSound}
@@ -35,7 +35,7 @@ use Rattle.ist_tree.specs.declared.freezing.Site.TheVariants.{Rebuilt, Still}
 use Rattle.ist_tree.specs.Freezing.{HeldInnerRow, IsStill, WasFrozen, all_keys, no_key, one_key}
 use Rattle.ist_tree.specs.FreezeSteps.{GoesIdle, HasBegun, HasMet, HasNoRow, IsBelowAnchor, WasTop}
 use Rattle.ist_rows.specs.Going.{IsReady}
-use Rattle.ist_tree.proofs.CameLemmas.{ever_here}
+use Rattle.ist_tree.proofs.RowAtLimitLemmas.{ever_here}
 use Rattle.ist_tree.proofs.FreezeGoingLemmas.{all_but, below_grows, frozen_more, plain_idle}
 use Rattle.ist_tree.proofs.FreezingLemmas.{top_was_frozen}
 use Rattle.ist_tree.proofs.RebuildLemmas.{load_plain, plain_done, plain_on}
@@ -166,24 +166,24 @@ module _ (v : View) (s : IsSound v) (word : ℕ) (holds : SlotHolds (now v) anch
       one_key base named.0 named.1
 
 -- a caller that looked goes on, and has met such a tree
-module _ (who : Caller) (seat : SeatFace) (ready : IsReady who)
-    (seen : GoesOnTo who.seat.view seat.view) where
-  went : WentOn (λ event. ⊥) who.seat.view seat.view
-  went = goes_on_went (λ event. ⊥) who.seat.view seat.view seen
+module _ (who : Caller) (token : TokenFace) (ready : IsReady who)
+    (seen : GoesOnTo who.token.view token.view) where
+  went : WentOn (λ event. ⊥) who.token.view token.view
+  went = goes_on_went (λ event. ⊥) who.token.view token.view seen
 
   -- the caller started no rebuild
-  pub looked_idle : GoesIdle who (record who { seat = seat })
-  looked_idle = plain_idle (λ event. ⊥) load_plain who seat ready went
+  pub looked_idle : GoesIdle who (record who { token = token })
+  looked_idle = plain_idle (λ event. ⊥) load_plain who token ready went
 
   -- the caller has met the frozen tree
   pub looked_still : (frozen : Frozen)
-      → WasFrozen seat.view.start seat.view.words seat.view.log seat.view.log frozen
-      → HasNoRow frozen → HasMet who (record who { seat = seat }) (Still frozen)
+      → WasFrozen token.view.start token.view.words token.view.log token.view.log frozen
+      → HasNoRow frozen → HasMet who (record who { token = token }) (Still frozen)
   looked_still frozen was none =
       record {
         on = looked_idle.on;
         is = (
-          frozen_more (λ event. ⊥) who.seat.view seat.view seat.view.log went frozen
+          frozen_more (λ event. ⊥) who.token.view token.view token.view.log went frozen
               seen.sound.lawful was,
           none,
         );
@@ -202,7 +202,7 @@ empty_no_row row e = cc
 
 -- one that was started
 pub begun_met : (old new : Caller) (target rebuild : ℕ)
-    → WasTop old.seat.view old.seat.view.log target → HasBegun old new target (Some rebuild)
+    → WasTop old.token.view old.token.view.log target → HasBegun old new target (Some rebuild)
     → HasMet old new (Rebuilt rebuild target)
 begun_met old new target rebuild top b =
     record {
@@ -220,15 +220,15 @@ begun_met old new target rebuild top b =
     }
 
 -- one that stood there
-pub stood_met : (who : Caller) (seat : SeatFace) (rebuild target : ℕ) → IsSound who.seat.view
-    → IsReady who → GoesOnTo who.seat.view seat.view → IsStarted (now who.seat.view) rebuild
-    → HasTarget (now seat.view) rebuild target → IsBelowAnchor (now who.seat.view) rebuild
-    → ((n : ℕ) → HasTarget (now who.seat.view) rebuild n
-    → WasTop who.seat.view who.seat.view.log n)
-    → HasMet who (record who { seat = seat }) (Rebuilt rebuild target)
-stood_met who seat rebuild target s ready seen started h below top =
-    let v = who.seat.view in
-    let w = seat.view in
+pub stood_met : (who : Caller) (token : TokenFace) (rebuild target : ℕ) → IsSound who.token.view
+    → IsReady who → GoesOnTo who.token.view token.view → IsStarted (now who.token.view) rebuild
+    → HasTarget (now token.view) rebuild target → IsBelowAnchor (now who.token.view) rebuild
+    → ((n : ℕ) → HasTarget (now who.token.view) rebuild n
+    → WasTop who.token.view who.token.view.log n)
+    → HasMet who (record who { token = token }) (Rebuilt rebuild target)
+stood_met who token rebuild target s ready seen started h below top =
+    let v = who.token.view in
+    let w = token.view in
     let went = goes_on_went (λ event. ⊥) v w seen in
     let grow = goes_on_grow v w seen in
     let row = started_rebuild v s rebuild started in
@@ -242,7 +242,7 @@ stood_met who seat rebuild target s ready seen started h below top =
     } in
     let was = top target target_was in
     record {
-      on = plain_on (λ event. ⊥) load_plain who seat ready went;
+      on = plain_on (λ event. ⊥) load_plain who token ready went;
       is = (
         record {
           started = started_grows (now v) (now w) grow rebuild started;
@@ -256,6 +256,6 @@ stood_met who seat rebuild target s ready seen started h below top =
           child = was.child;
         },
       );
-      done = all_but who (record who { seat = seat }) rebuild
-          (plain_done (λ event. ⊥) load_plain who seat ready went);
+      done = all_but who (record who { token = token }) rebuild
+          (plain_done (λ event. ⊥) load_plain who token ready went);
     }

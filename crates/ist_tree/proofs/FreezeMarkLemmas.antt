@@ -18,7 +18,7 @@ use Rattle.ist_rebuild.specs.Helping.{IsHelpRefused, IsLeftToParent}
 use Rattle.ist_rows.proofs.GoneLemmas.{keeping_installs_none, ready_more}
 use Rattle.ist_rebuild.proofs.EventLemmas.{marks_serve}
 use Rattle.ist_rule.specs.declared.view.View.{View}
-use Rattle.ist_rule.specs.Faces.{SeatFace}
+use Rattle.ist_rule.specs.Faces.{TokenFace}
 use Rattle.ist_rule.specs.Going.{WentOn}
 use Rattle.ist_rule.specs.Learning.{now}
 use Rattle.ist_rule.proofs.WentOnLemmas.{went_all, went_grow, went_more}
@@ -30,7 +30,7 @@ use Rattle.ist_tree.proofs.FreezeGoingLemmas.{below_grows}
 use Rattle.ist_tree.proofs.EventLemmas.{IsPlainHelp, serves_rebuild}
 use Rattle.ist_tree.proofs.RebuildLemmas.{plain_on}
 use Rattle.ist_tree.proofs.ShortLemmas.{short_now}
-use Rattle.ist_tree.proofs.ShutLemmas.{all_done}
+use Rattle.ist_tree.proofs.HelpedRebuildLemmas.{all_done}
 use Rattle.ist_layout.specs.declared.references.Ref.TheVariants as layout
 use Rattle.ist_tree.specs.Working.{Rebuilds}
 
@@ -46,7 +46,7 @@ marks_plain v node event is =
 
 -- the target of a started rebuild may be marked
 pub target_may_mark : (who : Caller) (rebuild target : ℕ) → IsReady who
-    → IsRebuildOf (now who.seat.view) rebuild target → MayMark who.seat.view target
+    → IsRebuildOf (now who.token.view) rebuild target → MayMark who.token.view target
 target_may_mark who rebuild target ready r =
     record {
       number = who.number;
@@ -55,69 +55,69 @@ target_may_mark who rebuild target ready r =
     }
 
 -- a caller that marked it goes on
-pub marked : (old : Caller) (seat : SeatFace) (target : ℕ) → IsReady old
-    → WentOn (Marks seat.view target) old.seat.view seat.view
-    → StaysReady Rebuilds old (record old { seat = seat })
-marked old seat target ready went =
-    plain_on (Marks seat.view target) (marks_plain seat.view target) old seat ready went
+pub marked : (old : Caller) (token : TokenFace) (target : ℕ) → IsReady old
+    → WentOn (Marks token.view target) old.token.view token.view
+    → StaysReady Rebuilds old (record old { token = token })
+marked old token target ready went =
+    plain_on (Marks token.view target) (marks_plain token.view target) old token ready went
 
 -- the target is finished, and its rebuild was helped
-pub target_froze : (old : Caller) (seat : SeatFace) (new : Caller) (words rebuild target keys : ℕ)
-    → IsReady old → IsBelowAnchor (now old.seat.view) rebuild
-    → WentOn (Marks seat.view target) old.seat.view seat.view
-    → IsFinishedWith (now seat.view) target keys
-    → StaysReady Rebuilds (record old { seat = seat }) new
-    → WentOn Serves seat.view new.seat.view → (answer : Result Helped Full)
+pub target_froze : (old : Caller) (token : TokenFace) (new : Caller) (words rebuild target keys : ℕ)
+    → IsReady old → IsBelowAnchor (now old.token.view) rebuild
+    → WentOn (Marks token.view target) old.token.view token.view
+    → IsFinishedWith (now token.view) target keys
+    → StaysReady Rebuilds (record old { token = token }) new
+    → WentOn Serves token.view new.token.view → (answer : Result Helped Full)
     → (refused : Option Full) → refused ≡ result_err answer
-    → (answer ≡ Ok Replaced → IsReplaced (now new.seat.view) rebuild)
-    → (answer ≡ Ok ParentMarked → IsLeftToParent (now new.seat.view) rebuild)
-    → IfErr answer (λ full. IsHelpRefused seat.view rebuild words full new.seat.view)
+    → (answer ≡ Ok Replaced → IsReplaced (now new.token.view) rebuild)
+    → (answer ≡ Ok ParentMarked → IsLeftToParent (now new.token.view) rebuild)
+    → IfErr answer (λ full. IsHelpRefused token.view rebuild words full new.token.view)
     → FreezesTarget old new words rebuild target
     record { frozen = record { root = layout.Inner target; keys = keys }; refused = refused }
-target_froze old seat new words rebuild target keys ready below went f on serves answer refused is replaced
+target_froze old token new words rebuild target keys ready below went f on serves answer refused is replaced
     left full =
     record {
-      on = ready_more Rebuilds old (record old { seat = seat }) new
-          (marked old seat target ready went) on;
+      on = ready_more Rebuilds old (record old { token = token }) new
+          (marked old token target ready went) on;
       root_is = refl;
-      finished = finished_with_grows (now seat.view) (now new.seat.view)
-          (went_grow Serves seat.view new.seat.view serves) target keys f;
+      finished = finished_with_grows (now token.view) (now new.token.view)
+          (went_grow Serves token.view new.token.view serves) target keys f;
       done = λ unrefused but.
-          all_done old.number old.seat.view new.seat.view ready.caller.mine ready.quiet.resolved
-          (went_more Serves old.seat.view seat.view new.seat.view
-          (went_all (Marks seat.view target) Serves (marks_serve seat.view target) old.seat.view
-          seat.view went) serves)
+          all_done old.number old.token.view new.token.view ready.caller.mine ready.quiet.resolved
+          (went_more Serves old.token.view token.view new.token.view
+          (went_all (Marks token.view target) Serves (marks_serve token.view target) old.token.view
+          token.view went) serves)
           rebuild but (helped answer refl (sym is ∙ unrefused));
       replaced = λ unrefused. alone (helped answer refl (sym is ∙ unrefused));
-      refused = subst (λ o. IfSome o (IsHelpShort new.seat.view rebuild words)) (sym is)
+      refused = subst (λ o. IfSome o (IsHelpShort new.token.view rebuild words)) (sym is)
           (cause answer full);
     }
   where
     -- the anchor is never closed
-    alone : IsReplaced (now new.seat.view) rebuild ⊎ IsLeftToParent (now new.seat.view) rebuild
-        → IsReplaced (now new.seat.view) rebuild
+    alone : IsReplaced (now new.token.view) rebuild ⊎ IsLeftToParent (now new.token.view) rebuild
+        → IsReplaced (now new.token.view) rebuild
     alone (inl k) = k
     alone (inr l) =
-        let b = below_grows (now seat.view) (now new.seat.view)
-        (went_grow Serves seat.view new.seat.view serves) rebuild
-        (below_grows (now old.seat.view) (now seat.view)
-        (went_grow (Marks seat.view target) old.seat.view seat.view went) rebuild below) in
-        let one = same_rebuild ((now new.seat.view).pieces rebuild) l.row b.row l.published b.published
+        let b = below_grows (now token.view) (now new.token.view)
+        (went_grow Serves token.view new.token.view serves) rebuild
+        (below_grows (now old.token.view) (now token.view)
+        (went_grow (Marks token.view target) old.token.view token.view went) rebuild below) in
+        let one = same_rebuild ((now new.token.view).pieces rebuild) l.row b.row l.published b.published
         in
         absurd (l.closed (anchor_is (ap (λ (x : RebuildRow). x.parent) one ∙ b.parent_is)))
 
     helped : (r : Result Helped Full) → answer ≡ r → result_err r ≡ None
-        → IsReplaced (now new.seat.view) rebuild ⊎ IsLeftToParent (now new.seat.view) rebuild
+        → IsReplaced (now new.token.view) rebuild ⊎ IsLeftToParent (now new.token.view) rebuild
     helped (Ok h) e none =
-        helped_either h (now new.seat.view) rebuild (λ k. replaced (e ∙ k)) (λ k. left (e ∙ k))
+        helped_either h (now new.token.view) rebuild (λ k. replaced (e ∙ k)) (λ k. left (e ∙ k))
     helped (Err full) e none = absurd (cc)
 
     cause : (r : Result Helped Full)
-        → IfErr r (λ full. IsHelpRefused seat.view rebuild words full new.seat.view)
-        → IfSome (result_err r) (IsHelpShort new.seat.view rebuild words)
+        → IfErr r (λ full. IsHelpRefused token.view rebuild words full new.token.view)
+        → IfSome (result_err r) (IsHelpShort new.token.view rebuild words)
     cause (Ok h) k = tt
     cause (Err full) k =
         record {
-          short = short_now Serves seat.view words full new.seat.view k.short;
+          short = short_now Serves token.view words full new.token.view k.short;
           asked = k.asked;
         }

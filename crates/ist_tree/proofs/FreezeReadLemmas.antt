@@ -20,9 +20,9 @@ use Rattle.ist_find.proofs.ReadLemmas.{leaf_on}
 use Rattle.ist_layout.specs.Meanings.{ref_meant}
 use Rattle.ist_layout.specs.declared.references.Ref as layouts
 use Rattle.ist_layout.specs.declared.references.Ref.TheVariants.{Change, Empty, Inner, Leaf as LeafRef, Rebuild, Unset}
-use Rattle.laws_rebuilds.proofs.FewLeafLemmas.{leaves_stand}
+use Rattle.laws_links.proofs.FewLeafLemmas.{leaves_stand}
 use Rattle.ist_rule.specs.declared.view.View.{View}
-use Rattle.ist_rule.specs.Faces.{SeatFace}
+use Rattle.ist_rule.specs.Faces.{TokenFace}
 use Rattle.ist_rule.specs.Learning.{GoesOnTo, Looked, now}
 use Rattle.ist_rule.specs.Rule.{IsSound}
 use Rattle.ist_rule.proofs.GoingOnLemmas.{looked_goes_on}
@@ -177,36 +177,36 @@ numbered_pair v w s frozen i base pair still n g p =
 -- ---- the pass
 
 -- the pass after the reading
-pub record ReadEnds (old : PassFace) (who : Caller) (refused : Option Full) (seat : SeatFace)
+pub record ReadEnds (old : PassFace) (who : Caller) (refused : Option Full) (token : TokenFace)
     (frozen : Frozen) : Type 0 where
-  pub pass : IsPassWith (record who { seat = seat }) refused
-  pub seen : HasSeenMore old (face_as seat who.number refused)
-  pub calls : seat.view.calls ≡ old.calls
-  pub still : IsFrozenFor (face_as seat who.number refused) frozen
+  pub pass : IsPassWith (record who { token = token }) refused
+  pub seen : HasSeenMore old (face_as token who.number refused)
+  pub calls : token.view.calls ≡ old.calls
+  pub still : IsFrozenFor (face_as token who.number refused) frozen
 
 -- a pass that has only loaded ends the reading so
-pub read_ends : (who : Caller) (refused : Option Full) (seat : SeatFace) → IsPassWith who refused
-    → GoesOnTo who.seat.view seat.view → seat.table ≡ who.seat.table → (frozen : Frozen)
+pub read_ends : (who : Caller) (refused : Option Full) (token : TokenFace) → IsPassWith who refused
+    → GoesOnTo who.token.view token.view → token.table ≡ who.token.table → (frozen : Frozen)
     (old : PassFace) → pass_face who refused ≡ old → IsFrozenFor old frozen
-    → ReadEnds old who refused seat frozen
-read_ends who refused seat all g table frozen old view =
-    subst (λ (o : PassFace). IsFrozenFor o frozen → ReadEnds o who refused seat frozen) view from
+    → ReadEnds old who refused token frozen
+read_ends who refused token all g table frozen old view =
+    subst (λ (o : PassFace). IsFrozenFor o frozen → ReadEnds o who refused token frozen) view from
   where
     v : View
-    v = who.seat.view
+    v = who.token.view
 
     w : View
-    w = seat.view
+    w = token.view
 
     later : IsLaterView v w
     later = goes_later v w g
 
     from : IsFrozenFor (pass_face who refused) frozen
-        → ReadEnds (pass_face who refused) who refused seat frozen
+        → ReadEnds (pass_face who refused) who refused token frozen
     from f =
         let stamps = ap (λ (y : View). y.stamp) g.same in
         record {
-          pass = pass_with_later who seat refused all later
+          pass = pass_with_later who token refused all later
               (ap (λ (y : View). y.pending) g.same ∙ all.pass.in_none);
           seen = record {
             tree = ap₂ (λ t (y : View). record { table = t; start = y.start; words = y.words })

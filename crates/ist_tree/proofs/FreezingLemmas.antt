@@ -21,14 +21,14 @@ use Rattle.ist_core.proofs.FateLemmas.{grow_between}
 use Rattle.ist_core.proofs.GrowingLemmas.{leaf_there}
 use Rattle.ist_core.proofs.KeepingLemmas.{finished_leaves_stay}
 use Rattle.ist_core.proofs.LeafLemmas.{reached, same_leaves}
-use Rattle.laws_rows.proofs.FinishLemmas.{finished_rise}
-use Rattle.laws_rows.proofs.FreezeLemmas.{frozen_pairs}
+use Rattle.laws_calls.proofs.FinishLemmas.{finished_rise}
+use Rattle.laws_calls.proofs.FreezeLemmas.{frozen_pairs}
 use Rattle.laws_histories.specs.Telling.{map_now}
 use Rattle.laws_histories.proofs.ContentLemmas.{contents_at}
 use Rattle.ist_layout.specs.Meanings.{ref_meant}
 use Rattle.ist_layout.specs.declared.references.Ref.TheVariants.{Inner}
 use Rattle.laws_links.proofs.FormLemmas.{finished_with_grows}
-use Rattle.laws_rebuilds.proofs.FinishedLeafLemmas.{finished_leaves}
+use Rattle.laws_links.proofs.FinishedLeafLemmas.{finished_leaves}
 use Rattle.ist_tree.specs.declared.freezing.Frozen.{Frozen}
 use Rattle.ist_tree.specs.Freezing.{HasFrozenPairs, HasItsPairs, IsFrozen, IsStill, WasFrozen, all_keys, no_key, one_key}
 use Rattle.laws_histories.proofs.PositionOnLemmas.{map_at_on}

@@ -12,15 +12,15 @@ use Rattle.ist_core.proofs.OrderLemmas.{names}
 use Rattle.ist_core.proofs.PlaceLemmas.{anchor_free}
 use Rattle.ist_core.proofs.ReferenceLemmas.{ref_of-unset, word_of-ref_of}
 use Rattle.ist_core.proofs.SlotLemmas.{slot_once}
-use Rattle.laws_rebuilds.proofs.ContentLemmas.{linked_set}
+use Rattle.laws_links.proofs.ContentLemmas.{linked_set}
 use Rattle.ist_rule.specs.declared.view.View.{View}
 use Rattle.ist_rule.specs.Going.{WentOn}
 use Rattle.ist_rule.specs.Learning.{now}
 use Rattle.ist_rule.specs.Rule.{IsSound}
 use Rattle.ist_rule.proofs.WentOnLemmas.{later_by-goes_on, went_lawful, went_now}
 use Rattle.ist_rebuild.specs.Starting.{StoodInstead}
-use Rattle.laws_progress.specs.Progress.{progress}
-use Rattle.laws_progress.proofs.StandstillLemmas.{slots_stand}
+use Rattle.laws_stability.specs.Progress.{progress}
+use Rattle.laws_stability.proofs.StandstillLemmas.{slots_stand}
 use Rattle.laws_coming.specs.Further.{CameFurther}
 
 -- a row's word is set

@@ -7,7 +7,7 @@ use Rattle.ist_core.specs.Lawful.{Lawful, state_of}
 use Rattle.ist_rule.specs.declared.view.View.{View}
 use Rattle.ist_core.specs.declared.events.Who.TheVariants.{Caller as CallerOf}
 use Rattle.ist_core.specs.Authors.{Later}
-use Rattle.ist_rule.specs.Faces.{SeatFace}
+use Rattle.ist_rule.specs.Faces.{TokenFace}
 use Rattle.ist_rule.specs.Rule.{IsSound}
 use Rattle.ist_rule.specs.Learning.{now, GoesOnTo}
 use Rattle.ist_rows.specs.declared.callers.Caller.{Caller}
@@ -51,11 +51,11 @@ pub record IsCallerWith (who : Caller) : Type 0 where
   pub refused : HasRefused who
 
 -- is one still
-pub caller_on : (who : Caller) (seat : SeatFace) → IsCaller who → HasRefused who
-    → IsLaterView who.seat.view seat.view → IsCallerWith (record who { seat = seat })
-caller_on who seat c refused l =
-    let v = who.seat.view in
-    let w = seat.view in
+pub caller_on : (who : Caller) (token : TokenFace) → IsCaller who → HasRefused who
+    → IsLaterView who.token.view token.view → IsCallerWith (record who { token = token })
+caller_on who token c refused l =
+    let v = who.token.view in
+    let w = token.view in
     let lawful = lawful_behind v w l in
     let later : Later (CallerOf who.number) v.log w.log =
     subst (λ x. Later x v.log w.log) c.mine l.later in
@@ -87,22 +87,22 @@ caller_on who seat c refused l =
     }
 
 -- a caller in no call is still a pass's caller
-pub pass_later : (who : Caller) (seat : SeatFace) → IsPass who
-    → IsLaterView who.seat.view seat.view → seat.view.pending ≡ None
-    → IsPass (record who { seat = seat })
-pass_later who seat p l none =
-    let it = caller_on who seat p.caller p.refused l in
+pub pass_later : (who : Caller) (token : TokenFace) → IsPass who
+    → IsLaterView who.token.view token.view → token.view.pending ≡ None
+    → IsPass (record who { token = token })
+pass_later who token p l none =
+    let it = caller_on who token p.caller p.refused l in
     record { caller = it.caller; refused = it.refused; in_none = none }
 
 -- a caller in no call is still a pass's caller, and what it has settled is still settled
-pub pass_with_later : (who : Caller) (seat : SeatFace) (refused : Option Full)
-    → IsPassWith who refused → IsLaterView who.seat.view seat.view → seat.view.pending ≡ None
-    → IsPassWith (record who { seat = seat }) refused
-pass_with_later who seat refused p l none =
-    let v = who.seat.view in
-    let w = seat.view in
+pub pass_with_later : (who : Caller) (token : TokenFace) (refused : Option Full)
+    → IsPassWith who refused → IsLaterView who.token.view token.view → token.view.pending ≡ None
+    → IsPassWith (record who { token = token }) refused
+pass_with_later who token refused p l none =
+    let v = who.token.view in
+    let w = token.view in
     record {
-      pass = pass_later who seat p.pass l none;
+      pass = pass_later who token p.pass l none;
       settled = λ unrefused.
           subst (λ pairs. HasSettled pairs w.words w.log who.number) (sym l.start_is)
           (subst (λ words. HasSettled v.start words w.log who.number) (sym l.words_is)
@@ -114,12 +114,12 @@ pass_with_later who seat refused p l none =
 
 -- a pass steps on the table of its tree
 pub table_is : (who : Caller) (refused : Option Full) (p : PassFace) (t u : TreeFace)
-    → pass_face who refused ≡ p → p.tree ≡ t → u ≡ t → who.seat.table ≡ u.table
+    → pass_face who refused ≡ p → p.tree ≡ t → u ≡ t → who.token.table ≡ u.table
 table_is who refused p t u view same tree =
     ap (λ (x : PassFace). x.tree.table) view ∙ ap (λ (x : TreeFace). x.table) (same ∙ sym tree)
 
 -- the tree has as many words as its pass knows
 pub words_are : (who : Caller) (refused : Option Full) (p : PassFace) (t u : TreeFace)
-    → pass_face who refused ≡ p → p.tree ≡ t → u ≡ t → u.words ≡ who.seat.view.words
+    → pass_face who refused ≡ p → p.tree ≡ t → u ≡ t → u.words ≡ who.token.view.words
 words_are who refused p t u view same tree =
     sym (ap (λ (x : PassFace). x.tree.words) view ∙ ap (λ (x : TreeFace). x.words) (same ∙ sym tree))

@@ -18,27 +18,27 @@ use Rattle.ist_core.specs.References.{InnerAt, word_of}
 use Rattle.ist_core.specs.StartLayout.{start}
 use Rattle.ist_core.proofs.FateLemmas.{enabled_before, grow_between}
 use Rattle.ist_core.proofs.GrowingLemmas.{inner_there}
-use Rattle.laws_settling.specs.Settling.{InstallsNoStart}
+use Rattle.laws_calls.specs.Settling.{InstallsNoStart}
 use Rattle.ist_rule.specs.declared.view.View.{View}
 use Rattle.ist_core.specs.declared.events.Who.TheVariants.{Caller as CallerOf}
 use Rattle.ist_core.specs.Authors.{LaterBy, whose}
 use Rattle.ist_rule.specs.Going.{SearchedOn, WentOn}
 use Rattle.ist_rule.proofs.LaterLemmas.{goes_on_length}
-use Rattle.ist_rule.specs.Faces.{SeatFace}
+use Rattle.ist_rule.specs.Faces.{TokenFace}
 use Rattle.ist_rule.proofs.WentOnLemmas.{later_by-goes_on, went_lawful}
 use Rattle.ist_rows.specs.declared.callers.Caller.{Caller}
 use Rattle.ist_rows.specs.Rows.{IsCaller}
 use Rattle.ist_rebuild.specs.Going.{StartsAt}
-use Rattle.laws_settling.proofs.DoneLemmas.{others_start_nothing}
+use Rattle.laws_calls.proofs.DoneLemmas.{others_start_nothing}
 use Rattle.ist_updates.specs.declared.updates.Due.{Due}
 use Rattle.ist_updates.specs.Asking.{Updates}
 use Rattle.ist_updates.specs.Counting.{HasMadeDue}
 use Rattle.ist_tree.specs.DueRows.{InstallsDue, IsDueAt, StartsOnlyDue}
 use Rattle.ist_tree.specs.Insides.{face_as, pass_face}
 use Rattle.ist_tree.specs.Working.{StartsDue}
-use Rattle.ist_tree.proofs.CameLemmas.{event_since, in_order, whole_or_before}
+use Rattle.ist_tree.proofs.RowAtLimitLemmas.{event_since, in_order, whole_or_before}
 use Rattle.ist_tree.proofs.EventLemmas.{updates_start_none}
-use Rattle.ist_tree.proofs.WayLemmas as way
+use Rattle.ist_tree.proofs.UpdateSeenLemmas as way
 
 -- a row that reached its limit is still at it
 still_due : (old new : InnerRow) → InnerGrows old new → IsDue old → IsDue new
@@ -115,24 +115,24 @@ unstarted P number none event either =
     either
 
 -- an update by itself starts nothing
-pub applied_starts : (old mid : Caller) → old.seat.view.who ≡ CallerOf old.number
-    → SearchedOn Updates old.seat.view mid.seat.view → StartsDue old mid
+pub applied_starts : (old mid : Caller) → old.token.view.who ≡ CallerOf old.number
+    → SearchedOn Updates old.token.view mid.token.view → StartsDue old mid
 applied_starts old mid mine went =
-    let v = old.seat.view in
+    let v = old.token.view in
     none_due v.start v.words old.number
     (λ event. (whose event ≢ CallerOf old.number) ⊎ Updates event)
-    (unstarted Updates old.number (updates_start_none old.number)) v.log mid.seat.view.log
-    (subst (λ x. LaterBy x Updates v.log mid.seat.view.log) mine went.went.later)
+    (unstarted Updates old.number (updates_start_none old.number)) v.log mid.token.view.log
+    (subst (λ x. LaterBy x Updates v.log mid.token.view.log) mine went.went.later)
 
 -- and the rebuild after it is of the row that it made due
-pub carried_starts : (old mid new : Caller) (due : Due) → old.seat.view.who ≡ CallerOf old.number
-    → IsCaller mid → mid.number ≡ old.number → SearchedOn Updates old.seat.view mid.seat.view
-    → HasMadeDue old.seat.view mid.seat.view old.number due.parent due.index due.target
-    → WentOn (StartsAt due.target) mid.seat.view new.seat.view → StartsDue old new
+pub carried_starts : (old mid new : Caller) (due : Due) → old.token.view.who ≡ CallerOf old.number
+    → IsCaller mid → mid.number ≡ old.number → SearchedOn Updates old.token.view mid.token.view
+    → HasMadeDue old.token.view mid.token.view old.number due.parent due.index due.target
+    → WentOn (StartsAt due.target) mid.token.view new.token.view → StartsDue old new
 carried_starts old mid new due mine c number went made aims =
-    let v = old.seat.view in
-    let m = mid.seat.view in
-    let w = new.seat.view in
+    let v = old.token.view in
+    let m = mid.token.view in
+    let w = new.token.view in
     due_more v.start v.words old.number v.log m.log w.log (later_by-goes_on aims.later)
     (applied_starts old mid mine went)
     (subst (λ pairs. InstallsDue pairs v.words m.log w.log old.number)
@@ -147,27 +147,27 @@ carried_starts old mid new due mine c number went made aims =
 
 -- ---- by passes
 
-module _ (who began new : Caller) (seat : SeatFace) (command : Command)
-    (it : way.IsWay who began new seat command) (r q : Option Full) where
+module _ (who began new : Caller) (token : TokenFace) (command : Command)
+    (it : way.IsWay who began new token command) (r q : Option Full) where
   others_none : (event : Event) → whose event ≢ CallerOf who.number
       → InstallsNoStart who.number event
   others_none event other = others_start_nothing who.number event other
 
   -- what the work of a call started the call did
-  pub way_starts : StartsDue began new → StartsOnlyDue (pass_face who r) (face_as seat new.number q)
+  pub way_starts : StartsDue began new → StartsOnlyDue (pass_face who r) (face_as token new.number q)
   way_starts d =
-      let v = who.seat.view in
-      let b = began.seat.view in
-      let w = new.seat.view in
-      let x = seat.view in
-      due_more v.start v.words who.number v.log w.log x.log (way.w_to_x who began new seat command it)
-      (due_more v.start v.words who.number v.log b.log w.log (way.b_to_w who began new seat command it)
+      let v = who.token.view in
+      let b = began.token.view in
+      let w = new.token.view in
+      let x = token.view in
+      due_more v.start v.words who.number v.log w.log x.log (way.w_to_x who began new token command it)
+      (due_more v.start v.words who.number v.log b.log w.log (way.b_to_w who began new token command it)
       (none_due v.start v.words who.number (λ event. whose event ≢ CallerOf who.number) others_none
-      v.log b.log (way.later_b who began new seat command it))
+      v.log b.log (way.later_b who began new token command it))
       (subst (λ n. InstallsDue v.start v.words b.log w.log n) it.began_number
       (subst (λ pairs. InstallsDue pairs v.words b.log w.log began.number)
-      (way.b_start who began new seat command it)
+      (way.b_start who began new token command it)
       (subst (λ words. InstallsDue b.start words b.log w.log began.number)
-      (way.b_words who began new seat command it) d))))
+      (way.b_words who began new token command it) d))))
       (none_due v.start v.words who.number (λ event. whose event ≢ CallerOf who.number) others_none
-      w.log x.log (way.later_x who began new seat command it))
+      w.log x.log (way.later_x who began new token command it))

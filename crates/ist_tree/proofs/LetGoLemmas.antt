@@ -6,7 +6,7 @@ use Rattle.ist_core.specs.declared.ports.Full.{Full}
 use Rattle.ist_rule.specs.declared.view.View.{View}
 use Rattle.ist_core.specs.declared.events.Who.TheVariants.{Caller as CallerOf}
 use Rattle.ist_rule.specs.Conditions.{IsResolved}
-use Rattle.ist_rule.specs.Faces.{SeatFace}
+use Rattle.ist_rule.specs.Faces.{TokenFace}
 use Rattle.ist_rule.specs.Learning.{Turned, beginning, giving_up}
 use Rattle.ist_rule.specs.Rule.{IsSound}
 use Rattle.ist_rows.specs.declared.callers.Caller.{Caller}
@@ -22,21 +22,21 @@ use Rattle.ist_tree.specs.Insides.{IsPassWith, face_as, pass_face}
 use Rattle.ist_tree.specs.Refusals.{IsRefused}
 use Rattle.ist_tree.specs.Rounds.{HadMissed, HasLetGo}
 use Rattle.ist_tree.specs.Working.{IsLetGo, StartsDue}
-use Rattle.ist_tree.proofs.BetweenLemmas.{has_its_calls}
+use Rattle.ist_tree.proofs.IdleCallerLemmas.{has_its_calls}
 use Rattle.ist_tree.proofs.CountedLemmas.{way_counted}
 use Rattle.ist_tree.proofs.InstallLemmas.{way_starts}
 use Rattle.ist_tree.proofs.RefusalLemmas.{update_was_refused}
 use Rattle.ist_tree.proofs.UpdateLemmas.{came_nowhere}
-use Rattle.ist_tree.proofs.WayLemmas.{IsWay, final_pass, seen_more, settled_then, v_to_b, w_start, w_to_x, w_words}
+use Rattle.ist_tree.proofs.UpdateSeenLemmas.{IsWay, final_pass, seen_more, settled_then, v_to_b, w_start, w_to_x, w_words}
 
-module _ (who began new : Caller) (seat : SeatFace) (command : Command) (s : IsSound who.seat.view)
+module _ (who began new : Caller) (token : TokenFace) (command : Command) (s : IsSound who.token.view)
     (r : Option Full) (p : IsPassWith who r)
-    (begun : Turned who.seat.view (beginning who.seat.view (Some command)) began.seat.view)
-    (began_number : began.number ≡ who.number) (words : ℕ) (same_words : words ≡ who.seat.view.words)
-    (table : seat.table ≡ who.seat.table) where
+    (begun : Turned who.token.view (beginning who.token.view (Some command)) began.token.view)
+    (began_number : began.number ≡ who.number) (words : ℕ) (same_words : words ≡ who.token.view.words)
+    (table : token.table ≡ who.token.table) where
   module _ (d : IsLetGo began new)
-      (given : Turned new.seat.view (giving_up new.seat.view) seat.view) where
-    stops : IsWay who began new seat command
+      (given : Turned new.token.view (giving_up new.token.view) token.view) where
+    stops : IsWay who began new token command
     stops =
         record {
           sound = s;
@@ -59,13 +59,13 @@ module _ (who began new : Caller) (seat : SeatFace) (command : Command) (s : IsS
         }
 
     -- the caller is a pass again
-    pub stopped_pass : IsPassWith (record new { seat = seat }) r
+    pub stopped_pass : IsPassWith (record new { token = token }) r
     stopped_pass =
         record {
-          pass = final_pass who began new seat command stops;
+          pass = final_pass who began new token command stops;
           settled = λ unrefused.
-              settled_then who began new seat command stops
-              (subst (IsResolved new.seat.view) (one_number d.can.number new.number
+              settled_then who began new token command stops
+              (subst (IsResolved new.token.view) (one_number d.can.number new.number
               (sym d.can.mine ∙ d.caller.mine)) d.can.resolved)
               d.starts d.due (p.settled unrefused);
         }
@@ -73,49 +73,49 @@ module _ (who began new : Caller) (seat : SeatFace) (command : Command) (s : IsS
         one_number : (a b : ℕ) → CallerOf a ≡ CallerOf b → a ≡ b
         one_number a b e = cc
 
-    stopped_stamp : seat.view.stamp ≡ who.seat.view.stamp
+    stopped_stamp : token.view.stamp ≡ who.token.view.stamp
     stopped_stamp =
         ap (λ (y : View). y.stamp) given.view ∙ ap (λ (y : View). y.stamp) d.went.went.same
         ∙ ap (λ (y : View). y.stamp) begun.view
 
     -- the pass has seen more
     pub stopped_seen : (old : PassFace) → pass_face who r ≡ old
-        → HasSeenMore old (face_as seat new.number r)
+        → HasSeenMore old (face_as token new.number r)
     stopped_seen old view =
-        subst (λ (o : PassFace). HasSeenMore o (face_as seat new.number r)) view
-        (seen_more who began new seat command stops r r (let e = stopped_stamp in omega arith))
+        subst (λ (o : PassFace). HasSeenMore o (face_as token new.number r)) view
+        (seen_more who began new token command stops r r (let e = stopped_stamp in omega arith))
 
     -- each rebuild that the pass started in the call was of a row at its limit
     pub stopped_starts : StartsDue began new → (old : PassFace) → pass_face who r ≡ old
-        → StartsOnlyDue old (face_as seat new.number r)
+        → StartsOnlyDue old (face_as token new.number r)
     stopped_starts due old view =
-        subst (λ (o : PassFace). StartsOnlyDue o (face_as seat new.number r)) view
-        (way_starts who began new seat command stops r r due)
+        subst (λ (o : PassFace). StartsOnlyDue o (face_as token new.number r)) view
+        (way_starts who began new token command stops r r due)
 
     -- no row reached its limit by it
     none_came_here : (old : PassFace) → pass_face who r ≡ old
-        → (row : ℕ) → ¬ (CameDue old (face_as seat new.number r) row)
+        → (row : ℕ) → ¬ (CameDue old (face_as token new.number r) row)
     none_came_here old view =
-        subst (λ (o : PassFace). (row : ℕ) → ¬ (CameDue o (face_as seat new.number r) row)) view
-        (came_nowhere who began new seat command stops r r d.none_came)
+        subst (λ (o : PassFace). (row : ℕ) → ¬ (CameDue o (face_as token new.number r) row)) view
+        (came_nowhere who began new token command stops r r d.none_came)
 
     -- it counted nowhere
     pub stopped_counted : (old : PassFace) → pass_face who r ≡ old
-        → CountsNowhere old (face_as seat new.number r)
+        → CountsNowhere old (face_as token new.number r)
     stopped_counted old view =
-        subst (λ (o : PassFace). CountsNowhere o (face_as seat new.number r)) view
-        (way_counted who began new seat command stops r r d.uncounted)
+        subst (λ (o : PassFace). CountsNowhere o (face_as token new.number r)) view
+        (way_counted who began new token command stops r r d.uncounted)
 
     -- its calls are placed in what it has seen then
-    pub stopped_placed : HasItsCalls (face_as seat new.number r)
+    pub stopped_placed : HasItsCalls (face_as token new.number r)
     stopped_placed =
-        has_its_calls seat.view new.number given.sound
+        has_its_calls token.view new.number given.sound
         (ap (λ (y : View). y.who) given.view ∙ d.caller.mine)
         (ap (λ (y : View). y.pending) given.view)
 
     -- for a pass with this face: it is let go
     pub stopped : StartsDue began new → (old : PassFace) → pass_face who r ≡ old
-        → HasLetGo old (face_as seat new.number r)
+        → HasLetGo old (face_as token new.number r)
     stopped due old view =
         record {
           idle = record {
@@ -132,29 +132,29 @@ module _ (who began new : Caller) (seat : SeatFace) (command : Command) (s : IsS
 
     -- it was refused
     pub stopped_full : (key : ℕ) (value : Option ℕ) (full : Full)
-        → WasRefused began.seat.view key value words full new.seat.view
+        → WasRefused began.token.view key value words full new.token.view
         → (old : PassFace) → pass_face who r ≡ old
-        → IsRefused old (face_as seat new.number r) key value full
+        → IsRefused old (face_as token new.number r) key value full
     stopped_full key value full cause old view =
-        subst (λ (o : PassFace). IsRefused o (face_as seat new.number r) key value full) view
-        (update_was_refused who began new seat command stops r r words key value full same_words
+        subst (λ (o : PassFace). IsRefused o (face_as token new.number r) key value full) view
+        (update_was_refused who began new token command stops r r words key value full same_words
         cause)
 
     -- or it met another value
     pub stopped_missed : (key : ℕ) (when : When)
-        → WasMissed began.seat.view new.seat.view key when → (old : PassFace) → pass_face who r ≡ old
-        → HadMissed old (face_as seat new.number r) key when
+        → WasMissed began.token.view new.token.view key when → (old : PassFace) → pass_face who r ≡ old
+        → HadMissed old (face_as token new.number r) key when
     stopped_missed key when m old view =
-        subst (λ (o : PassFace). HadMissed o (face_as seat new.number r) key when) view
+        subst (λ (o : PassFace). HadMissed o (face_as token new.number r) key when) view
         record {
           had = m.had;
           missed = m.missed;
-          position = position_on who.seat.view.start who.seat.view.words who.seat.view.log
-              began.seat.view.log new.seat.view.log seat.view.log
-              (v_to_b who began new seat command stops) (w_to_x who began new seat command stops) key
+          position = position_on who.token.view.start who.token.view.words who.token.view.log
+              began.token.view.log new.token.view.log token.view.log
+              (v_to_b who began new token command stops) (w_to_x who began new token command stops) key
               m.had
-              (subst (λ pairs. HasPosition pairs who.seat.view.words began.seat.view.log
-              new.seat.view.log key m.had) (w_start who began new seat command stops)
-              (subst (λ n. HasPosition new.seat.view.start n began.seat.view.log new.seat.view.log key
-              m.had) (w_words who began new seat command stops) m.position));
+              (subst (λ pairs. HasPosition pairs who.token.view.words began.token.view.log
+              new.token.view.log key m.had) (w_start who began new token command stops)
+              (subst (λ n. HasPosition new.token.view.start n began.token.view.log new.token.view.log key
+              m.had) (w_words who began new token command stops) m.position));
         }

@@ -16,8 +16,8 @@ use Rattle.ist_core.proofs.GrowingLemmas.{inner_there}
 use Rattle.ist_core.proofs.PrefixLemmas.{ever_from}
 use Rattle.ist_math.specs.Guess.{guess_in, distance}
 use Rattle.ist_rule.proofs.LaterLemmas.{goes_on_more}
-use Rattle.laws_walks.specs.Walking.{IsChainOf, WalksTo, at_top, walks_down}
-use Rattle.laws_walks.proofs.WalkLemmas.{walked_chain}
+use Rattle.laws_calls.specs.Walking.{IsChainOf, WalksTo, at_top, walks_down}
+use Rattle.laws_calls.proofs.WalkLemmas.{walked_chain}
 use Rattle.ist_find.specs.Searches.{keys_in}
 use Rattle.ist_tree.specs.Calls.{row_loads}
 

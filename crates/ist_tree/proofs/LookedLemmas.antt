@@ -2,10 +2,10 @@
 use Rattle.std.proofs.Common.{◌≡◌, ◌≢◌, ℕ, ◌+◌, Option, Some, None, length, refl, inl, ⊎_elim, sym, ap, ap₂, ◌∙◌, subst, arith}
 use Rattle.ist_core.specs.declared.events.Event.TheVariants.{Count}
 use Rattle.ist_core.specs.Authors.{whose}
-use Rattle.laws_settling.proofs.DoneLemmas.{others_start_nothing}
+use Rattle.laws_calls.proofs.DoneLemmas.{others_start_nothing}
 use Rattle.ist_tree.specs.Refusals.{KeepsRowRefusal}
 use Rattle.ist_tree.specs.Rounds.{HasNoEffect}
-use Rattle.ist_tree.proofs.CameLemmas.{event_since}
+use Rattle.ist_tree.proofs.RowAtLimitLemmas.{event_since}
 use Rattle.ist_tree.proofs.CountedLemmas.{others_counted}
 use Rattle.ist_tree.proofs.InstallLemmas.{none_due, not_before}
 use Rattle.ist_core.specs.declared.commands.Command.TheVariants.{Get}
@@ -16,7 +16,7 @@ use Rattle.ist_core.specs.Authors.{Later}
 use Rattle.laws_histories.specs.Searching.{HasPosition}
 use Rattle.ist_rule.specs.declared.view.View.{View}
 use Rattle.ist_rule.specs.Conditions.{CanGiveUp}
-use Rattle.ist_rule.specs.Faces.{SeatFace}
+use Rattle.ist_rule.specs.Faces.{TokenFace}
 use Rattle.ist_rule.specs.Learning.{Turned, beginning, giving_up}
 use Rattle.ist_rule.specs.Rule.{IsSound}
 use Rattle.ist_rule.proofs.LaterLemmas.{later-goes_on, later_more}
@@ -26,7 +26,7 @@ use Rattle.ist_tree.specs.Calls.{HasSeenMore}
 use Rattle.ist_tree.specs.Faces.{PassFace}
 use Rattle.ist_tree.specs.Insides.{IsPass, IsPassWith, face_as, pass_face}
 use Rattle.ist_tree.specs.Rounds.{HadValue}
-use Rattle.ist_tree.proofs.BetweenLemmas.{between_behind}
+use Rattle.ist_tree.proofs.IdleCallerLemmas.{between_behind}
 use Rattle.ist_tree.proofs.FindingLemmas.{searched_view}
 use Rattle.ist_tree.proofs.FoundLemmas.{before, its_position, later, lawful, w_is}
 use Rattle.laws_histories.proofs.PositionOnLemmas.{position_on}
@@ -34,23 +34,23 @@ use Rattle.ist_tree.proofs.GoingLemmas.{IsLaterView, pass_with_later}
 use Rattle.ist_tree.proofs.RoundWalkLemmas.{one_search}
 
 -- what a find that is given up results in, for a pass with this face
-pub record FindLeaves (old : PassFace) (who : Caller) (refused : Option Full) (seat : SeatFace)
+pub record FindLeaves (old : PassFace) (who : Caller) (refused : Option Full) (token : TokenFace)
     (key : ℕ) (value : Option ℕ) : Type 0 where
-  pub pass : IsPassWith (record who { seat = seat }) refused
-  pub seen : HasSeenMore old (face_as seat who.number refused)
-  pub others : Later (CallerOf old.number) old.seen seat.view.log
-  pub calls : seat.view.calls ≡ old.calls
-  pub stamp : seat.view.stamp ≡ old.stamp
-  pub position : HadValue old (face_as seat who.number refused) key value
-  pub one_walk : seat.view.searches ≡ old.searches + 1
+  pub pass : IsPassWith (record who { token = token }) refused
+  pub seen : HasSeenMore old (face_as token who.number refused)
+  pub others : Later (CallerOf old.number) old.seen token.view.log
+  pub calls : token.view.calls ≡ old.calls
+  pub stamp : token.view.stamp ≡ old.stamp
+  pub position : HadValue old (face_as token who.number refused) key value
+  pub one_walk : token.view.searches ≡ old.searches + 1
 
 -- the caller began a get and searched
-module _ (who : Caller) (key : ℕ) (value : Option ℕ) (b w : View) (s : IsSound who.seat.view)
-    (p : IsPass who) (begun : Turned who.seat.view (beginning who.seat.view (Some (Get key))) b)
+module _ (who : Caller) (key : ℕ) (value : Option ℕ) (b w : View) (s : IsSound who.token.view)
+    (p : IsPass who) (begun : Turned who.token.view (beginning who.token.view (Some (Get key))) b)
     (seen : HasSearched b w) (has : HasPosition w.start w.words b.log w.log key value) where
   -- the view before the find
   abbrev v : View
-  v = who.seat.view
+  v = who.token.view
 
   to_b : Later (CallerOf who.number) v.log b.log
   to_b = before who key value b w s p begun seen has
@@ -77,12 +77,12 @@ module _ (who : Caller) (key : ℕ) (value : Option ℕ) (b w : View) (s : IsSou
       }
 
   -- and gave it up
-  module _ (seat : SeatFace) (refused : Option Full) (all : IsPassWith who refused)
-      (same_table : seat.table ≡ who.seat.table)
-      (given : Turned w (giving_up w) seat.view) where
+  module _ (token : TokenFace) (refused : Option Full) (all : IsPassWith who refused)
+      (same_table : token.table ≡ who.token.table)
+      (given : Turned w (giving_up w) token.view) where
     -- the view after the find
     abbrev x : View
-    x = seat.view
+    x = token.view
 
     x_is : x ≡ record v { log = x.log; loads = w.loads; loaded = w.loaded + 1; searches = w.searches; pending = None }
     x_is = given.view ∙ ap (λ (y : View). giving_up y x.log) is_w
@@ -107,11 +107,11 @@ module _ (who : Caller) (key : ℕ) (value : Option ℕ) (b w : View) (s : IsSou
 
     -- a find that is given up results in this
     pub find_leaves : (old : PassFace) → pass_face who refused ≡ old
-        → FindLeaves old who refused seat key value
+        → FindLeaves old who refused token key value
     find_leaves old view =
-        subst (λ (o : PassFace). FindLeaves o who refused seat key value) view
+        subst (λ (o : PassFace). FindLeaves o who refused token key value) view
         record {
-          pass = pass_with_later who seat refused all later_view (ap (λ (y : View). y.pending) x_is);
+          pass = pass_with_later who token refused all later_view (ap (λ (y : View). y.pending) x_is);
           seen = record {
             tree = ap₂ (λ t (y : View). record { table = t; start = y.start; words = y.words })
                 same_table x_is;

@@ -11,7 +11,7 @@ use Rattle.laws_histories.proofs.WovenLemmas.{woven_legal}
 use Rattle.laws_histories.proofs.PlacedLemmas.{has_places}
 use Rattle.ist_rule.specs.declared.view.View.{View}
 use Rattle.ist_core.specs.Authors.{Later}
-use Rattle.ist_rule.specs.Faces.{SeatFace}
+use Rattle.ist_rule.specs.Faces.{TokenFace}
 use Rattle.ist_rule.specs.Learning.{Looked, seeing}
 use Rattle.ist_rule.specs.Seating.{joined}
 use Rattle.ist_rule.proofs.LaterLemmas.{later-goes_on}
@@ -19,17 +19,17 @@ use Rattle.ist_rows.specs.declared.callers.Caller.{Caller}
 use Rattle.ist_tree.specs.Faces.{TreeFace, PassFace, calls_in, HasItsCalls}
 use Rattle.ist_tree.specs.Calls.{HasSeenMore, HasLearnt, WeavesWith}
 use Rattle.ist_tree.specs.Insides.{tree_of, face_as, pass_face, note_face, noted_number, IsPassWith, IsNote}
-use Rattle.ist_tree.proofs.BetweenLemmas.{has_its_calls}
+use Rattle.ist_tree.proofs.IdleCallerLemmas.{has_its_calls}
 use Rattle.ist_tree.proofs.GoingLemmas.{IsLaterView, pass_with_later}
 
 -- what a meeting results in, for a pass and a note with these faces
-pub record MeetEnds (old note : PassFace) (who : Caller) (refused : Option Full) (seat : SeatFace)
+pub record MeetEnds (old note : PassFace) (who : Caller) (refused : Option Full) (token : TokenFace)
     : Type 0 where
-  pub pass : IsPassWith (record who { seat = seat }) refused
-  pub seen : HasSeenMore old (face_as seat who.number refused)
-  pub calls : seat.view.calls ≡ old.calls
-  pub learnt : HasLearnt (face_as seat who.number refused) note
-  pub woven : WeavesWith (face_as seat who.number refused) note
+  pub pass : IsPassWith (record who { token = token }) refused
+  pub seen : HasSeenMore old (face_as token who.number refused)
+  pub calls : token.view.calls ≡ old.calls
+  pub learnt : HasLearnt (face_as token who.number refused) note
+  pub woven : WeavesWith (face_as token who.number refused) note
 
 -- two passes of one tree that each have their calls are woven, if one has seen what the other had
 weaves : (p other : PassFace) → Lawful p.tree.start p.tree.words p.seen → HasItsCalls p
@@ -58,18 +58,18 @@ weaves p other lawful mine theirs learnt =
     )
 
 -- the caller took in a note
-module _ (who : Caller) (n seat : SeatFace) (refused : Option Full)
+module _ (who : Caller) (n token : TokenFace) (refused : Option Full)
     (p : IsPassWith who refused) (note : IsNote n.view) (word : ℕ)
-    (same_table : seat.table ≡ who.seat.table)
-    (l : Looked (joined who.seat.view n.view) 0 word seat.view)
-    (later : Later who.seat.view.who who.seat.view.log seat.view.log)
-    (other_later : Later n.view.who n.view.log seat.view.log)
-    (one_tree : tree_of n ≡ tree_of who.seat) where
+    (same_table : token.table ≡ who.token.table)
+    (l : Looked (joined who.token.view n.view) 0 word token.view)
+    (later : Later who.token.view.who who.token.view.log token.view.log)
+    (other_later : Later n.view.who n.view.log token.view.log)
+    (one_tree : tree_of n ≡ tree_of who.token) where
   abbrev v : View
-  v = who.seat.view
+  v = who.token.view
 
   abbrev x : View
-  x = seat.view
+  x = token.view
 
   x_is : x ≡ seeing (joined v n.view) x.log 0 word
   x_is = l.view
@@ -84,14 +84,14 @@ module _ (who : Caller) (n seat : SeatFace) (refused : Option Full)
         sound = l.sound;
       }
 
-  tree_same : tree_of seat ≡ tree_of who.seat
+  tree_same : tree_of token ≡ tree_of who.token
   tree_same =
       ap₂ (λ t (y : View). record { table = t; start = y.start; words = y.words }) same_table x_is
 
   none : x.pending ≡ None
   none = ap (λ (y : View). y.pending) x_is ∙ p.pass.in_none
 
-  learns : HasLearnt (face_as seat who.number refused) (note_face n)
+  learns : HasLearnt (face_as token who.number refused) (note_face n)
   learns =
       let up : x.stamp ≡ max v.stamp n.view.stamp = ap (λ (y : View). y.stamp) x_is in
       record {
@@ -100,7 +100,7 @@ module _ (who : Caller) (n seat : SeatFace) (refused : Option Full)
         stamp = omega arith;
       }
 
-  mine : HasItsCalls (face_as seat who.number refused)
+  mine : HasItsCalls (face_as token who.number refused)
   mine = has_its_calls x who.number l.sound (later_view.who_is ∙ p.pass.caller.mine) none
 
   theirs : HasItsCalls (note_face n)
@@ -108,11 +108,11 @@ module _ (who : Caller) (n seat : SeatFace) (refused : Option Full)
       subst (λ number. HasCalls n.view.start n.view.words n.view.log number n.view.stamp n.view.calls)
       (sym (ap noted_number note.of_pass)) note.calls
 
-  meet_here : MeetEnds (pass_face who refused) (note_face n) who refused seat
+  meet_here : MeetEnds (pass_face who refused) (note_face n) who refused token
   meet_here =
       let up : x.stamp ≡ max v.stamp n.view.stamp = ap (λ (y : View). y.stamp) x_is in
       record {
-        pass = pass_with_later who seat refused p later_view none;
+        pass = pass_with_later who token refused p later_view none;
         seen = record {
           tree = tree_same;
           number = refl;
@@ -121,12 +121,12 @@ module _ (who : Caller) (n seat : SeatFace) (refused : Option Full)
         };
         calls = ap (λ (y : View). y.calls) x_is;
         learnt = learns;
-        woven = weaves (face_as seat who.number refused) (note_face n) l.sound.lawful mine theirs learns;
+        woven = weaves (face_as token who.number refused) (note_face n) l.sound.lawful mine theirs learns;
       }
 
   -- all of this together
   pub meet_ends : (old other : PassFace) → pass_face who refused ≡ old → note_face n ≡ other
-      → MeetEnds old other who refused seat
+      → MeetEnds old other who refused token
   meet_ends old other as_old as_other =
-      subst (λ (o : PassFace). MeetEnds o other who refused seat) as_old
-      (subst (λ (o : PassFace). MeetEnds (pass_face who refused) o who refused seat) as_other meet_here)
+      subst (λ (o : PassFace). MeetEnds o other who refused token) as_old
+      (subst (λ (o : PassFace). MeetEnds (pass_face who refused) o who refused token) as_other meet_here)

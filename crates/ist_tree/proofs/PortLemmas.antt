@@ -7,7 +7,7 @@ use Rattle.ist_core.specs.declared.ports.Full.{Full}
 use Rattle.ist_core.specs.Logs.{same_log}
 use Rattle.ist_core.specs.Replies.{Refused, refusal}
 use Rattle.ist_rule.proofs.LaterLemmas.{goes_on_more}
-use Rattle.laws_rows.specs.Finishing.{puts_in}
+use Rattle.laws_calls.specs.Finishing.{puts_in}
 use Rattle.ist_core.specs.Changes.{changes_of}
 use Rattle.ist_updates.specs.Asking.{command_for}
 use Rattle.ist_tree.specs.Calls.{HasSeenMore}

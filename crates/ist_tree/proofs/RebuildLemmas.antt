@@ -12,8 +12,8 @@ use Rattle.ist_core.specs.Slots.{SlotHolds}
 use Rattle.ist_core.specs.StartLayout.{start}
 use Rattle.std.proofs.Math.Nat.{le_trans}
 use Rattle.ist_core.proofs.GrowingLemmas.{inner_there}
-use Rattle.laws_settling.specs.Settling.{StartsAreDone, InstallsNoStart, CountsNothing, DueRowsAreClosed}
-use Rattle.laws_settling.proofs.DoneLemmas.{due_stay, others_count_nothing, others_start_nothing, starts_stay}
+use Rattle.laws_calls.specs.Settling.{StartsAreDone, InstallsNoStart, CountsNothing, DueRowsAreClosed}
+use Rattle.laws_calls.proofs.DoneLemmas.{due_stay, others_count_nothing, others_start_nothing, starts_stay}
 use Rattle.laws_stability.proofs.LaterLemmas.{ever_later}
 use Rattle.ist_rule.specs.declared.view.View.{View}
 use Rattle.ist_core.specs.declared.events.Who.TheVariants.{Caller as CallerOf}
@@ -23,7 +23,7 @@ use Rattle.ist_rule.specs.Going.{WentOn}
 use Rattle.ist_rule.specs.Learning.{now}
 use Rattle.ist_rule.proofs.LaterLemmas.{goes_on_more}
 use Rattle.ist_rule.proofs.WentOnLemmas.{later_by-goes_on, went_grow, went_lawful, went_now}
-use Rattle.ist_rule.specs.Faces.{SeatFace}
+use Rattle.ist_rule.specs.Faces.{TokenFace}
 use Rattle.ist_rows.specs.declared.callers.Caller.{Caller}
 use Rattle.ist_rebuild.specs.Starting.{MayStart}
 use Rattle.ist_tree.specs.Working.{Rebuilds, KeepsDone}
@@ -96,17 +96,17 @@ may_start_went P v w went parent index target m =
 -- ---- steps that leave rows and install nothing
 
 module _ (P : Event → Type 0) (all : (event : Event) → P event → IsPlainHelp event) (who : Caller)
-    (seat : SeatFace) (r : IsReady who) (went : WentOn P who.seat.view seat.view) where
+    (token : TokenFace) (r : IsReady who) (went : WentOn P who.token.view token.view) where
   -- the caller goes on
-  pub plain_on : StaysReady Rebuilds who (record who { seat = seat })
+  pub plain_on : StaysReady Rebuilds who (record who { token = token })
   plain_on =
-      ready_all P Rebuilds (λ event p. (all event p).rebuilds) who (record who { seat = seat })
-      (kept_ready P (λ event p. (all event p).keeps) who seat r went)
+      ready_all P Rebuilds (λ event p. (all event p).rebuilds) who (record who { token = token })
+      (kept_ready P (λ event p. (all event p).keeps) who token r went)
 
   -- and its starts stay done
-  pub plain_done : KeepsDone who (record who { seat = seat })
+  pub plain_done : KeepsDone who (record who { token = token })
   plain_done =
-      starts_went P who.number who.seat.view seat.view r.caller.mine went
+      starts_went P who.number who.token.view token.view r.caller.mine went
       (λ event p. none_starts_none who.number event (all event p).installs) r.quiet.resolved
 
 -- a load is no such step, and none at all

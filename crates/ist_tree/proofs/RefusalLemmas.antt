@@ -15,14 +15,14 @@ use Rattle.ist_core.specs.Snapshots.{Snapshot}
 use Rattle.ist_core.specs.Spending.{spent}
 use Rattle.ist_core.specs.StartLayout.{start}
 use Rattle.ist_core.proofs.FateLemmas.{grow_between}
-use Rattle.laws_rows.specs.Finishing.{is_put, puts_in}
-use Rattle.laws_rows.proofs.NumberLemmas.{finished_few}
+use Rattle.laws_calls.specs.Finishing.{is_put, puts_in}
+use Rattle.laws_calls.proofs.NumberLemmas.{finished_few}
 use Rattle.laws_histories.proofs.ChangeLemmas.{changes_on}
 use Rattle.laws_histories.specs.Searching.{HasPosition}
 use Rattle.laws_links.proofs.FinishedLemmas.{target_grows}
 use Rattle.laws_links.proofs.FormLemmas.{replaced_grows, started_grows}
 use Rattle.ist_rule.specs.declared.view.View.{View}
-use Rattle.ist_rule.specs.Faces.{SeatFace}
+use Rattle.ist_rule.specs.Faces.{TokenFace}
 use Rattle.ist_rule.specs.Learning.{now}
 use Rattle.ist_rule.proofs.LaterLemmas.{goes_on_more}
 use Rattle.ist_rows.specs.declared.callers.Caller.{Caller}
@@ -38,7 +38,7 @@ use Rattle.laws_histories.proofs.PositionOnLemmas.{position_on}
 use Rattle.ist_tree.proofs.AskedLemmas.{asked_grows}
 use Rattle.ist_tree.proofs.GoingLemmas.{lawful_behind}
 use Rattle.ist_tree.proofs.ShortLemmas.{short_now}
-use Rattle.ist_tree.proofs.WayLemmas.{IsWay, b_start, b_view, b_words, b_to_w, lawful_w, lawful_x, v_to_b, w_start, w_to_x, w_words, x_start, x_words}
+use Rattle.ist_tree.proofs.UpdateSeenLemmas.{IsWay, b_start, b_view, b_words, b_to_w, lawful_w, lawful_x, v_to_b, w_start, w_to_x, w_words, x_start, x_words}
 
 -- a longer log has no fewer puts
 pub puts_rise : (pairs : List Pair) (words : ℕ) (earlier log : Log) → GoesOn earlier log
@@ -51,27 +51,27 @@ puts_rise pairs words earlier log g =
     (filter (λ (e : Entry). is_put e.command) on.0) in
     omega arith
 
-module _ (who began new : Caller) (seat : SeatFace) (command : Command)
-    (it : IsWay who began new seat command) (r q : Option Full) where
+module _ (who began new : Caller) (token : TokenFace) (command : Command)
+    (it : IsWay who began new token command) (r q : Option Full) where
   -- the pass before the call
   abbrev before : PassFace
   before = pass_face who r
 
   -- the pass after the call
   abbrev behind : PassFace
-  behind = face_as seat new.number q
+  behind = face_as token new.number q
 
   -- the view before the call
   abbrev v : View
-  v = who.seat.view
+  v = who.token.view
 
   -- the view after the work
   abbrev w : View
-  w = new.seat.view
+  w = new.token.view
 
   -- the view after the call
   abbrev x : View
-  x = seat.view
+  x = token.view
 
   -- there were too few words at the end of the work
   abbrev had_too_few : (words : ℕ) (full : Full) → words ≡ v.words
@@ -79,11 +79,11 @@ module _ (who began new : Caller) (seat : SeatFace) (command : Command)
   had_too_few words full same s =
       record {
         at = w.log;
-        since = goes_on_more (v_to_b who began new seat command it) (b_to_w who began new seat command it);
-        until = w_to_x who began new seat command it;
+        since = goes_on_more (v_to_b who began new token command it) (b_to_w who began new token command it);
+        until = w_to_x who began new token command it;
         few = record {
           next_is =
-              s.next_is ∙ ap (λ pairs. spent pairs w.log) (w_start who began new seat command it);
+              s.next_is ∙ ap (λ pairs. spent pairs w.log) (w_start who began new token command it);
           words_is = s.words_is ∙ same;
           small = subst (λ n. n < full.next + full.asked) same s.small;
         };
@@ -92,27 +92,27 @@ module _ (who began new : Caller) (seat : SeatFace) (command : Command)
   -- the state after the work, by the pass's table
   now_w : now w ≡ state_of v.start v.words w.log
   now_w =
-      ap₂ (λ pairs words. state_of pairs words w.log) (w_start who began new seat command it)
-      (w_words who began new seat command it)
+      ap₂ (λ pairs words. state_of pairs words w.log) (w_start who began new token command it)
+      (w_words who began new token command it)
 
   -- what helping a rebuild took
   asked_for_rebuild : (rebuild asked : ℕ) → IsAskedFor (now w) rebuild asked
       → IsForRebuild behind asked
   asked_for_rebuild rebuild asked (for_change e) = inl e
   asked_for_rebuild rebuild asked (for_row row k some e fin least le is) =
-      let lawful = lawful_w who began new seat command it in
+      let lawful = lawful_w who began new token command it in
       let here = subst (λ t. IsFinishedWith t row.target k) now_w fin in
       let most = finished_few v.start v.words lawful.opens w.log lawful.enabled row.target k here.row
       here.published here.status in
-      let rise = puts_rise v.start v.words w.log x.log (w_to_x who began new seat command it) in
+      let rise = puts_rise v.start v.words w.log x.log (w_to_x who began new token command it) in
       inr record {
         keys = some;
         least = least;
         most =
             subst (λ words. some ≤ length x.start + puts_in (changes_of x.start words x.log))
-            (sym (x_words who began new seat command it))
+            (sym (x_words who began new token command it))
             (subst (λ pairs. some ≤ length pairs + puts_in (changes_of pairs v.words x.log))
-            (sym (x_start who began new seat command it)) (omega arith));
+            (sym (x_start who began new token command it)) (omega arith));
         asked_is = is;
       }
 
@@ -121,11 +121,11 @@ module _ (who began new : Caller) (seat : SeatFace) (command : Command)
       → ((t u : Snapshot) → AllGrow t.pieces u.pieces → Q t → Q u) → Q (now w)
       → Q (state_of x.start x.words x.log)
   in_last Q grows h =
-      subst (λ words. Q (state_of x.start words x.log)) (sym (x_words who began new seat command it))
-      (subst (λ pairs. Q (state_of pairs v.words x.log)) (sym (x_start who began new seat command it))
+      subst (λ words. Q (state_of x.start words x.log)) (sym (x_words who began new token command it))
+      (subst (λ pairs. Q (state_of pairs v.words x.log)) (sym (x_start who began new token command it))
       (grows (state_of v.start v.words w.log) (state_of v.start v.words x.log)
-      (grow_between v.start v.words w.log x.log (lawful_x who began new seat command it).enabled
-      (w_to_x who began new seat command it)) (subst Q now_w h)))
+      (grow_between v.start v.words w.log x.log (lawful_x who began new token command it).enabled
+      (w_to_x who began new token command it)) (subst Q now_w h)))
 
   -- and of this very rebuild
   for_help : (rebuild asked : ℕ) → IsAskedFor (now w) rebuild asked → IsForHelp behind rebuild asked
@@ -138,32 +138,32 @@ module _ (who began new : Caller) (seat : SeatFace) (command : Command)
   started_last rebuild = in_last (λ t. IsStarted t rebuild) (λ t u g. started_grows t u g rebuild)
 
   -- one that wasn't replaced when the call had begun wasn't before
-  unreplaced_first : (rebuild : ℕ) → ¬ (IsReplaced (now began.seat.view) rebuild)
+  unreplaced_first : (rebuild : ℕ) → ¬ (IsReplaced (now began.token.view) rebuild)
       → ¬ (IsReplaced (now v) rebuild)
   unreplaced_first rebuild unreplaced k =
       unreplaced
       (subst (λ t. IsReplaced t rebuild) (sym now_b)
-      (replaced_grows (now v) (state_of v.start v.words began.seat.view.log)
-      (grow_between v.start v.words v.log began.seat.view.log
-      (lawful_behind v began.seat.view (b_view who began new seat command it)).enabled
-      (v_to_b who began new seat command it)) rebuild k))
+      (replaced_grows (now v) (state_of v.start v.words began.token.view.log)
+      (grow_between v.start v.words v.log began.token.view.log
+      (lawful_behind v began.token.view (b_view who began new token command it)).enabled
+      (v_to_b who began new token command it)) rebuild k))
     where
-      now_b : now began.seat.view ≡ state_of v.start v.words began.seat.view.log
+      now_b : now began.token.view ≡ state_of v.start v.words began.token.view.log
       now_b =
-          ap₂ (λ pairs words. state_of pairs words began.seat.view.log)
-          (b_start who began new seat command it) (b_words who began new seat command it)
+          ap₂ (λ pairs words. state_of pairs words began.token.view.log)
+          (b_start who began new token command it) (b_words who began new token command it)
 
   -- the rebuild of a row that reached its limit in the work was refused
   pub row_was_refused : (words : ℕ) (full : Full) → words ≡ v.words → (row : ℕ)
-      → CameToLimit v.start v.words began.seat.view.log w.log who.number row
-      → working.IsDueRefused (now began.seat.view) w row words full
+      → CameToLimit v.start v.words began.token.view.log w.log who.number row
+      → working.IsDueRefused (now began.token.view) w row words full
       → IsRowRefused before behind row full
   row_was_refused words full same row c d =
       record {
         came = record {
           at = c.at;
-          since = goes_on_more (v_to_b who began new seat command it) c.since;
-          until = goes_on_more c.until (w_to_x who began new seat command it);
+          since = goes_on_more (v_to_b who began new token command it) c.since;
+          until = goes_on_more c.until (w_to_x who began new token command it);
           row = c.row;
           published = c.published;
           reached = c.reached;
@@ -173,7 +173,7 @@ module _ (who began new : Caller) (seat : SeatFace) (command : Command)
         asked = asked d.asked;
       }
     where
-      asked : working.IsAskedToRebuild (now began.seat.view) (now w) row full.asked
+      asked : working.IsAskedToRebuild (now began.token.view) (now w) row full.asked
           → IsAskedForRow before behind row full.asked
       asked (working.for_start e) = for_start e
       asked (working.for_own rebuild started of a) =
@@ -197,29 +197,29 @@ module _ (who began new : Caller) (seat : SeatFace) (command : Command)
 
   -- the update itself was
   pub update_was_refused : (words key : ℕ) (value : Option ℕ) (full : Full) → words ≡ v.words
-      → updates.WasRefused began.seat.view key value words full w
+      → updates.WasRefused began.token.view key value words full w
       → IsRefused before behind key value full
   update_was_refused words key value full same d =
       record {
-        had = had_too_few words full same (short_now Updates (record began.seat.view { searches = w.searches }) words full w d.short);
+        had = had_too_few words full same (short_now Updates (record began.token.view { searches = w.searches }) words full w d.short);
         asked = asked value full.asked d.asked;
       }
     where
       asked : (value : Option ℕ) (n : ℕ)
-          → updates.IsAskedBy (record began.seat.view { searches = w.searches }) w key value n
+          → updates.IsAskedBy (record began.token.view { searches = w.searches }) w key value n
           → IsAskedIn before behind key value n
       asked _ n (updates.for_leaf e) = for_leaf e
       asked _ n (updates.for_pair e) = for_pair e
       asked _ n (updates.for_put e) = for_put e
       asked _ n (updates.for_remove found has e) =
           for_remove found
-          (position_on v.start v.words v.log began.seat.view.log w.log x.log
-          (v_to_b who began new seat command it) (w_to_x who began new seat command it) key
+          (position_on v.start v.words v.log began.token.view.log w.log x.log
+          (v_to_b who began new token command it) (w_to_x who began new token command it) key
           (Some found)
-          (subst (λ pairs. HasPosition pairs v.words began.seat.view.log w.log key (Some found))
-          (b_start who began new seat command it)
-          (subst (λ words. HasPosition began.seat.view.start words began.seat.view.log w.log key
-          (Some found)) (b_words who began new seat command it) has)))
+          (subst (λ pairs. HasPosition pairs v.words began.token.view.log w.log key (Some found))
+          (b_start who began new token command it)
+          (subst (λ words. HasPosition began.token.view.start words began.token.view.log w.log key
+          (Some found)) (b_words who began new token command it) has)))
           e
       asked value n (updates.for_rebuild rebuild started unreplaced a) =
           for_rebuild

@@ -7,7 +7,7 @@ use Rattle.ist_core.specs.Authors.{Later}
 use Rattle.ist_core.proofs.RoomLemmas.{next_within, words_same}
 use Rattle.ist_core.proofs.SpendingLemmas.{words_are_spent}
 use Rattle.ist_rule.specs.declared.view.View.{View}
-use Rattle.ist_rule.specs.Faces.{SeatFace}
+use Rattle.ist_rule.specs.Faces.{TokenFace}
 use Rattle.ist_rule.specs.Learning.{Looked, now}
 use Rattle.ist_rule.specs.Rule.{IsSound}
 use Rattle.ist_rule.proofs.GoingOnLemmas.{looked_goes_on}
@@ -18,7 +18,7 @@ use Rattle.ist_tree.specs.Faces.{PassFace}
 use Rattle.ist_tree.specs.Freezing.{HasStartedNone}
 use Rattle.ist_tree.specs.Insides.{IsPassWith, face_as, pass_face}
 use Rattle.ist_tree.specs.Room.{HasLeft, HasMadeNone}
-use Rattle.ist_tree.proofs.BetweenLemmas.{between_calls}
+use Rattle.ist_tree.proofs.IdleCallerLemmas.{between_calls}
 use Rattle.ist_tree.proofs.GoingLemmas.{IsLaterView, goes_later, pass_with_later}
 use Rattle.ist_tree.proofs.StartLemmas.{starts_none_later}
 
@@ -38,42 +38,42 @@ room_sum v next count w l all =
     (omega arith, omega arith)
 
 -- what it results in, for a pass with this face
-pub record RoomEnds (old : PassFace) (who : Caller) (refused : Option Full) (seat : SeatFace)
+pub record RoomEnds (old : PassFace) (who : Caller) (refused : Option Full) (token : TokenFace)
     (left : ℕ) : Type 0 where
-  pub pass : IsPassWith (record who { seat = seat }) refused
-  pub seen : HasSeenMore old (face_as seat who.number refused)
-  pub left_is : HasLeft (face_as seat who.number refused) left
-  pub none : HasMadeNone old (face_as seat who.number refused)
-  pub unstarted : HasStartedNone old (face_as seat who.number refused)
-  pub loads : seat.view.loaded ≡ old.loaded + 1
-  pub calls : seat.view.calls ≡ old.calls
-  pub stamp : seat.view.stamp ≡ old.stamp
+  pub pass : IsPassWith (record who { token = token }) refused
+  pub seen : HasSeenMore old (face_as token who.number refused)
+  pub left_is : HasLeft (face_as token who.number refused) left
+  pub none : HasMadeNone old (face_as token who.number refused)
+  pub unstarted : HasStartedNone old (face_as token who.number refused)
+  pub loads : token.view.loaded ≡ old.loaded + 1
+  pub calls : token.view.calls ≡ old.calls
+  pub stamp : token.view.stamp ≡ old.stamp
 
 -- a load of the first free word ends so
-pub room_ends : (who : Caller) (refused : Option Full) (seat : SeatFace) → IsPassWith who refused
-    → IsSound who.seat.view → (next left : ℕ) → Looked who.seat.view next_place next seat.view
-    → seat.table ≡ who.seat.table → next + left ≡ seat.view.words → (old : PassFace)
-    → pass_face who refused ≡ old → RoomEnds old who refused seat left
-room_ends who refused seat all sound next left l table sum old view =
-    subst (λ (o : PassFace). RoomEnds o who refused seat left) view from
+pub room_ends : (who : Caller) (refused : Option Full) (token : TokenFace) → IsPassWith who refused
+    → IsSound who.token.view → (next left : ℕ) → Looked who.token.view next_place next token.view
+    → token.table ≡ who.token.table → next + left ≡ token.view.words → (old : PassFace)
+    → pass_face who refused ≡ old → RoomEnds old who refused token left
+room_ends who refused token all sound next left l table sum old view =
+    subst (λ (o : PassFace). RoomEnds o who refused token left) view from
   where
     v : View
-    v = who.seat.view
+    v = who.token.view
 
     w : View
-    w = seat.view
+    w = token.view
 
     later : IsLaterView v w
     later = goes_later v w (looked_goes_on v next_place next w l)
 
-    from : RoomEnds (pass_face who refused) who refused seat left
+    from : RoomEnds (pass_face who refused) who refused token left
     from =
         let g = looked_goes_on v next_place next w l in
         let stamps = ap (λ (y : View). y.stamp) g.same in
         let is = l.stood (now w).next shown_next in
         let used = words_are_spent w.start w.words w.log l.sound.lawful in
         record {
-          pass = pass_with_later who seat refused all later
+          pass = pass_with_later who token refused all later
               (ap (λ (y : View). y.pending) g.same ∙ all.pass.in_none);
           seen = record {
             tree = ap₂ (λ t (y : View). record { table = t; start = y.start; words = y.words })

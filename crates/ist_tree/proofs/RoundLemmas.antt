@@ -16,7 +16,7 @@ use Rattle.ist_tree.specs.DueRows.{CameDue, CountsNowhere, HasCounted, IsTopmost
 use Rattle.ist_tree.specs.Faces.{PassFace}
 use Rattle.ist_tree.specs.Refusals.{IsRefused, KeepsRowRefusal}
 use Rattle.ist_tree.specs.Rounds.{HasLetGo, HasNoEffect}
-use Rattle.ist_tree.proofs.CameLemmas.{in_order, whole_or_before}
+use Rattle.ist_tree.proofs.RowAtLimitLemmas.{in_order, whole_or_before}
 use Rattle.ist_tree.proofs.CountedLemmas.{counted_more}
 use Rattle.ist_tree.proofs.InstallLemmas.{due_more, not_before}
 use Rattle.ist_tree.proofs.RoundRefusalLemmas.{keeps_since, let_go_at, refused_since, row_since}

@@ -5,7 +5,7 @@ use Rattle.ist_core.specs.declared.commands.Command.{Command}
 use Rattle.ist_core.specs.RowLayout.{place_limit}
 use Rattle.ist_core.specs.StartLayout.{start}
 use Rattle.laws_histories.proofs.ChangeLemmas.{changes_rise}
-use Rattle.laws_progress.proofs.ProgressLemmas.{never_falls}
+use Rattle.laws_stability.proofs.ProgressLemmas.{never_falls}
 use Rattle.ist_rule.specs.declared.view.View.{View}
 use Rattle.ist_rule.specs.Learning.{Turned, beginning}
 use Rattle.ist_find.specs.Searches.{HasSearched}

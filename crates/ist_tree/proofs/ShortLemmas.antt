@@ -13,7 +13,7 @@ use Rattle.ist_core.proofs.NamingLemmas.{IsRebuildFor, SlotNames, slot_names}
 use Rattle.ist_core.proofs.OrderLemmas.{names}
 use Rattle.laws_links.proofs.FinishedLemmas.{target_grows}
 use Rattle.laws_links.proofs.FormLemmas.{replaced_grows, started_grows}
-use Rattle.laws_rebuilds.proofs.RebuiltLemmas.{read_unreplaced}
+use Rattle.laws_links.proofs.RebuiltLemmas.{read_unreplaced}
 use Rattle.ist_rule.specs.Going.{WentOn}
 use Rattle.ist_rule.proofs.WentOnLemmas.{went_grow}
 use Rattle.ist_core.proofs.SpendingLemmas.{words_are_spent}
@@ -26,7 +26,7 @@ use Rattle.ist_rebuild.specs.Helping.{IsHelpRefused}
 use Rattle.ist_rebuild.specs.Starting.{IsStartRefused, IsStartedAt, StoodInstead}
 use Rattle.ist_tree.specs.Working.{IsAskedToRebuild, IsDueRefused, for_other, for_own, for_start}
 use Rattle.ist_tree.specs.Refusals.{LeavesTooFew}
-use Rattle.ist_tree.proofs.ShutLemmas.{other_started}
+use Rattle.ist_tree.proofs.HelpedRebuildLemmas.{other_started}
 
 -- ---- too few words
 

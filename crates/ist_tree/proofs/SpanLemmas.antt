@@ -4,7 +4,7 @@ use Rattle.ist_core.specs.declared.pairs.Pair.{Pair}
 use Rattle.ist_core.specs.declared.ports.Full.{Full}
 use Rattle.laws_histories.specs.Searching.{HasPosition}
 use Rattle.ist_rule.specs.declared.view.View.{View}
-use Rattle.ist_rule.specs.Faces.{SeatFace}
+use Rattle.ist_rule.specs.Faces.{TokenFace}
 use Rattle.ist_rule.specs.Learning.{now}
 use Rattle.ist_rule.proofs.LaterLemmas.{later-goes_on}
 use Rattle.ist_rows.specs.declared.callers.Caller.{Caller}
@@ -17,32 +17,32 @@ use Rattle.ist_tree.specs.Spans.{AllHave, HasLoadedFewOver, state_seen}
 use Rattle.ist_tree.proofs.GoingLemmas.{IsLaterView, pass_with_later}
 
 -- what it results in, for a pass with this face
-pub record SpanEnds (old : PassFace) (who : Caller) (refused : Option Full) (seat : SeatFace)
+pub record SpanEnds (old : PassFace) (who : Caller) (refused : Option Full) (token : TokenFace)
     (key first last : ℕ) (pair : Option Pair) : Type 0 where
-  pub pass : IsPassWith (record who { seat = seat }) refused
-  pub seen : HasSeenMore old (face_as seat who.number refused)
-  pub values : AllHave old (face_as seat who.number refused) first last pair
-  pub calls : seat.view.calls ≡ old.calls
-  pub stamp : seat.view.stamp ≡ old.stamp
-  pub edges : EndAtEdges (state_seen (face_as seat who.number refused)) first last
-  pub loads : HasLoadedFewOver old (face_as seat who.number refused) key (pair_value pair key)
+  pub pass : IsPassWith (record who { token = token }) refused
+  pub seen : HasSeenMore old (face_as token who.number refused)
+  pub values : AllHave old (face_as token who.number refused) first last pair
+  pub calls : token.view.calls ≡ old.calls
+  pub stamp : token.view.stamp ≡ old.stamp
+  pub edges : EndAtEdges (state_seen (face_as token who.number refused)) first last
+  pub loads : HasLoadedFewOver old (face_as token who.number refused) key (pair_value pair key)
 
 -- a search for a range ends so
-pub span_ends : (who : Caller) (refused : Option Full) (seat : SeatFace) → IsPassWith who refused
-    → HasSearched who.seat.view seat.view → seat.table ≡ who.seat.table
+pub span_ends : (who : Caller) (refused : Option Full) (token : TokenFace) → IsPassWith who refused
+    → HasSearched who.token.view token.view → token.table ≡ who.token.table
     → (key first last : ℕ) (pair : Option Pair)
-    → HasFewSpanLoads who.seat.view seat.view key (pair_value pair key)
-    → EndAtEdges (now seat.view) first last → ((k : ℕ) → first ≤ k → k ≤ last → HasPosition seat.view.start seat.view.words
-    who.seat.view.log seat.view.log k (pair_value pair k))
-    → (old : PassFace) → pass_face who refused ≡ old → SpanEnds old who refused seat key first last pair
-span_ends who refused seat all g table key first last pair few edges values old view =
-    subst (λ (o : PassFace). SpanEnds o who refused seat key first last pair) view from
+    → HasFewSpanLoads who.token.view token.view key (pair_value pair key)
+    → EndAtEdges (now token.view) first last → ((k : ℕ) → first ≤ k → k ≤ last → HasPosition token.view.start token.view.words
+    who.token.view.log token.view.log k (pair_value pair k))
+    → (old : PassFace) → pass_face who refused ≡ old → SpanEnds old who refused token key first last pair
+span_ends who refused token all g table key first last pair few edges values old view =
+    subst (λ (o : PassFace). SpanEnds o who refused token key first last pair) view from
   where
     v : View
-    v = who.seat.view
+    v = who.token.view
 
     w : View
-    w = seat.view
+    w = token.view
 
     later : IsLaterView v w
     later =
@@ -54,11 +54,11 @@ span_ends who refused seat all g table key first last pair few edges values old 
           sound = g.sound;
         }
 
-    from : SpanEnds (pass_face who refused) who refused seat key first last pair
+    from : SpanEnds (pass_face who refused) who refused token key first last pair
     from =
         let stamps = ap (λ (y : View). y.stamp) g.same in
         record {
-          pass = pass_with_later who seat refused all later
+          pass = pass_with_later who token refused all later
               (ap (λ (y : View). y.pending) g.same ∙ all.pass.in_none);
           seen = record {
             tree = ap₂ (λ t (y : View). record { table = t; start = y.start; words = y.words })

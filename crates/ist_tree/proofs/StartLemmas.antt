@@ -6,8 +6,8 @@ use Rattle.ist_core.specs.Lawful.{state_of}
 use Rattle.ist_core.specs.Pieces.{Change}
 use Rattle.ist_core.specs.Snapshots.{Snapshot}
 use Rattle.ist_core.specs.Statuses.{start_kind}
-use Rattle.laws_settling.specs.Settling.{InstallsNoStart}
-use Rattle.laws_settling.proofs.DoneLemmas.{others_start_nothing}
+use Rattle.laws_calls.specs.Settling.{InstallsNoStart}
+use Rattle.laws_calls.proofs.DoneLemmas.{others_start_nothing, own_start_stays}
 use Rattle.ist_rule.specs.declared.view.View.{View}
 use Rattle.ist_core.specs.declared.events.Who.TheVariants.{Caller as CallerOf}
 use Rattle.ist_core.specs.Authors.{whose, Later, LaterBy}
@@ -17,7 +17,6 @@ use Rattle.ist_rule.specs.Learning.{now}
 use Rattle.ist_rule.proofs.WentOnLemmas.{went_lawful, went_now}
 use Rattle.ist_rebuild.specs.Starting.{StartsNone}
 use Rattle.ist_tree.proofs.GoingLemmas.{IsLaterView, lawful_behind}
-use Rattle.ist_tree.proofs.SettlingLemmas.{own_start_stays}
 
 -- two parts in which the caller started none, one after the other, are one such part
 pub starts_none_more : (t u w : Snapshot) (number : ℕ) → StartsNone t u number

@@ -5,7 +5,7 @@ use Rattle.ist_core.specs.declared.pairs.Pair.{Pair}
 use Rattle.ist_core.specs.declared.ports.Full.{Full}
 use Rattle.ist_core.specs.RowLayout.{anchor}
 use Rattle.ist_rule.specs.declared.view.View.{View}
-use Rattle.ist_rule.specs.Faces.{SeatFace}
+use Rattle.ist_rule.specs.Faces.{TokenFace}
 use Rattle.ist_rule.specs.Learning.{GoesOnTo}
 use Rattle.ist_rule.proofs.LaterLemmas.{later-goes_on}
 use Rattle.ist_rows.specs.declared.callers.Caller.{Caller}
@@ -18,34 +18,34 @@ use Rattle.ist_tree.proofs.GoingLemmas.{IsLaterView, goes_later, pass_with_later
 
 -- what it results in, for a pass with this face
 pub record SweepEnds {A E : Type 0} (old : PassFace) (who : Caller) (refused : Option Full)
-    (seat : SeatFace) (first last : ℕ) (before after : List Pair) (r : Result A E) : Type 0 where
-  pub pass : IsPassWith (record who { seat = seat }) refused
-  pub seen : HasSeenMore old (face_as seat who.number refused)
-  pub swept : OnOk r (HasSweptOver old (face_as seat who.number refused) first last before after)
-  pub calls : seat.view.calls ≡ old.calls
-  pub stamp : seat.view.stamp ≡ old.stamp
+    (token : TokenFace) (first last : ℕ) (before after : List Pair) (r : Result A E) : Type 0 where
+  pub pass : IsPassWith (record who { token = token }) refused
+  pub seen : HasSeenMore old (face_as token who.number refused)
+  pub swept : OnOk r (HasSweptOver old (face_as token who.number refused) first last before after)
+  pub calls : token.view.calls ≡ old.calls
+  pub stamp : token.view.stamp ≡ old.stamp
 
 -- a sweep ends so
-pub sweep_ends : {A E : Type 0} (who : Caller) (refused : Option Full) (seat : SeatFace)
-    → IsPassWith who refused → GoesOnTo who.seat.view seat.view → seat.table ≡ who.seat.table
+pub sweep_ends : {A E : Type 0} (who : Caller) (refused : Option Full) (token : TokenFace)
+    → IsPassWith who refused → GoesOnTo who.token.view token.view → token.table ≡ who.token.table
     → (first last : ℕ) (before after : List Pair) (r : Result A E)
-    → OnOk r (SweptBetween who.seat.view seat.view first last before after)
+    → OnOk r (SweptBetween who.token.view token.view first last before after)
     → (old : PassFace) → pass_face who refused ≡ old
-    → SweepEnds old who refused seat first last before after r
-sweep_ends {A} {E} who refused seat all g table first last before after r swept old view =
-    subst (λ (o : PassFace). SweepEnds o who refused seat first last before after r) view from
+    → SweepEnds old who refused token first last before after r
+sweep_ends {A} {E} who refused token all g table first last before after r swept old view =
+    subst (λ (o : PassFace). SweepEnds o who refused token first last before after r) view from
   where
     v : View
-    v = who.seat.view
+    v = who.token.view
 
     w : View
-    w = seat.view
+    w = token.view
 
     later : IsLaterView v w
     later = goes_later v w g
 
     over : (s : Result A E) → OnOk s (SweptBetween v w first last before after)
-        → OnOk s (HasSweptOver (pass_face who refused) (face_as seat who.number refused) first last
+        → OnOk s (HasSweptOver (pass_face who refused) (face_as token who.number refused) first last
         before after)
     over (Err e) h = tt
     over (Ok x) h =
@@ -62,11 +62,11 @@ sweep_ends {A} {E} who refused seat all g table first last before after r swept 
               later.words_is h.swept);
         }
 
-    from : SweepEnds (pass_face who refused) who refused seat first last before after r
+    from : SweepEnds (pass_face who refused) who refused token first last before after r
     from =
         let stamps = ap (λ (y : View). y.stamp) g.same in
         record {
-          pass = pass_with_later who seat refused all later
+          pass = pass_with_later who token refused all later
               (ap (λ (y : View). y.pending) g.same ∙ all.pass.in_none);
           seen = record {
             tree = ap₂ (λ t (y : View). record { table = t; start = y.start; words = y.words })

@@ -20,17 +20,17 @@ use Rattle.ist_rows.specs.Rows.{spares_of, is_spare, held_by, IsCaller}
 use Rattle.ist_rows.specs.Building.{AreStuck, none_stuck}
 use Rattle.ist_rows.specs.Entering.{HasEntered}
 use Rattle.ist_tree.specs.Insides.{IsPass, IsPassWith, IsMaker, IsMakerWith, IsMakerCounted, HasSettled, IsNote, taken_pass}
-use Rattle.ist_tree.proofs.BetweenLemmas.{has_its_calls}
+use Rattle.ist_tree.proofs.IdleCallerLemmas.{has_its_calls}
 use Rattle.ist_tree.proofs.SettlingLemmas.{idle_settled}
 use Rattle.ist_tree.proofs.TakenLemmas.{taken_few}
 
 -- a caller that holds no row has no build that goes on
-pub new_pass : (who : Caller) → IsCaller who → held_by (now who.seat.view) who.number ≡ []
-    → who.seat.view.pending ≡ None → IsPass who
+pub new_pass : (who : Caller) → IsCaller who → held_by (now who.token.view) who.number ≡ []
+    → who.token.view.pending ≡ None → IsPass who
 new_pass who c holds none =
     record {
       caller = c;
-      refused = subst (λ (held : List HeldRow). AreStuck (now who.seat.view)
+      refused = subst (λ (held : List HeldRow). AreStuck (now who.token.view)
           (map (λ (h : HeldRow). h.size)
           (filter (λ (h : HeldRow). not (is_spare (spares_of who) h.base)) held))) (sym holds)
           none_stuck;
@@ -38,14 +38,14 @@ new_pass who c holds none =
     }
 
 -- a new caller is a pass's caller: it started and made due nothing
-pub new_pass_with : (who : Caller) → IsCaller who → held_by (now who.seat.view) who.number ≡ []
-    → who.seat.view.pending ≡ None → IsSound who.seat.view
-    → IsIdleIn (CallerOf who.number) who.seat.view.log → IsPassWith who None
+pub new_pass_with : (who : Caller) → IsCaller who → held_by (now who.token.view) who.number ≡ []
+    → who.token.view.pending ≡ None → IsSound who.token.view
+    → IsIdleIn (CallerOf who.number) who.token.view.log → IsPassWith who None
 new_pass_with who c holds none s idle =
     record {
       pass = new_pass who c holds none;
       settled = λ unrefused.
-          idle_settled who.seat.view.start who.seat.view.words who.seat.view.log s.lawful who.number
+          idle_settled who.token.view.start who.token.view.words who.token.view.log s.lawful who.number
           idle;
     }
 
@@ -189,10 +189,10 @@ note_is v number mine =
     ∙ ap (λ (x : Who). plain v (Note (noted_by x)) v.calls) mine
 
 -- a note of a pass keeps the pass's calls
-pub new_note : (who : Caller) (w : View) → IsSound who.seat.view → IsPass who
-    → w ≡ split_right who.seat.view → IsNote w
+pub new_note : (who : Caller) (w : View) → IsSound who.token.view → IsPass who
+    → w ≡ split_right who.token.view → IsNote w
 new_note who w s p is =
-    let v = who.seat.view in
+    let v = who.token.view in
     subst IsNote (sym (is ∙ note_is v who.number p.caller.mine)) record {
       number = who.number;
       of_pass = refl;

@@ -19,14 +19,14 @@ use Rattle.ist_core.proofs.PrefixLemmas.{ever_from}
 use Rattle.ist_dcss.proofs.OpeningLemmas.{closed_node_stays}
 use Rattle.laws_histories.specs.Calls.{HasCalls}
 use Rattle.laws_histories.proofs.WovenLemmas.{learnt_first}
-use Rattle.laws_settling.proofs.DoneLemmas.{others_count_nothing}
+use Rattle.laws_calls.proofs.DoneLemmas.{others_count_nothing}
 use Rattle.laws_stability.proofs.LaterLemmas.{ever_later}
 use Rattle.ist_rule.specs.declared.view.Pending.{Pending}
 use Rattle.ist_rule.specs.declared.view.View.{View}
 use Rattle.ist_core.specs.declared.events.Who.TheVariants.{Caller as CallerOf}
 use Rattle.ist_core.specs.Authors.{whose}
 use Rattle.ist_rule.specs.Conditions.{CanEnd}
-use Rattle.ist_rule.specs.Faces.{SeatFace}
+use Rattle.ist_rule.specs.Faces.{TokenFace}
 use Rattle.ist_rule.specs.Learning.{Turned, beginning, ending, now}
 use Rattle.ist_rule.specs.Watching.{IsNode, is_anchor, is_inner}
 use Rattle.ist_rule.proofs.LaterLemmas.{between, goes_on_length, goes_on_more}
@@ -38,38 +38,38 @@ use Rattle.ist_tree.specs.Faces.{PassFace}
 use Rattle.ist_tree.specs.Insides.{face_as, pass_face}
 use Rattle.ist_tree.specs.Refusals.{IsRowRefused}
 use Rattle.ist_tree.specs.Working as working
-use Rattle.ist_tree.proofs.BetweenLemmas.{has_its_calls}
-use Rattle.ist_tree.proofs.CameLemmas.{came_inside, came_within}
-use Rattle.ist_tree.proofs.CarryLemmas.{counted_on}
+use Rattle.ist_tree.proofs.IdleCallerLemmas.{has_its_calls}
+use Rattle.ist_tree.proofs.RowAtLimitLemmas.{came_inside, came_within}
+use Rattle.ist_tree.proofs.UpdateKeptLemmas.{counted_on}
 use Rattle.ist_tree.proofs.FindingLemmas.{changes_rise}
 use Rattle.ist_tree.proofs.RefusalLemmas.{row_was_refused}
-use Rattle.ist_tree.proofs.WayLemmas as way
+use Rattle.ist_tree.proofs.UpdateSeenLemmas as way
 
-module _ (who began new : Caller) (seat : SeatFace) (command : Command)
-    (it : way.IsWay who began new seat command) (r q : Option Full) where
+module _ (who began new : Caller) (token : TokenFace) (command : Command)
+    (it : way.IsWay who began new token command) (r q : Option Full) where
   -- the pass before the call
   abbrev before : PassFace
   before = pass_face who r
 
   -- the pass after the call
   abbrev behind : PassFace
-  behind = face_as seat new.number q
+  behind = face_as token new.number q
 
   -- the view before the call
   abbrev v : View
-  v = who.seat.view
+  v = who.token.view
 
   -- the view when the call has begun
   abbrev b : View
-  b = began.seat.view
+  b = began.token.view
 
   -- the view after the work
   abbrev w : View
-  w = new.seat.view
+  w = new.token.view
 
   -- the view after the call
   abbrev x : View
-  x = seat.view
+  x = token.view
 
   -- ---- what was counted
 
@@ -77,14 +77,14 @@ module _ (who began new : Caller) (seat : SeatFace) (command : Command)
   pub has_counted : IsCounted b.start b.words b.log w.log began.number command
       → HasCounted before behind command
   has_counted c =
-      counted_on v.start v.words v.log b.log w.log x.log (way.v_to_b who began new seat command it)
-      (way.w_to_x who began new seat command it) (way.lawful_x who began new seat command it)
+      counted_on v.start v.words v.log b.log w.log x.log (way.v_to_b who began new token command it)
+      (way.w_to_x who began new token command it) (way.lawful_x who began new token command it)
       who.number command
       (subst (λ n. IsCounted v.start v.words b.log w.log n command) it.began_number
       (subst (λ pairs. IsCounted pairs v.words b.log w.log began.number command)
-      (way.b_start who began new seat command it)
+      (way.b_start who began new token command it)
       (subst (λ words. IsCounted b.start words b.log w.log began.number command)
-      (way.b_words who began new seat command it) c)))
+      (way.b_words who began new token command it) c)))
 
   -- a row that reached its limit in the call did so in its work
   came_at_work : (row : ℕ) → CameToLimit v.start v.words v.log x.log who.number row
@@ -94,15 +94,15 @@ module _ (who began new : Caller) (seat : SeatFace) (command : Command)
       (came_inside v.start v.words who.number (λ event. whose event ≢ CallerOf who.number)
       (λ event. whose event ≢ CallerOf who.number) (others_count_nothing who.number)
       (others_count_nothing who.number) v.log b.log w.log x.log
-      (way.later_b who began new seat command it) (way.b_to_w who began new seat command it)
-      (way.later_x who began new seat command it) row c)
+      (way.later_b who began new token command it) (way.b_to_w who began new token command it)
+      (way.later_x who began new token command it) row c)
 
   -- and the other way round
   came_in_call : (row : ℕ) → CameToLimit v.start v.words b.log w.log began.number row
       → CameToLimit v.start v.words v.log x.log who.number row
   came_in_call row c =
       came_within v.start v.words who.number v.log b.log w.log x.log
-      (way.v_to_b who began new seat command it) (way.w_to_x who began new seat command it) row
+      (way.v_to_b who began new token command it) (way.w_to_x who began new token command it) row
       (subst (λ n. CameToLimit v.start v.words b.log w.log n row) it.began_number c)
 
   -- ---- rows that aren't open
@@ -121,14 +121,14 @@ module _ (who began new : Caller) (seat : SeatFace) (command : Command)
       → ¬ (IsOpen (state_of v.start v.words w.log) node)
       → ¬ (IsOpen (state_of v.start v.words x.log) node)
   stays_shut m on node is =
-      closed_node_stays v.start v.words w.log x.log (way.lawful_x who began new seat command it)
-      (way.w_to_x who began new seat command it) node (later is)
+      closed_node_stays v.start v.words w.log x.log (way.lawful_x who began new token command it)
+      (way.w_to_x who began new token command it) node (later is)
     where
       later : IsNode (state_of v.start v.words m) node → IsNode (state_of v.start v.words w.log) node
       later (is_anchor e) = is_anchor e
       later (is_inner s e) =
           let k = inner_there (state_of v.start v.words m).pieces (state_of v.start v.words w.log).pieces
-          (grow_between v.start v.words m w.log (way.lawful_w who began new seat command it).enabled on)
+          (grow_between v.start v.words m w.log (way.lawful_w who began new token command it).enabled on)
           node s e in
           is_inner k.0 k.1
 
@@ -142,7 +142,7 @@ module _ (who began new : Caller) (seat : SeatFace) (command : Command)
         came = came_in_call row came;
         above = λ other c.
             ever_later (start v.start v.words) (λ s. (rows : List ℕ) × Chain s other rows
-            × Among row rows) (way.w_to_x who began new seat command it)
+            × Among row rows) (way.w_to_x who began new token command it)
             (top other (came_at_work other c));
       }
 
@@ -160,7 +160,7 @@ module _ (who began new : Caller) (seat : SeatFace) (command : Command)
         index = t.index;
         was_child =
             ever_later (start v.start v.words) (λ s. IsChild s t.parent t.index row)
-            (way.w_to_x who began new seat command it) t.was_child;
+            (way.w_to_x who began new token command it) t.was_child;
         closed =
             ⊎_elim
             (λ k. inl (stays_shut t.came.at
@@ -173,7 +173,7 @@ module _ (who began new : Caller) (seat : SeatFace) (command : Command)
     where
       in_view : IsClosedAt (record behind { tree = before.tree }) row → IsClosedAt behind row
       in_view = subst (λ tree. IsClosedAt (record behind { tree = tree }) row)
-          (sym (way.same_tree who began new seat command it))
+          (sym (way.same_tree who began new token command it))
 
   -- if the work brought no row to its limit, the call didn't
   pub came_nowhere : ((row : ℕ) → ¬ (CameToLimit b.start b.words b.log w.log began.number row))
@@ -196,7 +196,7 @@ module _ (who began new : Caller) (seat : SeatFace) (command : Command)
       → working.IsTopCame b w began.number row
       → working.IsDueRefused (now b) w row words full → IsRowRefused before behind row full
   row_refused words full same row t d =
-      row_was_refused who began new seat command it r q words full same row
+      row_was_refused who began new token command it r q words full same row
       (subst (λ n. CameToLimit v.start v.words b.log w.log n row) it.began_number
       (top_here row t).came)
       d
@@ -245,9 +245,9 @@ module _ (who began new : Caller) (seat : SeatFace) (command : Command)
     -- what had been seen when it began is no shorter than what the pass had seen
     seen_before : GoesOn v.log c.seen
     seen_before =
-        between (goes_on_more (way.v_to_b who began new seat command it)
-        (way.b_to_w who began new seat command it)) c.goes_on
-        (let low = goes_on_length (way.v_to_b who began new seat command it) in
+        between (goes_on_more (way.v_to_b who began new token command it)
+        (way.b_to_w who began new token command it)) c.goes_on
+        (let low = goes_on_length (way.v_to_b who began new token command it) in
         let same = one_length c.pending (sym pending_is ∙ c.in_call) in
         let long = c.length_is in
         omega arith)
@@ -263,9 +263,9 @@ module _ (who began new : Caller) (seat : SeatFace) (command : Command)
     fresh : IsFresh v.start v.words v.log v.stamp call
     fresh =
         let f = subst (λ pairs. IsFresh pairs v.words c.seen v.stamp call)
-        (way.w_start who began new seat command it)
+        (way.w_start who began new token command it)
         (subst (λ words. IsFresh w.start words c.seen v.stamp call)
-        (way.w_words who began new seat command it)
+        (way.w_words who began new token command it)
         (subst (λ stamp. IsFresh w.start w.words c.seen stamp call) w_stamp c.fresh)) in
         let rise = changes_rise v.start v.words v.log c.seen seen_before in
         let from = f.position in
@@ -290,11 +290,11 @@ module _ (who began new : Caller) (seat : SeatFace) (command : Command)
         has_calls : HasCalls v.start v.words x.log who.number call.stamp (v.calls ++ call ∷ [])
         has_calls =
             subst (λ pairs. HasCalls pairs v.words x.log who.number call.stamp (v.calls ++ call ∷ []))
-            (way.x_start who began new seat command it)
+            (way.x_start who began new token command it)
             (subst (λ words. HasCalls x.start words x.log who.number call.stamp (v.calls ++ call ∷ []))
-            (way.x_words who began new seat command it)
+            (way.x_words who began new token command it)
             (subst (λ stamp. HasCalls x.start x.words x.log who.number stamp (v.calls ++ call ∷ []))
             x_stamp
             (subst (HasCalls x.start x.words x.log who.number x.stamp) x_calls
             (has_its_calls x who.number it.last.sound
-            (it.last.who_is ∙ way.w_mine who began new seat command it) it.none))))
+            (it.last.who_is ∙ way.w_mine who began new token command it) it.none))))

@@ -3,11 +3,11 @@ use Rattle.std.proofs.Common.{◌≡◌, ◌+◌, ◌≤◌, List, [], ◌∷◌
 use Rattle.ist_core.specs.declared.commands.Command.{Command}
 use Rattle.ist_core.specs.declared.ports.Full.{Full}
 use Rattle.ist_core.specs.Logs.{Log}
-use Rattle.laws_progress.specs.Progress.{progress}
-use Rattle.laws_progress.proofs.BoundLemmas.{bounded}
-use Rattle.laws_progress.proofs.ProgressLemmas.{never_falls}
+use Rattle.laws_stability.specs.Progress.{progress}
+use Rattle.laws_stability.proofs.BoundLemmas.{bounded}
+use Rattle.laws_stability.proofs.ProgressLemmas.{never_falls}
 use Rattle.ist_rule.specs.declared.view.View.{View}
-use Rattle.ist_rule.specs.Faces.{SeatFace}
+use Rattle.ist_rule.specs.Faces.{TokenFace}
 use Rattle.ist_rule.specs.Learning.{Turned, beginning}
 use Rattle.ist_rule.proofs.LaterLemmas.{later-goes_on}
 use Rattle.ist_rows.specs.declared.callers.Caller.{Caller}
@@ -18,19 +18,19 @@ use Rattle.ist_tree.specs.Walks.{GoesThrough, WalksAddUp, last_of}
 use Rattle.ist_tree.specs.Insides.{face_as, pass_face}
 
 -- the begin and the end of a call begin no walk
-pub walks_end : (who began new : Caller) (seat : SeatFace) (command : Option Command)
+pub walks_end : (who began new : Caller) (token : TokenFace) (command : Option Command)
     (turn : Log → View) (r q : Option Full) (old : PassFace)
-    → Turned who.seat.view (beginning who.seat.view command) began.seat.view
-    → HasWalkedFew began.seat.view new.seat.view → Turned new.seat.view turn seat.view
-    → seat.view.searches ≡ new.seat.view.searches → pass_face who r ≡ old
-    → BeginsFewWalks old (face_as seat new.number q)
-walks_end who began new seat command turn r q old begun few ended same view =
-    let first : began.seat.view.searches ≡ who.seat.view.searches =
+    → Turned who.token.view (beginning who.token.view command) began.token.view
+    → HasWalkedFew began.token.view new.token.view → Turned new.token.view turn token.view
+    → token.view.searches ≡ new.token.view.searches → pass_face who r ≡ old
+    → BeginsFewWalks old (face_as token new.number q)
+walks_end who began new token command turn r q old begun few ended same view =
+    let first : began.token.view.searches ≡ who.token.view.searches =
     ap (λ (y : View). y.searches) begun.view in
-    let before = never_falls who.seat.view.log began.seat.view.log (later-goes_on begun.later) in
-    let after = never_falls new.seat.view.log seat.view.log (later-goes_on ended.later) in
-    let here : BeginsFewWalks (pass_face who r) (face_as seat new.number q) = omega arith in
-    subst (λ (o : PassFace). BeginsFewWalks o (face_as seat new.number q)) view here
+    let before = never_falls who.token.view.log began.token.view.log (later-goes_on begun.later) in
+    let after = never_falls new.token.view.log token.view.log (later-goes_on ended.later) in
+    let here : BeginsFewWalks (pass_face who r) (face_as token new.number q) = omega arith in
+    subst (λ (o : PassFace). BeginsFewWalks o (face_as token new.number q)) view here
 
 -- the walks of calls one after another
 walks_sum : (p : PassFace) (steps : List PassFace) → GoesThrough p steps

@@ -6,7 +6,7 @@ use Rattle.ist_rule.specs.Learning.{now}
 use Rattle.ist_rows.specs.declared.callers.Caller.{Caller}
 use Rattle.ist_rows.specs.Going.{StaysReady}
 use Rattle.laws_coming.specs.Further.{CameFurther}
-use Rattle.laws_settling.specs.Settling.{StartsAreDone}
+use Rattle.laws_calls.specs.Settling.{StartsAreDone}
 use Rattle.ist_rebuild.specs.Going.{StartsAt}
 use Rattle.ist_rebuild.specs.Starting.{StartsAreDoneBut}
 use Rattle.ist_updates.specs.declared.updates.Due.{Due}
@@ -15,39 +15,39 @@ use Rattle.ist_tree.specs.Working.{IsDueRefused, IsHelpedWord, IsLastFor, IsShut
 -- the caller went on by steps of rebuilding, and started rebuilds of the target only
 pub record GoesFor (old new : Caller) (target : ℕ) : Type 0 where
   pub on : StaysReady Rebuilds old new
-  pub aims : WentOn (StartsAt target) old.seat.view new.seat.view
+  pub aims : WentOn (StartsAt target) old.token.view new.token.view
 
 -- the caller helped the rebuild of the row that it had started, or was refused
 pub record HelpsOwn (old new : Caller) (due : Due) (words rebuild : ℕ)
     (helped : Result (Unit {0}) Full) : Type 0 where
   pub on : GoesFor old new due.target
-  pub shut : OnOk helped (IsShut (now new.seat.view) due.parent due.target)
-  pub done : OnOk helped (StartsAreDoneBut (now old.seat.view) old.number rebuild
-      → StartsAreDone (now new.seat.view) old.number)
-  pub full : IfErr helped (IsDueRefused (now old.seat.view) new.seat.view due.target words)
+  pub shut : OnOk helped (IsShut (now new.token.view) due.parent due.target)
+  pub done : OnOk helped (StartsAreDoneBut (now old.token.view) old.number rebuild
+      → StartsAreDone (now new.token.view) old.number)
+  pub full : IfErr helped (IsDueRefused (now old.token.view) new.token.view due.target words)
 
 -- the caller helped what the word names, which was in the slot instead of the row, or was refused
 pub record HelpsOther (old new : Caller) (due : Due) (words word : ℕ)
     (helped : Result (Unit {0}) Full) : Type 0 where
   pub on : GoesFor old new due.target
   pub done : OnOk helped (KeepsDone old new)
-  pub settled : OnOk helped (IsHelpedWord new.seat.view word)
-  pub full : IfErr helped (IsDueRefused (now old.seat.view) new.seat.view due.target words)
+  pub settled : OnOk helped (IsHelpedWord new.token.view word)
+  pub full : IfErr helped (IsDueRefused (now old.token.view) new.token.view due.target words)
 
 -- the caller tried once to rebuild the row: if it says that this was the last attempt, the row or
 -- its parent isn't open, and otherwise the table came further
 pub record Tries (old new : Caller) (due : Due) (words : ℕ) (tried : Result Bool Full)
     : Type 0 where
   pub on : GoesFor old new due.target
-  pub last : IfOk tried (λ last. IsLastFor last (now new.seat.view) due.parent due.target)
-  pub further : tried ≡ Ok false → CameFurther old.seat.view new.seat.view
+  pub last : IfOk tried (λ last. IsLastFor last (now new.token.view) due.parent due.target)
+  pub further : tried ≡ Ok false → CameFurther old.token.view new.token.view
   pub done : OnOk tried (KeepsDone old new)
-  pub full : IfErr tried (IsDueRefused (now old.seat.view) new.seat.view due.target words)
+  pub full : IfErr tried (IsDueRefused (now old.token.view) new.token.view due.target words)
 
 -- the caller tried until the row or its parent wasn't open, or was refused
 pub record RebuildsRow (old new : Caller) (due : Due) (words : ℕ) (tried : Result (Unit {0}) Full)
     : Type 0 where
   pub on : GoesFor old new due.target
-  pub shut : OnOk tried (IsShut (now new.seat.view) due.parent due.target)
+  pub shut : OnOk tried (IsShut (now new.token.view) due.parent due.target)
   pub done : OnOk tried (KeepsDone old new)
-  pub full : IfErr tried (IsDueRefused (now old.seat.view) new.seat.view due.target words)
+  pub full : IfErr tried (IsDueRefused (now old.token.view) new.token.view due.target words)

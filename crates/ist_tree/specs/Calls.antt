@@ -13,12 +13,12 @@ use Rattle.ist_core.specs.Logs.{GoesOn}
 use Rattle.ist_core.specs.Lawful.{state_of}
 use Rattle.ist_core.specs.Standing.{Follows}
 use Rattle.ist_core.specs.Histories.{woven, IsLegal}
-use Rattle.laws_progress.specs.Progress.{progress}
+use Rattle.laws_stability.specs.Progress.{progress}
 use Rattle.ist_math.specs.Guess.{guess_in, distance}
 use Rattle.laws_histories.specs.Calls.{IsAdded}
 use Rattle.laws_histories.specs.Placing.{HasPlaces}
 use Rattle.laws_histories.specs.Searching.{Searched}
-use Rattle.laws_walks.specs.Walking.{IsChainOf}
+use Rattle.laws_calls.specs.Walking.{IsChainOf}
 use Rattle.ist_find.specs.Searches.{keys_in}
 use Rattle.ist_tree.specs.Faces.{PassFace, changes_seen, calls_in, HasItsCalls}
 

@@ -17,7 +17,7 @@ use Rattle.ist_core.specs.RowLayout.{anchor, change_words, rebuild_words}
 use Rattle.ist_core.specs.Snapshots.{Snapshot}
 use Rattle.ist_layout.specs.declared.references.Ref.TheVariants.{Inner}
 use Rattle.ist_layout.specs.Meanings.{ref_meant}
-use Rattle.laws_settling.specs.Settling.{StartsAreDone}
+use Rattle.laws_calls.specs.Settling.{StartsAreDone}
 use Rattle.ist_rule.specs.declared.view.View.{View}
 use Rattle.ist_rule.specs.Learning.{now}
 use Rattle.ist_rows.specs.declared.callers.Caller.{Caller}
@@ -78,14 +78,14 @@ IsSite v w (Rebuilt rebuild target) = IsRebuildOf (now w) rebuild target × WasT
 -- is named
 abbrev pub KeepsDoneBut : Caller → Caller → Option ℕ → Type 0
 KeepsDoneBut old new None = KeepsDone old new
-KeepsDoneBut old new (Some rebuild) = StartsAreDone (now old.seat.view) old.number
-    → StartsAreDoneBut (now new.seat.view) old.number rebuild
+KeepsDoneBut old new (Some rebuild) = StartsAreDone (now old.token.view) old.number
+    → StartsAreDoneBut (now new.token.view) old.number rebuild
 
 -- the caller went on by steps of rebuilding, kept its starts done, and started no rebuild
 pub record GoesIdle (old new : Caller) : Type 0 where
   pub on : StaysReady Rebuilds old new
   pub done : KeepsDone old new
-  pub none : StartsNone (now old.seat.view) (now new.seat.view) old.number
+  pub none : StartsNone (now old.token.view) (now new.token.view) old.number
 
 -- the rebuild to help, if there is one
 abbrev pub rebuild_in : Site → Option ℕ
@@ -95,7 +95,7 @@ rebuild_in (Rebuilt rebuild target) = Some rebuild
 -- the caller has met this below the anchor
 pub record HasMet (old new : Caller) (site : Site) : Type 0 where
   pub on : StaysReady Rebuilds old new
-  pub is : IsSite old.seat.view new.seat.view site
+  pub is : IsSite old.token.view new.token.view site
   pub done : KeepsDoneBut old new (rebuild_in site)
 
 -- it has met this, or nothing yet
@@ -106,7 +106,7 @@ MayHaveMet old new None = GoesIdle old new
 -- the caller has started this rebuild of the target, or none
 abbrev pub HasBegun : Caller → Caller → ℕ → Option ℕ → Type 0
 HasBegun old new target (Some rebuild) = StaysReady Rebuilds old new
-    × IsRebuildOf (now new.seat.view) rebuild target × KeepsDoneBut old new (Some rebuild)
+    × IsRebuildOf (now new.token.view) rebuild target × KeepsDoneBut old new (Some rebuild)
 HasBegun old new target None = GoesIdle old new
 
 -- ---- what it results in
@@ -115,9 +115,9 @@ HasBegun old new target None = GoesIdle old new
 -- held, and has started no rebuild
 pub record IsFreezeStopped (old new : Caller) (words : ℕ) (full : Full) : Type 0 where
   pub idle : GoesIdle old new
-  pub short : LeavesTooFew new.seat.view.start words new.seat.view.log full
+  pub short : LeavesTooFew new.token.view.start words new.token.view.log full
   pub asked : (full.asked ≡ rebuild_words) ⊎ (full.asked ≡ change_words)
-  pub held : let v = old.seat.view in HeldInnerRow v.start v.words v.log new.seat.view.log
+  pub held : let v = old.token.view in HeldInnerRow v.start v.words v.log new.token.view.log
 
 -- too few words were left to help the rebuild
 pub record IsHelpShort (w : View) (rebuild words : ℕ) (full : Full) : Type 0 where
@@ -137,11 +137,11 @@ pub record FreezesTarget (old new : Caller) (words rebuild target : ℕ) (outcom
     : Type 0 where
   pub on : StaysReady Rebuilds old new
   pub root_is : outcome.frozen.root ≡ Inner target
-  pub finished : IsFinishedWith (now new.seat.view) target outcome.frozen.keys
-  pub done : outcome.refused ≡ None → StartsAreDoneBut (now old.seat.view) old.number rebuild
-      → StartsAreDone (now new.seat.view) old.number
-  pub replaced : outcome.refused ≡ None → IsReplaced (now new.seat.view) rebuild
-  pub refused : IfSome outcome.refused (IsHelpShort new.seat.view rebuild words)
+  pub finished : IsFinishedWith (now new.token.view) target outcome.frozen.keys
+  pub done : outcome.refused ≡ None → StartsAreDoneBut (now old.token.view) old.number rebuild
+      → StartsAreDone (now new.token.view) old.number
+  pub replaced : outcome.refused ≡ None → IsReplaced (now new.token.view) rebuild
+  pub refused : IfSome outcome.refused (IsHelpShort new.token.view rebuild words)
 
 -- a rebuild of the row was started, and was replaced, if none was refused
 pub record IsRebuiltIn (t : Snapshot) (row : ℕ) (refused : Option Full) : Type 0 where
@@ -152,12 +152,12 @@ pub record IsRebuiltIn (t : Snapshot) (row : ℕ) (refused : Option Full) : Type
 -- the caller has frozen the tree; if it wasn't refused, all that it started is done
 pub record Freezes (old new : Caller) (words : ℕ) (outcome : Outcome) : Type 0 where
   pub on : StaysReady Rebuilds old new
-  pub frozen : let v = old.seat.view in
-      WasFrozen v.start v.words v.log new.seat.view.log outcome.frozen
+  pub frozen : let v = old.token.view in
+      WasFrozen v.start v.words v.log new.token.view.log outcome.frozen
   pub done : outcome.refused ≡ None → KeepsDone old new
   pub rebuilt : (row : ℕ) → ref_meant outcome.frozen.root ≡ InnerAt row
-      → IsRebuiltIn (now new.seat.view) row outcome.refused
-  pub refused : IfSome outcome.refused (IsTopShort old.seat.view new.seat.view words)
+      → IsRebuiltIn (now new.token.view) row outcome.refused
+  pub refused : IfSome outcome.refused (IsTopShort old.token.view new.token.view words)
 
 -- ---- reading what is frozen
 

@@ -14,7 +14,7 @@ use Rattle.ist_core.specs.References.{Ref, Empty, LeafAt, InnerAt, word_of}
 use Rattle.ist_core.specs.RowLayout.{anchor, change_words, rebuild_words}
 use Rattle.ist_core.specs.Slots.{SlotHolds}
 use Rattle.ist_core.specs.Snapshots.{Snapshot}
-use Rattle.laws_rows.specs.Freezing.{WereThePairs}
+use Rattle.laws_calls.specs.Freezing.{WereThePairs}
 use Rattle.ist_layout.specs.Meanings.{ref_meant}
 use Rattle.ist_rebuild.specs.Starting.{StartsNone}
 use Rattle.ist_tree.specs.declared.freezing.Frozen.{Frozen}

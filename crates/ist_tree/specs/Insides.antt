@@ -12,12 +12,12 @@ use Rattle.ist_core.specs.Logs.{Log}
 use Rattle.ist_core.specs.Replies.{Refused, refusal}
 use Rattle.ist_core.specs.StartLayout.{start}
 use Rattle.laws_histories.specs.Calls.{HasCalls}
-use Rattle.laws_settling.specs.Settling.{StartsAreDone, DueRowsAreClosed}
+use Rattle.laws_calls.specs.Settling.{StartsAreDone, DueRowsAreClosed}
 use Rattle.ist_rule.specs.declared.view.View.{View}
 use Rattle.ist_rule.specs.declared.view.Taken.{Taken}
 use Rattle.ist_core.specs.declared.events.Who.{Who}
 use Rattle.ist_core.specs.declared.events.Who.TheVariants.{Maker, Note}
-use Rattle.ist_rule.specs.Faces.{SeatFace}
+use Rattle.ist_rule.specs.Faces.{TokenFace}
 use Rattle.ist_rows.specs.declared.callers.Caller.{Caller}
 use Rattle.ist_rows.specs.Rows.{IsCaller}
 use Rattle.ist_rows.specs.Building.{HasRefused}
@@ -25,11 +25,11 @@ use Rattle.ist_tree.specs.Faces.{TreeFace, PassFace, MakerFace}
 use Rattle.ist_tree.specs.Refusals.{WasRefused}
 
 -- the tree on whose table the token steps
-abbrev pub tree_of : SeatFace → TreeFace
+abbrev pub tree_of : TokenFace → TreeFace
 tree_of s = record { table = s.table; start = s.view.start; words = s.view.words }
 
 -- what a token knows, as the face of the pass with this number, which met this refusal
-abbrev pub face_as : SeatFace → ℕ → Option Full → PassFace
+abbrev pub face_as : TokenFace → ℕ → Option Full → PassFace
 face_as s number refused =
     record {
       tree = tree_of s;
@@ -44,7 +44,7 @@ face_as s number refused =
 
 -- what a caller knows, as the face of a pass which met this refusal
 abbrev pub pass_face : Caller → Option Full → PassFace
-pass_face who = face_as who.seat who.number
+pass_face who = face_as who.token who.number
 
 -- ---- what is settled
 
@@ -62,14 +62,14 @@ pub record HasSettled (pairs : List Pair) (words : ℕ) (log : Log) (number : �
 pub record IsPass (who : Caller) : Type 0 where
   pub caller : IsCaller who
   pub refused : HasRefused who
-  pub in_none : who.seat.view.pending ≡ None
+  pub in_none : who.token.view.pending ≡ None
 
 -- the caller may be a pass's caller, and if the pass met no refused rebuild, all of its own is
 -- settled
 pub record IsPassWith (who : Caller) (refused : Option Full) : Type 0 where
   pub pass : IsPass who
   pub settled : refused ≡ None
-      → HasSettled who.seat.view.start who.seat.view.words who.seat.view.log who.number
+      → HasSettled who.token.view.start who.token.view.words who.token.view.log who.number
 
 -- the number of the pass of which this is a note
 abbrev pub noted_number : Who → ℕ
@@ -77,7 +77,7 @@ noted_number (Note (Some number)) = number
 noted_number _ = 0
 
 -- what a note keeps of its pass
-abbrev pub note_face : SeatFace → PassFace
+abbrev pub note_face : TokenFace → PassFace
 note_face s = face_as s (noted_number s.view.who) None
 
 -- this is the view of a note of a pass, in no call, and the calls that it keeps are in its log
@@ -92,7 +92,7 @@ abbrev pub taken_pass : Taken → PassCalls
 taken_pass t = record { number = t.number; calls = t.calls }
 
 -- what a maker knows, and whether a pass that it took back had met a refused rebuild
-abbrev pub maker_face : SeatFace → Bool → MakerFace
+abbrev pub maker_face : TokenFace → Bool → MakerFace
 maker_face s refused =
     record {
       tree = tree_of s;

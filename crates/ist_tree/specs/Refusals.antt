@@ -14,9 +14,9 @@ use Rattle.ist_core.specs.Rebuilding.{IsStarted, IsReplaced}
 use Rattle.ist_core.specs.Replies.{Refused}
 use Rattle.ist_core.specs.RowLayout.{anchor, leaf_words, pair_words, change_words, rebuild_words}
 use Rattle.ist_core.specs.Spending.{spent}
-use Rattle.laws_rows.specs.Finishing.{puts_in}
+use Rattle.laws_calls.specs.Finishing.{puts_in}
 use Rattle.laws_histories.specs.Searching.{HasPosition}
-use Rattle.laws_settling.specs.Settling.{StartsAreDone}
+use Rattle.laws_calls.specs.Settling.{StartsAreDone}
 use Rattle.ist_rebuild.specs.Helping.{IsAskedFor}
 use Rattle.ist_updates.specs.Asking.{command_for}
 use Rattle.ist_updates.specs.Counting.{CameToLimit}

@@ -4,7 +4,7 @@ use Rattle.laws_histories.specs.Searching.{HasPosition}
 use Rattle.ist_updates.specs.declared.updates.When.{When}
 use Rattle.ist_updates.specs.Meeting.{IsMissedBy}
 use Rattle.ist_tree.specs.Calls.{HasSeenMore}
-use Rattle.laws_progress.specs.Progress.{progress}
+use Rattle.laws_stability.specs.Progress.{progress}
 use Rattle.ist_tree.specs.DueRows.{CameDue, CountsNowhere, StartsOnlyDue}
 use Rattle.ist_tree.specs.Faces.{PassFace, changes_seen}
 

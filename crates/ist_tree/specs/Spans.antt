@@ -5,7 +5,7 @@ use Rattle.ist_core.specs.declared.pairs.Pair.{Pair}
 use Rattle.ist_core.specs.Snapshots.{Snapshot}
 use Rattle.ist_core.specs.Lawful.{state_of}
 use Rattle.laws_histories.specs.Searching.{HasPosition, Searched}
-use Rattle.laws_walks.specs.Walking.{IsChainOf}
+use Rattle.laws_calls.specs.Walking.{IsChainOf}
 use Rattle.ist_find.specs.Spans.{pair_value}
 use Rattle.ist_tree.specs.Calls.{row_loads}
 use Rattle.ist_tree.specs.Faces.{PassFace}

@@ -1,7 +1,7 @@
 -- How many walks the calls of a pass begin together. `src/laws.rt` names the law.
 use Rattle.std.specs.Prelude.{◌+◌, ◌≤◌, List, [], ◌∷◌, length}
 use Rattle.ist_core.specs.Lawful.{Lawful}
-use Rattle.laws_progress.specs.Progress.{most_progress}
+use Rattle.laws_stability.specs.Progress.{most_progress}
 use Rattle.ist_tree.specs.Calls.{BeginsFewWalks}
 use Rattle.ist_tree.specs.Faces.{PassFace}
 

@@ -25,7 +25,7 @@ use Rattle.ist_rule.specs.Learning.{now}
 use Rattle.ist_rows.specs.declared.callers.Caller.{Caller}
 use Rattle.ist_rows.specs.Building.{HasRefused}
 use Rattle.ist_rows.specs.Rows.{IsCaller}
-use Rattle.laws_settling.specs.Settling.{StartsAreDone, DueRowsAreClosed}
+use Rattle.laws_calls.specs.Settling.{StartsAreDone, DueRowsAreClosed}
 use Rattle.ist_build.specs.Calls.{IsBuildable}
 use Rattle.ist_rows.specs.Going.{IsQuiet, IsReady}
 use Rattle.ist_rebuild.specs.Helping.{IsAskedFor}
@@ -57,14 +57,14 @@ Works _ = Unit {0}
 
 -- if all starts of the caller were done, they still are
 abbrev pub KeepsDone : Caller → Caller → Type 0
-KeepsDone old new = StartsAreDone (now old.seat.view) old.number
-    → StartsAreDone (now new.seat.view) old.number
+KeepsDone old new = StartsAreDone (now old.token.view) old.number
+    → StartsAreDone (now new.token.view) old.number
 
 -- each start that the caller installed meanwhile was of a row that was due
 abbrev pub StartsDue : Caller → Caller → Type 0
 StartsDue old new =
-    let v = old.seat.view in
-    InstallsDue v.start v.words v.log new.seat.view.log old.number
+    let v = old.token.view in
+    InstallsDue v.start v.words v.log new.token.view.log old.number
 
 -- ---- the rebuild of a row that reached its limit
 
@@ -138,45 +138,45 @@ pub record Applies (old new : Caller) (command : Command) (reply : Option ℕ) (
   pub refused : HasRefused new
   pub quiet : IsQuiet new
   pub number : new.number ≡ old.number
-  pub went : SearchedOn Updates old.seat.view new.seat.view
-  pub few_walks : HasWalkedFew old.seat.view new.seat.view
+  pub went : SearchedOn Updates old.token.view new.token.view
+  pub few_walks : HasWalkedFew old.token.view new.token.view
   pub may : MayEnd new command reply
-  pub counted : let v = old.seat.view in makes_entry command reply ≡ true
-      → IsCounted v.start v.words v.log new.seat.view.log old.number command
-  pub due : LeavesDue old.seat.view new.seat.view old.number of
+  pub counted : let v = old.token.view in makes_entry command reply ≡ true
+      → IsCounted v.start v.words v.log new.token.view.log old.number command
+  pub due : LeavesDue old.token.view new.token.view old.number of
 
 -- the caller carried out the command with this reply, and met this refusal of the rebuild after it
 pub record CarriesOut (old new : Caller) (words : ℕ) (command : Command) (reply : Option ℕ)
     (refused : Option Full) : Type 0 where
   pub ready : IsReady new
   pub number : new.number ≡ old.number
-  pub went : SearchedOn Works old.seat.view new.seat.view
-  pub few_walks : HasWalkedFew old.seat.view new.seat.view
+  pub went : SearchedOn Works old.token.view new.token.view
+  pub few_walks : HasWalkedFew old.token.view new.token.view
   pub may : MayEnd new command reply
-  pub counted : let v = old.seat.view in makes_entry command reply ≡ true
-      → IsCounted v.start v.words v.log new.seat.view.log old.number command
-  pub shut : LeavesShut old.seat.view new.seat.view old.number words refused
+  pub counted : let v = old.token.view in makes_entry command reply ≡ true
+      → IsCounted v.start v.words v.log new.token.view.log old.number command
+  pub shut : LeavesShut old.token.view new.token.view old.number words refused
   pub starts : refused ≡ None → KeepsDone old new
-  pub due : let v = old.seat.view in refused ≡ None
+  pub due : let v = old.token.view in refused ≡ None
       → DueRowsAreClosed (start v.start v.words) v.log old.number
-      → DueRowsAreClosed (start v.start v.words) new.seat.view.log old.number
+      → DueRowsAreClosed (start v.start v.words) new.token.view.log old.number
 
 -- the caller's call had no effect on the map, and may be given up
 pub record IsLetGo (old new : Caller) : Type 0 where
   pub caller : IsCaller new
   pub refused : HasRefused new
   pub number : new.number ≡ old.number
-  pub went : SearchedOn Works old.seat.view new.seat.view
-  pub few_walks : HasWalkedFew old.seat.view new.seat.view
-  pub can : CanGiveUp new.seat.view
-  pub none_came : LeavesDue old.seat.view new.seat.view old.number None
-  pub uncounted : CountedNowhere old.seat.view.log new.seat.view.log old.number
+  pub went : SearchedOn Works old.token.view new.token.view
+  pub few_walks : HasWalkedFew old.token.view new.token.view
+  pub can : CanGiveUp new.token.view
+  pub none_came : LeavesDue old.token.view new.token.view old.number None
+  pub uncounted : CountedNowhere old.token.view.log new.token.view.log old.number
   pub starts : KeepsDone old new
-  pub due : let v = old.seat.view in DueRowsAreClosed (start v.start v.words) v.log old.number
-      → DueRowsAreClosed (start v.start v.words) new.seat.view.log old.number
+  pub due : let v = old.token.view in DueRowsAreClosed (start v.start v.words) v.log old.number
+      → DueRowsAreClosed (start v.start v.words) new.token.view.log old.number
 
 -- the caller was refused a row for the put or remove, and nothing took effect
 pub record IsTurnedDown (old new : Caller) (words key : ℕ) (value : Option ℕ) (full : Full)
     : Type 0 where
   pub let_go : IsLetGo old new
-  pub cause : WasRefused old.seat.view key value words full new.seat.view
+  pub cause : WasRefused old.token.view key value words full new.token.view

@@ -5,10 +5,10 @@ ghost use Rattle.ist_tree.specs.Finding.{Finds};
 
 use ist_core::Command;
 use ist_find::{Found, find_from_anchor};
-use ist_rule::{TreeSeat, TreeTable, begin_call, know};
+use ist_rule::{TreeTable, TreeToken, begin_call, know};
 
 /// Begins a call that gets the key, and searches for the key.
-pub(crate) fn begin_find(table: &TreeTable, token: &mut TreeSeat, key: u64) -> Found
+pub(crate) fn begin_find(table: &TreeTable, token: &mut TreeToken, key: u64) -> Found
     requires same_table { token.old.table ≡ table.now.table }
     requires may_begin { CanBegin token.old.view }
     ensures same_table { token.new.table ≡ token.old.table }

@@ -29,7 +29,7 @@ use ist_layout::{ANCHOR, ANCHOR_SLOT_PLACE, LEAF_KEY_OFFSET, LEAF_VALUE_OFFSET, 
 use ist_mark::mark_and_count;
 use ist_rebuild::{Started, help_rebuild, start};
 use ist_rows::Caller;
-use ist_rule::{TreeSeat, TreeTable, begin_call, give_up, know, load};
+use ist_rule::{TreeTable, TreeToken, begin_call, give_up, know, load};
 
 /// A tree as it was at one moment: no later step changes what lies below its root.
 #[derive(Clone, Copy, Debug, PartialEq, Eq, Drop)]
@@ -57,7 +57,7 @@ struct Outcome {
 }
 
 // The word in the anchor's slot.
-pub(crate) fn anchor_word(table: &TreeTable, token: &mut TreeSeat) -> u64
+pub(crate) fn anchor_word(table: &TreeTable, token: &mut TreeToken) -> u64
     requires same_table { token.old.table ≡ table.now.table }
     ensures same_table { token.new.table ≡ token.old.table }
     ensures seen { GoesOnTo token.old.view token.new.view }
@@ -70,14 +70,14 @@ pub(crate) fn anchor_word(table: &TreeTable, token: &mut TreeSeat) -> u64
 
 // Starts a rebuild of the row below the anchor, or finds that something else got there meanwhile.
 fn begin_rebuild(table: &TreeTable, who: &mut Caller, target: u32) -> Result<Option<u32>, Full>
-    requires same_table { who.old.seat.table ≡ table.now.table }
+    requires same_table { who.old.token.table ≡ table.now.table }
     requires ready { IsReady who.old }
-    requires row { IsTopRow who.old.seat.view target }
-    ensures same_table { who.new.seat.table ≡ table.now.table }
+    requires row { IsTopRow who.old.token.view target }
+    ensures same_table { who.new.token.table ≡ table.now.table }
     ensures begun { IfOk result (HasBegun who.old who.new target) }
     ensures further { result ≡ Ok None → (word : ℕ) → ref_of word ≡ Some (InnerAt target)
-        → SlotHolds (now who.old.seat.view) anchor 0 word
-        → CameFurther who.old.seat.view who.new.seat.view }
+        → SlotHolds (now who.old.token.view) anchor 0 word
+        → CameFurther who.old.token.view who.new.token.view }
     ensures full { IfErr result (IsFreezeStopped who.old who.new (word_count_of table.now)) }
 {
     // Install, Okay, Decide and Resolve of a start. Meets whoever changes the anchor's slot.
@@ -90,14 +90,14 @@ fn begin_rebuild(table: &TreeTable, who: &mut Caller, target: u32) -> Result<Opt
 
 // Starts a rebuild of the row that is below the anchor.
 fn met_row(table: &TreeTable, who: &mut Caller, target: u32) -> Result<Option<Site>, Full>
-    requires same_table { who.old.seat.table ≡ table.now.table }
+    requires same_table { who.old.token.table ≡ table.now.table }
     requires ready { IsReady who.old }
-    requires row { IsTopRow who.old.seat.view target }
-    ensures same_table { who.new.seat.table ≡ table.now.table }
+    requires row { IsTopRow who.old.token.view target }
+    ensures same_table { who.new.token.table ≡ table.now.table }
     ensures met { IfOk result (MayHaveMet who.old who.new) }
     ensures further { result ≡ Ok None → (word : ℕ) → ref_of word ≡ Some (InnerAt target)
-        → SlotHolds (now who.old.seat.view) anchor 0 word
-        → CameFurther who.old.seat.view who.new.seat.view }
+        → SlotHolds (now who.old.token.view) anchor 0 word
+        → CameFurther who.old.token.view who.new.token.view }
     ensures full { IfErr result (IsFreezeStopped who.old who.new (word_count_of table.now)) }
 {
     match begin_rebuild(table, who, target)? {
@@ -108,41 +108,41 @@ fn met_row(table: &TreeTable, who: &mut Caller, target: u32) -> Result<Option<Si
 
 // The rebuild that is below the anchor, with its target.
 fn met_rebuild(table: &TreeTable, who: &mut Caller, rebuild: u32) -> Site
-    requires same_table { who.old.seat.table ≡ table.now.table }
+    requires same_table { who.old.token.table ≡ table.now.table }
     requires ready { IsReady who.old }
-    requires row { IsTopRebuild who.old.seat.view rebuild }
-    ensures same_table { who.new.seat.table ≡ table.now.table }
+    requires row { IsTopRebuild who.old.token.view rebuild }
+    ensures same_table { who.new.token.table ≡ table.now.table }
     ensures met { HasMet who.old who.new result }
 {
-    know(&who.seat);
-    let target = target_of(table, &mut who.seat, rebuild);
+    know(&who.token);
+    let target = target_of(table, &mut who.token, rebuild);
     Site::Rebuilt(rebuild, target)
 }
 
 // Helps the change that is below the anchor.
 fn met_change(table: &TreeTable, who: &mut Caller, change: u32)
-    requires same_table { who.old.seat.table ≡ table.now.table }
+    requires same_table { who.old.token.table ≡ table.now.table }
     requires ready { IsReady who.old }
-    requires row { SeesChange who.old.seat.view change }
-    ensures same_table { who.new.seat.table ≡ table.now.table }
+    requires row { SeesChange who.old.token.view change }
+    ensures same_table { who.new.token.table ≡ table.now.table }
     ensures idle { GoesIdle who.old who.new }
-    ensures out { IsOut who.new.seat.view change }
+    ensures out { IsOut who.new.token.view change }
 {
     // Okay, Decide and Resolve. Meets whoever helps the change.
-    help(table, &mut who.seat, change);
+    help(table, &mut who.token, change);
 }
 
 // Meets what the word in the anchor's slot names.
 fn meet(table: &TreeTable, who: &mut Caller, word: u64) -> Result<Option<Site>, Full>
-    requires same_table { who.old.seat.table ≡ table.now.table }
+    requires same_table { who.old.token.table ≡ table.now.table }
     requires ready { IsReady who.old }
-    requires holds { SlotHolds (now who.old.seat.view) anchor 0 word }
-    ensures same_table { who.new.seat.table ≡ table.now.table }
+    requires holds { SlotHolds (now who.old.token.view) anchor 0 word }
+    ensures same_table { who.new.token.table ≡ table.now.table }
     ensures met { IfOk result (MayHaveMet who.old who.new) }
-    ensures further { result ≡ Ok None → CameFurther who.old.seat.view who.new.seat.view }
+    ensures further { result ≡ Ok None → CameFurther who.old.token.view who.new.token.view }
     ensures full { IfErr result (IsFreezeStopped who.old who.new (word_count_of table.now)) }
 {
-    know(&who.seat);
+    know(&who.token);
     match Ref::from_word(word) {
         Some(Ref::Inner { base }) => met_row(table, who, base),
         Some(Ref::Rebuild { base }) => Ok(Some(met_rebuild(table, who, base))),
@@ -165,27 +165,27 @@ fn meet(table: &TreeTable, who: &mut Caller, word: u64) -> Result<Option<Site>, 
 
 // Looks below the anchor once.
 fn look(table: &TreeTable, who: &mut Caller) -> Result<Option<Site>, Full>
-    requires same_table { who.old.seat.table ≡ table.now.table }
+    requires same_table { who.old.token.table ≡ table.now.table }
     requires ready { IsReady who.old }
-    ensures same_table { who.new.seat.table ≡ table.now.table }
+    ensures same_table { who.new.token.table ≡ table.now.table }
     ensures met { IfOk result (MayHaveMet who.old who.new) }
-    ensures further { result ≡ Ok None → CameFurther who.old.seat.view who.new.seat.view }
+    ensures further { result ≡ Ok None → CameFurther who.old.token.view who.new.token.view }
     ensures full { IfErr result (IsFreezeStopped who.old who.new (word_count_of table.now)) }
 {
-    know(&who.seat);
-    let word = anchor_word(table, &mut who.seat);
+    know(&who.token);
+    let word = anchor_word(table, &mut who.token);
     meet(table, who, word)
 }
 
 // Looks below the anchor until it finds a frozen tree or a rebuild there.
 pub(crate) fn look_below(table: &TreeTable, who: &mut Caller) -> Result<Site, Full>
-    requires same_table { who.old.seat.table ≡ table.now.table }
+    requires same_table { who.old.token.table ≡ table.now.table }
     requires ready { IsReady who.old }
-    ensures same_table { who.new.seat.table ≡ table.now.table }
+    ensures same_table { who.new.token.table ≡ table.now.table }
     ensures met { IfOk result (HasMet who.old who.new) }
     ensures full { IfErr result (IsFreezeStopped who.old who.new (word_count_of table.now)) }
 {
-    know(&who.seat);
+    know(&who.token);
     'turns: loop {
         if let Some(site) = look(table, who)? {
             return Ok(site);
@@ -195,16 +195,16 @@ pub(crate) fn look_below(table: &TreeTable, who: &mut Caller) -> Result<Site, Fu
 
 // Marks the target of the rebuild and counts its keys, and helps the rebuild.
 fn freeze_target(table: &TreeTable, who: &mut Caller, rebuild: u32, target: u32) -> Outcome
-    requires same_table { who.old.seat.table ≡ table.now.table }
+    requires same_table { who.old.token.table ≡ table.now.table }
     requires ready { IsReady who.old }
-    requires of { IsRebuildOf (now who.old.seat.view) rebuild target }
-    ensures same_table { who.new.seat.table ≡ table.now.table }
+    requires of { IsRebuildOf (now who.old.token.view) rebuild target }
+    ensures same_table { who.new.token.table ≡ table.now.table }
     ensures froze { FreezesTarget who.old who.new (word_count_of table.now) rebuild target result }
 {
-    know(&who.seat);
+    know(&who.token);
     // Mark, Pass and Finish of each row. Meets each update of the subtree, and whoever marks it.
-    let keys = mark_and_count(table, &mut who.seat, target);
-    know(&who.seat);
+    let keys = mark_and_count(table, &mut who.token, target);
+    know(&who.token);
     let refused = help_rebuild(table, who, rebuild).err();
     let root = Ref::Inner { base: target };
     Outcome {
@@ -215,9 +215,9 @@ fn freeze_target(table: &TreeTable, who: &mut Caller, rebuild: u32, target: u32)
 
 // Freezes what is below the anchor.
 fn freeze_below(table: &TreeTable, who: &mut Caller) -> Result<Outcome, Full>
-    requires same_table { who.old.seat.table ≡ table.now.table }
+    requires same_table { who.old.token.table ≡ table.now.table }
     requires ready { IsReady who.old }
-    ensures same_table { who.new.seat.table ≡ table.now.table }
+    ensures same_table { who.new.token.table ≡ table.now.table }
     ensures froze { IfOk result (Freezes who.old who.new (word_count_of table.now)) }
     ensures full { IfErr result (IsFreezeStopped who.old who.new (word_count_of table.now)) }
 {
@@ -232,16 +232,16 @@ fn freeze_below(table: &TreeTable, who: &mut Caller) -> Result<Outcome, Full>
 
 // Begins a call without a command.
 pub(crate) fn begin(table: &TreeTable, who: &mut Caller)
-    requires same_table { who.old.seat.table ≡ table.now.table }
+    requires same_table { who.old.token.table ≡ table.now.table }
     requires pass { IsPass who.old }
-    ensures same_table { who.new.seat.table ≡ table.now.table }
+    ensures same_table { who.new.token.table ≡ table.now.table }
     ensures number { who.new.number ≡ who.old.number }
-    ensures sound { IsSound who.old.seat.view }
-    ensures begun { Turned who.old.seat.view (beginning who.old.seat.view None) who.new.seat.view }
+    ensures sound { IsSound who.old.token.view }
+    ensures begun { Turned who.old.token.view (beginning who.old.token.view None) who.new.token.view }
     ensures ready { IsReady who.new }
 {
-    know(&who.seat);
-    begin_call(table, &mut who.seat, None);
+    know(&who.token);
+    begin_call(table, &mut who.token, None);
 }
 
 // The base of the leaf that the reference is.
@@ -255,7 +255,7 @@ fn base_of(reference: Ref) -> u32
 }
 
 // The leaf number `i` below the root of a frozen tree, and how many words were loaded for it.
-fn frozen_leaf(table: &TreeTable, token: &mut TreeSeat, frozen: Frozen, i: u64) -> (u32, u64)
+fn frozen_leaf(table: &TreeTable, token: &mut TreeToken, frozen: Frozen, i: u64) -> (u32, u64)
     requires same_table { token.old.table ≡ table.now.table }
     requires frozen { IsStill (now token.old.view) (ref_meant frozen.root) frozen.keys }
     requires within { i < frozen.keys }
@@ -276,7 +276,7 @@ fn frozen_leaf(table: &TreeTable, token: &mut TreeSeat, frozen: Frozen, i: u64) 
 }
 
 // The pair of a leaf.
-fn pair_in(table: &TreeTable, token: &mut TreeSeat, base: u32) -> Pair
+fn pair_in(table: &TreeTable, token: &mut TreeToken, base: u32) -> Pair
     requires same_table { token.old.table ≡ table.now.table }
     requires leaf { SeesLeaf token.old.view base }
     ensures same_table { token.new.table ≡ token.old.table }
@@ -294,7 +294,7 @@ fn pair_in(table: &TreeTable, token: &mut TreeSeat, base: u32) -> Pair
 // The pair number `i` of a frozen tree, and how many words were loaded for it.
 pub(crate) fn pair_and_loads(
     table: &TreeTable,
-    token: &mut TreeSeat,
+    token: &mut TreeToken,
     frozen: Frozen,
     i: u64,
 ) -> (Pair, u64)
@@ -353,14 +353,14 @@ impl Tree {
         begin(&self.table, &mut pass.caller);
         match freeze_below(&self.table, &mut pass.caller) {
             Ok(outcome) => {
-                know(&pass.caller.seat);
-                give_up(&self.table, &mut pass.caller.seat);
+                know(&pass.caller.token);
+                give_up(&self.table, &mut pass.caller.token);
                 pass.refused = pass.refused.or(outcome.refused);
                 Ok(outcome.frozen)
             }
             Err(full) => {
-                know(&pass.caller.seat);
-                give_up(&self.table, &mut pass.caller.seat);
+                know(&pass.caller.token);
+                give_up(&self.table, &mut pass.caller.token);
                 Err(full)
             }
         }
@@ -394,7 +394,7 @@ impl Tree {
         ensures refused { pass.new.refused ≡ pass.old.refused }
         ensures counted { pass.new.loaded ≡ pass.old.loaded + result.1 }
     {
-        know(&pass.caller.seat);
-        pair_and_loads(&self.table, &mut pass.caller.seat, *frozen, i)
+        know(&pass.caller.token);
+        pair_and_loads(&self.table, &mut pass.caller.token, *frozen, i)
     }
 }

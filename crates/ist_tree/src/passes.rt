@@ -5,7 +5,7 @@ ghost use Rattle.ist_core.specs.Lawful.{Lawful};
 
 use ist_core::Full;
 use ist_rows::Caller;
-use ist_rule::{TreeSeat, know};
+use ist_rule::{TreeToken, know};
 use std::marker::Model;
 
 /// Makes passes, takes them back, and closes the tree.
@@ -14,7 +14,7 @@ use std::marker::Model;
 /// it took back, and whether one of these passes had met a refused rebuild.
 #[derive(Drop)]
 pub struct Maker {
-    pub(crate) token: TreeSeat,
+    pub(crate) token: TreeToken,
     pub(crate) refused: bool,
     pub(crate) made: u64,
     pub(crate) taken_back: u64,
@@ -91,7 +91,7 @@ impl Pass {
     pub fn know(&self)
         ensures lawful { let p = self.now in Lawful p.tree.start p.tree.words p.seen }
     {
-        know(&self.caller.seat);
+        know(&self.caller.token);
     }
 
     /// Returns the first `Full` of a rebuild that a call of this pass met, if one did: a put or
@@ -108,7 +108,7 @@ impl Pass {
 /// Contracts see what they see of a pass.
 #[derive(Drop)]
 pub struct Note {
-    pub(crate) token: TreeSeat,
+    pub(crate) token: TreeToken,
 }
 
 impl Model for Note {

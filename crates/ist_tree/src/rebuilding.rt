@@ -2,7 +2,7 @@
 ghost use Rattle.std.specs.Prelude.{◌≡◌, ℕ, Ok, IfErr};
 ghost use Rattle.ist_core.specs.References.{ref_of};
 ghost use Rattle.ist_core.specs.Slots.{IsOpen};
-ghost use Rattle.laws_settling.specs.Settling.{StartsAreDone};
+ghost use Rattle.laws_calls.specs.Settling.{StartsAreDone};
 ghost use Rattle.ist_rule.specs.Faces.{word_count_of};
 ghost use Rattle.ist_rule.specs.Learning.{now};
 ghost use Rattle.ist_rows.specs.Going.{IsReady};
@@ -47,20 +47,20 @@ fn instead_in(word: u64) -> Instead
 
 // Starts a rebuild of the row, or finds what stops it.
 fn start_due(table: &TreeTable, who: &mut Caller, due: Due) -> Result<Started, Full>
-    requires same_table { who.old.seat.table ≡ table.now.table }
+    requires same_table { who.old.token.table ≡ table.now.table }
     requires ready { IsReady who.old }
-    requires may_start { MayStart who.old.seat.view due.parent due.index due.target }
-    ensures same_table { who.new.seat.table ≡ table.now.table }
+    requires may_start { MayStart who.old.token.view due.parent due.index due.target }
+    ensures same_table { who.new.token.table ≡ table.now.table }
     ensures on { GoesFor who.old who.new due.target }
     ensures yes { (rebuild : ℕ) → result ≡ Ok (Yes rebuild)
-        → IsStartedAt (now who.new.seat.view) rebuild due.parent due.index due.target }
+        → IsStartedAt (now who.new.token.view) rebuild due.parent due.index due.target }
     ensures other { (word : ℕ) → result ≡ Ok (Other word)
-        → StoodInstead who.new.seat.view due.parent due.index due.target word }
-    ensures marked { result ≡ Ok Marked → ¬ (IsOpen (now who.new.seat.view) due.parent) }
-    ensures done { StartsAreDone (now who.old.seat.view) who.old.number
-        → LeavesDone (now who.new.seat.view) who.old.number result }
+        → StoodInstead who.new.token.view due.parent due.index due.target word }
+    ensures marked { result ≡ Ok Marked → ¬ (IsOpen (now who.new.token.view) due.parent) }
+    ensures done { StartsAreDone (now who.old.token.view) who.old.number
+        → LeavesDone (now who.new.token.view) who.old.number result }
     ensures full { IfErr result (λ full.
-        IsDueRefused (now who.old.seat.view) who.new.seat.view due.target
+        IsDueRefused (now who.old.token.view) who.new.token.view due.target
         (word_count_of table.now) full) }
 {
     // Install, Okay, Decide and Resolve of a start. Meets whoever changes the row's slot.
@@ -69,10 +69,10 @@ fn start_due(table: &TreeTable, who: &mut Caller, due: Due) -> Result<Started, F
 
 // Helps the rebuild that was started of the row.
 fn help_own(table: &TreeTable, who: &mut Caller, due: Due, rebuild: u32) -> Result<(), Full>
-    requires same_table { who.old.seat.table ≡ table.now.table }
+    requires same_table { who.old.token.table ≡ table.now.table }
     requires ready { IsReady who.old }
-    requires started { IsStartedAt (now who.old.seat.view) rebuild due.parent due.index due.target }
-    ensures same_table { who.new.seat.table ≡ table.now.table }
+    requires started { IsStartedAt (now who.old.token.view) rebuild due.parent due.index due.target }
+    ensures same_table { who.new.token.table ≡ table.now.table }
     ensures helped { HelpsOwn who.old who.new due (word_count_of table.now) rebuild result }
 {
     match help_rebuild(table, who, rebuild) {
@@ -83,13 +83,13 @@ fn help_own(table: &TreeTable, who: &mut Caller, due: Due, rebuild: u32) -> Resu
 
 // Helps what the slot holds instead of the row that was due for a rebuild: a rebuild, or a change.
 fn help_other(table: &TreeTable, who: &mut Caller, due: Due, word: u64) -> Result<(), Full>
-    requires same_table { who.old.seat.table ≡ table.now.table }
+    requires same_table { who.old.token.table ≡ table.now.table }
     requires ready { IsReady who.old }
-    requires stood { StoodInstead who.old.seat.view due.parent due.index due.target word }
-    ensures same_table { who.new.seat.table ≡ table.now.table }
+    requires stood { StoodInstead who.old.token.view due.parent due.index due.target word }
+    ensures same_table { who.new.token.table ≡ table.now.table }
     ensures helped { HelpsOther who.old who.new due (word_count_of table.now) word result }
 {
-    know(&who.seat);
+    know(&who.token);
     match instead_in(word) {
         Instead::Rebuild(base) => match help_rebuild(table, who, base) {
             Ok(_) => Ok(()),
@@ -97,7 +97,7 @@ fn help_other(table: &TreeTable, who: &mut Caller, due: Due, word: u64) -> Resul
         },
         Instead::Change(base) => {
             // Okay, Decide and Resolve. Meets another helper's, and a mark of the node.
-            help(table, &mut who.seat, base);
+            help(table, &mut who.token, base);
             Ok(())
         }
         Instead::Other => Ok(()),
@@ -107,10 +107,10 @@ fn help_other(table: &TreeTable, who: &mut Caller, due: Due, word: u64) -> Resul
 // Tries once to rebuild the row. Returns whether that was the last try: the row or its parent isn't
 // open.
 fn try_due(table: &TreeTable, who: &mut Caller, due: Due) -> Result<bool, Full>
-    requires same_table { who.old.seat.table ≡ table.now.table }
+    requires same_table { who.old.token.table ≡ table.now.table }
     requires ready { IsReady who.old }
-    requires may_start { MayStart who.old.seat.view due.parent due.index due.target }
-    ensures same_table { who.new.seat.table ≡ table.now.table }
+    requires may_start { MayStart who.old.token.view due.parent due.index due.target }
+    ensures same_table { who.new.token.table ≡ table.now.table }
     ensures tried { Tries who.old who.new due (word_count_of table.now) result }
 {
     match start_due(table, who, due)? {
@@ -121,7 +121,7 @@ fn try_due(table: &TreeTable, who: &mut Caller, due: Due) -> Result<bool, Full>
         Started::Marked => Ok(true),
         Started::Other(word) => {
             help_other(table, who, due, word)?;
-            Ok(!is_open(table, &mut who.seat, due.target))
+            Ok(!is_open(table, &mut who.token, due.target))
         }
     }
 }
@@ -129,13 +129,13 @@ fn try_due(table: &TreeTable, who: &mut Caller, due: Due) -> Result<bool, Full>
 /// Rebuilds the row, or finds that it or its parent isn't open. Helps what others put in its slot,
 /// and tries again only after a change of another was resolved.
 pub(crate) fn rebuild_due(table: &TreeTable, who: &mut Caller, due: Due) -> Result<(), Full>
-    requires same_table { who.old.seat.table ≡ table.now.table }
+    requires same_table { who.old.token.table ≡ table.now.table }
     requires ready { IsReady who.old }
-    requires may_start { MayStart who.old.seat.view due.parent due.index due.target }
-    ensures same_table { who.new.seat.table ≡ table.now.table }
+    requires may_start { MayStart who.old.token.view due.parent due.index due.target }
+    ensures same_table { who.new.token.table ≡ table.now.table }
     ensures rebuilt { RebuildsRow who.old who.new due (word_count_of table.now) result }
 {
-    know(&who.seat);
+    know(&who.token);
     'turns: loop {
         if try_due(table, who, due)? {
             return Ok(());

@@ -33,9 +33,9 @@ impl Tree {
         ensures stamp { pass.new.stamp ≡ pass.old.stamp }
         ensures refused { pass.new.refused ≡ pass.old.refused }
     {
-        know(&pass.caller.seat);
+        know(&pass.caller.token);
         // A load. Meets whoever reserves a row.
-        let next = load(&self.table, &mut pass.caller.seat, NEXT_PLACE);
+        let next = load(&self.table, &mut pass.caller.token, NEXT_PLACE);
         word_count(&self.table) - next
     }
 }

@@ -34,7 +34,7 @@ impl Tree {
         ensures stamp { pass.new.stamp ≡ pass.old.stamp }
         ensures refused { pass.new.refused ≡ pass.old.refused }
     {
-        know(&pass.caller.seat);
-        sweep(&self.table, &mut pass.caller.seat, first, last, found)
+        know(&pass.caller.token);
+        sweep(&self.table, &mut pass.caller.token, first, last, found)
     }
 }

@@ -118,7 +118,7 @@ impl Tree {
     {
         let caller = enter(&self.table, &mut maker.token);
         maker.made = u64::from(caller.number) + 1;
-        know(&caller.seat);
+        know(&caller.token);
         Pass {
             caller,
             refused: None,
@@ -140,8 +140,8 @@ impl Tree {
         ensures refused { maker.new.refused ≡ (maker.old.refused || is_some pass.refused) }
     {
         let Pass { caller, refused } = pass;
-        let Caller { seat, .. } = caller;
-        join(&self.table, &mut maker.token, seat);
+        let Caller { token, .. } = caller;
+        join(&self.table, &mut maker.token, token);
         maker.taken_back += 1;
         maker.refused |= refused.is_some();
     }
@@ -153,8 +153,8 @@ impl Tree {
         ensures value { result ≡ noted pass.old }
         ensures unchanged { pass.new ≡ pass.old }
     {
-        know(&pass.caller.seat);
-        let token = split(&self.table, &mut pass.caller.seat);
+        know(&pass.caller.token);
+        let token = split(&self.table, &mut pass.caller.token);
         Note { token }
     }
 
@@ -172,7 +172,7 @@ impl Tree {
         ensures refused { pass.new.refused ≡ pass.old.refused }
     {
         let Note { token } = note;
-        join(&self.table, &mut pass.caller.seat, token);
+        join(&self.table, &mut pass.caller.token, token);
     }
 
     /// Lets the maker learn what the note holds. Each pass that it makes from then on has seen all
@@ -206,7 +206,7 @@ impl Tree {
         ensures loads { HasLoadedFew pass.old pass.new key result }
         ensures refused { pass.new.refused ≡ pass.old.refused }
     {
-        let token = &mut pass.caller.seat;
+        let token = &mut pass.caller.token;
         let found = begin_find(&self.table, token, key);
         know(token);
         end_call(&self.table, token, found.value);
@@ -235,8 +235,8 @@ impl Tree {
         ensures stamp { pass.new.stamp ≡ pass.old.stamp }
         ensures refused { pass.new.refused ≡ pass.old.refused }
     {
-        know(&pass.caller.seat);
-        find_span(&self.table, &mut pass.caller.seat, key)
+        know(&pass.caller.token);
+        find_span(&self.table, &mut pass.caller.token, key)
     }
 
     /// Inserts or replaces the value at the key, and returns the value that the key had before.

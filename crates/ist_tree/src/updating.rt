@@ -38,17 +38,17 @@ fn command_of(key: u64, value: Option<u64>) -> Command
 
 // Begins the call with this command.
 pub(crate) fn begin(table: &TreeTable, who: &mut Caller, command: Command)
-    requires same_table { who.old.seat.table ≡ table.now.table }
+    requires same_table { who.old.token.table ≡ table.now.table }
     requires pass { IsPass who.old }
-    ensures same_table { who.new.seat.table ≡ table.now.table }
+    ensures same_table { who.new.token.table ≡ table.now.table }
     ensures number { who.new.number ≡ who.old.number }
-    ensures begun { Turned who.old.seat.view (beginning who.old.seat.view (Some command))
-        who.new.seat.view }
-    ensures sound { IsSound who.old.seat.view }
+    ensures begun { Turned who.old.token.view (beginning who.old.token.view (Some command))
+        who.new.token.view }
+    ensures sound { IsSound who.old.token.view }
     ensures asked { IsAsked who.new command }
 {
-    know(&who.seat);
-    begin_call(table, &mut who.seat, Some(command));
+    know(&who.token);
+    begin_call(table, &mut who.token, Some(command));
 }
 
 // The result of an update: its reply, and the refusal of the rebuild after it, if there was one.
@@ -66,14 +66,14 @@ fn apply_asked(
     value: Option<u64>,
     when: When,
 ) -> Result<Option<Applied>, Full>
-    requires same_table { who.old.seat.table ≡ table.now.table }
+    requires same_table { who.old.token.table ≡ table.now.table }
     requires asked { IsAsked who.old (command_for key value) }
-    ensures same_table { who.new.seat.table ≡ table.now.table }
+    ensures same_table { who.new.token.table ≡ table.now.table }
     ensures applied { IfOk result (λ o. IfSome o (λ done.
         Applies who.old who.new (command_for key value) done.reply done.due)) }
     ensures met { IfOk result (λ o. IfSome o (λ done. IsMetBy when done.reply)) }
     ensures let_go { result ≡ Ok None → IsLetGo who.old who.new }
-    ensures missed { result ≡ Ok None → WasMissed who.old.seat.view who.new.seat.view key when }
+    ensures missed { result ≡ Ok None → WasMissed who.old.token.view who.new.token.view key when }
     ensures full { IfErr result (λ full.
         IsTurnedDown who.old who.new (word_count_of table.now) key value full) }
     ensures starts { StartsDue who.old who.new }
@@ -90,14 +90,14 @@ fn carry_out_when(
     value: Option<u64>,
     when: When,
 ) -> Result<Option<Carried>, Full>
-    requires same_table { who.old.seat.table ≡ table.now.table }
+    requires same_table { who.old.token.table ≡ table.now.table }
     requires asked { IsAsked who.old (command_for key value) }
-    ensures same_table { who.new.seat.table ≡ table.now.table }
+    ensures same_table { who.new.token.table ≡ table.now.table }
     ensures carried { IfOk result (λ o. IfSome o (λ c. CarriesOut who.old who.new
         (word_count_of table.now) (command_for key value) c.reply c.refused)) }
     ensures met { IfOk result (λ o. IfSome o (λ c. IsMetBy when c.reply)) }
     ensures let_go { result ≡ Ok None → IsLetGo who.old who.new }
-    ensures missed { result ≡ Ok None → WasMissed who.old.seat.view who.new.seat.view key when }
+    ensures missed { result ≡ Ok None → WasMissed who.old.token.view who.new.token.view key when }
     ensures full { IfErr result (λ full.
         IsTurnedDown who.old who.new (word_count_of table.now) key value full) }
     ensures starts { StartsDue who.old who.new }
@@ -171,20 +171,20 @@ fn update_when(
     match carry_out_when(&tree.table, &mut pass.caller, key, value, when) {
         Ok(carried) => match carried {
             Some(done) => {
-                know(&pass.caller.seat);
-                end_call(&tree.table, &mut pass.caller.seat, done.reply);
+                know(&pass.caller.token);
+                end_call(&tree.table, &mut pass.caller.token, done.reply);
                 pass.refused = pass.refused.or(done.refused);
                 Ok(Some(done.reply))
             }
             None => {
-                know(&pass.caller.seat);
-                give_up(&tree.table, &mut pass.caller.seat);
+                know(&pass.caller.token);
+                give_up(&tree.table, &mut pass.caller.token);
                 Ok(None)
             }
         },
         Err(full) => {
-            know(&pass.caller.seat);
-            give_up(&tree.table, &mut pass.caller.seat);
+            know(&pass.caller.token);
+            give_up(&tree.table, &mut pass.caller.token);
             Err(full)
         }
     }
@@ -199,7 +199,7 @@ fn find_unless(tree: &Tree, pass: &mut Pass, key: u64, expected: Reply) -> Optio
     ensures added { IfSome result (AddsCall pass.old pass.new (Get key)) }
     ensures met { result ≡ None → HasMetAt pass.old pass.new key expected }
 {
-    let token = &mut pass.caller.seat;
+    let token = &mut pass.caller.token;
     let found = begin_find(&tree.table, token, key);
     know(token);
     if found.value == expected {

@@ -8,14 +8,14 @@ use Rattle.ist_core.specs.Authors.{GoesOnBy}
 use Rattle.ist_core.specs.Pieces.{Inner}
 use Rattle.ist_core.specs.RowLayout.{anchor}
 use Rattle.ist_rule.specs.declared.view.View.{View}
-use Rattle.ist_rule.specs.Faces.{SeatFace}
+use Rattle.ist_rule.specs.Faces.{TokenFace}
 use Rattle.ist_rule.specs.Going.{SearchedOn, WentOn}
 use Rattle.ist_rule.specs.Learning.{Turned, searching}
 use Rattle.ist_rule.specs.Standings.{HasMade}
 use Rattle.ist_rule.proofs.LaterLemmas.{goes_on_length}
 use Rattle.ist_rule.proofs.SearchedOnLemmas.{searched_all, searched_more, searching_on, went_searched}
 use Rattle.ist_rule.proofs.WentOnLemmas.{went_all, went_now, went_lawful, went_more, later_by-goes_on}
-use Rattle.laws_walks.proofs.WalkLemmas.{met_chain}
+use Rattle.laws_calls.proofs.WalkLemmas.{met_chain}
 use Rattle.ist_rows.specs.declared.callers.Caller.{Caller}
 use Rattle.ist_rows.specs.Rows.{IsCaller}
 use Rattle.ist_rows.specs.Going.{IsQuiet}
@@ -40,74 +40,74 @@ use Rattle.ist_updates.proofs.TriedWalkLemmas.{tries_update, went_table, tried_b
 pub record HasBegun (old who : Caller) (key : ℕ) (command : Command) : Type 0 where
   pub number : who.number ≡ old.number
   pub asked : IsAsked who command
-  pub went : SearchedOn Tries old.seat.view who.seat.view
-  pub come : HasCome who.seat.view key anchor []
-  pub since : who.seat.view.loads.since ≡ length who.seat.view.log
+  pub went : SearchedOn Tries old.token.view who.token.view
+  pub come : HasCome who.token.view key anchor []
+  pub since : who.token.view.loads.since ≡ length who.token.view.log
 
 -- it does so by beginning a search
-pub begun_walk : (old who : Caller) (seat : SeatFace) (key : ℕ) (command : Command)
+pub begun_walk : (old who : Caller) (token : TokenFace) (key : ℕ) (command : Command)
     → who.number ≡ old.number → IsAskedAgain old who command
-    → Turned who.seat.view (searching who.seat.view) seat.view
-    → HasBegun old (record who { seat = seat }) key command
-begun_walk old who seat key command number s t =
+    → Turned who.token.view (searching who.token.view) token.view
+    → HasBegun old (record who { token = token }) key command
+begun_walk old who token key command number s t =
     record {
       number = number;
-      asked = asked_searched who seat command s.asked
-          (searching_on NoEvent who.seat.view seat.view t);
-      went = searched_more Tries old.seat.view who.seat.view seat.view s.went
-          (searching_on Tries who.seat.view seat.view t);
-      come = begun_comes who.seat.view seat.view key t;
+      asked = asked_searched who token command s.asked
+          (searching_on NoEvent who.token.view token.view t);
+      went = searched_more Tries old.token.view who.token.view token.view s.went
+          (searching_on Tries who.token.view token.view t);
+      come = begun_comes who.token.view token.view key t;
       since = ap (λ x. x.loads.since) t.view ∙ ap length (sym (ap (λ x. x.log) t.view));
     }
 
 module _ (old who : Caller) (key : ℕ) (value : Option ℕ) (a : IsAsked old (command_for key value))
     (b : HasBegun old who key (command_for key value)) where
   abbrev v : View
-  v = who.seat.view
+  v = who.token.view
 
   -- the caller as it was, as if it had begun as many searches
   abbrev was : Caller
-  was = record old { seat = record old.seat { view = record old.seat.view { searches = v.searches } } }
+  was = record old { token = record old.token { view = record old.token.view { searches = v.searches } } }
 
   abbrev first : View
-  first = was.seat.view
+  first = was.token.view
 
   -- ---- the end
 
   -- all steps were steps of an update
-  pub all_went : (new : Caller) → WentOn Updates v new.seat.view
-      → WentOn Updates first new.seat.view
+  pub all_went : (new : Caller) → WentOn Updates v new.token.view
+      → WentOn Updates first new.token.view
   all_went new g =
-      went_more Updates first v new.seat.view (went_all Tries Updates tries_update first v b.went.went) g
+      went_more Updates first v new.token.view (went_all Tries Updates tries_update first v b.went.went) g
 
   -- apart from the searches that it began
-  pub all_searched : (new : Caller) → WentOn Updates v new.seat.view
-      → SearchedOn Updates old.seat.view new.seat.view
+  pub all_searched : (new : Caller) → WentOn Updates v new.token.view
+      → SearchedOn Updates old.token.view new.token.view
   all_searched new g =
-      searched_more Updates old.seat.view v new.seat.view
-      (searched_all Tries Updates tries_update old.seat.view v b.went)
-      (went_searched Updates v new.seat.view g)
+      searched_more Updates old.token.view v new.token.view
+      (searched_all Tries Updates tries_update old.token.view v b.went)
+      (went_searched Updates v new.token.view g)
 
   -- a walk that took no effect leaves the caller as it was asked
   pub still_on : (new : Caller) → IsAskedStill who new (command_for key value)
       → IsAskedAgain old new (command_for key value)
   still_on new s =
       record {
-        went = searched_more Tries old.seat.view v new.seat.view b.went
-            (went_searched Tries v new.seat.view s.went);
+        went = searched_more Tries old.token.view v new.token.view b.went
+            (went_searched Tries v new.token.view s.went);
         asked = s.asked;
       }
 
   -- it was refused since the call began
   pub refused_first : (words : ℕ) (full : Full) (new : Caller)
       → ((before : View) → BeganSince before v
-      → IsUpdateRefused before key value words full new.seat.view)
-      → WentOn Updates v new.seat.view
-      → WasRefused old.seat.view key value words full new.seat.view
+      → IsUpdateRefused before key value words full new.token.view)
+      → WentOn Updates v new.token.view
+      → WasRefused old.token.view key value words full new.token.view
   refused_first words full new h g =
       let none = ap (λ x. x.searches) g.same in
-      subst (λ n. IsUpdateRefused (record old.seat.view { searches = n }) key value words full
-      new.seat.view) (sym none)
+      subst (λ n. IsUpdateRefused (record old.token.view { searches = n }) key value words full
+      new.token.view) (sym none)
       (h first record {
         went = went_all Tries Updates tries_update first v b.went.went;
         since = subst (λ n. length first.log ≤ n) (sym b.since)
@@ -123,26 +123,26 @@ module _ (old who : Caller) (key : ℕ) (value : Option ℕ) (a : IsAsked old (c
 
   -- walks that took no effect counted nowhere
   pub still_due : (new : Caller) → IsAskedStill who new (command_for key value)
-      → LeavesDue first new.seat.view old.number None
+      → LeavesDue first new.token.view old.number None
   still_due new s =
-      came_none first.start first.words first.log old.number new.seat.view.log
-      (subst (λ m. GoesOnBy (CountsNone m) first.log new.seat.view.log) b.number
-      (tried_by who (command_for key value) b.asked first tried new.seat.view s.went))
+      came_none first.start first.words first.log old.number new.token.view.log
+      (subst (λ m. GoesOnBy (CountsNone m) first.log new.token.view.log) b.number
+      (tried_by who (command_for key value) b.asked first tried new.token.view s.went))
 
   -- nowhere at all
   pub still_counted : (new : Caller) → IsAskedStill who new (command_for key value)
-      → CountedNowhere first.log new.seat.view.log old.number
+      → CountedNowhere first.log new.token.view.log old.number
   still_counted new s =
-      counted_nowhere old.number first.log new.seat.view.log
-      (subst (λ m. GoesOnBy (CountsNone m) first.log new.seat.view.log) b.number
-      (tried_by who (command_for key value) b.asked first tried new.seat.view s.went))
+      counted_nowhere old.number first.log new.token.view.log
+      (subst (λ m. GoesOnBy (CountsNone m) first.log new.token.view.log) b.number
+      (tried_by who (command_for key value) b.asked first tried new.token.view s.went))
 
   -- ---- if it took effect
 
-  module _ (new : Caller) (words : ℕ) (done : Applied) (g : WentOn Updates v new.seat.view)
+  module _ (new : Caller) (words : ℕ) (done : Applied) (g : WentOn Updates v new.token.view)
       (h : HasWalked who key value anchor words (Ok (Took done)) new) where
     abbrev w : View
-    w = new.seat.view
+    w = new.token.view
 
     -- it was counted at each row
     took_counted : HasCounted first.start first.words first.log w.log old.number
@@ -185,12 +185,12 @@ module _ (old who : Caller) (key : ℕ) (value : Option ℕ) (a : IsAsked old (c
         (same ∙ b.number) q
 
     -- and the topmost row that reached its limit is returned
-    pub took_due : LeavesDue old.seat.view w old.number done.due
+    pub took_due : LeavesDue old.token.view w old.number done.due
     took_due = due_told done.due took_counted.due
       where
         due_told : (due : Option Due)
             → IsDueBy first.start first.words first.log w.log old.number due
-            → LeavesDue old.seat.view w old.number due
+            → LeavesDue old.token.view w old.number due
         due_told None none = none
         due_told (Some due) d =
             let stood = went_table Updates first w (all_went new g)
@@ -214,7 +214,7 @@ module _ (old who : Caller) (key : ℕ) (value : Option ℕ) (a : IsAsked old (c
   -- ---- if there was nothing to remove
 
   module _ (new : Caller) (s : IsAskedStill who new (command_for key value))
-      (n : IsNotThere v new.seat.view key value) where
+      (n : IsNotThere v new.token.view key value) where
     -- if there was nothing to remove, the call may end with no value
     pub nothing_told : IsCaller new → new.number ≡ who.number → IsQuiet new
         → MayEnd new (command_for key value) None

@@ -25,8 +25,8 @@ use Rattle.ist_rows.specs.declared.callers.Caller.{Caller}
 use Rattle.ist_rows.specs.CallerLaws.{InstallsNone}
 use Rattle.ist_rows.proofs.CallerLawLemmas.{resolved_went}
 use Rattle.laws_histories.specs.Calls.{HasCalls, MadeNoEntry}
-use Rattle.laws_walks.specs.Accepting.{InstallsNoYes}
-use Rattle.laws_walks.proofs.InstalledLemmas.{installed_no_entry}
+use Rattle.laws_calls.specs.Accepting.{InstallsNoYes}
+use Rattle.laws_calls.proofs.InstalledLemmas.{installed_no_entry}
 use Rattle.ist_rebuild.specs.Going.{Serves}
 use Rattle.ist_rows.specs.Going.{IsQuiet, HasGone}
 use Rattle.ist_updates.specs.Asking.{IsAsked}
@@ -134,10 +134,10 @@ module _ (pairs : List Pair) (words : ℕ) (last : Log) (h : EachEnabled (start 
 module _ (P : Event → Type 0) (old new : Caller) (command : Command) (a : IsAsked old command)
     (h : HasGone P old new) where
   abbrev v : View
-  v = old.seat.view
+  v = old.token.view
 
   abbrev w : View
-  w = new.seat.view
+  w = new.token.view
 
   -- a caller that went on, made no entry and resolved its changes is asked still
   pub asked_still : IsResolved w old.number → MadeNoEntry v.start v.words old.number v.log w.log
@@ -176,10 +176,10 @@ module _ (P : Event → Type 0) (old new : Caller) (command : Command) (a : IsAs
 
 -- a caller that helped a rebuild is still asked
 pub asked_served : (old new : Caller) (command : Command) → IsAsked old command
-    → HasGone Serves old new → IsResolved new.seat.view new.number → IsAsked new command
+    → HasGone Serves old new → IsResolved new.token.view new.number → IsAsked new command
 asked_served old new command a h resolved =
-    let v = old.seat.view in
-    let w = new.seat.view in
+    let v = old.token.view in
+    let w = new.token.view in
     let lawful = went_lawful Serves v w h.went in
     asked_still Serves old new command a h (subst (IsResolved w) h.number resolved)
     (installed_no_entry v.start v.words lawful.opens v.log w.log lawful.enabled old.number

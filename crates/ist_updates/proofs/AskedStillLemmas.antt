@@ -9,7 +9,7 @@ use Rattle.laws_histories.specs.Calls.{HasCalls}
 use Rattle.ist_rule.specs.declared.view.View.{View}
 use Rattle.ist_core.specs.declared.events.Who.{Who}
 use Rattle.ist_core.specs.declared.events.Who.TheVariants.{Caller as CallerOf}
-use Rattle.ist_rule.specs.Faces.{SeatFace}
+use Rattle.ist_rule.specs.Faces.{TokenFace}
 use Rattle.ist_rule.specs.Going.{SearchedOn, WentOn}
 use Rattle.ist_rule.specs.Standings.{HasMade}
 use Rattle.ist_rule.proofs.CallLemmas.{between_later}
@@ -31,13 +31,13 @@ by_others no_more = no_more
 by_others (one_more event l (inl other)) = one_more event (by_others l) other
 by_others (one_more event l (inr none)) = absurd none
 
-module _ (who : Caller) (seat : SeatFace) (command : Command) (a : IsAsked who command)
-    (g : WentOn NoEvent who.seat.view seat.view) where
+module _ (who : Caller) (token : TokenFace) (command : Command) (a : IsAsked who command)
+    (g : WentOn NoEvent who.token.view token.view) where
   abbrev v : View
-  v = who.seat.view
+  v = who.token.view
 
   abbrev w : View
-  w = seat.view
+  w = token.view
 
   -- what is true of any event
   by_none : (P : Event → Type 0) → WentOn P v w
@@ -59,11 +59,11 @@ module _ (who : Caller) (seat : SeatFace) (command : Command) (a : IsAsked who c
   calls_are = ap (λ x. x.calls) g.same
 
   -- the caller is still asked
-  pub asked_went : IsAsked (record who { seat = seat }) command
+  pub asked_went : IsAsked (record who { token = token }) command
   asked_went =
       record {
-        caller = caller_went who seat a.caller (by_none KeepsRows);
-        refused = refused_went who seat a.caller a.refused (by_none KeepsRows);
+        caller = caller_went who token a.caller (by_none KeepsRows);
+        refused = refused_went who token a.caller a.refused (by_none KeepsRows);
         pending = a.pending;
         in_call = ap (λ x. x.pending) g.same ∙ a.in_call;
         command_is = a.command_is;
@@ -82,7 +82,7 @@ module _ (who : Caller) (seat : SeatFace) (command : Command) (a : IsAsked who c
 
 -- what is asked doesn't depend on how many searches the caller began
 pub recounted : (who : Caller) (command : Command) (n : ℕ) → IsAsked who command
-    → IsAsked (record who { seat = record who.seat { view = record who.seat.view { searches = n } } }) command
+    → IsAsked (record who { token = record who.token { view = record who.token.view { searches = n } } }) command
 recounted who command n a =
     record {
       caller = record {
@@ -103,9 +103,9 @@ recounted who command n a =
     }
 
 -- a search that is begun leaves the caller as it was asked
-pub asked_searched : (who : Caller) (seat : SeatFace) (command : Command) → IsAsked who command
-    → SearchedOn NoEvent who.seat.view seat.view → IsAsked (record who { seat = seat }) command
-asked_searched who seat command a g =
-    let n = seat.view.searches in
-    asked_went (record who { seat = record who.seat { view = record who.seat.view { searches = n } } })
-    seat command (recounted who command n a) g.went
+pub asked_searched : (who : Caller) (token : TokenFace) (command : Command) → IsAsked who command
+    → SearchedOn NoEvent who.token.view token.view → IsAsked (record who { token = token }) command
+asked_searched who token command a g =
+    let n = token.view.searches in
+    asked_went (record who { token = record who.token { view = record who.token.view { searches = n } } })
+    token command (recounted who command n a) g.went

@@ -13,9 +13,9 @@ use Rattle.ist_rule.specs.Learning.{now, GoesOnTo}
 use Rattle.ist_rule.specs.Rule.{IsSound}
 use Rattle.ist_rule.proofs.LaterLemmas.{later-goes_on}
 use Rattle.ist_rule.proofs.WentOnLemmas.{later_by-goes_on}
-use Rattle.laws_progress.specs.Progress.{progress}
-use Rattle.laws_progress.proofs.ProgressLemmas.{never_falls}
-use Rattle.laws_progress.proofs.StandstillLemmas.{open_stands, slots_stand}
+use Rattle.laws_stability.specs.Progress.{progress}
+use Rattle.laws_stability.proofs.ProgressLemmas.{never_falls}
+use Rattle.laws_stability.proofs.StandstillLemmas.{open_stands, slots_stand}
 use Rattle.laws_coming.specs.Further.{CameFurther}
 use Rattle.ist_updates.specs.Further.{IsBehind}
 use Rattle.laws_histories.proofs.ChangeLemmas.{on_trans}

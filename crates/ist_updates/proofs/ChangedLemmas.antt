@@ -3,7 +3,7 @@ use Rattle.std.proofs.Common.{◌≡◌, ℕ, true, false}
 use Rattle.std.specs.Prelude.{Bool, Ok, Err, Result}
 use Rattle.ist_core.specs.declared.ports.Full.{Full}
 use Rattle.ist_core.specs.Slots.{IsOpen}
-use Rattle.ist_rule.specs.Faces.{SeatFace}
+use Rattle.ist_rule.specs.Faces.{TokenFace}
 use Rattle.ist_rule.specs.Learning.{now, GoesOnTo}
 use Rattle.ist_rule.proofs.WentOnLemmas.{goes_on_grow}
 use Rattle.ist_rows.specs.declared.callers.Caller.{Caller}
@@ -47,7 +47,7 @@ module _ (old : Caller) (aim : Aim) (x : Way) (a : IsAsked old (command_by aim.k
 
   -- a change for which the table had too few words
   pub refused_changed : (words : ℕ) (new : Caller) (full : Full) → HasGone Prepares old new
-      → IsWayRefused old.seat.view x words full new.seat.view
+      → IsWayRefused old.token.view x words full new.token.view
       → HasChanged old aim x words (Err full) new
   refused_changed words new full gone refused =
       let still = still_asked new gone in
@@ -65,7 +65,7 @@ module _ (old : Caller) (aim : Aim) (x : Way) (a : IsAsked old (command_by aim.k
 
   -- a prepared change that was carried out
   pub carried_changed : (words : ℕ) (mid new : Caller) (plan : Plan) (taken : Bool)
-      → IsPrepared old mid aim x plan → IsWay old.seat.view aim.key aim.word x
+      → IsPrepared old mid aim x plan → IsWay old.token.view aim.key aim.word x
       → HasCarried mid plan taken new → HasChanged old aim x words (Ok taken) new
   carried_changed words mid new plan taken p room h =
       record {
@@ -74,36 +74,36 @@ module _ (old : Caller) (aim : Aim) (x : Way) (a : IsAsked old (command_by aim.k
               h.on.gone;
           quiet = h.on.quiet;
         };
-        took = λ is. prepared_taken old mid aim x plan a p room new.seat.view
+        took = λ is. prepared_taken old mid aim x plan a p room new.token.view
             (h.took (ok_is taken true is) (command_by aim.key x) p.is_for.command);
         lost = λ is. h.lost (ok_is taken false is) (command_by aim.key x) p.asked;
         further = λ is first aimed. h.further (ok_is taken false is) first
-            (planned_aim first old.seat.view mid.seat.view aim plan.row aimed
-            (behind_went Prepares old.seat.view mid.seat.view p.gone.went) p.is_for.node
+            (planned_aim first old.token.view mid.token.view aim plan.row aimed
+            (behind_went Prepares old.token.view mid.token.view p.gone.went) p.is_for.node
             p.is_for.index p.is_for.from);
         still = tt;
         full = tt;
       }
 
   -- after loads
-  module _ (seat : SeatFace) (g : GoesOnTo old.seat.view seat.view) where
+  module _ (token : TokenFace) (g : GoesOnTo old.token.view token.view) where
     abbrev mid : Caller
-    mid = record old { seat = seat }
+    mid = record old { token = token }
 
     loaded : HasGone Prepares old mid
-    loaded = loads_gone Prepares old seat a.caller a.refused g
+    loaded = loads_gone Prepares old token a.caller a.refused g
 
     -- the caller is asked still
     pub loads_still : IsAsked mid (command_by aim.key x)
     loads_still = still_asked mid loaded
 
     -- and the slot holds what the change may replace
-    pub loads_room : IsWay old.seat.view aim.key aim.word x → IsWay seat.view aim.key aim.word x
+    pub loads_room : IsWay old.token.view aim.key aim.word x → IsWay token.view aim.key aim.word x
     loads_room =
-        way_on old.seat.view seat.view (goes_on_grow old.seat.view seat.view g) aim.key aim.word x
+        way_on old.token.view token.view (goes_on_grow old.token.view token.view g) aim.key aim.word x
 
     -- a change is lost if the node isn't open
-    pub shut_changed : (words : ℕ) → ¬ (IsOpen (now seat.view) aim.node)
+    pub shut_changed : (words : ℕ) → ¬ (IsOpen (now token.view) aim.node)
         → HasChanged old aim x words (Ok false) mid
     shut_changed words shut =
         record {
@@ -113,15 +113,15 @@ module _ (old : Caller) (aim : Aim) (x : Way) (a : IsAsked old (command_by aim.k
           };
           took = λ is. absurd (lost_took is);
           lost = λ is. loads_still;
-          further = λ is first aimed. shut_further first old.seat.view seat.view aim.node aim.index
-              aim.word aimed (behind_loads old.seat.view seat.view g) g.sound shut;
+          further = λ is first aimed. shut_further first old.token.view token.view aim.node aim.index
+              aim.word aimed (behind_loads old.token.view token.view g) g.sound shut;
           still = tt;
           full = tt;
         }
 
     -- a change after them is the change with them
     pub loads_changed : (words : ℕ) (r : Result Bool Full) (new : Caller)
-        → IsWay old.seat.view aim.key aim.word x → HasChanged mid aim x words r new
+        → IsWay old.token.view aim.key aim.word x → HasChanged mid aim x words r new
         → HasChanged old aim x words r new
     loads_changed words r new room h =
         record {
@@ -130,12 +130,12 @@ module _ (old : Caller) (aim : Aim) (x : Way) (a : IsAsked old (command_by aim.k
                 h.on.gone;
             quiet = h.on.quiet;
           };
-          took = λ is. loads_taken old seat aim.key aim.word x g a room new.seat.view aim.node
+          took = λ is. loads_taken old token aim.key aim.word x g a room new.token.view aim.node
               (h.took is);
           lost = h.lost;
           further = λ is first aimed. h.further is first
-              (aimed_on first old.seat.view seat.view aim.node aim.index aim.word aimed
-              (behind_loads old.seat.view seat.view g));
+              (aimed_on first old.token.view token.view aim.node aim.index aim.word aimed
+              (behind_loads old.token.view token.view g));
           still = h.still;
-          full = err_refused old.seat.view seat.view x words new.seat.view r loaded.went h.full;
+          full = err_refused old.token.view token.view x words new.token.view r loaded.went h.full;
         }

@@ -25,13 +25,13 @@ use Rattle.ist_core.proofs.PrefixLemmas.{goes_on_by}
 use Rattle.ist_rule.proofs.LaterLemmas.{goes_on_more, later-goes_on}
 use Rattle.laws_histories.specs.Calls.{MadeNoEntry}
 use Rattle.laws_stability.proofs.LaterLemmas.{ever_later}
-use Rattle.laws_walks.specs.Walking.{ComesBy}
-use Rattle.laws_walks.proofs.WalkLemmas.{meeting_on, met_chain, upper_rows}
-use Rattle.laws_walks.specs.Accepting.{InstallsNoYes}
-use Rattle.laws_walks.specs.Counting.{CountsFrom}
-use Rattle.laws_walks.proofs.InstalledLemmas.{installed_no_entry}
-use Rattle.laws_walks.proofs.UpLemmas.{counts_from}
-use Rattle.laws_walks.proofs.BetweenLemmas.{event_by}
+use Rattle.laws_calls.specs.Walking.{ComesBy}
+use Rattle.laws_calls.proofs.WalkLemmas.{meeting_on, met_chain, upper_rows}
+use Rattle.laws_calls.specs.Accepting.{InstallsNoYes}
+use Rattle.laws_calls.specs.Counting.{CountsFrom}
+use Rattle.laws_calls.proofs.InstalledLemmas.{installed_no_entry}
+use Rattle.laws_calls.proofs.UpLemmas.{counts_from}
+use Rattle.laws_calls.proofs.EventsMeanwhileLemmas.{event_by}
 use Rattle.ist_updates.specs.declared.updates.Applied.{Applied}
 use Rattle.ist_updates.specs.declared.updates.Due.{Due}
 use Rattle.ist_updates.specs.Counting.{WasCounted, CameToLimit}

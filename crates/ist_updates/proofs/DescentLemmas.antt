@@ -9,7 +9,7 @@ use Rattle.ist_core.specs.References.{InnerAt, Unset, ref_of}
 use Rattle.ist_core.specs.Slots.{IsChildFor, SlotHolds}
 use Rattle.ist_core.specs.StartLayout.{start}
 use Rattle.ist_rule.specs.declared.view.View.{View}
-use Rattle.ist_rule.specs.Faces.{SeatFace}
+use Rattle.ist_rule.specs.Faces.{TokenFace}
 use Rattle.ist_rule.specs.Learning.{now, GoesOnTo}
 use Rattle.laws_coming.specs.Further.{CameFurther}
 use Rattle.ist_rows.specs.declared.callers.Caller.{Caller}
@@ -33,31 +33,31 @@ use Rattle.ist_updates.proofs.ResultLemmas.{err_walked, ok_walked}
 use Rattle.ist_updates.proofs.WalkingLemmas.{on_before, walked_here, none_below, may_count_there, stood_there, counted_here}
 
 -- the caller has gone down by loads to the slot of its key, which holds the word
-pub record IsDown (old : Caller) (seat : SeatFace) (key : ℕ) (value : Option ℕ) (node index word : ℕ)
+pub record IsDown (old : Caller) (token : TokenFace) (key : ℕ) (value : Option ℕ) (node index word : ℕ)
     : Type 0 where
-  pub asked : IsAsked (record old { seat = seat }) (command_for key value)
-  pub came : Came old.seat.view key node
-  pub seen : GoesOnTo old.seat.view seat.view
-  pub child : IsChildFor (now seat.view) node key index
-  pub holds : SlotHolds (now seat.view) node index word
-  pub names : Names seat.view (ref_of word)
+  pub asked : IsAsked (record old { token = token }) (command_for key value)
+  pub came : Came old.token.view key node
+  pub seen : GoesOnTo old.token.view token.view
+  pub child : IsChildFor (now token.view) node key index
+  pub holds : SlotHolds (now token.view) node index word
+  pub names : Names token.view (ref_of word)
   pub set : ref_of word ≢ Some Unset
-  pub stays : (rows : List ℕ) → HasCome old.seat.view key node rows
-      → HasCome seat.view key node rows
-  pub down : (rows : List ℕ) (child : ℕ) → HasCome old.seat.view key node rows
-      → ref_of word ≡ Some (InnerAt child) → HasCome seat.view key child (rows ++ child ∷ [])
+  pub stays : (rows : List ℕ) → HasCome old.token.view key node rows
+      → HasCome token.view key node rows
+  pub down : (rows : List ℕ) (child : ℕ) → HasCome old.token.view key node rows
+      → ref_of word ≡ Some (InnerAt child) → HasCome token.view key child (rows ++ child ∷ [])
 
 -- the walk from a row below took effect: the caller may count at the row, and with that Count the
 -- walk from the node took effect
 pub record HasComeBack (old : Caller) (key : ℕ) (value : Option ℕ) (when : When)
     (node index row words : ℕ) (below : Applied) (second : Caller) : Type 0 where
-  pub can : let u = second.seat.view in CanCount (start u.start u.words) u.log second.number row
-  pub stood : let u = second.seat.view in HasStood u.start u.words u.log node index row
-  pub walk : let u = second.seat.view in (done : Applied) (new : Caller)
+  pub can : let u = second.token.view in CanCount (start u.start u.words) u.log second.number row
+  pub stood : let u = second.token.view in HasStood u.start u.words u.log node index row
+  pub walk : let u = second.token.view in (done : Applied) (new : Caller)
       → StaysReady Updates second new
       → ((earlier : Log) (command : Command) (rows : List ℕ)
       → HasCounted u.start u.words earlier u.log second.number command (rows ++ row ∷ []) below
-      → HasCounted u.start u.words earlier new.seat.view.log second.number command rows done)
+      → HasCounted u.start u.words earlier new.token.view.log second.number command rows done)
       → done.reply ≡ below.reply → IsWalk old key value when node words (Ok (Took done)) new
 
 -- a walk that took effect needn't begin again
@@ -68,14 +68,14 @@ done_again done e = cc
 done_unmet : (done : Applied) → ◌≡◌ {A = Result Walked Full} (Ok (Took done)) (Ok Unmet) → ⊥
 done_unmet done e = cc
 
-module _ {old : Caller} {seat : SeatFace} {key : ℕ} {value : Option ℕ} {node index word : ℕ}
-    (s : IsDown old seat key value node index word) where
+module _ {old : Caller} {token : TokenFace} {key : ℕ} {value : Option ℕ} {node index word : ℕ}
+    (s : IsDown old token key value node index word) where
   abbrev there : Caller
-  there = record old { seat = seat }
+  there = record old { token = token }
 
   -- if it names no inner row, the walk has come to its end
   pub at_slot : ((base : ℕ) → ref_of word ≢ Some (InnerAt base))
-      → IsAtSlot seat.view key node index word
+      → IsAtSlot token.view key node index word
   at_slot low =
       record {
         came = (s.came.0, s.stays s.came.0 s.came.1);
@@ -90,19 +90,19 @@ module _ {old : Caller} {seat : SeatFace} {key : ℕ} {value : Option ℕ} {node
     -- a walk that ends at the node
     pub here_walk : {r : Result Walked Full} {new : Caller} → StaysReady Updates there new
         → HasWalked there key value node words r new
-        → (r ≡ Ok Again → (first : View) → IsFreshNode first seat.view node
-        → CameFurther first new.seat.view)
-        → IfOk r (IsWalkMet when) → (r ≡ Ok Unmet → HasMissed seat.view new.seat.view key when)
+        → (r ≡ Ok Again → (first : View) → IsFreshNode first token.view node
+        → CameFurther first new.token.view)
+        → IfOk r (IsWalkMet when) → (r ≡ Ok Unmet → HasMissed token.view new.token.view key when)
         → IsWalk old key value when node words r new
     here_walk {r} {new} on walked further met missed =
         record {
-          on = on_before old seat s.seen Updates new on;
-          walked = walked_here old seat s.seen key value node words r new s.stays walked;
+          on = on_before old token s.seen Updates new on;
+          walked = walked_here old token s.seen key value node words r new s.stays walked;
           further = λ is first fresh. further is first
-              (fresh_on first old.seat.view seat.view node fresh
-              (behind_loads old.seat.view seat.view s.seen) s.seen.sound);
+              (fresh_on first old.token.view token.view node fresh
+              (behind_loads old.token.view token.view s.seen) s.seen.sound);
           met = met;
-          missed = λ is. missed_loads old.seat.view seat.view new.seat.view key when s.seen
+          missed = λ is. missed_loads old.token.view token.view new.token.view key when s.seen
               (missed is);
         }
 
@@ -111,16 +111,16 @@ module _ {old : Caller} {seat : SeatFace} {key : ℕ} {value : Option ℕ} {node
           → IsWalk there key value when row words r new → IsWalk old key value when node words r new
       none_walk r new none h =
           record {
-            on = on_before old seat s.seen Updates new h.on;
-            walked = none_below old seat s.seen key value node row words new r none h.walked;
+            on = on_before old token s.seen Updates new h.on;
+            walked = none_below old token s.seen key value node row words new r none h.walked;
             further = λ again first fresh. h.further again first
-                (down_fresh first seat.view node index word row
-                (fresh_on first old.seat.view seat.view node fresh
-                (behind_loads old.seat.view seat.view s.seen) s.seen.sound) s.seen.sound
-                (come_linked seat.view s.seen.sound key node s.came.0 (s.stays s.came.0 s.came.1))
+                (down_fresh first token.view node index word row
+                (fresh_on first old.token.view token.view node fresh
+                (behind_loads old.token.view token.view s.seen) s.seen.sound) s.seen.sound
+                (come_linked token.view s.seen.sound key node s.came.0 (s.stays s.came.0 s.came.1))
                 s.holds is);
             met = h.met;
-            missed = λ unmet. missed_loads old.seat.view seat.view new.seat.view key when s.seen
+            missed = λ unmet. missed_loads old.token.view token.view new.token.view key when s.seen
                 (h.missed unmet);
           }
 
@@ -149,18 +149,18 @@ module _ {old : Caller} {seat : SeatFace} {key : ℕ} {value : Option ℕ} {node
           let on = h.on.gone in
           let walked = subst (λ r. IsWalk there key value when row words r second) took_is h in
           record {
-            can = may_count_there old seat s.seen key value node index word row s.asked s.came
+            can = may_count_there old token s.seen key value node index word row s.asked s.came
                 (λ rows come. s.down rows row come is) s.stays s.holds is words below second on.number
                 on.went walked.walked;
-            stood = stood_there old seat s.seen key value node index word row s.asked s.came
+            stood = stood_there old token s.seen key value node index word row s.asked s.came
                 (λ rows come. s.down rows row come is) s.stays s.holds is words below second on.number
                 on.went walked.walked;
             walk = λ done new more counted same. record {
-              on = ready_more Updates old second new (on_before old seat s.seen Updates second h.on)
+              on = ready_more Updates old second new (on_before old token s.seen Updates second h.on)
                   more;
-              walked = counted_here old seat s.seen key value node index word row s.asked s.came
+              walked = counted_here old token s.seen key value node index word row s.asked s.came
                   (λ rows come. s.down rows row come is) s.stays s.holds is words below second
-                  on.number on.went walked.walked done new.seat.view.log counted;
+                  on.number on.went walked.walked done new.token.view.log counted;
               further = λ e. absurd (done_again done e);
               met = subst (IsMetBy when) (sym same) walked.met;
               missed = λ e. absurd (done_unmet done e);

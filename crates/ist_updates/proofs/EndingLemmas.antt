@@ -49,14 +49,14 @@ went_calls P v w g Q h =
 
 -- a call that is added to the calls of an asked caller may end there
 added_ends : {P : Event → Type 0} (old new : Caller) (command : Command) (a : IsAsked old command)
-    → WentOn P old.seat.view new.seat.view → IsCaller new → new.number ≡ old.number → IsQuiet new
-    → (call : Call) → call.command ≡ command → call.stamp ≡ old.seat.view.stamp + 1
-    → IsAdded old.seat.view.start old.seat.view.words a.seen new.seat.view.log old.number
-    old.seat.view.stamp old.seat.view.calls call
-    → CanEnd new.seat.view call
+    → WentOn P old.token.view new.token.view → IsCaller new → new.number ≡ old.number → IsQuiet new
+    → (call : Call) → call.command ≡ command → call.stamp ≡ old.token.view.stamp + 1
+    → IsAdded old.token.view.start old.token.view.words a.seen new.token.view.log old.number
+    old.token.view.stamp old.token.view.calls call
+    → CanEnd new.token.view call
 added_ends {P = P} old new command a g c same q call command_is stamp_is added =
-    let v = old.seat.view in
-    let w = new.seat.view in
+    let v = old.token.view in
+    let w = new.token.view in
     record {
       number = new.number;
       mine = c.mine;
@@ -77,14 +77,14 @@ added_ends {P = P} old new command a g c same q call command_is stamp_is added =
 -- ---- an update that took effect
 
 module _ (old new : Caller) (command : Command) (a : IsAsked old command)
-    (g : WentOn Updates old.seat.view new.seat.view) (rows : List ℕ) (done : Applied)
-    (x : HasCounted old.seat.view.start old.seat.view.words old.seat.view.log new.seat.view.log
+    (g : WentOn Updates old.token.view new.token.view) (rows : List ℕ) (done : Applied)
+    (x : HasCounted old.token.view.start old.token.view.words old.token.view.log new.token.view.log
     old.number command rows done) where
   abbrev v : View
-  v = old.seat.view
+  v = old.token.view
 
   abbrev w : View
-  w = new.seat.view
+  w = new.token.view
 
   lawful : Lawful v.start v.words w.log
   lawful = went_lawful Updates v w g
@@ -132,15 +132,15 @@ module _ (old new : Caller) (command : Command) (a : IsAsked old command)
 -- ---- a remove that found nothing
 
 module _ (old new : Caller) (key : ℕ) (a : IsAsked old (Remove key)) (b : IsAsked new (Remove key))
-    (g : WentOn Tries old.seat.view new.seat.view) (same : new.number ≡ old.number)
-    (began : old.seat.view.loads.since ≡ length old.seat.view.log)
-    (since : new.seat.view.loads.since ≡ old.seat.view.loads.since)
-    (found : HasFoundNone new.seat.view key) where
+    (g : WentOn Tries old.token.view new.token.view) (same : new.number ≡ old.number)
+    (began : old.token.view.loads.since ≡ length old.token.view.log)
+    (since : new.token.view.loads.since ≡ old.token.view.loads.since)
+    (found : HasFoundNone new.token.view key) where
   abbrev v2 : View
-  v2 = old.seat.view
+  v2 = old.token.view
 
   abbrev w2 : View
-  w2 = new.seat.view
+  w2 = new.token.view
 
   had_there : HasCalls w2.start w2.words a.seen old.number w2.stamp w2.calls
   had_there =

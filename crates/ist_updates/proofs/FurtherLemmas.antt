@@ -19,18 +19,18 @@ use Rattle.ist_core.proofs.OrderLemmas.{names}
 use Rattle.ist_core.proofs.PlaceLemmas.{anchor_free}
 use Rattle.ist_core.proofs.ReferenceLemmas.{ref_of-unset}
 use Rattle.ist_core.proofs.SlotLemmas.{slot_once}
-use Rattle.laws_links.proofs.ClosedLemmas.{same_rebuild}
+use Rattle.ist_core.proofs.DrawLemmas.{same_rebuild}
 use Rattle.laws_links.proofs.LinkLemmas.{open_linked}
 use Rattle.laws_links.proofs.ReadLemmas.{ReadsAs}
-use Rattle.laws_rebuilds.proofs.RebuiltLemmas.{read_unreplaced}
+use Rattle.laws_links.proofs.RebuiltLemmas.{read_unreplaced}
 use Rattle.ist_rule.specs.declared.view.View.{View}
 use Rattle.ist_rule.specs.Going.{WentOn}
 use Rattle.ist_rule.specs.Learning.{now, searching, Turned}
 use Rattle.ist_rule.specs.Rule.{IsSound}
 use Rattle.ist_rule.proofs.LaterLemmas.{later-goes_on}
 use Rattle.ist_dcss.specs.Installing.{Filling, IsInstalled}
-use Rattle.laws_progress.proofs.ProgressLemmas.{installing}
-use Rattle.laws_progress.proofs.StandstillLemmas.{child_open}
+use Rattle.laws_stability.proofs.ProgressLemmas.{installing}
+use Rattle.laws_stability.proofs.StandstillLemmas.{child_open}
 use Rattle.laws_coming.specs.Further.{CameFurther}
 use Rattle.ist_rebuild.specs.Helping.{IsLeftToParent}
 use Rattle.laws_coming.proofs.FurtherLemmas.{helped_further}
@@ -39,7 +39,7 @@ use Rattle.ist_rebuild.specs.declared.answers.Helped.{Helped}
 use Rattle.ist_rebuild.specs.declared.answers.Helped.TheVariants.{ParentMarked, Replaced}
 use Rattle.ist_find.specs.Searches.{HasCome}
 use Rattle.laws_histories.proofs.PositionLemmas.{node_met}
-use Rattle.laws_walks.proofs.WalkLemmas.{meeting_comes}
+use Rattle.laws_calls.proofs.WalkLemmas.{meeting_comes}
 use Rattle.ist_updates.specs.Trying.{IsAtSlot}
 use Rattle.ist_updates.specs.Further.{HasAimed, IsBehind, IsFreshNode}
 use Rattle.laws_histories.proofs.ChangeLemmas.{on_trans}

@@ -18,7 +18,7 @@ use Rattle.ist_rows.proofs.GoneLemmas.{loads_gone}
 
 module _ (old new : Caller) (plan : Plan) (c : IsCaller old) (r : HasRefused old)
     (has : HasRows old plan)
-    (i : IsInstalled old.seat.view plan.base (filling_of plan) new.seat.view)
+    (i : IsInstalled old.token.view plan.base (filling_of plan) new.token.view)
     (number : new.number ≡ old.number)
     (rows : spares_of new ≡ without_rows (kind.Change ∷ kinds_of plan.fresh) (spares_of old)) where
   abbrev event : Event
@@ -26,13 +26,13 @@ module _ (old new : Caller) (plan : Plan) (c : IsCaller old) (r : HasRefused old
 
   -- the caller just before the Install
   abbrev mid : Caller
-  mid = record old { seat = record old.seat { view = i.before } }
+  mid = record old { token = record old.token { view = i.before } }
 
   gone : HasGone (λ e. ⊥) old mid
-  gone = loads_gone (λ e. ⊥) old (record old.seat { view = i.before }) c r i.seen
+  gone = loads_gone (λ e. ⊥) old (record old.token { view = i.before }) c r i.seen
 
-  logged : HasLogged i.before event i.logged.before new.seat.view
-  logged = logged_made i.before event new.seat.view i.logged
+  logged : HasLogged i.before event i.logged.before new.token.view
+  logged = logged_made i.before event new.token.view i.logged
 
   its : CallerOf i.number ≡ CallerOf old.number
   its = sym i.mine ∙ c.mine

@@ -14,8 +14,8 @@ use Rattle.ist_rule.specs.declared.view.View.{View}
 use Rattle.ist_rule.specs.Learning.{now}
 use Rattle.ist_rule.specs.Rule.{IsSound}
 use Rattle.ist_rule.proofs.WentOnLemmas.{went_more, went_grow, looked_went}
-use Rattle.laws_settling.proofs.ReadLemmas.{read_started}
-use Rattle.laws_rebuilds.proofs.RebuiltLemmas as rebuilt
+use Rattle.laws_calls.proofs.ReadLemmas.{read_started}
+use Rattle.laws_links.proofs.RebuiltLemmas as rebuilt
 use Rattle.ist_rebuild.specs.Going.{Serves}
 use Rattle.ist_rebuild.specs.Helping.{IsHelpRefused}
 use Rattle.ist_rows.specs.declared.callers.Caller.{Caller}
@@ -110,7 +110,7 @@ module _ (v : View) (s : IsSound v) (key node index word rebuild : ℕ)
 -- who is asked still, and whose update is refused whenever its search began, was refused
 pub refused_still : (old new : Caller) (key : ℕ) (value : Option ℕ) (words : ℕ) (full : Full)
     → IsAsked new (command_for key value)
-    → ((first : View) → BeganSince first old.seat.view
-    → IsUpdateRefused first key value words full new.seat.view)
+    → ((first : View) → BeganSince first old.token.view
+    → IsUpdateRefused first key value words full new.token.view)
     → IsTryRefused old key value words full new
 refused_still old new key value words full still cause = record { still = still; cause = cause }

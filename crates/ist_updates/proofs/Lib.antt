@@ -21,7 +21,7 @@ pub mod AskedLemmas
 pub mod GivenLemmas
 pub mod StandingLemmas
 pub mod EntryLemmas
-pub mod CarriedLemmas
+pub mod HelpedChangeLemmas
 pub mod SinceLemmas
 pub mod SlotLemmas
 pub mod LeafLemmas
@@ -31,7 +31,7 @@ pub mod MissLemmas
 pub mod BehindLemmas
 pub mod FurtherLemmas
 pub mod ResultLemmas
-pub mod CarriedOutLemmas
+pub mod PlanResultLemmas
 pub mod ChangedLemmas
 pub mod TryResultLemmas
 pub mod DescentLemmas

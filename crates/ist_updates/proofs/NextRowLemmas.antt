@@ -8,10 +8,10 @@ use Rattle.ist_core.specs.Deciding.{CanCount}
 use Rattle.ist_core.specs.Lawful.{EachEnabled, CanOpen}
 use Rattle.ist_core.specs.Logs.{Log}
 use Rattle.ist_core.specs.StartLayout.{start}
-use Rattle.laws_walks.specs.Walking.{IsChainOf}
-use Rattle.laws_walks.proofs.WalkLemmas.{met_chain}
-use Rattle.laws_walks.specs.Counting.{CountsFrom}
-use Rattle.laws_walks.proofs.UpLemmas.{may_count_up}
+use Rattle.laws_calls.specs.Walking.{IsChainOf}
+use Rattle.laws_calls.proofs.WalkLemmas.{met_chain}
+use Rattle.laws_calls.specs.Counting.{CountsFrom}
+use Rattle.laws_calls.proofs.UpLemmas.{may_count_up}
 use Rattle.ist_updates.specs.declared.updates.Applied.{Applied}
 use Rattle.ist_updates.specs.Walking.{HasCounted}
 

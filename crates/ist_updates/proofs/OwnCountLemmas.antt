@@ -7,8 +7,8 @@ use Rattle.ist_core.specs.Authors.{GoesOnBy, no_more, one_more, whose, Later, La
 use Rattle.ist_core.specs.Logs.{Log, Counts, GoesOn, same_log, one_event}
 use Rattle.ist_core.specs.declared.events.Who.TheVariants.{Caller as CallerOf}
 use Rattle.ist_rule.proofs.LaterLemmas.{goes_on_more, goes_on_length}
-use Rattle.laws_walks.specs.Counting.{CountsFrom}
-use Rattle.laws_walks.proofs.BetweenLemmas.{event_by}
+use Rattle.laws_calls.specs.Counting.{CountsFrom}
+use Rattle.laws_calls.proofs.EventsMeanwhileLemmas.{event_by}
 use Rattle.ist_updates.specs.Counting.{CameToLimit, CountedNowhere, WasCounted}
 use Rattle.ist_updates.specs.Trying.{Tries}
 

@@ -52,10 +52,10 @@ held_good v s h i some =
     record { behind_fixed = claim.behind_fixed; below_limit = omega arith }
 
 -- the row of a kind lies at a good base
-pub row_good : (who : Caller) → IsSound who.seat.view → IsCaller who → (kind : Kind) (base : ℕ)
+pub row_good : (who : Caller) → IsSound who.token.view → IsCaller who → (kind : Kind) (base : ℕ)
     → row_of kind (spares_of who) ≡ Some base → 0 < kind_words kind → IsGoodBase base
 row_good who s c kind base is some =
-    held_good who.seat.view s record {
+    held_good who.token.view s record {
       caller = who.number;
       base = base;
       size = kind_words kind;
@@ -81,29 +81,29 @@ fresh_above v s node base (is_anchor e) high good = let low = good.behind_fixed 
 fresh_above v s node base (is_inner r e) high good =
     let low = (sound_now v s).below node (Inner r) e in omega arith
 
-module _ (who : Caller) (s : IsSound who.seat.view) (c : IsCaller who) (base : ℕ)
+module _ (who : Caller) (s : IsSound who.token.view) (c : IsCaller who) (base : ℕ)
     (is : who.pair ≡ Some base) where
   abbrev row : HeldRow
   row = record { caller = who.number; base = base; size = 7 }
 
   -- the pair row lies at a good base
   pub pair_good : IsGoodBase base
-  pair_good = held_good who.seat.view s row (c.rows Pair base is) (omega arith)
+  pair_good = held_good who.token.view s row (c.rows Pair base is) (omega arith)
 
   -- if it lies below a node, that node is an inner row
-  pub pair_below : (node : ℕ) → IsNode (now who.seat.view) node → base < node
+  pub pair_below : (node : ℕ) → IsNode (now who.token.view) node → base < node
       → HasPairBelow who node
   pair_below node (is_anchor e) less = let low = pair_good.behind_fixed in absurd (omega arith)
   pair_below node (is_inner r e) less =
       record { pair = base; held = is; below = less; row = r; published = e }
 
   -- and else above it
-  pub pair_above : (node : ℕ) → IsNode (now who.seat.view) node → node ≤ base → node < base
+  pub pair_above : (node : ℕ) → IsNode (now who.token.view) node → node ≤ base → node < base
   pair_above node (is_anchor e) low = let good = pair_good.behind_fixed in omega arith
   pair_above node (is_inner r e) low =
       let apart : node ≢ base = λ same. clash
-      (sym ((sound_now who.seat.view s).unpublished row (c.rows Pair base is))
-      ∙ subst (λ b. (now who.seat.view).pieces b ≡ Some (Inner r)) same e) in
+      (sym ((sound_now who.token.view s).unpublished row (c.rows Pair base is))
+      ∙ subst (λ b. (now who.token.view).pieces b ≡ Some (Inner r)) same e) in
       omega arith
     where
       clash : None ≡ Some (Inner r) → ⊥
@@ -114,11 +114,11 @@ module _ (who : Caller) (s : IsSound who.seat.view) (c : IsCaller who) (base : �
 -- a caller that gave up its pair row went on by preparing steps only
 pub dropped : (old new : Caller) (node pair : ℕ) → IsCaller old → HasRefused old
     → old.pair ≡ Some pair
-    → IfSome old.pair (λ p. HasLost old.seat.view old.number p node new.seat.view) → IsCaller new
+    → IfSome old.pair (λ p. HasLost old.token.view old.number p node new.token.view) → IsCaller new
     → new.number ≡ old.number → spares_of new ≡ without_row Pair (spares_of old)
     → HasGone Prepares old new
 dropped old new node pair c refused is lost caller number rows =
-    let l = subst (λ o. IfSome o (λ p. HasLost old.seat.view old.number p node new.seat.view)) is
+    let l = subst (λ o. IfSome o (λ p. HasLost old.token.view old.number p node new.token.view)) is
     lost in
     let event : Event = Lose old.number (pair ∷ []) in
     let place = node + inner_status_offset in
@@ -126,7 +126,7 @@ dropped old new node pair c refused is lost caller number rows =
       caller = caller;
       number = number;
       refused = refused_made old new (Pair ∷ []) event (pair ∷ []) c l.1.before
-          (loaded_made old.seat.view event place l.0 new.seat.view l.1) refl refl (is, tt)
+          (loaded_made old.token.view event place l.0 new.token.view l.1) refl refl (is, tt)
           record { number = number; rows = rows } refused;
-      went = logged_load_went Prepares old.seat.view event place l.0 new.seat.view l.1 tt refl;
+      went = logged_load_went Prepares old.token.view event place l.0 new.token.view l.1 tt refl;
     }

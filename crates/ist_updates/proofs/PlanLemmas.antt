@@ -24,7 +24,7 @@ use Rattle.ist_find.specs.Searches.{HasCome}
 use Rattle.ist_find.proofs.LookLemmas.{come_node, come_later}
 use Rattle.laws_histories.specs.Searching.{WasMet}
 use Rattle.laws_histories.proofs.PositionLemmas.{node_met}
-use Rattle.laws_walks.proofs.WalkLemmas.{meeting_comes}
+use Rattle.laws_calls.proofs.WalkLemmas.{meeting_comes}
 use Rattle.ist_updates.specs.declared.plans.Aim.{Aim}
 use Rattle.ist_updates.specs.declared.plans.Fresh.TheVariants.{Nothing, Leaf, Pair}
 use Rattle.ist_updates.specs.declared.plans.Way.TheVariants as way
@@ -81,11 +81,11 @@ fits_went P v w g row fresh f =
     row fresh f))
 
 module _ (P : Event → Type 0) (old new : Caller)
-    (g : WentOn P old.seat.view new.seat.view) (aim : Aim)
-    (at : WasAtSlot old.seat.view aim) (base : ℕ)
+    (g : WentOn P old.token.view new.token.view) (aim : Aim)
+    (at : WasAtSlot old.token.view aim) (base : ℕ)
     (change : new.change ≡ Some base) where
   abbrev v : View
-  v = old.seat.view
+  v = old.token.view
 
   -- the change's key leads to its slot
   by_key : (kind value to owner : ℕ)
@@ -116,7 +116,7 @@ module _ (P : Event → Type 0) (old new : Caller)
           update = inl refl;
           command = refl;
         };
-        fits = fits_went P v new.seat.view g (row_for aim put_kind value to new.number) _
+        fits = fits_went P v new.token.view g (row_for aim put_kind value to new.number) _
             (a_put record {
               kind = refl;
               by_key = by_key put_kind value to new.number;
@@ -157,7 +157,7 @@ module _ (P : Event → Type 0) (old new : Caller)
           update = inl refl;
           command = refl;
         };
-        fits = fits_went P v new.seat.view g (row_for aim put_kind value to new.number) _
+        fits = fits_went P v new.token.view g (row_for aim put_kind value to new.number) _
             (a_pair record {
               kind = refl;
               by_key = by_key put_kind value to new.number;
@@ -194,7 +194,7 @@ module _ (P : Event → Type 0) (old new : Caller)
           update = inr refl;
           command = refl;
         };
-        fits = fits_went P v new.seat.view g (row_for aim remove_kind 0 0 new.number) []
+        fits = fits_went P v new.token.view g (row_for aim remove_kind 0 0 new.number) []
             (a_remove record {
               kind = refl;
               by_key = by_key remove_kind 0 0 new.number;

@@ -20,11 +20,11 @@ use Rattle.ist_updates.specs.Trying.{HasTakenEffect}
 -- an update that took effect since a later view took effect since an earlier one
 pub taken_since : (old mid : Caller) (command : Command) → IsAsked old command → IsAsked mid command
     → HasGone Prepares old mid → (w : View) (node : ℕ) (told reply : Option ℕ) → reply ≡ told
-    → HasTakenEffect mid.seat.view w mid.number command node told
-    → HasTakenEffect old.seat.view w old.number command node reply
+    → HasTakenEffect mid.token.view w mid.number command node told
+    → HasTakenEffect old.token.view w old.number command node reply
 taken_since old mid command a b h w node told reply same_reply t =
-    let v = old.seat.view in
-    let x = mid.seat.view in
+    let v = old.token.view in
+    let x = mid.token.view in
     let change = t.update.change in
     let fresh : (now v).pieces t.base ≡ None = none_before ((now v).pieces t.base) refl in
     record {
@@ -51,18 +51,18 @@ taken_since old mid command a b h w node told reply same_reply t =
     some_none : (p q : Piece) → Some p ≡ None → ⊥
     some_none p q e = cc
 
-    none_before : (o : Option Piece) → (now old.seat.view).pieces t.base ≡ o → o ≡ None
+    none_before : (o : Option Piece) → (now old.token.view).pieces t.base ≡ o → o ≡ None
     none_before None e = refl
     none_before (Some p) e =
-        let on = went_grow Prepares old.seat.view mid.seat.view h.went t.base p e in
+        let on = went_grow Prepares old.token.view mid.token.view h.went t.base p e in
         absurd (some_none on.0 p (sym on.1 ∙ t.fresh))
 
-    alone : length (entries_by old.number (changes_of old.seat.view.start old.seat.view.words w.log))
+    alone : length (entries_by old.number (changes_of old.token.view.start old.token.view.words w.log))
         ≤ length (entries_by old.number
-        (changes_of old.seat.view.start old.seat.view.words old.seat.view.log)) + 1
+        (changes_of old.token.view.start old.token.view.words old.token.view.log)) + 1
     alone =
-        let v = old.seat.view in
-        let x = mid.seat.view in
+        let v = old.token.view in
+        let x = mid.token.view in
         let low = subst (λ (y : View). length (entries_by mid.number (changes_of y.start y.words w.log))
         ≤ length (entries_by mid.number (changes_of y.start y.words x.log)) + 1) h.went.same
         t.update.alone in

@@ -22,7 +22,7 @@ use Rattle.ist_rule.specs.declared.view.View.{View}
 use Rattle.ist_core.specs.declared.events.Who.TheVariants.{Caller as CallerOf}
 use Rattle.ist_core.specs.Authors.{whose}
 use Rattle.ist_rule.specs.Conditions.{IsResolved, StoredAll}
-use Rattle.ist_rule.specs.Faces.{SeatFace}
+use Rattle.ist_rule.specs.Faces.{TokenFace}
 use Rattle.ist_rule.specs.Going.{WentOn}
 use Rattle.ist_rule.specs.Learning.{now, GoesOnTo}
 use Rattle.ist_rule.specs.Rule.{IsSound}
@@ -32,9 +32,9 @@ use Rattle.ist_rows.specs.declared.kinds.Kind.TheVariants as kind
 use Rattle.ist_rows.specs.Building.{HasRefused}
 use Rattle.ist_rows.specs.Rows.{IsCaller}
 use Rattle.ist_dcss.specs.Installing.{IsInstallable, rows_of}
-use Rattle.laws_walks.proofs.BetweenLemmas.{event_by}
-use Rattle.laws_settling.specs.Owning.{HasChange, WasInstalled}
-use Rattle.laws_settling.proofs.OwnLemmas.{change_since}
+use Rattle.laws_calls.proofs.EventsMeanwhileLemmas.{event_by}
+use Rattle.laws_calls.specs.Owning.{HasChange, WasInstalled}
+use Rattle.laws_calls.proofs.OwnLemmas.{change_since}
 use Rattle.ist_updates.specs.declared.plans.Aim.{Aim}
 use Rattle.ist_updates.specs.declared.plans.Fresh.{Fresh}
 use Rattle.ist_updates.specs.declared.plans.Fresh.TheVariants.{Nothing, Leaf, Pair}
@@ -53,15 +53,15 @@ use Rattle.ist_rows.proofs.GoneLemmas.{own_went, gone_more, loads_gone}
 use Rattle.ist_updates.proofs.PlanLemmas.{slot_met, slot_holds, fits_went}
 
 -- a caller that filled its rows has gone on so
-pub filled_gone : (old new : Caller) → HasRefused old → IsCaller new → IsSound new.seat.view
-    → new ≡ with_own old new.seat.view.own → HasGone Prepares old new
+pub filled_gone : (old new : Caller) → HasRefused old → IsCaller new → IsSound new.token.view
+    → new ≡ with_own old new.token.view.own → HasGone Prepares old new
 filled_gone old new refused c s same =
     record {
       caller = c;
       number = ap (λ (x : Caller). x.number) same;
       refused = subst HasRefused (sym same) refused;
-      went = own_went Prepares old.seat.view new.seat.view s
-          (ap (λ (x : Caller). x.seat.view) same);
+      went = own_went Prepares old.token.view new.token.view s
+          (ap (λ (x : Caller). x.token.view) same);
     }
 
 -- ---- what an Install asks
@@ -119,7 +119,7 @@ pair_words_are key leaf other_key other =
 -- a caller that has the rows of a plan holds them
 rows_held : (who : Caller) → IsCaller who → (base : ℕ) (row : ChangeRow) (fresh : Fresh)
     → HasRows who record { base = base; row = row; fresh = fresh }
-    → HoldsRows (now who.seat.view) who.number
+    → HoldsRows (now who.token.view) who.number
     (rows_of record { change = row; fresh = fresh_rows row fresh } base)
 rows_held who c base row Nothing h = (c.rows kind.Change base h.0, tt)
 rows_held who c base row (Leaf leaf) h = (
@@ -129,22 +129,22 @@ rows_held who c base row (Leaf leaf) h = (
 rows_held who c base row (Pair pair leaf other other_key) h = (
   c.rows kind.Change base h.0,
   (
-    subst (HoldsRow (now who.seat.view) who.number pair)
+    subst (HoldsRow (now who.token.view) who.number pair)
         (sym (pair_words_are row.key leaf other_key other)) (c.rows kind.Pair pair h.1.0),
     (c.rows kind.Leaf leaf h.1.1.0, tt),
   ),
 )
 
 module _ (old mid new : Caller) (aim : Aim) (x : Way) (plan : Plan)
-    (a : IsAsked old (command_by aim.key x)) (at : WasAtSlot old.seat.view aim)
+    (a : IsAsked old (command_by aim.key x)) (at : WasAtSlot old.token.view aim)
     (h : HasGone Prepares old mid) (planned : IsPlanned mid aim x plan)
-    (f : HasGone Prepares mid new) (same : new ≡ with_own mid new.seat.view.own)
+    (f : HasGone Prepares mid new) (same : new ≡ with_own mid new.token.view.own)
     (all : HasGone Prepares old new) where
   abbrev v : View
-  v = old.seat.view
+  v = old.token.view
 
   abbrev w : View
-  w = new.seat.view
+  w = new.token.view
 
   -- the caller is asked still
   pub prepared_asked : IsAsked new (command_by aim.key x)
@@ -191,7 +191,7 @@ module _ (old mid new : Caller) (aim : Aim) (x : Way) (plan : Plan)
         unrefused = subst (IsUnrefused (now w) new.number) (sym planned.is_for.node)
             (subst (λ n. IsUnrefused (now w) n aim.node) (sym all.number)
             (unrefused_on v w old.number aim.node a.caller.mine a.resolved all.went unrefused));
-        fits = fits_went Prepares mid.seat.view w f.went plan.row _ planned.fits;
+        fits = fits_went Prepares mid.token.view w f.went plan.row _ planned.fits;
         allowed = record {
           pending = asked.pending;
           in_call = asked.in_call;
@@ -208,16 +208,16 @@ pub record IsPrepared (old new : Caller) (aim : Aim) (x : Way) (plan : Plan) : T
   pub gone : HasGone Prepares old new
   pub asked : IsAsked new (command_by aim.key x)
   pub rows : HasRows new plan
-  pub installable : IsInstallable new.seat.view plan.base (filling_of plan)
+  pub installable : IsInstallable new.token.view plan.base (filling_of plan)
   pub is_for : IsPlanFor new.number aim x plan
 
 -- a planned change whose rows are stored is prepared
 pub prepared : (old mid new : Caller) (aim : Aim) (x : Way) (plan : Plan)
-    → IsAsked old (command_by aim.key x) → WasAtSlot old.seat.view aim
-    → IsUnrefused (now old.seat.view) old.number aim.node → HasGone Prepares old mid
-    → IsPlanned mid aim x plan → IsCaller new → IsSound new.seat.view
-    → new ≡ with_own mid new.seat.view.own
-    → StoredAll new.seat.view (rows_of (filling_of plan) plan.base)
+    → IsAsked old (command_by aim.key x) → WasAtSlot old.token.view aim
+    → IsUnrefused (now old.token.view) old.number aim.node → HasGone Prepares old mid
+    → IsPlanned mid aim x plan → IsCaller new → IsSound new.token.view
+    → new ≡ with_own mid new.token.view.own
+    → StoredAll new.token.view (rows_of (filling_of plan) plan.base)
     → IsPrepared old new aim x plan
 prepared old mid new aim x plan a at unrefused h planned c s same stored =
     let f = filled_gone mid new h.refused c s same in
@@ -234,33 +234,33 @@ prepared old mid new aim x plan a at unrefused h planned c s same stored =
 -- if it took effect since the rows were prepared, it took effect since the first view
 pub prepared_taken : (old new : Caller) (aim : Aim) (x : Way) (plan : Plan)
     → IsAsked old (command_by aim.key x) → IsPrepared old new aim x plan
-    → IsWay old.seat.view aim.key aim.word x → (w : View)
-    → HasTakenEffect new.seat.view w new.number (command_by aim.key x) plan.row.node
-    (reply_of (now new.seat.view).pieces plan.row)
-    → HasTakenEffect old.seat.view w old.number (command_by aim.key x) aim.node
-    (value_at (now old.seat.view).pieces (ref_of aim.word) aim.key)
+    → IsWay old.token.view aim.key aim.word x → (w : View)
+    → HasTakenEffect new.token.view w new.number (command_by aim.key x) plan.row.node
+    (reply_of (now new.token.view).pieces plan.row)
+    → HasTakenEffect old.token.view w old.number (command_by aim.key x) aim.node
+    (value_at (now old.token.view).pieces (ref_of aim.word) aim.key)
 prepared_taken old new aim x plan a p room w t =
-    let told = reply_of (now new.seat.view).pieces plan.row in
+    let told = reply_of (now new.token.view).pieces plan.row in
     taken_since old new (command_by aim.key x) a p.asked p.gone w aim.node told
-    (value_at (now old.seat.view).pieces (ref_of aim.word) aim.key)
-    (planned_reply old.seat.view new.seat.view
-    (went_grow Prepares old.seat.view new.seat.view p.gone.went) aim.key aim.word x room plan.row
+    (value_at (now old.token.view).pieces (ref_of aim.word) aim.key)
+    (planned_reply old.token.view new.token.view
+    (went_grow Prepares old.token.view new.token.view p.gone.went) aim.key aim.word x room plan.row
     p.is_for.from p.is_for.key)
-    (subst (λ n. HasTakenEffect new.seat.view w new.number (command_by aim.key x) n told)
+    (subst (λ n. HasTakenEffect new.token.view w new.number (command_by aim.key x) n told)
     p.is_for.node t)
 
 -- if it took effect since a load, it took effect since the view before the load
-pub loads_taken : (old : Caller) (seat : SeatFace) (key word : ℕ) (x : Way)
-    → GoesOnTo old.seat.view seat.view → IsAsked old (command_by key x)
-    → IsWay old.seat.view key word x → (w : View) (node : ℕ)
-    → HasTakenEffect seat.view w old.number (command_by key x) node
-    (value_at (now seat.view).pieces (ref_of word) key)
-    → HasTakenEffect old.seat.view w old.number (command_by key x) node
-    (value_at (now old.seat.view).pieces (ref_of word) key)
-loads_taken old seat key word x g a room w node t =
-    let v = old.seat.view in
-    let mid : Caller = record old { seat = seat } in
-    let gone = loads_gone Prepares old seat a.caller a.refused g in
+pub loads_taken : (old : Caller) (token : TokenFace) (key word : ℕ) (x : Way)
+    → GoesOnTo old.token.view token.view → IsAsked old (command_by key x)
+    → IsWay old.token.view key word x → (w : View) (node : ℕ)
+    → HasTakenEffect token.view w old.number (command_by key x) node
+    (value_at (now token.view).pieces (ref_of word) key)
+    → HasTakenEffect old.token.view w old.number (command_by key x) node
+    (value_at (now old.token.view).pieces (ref_of word) key)
+loads_taken old token key word x g a room w node t =
+    let v = old.token.view in
+    let mid : Caller = record old { token = token } in
+    let gone = loads_gone Prepares old token a.caller a.refused g in
     taken_since old mid (command_by key x) a (asked_gone Prepares old mid _ a gone prepares_none) gone
-    w node _ _ (reply_stays (now v) (now seat.view) (goes_on_grow v seat.view g) key word
+    w node _ _ (reply_stays (now v) (now token.view) (goes_on_grow v token.view g) key word
     (way_stands v key word x room)) t

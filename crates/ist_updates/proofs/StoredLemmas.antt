@@ -26,39 +26,39 @@ use Rattle.ist_updates.specs.Filling.{KeepsOthers}
 use Rattle.ist_updates.proofs.PairLemmas.{sound_now}
 
 -- rows of kinds of other sizes lie at other bases
-pub kinds_apart : (who : Caller) → IsSound who.seat.view → IsCaller who → (k j : Kind) (a b : ℕ)
+pub kinds_apart : (who : Caller) → IsSound who.token.view → IsCaller who → (k j : Kind) (a b : ℕ)
     → row_of k (spares_of who) ≡ Some a → row_of j (spares_of who) ≡ Some b
     → kind_words k ≢ kind_words j → a ≢ b
 kinds_apart who s c k j a b first second differ same =
-    differ (ap (λ (h : HeldRow). h.size) ((sound_now who.seat.view s).once
+    differ (ap (λ (h : HeldRow). h.size) ((sound_now who.token.view s).once
     record { caller = who.number; base = a; size = kind_words k }
     record { caller = who.number; base = b; size = kind_words j } (c.rows k a first)
     (c.rows j b second) same))
 
 -- what the filling of a row results in
 pub record HasFilledRow (old new : Caller) (base : ℕ) (words : List ℕ) : Type 0 where
-  pub same : new ≡ with_own old new.seat.view.own
-  pub stands : StandAt new.seat.view.own base words
+  pub same : new ≡ with_own old new.token.view.own
+  pub stands : StandAt new.token.view.own base words
   pub others : KeepsOthers (λ at. at ≡ base) old new
 
 -- a caller that stored words into a row of its own has filled it so
-pub row_filled : (old new : Caller) (kind : Kind) (base : ℕ) (words : List ℕ) → IsSound old.seat.view
+pub row_filled : (old new : Caller) (kind : Kind) (base : ℕ) (words : List ℕ) → IsSound old.token.view
     → IsCaller old → row_of kind (spares_of old) ≡ Some base → length words ≤ kind_words kind
     → new ≡ filled_with old base words → HasFilledRow old new base words
 row_filled old new kind base words s c held within is =
-    let own : new.seat.view.own ≡ storing_all old.seat.view.own base words =
-    ap (λ (x : Caller). x.seat.view.own) is in
+    let own : new.token.view.own ≡ storing_all old.token.view.own base words =
+    ap (λ (x : Caller). x.token.view.own) is in
     record {
       same = is ∙ ap {B = Caller} (with_own old) (sym own);
       stands = subst (λ o. StandAt o base words) (sym own)
-          (stored_at old.seat.view.own base words);
+          (stored_at old.token.view.own base words);
       others = λ h mine i out k less.
           ap (λ o. own_at o (h.base + k)) own
-          ∙ stored_else old.seat.view.own base words (h.base + k) (away h i out k less);
+          ∙ stored_else old.token.view.own base words (h.base + k) (away h i out k less);
     }
   where
     v : View
-    v = old.seat.view
+    v = old.token.view
 
     away : (h : HeldRow) → Among h (now v).held → ¬ (h.base ≡ base) → (k : ℕ) → k < h.size → (j : ℕ)
         → j < length words → base + j ≢ h.base + k
@@ -74,15 +74,15 @@ row_filled old new kind base words s c held within is =
 
 -- words of another row are kept
 pub stand_kept : (old new : Caller) (base : ℕ) → KeepsOthers (λ at. at ≡ base) old new
-    → (h : HeldRow) → h.caller ≡ old.number → Among h (now old.seat.view).held → h.base ≢ base
-    → (words : List ℕ) → length words ≤ h.size → StandAt old.seat.view.own h.base words
-    → StandAt new.seat.view.own h.base words
+    → (h : HeldRow) → h.caller ≡ old.number → Among h (now old.token.view).held → h.base ≢ base
+    → (words : List ℕ) → length words ≤ h.size → StandAt old.token.view.own h.base words
+    → StandAt new.token.view.own h.base words
 stand_kept old new base kept h mine i out words low stand k less =
     let more : k < h.size = omega arith in
     stand k less ∙ ap Some (sym (kept h mine i out k more))
 
 -- the row of a kind stays the same if only the caller's own words change
-held_as : (old mid : Caller) (kind : Kind) (base : ℕ) → mid ≡ with_own old mid.seat.view.own
+held_as : (old mid : Caller) (kind : Kind) (base : ℕ) → mid ≡ with_own old mid.token.view.own
     → row_of kind (spares_of old) ≡ Some base → row_of kind (spares_of mid) ≡ Some base
 held_as old mid kind base same e = ap (λ (x : Caller). row_of kind (spares_of x)) same ∙ e
 
@@ -96,13 +96,13 @@ pair_length key leaf other_key other =
       | false ↦ omega arith
     ]
 
-module _ (old mid new : Caller) (s : IsSound old.seat.view) (c : IsCaller old) (d : IsCaller mid)
-    (same : mid ≡ with_own old mid.seat.view.own) where
+module _ (old mid new : Caller) (s : IsSound old.token.view) (c : IsCaller old) (d : IsCaller mid)
+    (same : mid ≡ with_own old mid.token.view.own) where
   -- the words of a row of another kind are kept
   other_stands : (kind that : Kind) (base other : ℕ) → row_of kind (spares_of old) ≡ Some base
       → row_of that (spares_of old) ≡ Some other → kind_words that ≢ kind_words kind
       → KeepsOthers (λ at. at ≡ base) mid new → (words : List ℕ) → length words ≤ kind_words that
-      → StandAt mid.seat.view.own other words → StandAt new.seat.view.own other words
+      → StandAt mid.token.view.own other words → StandAt new.token.view.own other words
   other_stands kind that base other first second differ kept words low stands =
       stand_kept mid new base kept
       record { caller = mid.number; base = other; size = kind_words that } refl
@@ -112,9 +112,9 @@ module _ (old mid new : Caller) (s : IsSound old.seat.view) (c : IsCaller old) (
   -- the words of a pair row and its leaf are stored
   pub pair_stored : (row : ChangeRow) (base leaf other other_key : ℕ) → old.pair ≡ Some base
       → old.leaf ≡ Some leaf → KeepsOthers (λ at. at ≡ base) mid new
-      → StandAt mid.seat.view.own leaf (words_of (new_leaf row))
-      → StandAt new.seat.view.own base (words_of (pair_row row.key leaf other_key other))
-      → StoredAll new.seat.view (fresh_rows row (PairRow base leaf other other_key))
+      → StandAt mid.token.view.own leaf (words_of (new_leaf row))
+      → StandAt new.token.view.own base (words_of (pair_row row.key leaf other_key other))
+      → StoredAll new.token.view (fresh_rows row (PairRow base leaf other other_key))
   pair_stored row base leaf other other_key has_pair has_leaf kept leaf_stands pair_stands = (
     pair_stands,
     (
@@ -127,8 +127,8 @@ module _ (old mid new : Caller) (s : IsSound old.seat.view) (c : IsCaller old) (
   -- the fresh rows keep their words while the change's row is filled
   pub fresh_kept : (row : ChangeRow) (base : ℕ) (fresh : Fresh) → old.change ≡ Some base
       → AreBasesOf (kinds_of fresh) (spares_of old) (bases_of (fresh_rows row fresh))
-      → KeepsOthers (λ at. at ≡ base) mid new → StoredAll mid.seat.view (fresh_rows row fresh)
-      → StoredAll new.seat.view (fresh_rows row fresh)
+      → KeepsOthers (λ at. at ≡ base) mid new → StoredAll mid.token.view (fresh_rows row fresh)
+      → StoredAll new.token.view (fresh_rows row fresh)
   fresh_kept row base Nothing has rows kept stored = tt
   fresh_kept row base (LeafRow leaf) has rows kept stored = (
     other_stands Change Leaf base leaf has rows.0 (omega arith) kept (words_of (new_leaf row))
@@ -147,7 +147,7 @@ module _ (old mid new : Caller) (s : IsSound old.seat.view) (c : IsCaller old) (
   )
 
 -- other own words twice
-pub own_twice : (old mid new : Caller) → mid ≡ with_own old mid.seat.view.own
-    → new ≡ with_own mid new.seat.view.own → new ≡ with_own old new.seat.view.own
+pub own_twice : (old mid new : Caller) → mid ≡ with_own old mid.token.view.own
+    → new ≡ with_own mid new.token.view.own → new ≡ with_own old new.token.view.own
 own_twice old mid new a b =
-    b ∙ ap {B = Caller} (λ (c : Caller). with_own c new.seat.view.own) a
+    b ∙ ap {B = Caller} (λ (c : Caller). with_own c new.token.view.own) a

@@ -34,14 +34,14 @@ use Rattle.ist_rows.proofs.ShortLemmas.{short_from}
 
 module _ (old new : Caller) (kind : Kind) (base : ℕ) (c : IsCaller old)
     (none : row_of kind (spares_of old) ≡ None)
-    (r : Reserved old.seat.view old.number base (kind_words kind) new.seat.view) where
+    (r : Reserved old.token.view old.number base (kind_words kind) new.token.view) where
   abbrev v : View
-  v = old.seat.view
+  v = old.token.view
 
   abbrev event : Event
   event = Reserve old.number base (kind_words kind)
 
-  now_is : now new.seat.view ≡ state_of v.start v.words (event ∷ r.reserved.before)
+  now_is : now new.token.view ≡ state_of v.start v.words (event ∷ r.reserved.before)
   now_is =
       ap now r.reserved.view
       ∙ ap₂ (λ p n. state_of p n (event ∷ r.reserved.before)) (ap (λ x. x.start) r.seen.same)
@@ -75,18 +75,18 @@ module _ (old new : Caller) (kind : Kind) (base : ℕ) (c : IsCaller old)
       (held_by_later v.start v.words old.number v.log r.reserved.before lawful.enabled.0 later) in
       let there : AreStuck t (build_sizes t old.number (with_row kind base (spares_of old))) =
       subst (AreStuck t) (sym sizes) (all_stuck_on (now v) t comes (sizes_built old) refused) in
-      subst (λ own. AreStuck (now new.seat.view) (build_sizes (now new.seat.view) new.number own))
+      subst (λ own. AreStuck (now new.token.view) (build_sizes (now new.token.view) new.number own))
       (sym rows)
-      (subst (λ n. AreStuck (now new.seat.view)
-      (build_sizes (now new.seat.view) n (with_row kind base (spares_of old)))) (sym number)
+      (subst (λ n. AreStuck (now new.token.view)
+      (build_sizes (now new.token.view) n (with_row kind base (spares_of old)))) (sym number)
       (subst (λ x. AreStuck x (build_sizes x old.number (with_row kind base (spares_of old))))
       (sym now_is) there))
 
   -- it went on by the reserving
-  pub reserved_went : WentOn Prepares old.seat.view new.seat.view
+  pub reserved_went : WentOn Prepares old.token.view new.token.view
   reserved_went =
-      went_more Prepares v r.before new.seat.view (goes_on_went Prepares v r.before r.seen)
-      (logged_went Prepares r.before event new.seat.view r.reserved tt refl)
+      went_more Prepares v r.before new.token.view (goes_on_went Prepares v r.before r.seen)
+      (logged_went Prepares r.before event new.token.view r.reserved tt refl)
 
   -- and the row lies above all that was used before
   pub reserved_high : (now v).next ≤ base
@@ -115,9 +115,9 @@ pub record HasTaken (old new : Caller) (kind : Kind) (words : ℕ) (answer : Res
   pub held : IfOk answer (λ base. row_of kind (spares_of new) ≡ Some base)
   pub rows : IfOk answer (λ base. spares_of new ≡ with_row kind base (spares_of old))
   pub high : IfOk answer (λ base. (row_of kind (spares_of old) ≡ Some base)
-      ⊎ ((now old.seat.view).next ≤ base))
+      ⊎ ((now old.token.view).next ≤ base))
   pub full : IfErr answer (λ full. (full.asked ≡ kind_words kind)
-      × RanShort (WentOn Prepares) old.seat.view words full new.seat.view)
+      × RanShort (WentOn Prepares) old.token.view words full new.token.view)
 
 -- a row that was there is the row of its kind
 with_same : (own : Spares) (kind : Kind) (base : ℕ) → row_of kind own ≡ Some base
@@ -134,22 +134,22 @@ row_with own Change base = refl
 row_with own Rebuild base = refl
 
 module _ (old new : Caller) (kind : Kind) (words : ℕ) (c : IsCaller old) (refused : HasRefused old)
-    (s : IsSound old.seat.view) where
+    (s : IsSound old.token.view) where
   -- a refused one left all as it was
   gone_refused : IsCaller new → new.number ≡ old.number → (full : Full)
       → IsKindRefused words kind old new full → HasGone Prepares old new
   gone_refused caller number full f =
-      let v = old.seat.view in
-      let g = goes_on_more v f.cause.short.before new.seat.view f.cause.short.seen
-      (looked_goes_on f.cause.short.before _ _ new.seat.view f.cause.short.looked) in
-      let it = loads_gone Prepares old new.seat c refused g in
+      let v = old.token.view in
+      let g = goes_on_more v f.cause.short.before new.token.view f.cause.short.seen
+      (looked_goes_on f.cause.short.before _ _ new.token.view f.cause.short.looked) in
+      let it = loads_gone Prepares old new.token c refused g in
       record {
         caller = caller;
         number = number;
-        refused = subst (λ own. AreStuck (now new.seat.view)
-            (build_sizes (now new.seat.view) new.number own)) (sym f.same)
-            (subst (λ n. AreStuck (now new.seat.view)
-            (build_sizes (now new.seat.view) n (spares_of old))) (sym number) it.refused);
+        refused = subst (λ own. AreStuck (now new.token.view)
+            (build_sizes (now new.token.view) new.number own)) (sym f.same)
+            (subst (λ n. AreStuck (now new.token.view)
+            (build_sizes (now new.token.view) n (spares_of old))) (sym number) it.refused);
         went = it.went;
       }
 
@@ -164,7 +164,7 @@ module _ (old new : Caller) (kind : Kind) (words : ℕ) (c : IsCaller old) (refu
           caller = c;
           number = refl;
           refused = refused;
-          went = goes_on_went Prepares old.seat.view old.seat.view (goes_on_same old.seat.view s);
+          went = goes_on_went Prepares old.token.view old.token.view (goes_on_same old.token.view s);
         };
         held = e;
         rows = with_same (spares_of old) kind base e;
@@ -195,8 +195,8 @@ module _ (old new : Caller) (kind : Kind) (words : ℕ) (c : IsCaller old) (refu
         high = tt;
         full = (
           f.cause.asked,
-          short_from GoesOnTo (WentOn Prepares) old.seat.view old.seat.view
-              (λ x. goes_on_went Prepares old.seat.view x) words full new.seat.view f.cause.short,
+          short_from GoesOnTo (WentOn Prepares) old.token.view old.token.view
+              (λ x. goes_on_went Prepares old.token.view x) words full new.token.view f.cause.short,
         );
       }
 

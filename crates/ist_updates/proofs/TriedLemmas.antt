@@ -29,7 +29,7 @@ use Rattle.ist_find.proofs.LookLemmas.{word_looked}
 use Rattle.ist_find.proofs.SearchLemmas.{has_found}
 use Rattle.ist_rows.specs.Rows.{RanShort}
 use Rattle.ist_updates.specs.declared.plans.Aim.{Aim}
-use Rattle.ist_rule.specs.Faces.{SeatFace}
+use Rattle.ist_rule.specs.Faces.{TokenFace}
 use Rattle.ist_rows.specs.declared.callers.Caller.{Caller}
 use Rattle.ist_updates.specs.declared.updates.Tried.{Tried}
 use Rattle.ist_updates.specs.declared.updates.Tried.TheVariants.{Took, Nothing, Again, Unmet}
@@ -178,23 +178,23 @@ pub slot_leaf : (v : View) (aim : Aim) → WasAtSlot v aim → (base : ℕ)
     → ref_of aim.word ≡ Some (LeafAt base) → SeesLeaf v base
 slot_leaf v aim at base is = leaf_on at.before v at.seen base (subst (Names at.before) is at.at.names)
 
-module _ (old : Caller) (seat : SeatFace) (key : ℕ) (value : Option ℕ)
-    (a : IsAsked old (command_for key value)) (g : GoesOnTo old.seat.view seat.view) where
+module _ (old : Caller) (token : TokenFace) (key : ℕ) (value : Option ℕ)
+    (a : IsAsked old (command_for key value)) (g : GoesOnTo old.token.view token.view) where
   abbrev mid : Caller
-  mid = record old { seat = seat }
+  mid = record old { token = token }
 
   -- loads leave the caller asked
   pub loads_asked : IsAsked mid (command_for key value)
   loads_asked =
       asked_gone Prepares old mid (command_for key value) a
-      (loads_gone Prepares old seat a.caller a.refused g) prepares_none
+      (loads_gone Prepares old token a.caller a.refused g) prepares_none
 
   -- the result of a try after loads is the result of a try that makes them first
   pub tried_behind : (node : ℕ) (new : Caller) (tried : Tried) → IsTried mid key value node new tried
       → IsTried old key value node new tried
   tried_behind node new (Took reply) t =
       taken_since old mid (command_for key value) a loads_asked
-      (loads_gone Prepares old seat a.caller a.refused g) new.seat.view node reply reply refl t
+      (loads_gone Prepares old token a.caller a.refused g) new.token.view node reply reply refl t
   tried_behind node new Nothing t = (t.0, t.1, t.2, t.3 ∙ g.since)
   tried_behind node new Again t = t
   tried_behind node new Unmet t = t
@@ -206,8 +206,8 @@ module _ (old : Caller) (seat : SeatFace) (key : ℕ) (value : Option ℕ)
       record {
         still = r.still;
         cause = λ first began. r.cause first record {
-          went = went_more Updates first old.seat.view seat.view began.went
-              (goes_on_went Updates old.seat.view seat.view g);
+          went = went_more Updates first old.token.view token.view began.went
+              (goes_on_went Updates old.token.view token.view g);
           since = subst (λ n. length first.log ≤ n) (sym g.since) began.since;
         };
       }
@@ -232,12 +232,12 @@ module _ (old new : Caller) (key : ℕ) (value : Option ℕ) (node : ℕ) (r : R
     (h : IfOk r (λ t. IsTried old key value node new t)) where
   -- the update took effect with this reply
   pub told_took : (reply : Option ℕ) → r ≡ Ok (Took reply)
-      → HasTakenEffect old.seat.view new.seat.view old.number (command_for key value) node reply
+      → HasTakenEffect old.token.view new.token.view old.number (command_for key value) node reply
   told_took reply e = subst (λ x. IfOk x (λ t. IsTried old key value node new t)) e h
 
   -- there was nothing to remove
-  pub told_nothing : r ≡ Ok Nothing → (value ≡ None) × HasFoundNone new.seat.view key
-      × IsAsked new (command_for key value) × (new.seat.view.loads.since ≡ old.seat.view.loads.since)
+  pub told_nothing : r ≡ Ok Nothing → (value ≡ None) × HasFoundNone new.token.view key
+      × IsAsked new (command_for key value) × (new.token.view.loads.since ≡ old.token.view.loads.since)
   told_nothing e = subst (λ x. IfOk x (λ t. IsTried old key value node new t)) e h
 
   -- the caller is still asked, after `Again`
@@ -251,8 +251,8 @@ module _ (old new : Caller) (key : ℕ) (value : Option ℕ) (node : ℕ) (r : R
 -- with `Full` the update is refused, counted from any view since which its search began
 pub told_full : (old new : Caller) (key : ℕ) (value : Option ℕ) (words : ℕ) (r : Result Tried Full)
     → IfErr r (λ full. IsTryRefused old key value words full new)
-    → IfErr r (λ full. (first : View) → BeganSince first old.seat.view
-    → IsUpdateRefused first key value words full new.seat.view)
+    → IfErr r (λ full. (first : View) → BeganSince first old.token.view
+    → IsUpdateRefused first key value words full new.token.view)
 told_full old new key value words (Ok t) h = tt
 told_full old new key value words (Err full) h = h.cause
 

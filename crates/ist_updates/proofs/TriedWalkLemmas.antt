@@ -16,9 +16,9 @@ use Rattle.ist_rule.specs.Going.{WentOn}
 use Rattle.ist_rule.specs.Learning.{now}
 use Rattle.ist_rule.specs.Standings.{HasMade}
 use Rattle.ist_rule.proofs.WentOnLemmas.{went_who, went_now, went_lawful, went_more, later_by-goes_on}
-use Rattle.laws_walks.specs.Walking.{ComesBy}
-use Rattle.laws_walks.proofs.WalkLemmas.{meeting_on}
-use Rattle.laws_walks.specs.Counting.{IsOneUpdate}
+use Rattle.laws_calls.specs.Walking.{ComesBy}
+use Rattle.laws_calls.proofs.WalkLemmas.{meeting_on}
+use Rattle.laws_calls.specs.Counting.{IsOneUpdate}
 use Rattle.ist_rows.specs.declared.callers.Caller.{Caller}
 use Rattle.ist_find.specs.Searches.{HasCome}
 use Rattle.ist_updates.specs.Asking.{Updates, IsAsked}
@@ -60,9 +60,9 @@ made_first P v w g caller h =
     (sym (ap (λ x. x.calls) g.same)) h)
 
 module _ (old : Caller) (command : Command) (a : IsAsked old command) (first : View)
-    (since : HasTriedSince first old.seat.view old.number) where
+    (since : HasTriedSince first old.token.view old.number) where
   abbrev v : View
-  v = old.seat.view
+  v = old.token.view
 
   mine_first : first.who ≡ CallerOf old.number
   mine_first = sym (went_who Tries first v since.went) ∙ a.caller.mine

@@ -7,7 +7,7 @@ use Rattle.ist_core.specs.Changes.{value_at}
 use Rattle.ist_core.specs.References.{ref_of}
 use Rattle.ist_core.specs.RowLayout.{leaf_words, pair_words, change_words}
 use Rattle.ist_rule.specs.declared.view.View.{View}
-use Rattle.ist_rule.specs.Faces.{SeatFace}
+use Rattle.ist_rule.specs.Faces.{TokenFace}
 use Rattle.ist_rule.specs.Learning.{now, GoesOnTo}
 use Rattle.ist_rule.specs.Rule.{IsSound}
 use Rattle.laws_coming.specs.Further.{CameFurther}
@@ -51,7 +51,7 @@ unmet_again e = cc
 
 -- ---- a try without a step
 
-module _ (who : Caller) (aim : Aim) (value : Option ℕ) (words : ℕ) (s : IsSound who.seat.view)
+module _ (who : Caller) (aim : Aim) (value : Option ℕ) (words : ℕ) (s : IsSound who.token.view)
     (a : IsAsked who (command_for aim.key value)) where
   ready : StaysReady Tries who who
   ready =
@@ -67,7 +67,7 @@ module _ (who : Caller) (aim : Aim) (value : Option ℕ) (words : ℕ) (s : IsSo
       record { on = ready; told = a; full = tt; further = λ is. absurd (unmet_again is) }
 
   -- there is nothing to remove
-  pub nothing_tried : value ≡ None → HasFoundNone who.seat.view aim.key
+  pub nothing_tried : value ≡ None → HasFoundNone who.token.view aim.key
       → HasTried who aim value words (Ok Nothing) who
   nothing_tried none found =
       record {
@@ -85,8 +85,8 @@ module _ (old new : Caller) (aim : Aim) (value : Option ℕ) (words : ℕ) where
 
   -- the walk must begin again, and the table came further
   pub again_tried : HasGone Tries old new → IsAsked new command
-      → ((first : View) → HasAimed first old.seat.view aim.node aim.index aim.word
-      → CameFurther first new.seat.view) → HasTried old aim value words (Ok Again) new
+      → ((first : View) → HasAimed first old.token.view aim.node aim.index aim.word
+      → CameFurther first new.token.view) → HasTried old aim value words (Ok Again) new
   again_tried gone still further =
       record {
         on = record { gone = gone; quiet = asked_quiet new command still };
@@ -113,15 +113,15 @@ module _ {old new : Caller} {aim : Aim} {x : Way} {words : ℕ} where
   pub changed_tried : (value : Option ℕ) {taken : Bool} (tried : Tried) (reply : Option ℕ)
       → command_by aim.key x ≡ command_for aim.key value → HasChanged old aim x words (Ok taken) new
       → (taken ≡ true → tried ≡ Took reply) → (taken ≡ false → tried ≡ Again)
-      → value_at (now old.seat.view).pieces (ref_of aim.word) aim.key ≡ reply
+      → value_at (now old.token.view).pieces (ref_of aim.word) aim.key ≡ reply
       → HasTried old aim value words (Ok tried) new
   changed_tried value {taken = true} tried reply is h took again told =
-      let v = old.seat.view in
+      let v = old.token.view in
       subst (λ t. HasTried old aim value words (Ok t) new) (sym (took refl)) record {
         on = h.on;
-        told = subst (HasTakenEffect v new.seat.view old.number (command_for aim.key value) aim.node)
+        told = subst (HasTakenEffect v new.token.view old.number (command_for aim.key value) aim.node)
             told
-            (subst (λ k. HasTakenEffect v new.seat.view old.number k aim.node
+            (subst (λ k. HasTakenEffect v new.token.view old.number k aim.node
             (value_at (now v).pieces (ref_of aim.word) aim.key)) is (h.took refl));
         full = tt;
         further = λ e. absurd (took_again reply e);
@@ -139,42 +139,42 @@ module _ {old new : Caller} {aim : Aim} {x : Way} {words : ℕ} where
   put_unchanged {full} value given put is h asks =
       refused_tried old new aim value words full h.on.gone record {
         still = subst (IsAsked new) is h.still;
-        cause = λ first began. subst (λ o. IsUpdateRefused first aim.key o words full new.seat.view)
-            (sym put) (put_refused first old.seat.view new.seat.view words full began h.full.short
+        cause = λ first began. subst (λ o. IsUpdateRefused first aim.key o words full new.token.view)
+            (sym put) (put_refused first old.token.view new.token.view words full began h.full.short
             aim.key given (asks h.full.asked));
       }
 
 -- the table had too few words for the change of a remove
 pub remove_unchanged : {old new : Caller} {aim : Aim} {words : ℕ} {full : Full} (found : ℕ)
     → HasChanged old aim way.Clear words (Err full) new
-    → (let v = old.seat.view in
+    → (let v = old.token.view in
     Searched v.start v.words v.log aim.key v.loads.since aim.node (Some found))
     → HasTried old aim None words (Err full) new
 remove_unchanged {old} {new} {aim} {words} {full} found h searched =
     refused_tried old new aim None words full h.on.gone record {
       still = h.still;
-      cause = λ first began. remove_refused first old.seat.view new.seat.view words full began
+      cause = λ first began. remove_refused first old.token.view new.token.view words full began
           h.full.short aim.key aim.node found h.full.asked searched;
     }
 
 -- ---- after loads
 
 -- a try after loads is a try that makes them first
-pub loads_tried : (old : Caller) (seat : SeatFace) {aim : Aim} {value : Option ℕ} {words : ℕ}
+pub loads_tried : (old : Caller) (token : TokenFace) {aim : Aim} {value : Option ℕ} {words : ℕ}
     {r : Result Tried Full} {new : Caller} → IsAsked old (command_for aim.key value)
-    → GoesOnTo old.seat.view seat.view
-    → HasTried (record old { seat = seat }) aim value words r new
+    → GoesOnTo old.token.view token.view
+    → HasTried (record old { token = token }) aim value words r new
     → HasTried old aim value words r new
-loads_tried old seat {aim} {value} {words} {r} {new} a g t =
+loads_tried old token {aim} {value} {words} {r} {new} a g t =
     record {
       on = record {
-        gone = gone_more Tries old (record old { seat = seat }) new
-            (loads_gone Tries old seat a.caller a.refused g) t.on.gone;
+        gone = gone_more Tries old (record old { token = token }) new
+            (loads_gone Tries old token a.caller a.refused g) t.on.gone;
         quiet = t.on.quiet;
       };
-      told = ok_behind old seat aim.key value a g aim.node new r t.told;
-      full = err_behind old seat aim.key value a g words new r t.full;
+      told = ok_behind old token aim.key value a g aim.node new r t.told;
+      full = err_behind old token aim.key value a g words new r t.full;
       further = λ is first aimed. t.further is first
-          (aimed_on first old.seat.view seat.view aim.node aim.index aim.word aimed
-          (behind_loads old.seat.view seat.view g));
+          (aimed_on first old.token.view token.view aim.node aim.index aim.word aimed
+          (behind_loads old.token.view token.view g));
     }

@@ -6,10 +6,10 @@ use Rattle.ist_core.specs.declared.commands.Command.{Command}
 use Rattle.ist_core.specs.declared.ports.Full.{Full}
 use Rattle.ist_core.specs.RowLayout.{anchor}
 use Rattle.ist_rule.specs.Conditions.{CanGiveUp}
-use Rattle.ist_rule.specs.Faces.{SeatFace}
+use Rattle.ist_rule.specs.Faces.{TokenFace}
 use Rattle.ist_rule.specs.Learning.{Turned, searching}
 use Rattle.ist_rule.proofs.WentOnLemmas.{later_by-goes_on}
-use Rattle.laws_progress.specs.Progress.{progress}
+use Rattle.laws_stability.specs.Progress.{progress}
 use Rattle.laws_coming.specs.Further.{CameFurther}
 use Rattle.ist_rows.specs.declared.callers.Caller.{Caller}
 use Rattle.ist_updates.specs.declared.updates.Applied.{Applied}
@@ -27,7 +27,7 @@ use Rattle.ist_updates.proofs.ResultLemmas.{err_walked, ok_walked}
 use Rattle.ist_updates.proofs.WalkCountLemmas.{few_on, paid_on}
 
 -- a caller that is asked may give its call up
-may_give_up : (who : Caller) (command : Command) → IsAsked who command → CanGiveUp who.seat.view
+may_give_up : (who : Caller) (command : Command) → IsAsked who command → CanGiveUp who.token.view
 may_give_up who command a =
     record {
       number = who.number;
@@ -39,22 +39,22 @@ may_give_up who command a =
     }
 
 -- a walk of the call begins, after walks of which none took effect and which progress paid for
-pub record IsTurn (old who : Caller) (seat : SeatFace) (key : ℕ) (value : Option ℕ) : Type 0 where
+pub record IsTurn (old who : Caller) (token : TokenFace) (key : ℕ) (value : Option ℕ) : Type 0 where
   pub asked : IsAsked old (command_for key value)
   pub number : who.number ≡ old.number
   pub again : IsAskedAgain old who (command_for key value)
-  pub paid : who.seat.view.searches + progress old.seat.view.log
-      ≤ old.seat.view.searches + progress who.seat.view.log
-  pub turned : Turned who.seat.view (searching who.seat.view) seat.view
+  pub paid : who.token.view.searches + progress old.token.view.log
+      ≤ old.token.view.searches + progress who.token.view.log
+  pub turned : Turned who.token.view (searching who.token.view) token.view
 
-module _ {old who : Caller} {seat : SeatFace} {key : ℕ} {value : Option ℕ}
-    (b : IsTurn old who seat key value) where
+module _ {old who : Caller} {token : TokenFace} {key : ℕ} {value : Option ℕ}
+    (b : IsTurn old who token key value) where
   abbrev there : Caller
-  there = record who { seat = seat }
+  there = record who { token = token }
 
   -- it begins at the anchor
   pub turn_begun : HasBegun old there key (command_for key value)
-  turn_begun = begun_walk old who seat key (command_for key value) b.number b.again b.turned
+  turn_begun = begun_walk old who token key (command_for key value) b.number b.again b.turned
 
   -- a caller that is still asked after the walk took no effect in the whole call
   left : (new : Caller) → IsAskedStill there new (command_for key value) → HasTakenNone old new
@@ -78,16 +78,16 @@ module _ {old who : Caller} {seat : SeatFace} {key : ℕ} {value : Option ℕ}
     -- and the table came further
     pub again_further : {x : Walked} → x ≡ Again
         → IsWalk there key value when anchor words (Ok x) new
-        → CameFurther who.seat.view new.seat.view
+        → CameFurther who.token.view new.token.view
     again_further is h =
-        h.further (ap Ok is) who.seat.view (begun_fresh who.seat.view seat.view b.turned)
+        h.further (ap Ok is) who.token.view (begun_fresh who.token.view token.view b.turned)
 
     -- which pays for it
     pub again_paid : {x : Walked} → x ≡ Again → IsWalk there key value when anchor words (Ok x) new
-        → new.seat.view.searches + progress old.seat.view.log
-        ≤ old.seat.view.searches + progress new.seat.view.log
+        → new.token.view.searches + progress old.token.view.log
+        ≤ old.token.view.searches + progress new.token.view.log
     again_paid is h =
-        paid_on old.seat.view who.seat.view seat.view new.seat.view b.paid b.turned h.on.gone.went
+        paid_on old.token.view who.token.view token.view new.token.view b.paid b.turned h.on.gone.went
         (again_further is h)
 
     -- ---- if it needn't
@@ -106,7 +106,7 @@ module _ {old who : Caller} {seat : SeatFace} {key : ℕ} {value : Option ℕ}
 
     -- if it was refused, it took no effect
     refused_by : (r : Result Walked Full) → IsWalk there key value when anchor words r new
-        → IfErr r (λ full. WasRefused old.seat.view key value words full new.seat.view
+        → IfErr r (λ full. WasRefused old.token.view key value words full new.token.view
         × HasTakenNone old new)
     refused_by (Ok x) h = tt
     refused_by (Err full) h = (
@@ -121,7 +121,7 @@ module _ {old who : Caller} {seat : SeatFace} {key : ℕ} {value : Option ℕ}
         let on = h.on.gone in
         record {
           went = all_searched old there key value b.asked t new on.went;
-          few_walks = few_on old.seat.view who.seat.view seat.view new.seat.view b.paid b.turned
+          few_walks = few_on old.token.view who.token.view token.view new.token.view b.paid b.turned
               on.went;
           last = last;
           took = λ done is. done_by done
@@ -133,7 +133,7 @@ module _ {old who : Caller} {seat : SeatFace} {key : ℕ} {value : Option ℕ}
                 left new k.0,
               );
           unmet = λ is. (
-            missed_since Updates old.seat.view seat.view new.seat.view key when
+            missed_since Updates old.token.view token.view new.token.view key when
                 (later_by-goes_on t.went.went.later) t.since on.went (h.missed is),
             left new (subst (λ x. HasWalked there key value anchor words x new) is h.walked),
           );

@@ -1,7 +1,7 @@
 -- How many walks a call begins, beside the progress that it saw. Serves `apply`.
 use Rattle.std.proofs.Common.{◌≡◌, ◌+◌, ◌≤◌, ap, arith}
-use Rattle.laws_progress.specs.Progress.{progress}
-use Rattle.laws_progress.proofs.ProgressLemmas.{never_falls}
+use Rattle.laws_stability.specs.Progress.{progress}
+use Rattle.laws_stability.proofs.ProgressLemmas.{never_falls}
 use Rattle.ist_rule.specs.declared.view.View.{View}
 use Rattle.ist_rule.specs.Going.{WentOn}
 use Rattle.ist_rule.specs.Learning.{searching, Turned}

@@ -12,13 +12,13 @@ use Rattle.ist_core.specs.Slots.{SlotHolds}
 use Rattle.ist_core.specs.StartLayout.{start}
 use Rattle.ist_core.proofs.ReferenceLemmas.{word_of-ref_of}
 use Rattle.ist_rule.specs.declared.view.View.{View}
-use Rattle.ist_rule.specs.Faces.{SeatFace}
+use Rattle.ist_rule.specs.Faces.{TokenFace}
 use Rattle.ist_rule.specs.Going.{WentOn}
 use Rattle.ist_rule.specs.Learning.{now, GoesOnTo}
 use Rattle.ist_rule.proofs.WentOnLemmas.{went_same, went_more, goes_on_went, later_by-goes_on}
 use Rattle.laws_histories.proofs.PositionLemmas.{node_met}
 use Rattle.laws_stability.proofs.LaterLemmas.{ever_later}
-use Rattle.laws_walks.proofs.WalkLemmas.{meeting_comes}
+use Rattle.laws_calls.proofs.WalkLemmas.{meeting_comes}
 use Rattle.ist_rows.specs.declared.callers.Caller.{Caller}
 use Rattle.ist_find.specs.Searches.{HasCome, Came}
 use Rattle.ist_updates.specs.declared.updates.Applied.{Applied}
@@ -33,15 +33,15 @@ use Rattle.ist_updates.proofs.TriedWalkLemmas.{went_table}
 use Rattle.ist_rows.specs.Going.{StaysReady}
 
 -- a caller that went down by a load
-module _ (old : Caller) (seat : SeatFace) (g : GoesOnTo old.seat.view seat.view) where
+module _ (old : Caller) (token : TokenFace) (g : GoesOnTo old.token.view token.view) where
   abbrev v : View
-  v = old.seat.view
+  v = old.token.view
 
   abbrev w : View
-  w = seat.view
+  w = token.view
 
   abbrev there : Caller
-  there = record old { seat = seat }
+  there = record old { token = token }
 
   -- what holds for its table held for the table before
   back : (Q : List Pair → ℕ → Type 0) → Q w.start w.words → Q v.start v.words
@@ -62,7 +62,7 @@ module _ (old : Caller) (seat : SeatFace) (g : GoesOnTo old.seat.view seat.view)
           caller = on.gone.caller;
           number = on.gone.number;
           refused = on.gone.refused;
-          went = went_before P new.seat.view on.gone.went;
+          went = went_before P new.token.view on.gone.went;
         };
         quiet = on.quiet;
       }
@@ -71,7 +71,7 @@ module _ (old : Caller) (seat : SeatFace) (g : GoesOnTo old.seat.view seat.view)
   pub still_before : (new : Caller) (command : Command) → IsAskedStill there new command
       → IsAskedStill old new command
   still_before new command h =
-      record { went = went_before Tries new.seat.view h.went; asked = h.asked }
+      record { went = went_before Tries new.token.view h.went; asked = h.asked }
 
   -- if there was nothing to remove after the step down, there was nothing in the whole walk
   pub not_there_before : (u : View) (key : ℕ) (value : Option ℕ) → IsNotThere w u key value
@@ -102,11 +102,11 @@ module _ (old : Caller) (seat : SeatFace) (g : GoesOnTo old.seat.view seat.view)
       → HasWalked old key value node words result new
   walked_here key value node words (Ok (Took done)) new stays h =
       λ first rows since come.
-      back (λ p n. HasCounted p n first.log new.seat.view.log old.number (command_for key value) rows
+      back (λ p n. HasCounted p n first.log new.token.view.log old.number (command_for key value) rows
       done) (h first rows (tried_there first since) (stays rows come))
   walked_here key value node words (Ok Nothing) new stays h = (
     still_before new (command_for key value) h.0,
-    not_there_before new.seat.view key value h.1,
+    not_there_before new.token.view key value h.1,
   )
   walked_here key value node words (Ok Again) new stays h =
       still_before new (command_for key value) h
@@ -114,7 +114,7 @@ module _ (old : Caller) (seat : SeatFace) (g : GoesOnTo old.seat.view seat.view)
       still_before new (command_for key value) h
   walked_here key value node words (Err full) new stays h = (
     still_before new (command_for key value) h.0,
-    refused_before (λ first. IsUpdateRefused first key value words full new.seat.view) h.1,
+    refused_before (λ first. IsUpdateRefused first key value words full new.token.view) h.1,
   )
 
   -- a walk that took no effect from a row below took none from this node
@@ -124,7 +124,7 @@ module _ (old : Caller) (seat : SeatFace) (g : GoesOnTo old.seat.view seat.view)
   none_below key value node row words new (Ok (Took done)) none h = absurd (none done refl)
   none_below key value node row words new (Ok Nothing) none h = (
     still_before new (command_for key value) h.0,
-    not_there_before new.seat.view key value h.1,
+    not_there_before new.token.view key value h.1,
   )
   none_below key value node row words new (Ok Again) none h =
       still_before new (command_for key value) h
@@ -132,7 +132,7 @@ module _ (old : Caller) (seat : SeatFace) (g : GoesOnTo old.seat.view seat.view)
       still_before new (command_for key value) h
   none_below key value node row words new (Err full) none h = (
     still_before new (command_for key value) h.0,
-    refused_before (λ first. IsUpdateRefused first key value words full new.seat.view) h.1,
+    refused_before (λ first. IsUpdateRefused first key value words full new.token.view) h.1,
   )
 
   -- a walk that went on from a row below
@@ -142,10 +142,10 @@ module _ (old : Caller) (seat : SeatFace) (g : GoesOnTo old.seat.view seat.view)
       (stays : (rows : List ℕ) → HasCome v key node rows → HasCome w key node rows)
       (holds : SlotHolds (now w) node index word) (is : ref_of word ≡ Some (InnerAt row)) where
     module _ (words : ℕ) (below : Applied) (second : Caller)
-        (number_is : second.number ≡ old.number) (went : WentOn Updates w second.seat.view)
+        (number_is : second.number ≡ old.number) (went : WentOn Updates w second.token.view)
         (h : HasWalked there key value row words (Ok (Took below)) second) where
       abbrev u : View
-      u = second.seat.view
+      u = second.token.view
 
       -- what was counted below, by the table and the number of the caller after it
       counted_there : (first : View) (rows : List ℕ) → HasTriedSince first w old.number

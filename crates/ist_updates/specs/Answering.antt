@@ -27,36 +27,36 @@ use Rattle.ist_updates.specs.Trying.{Tries, BeganSince, HasFoundNone, HasTakenEf
 pub record HasCarried (old : Caller) (plan : Plan) (taken : Bool) (new : Caller) : Type 0 where
   pub on : StaysReady Tries old new
   pub took : taken ≡ true → (command : Command) → command_of plan.row ≡ Some command
-      → HasTakenEffect old.seat.view new.seat.view old.number command plan.row.node
-      (reply_of (now old.seat.view).pieces plan.row)
+      → HasTakenEffect old.token.view new.token.view old.number command plan.row.node
+      (reply_of (now old.token.view).pieces plan.row)
   pub lost : taken ≡ false → (command : Command) → IsAsked old command → IsAsked new command
   pub further : taken ≡ false → (first : View)
-      → HasAimed first old.seat.view plan.row.node plan.row.index plan.row.from
-      → CameFurther first new.seat.view
+      → HasAimed first old.token.view plan.row.node plan.row.index plan.row.from
+      → CameFurther first new.token.view
 
 -- what each result of a change of the slot means: it took effect, or it was lost and the table came
 -- further, or the table had too few words for a row of it
 pub record HasChanged (old : Caller) (aim : Aim) (w : Way) (words : ℕ) (result : Result Bool Full)
     (new : Caller) : Type 0 where
   pub on : StaysReady Tries old new
-  pub took : result ≡ Ok true → let v = old.seat.view in
-      HasTakenEffect v new.seat.view old.number (command_by aim.key w) aim.node
+  pub took : result ≡ Ok true → let v = old.token.view in
+      HasTakenEffect v new.token.view old.number (command_by aim.key w) aim.node
       (value_at (now v).pieces (ref_of aim.word) aim.key)
   pub lost : result ≡ Ok false → IsAsked new (command_by aim.key w)
   pub further : result ≡ Ok false → (first : View)
-      → HasAimed first old.seat.view aim.node aim.index aim.word → CameFurther first new.seat.view
+      → HasAimed first old.token.view aim.node aim.index aim.word → CameFurther first new.token.view
   pub still : IfErr result (λ full. IsAsked new (command_by aim.key w))
-  pub full : IfErr result (λ full. IsWayRefused old.seat.view w words full new.seat.view)
+  pub full : IfErr result (λ full. IsWayRefused old.token.view w words full new.token.view)
 
 -- ---- a try
 
 -- the update took effect, or there was nothing to remove, or the caller is still asked
 abbrev pub IsTried : Caller → ℕ → Option ℕ → ℕ → Caller → Tried → Type 0
 IsTried old key value node new (Took reply) =
-    HasTakenEffect old.seat.view new.seat.view old.number (command_for key value) node reply
+    HasTakenEffect old.token.view new.token.view old.number (command_for key value) node reply
 IsTried old key value node new Nothing =
-    (value ≡ None) × HasFoundNone new.seat.view key × IsAsked new (command_for key value)
-    × (new.seat.view.loads.since ≡ old.seat.view.loads.since)
+    (value ≡ None) × HasFoundNone new.token.view key × IsAsked new (command_for key value)
+    × (new.token.view.loads.since ≡ old.token.view.loads.since)
 IsTried old key value node new Again = IsAsked new (command_for key value)
 IsTried old key value node new Unmet = IsAsked new (command_for key value)
 
@@ -65,8 +65,8 @@ IsTried old key value node new Unmet = IsAsked new (command_for key value)
 pub record IsTryRefused (old : Caller) (key : ℕ) (value : Option ℕ) (words : ℕ) (full : Full)
     (new : Caller) : Type 0 where
   pub still : IsAsked new (command_for key value)
-  pub cause : (first : View) → BeganSince first old.seat.view
-      → IsUpdateRefused first key value words full new.seat.view
+  pub cause : (first : View) → BeganSince first old.token.view
+      → IsUpdateRefused first key value words full new.token.view
 
 -- what each result of a try at the slot means; if the walk must begin again, the table came further
 pub record HasTried (old : Caller) (aim : Aim) (value : Option ℕ) (words : ℕ)
@@ -75,4 +75,4 @@ pub record HasTried (old : Caller) (aim : Aim) (value : Option ℕ) (words : ℕ
   pub told : IfOk result (λ tried. IsTried old aim.key value aim.node new tried)
   pub full : IfErr result (λ full. IsTryRefused old aim.key value words full new)
   pub further : result ≡ Ok Again → (first : View)
-      → HasAimed first old.seat.view aim.node aim.index aim.word → CameFurther first new.seat.view
+      → HasAimed first old.token.view aim.node aim.index aim.word → CameFurther first new.token.view

@@ -29,16 +29,16 @@ pub record IsAsked (who : Caller) (command : Command) : Type 0 where
   pub caller : IsCaller who
   pub refused : HasRefused who
   pub pending : Pending
-  pub in_call : who.seat.view.pending ≡ Some pending
+  pub in_call : who.token.view.pending ≡ Some pending
   pub command_is : pending.command ≡ Some command
   pub seen : Log
-  pub goes_on : GoesOn seen who.seat.view.log
+  pub goes_on : GoesOn seen who.token.view.log
   pub length_is : pending.length ≡ length seen
-  pub had : HasCalls who.seat.view.start who.seat.view.words seen who.number who.seat.view.stamp
-      who.seat.view.calls
-  pub resolved : IsResolved who.seat.view who.number
-  pub none_yet : HasMade who.seat.view.start who.seat.view.words who.seat.view.log who.number
-      who.seat.view.calls
+  pub had : HasCalls who.token.view.start who.token.view.words seen who.number who.token.view.stamp
+      who.token.view.calls
+  pub resolved : IsResolved who.token.view who.number
+  pub none_yet : HasMade who.token.view.start who.token.view.words who.token.view.log who.number
+      who.token.view.calls
 
 -- the event is a step of an update, or of its help on the way: it installs no start of a rebuild
 abbrev pub Updates : Event → Type 0
@@ -52,4 +52,4 @@ pub record MayEnd (who : Caller) (command : Command) (reply : Option ℕ) : Type
   pub call : Call
   pub command_is : call.command ≡ command
   pub reply_is : call.reply ≡ reply
-  pub can : CanEnd who.seat.view call
+  pub can : CanEnd who.token.view call

@@ -138,5 +138,5 @@ pub record IsPlanned (who : Caller) (aim : Aim) (w : Way) (plan : Plan) : Type 0
   pub rows : HasRows who plan
   pub good : AreGood plan.fresh
   pub is_for : IsPlanFor who.number aim w plan
-  pub fits : let v = who.seat.view in
+  pub fits : let v = who.token.view in
       FitsKind (start v.start v.words) v.log plan.row (fresh_rows plan.row plan.fresh)

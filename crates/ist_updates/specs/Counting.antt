@@ -16,7 +16,7 @@ use Rattle.ist_core.specs.Arithmetic.{limit}
 use Rattle.ist_core.specs.StartLayout.{start}
 use Rattle.ist_core.specs.Statuses.{decided_yes}
 use Rattle.ist_rule.specs.declared.view.View.{View}
-use Rattle.laws_walks.specs.Walking.{IsChainOf}
+use Rattle.laws_calls.specs.Walking.{IsChainOf}
 use Rattle.ist_rebuild.specs.Starting.{MayStart}
 use Rattle.ist_updates.specs.declared.updates.Due.{Due}
 

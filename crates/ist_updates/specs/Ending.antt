@@ -24,36 +24,36 @@ pub record IsWalk (old : Caller) (key : ℕ) (value : Option ℕ) (when : When) 
     (result : Result Walked Full) (new : Caller) : Type 0 where
   pub on : StaysReady Updates old new
   pub walked : HasWalked old key value node words result new
-  pub further : result ≡ Ok Again → (first : View) → IsFreshNode first old.seat.view node
-      → CameFurther first new.seat.view
+  pub further : result ≡ Ok Again → (first : View) → IsFreshNode first old.token.view node
+      → CameFurther first new.token.view
   pub met : IfOk result (IsWalkMet when)
-  pub missed : result ≡ Ok Unmet → HasMissed old.seat.view new.seat.view key when
+  pub missed : result ≡ Ok Unmet → HasMissed old.token.view new.token.view key when
 
 -- the command took no effect: the call may be given up, and it counted nowhere and brought no row to
 -- its limit
 pub record HasTakenNone (old new : Caller) : Type 0 where
-  pub given_up : CanGiveUp new.seat.view
-  pub due : LeavesDue old.seat.view new.seat.view old.number None
-  pub nowhere : CountedNowhere old.seat.view.log new.seat.view.log old.number
+  pub given_up : CanGiveUp new.token.view
+  pub due : LeavesDue old.token.view new.token.view old.number None
+  pub nowhere : CountedNowhere old.token.view.log new.token.view.log old.number
 
 -- the update took effect and was counted, and the call may end
 pub record HasDone (old : Caller) (key : ℕ) (value : Option ℕ) (done : Applied) (new : Caller)
     : Type 0 where
   pub ends : MayEnd new (command_for key value) done.reply
-  pub counted : let v = old.seat.view in IsCounted v.start v.words v.log new.seat.view.log
+  pub counted : let v = old.token.view in IsCounted v.start v.words v.log new.token.view.log
       old.number (command_for key value)
-  pub due : LeavesDue old.seat.view new.seat.view old.number done.due
+  pub due : LeavesDue old.token.view new.token.view old.number done.due
 
 -- what each result of the last walk means for the whole call; it isn't to begin again
 pub record HasEnded (old : Caller) (key : ℕ) (value : Option ℕ) (when : When) (words : ℕ)
     (result : Result Walked Full) (new : Caller) : Type 0 where
-  pub went : SearchedOn Updates old.seat.view new.seat.view
-  pub few_walks : HasWalkedFew old.seat.view new.seat.view
+  pub went : SearchedOn Updates old.token.view new.token.view
+  pub few_walks : HasWalkedFew old.token.view new.token.view
   pub last : result ≢ Ok Again
   pub took : (done : Applied) → result ≡ Ok (Took done) → HasDone old key value done new
   pub nothing : result ≡ Ok Nothing → (value ≡ None) × MayEnd new (command_for key value) None
       × HasTakenNone old new
   pub unmet : result ≡ Ok Unmet
-      → WasMissed old.seat.view new.seat.view key when × HasTakenNone old new
+      → WasMissed old.token.view new.token.view key when × HasTakenNone old new
   pub refused : IfErr result (λ full.
-      WasRefused old.seat.view key value words full new.seat.view × HasTakenNone old new)
+      WasRefused old.token.view key value words full new.token.view × HasTakenNone old new)

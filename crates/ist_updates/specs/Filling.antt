@@ -9,5 +9,5 @@ use Rattle.ist_rows.specs.declared.callers.Caller.{Caller}
 -- the caller has stored only into the rows at such bases: the words of its other rows are unchanged
 abbrev pub KeepsOthers : (ℕ → Type 0) → Caller → Caller → Type 0
 KeepsOthers At old new =
-    (h : HeldRow) → h.caller ≡ old.number → Among h (now old.seat.view).held → ¬ (At h.base)
-    → (k : ℕ) → k < h.size → own_at new.seat.view.own (h.base + k) ≡ own_at old.seat.view.own (h.base + k)
+    (h : HeldRow) → h.caller ≡ old.number → Among h (now old.token.view).held → ¬ (At h.base)
+    → (k : ℕ) → k < h.size → own_at new.token.view.own (h.base + k) ≡ own_at old.token.view.own (h.base + k)

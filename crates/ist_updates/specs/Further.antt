@@ -8,7 +8,7 @@ use Rattle.ist_core.specs.declared.states.ChangeRow.{ChangeRow}
 use Rattle.ist_rule.specs.declared.view.View.{View}
 use Rattle.ist_rule.specs.Learning.{now}
 use Rattle.ist_rule.specs.Rule.{IsSound}
-use Rattle.laws_progress.specs.Progress.{progress}
+use Rattle.laws_stability.specs.Progress.{progress}
 use Rattle.laws_coming.specs.Further.{CameFurther}
 
 -- the second view is of the same table, and its log goes on from the first view's

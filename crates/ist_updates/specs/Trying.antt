@@ -11,7 +11,7 @@ use Rattle.ist_rule.specs.Going.{WentOn}
 use Rattle.ist_rule.specs.Learning.{now}
 use Rattle.laws_histories.specs.Searching.{Searched}
 use Rattle.ist_find.specs.Searches.{Came, Names}
-use Rattle.laws_walks.specs.Counting.{IsOneUpdate}
+use Rattle.laws_calls.specs.Counting.{IsOneUpdate}
 use Rattle.ist_updates.specs.Asking.{Updates}
 
 -- the event is a step of an update other than a Count

@@ -27,8 +27,8 @@ use Rattle.ist_rule.specs.Going.{SearchedOn, WentOn}
 use Rattle.ist_rule.specs.Standings.{HasMade}
 use Rattle.ist_rule.specs.Watching.{number_of}
 use Rattle.ist_rows.specs.declared.callers.Caller.{Caller}
-use Rattle.laws_walks.specs.Walking.{ComesBy}
-use Rattle.laws_walks.specs.Counting.{IsOneUpdate, CountsFrom}
+use Rattle.laws_calls.specs.Walking.{ComesBy}
+use Rattle.laws_calls.specs.Counting.{IsOneUpdate, CountsFrom}
 use Rattle.ist_find.specs.Searches.{HasCome}
 use Rattle.ist_updates.specs.declared.updates.Applied.{Applied}
 use Rattle.ist_updates.specs.declared.updates.Due.{Due}
@@ -128,12 +128,12 @@ pub record HasTriedSince (first v : View) (caller : ℕ) : Type 0 where
 
 -- the caller made only tries, of which none took effect
 pub record IsAskedStill (old new : Caller) (command : Command) : Type 0 where
-  pub went : WentOn Tries old.seat.view new.seat.view
+  pub went : WentOn Tries old.token.view new.token.view
   pub asked : IsAsked new command
 
 -- the same over any number of walks, each from the anchor
 pub record IsAskedAgain (old new : Caller) (command : Command) : Type 0 where
-  pub went : SearchedOn Tries old.seat.view new.seat.view
+  pub went : SearchedOn Tries old.token.view new.token.view
   pub asked : IsAsked new command
 
 -- there is nothing to remove: the search, which began when the first view's did, found no value
@@ -145,16 +145,16 @@ pub record IsNotThere (v w : View) (key : ℕ) (value : Option ℕ) : Type 0 whe
 -- what each result of the walk from the node on means
 abbrev pub HasWalked : Caller → ℕ → Option ℕ → ℕ → ℕ → Result Walked Full → Caller → Type 0
 HasWalked old key value node words (Ok (Took done)) new =
-    (first : View) (rows : List ℕ) → HasTriedSince first old.seat.view old.number
-    → HasCome old.seat.view key node rows
-    → HasCounted old.seat.view.start old.seat.view.words first.log new.seat.view.log old.number
+    (first : View) (rows : List ℕ) → HasTriedSince first old.token.view old.number
+    → HasCome old.token.view key node rows
+    → HasCounted old.token.view.start old.token.view.words first.log new.token.view.log old.number
     (command_for key value) rows done
 HasWalked old key value node words (Ok Nothing) new =
     IsAskedStill old new (command_for key value)
-    × IsNotThere old.seat.view new.seat.view key value
+    × IsNotThere old.token.view new.token.view key value
 HasWalked old key value node words (Ok Again) new = IsAskedStill old new (command_for key value)
 HasWalked old key value node words (Ok Unmet) new = IsAskedStill old new (command_for key value)
 HasWalked old key value node words (Err full) new =
     IsAskedStill old new (command_for key value)
-    × ((first : View) → BeganSince first old.seat.view
-    → IsUpdateRefused first key value words full new.seat.view)
+    × ((first : View) → BeganSince first old.token.view
+    → IsUpdateRefused first key value words full new.token.view)

@@ -39,28 +39,28 @@ pub fn apply(
     key: u64,
     value: Option<u64>,
 ) -> Result<Applied, Full>
-    requires same_table { who.old.seat.table ≡ table.now.table }
+    requires same_table { who.old.token.table ≡ table.now.table }
     requires asked { IsAsked who.old (command_for key value) }
-    ensures same_table { who.new.seat.table ≡ table.now.table }
+    ensures same_table { who.new.token.table ≡ table.now.table }
     ensures caller { IsCaller who.new }
     ensures number { who.new.number ≡ who.old.number }
     ensures refused { HasRefused who.new }
     ensures quiet { IsQuiet who.new }
-    ensures went { SearchedOn Updates who.old.seat.view who.new.seat.view }
-    ensures few_walks { HasWalkedFew who.old.seat.view who.new.seat.view }
+    ensures went { SearchedOn Updates who.old.token.view who.new.token.view }
+    ensures few_walks { HasWalkedFew who.old.token.view who.new.token.view }
     ensures answered { IfOk result (λ done. MayEnd who.new (command_for key value) done.reply) }
-    ensures counted { let v = who.old.seat.view in let command = command_for key value in
+    ensures counted { let v = who.old.token.view in let command = command_for key value in
         IfOk result (λ done. makes_entry command done.reply ≡ true
-        → IsCounted v.start v.words v.log who.new.seat.view.log who.old.number command) }
+        → IsCounted v.start v.words v.log who.new.token.view.log who.old.number command) }
     ensures due { IfOk result (λ done.
-        LeavesDue who.old.seat.view who.new.seat.view who.old.number done.due) }
-    ensures full { IfErr result (λ full. WasRefused who.old.seat.view key value
-        (word_count_of table.now) full who.new.seat.view) }
-    ensures given_up { IfErr result (λ full. CanGiveUp who.new.seat.view) }
+        LeavesDue who.old.token.view who.new.token.view who.old.number done.due) }
+    ensures full { IfErr result (λ full. WasRefused who.old.token.view key value
+        (word_count_of table.now) full who.new.token.view) }
+    ensures given_up { IfErr result (λ full. CanGiveUp who.new.token.view) }
     ensures none_due { OnErr result
-        (LeavesDue who.old.seat.view who.new.seat.view who.old.number None) }
+        (LeavesDue who.old.token.view who.new.token.view who.old.number None) }
     ensures uncounted { OnErr result
-        (CountedNowhere who.old.seat.view.log who.new.seat.view.log who.old.number) }
+        (CountedNowhere who.old.token.view.log who.new.token.view.log who.old.number) }
 {
     match apply_when(table, who, key, value, When::Always)? {
         Some(done) => Ok(done),
@@ -82,36 +82,36 @@ pub fn apply_when(
     value: Option<u64>,
     when: When,
 ) -> Result<Option<Applied>, Full>
-    requires same_table { who.old.seat.table ≡ table.now.table }
+    requires same_table { who.old.token.table ≡ table.now.table }
     requires asked { IsAsked who.old (command_for key value) }
-    ensures same_table { who.new.seat.table ≡ table.now.table }
+    ensures same_table { who.new.token.table ≡ table.now.table }
     ensures caller { IsCaller who.new }
     ensures number { who.new.number ≡ who.old.number }
     ensures refused { HasRefused who.new }
     ensures quiet { IsQuiet who.new }
-    ensures went { SearchedOn Updates who.old.seat.view who.new.seat.view }
-    ensures few_walks { HasWalkedFew who.old.seat.view who.new.seat.view }
+    ensures went { SearchedOn Updates who.old.token.view who.new.token.view }
+    ensures few_walks { HasWalkedFew who.old.token.view who.new.token.view }
     ensures answered { IfOk result (λ o. IfSome o (λ done.
         MayEnd who.new (command_for key value) done.reply)) }
-    ensures counted { let v = who.old.seat.view in let command = command_for key value in
+    ensures counted { let v = who.old.token.view in let command = command_for key value in
         IfOk result (λ o. IfSome o (λ done. makes_entry command done.reply ≡ true
-        → IsCounted v.start v.words v.log who.new.seat.view.log who.old.number command)) }
+        → IsCounted v.start v.words v.log who.new.token.view.log who.old.number command)) }
     ensures due { IfOk result (λ o. IfSome o (λ done.
-        LeavesDue who.old.seat.view who.new.seat.view who.old.number done.due)) }
+        LeavesDue who.old.token.view who.new.token.view who.old.number done.due)) }
     ensures met { IfOk result (λ o. IfSome o (λ done. IsMetBy when done.reply)) }
-    ensures missed { result ≡ Ok None → WasMissed who.old.seat.view who.new.seat.view key when }
-    ensures unmet { result ≡ Ok None → CanGiveUp who.new.seat.view }
+    ensures missed { result ≡ Ok None → WasMissed who.old.token.view who.new.token.view key when }
+    ensures unmet { result ≡ Ok None → CanGiveUp who.new.token.view }
     ensures none_came { result ≡ Ok None
-        → LeavesDue who.old.seat.view who.new.seat.view who.old.number None }
+        → LeavesDue who.old.token.view who.new.token.view who.old.number None }
     ensures none_counted { result ≡ Ok None
-        → CountedNowhere who.old.seat.view.log who.new.seat.view.log who.old.number }
-    ensures full { IfErr result (λ full. WasRefused who.old.seat.view key value
-        (word_count_of table.now) full who.new.seat.view) }
-    ensures given_up { IfErr result (λ full. CanGiveUp who.new.seat.view) }
+        → CountedNowhere who.old.token.view.log who.new.token.view.log who.old.number }
+    ensures full { IfErr result (λ full. WasRefused who.old.token.view key value
+        (word_count_of table.now) full who.new.token.view) }
+    ensures given_up { IfErr result (λ full. CanGiveUp who.new.token.view) }
     ensures none_due { OnErr result
-        (LeavesDue who.old.seat.view who.new.seat.view who.old.number None) }
+        (LeavesDue who.old.token.view who.new.token.view who.old.number None) }
     ensures uncounted { OnErr result
-        (CountedNowhere who.old.seat.view.log who.new.seat.view.log who.old.number) }
+        (CountedNowhere who.old.token.view.log who.new.token.view.log who.old.number) }
 {
     match walk_to_end(table, who, key, value, when)? {
         Walked::Took(done) => Ok(Some(done)),
@@ -133,9 +133,9 @@ fn walk_to_end(
     value: Option<u64>,
     when: When,
 ) -> Result<Walked, Full>
-    requires same_table { who.old.seat.table ≡ table.now.table }
+    requires same_table { who.old.token.table ≡ table.now.table }
     requires asked { IsAsked who.old (command_for key value) }
-    ensures same_table { who.new.seat.table ≡ table.now.table }
+    ensures same_table { who.new.token.table ≡ table.now.table }
     ensures caller { IsCaller who.new }
     ensures number { who.new.number ≡ who.old.number }
     ensures refused { HasRefused who.new }
@@ -143,9 +143,9 @@ fn walk_to_end(
     ensures met { IfOk result (IsWalkMet when) }
     ensures ended { HasEnded who.old key value when (word_count_of table.now) result who.new }
 {
-    know(&who.seat);
+    know(&who.token);
     'turns: loop {
-        begin_search(table, &mut who.seat);
+        begin_search(table, &mut who.token);
         match descend(table, who, key, value, when, ANCHOR)? {
             Walked::Again => {}
             ended => return Ok(ended),

@@ -38,23 +38,23 @@ use ist_rule::{TreeTable, know};
 
 // The row of this kind that the caller holds, or a fresh one.
 fn take(table: &TreeTable, who: &mut Caller, kind: Kind) -> Result<u32, Full>
-    requires same_table { who.old.seat.table ≡ table.now.table }
+    requires same_table { who.old.token.table ≡ table.now.table }
     requires caller { IsCaller who.old }
     requires refused { HasRefused who.old }
-    ensures same_table { who.new.seat.table ≡ table.now.table }
+    ensures same_table { who.new.token.table ≡ table.now.table }
     ensures gone { HasGone Prepares who.old who.new }
     ensures held { IfOk result (λ base. row_of kind (spares_of who.new) ≡ Some base) }
     ensures rows { IfOk result (λ base.
         spares_of who.new ≡ with_row kind base (spares_of who.old)) }
     ensures high { IfOk result (λ base. (row_of kind (spares_of who.old) ≡ Some base)
-        ⊎ ((now who.old.seat.view).next ≤ base)) }
-    ensures full { let v = who.old.seat.view in IfErr result (λ full. (full.asked ≡ kind_words kind)
-        × RanShort (WentOn Prepares) v (word_count_of table.now) full who.new.seat.view) }
+        ⊎ ((now who.old.token.view).next ≤ base)) }
+    ensures full { let v = who.old.token.view in IfErr result (λ full. (full.asked ≡ kind_words kind)
+        × RanShort (WentOn Prepares) v (word_count_of table.now) full who.new.token.view) }
 {
-    know(&who.seat);
+    know(&who.token);
     // Reserve, if the caller holds none. Meets another caller's.
     let taken = reserve(table, who, kind);
-    know(&who.seat);
+    know(&who.token);
     taken
 }
 
@@ -71,16 +71,16 @@ fn is_below(pair: Option<u32>, node: u32) -> bool
 
 // Gives up the pair row that the caller holds, if it lies below the node.
 fn drop_below(table: &TreeTable, who: &mut Caller, node: u32)
-    requires same_table { who.old.seat.table ≡ table.now.table }
+    requires same_table { who.old.token.table ≡ table.now.table }
     requires caller { IsCaller who.old }
     requires refused { HasRefused who.old }
-    requires node { IsNode (now who.old.seat.view) node }
-    ensures same_table { who.new.seat.table ≡ table.now.table }
+    requires node { IsNode (now who.old.token.view) node }
+    ensures same_table { who.new.token.table ≡ table.now.table }
     ensures gone { HasGone Prepares who.old who.new }
     ensures others { (who.new.leaf ≡ who.old.leaf) × (who.new.change ≡ who.old.change) }
     ensures above { (base : ℕ) → who.new.pair ≡ Some base → node < base }
 {
-    know(&who.seat);
+    know(&who.token);
     if !is_below(who.pair, node) {
         return;
     }
@@ -90,21 +90,21 @@ fn drop_below(table: &TreeTable, who: &mut Caller, node: u32)
 
 // A pair row above the node: the one that the caller holds, or a fresh one.
 fn take_pair(table: &TreeTable, who: &mut Caller, node: u32) -> Result<u32, Full>
-    requires same_table { who.old.seat.table ≡ table.now.table }
+    requires same_table { who.old.token.table ≡ table.now.table }
     requires caller { IsCaller who.old }
     requires refused { HasRefused who.old }
-    requires node { IsNode (now who.old.seat.view) node }
-    ensures same_table { who.new.seat.table ≡ table.now.table }
+    requires node { IsNode (now who.old.token.view) node }
+    ensures same_table { who.new.token.table ≡ table.now.table }
     ensures gone { HasGone Prepares who.old who.new }
     ensures held { IfOk result (λ base. who.new.pair ≡ Some base) }
     ensures others { IfOk result (λ base.
         (who.new.leaf ≡ who.old.leaf) × (who.new.change ≡ who.old.change)) }
     ensures above { IfOk result (λ base. node < base) }
-    ensures full { let v = who.old.seat.view in IfErr result (λ full.
+    ensures full { let v = who.old.token.view in IfErr result (λ full.
         (full.asked ≡ kind_words kind.Pair)
-        × RanShort (WentOn Prepares) v (word_count_of table.now) full who.new.seat.view) }
+        × RanShort (WentOn Prepares) v (word_count_of table.now) full who.new.token.view) }
 {
-    know(&who.seat);
+    know(&who.token);
     drop_below(table, who, node);
     let base = take(table, who, Kind::Pair)?;
     Ok(base)
@@ -131,21 +131,21 @@ fn change_for(aim: Aim, kind: u64, value: u64, to: u64, owner: u32) -> ChangeRow
 
 // A plan to put a leaf into a slot that is empty or holds a leaf of the key.
 fn plan_leaf(table: &TreeTable, who: &mut Caller, aim: Aim, value: u64) -> Result<Plan, Full>
-    requires same_table { who.old.seat.table ≡ table.now.table }
+    requires same_table { who.old.token.table ≡ table.now.table }
     requires caller { IsCaller who.old }
     requires refused { HasRefused who.old }
-    requires at_slot { WasAtSlot who.old.seat.view aim }
-    requires room { IsWay who.old.seat.view aim.key aim.word (way.Leaf value) }
-    ensures same_table { who.new.seat.table ≡ table.now.table }
+    requires at_slot { WasAtSlot who.old.token.view aim }
+    requires room { IsWay who.old.token.view aim.key aim.word (way.Leaf value) }
+    ensures same_table { who.new.token.table ≡ table.now.table }
     ensures gone { HasGone Prepares who.old who.new }
     ensures planned { IfOk result (λ plan. IsPlanned who.new aim (way.Leaf value) plan) }
-    ensures full { IfErr result (λ full. IsWayRefused who.old.seat.view (way.Leaf value)
-        (word_count_of table.now) full who.new.seat.view) }
+    ensures full { IfErr result (λ full. IsWayRefused who.old.token.view (way.Leaf value)
+        (word_count_of table.now) full who.new.token.view) }
 {
-    know(&who.seat);
+    know(&who.token);
     let leaf = take(table, who, Kind::Leaf)?;
     let base = take(table, who, Kind::Change)?;
-    know(&who.seat);
+    know(&who.token);
     let to = Ref::Leaf { base: leaf }.to_word();
     let row = change_for(aim, PUT_KIND, value, to, who.number);
     let fresh = Fresh::Leaf { base: leaf };
@@ -161,24 +161,24 @@ fn plan_pair(
     other: u32,
     other_key: u64,
 ) -> Result<Plan, Full>
-    requires same_table { who.old.seat.table ≡ table.now.table }
+    requires same_table { who.old.token.table ≡ table.now.table }
     requires caller { IsCaller who.old }
     requires refused { HasRefused who.old }
-    requires at_slot { WasAtSlot who.old.seat.view aim }
-    requires room { IsWay who.old.seat.view aim.key aim.word (way.Pair value other other_key) }
-    ensures same_table { who.new.seat.table ≡ table.now.table }
+    requires at_slot { WasAtSlot who.old.token.view aim }
+    requires room { IsWay who.old.token.view aim.key aim.word (way.Pair value other other_key) }
+    ensures same_table { who.new.token.table ≡ table.now.table }
     ensures gone { HasGone Prepares who.old who.new }
     ensures planned { IfOk result (λ plan.
         IsPlanned who.new aim (way.Pair value other other_key) plan) }
     ensures full { let w = way.Pair value other other_key in IfErr result (λ full.
-        IsWayRefused who.old.seat.view w (word_count_of table.now) full who.new.seat.view) }
+        IsWayRefused who.old.token.view w (word_count_of table.now) full who.new.token.view) }
 {
-    know(&who.seat);
+    know(&who.token);
     let leaf = take(table, who, Kind::Leaf)?;
-    know(&who.seat);
+    know(&who.token);
     let pair = take_pair(table, who, aim.node)?;
     let base = take(table, who, Kind::Change)?;
-    know(&who.seat);
+    know(&who.token);
     let to = Ref::Inner { base: pair }.to_word();
     let row = change_for(aim, PUT_KIND, value, to, who.number);
     let fresh = Fresh::Pair {
@@ -192,20 +192,20 @@ fn plan_pair(
 
 // A plan to remove the leaf of the key.
 fn plan_clear(table: &TreeTable, who: &mut Caller, aim: Aim) -> Result<Plan, Full>
-    requires same_table { who.old.seat.table ≡ table.now.table }
+    requires same_table { who.old.token.table ≡ table.now.table }
     requires caller { IsCaller who.old }
     requires refused { HasRefused who.old }
-    requires at_slot { WasAtSlot who.old.seat.view aim }
-    requires room { IsWay who.old.seat.view aim.key aim.word way.Clear }
-    ensures same_table { who.new.seat.table ≡ table.now.table }
+    requires at_slot { WasAtSlot who.old.token.view aim }
+    requires room { IsWay who.old.token.view aim.key aim.word way.Clear }
+    ensures same_table { who.new.token.table ≡ table.now.table }
     ensures gone { HasGone Prepares who.old who.new }
     ensures planned { IfOk result (λ plan. IsPlanned who.new aim way.Clear plan) }
-    ensures full { IfErr result (λ full. IsWayRefused who.old.seat.view way.Clear
-        (word_count_of table.now) full who.new.seat.view) }
+    ensures full { IfErr result (λ full. IsWayRefused who.old.token.view way.Clear
+        (word_count_of table.now) full who.new.token.view) }
 {
-    know(&who.seat);
+    know(&who.token);
     let base = take(table, who, Kind::Change)?;
-    know(&who.seat);
+    know(&who.token);
     let row = change_for(aim, REMOVE_KIND, 0, EMPTY_WORD, who.number);
     let fresh = Fresh::Nothing;
     Ok(Plan { base, row, fresh })
@@ -213,16 +213,16 @@ fn plan_clear(table: &TreeTable, who: &mut Caller, aim: Aim) -> Result<Plan, Ful
 
 // Reserves the rows that the change needs, and plans how they will be filled.
 fn plan_for(table: &TreeTable, who: &mut Caller, aim: Aim, way: Way) -> Result<Plan, Full>
-    requires same_table { who.old.seat.table ≡ table.now.table }
+    requires same_table { who.old.token.table ≡ table.now.table }
     requires caller { IsCaller who.old }
     requires refused { HasRefused who.old }
-    requires at_slot { WasAtSlot who.old.seat.view aim }
-    requires room { IsWay who.old.seat.view aim.key aim.word way }
-    ensures same_table { who.new.seat.table ≡ table.now.table }
+    requires at_slot { WasAtSlot who.old.token.view aim }
+    requires room { IsWay who.old.token.view aim.key aim.word way }
+    ensures same_table { who.new.token.table ≡ table.now.table }
     ensures gone { HasGone Prepares who.old who.new }
     ensures planned { IfOk result (λ plan. IsPlanned who.new aim way plan) }
-    ensures full { IfErr result (λ full. IsWayRefused who.old.seat.view way
-        (word_count_of table.now) full who.new.seat.view) }
+    ensures full { IfErr result (λ full. IsWayRefused who.old.token.view way
+        (word_count_of table.now) full who.new.token.view) }
 {
     match way {
         Way::Leaf { value } => plan_leaf(table, who, aim, value),
@@ -239,7 +239,7 @@ fn plan_for(table: &TreeTable, who: &mut Caller, aim: Aim, way: Way) -> Result<P
 
 // Takes the rows of the plan from those that the caller holds.
 fn give_away(who: &mut Caller, fresh: Fresh)
-    ensures same { (who.new.seat ≡ who.old.seat) × (who.new.number ≡ who.old.number) }
+    ensures same { (who.new.token ≡ who.old.token) × (who.new.number ≡ who.old.number) }
     ensures rows { let kinds = kind.Change ∷ kinds_of fresh in
         spares_of who.new ≡ without_rows kinds (spares_of who.old) }
 {
@@ -262,24 +262,24 @@ fn give_away(who: &mut Caller, fresh: Fresh)
 // Installs the change of the plan. If this succeeds, the caller no longer holds the rows.
 fn install_plan(table: &TreeTable, who: &mut Caller, plan: Plan) -> bool
     ghost filling: { Filling }
-    requires same_table { who.old.seat.table ≡ table.now.table }
+    requires same_table { who.old.token.table ≡ table.now.table }
     requires caller { IsCaller who.old }
     requires refused { HasRefused who.old }
     requires rows { HasRows who.old plan }
-    requires may_install { IsInstallable who.old.seat.view plan.base filling }
+    requires may_install { IsInstallable who.old.token.view plan.base filling }
     requires filled { filling ≡ filling_of plan }
-    ensures same_table { who.new.seat.table ≡ table.now.table }
+    ensures same_table { who.new.token.table ≡ table.now.table }
     ensures caller { IsCaller who.new }
     ensures number { who.new.number ≡ who.old.number }
     ensures refused { HasRefused who.new }
     ensures yes { result ≡ true
-        → IsInstalled who.old.seat.view plan.base filling who.new.seat.view }
-    ensures no { result ≡ false → GoesOnTo who.old.seat.view who.new.seat.view }
-    ensures other { result ≡ false → HoldsElse (now who.new.seat.view) plan.row }
+        → IsInstalled who.old.token.view plan.base filling who.new.token.view }
+    ensures no { result ≡ false → GoesOnTo who.old.token.view who.new.token.view }
+    ensures other { result ≡ false → HoldsElse (now who.new.token.view) plan.row }
 {
     // Install, if the slot still holds the word. Meets another caller's, and what a helper left
     // there.
-    match install(table, &mut who.seat, plan.base) {
+    match install(table, &mut who.token, plan.base) {
         Installed::Yes => {
             give_away(who, plan.fresh);
             true
@@ -290,22 +290,22 @@ fn install_plan(table: &TreeTable, who: &mut Caller, plan: Plan) -> bool
 
 // Installs the change of the plan and helps it. Returns whether it took effect.
 fn carry_out(table: &TreeTable, who: &mut Caller, plan: Plan) -> bool
-    requires same_table { who.old.seat.table ≡ table.now.table }
+    requires same_table { who.old.token.table ≡ table.now.table }
     requires caller { IsCaller who.old }
     requires refused { HasRefused who.old }
     requires rows { HasRows who.old plan }
     requires update { IsUpdate plan.row.kind }
-    requires may_install { IsInstallable who.old.seat.view plan.base (filling_of plan) }
-    ensures same_table { who.new.seat.table ≡ table.now.table }
+    requires may_install { IsInstallable who.old.token.view plan.base (filling_of plan) }
+    ensures same_table { who.new.token.table ≡ table.now.table }
     ensures carried { HasCarried who.old plan result who.new }
 {
-    know(&who.seat);
+    know(&who.token);
     if !install_plan(table, who, plan) {
         return false;
     }
-    know(&who.seat);
+    know(&who.token);
     // Okay, Decide and Resolve. Meets another helper's, and a mark of the node.
-    match help(table, &mut who.seat, plan.base) {
+    match help(table, &mut who.token, plan.base) {
         Decision::Yes => true,
         Decision::No => false,
     }
@@ -320,16 +320,16 @@ pub(crate) fn change_slot(
     aim: Aim,
     way: Way,
 ) -> Result<bool, Full>
-    requires same_table { who.old.seat.table ≡ table.now.table }
+    requires same_table { who.old.token.table ≡ table.now.table }
     requires asked { IsAsked who.old (command_by aim.key way) }
-    requires at_slot { WasAtSlot who.old.seat.view aim }
-    requires room { IsWay who.old.seat.view aim.key aim.word way }
-    ensures same_table { who.new.seat.table ≡ table.now.table }
+    requires at_slot { WasAtSlot who.old.token.view aim }
+    requires room { IsWay who.old.token.view aim.key aim.word way }
+    ensures same_table { who.new.token.table ≡ table.now.table }
     ensures changed { HasChanged who.old aim way (word_count_of table.now) result who.new }
 {
-    know(&who.seat);
+    know(&who.token);
     // A load. Meets a mark of the node.
-    if !is_open(table, &mut who.seat, aim.node) {
+    if !is_open(table, &mut who.token, aim.node) {
         return Ok(false);
     }
     change_open(table, who, aim, way)
@@ -337,17 +337,17 @@ pub(crate) fn change_slot(
 
 // The same if its node was open, and no change of the caller there was decided no.
 fn change_open(table: &TreeTable, who: &mut Caller, aim: Aim, way: Way) -> Result<bool, Full>
-    requires same_table { who.old.seat.table ≡ table.now.table }
+    requires same_table { who.old.token.table ≡ table.now.table }
     requires asked { IsAsked who.old (command_by aim.key way) }
-    requires at_slot { WasAtSlot who.old.seat.view aim }
-    requires room { IsWay who.old.seat.view aim.key aim.word way }
-    requires unrefused { IsUnrefused (now who.old.seat.view) who.old.number aim.node }
-    ensures same_table { who.new.seat.table ≡ table.now.table }
+    requires at_slot { WasAtSlot who.old.token.view aim }
+    requires room { IsWay who.old.token.view aim.key aim.word way }
+    requires unrefused { IsUnrefused (now who.old.token.view) who.old.number aim.node }
+    ensures same_table { who.new.token.table ≡ table.now.table }
     ensures changed { HasChanged who.old aim way (word_count_of table.now) result who.new }
 {
     let plan = plan_for(table, who, aim, way)?;
-    know(&who.seat);
+    know(&who.token);
     fill_rows(table, who, plan);
-    know(&who.seat);
+    know(&who.token);
     Ok(carry_out(table, who, plan))
 }

@@ -16,23 +16,23 @@ use crate::updates::{Applied, Due};
 use ist_layout::{INNER_COUNT_OFFSET, INNER_SIZE_OFFSET};
 use ist_math::limit;
 use ist_rows::Caller;
-use ist_rule::{TreeSeat, TreeTable, add, know, load};
+use ist_rule::{TreeTable, TreeToken, add, know, load};
 
 // Counts the caller's update at the row, and returns whether the count reached the row's limit by it.
-fn count_at(table: &TreeTable, seat: &mut TreeSeat, row: u32) -> bool
-    requires same_table { seat.old.table ≡ table.now.table }
-    requires may_count { MayCount seat.old.view row }
-    ensures same_table { seat.new.table ≡ seat.old.table }
-    ensures went { WentOn (IsCountAt (number_of seat.old.view.who) row) seat.old.view
-        seat.new.view }
-    ensures counted { let v = seat.old.view in HasCountedAt v.start v.words v.log
-        (number_of v.who) row result seat.new.view.log }
+fn count_at(table: &TreeTable, token: &mut TreeToken, row: u32) -> bool
+    requires same_table { token.old.table ≡ table.now.table }
+    requires may_count { MayCount token.old.view row }
+    ensures same_table { token.new.table ≡ token.old.table }
+    ensures went { WentOn (IsCountAt (number_of token.old.view.who) row) token.old.view
+        token.new.view }
+    ensures counted { let v = token.old.view in HasCountedAt v.start v.words v.log
+        (number_of v.who) row result token.new.view.log }
 {
-    know(seat);
+    know(token);
     let place = u64::from(row) + INNER_COUNT_OFFSET;
     // Count. Meets the Counts of other callers at the row.
-    let found = add(table, seat, place);
-    let size = load(table, seat, u64::from(row) + INNER_SIZE_OFFSET);
+    let found = add(table, token, place);
+    let size = load(table, token, u64::from(row) + INNER_SIZE_OFFSET);
     found + 1 >= limit(size)
 }
 
@@ -46,24 +46,24 @@ pub(crate) fn count_update(
     row: u32,
     below: Applied,
 ) -> Applied
-    requires same_table { who.old.seat.table ≡ table.now.table }
+    requires same_table { who.old.token.table ≡ table.now.table }
     requires caller { IsCaller who.old }
     requires refused { HasRefused who.old }
     requires quiet { IsQuiet who.old }
-    requires can { let v = who.old.seat.view in
+    requires can { let v = who.old.token.view in
         CanCount (start v.start v.words) v.log who.old.number row }
-    requires stood { let v = who.old.seat.view in
+    requires stood { let v = who.old.token.view in
         HasStood v.start v.words v.log parent index row }
-    ensures same_table { who.new.seat.table ≡ table.now.table }
+    ensures same_table { who.new.token.table ≡ table.now.table }
     ensures on { StaysReady Updates who.old who.new }
-    ensures counted { let v = who.old.seat.view in
+    ensures counted { let v = who.old.token.view in
         (earlier : Log) (command : Command) (rows : List ℕ)
         → HasCounted v.start v.words earlier v.log who.old.number command (rows ++ row ∷ []) below
-        → HasCounted v.start v.words earlier who.new.seat.view.log who.old.number command rows
+        → HasCounted v.start v.words earlier who.new.token.view.log who.old.number command rows
         result }
     ensures reply { result.reply ≡ below.reply }
 {
-    if count_at(table, &mut who.seat, row) {
+    if count_at(table, &mut who.token, row) {
         return Applied {
             reply: below.reply,
             due: Some(Due {

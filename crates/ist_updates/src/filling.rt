@@ -20,16 +20,16 @@ use ist_rule::{TreeTable, know};
 
 // Fills the row of a leaf, which no other caller knows yet.
 fn fill_leaf(table: &TreeTable, who: &mut Caller, base: u32, row: ChangeRow)
-    requires same_table { who.old.seat.table ≡ table.now.table }
+    requires same_table { who.old.token.table ≡ table.now.table }
     requires caller { IsCaller who.old }
     requires row { who.old.leaf ≡ Some base }
-    ensures same_table { who.new.seat.table ≡ table.now.table }
+    ensures same_table { who.new.token.table ≡ table.now.table }
     ensures caller { IsCaller who.new }
-    ensures same { who.new ≡ with_own who.old who.new.seat.view.own }
-    ensures stands { StandAt who.new.seat.view.own base (words_of (new_leaf row)) }
+    ensures same { who.new ≡ with_own who.old who.new.token.view.own }
+    ensures stands { StandAt who.new.token.view.own base (words_of (new_leaf row)) }
     ensures others { KeepsOthers (λ at. at ≡ base) who.old who.new }
 {
-    know(&who.seat);
+    know(&who.token);
     fill_row(table, who, Kind::Leaf, base, &[row.key, row.value]);
 }
 
@@ -43,19 +43,19 @@ fn fill_pair(
     other_key: u64,
     other: u32,
 )
-    requires same_table { who.old.seat.table ≡ table.now.table }
+    requires same_table { who.old.token.table ≡ table.now.table }
     requires caller { IsCaller who.old }
     requires row { who.old.pair ≡ Some base }
     requires leaf_good { IsGoodBase leaf }
     requires other_good { IsGoodBase other }
-    ensures same_table { who.new.seat.table ≡ table.now.table }
+    ensures same_table { who.new.token.table ≡ table.now.table }
     ensures caller { IsCaller who.new }
-    ensures same { who.new ≡ with_own who.old who.new.seat.view.own }
+    ensures same { who.new ≡ with_own who.old who.new.token.view.own }
     ensures stands { let words = words_of (pair_row key leaf other_key other) in
-        StandAt who.new.seat.view.own base words }
+        StandAt who.new.token.view.own base words }
     ensures others { KeepsOthers (λ at. at ≡ base) who.old who.new }
 {
-    know(&who.seat);
+    know(&who.token);
     let this = Ref::Leaf { base: leaf }.to_word();
     let that = Ref::Leaf { base: other }.to_word();
     if other_key < key {
@@ -79,16 +79,16 @@ fn fill_pair(
 
 // Fills the row of the change.
 fn fill_change(table: &TreeTable, who: &mut Caller, base: u32, row: ChangeRow)
-    requires same_table { who.old.seat.table ≡ table.now.table }
+    requires same_table { who.old.token.table ≡ table.now.table }
     requires caller { IsCaller who.old }
     requires row { who.old.change ≡ Some base }
-    ensures same_table { who.new.seat.table ≡ table.now.table }
+    ensures same_table { who.new.token.table ≡ table.now.table }
     ensures caller { IsCaller who.new }
-    ensures same { who.new ≡ with_own who.old who.new.seat.view.own }
-    ensures stands { StandAt who.new.seat.view.own base (words_of (Change row)) }
+    ensures same { who.new ≡ with_own who.old who.new.token.view.own }
+    ensures stands { StandAt who.new.token.view.own base (words_of (Change row)) }
     ensures others { KeepsOthers (λ at. at ≡ base) who.old who.new }
 {
-    know(&who.seat);
+    know(&who.token);
     let words = [
         row.decision,
         row.kind,
@@ -105,17 +105,17 @@ fn fill_change(table: &TreeTable, who: &mut Caller, base: u32, row: ChangeRow)
 
 // Fills the rows that are published with the change.
 fn fill_fresh(table: &TreeTable, who: &mut Caller, row: ChangeRow, fresh: Fresh)
-    requires same_table { who.old.seat.table ≡ table.now.table }
+    requires same_table { who.old.token.table ≡ table.now.table }
     requires caller { IsCaller who.old }
     requires rows { let bases = bases_of (fresh_rows row fresh) in
         AreBasesOf (kinds_of fresh) (spares_of who.old) bases }
     requires good { AreGood fresh }
-    ensures same_table { who.new.seat.table ≡ table.now.table }
+    ensures same_table { who.new.token.table ≡ table.now.table }
     ensures caller { IsCaller who.new }
-    ensures same { who.new ≡ with_own who.old who.new.seat.view.own }
-    ensures stored { StoredAll who.new.seat.view (fresh_rows row fresh) }
+    ensures same { who.new ≡ with_own who.old who.new.token.view.own }
+    ensures stored { StoredAll who.new.token.view (fresh_rows row fresh) }
 {
-    know(&who.seat);
+    know(&who.token);
     match fresh {
         Fresh::Nothing => {}
         Fresh::Leaf { base } => fill_leaf(table, who, base, row),
@@ -133,16 +133,16 @@ fn fill_fresh(table: &TreeTable, who: &mut Caller, row: ChangeRow, fresh: Fresh)
 
 /// Fills every word of every row of the plan, which the caller holds.
 pub(crate) fn fill_rows(table: &TreeTable, who: &mut Caller, plan: Plan)
-    requires same_table { who.old.seat.table ≡ table.now.table }
+    requires same_table { who.old.token.table ≡ table.now.table }
     requires caller { IsCaller who.old }
     requires rows { HasRows who.old plan }
     requires good { AreGood plan.fresh }
-    ensures same_table { who.new.seat.table ≡ table.now.table }
+    ensures same_table { who.new.token.table ≡ table.now.table }
     ensures caller { IsCaller who.new }
-    ensures same { who.new ≡ with_own who.old who.new.seat.view.own }
-    ensures stored { StoredAll who.new.seat.view (rows_of (filling_of plan) plan.base) }
+    ensures same { who.new ≡ with_own who.old who.new.token.view.own }
+    ensures stored { StoredAll who.new.token.view (rows_of (filling_of plan) plan.base) }
 {
-    know(&who.seat);
+    know(&who.token);
     fill_fresh(table, who, plan.row, plan.fresh);
     fill_change(table, who, plan.base, plan.row);
 }

@@ -28,7 +28,7 @@ use ist_find::Child;
 use ist_layout::{LEAF_KEY_OFFSET, LEAF_VALUE_OFFSET, Ref};
 use ist_rebuild::help_rebuild;
 use ist_rows::Caller;
-use ist_rule::{TreeSeat, TreeTable, know, load};
+use ist_rule::{TreeTable, TreeToken, know, load};
 
 // What a try returns if its change was decided so.
 fn answer(taken: bool, reply: Reply) -> Tried
@@ -66,17 +66,17 @@ fn had_in(leaf: LeafRow, key: u64) -> Reply
 }
 
 // The leaf at the base.
-fn read_leaf(table: &TreeTable, seat: &mut TreeSeat, base: u32) -> LeafRow
-    requires same_table { seat.old.table ≡ table.now.table }
-    requires leaf { SeesLeaf seat.old.view base }
-    ensures same_table { seat.new.table ≡ seat.old.table }
-    ensures seen { GoesOnTo seat.old.view seat.new.view }
-    ensures published { (now seat.new.view).pieces base ≡ Some (Leaf result) }
+fn read_leaf(table: &TreeTable, token: &mut TreeToken, base: u32) -> LeafRow
+    requires same_table { token.old.table ≡ table.now.table }
+    requires leaf { SeesLeaf token.old.view base }
+    ensures same_table { token.new.table ≡ token.old.table }
+    ensures seen { GoesOnTo token.old.view token.new.view }
+    ensures published { (now token.new.view).pieces base ≡ Some (Leaf result) }
 {
-    know(seat);
-    let key = load(table, seat, u64::from(base) + LEAF_KEY_OFFSET);
-    know(seat);
-    let value = load(table, seat, u64::from(base) + LEAF_VALUE_OFFSET);
+    know(token);
+    let key = load(table, token, u64::from(base) + LEAF_KEY_OFFSET);
+    know(token);
+    let value = load(table, token, u64::from(base) + LEAF_VALUE_OFFSET);
     LeafRow { key, value }
 }
 
@@ -88,17 +88,17 @@ fn try_empty(
     value: Option<u64>,
     when: When,
 ) -> Result<Tried, Full>
-    requires same_table { who.old.seat.table ≡ table.now.table }
+    requires same_table { who.old.token.table ≡ table.now.table }
     requires asked { IsAsked who.old (command_for aim.key value) }
-    requires at_slot { WasAtSlot who.old.seat.view aim }
+    requires at_slot { WasAtSlot who.old.token.view aim }
     requires empty { ref_of aim.word ≡ Some Empty }
-    ensures same_table { who.new.seat.table ≡ table.now.table }
+    ensures same_table { who.new.token.table ≡ table.now.table }
     ensures tried { HasTried who.old aim value (word_count_of table.now) result who.new }
     ensures met { IfOk result (IsMetAs when) }
     ensures missed { result ≡ Ok Unmet
-        → HasMissed who.old.seat.view who.new.seat.view aim.key when }
+        → HasMissed who.old.token.view who.new.token.view aim.key when }
 {
-    know(&who.seat);
+    know(&who.token);
     if !meets(when, None) {
         return Ok(Tried::Unmet);
     }
@@ -120,12 +120,12 @@ fn put_at(
     base: u32,
     leaf: LeafRow,
 ) -> Result<Tried, Full>
-    requires same_table { who.old.seat.table ≡ table.now.table }
+    requires same_table { who.old.token.table ≡ table.now.table }
     requires asked { IsAsked who.old (command_for aim.key (Some value)) }
-    requires at_slot { WasAtSlot who.old.seat.view aim }
+    requires at_slot { WasAtSlot who.old.token.view aim }
     requires leaf { ref_of aim.word ≡ Some (LeafAt base) }
-    requires stands { (now who.old.seat.view).pieces base ≡ Some (Leaf leaf) }
-    ensures same_table { who.new.seat.table ≡ table.now.table }
+    requires stands { (now who.old.token.view).pieces base ≡ Some (Leaf leaf) }
+    ensures same_table { who.new.token.table ≡ table.now.table }
     ensures tried { HasTried who.old aim (Some value) (word_count_of table.now) result who.new }
     ensures had { IfOk result (RepliesWith (value_in (Some (Leaf leaf)) aim.key)) }
 {
@@ -150,16 +150,16 @@ fn remove_at(
     base: u32,
     leaf: LeafRow,
 ) -> Result<Tried, Full>
-    requires same_table { who.old.seat.table ≡ table.now.table }
+    requires same_table { who.old.token.table ≡ table.now.table }
     requires asked { IsAsked who.old (command_for aim.key None) }
-    requires at_slot { WasAtSlot who.old.seat.view aim }
+    requires at_slot { WasAtSlot who.old.token.view aim }
     requires leaf { ref_of aim.word ≡ Some (LeafAt base) }
-    requires stands { (now who.old.seat.view).pieces base ≡ Some (Leaf leaf) }
-    ensures same_table { who.new.seat.table ≡ table.now.table }
+    requires stands { (now who.old.token.view).pieces base ≡ Some (Leaf leaf) }
+    ensures same_table { who.new.token.table ≡ table.now.table }
     ensures tried { HasTried who.old aim None (word_count_of table.now) result who.new }
     ensures had { IfOk result (RepliesWith (value_in (Some (Leaf leaf)) aim.key)) }
 {
-    know(&who.seat);
+    know(&who.token);
     if leaf.key != aim.key {
         return Ok(Tried::Nothing);
     }
@@ -177,18 +177,18 @@ fn try_read(
     base: u32,
     leaf: LeafRow,
 ) -> Result<Tried, Full>
-    requires same_table { who.old.seat.table ≡ table.now.table }
+    requires same_table { who.old.token.table ≡ table.now.table }
     requires asked { IsAsked who.old (command_for aim.key value) }
-    requires at_slot { WasAtSlot who.old.seat.view aim }
+    requires at_slot { WasAtSlot who.old.token.view aim }
     requires leaf { ref_of aim.word ≡ Some (LeafAt base) }
-    requires stands { (now who.old.seat.view).pieces base ≡ Some (Leaf leaf) }
-    ensures same_table { who.new.seat.table ≡ table.now.table }
+    requires stands { (now who.old.token.view).pieces base ≡ Some (Leaf leaf) }
+    ensures same_table { who.new.token.table ≡ table.now.table }
     ensures tried { HasTried who.old aim value (word_count_of table.now) result who.new }
     ensures met { IfOk result (IsMetAs when) }
     ensures missed { result ≡ Ok Unmet
-        → HasMissed who.old.seat.view who.new.seat.view aim.key when }
+        → HasMissed who.old.token.view who.new.token.view aim.key when }
 {
-    know(&who.seat);
+    know(&who.token);
     if !meets(when, had_in(leaf, aim.key)) {
         return Ok(Tried::Unmet);
     }
@@ -207,18 +207,18 @@ fn try_leaf(
     when: When,
     base: u32,
 ) -> Result<Tried, Full>
-    requires same_table { who.old.seat.table ≡ table.now.table }
+    requires same_table { who.old.token.table ≡ table.now.table }
     requires asked { IsAsked who.old (command_for aim.key value) }
-    requires at_slot { WasAtSlot who.old.seat.view aim }
+    requires at_slot { WasAtSlot who.old.token.view aim }
     requires leaf { ref_of aim.word ≡ Some (LeafAt base) }
-    ensures same_table { who.new.seat.table ≡ table.now.table }
+    ensures same_table { who.new.token.table ≡ table.now.table }
     ensures tried { HasTried who.old aim value (word_count_of table.now) result who.new }
     ensures met { IfOk result (IsMetAs when) }
     ensures missed { result ≡ Ok Unmet
-        → HasMissed who.old.seat.view who.new.seat.view aim.key when }
+        → HasMissed who.old.token.view who.new.token.view aim.key when }
 {
-    know(&who.seat);
-    let leaf = read_leaf(table, &mut who.seat, base);
+    know(&who.token);
+    let leaf = read_leaf(table, &mut who.token, base);
     try_read(table, who, aim, value, when, base, leaf)
 }
 
@@ -230,18 +230,18 @@ fn help_change(
     value: Option<u64>,
     base: u32,
 ) -> Tried
-    requires same_table { who.old.seat.table ≡ table.now.table }
+    requires same_table { who.old.token.table ≡ table.now.table }
     requires asked { IsAsked who.old (command_for aim.key value) }
-    requires at_slot { IsAtSlot who.old.seat.view aim.key aim.node aim.index aim.word }
+    requires at_slot { IsAtSlot who.old.token.view aim.key aim.node aim.index aim.word }
     requires change { ref_of aim.word ≡ Some (ChangeAt base) }
-    ensures same_table { who.new.seat.table ≡ table.now.table }
+    ensures same_table { who.new.token.table ≡ table.now.table }
     ensures again { result ≡ Again }
     ensures tried { let words = word_count_of table.now in
         HasTried who.old aim value words (Ok result) who.new }
 {
-    know(&who.seat);
+    know(&who.token);
     // Okay, Decide and Resolve. Meets another helper's, and a mark of the node.
-    help(table, &mut who.seat, base);
+    help(table, &mut who.token, base);
     Tried::Again
 }
 
@@ -253,16 +253,16 @@ fn help_target(
     value: Option<u64>,
     base: u32,
 ) -> Result<Tried, Full>
-    requires same_table { who.old.seat.table ≡ table.now.table }
+    requires same_table { who.old.token.table ≡ table.now.table }
     requires asked { IsAsked who.old (command_for aim.key value) }
-    requires at_slot { IsAtSlot who.old.seat.view aim.key aim.node aim.index aim.word }
+    requires at_slot { IsAtSlot who.old.token.view aim.key aim.node aim.index aim.word }
     requires rebuild { ref_of aim.word ≡ Some (RebuildAt base) }
-    ensures same_table { who.new.seat.table ≡ table.now.table }
+    ensures same_table { who.new.token.table ≡ table.now.table }
     ensures tried { HasTried who.old aim value (word_count_of table.now) result who.new }
     ensures met { (when : WhenOf) → IfOk result (IsMetAs when) }
     ensures unmissed { result ≢ Ok Unmet }
 {
-    know(&who.seat);
+    know(&who.token);
     // Only steps of its help, and of installs only the finish's. Meets other helpers of the rebuild.
     help_rebuild(table, who, base)?;
     Ok(Tried::Again)
@@ -276,16 +276,16 @@ fn try_word(
     value: Option<u64>,
     when: When,
 ) -> Result<Tried, Full>
-    requires same_table { who.old.seat.table ≡ table.now.table }
+    requires same_table { who.old.token.table ≡ table.now.table }
     requires asked { IsAsked who.old (command_for aim.key value) }
-    requires at_slot { IsAtSlot who.old.seat.view aim.key aim.node aim.index aim.word }
-    ensures same_table { who.new.seat.table ≡ table.now.table }
+    requires at_slot { IsAtSlot who.old.token.view aim.key aim.node aim.index aim.word }
+    ensures same_table { who.new.token.table ≡ table.now.table }
     ensures tried { HasTried who.old aim value (word_count_of table.now) result who.new }
     ensures met { IfOk result (IsMetAs when) }
     ensures missed { result ≡ Ok Unmet
-        → HasMissed who.old.seat.view who.new.seat.view aim.key when }
+        → HasMissed who.old.token.view who.new.token.view aim.key when }
 {
-    know(&who.seat);
+    know(&who.token);
     match Ref::from_word(aim.word) {
         Some(Ref::Empty) => try_empty(table, who, aim, value, when),
         Some(Ref::Leaf { base }) => try_leaf(table, who, aim, value, when, base),
@@ -311,29 +311,29 @@ pub(crate) fn try_slot(
     node: u32,
     child: Child,
 ) -> Result<Tried, Full>
-    requires same_table { who.old.seat.table ≡ table.now.table }
+    requires same_table { who.old.token.table ≡ table.now.table }
     requires asked { IsAsked who.old (command_for key value) }
-    requires at_slot { IsAtSlot who.old.seat.view key node child.index child.word }
-    ensures same_table { who.new.seat.table ≡ table.now.table }
+    requires at_slot { IsAtSlot who.old.token.view key node child.index child.word }
+    ensures same_table { who.new.token.table ≡ table.now.table }
     ensures on { StaysReady Tries who.old who.new }
-    ensures took { let v = who.old.seat.view in (reply : Option ℕ) → result ≡ Ok (Took reply)
-        → HasTakenEffect v who.new.seat.view who.old.number (command_for key value) node reply }
+    ensures took { let v = who.old.token.view in (reply : Option ℕ) → result ≡ Ok (Took reply)
+        → HasTakenEffect v who.new.token.view who.old.number (command_for key value) node reply }
     ensures nothing { result ≡ Ok Nothing
-        → (value ≡ None) × HasFoundNone who.new.seat.view key × IsAsked who.new (command_for key value) }
+        → (value ≡ None) × HasFoundNone who.new.token.view key × IsAsked who.new (command_for key value) }
     ensures since { result ≡ Ok Nothing
-        → who.new.seat.view.loads.since ≡ who.old.seat.view.loads.since }
+        → who.new.token.view.loads.since ≡ who.old.token.view.loads.since }
     ensures again { result ≡ Ok Again → IsAsked who.new (command_for key value) }
-    ensures further { result ≡ Ok Again → (first : View) → IsFreshNode first who.old.seat.view node
-        → CameFurther first who.new.seat.view }
+    ensures further { result ≡ Ok Again → (first : View) → IsFreshNode first who.old.token.view node
+        → CameFurther first who.new.token.view }
     ensures unmet { result ≡ Ok Unmet → IsAsked who.new (command_for key value) }
     ensures met { IfOk result (IsMetAs when) }
     ensures missed { result ≡ Ok Unmet
-        → HasMissed who.old.seat.view who.new.seat.view key when }
-    ensures full { IfErr result (λ full. (first : View) → BeganSince first who.old.seat.view
-        → IsUpdateRefused first key value (word_count_of table.now) full who.new.seat.view) }
+        → HasMissed who.old.token.view who.new.token.view key when }
+    ensures full { IfErr result (λ full. (first : View) → BeganSince first who.old.token.view
+        → IsUpdateRefused first key value (word_count_of table.now) full who.new.token.view) }
     ensures still { IfErr result (λ full. IsAsked who.new (command_for key value)) }
 {
-    know(&who.seat);
+    know(&who.token);
     let aim = Aim {
         node,
         index: child.index,

@@ -57,16 +57,16 @@ fn try_at(
     node: u32,
     child: Child,
 ) -> Result<Walked, Full>
-    requires same_table { who.old.seat.table ≡ table.now.table }
+    requires same_table { who.old.token.table ≡ table.now.table }
     requires asked { IsAsked who.old (command_for key value) }
-    requires at_slot { IsAtSlot who.old.seat.view key node child.index child.word }
-    ensures same_table { who.new.seat.table ≡ table.now.table }
+    requires at_slot { IsAtSlot who.old.token.view key node child.index child.word }
+    ensures same_table { who.new.token.table ≡ table.now.table }
     ensures on { StaysReady Updates who.old who.new }
     ensures walked { HasWalked who.old key value node (word_count_of table.now) result who.new }
-    ensures further { result ≡ Ok Again → (first : View) → IsFreshNode first who.old.seat.view node
-        → CameFurther first who.new.seat.view }
+    ensures further { result ≡ Ok Again → (first : View) → IsFreshNode first who.old.token.view node
+        → CameFurther first who.new.token.view }
     ensures met { IfOk result (IsWalkMet when) }
-    ensures missed { result ≡ Ok Unmet → HasMissed who.old.seat.view who.new.seat.view key when }
+    ensures missed { result ≡ Ok Unmet → HasMissed who.old.token.view who.new.token.view key when }
 {
     match try_slot(table, who, key, value, when, node, child)? {
         Tried::Took(reply) => Ok(Walked::Took(Applied { reply, due: None })),
@@ -88,13 +88,13 @@ pub(crate) fn descend(
     when: When,
     node: u32,
 ) -> Result<Walked, Full>
-    requires same_table { who.old.seat.table ≡ table.now.table }
+    requires same_table { who.old.token.table ≡ table.now.table }
     requires asked { IsAsked who.old (command_for key value) }
-    requires came { Came who.old.seat.view key node }
-    ensures same_table { who.new.seat.table ≡ table.now.table }
+    requires came { Came who.old.token.view key node }
+    ensures same_table { who.new.token.table ≡ table.now.table }
     ensures walk { IsWalk who.old key value when node (word_count_of table.now) result who.new }
 {
-    let child = step_down(table, &mut who.seat, node, key);
+    let child = step_down(table, &mut who.token, node, key);
     let Some(row) = inner_in(child.word) else {
         return try_at(table, who, key, value, when, node, child);
     };

@@ -16,7 +16,7 @@ use Rattle.ist_core.specs.Writing.{touch_of_count, touch_of_draw}
 use Rattle.ist_core.proofs.ChainLemmas.{on_chain_inner}
 use Rattle.ist_core.proofs.YesLemmas.{count_low}
 use Rattle.ist_core.proofs.GrowingLemmas.{inner_there, rebuild_there}
-use Rattle.laws_rebuilds.proofs.DrawWordLemmas.{draw_low}
+use Rattle.laws_links.proofs.DrawWordLemmas.{draw_low}
 use Rattle.ist_rule.specs.declared.view.View.{View}
 use Rattle.ist_core.specs.declared.events.Who.TheVariants.{Caller}
 use Rattle.ist_core.specs.Shown.{IsShown}

@@ -23,7 +23,7 @@ use Rattle.laws_links.proofs.FormLemmas.{finished_with_grows}
 use Rattle.laws_links.proofs.FormedLemmas.{rooted_is_finished}
 use Rattle.laws_links.proofs.InductionLemmas.{grow_behind, sound_behind}
 use Rattle.laws_links.proofs.OriginLemmas.{RebuildComes, rebuild_was, is_begun, is_rooted, is_drawn}
-use Rattle.laws_rebuilds.proofs.NumberLemmas.{number_is}
+use Rattle.laws_links.proofs.NumberLemmas.{number_is}
 use Rattle.ist_core.specs.declared.events.Who.{Who}
 use Rattle.ist_core.specs.declared.events.Who.TheVariants.{Caller}
 use Rattle.laws_coming.specs.Builds.{EndsBuild, EndsNone}

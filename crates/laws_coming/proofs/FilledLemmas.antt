@@ -29,8 +29,8 @@ use Rattle.ist_core.proofs.ShapedLemmas.{shaped}
 use Rattle.laws_links.proofs.FormLemmas.{finished_with_grows}
 use Rattle.laws_links.proofs.FormedLemmas.{rooted_is_finished}
 use Rattle.laws_links.proofs.InductionLemmas.{sound_behind}
-use Rattle.laws_rebuilds.proofs.BuiltLemmas.{root_once}
-use Rattle.laws_rebuilds.proofs.NumberLemmas.{number_is}
+use Rattle.laws_links.proofs.BuiltLemmas.{root_once}
+use Rattle.laws_links.proofs.NumberLemmas.{number_is}
 use Rattle.ist_core.specs.Shown.{IsShown, shown_next, shown_callers, shown_status, shown_slot, shown_row, shown_free}
 use Rattle.ist_core.proofs.PrefixLemmas.{goes_on_more, goes_on_by}
 use Rattle.ist_core.proofs.DrawLemmas.{same_rebuild}

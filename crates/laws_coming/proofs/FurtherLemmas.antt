@@ -12,9 +12,9 @@ use Rattle.ist_rule.specs.declared.view.View.{View}
 use Rattle.ist_rule.specs.Going.{WentOn}
 use Rattle.ist_rule.specs.Learning.{now, GoesOnTo}
 use Rattle.ist_rule.specs.Rule.{IsSound}
-use Rattle.laws_progress.specs.Progress.{progress, most_progress}
-use Rattle.laws_progress.proofs.BoundLemmas.{bounded}
-use Rattle.laws_progress.proofs.ProgressLemmas.{never_falls, resolving}
+use Rattle.laws_stability.specs.Progress.{progress, most_progress}
+use Rattle.laws_stability.proofs.BoundLemmas.{bounded}
+use Rattle.laws_stability.proofs.ProgressLemmas.{never_falls, resolving}
 use Rattle.laws_coming.specs.Further.{CameFurther}
 
 -- progress after an earlier log is progress

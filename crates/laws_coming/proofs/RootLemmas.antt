@@ -22,7 +22,7 @@ use Rattle.ist_core.proofs.GrowingLemmas.{rebuild_there}
 use Rattle.ist_core.proofs.ShapeLemmas.{shape_none, shape_one}
 use Rattle.laws_links.proofs.FormLemmas.{finished_with_grows, started_grows}
 use Rattle.laws_links.proofs.InductionLemmas.{sound_behind}
-use Rattle.laws_rebuilds.proofs.NumberLemmas.{number_is}
+use Rattle.laws_links.proofs.NumberLemmas.{number_is}
 use Rattle.ist_rule.specs.declared.view.View.{View}
 use Rattle.ist_core.specs.declared.events.Who.TheVariants.{Caller}
 use Rattle.ist_core.specs.Shown.{IsShown}

@@ -1,8 +1,7 @@
 //! Laws that join the rule of a table to lawful logs: which event a caller may come to make.
 //! Nothing here runs.
 //!
-//! `specs/Lib.antt` gives the statements in reading order. Builds on `ist_core`, `laws_links`,
-//! `laws_rebuilds`, `laws_progress`, `laws_stability` and `ist_rule`.
+//! `specs/Lib.antt` gives the statements in reading order. Builds on `ist_core`, `laws_links`, `laws_stability` and `ist_rule`.
 #![tactic(auto)]
 
 pub mod laws;

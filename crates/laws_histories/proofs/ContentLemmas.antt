@@ -19,8 +19,8 @@ use Rattle.ist_core.proofs.ParentLemmas.{one_home}
 use Rattle.ist_core.proofs.RisingLemmas.{Rises}
 use Rattle.ist_core.proofs.UnderLemmas.{leaves_under, slot_reads_as}
 use Rattle.ist_core.proofs.LeafOrderLemmas.{leaves_lie, next_from_rises}
-use Rattle.laws_rebuilds.proofs.ExistLemmas.{HasSome}
-use Rattle.laws_rebuilds.proofs.ContentLemmas.{contents_exist}
+use Rattle.laws_links.proofs.ExistLemmas.{HasSome}
+use Rattle.laws_links.proofs.ContentLemmas.{contents_exist}
 use Rattle.laws_histories.specs.Finding.{Gives}
 use Rattle.laws_histories.specs.Telling.{map_now}
 use Rattle.laws_histories.proofs.ValueLemmas.{value_of, get-map_of, same_gets}

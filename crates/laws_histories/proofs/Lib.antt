@@ -15,7 +15,7 @@ pub mod SearchLemmas
 pub mod LoadOnLemmas
 pub mod LoadLemmas
 pub mod FindLemmas
-pub mod CameLemmas
+pub mod ReachedByKeyLemmas
 pub mod SideLemmas
 pub mod ValueLemmas
 pub mod BelowLemmas

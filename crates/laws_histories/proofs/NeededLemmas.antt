@@ -19,8 +19,8 @@ use Rattle.laws_links.proofs.FormedLemmas.{rooted_is_finished, changes_are_forme
 use Rattle.laws_links.proofs.FinishedLemmas.{finished_slot, finished_down}
 use Rattle.laws_links.proofs.ChangeLemmas.{undecided_stands}
 use Rattle.laws_links.proofs.PairLemmas.{IsFilledPair, pair_is_filled}
-use Rattle.laws_rebuilds.proofs.WholeLemmas.{finish_is_whole}
-use Rattle.laws_rebuilds.proofs.IdealLeafLemmas.{ideal_leaves, ideal_plain}
+use Rattle.laws_links.proofs.WholeLemmas.{finish_is_whole}
+use Rattle.laws_links.proofs.IdealLeafLemmas.{ideal_leaves, ideal_plain}
 use Rattle.laws_histories.proofs.NeedLemmas.{IsPair, HasForm, into_nothing, over_leaf, beside_low, beside_high, takes_out, begins, ends, Needs, AllNeeds}
 
 module _ (pairs : List Pair) (words : ℕ) (opens : CanOpen pairs words) (log : Log)

@@ -20,7 +20,7 @@ use Rattle.ist_core.proofs.RisingLemmas.{Rises}
 use Rattle.ist_core.proofs.SplitLemmas.{key_of_leaf, Splits, split_none, split_leaf, split_row, SplitAll, no_split, one_split}
 use Rattle.ist_core.proofs.StartTreeLemmas.{start_hangs, start_anchor}
 use Rattle.ist_core.proofs.LeafOrderLemmas.{rises_from_next}
-use Rattle.laws_rebuilds.proofs.IdealLeafLemmas.{joined, joined_parts}
+use Rattle.laws_links.proofs.IdealLeafLemmas.{joined, joined_parts}
 use Rattle.laws_histories.proofs.ValueLemmas.{same_pair}
 
 -- ---- the leaves of a tree over keys

@@ -38,7 +38,7 @@ use Rattle.laws_histories.proofs.ReadLemmas.{side_reads, change_logical, Turns}
 use Rattle.laws_histories.proofs.LedLemmas.{led_step, led_on}
 use Rattle.laws_histories.proofs.DecisionLemmas.{unfinished}
 use Rattle.laws_histories.proofs.FindLemmas.{finds_once, finds_above, gives_step, IsHigh, finds_high}
-use Rattle.laws_histories.proofs.CameLemmas.{came}
+use Rattle.laws_histories.proofs.ReachedByKeyLemmas.{came}
 use Rattle.laws_histories.proofs.SideLemmas.{start_commands, finish_commands, Sides, sides}
 use Rattle.laws_histories.proofs.MapLemmas.{map_behind-append, entries_append}
 use Rattle.laws_histories.proofs.RootLemmas.{root_finds}

@@ -2,8 +2,7 @@
 //! of each pass are, and that the calls of all passes weave into one legal history of a map.
 //! Nothing here runs.
 //!
-//! `specs/Lib.antt` gives the statements in reading order. Builds on `ist_core`, `laws_links` and
-//! `laws_rebuilds`.
+//! `specs/Lib.antt` gives the statements in reading order. Builds on `ist_core` and `laws_links`.
 #![tactic(auto)]
 
 pub mod examples;

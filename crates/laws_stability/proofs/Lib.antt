@@ -1,3 +1,7 @@
+pub mod ProgressLemmas
+pub mod BoundLemmas
+pub mod StandstillLemmas
+pub mod StandingLemmas
 pub mod LaterLemmas
 pub mod WordLemmas
 pub mod SlotWordLemmas

@@ -2,7 +2,7 @@
 use crate::kinds::kind_of;
 use crate::logs::{Log, Reading, read_log};
 use crate::verdicts::{Verdict, verdict_on};
-use check_reasons::Condition;
+use ist_check::Condition;
 use std::alloc::{AllocError, Global};
 
 /// The status if the log is lawful.

@@ -1,7 +1,7 @@
 //! The program `log_check`: it reads a log of events, and says whether it is lawful.
 //!
 //! Read `logs.rt`, which says the form of the text, and `verdicts.rt`. Stands on `ist_core`,
-//! `ist_math`, `ist_layout`, `check_reasons`, `ist_check` and `clap`.
+//! `ist_math`, `ist_layout`, `ist_check` and `clap`.
 #![tactic(auto)]
 
 mod answers;

@@ -4,8 +4,7 @@ ghost use Rattle.log_check.specs.Opening.{LogOpens};
 ghost use Rattle.log_check.specs.Verdicts.{IsTrueOf};
 
 use crate::logs::Log;
-use check_reasons::Condition;
-use ist_check::{Judgement, judge};
+use ist_check::{Condition, Judgement, judge};
 use std::alloc::{AllocError, Global};
 use std::fmt;
 

@@ -11,10 +11,10 @@ use Rattle.std.proofs.lemmas.List.{take_at, drop-drop}
 use Rattle.std.proofs.lemmas.List.{get_or_append_left}
 use Rattle.ist_core.specs.declared.pairs.Pair.{Pair}
 use Rattle.ist_core.specs.RowLayout.{first_row, place_limit, next_place, anchor_status_place}
-use Rattle.ist_words.specs.WordRows.{word_at}
-use Rattle.ist_words.specs.Laws.{ZerosChangeNothing}
-use Rattle.ist_words.specs.RestingWords.{HasGoodBounds, AreLawful, BreaksFirstAt}
-use Rattle.ist_words.specs.Walks.{first_visit}
+use Rattle.ist_rest.specs.WordRows.{word_at}
+use Rattle.ist_rest.specs.WordLaws.{ZerosChangeNothing}
+use Rattle.ist_rest.specs.RestingWords.{HasGoodBounds, AreLawful, BreaksFirstAt}
+use Rattle.ist_rest.specs.Walks.{first_visit}
 use Rattle.tele_audit.specs.declared.flaws.Flaw.TheVariants.{Magic, Short, Size, Used, Long, Anchor}
 use Rattle.tele_audit.specs.Dumps.{magic, number_bytes, used_words, dump_of, IsLawfulDump}
 use Rattle.tele_audit.specs.Flaws.{number_of, numbers_in, count_told, used_told, dump_length}

@@ -10,10 +10,10 @@ use Rattle.std.proofs.lemmas.List.{drop_at, drop-drop, append-nil, get_or-drop, 
 use Rattle.ist_core.specs.declared.pairs.Pair.{Pair}
 use Rattle.ist_core.specs.Map.{pairs_between}
 use Rattle.ist_core.specs.RowLayout.{first_row, place_limit, next_place, anchor_status_place}
-use Rattle.ist_words.specs.WordRows.{word_at}
-use Rattle.ist_words.specs.Laws.{PairsAreOne, LawfulWordsBreakNowhere, BreaksAreOne}
-use Rattle.ist_words.specs.RestingWords.{HasGoodBounds, AreLawful, AreListed, BreaksFirstAt}
-use Rattle.ist_words.specs.Walks.{first_visit}
+use Rattle.ist_rest.specs.WordRows.{word_at}
+use Rattle.ist_rest.specs.WordLaws.{PairsAreOne, LawfulWordsBreakNowhere, BreaksAreOne}
+use Rattle.ist_rest.specs.RestingWords.{HasGoodBounds, AreLawful, AreListed, BreaksFirstAt}
+use Rattle.ist_rest.specs.Walks.{first_visit}
 use Rattle.tele_audit.specs.declared.flaws.Flaw.{Flaw}
 use Rattle.tele_audit.specs.declared.flaws.Flaw.TheVariants.{Magic, Short, Size, Used, Long, Anchor, Row}
 use Rattle.tele_audit.specs.Dumps.{magic, number_bytes, used_words, dump_of, DumpContent, IsLawfulDump}

@@ -19,9 +19,9 @@ use Rattle.ist_core.specs.Shapes.{ideal_words}
 use Rattle.ist_core.specs.StartLayout.{start}
 use Rattle.laws_links.proofs.QuietLemmas.{start_quiet}
 use Rattle.ist_rest.specs.Laws.{StandingWordsAreLawful}
-use Rattle.ist_words.specs.Laws.{PairsAreOne, LawfulWordsBreakNowhere}
-use Rattle.ist_words.specs.RestingWords.{AreLawful}
-use Rattle.ist_words.specs.WordRows.{word_at}
+use Rattle.ist_rest.specs.WordLaws.{PairsAreOne, LawfulWordsBreakNowhere}
+use Rattle.ist_rest.specs.RestingWords.{AreLawful}
+use Rattle.ist_rest.specs.WordRows.{word_at}
 use Rattle.plain_map.specs.Rising.{IsRising}
 use Rattle.plain_map.proofs.EntriesLemmas.{pairs_of-map_of}
 use Rattle.tele_lines.specs.declared.items.Cause.{Cause}

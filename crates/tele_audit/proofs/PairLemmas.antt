@@ -8,10 +8,10 @@ use Rattle.ist_core.specs.Elements.{Among, Each}
 use Rattle.ist_core.proofs.ElementLemmas.{each_append, each-among}
 use Rattle.ist_core.proofs.RisingLemmas.{child_count_tells, Rises}
 use Rattle.ist_core.proofs.LeafOrderLemmas.{next_from_rises}
-use Rattle.ist_words.specs.WordRows.{Span, row_keys, row_slots, row_degree, leaf_key}
-use Rattle.ist_words.specs.Walks.{Way, Visit, LeadsBy, IsGoodAs, pairs_read, first_visit}
-use Rattle.ist_words.specs.Walks.{visits_from, visits_below, Walks, ends, goes_on}
-use Rattle.ist_words.specs.RestingWords.{HoldPairs}
+use Rattle.ist_rest.specs.WordRows.{Span, row_keys, row_slots, row_degree, leaf_key}
+use Rattle.ist_rest.specs.Walks.{Way, Visit, LeadsBy, IsGoodAs, pairs_read, first_visit}
+use Rattle.ist_rest.specs.Walks.{visits_from, visits_below, Walks, ends, goes_on}
+use Rattle.ist_rest.specs.RestingWords.{HoldPairs}
 use Rattle.plain_map.specs.Rising.{IsRising}
 
 -- ---- slots after others

@@ -6,7 +6,7 @@ use Rattle.std.proofs.lemmas.List.{append_assoc, append-nil, take_more, take-app
 use Rattle.std.proofs.lemmas.List.{take-take}
 use Rattle.std.proofs.lemmas.List.Concat.{flat_map-append}
 use Rattle.ist_core.specs.RowLayout.{next_place}
-use Rattle.ist_words.specs.WordRows.{word_at}
+use Rattle.ist_rest.specs.WordRows.{word_at}
 use Rattle.tele_io.specs.Bytes.{AppendsPart}
 use Rattle.tele_io.proofs.AppendsLemmas.{Appends-append, AppendsPart-append}
 use Rattle.tele_io.proofs.AppendsLemmas.{AppendsPart-longer}

@@ -4,8 +4,8 @@ use Rattle.std.specs.Int.{w64, to_le_bytes}
 use Rattle.std.specs.List.{flat_map}
 use Rattle.ist_core.specs.declared.pairs.Pair.{Pair}
 use Rattle.ist_core.specs.RowLayout.{next_place}
-use Rattle.ist_words.specs.WordRows.{word_at}
-use Rattle.ist_words.specs.RestingWords.{AreLawful}
+use Rattle.ist_rest.specs.WordRows.{word_at}
+use Rattle.ist_rest.specs.RestingWords.{AreLawful}
 
 -- the bytes that a dump begins with
 abbrev pub magic : List ℕ

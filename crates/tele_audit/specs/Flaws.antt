@@ -6,9 +6,9 @@ use Rattle.std.specs.Int.{w64, from_le_bytes}
 use Rattle.std.specs.List.{starts_with}
 use Rattle.ist_core.specs.RowLayout.{first_row, place_limit, anchor_status_place}
 use Rattle.ist_core.specs.Statuses.{open_word}
-use Rattle.ist_words.specs.WordRows.{word_at}
-use Rattle.ist_words.specs.Walks.{first_visit}
-use Rattle.ist_words.specs.RestingWords.{BreaksFirstAt}
+use Rattle.ist_rest.specs.WordRows.{word_at}
+use Rattle.ist_rest.specs.Walks.{first_visit}
+use Rattle.ist_rest.specs.RestingWords.{BreaksFirstAt}
 use Rattle.tele_audit.specs.declared.flaws.Flaw.{Flaw}
 use Rattle.tele_audit.specs.declared.flaws.Flaw.TheVariants.{Magic, Short, Size, Used, Long, Anchor, Row}
 use Rattle.tele_audit.specs.Dumps.{magic}

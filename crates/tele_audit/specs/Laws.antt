@@ -3,8 +3,8 @@ use Rattle.std.specs.Prelude.{◌≡◌, ℕ, ◌<◌, ◌^◌, List}
 use Rattle.std.specs.List.{flat_map}
 use Rattle.ist_core.specs.declared.pairs.Pair.{Pair}
 use Rattle.ist_core.specs.Map.{Map, pairs_of, pairs_between, listed}
-use Rattle.ist_words.specs.WordRows.{word_at}
-use Rattle.ist_words.specs.RestingWords.{AreListed}
+use Rattle.ist_rest.specs.WordRows.{word_at}
+use Rattle.ist_rest.specs.RestingWords.{AreListed}
 use Rattle.tele_lines.specs.declared.items.Version.TheVariants.{One}
 use Rattle.tele_lines.specs.Answer.{pair_text}
 use Rattle.tele_audit.specs.declared.flaws.Flaw.{Flaw}

@@ -6,7 +6,7 @@ use Rattle.ist_core.specs.Map.{Map, no_pairs, map_after, pairs_of}
 use Rattle.ist_core.specs.RowLayout.{first_row}
 use Rattle.ist_core.specs.Shapes.{ideal_words}
 use Rattle.ist_core.specs.StartLayout.{start}
-use Rattle.ist_words.specs.WordRows.{word_at}
+use Rattle.ist_rest.specs.WordRows.{word_at}
 use Rattle.tele_lines.specs.declared.items.Cause.{Cause}
 use Rattle.tele_lines.specs.declared.items.Item.TheVariants.{Point, Interval}
 use Rattle.tele_lines.specs.Answer.{Read, Good, Bad, input_lines}

@@ -1,15 +1,14 @@
 //! The dump of a closed table.
 ghost use Rattle.std.specs.Prelude.{◌≡◌, ◌≤◌, OnOk, OnErr, IsErrOf, length};
 ghost use Rattle.ist_core.specs.RowLayout.{first_row, next_place};
-ghost use Rattle.ist_words.specs.WordRows.{word_at};
+ghost use Rattle.ist_rest.specs.WordRows.{word_at};
 ghost use Rattle.tele_io.specs.Bytes.{HaveRisen, Appends, AppendsPart};
 ghost use Rattle.tele_audit.specs.Dumps.{dump_of, AreLawfulWords};
 
 use crate::pieces::{Piece, make_room};
 use ist_layout::NEXT_PLACE;
-use ist_rest::Closed;
 use ist_rest::laws::standing_words_hold_the_map;
-use ist_words::WordList;
+use ist_rest::{Closed, WordList};
 use tele_io::{Sink, SinkFault, write_whole};
 
 /// Writes the dump of a closed table: eight bytes that identify a dump, the number of words of the

@@ -2,7 +2,7 @@
 //!
 //! Read `specs/Dumps.antt` and `specs/Flaws.antt`, then `dumps.rt` and `audits.rt`; of the program
 //! `specs/Runs.antt` and `runs.rt`. Stands on `ist_core`, `ist_math`, `ist_layout`, `laws_links`,
-//! `ist_image`, `ist_words`, `ist_rest`, `plain_map`, `tele_io` and `tele_lines`.
+//! `ist_image`, `ist_rest`, `plain_map`, `tele_io` and `tele_lines`.
 #![tactic(auto)]
 
 mod audits;

@@ -3,7 +3,7 @@ ghost use Rattle.std.specs.Prelude.{◌≡◌, ◌+◌, ◌*◌, ◌≤◌, ◌^
 ghost use Rattle.tele_audit.specs.Flaws.{numbers_in, dump_length};
 
 use crate::numbers::number_at;
-use ist_words::WordList;
+use ist_rest::WordList;
 use std::marker::Model;
 
 /// The used words of a table, read in place from the bytes of its dump.

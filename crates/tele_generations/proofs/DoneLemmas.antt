@@ -8,7 +8,7 @@ use Rattle.tele_lanes.specs.declared.task_lists.Task.{Task}
 use Rattle.tele_lanes.specs.Lines.{task_lines}
 use Rattle.tele_lanes.specs.Lanes.{unanswered}
 use Rattle.tele_lanes.proofs.ClimbLemmas.{Contains-cons_cases}
-use Rattle.tele_rounds.specs.Runs.{LaneRun, HasRun, answers_of_runs, done_of_runs, left_of_runs}
+use Rattle.tele_generations.specs.Runs.{LaneRun, HasRun, answers_of_runs, done_of_runs, left_of_runs}
 use Rattle.tele_generations.specs.Generations.{all_done}
 
 -- a lane has no more answers than tasks

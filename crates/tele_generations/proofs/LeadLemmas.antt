@@ -5,7 +5,7 @@ use Rattle.std.proofs.lemmas.List.{append_assoc, append-nil}
 use Rattle.ist_core.specs.declared.pairs.Pair.{Pair}
 use Rattle.ist_core.specs.declared.ports.Full.{Full}
 use Rattle.tele_lanes.specs.declared.task_lists.Task.{Task}
-use Rattle.tele_rounds.specs.Runs.{LaneRun, AreWhole}
+use Rattle.tele_generations.specs.Runs.{LaneRun, AreWhole}
 use Rattle.tele_generations.specs.Sizes.{next_words}
 use Rattle.tele_generations.specs.Generations.{LanesRanOn, RanFull, HandsOn, IsLarger}
 use Rattle.tele_generations.specs.Generations.{IsGenerations}

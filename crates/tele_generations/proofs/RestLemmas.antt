@@ -5,8 +5,8 @@ use Rattle.ist_core.specs.declared.pairs.Pair.{Pair}
 use Rattle.ist_core.specs.Map.{map_of, pairs_of, map_after}
 use Rattle.tele_lanes.specs.declared.task_lists.Task.{Task}
 use Rattle.tele_lanes.specs.declared.answer_lists.Answer.{Answer}
-use Rattle.tele_rounds.specs.Turns.{plain_answer}
-use Rattle.tele_rounds.proofs.CountLemmas.{pairs_few}
+use Rattle.tele_generations.specs.Turns.{plain_answer}
+use Rattle.tele_generations.proofs.PairCountLemmas.{pairs_few}
 use Rattle.plain_map.specs.Rising.{IsRising}
 use Rattle.plain_map.proofs.EntriesLemmas.{pairs_of-map_of}
 use Rattle.tele_generations.specs.Ways.{Rests}

@@ -11,8 +11,8 @@ use Rattle.tele_lanes.specs.declared.task_lists.Task.{Task}
 use Rattle.tele_lanes.specs.declared.answer_lists.Answer.{Answer}
 use Rattle.tele_lanes.specs.Lines.{task_lines}
 use Rattle.tele_lanes.specs.Lanes.{ArePlainAnswers}
-use Rattle.tele_rounds.specs.Turns.{IsUnderWay}
-use Rattle.tele_rounds.proofs.TurnLemmas.{round_goes_on, round_ends, tasks_counted}
+use Rattle.tele_generations.specs.Turns.{IsUnderWay}
+use Rattle.tele_generations.proofs.TurnLemmas.{round_goes_on, round_ends, tasks_counted}
 use Rattle.plain_map.specs.Rising.{IsRising}
 use Rattle.tele_generations.specs.Sizes.{least_words, next_words}
 use Rattle.tele_generations.specs.Generations.{RanFull}
@@ -25,7 +25,7 @@ use Rattle.tele_generations.specs.Ways.{Rests, HasTables, IsOnItsWay, GoesOnBehi
 use Rattle.tele_generations.proofs.LeadLemmas.{tables_more, tables_end}
 use Rattle.tele_generations.proofs.TableLemmas.{asks_more, table_map, turn, puts_few, rest_some}
 use Rattle.tele_generations.proofs.TableLemmas.{rest_none, behind_rises, few_behind}
-use Rattle.tele_generations.proofs.WayLemmas.{turn_ends, way_more}
+use Rattle.tele_generations.proofs.NextTableLemmas.{turn_ends, way_more}
 
 module _ {workers words : ℕ} {pairs now : List Pair} {tasks left : List Task}
     {fulls : List Full} {answers : List Answer} {table : List ℕ} {more : List Answer}

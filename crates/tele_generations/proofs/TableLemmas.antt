@@ -10,21 +10,21 @@ use Rattle.ist_core.specs.declared.pairs.Pair.{Pair}
 use Rattle.ist_core.specs.declared.ports.Full.{Full}
 use Rattle.ist_core.specs.Map.{Map, map_of, pairs_of, replay}
 use Rattle.ist_core.specs.Logs.{Log}
-use Rattle.laws_rows.specs.Finishing.{is_put}
+use Rattle.laws_calls.specs.Finishing.{is_put}
 use Rattle.laws_histories.specs.Telling.{map_now}
 use Rattle.laws_histories.proofs.ContentLemmas.{pairs_rise_at}
 use Rattle.tele_lanes.specs.declared.task_lists.Task.{Task}
 use Rattle.tele_lanes.specs.declared.answer_lists.Answer.{Answer}
 use Rattle.tele_lanes.specs.Lines.{commands_of, task_lines}
-use Rattle.tele_rounds.specs.Runs.{RanOn, AreWhole, told_of_runs, answers_of_runs}
-use Rattle.tele_rounds.specs.Runs.{left_of_runs}
-use Rattle.tele_rounds.specs.Turns.{IsUnderWay}
-use Rattle.tele_rounds.specs.Suffixes.{LeavesSuffixes}
-use Rattle.tele_rounds.proofs.CountLemmas.{pairs_are_map}
-use Rattle.tele_rounds.proofs.RunLemmas.{done_leads}
-use Rattle.tele_rounds.proofs.TurnLemmas.{lanes_turn, tasks_counted}
-use Rattle.tele_rounds.proofs.SuffixLemmas.{lanes_leave}
-use Rattle.tele_rounds.proofs.WholeLemmas.{nothing_left}
+use Rattle.tele_generations.specs.Runs.{RanOn, AreWhole, told_of_runs, answers_of_runs}
+use Rattle.tele_generations.specs.Runs.{left_of_runs}
+use Rattle.tele_generations.specs.Turns.{IsUnderWay}
+use Rattle.tele_generations.specs.Suffixes.{LeavesSuffixes}
+use Rattle.tele_generations.proofs.PairCountLemmas.{pairs_are_map}
+use Rattle.tele_generations.proofs.RunLemmas.{done_leads}
+use Rattle.tele_generations.proofs.TurnLemmas.{lanes_turn, tasks_counted}
+use Rattle.tele_generations.proofs.SuffixLemmas.{lanes_leave}
+use Rattle.tele_generations.proofs.WholeLemmas.{nothing_left}
 use Rattle.plain_map.specs.Rising.{IsRising}
 use Rattle.plain_map.proofs.EntriesLemmas.{pairs_of-map_of}
 use Rattle.tele_generations.specs.Generations.{RanFull, MayAsk, all_done, puts_done}

@@ -11,12 +11,12 @@ use Rattle.ist_core.specs.Arithmetic.{degree}
 use Rattle.ist_core.specs.RowLayout.{place_limit, next_place}
 use Rattle.ist_core.specs.Map.{map_of, pairs_of, map_after, replay}
 use Rattle.ist_core.specs.Resting.{StandsFor}
-use Rattle.laws_rows.specs.Finishing.{is_put}
+use Rattle.laws_calls.specs.Finishing.{is_put}
 use Rattle.tele_lanes.specs.declared.task_lists.Task.{Task}
 use Rattle.tele_lanes.specs.Lines.{commands_of}
 use Rattle.tele_lanes.specs.Lanes.{TasksInLineOrder}
-use Rattle.tele_rounds.specs.Runs.{LaneRun, LanesRan, AreWhole, told_of_runs, done_of_runs}
-use Rattle.tele_rounds.specs.Runs.{left_of_runs}
+use Rattle.tele_generations.specs.Runs.{LaneRun, LanesRan, AreWhole, told_of_runs, done_of_runs}
+use Rattle.tele_generations.specs.Runs.{left_of_runs}
 
 -- may the command need words?
 abbrev pub may_want_words : Command → Bool

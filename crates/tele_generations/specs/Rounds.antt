@@ -6,8 +6,8 @@ use Rattle.ist_core.specs.Map.{map_of, replay}
 use Rattle.laws_histories.specs.Telling.{map_now}
 use Rattle.tele_lanes.specs.declared.task_lists.Task.{Task}
 use Rattle.tele_lanes.specs.Lines.{commands_of}
-use Rattle.tele_rounds.specs.Runs.{LaneRun, AreWhole}
-use Rattle.tele_rounds.specs.Suffixes.{LeavesSuffixes}
+use Rattle.tele_generations.specs.Runs.{LaneRun, AreWhole}
+use Rattle.tele_generations.specs.Suffixes.{LeavesSuffixes}
 use Rattle.tele_generations.specs.Generations.{LanesRanOn, IsGenerations}
 use Rattle.tele_generations.specs.Shelves.{IsShelved}
 

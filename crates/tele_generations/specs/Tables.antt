@@ -9,7 +9,7 @@ use Rattle.laws_histories.specs.Telling.{map_now}
 use Rattle.tele_lanes.specs.declared.task_lists.Task.{Task}
 use Rattle.tele_lanes.specs.declared.answer_lists.Answer.{Answer}
 use Rattle.tele_lanes.specs.Lanes.{InLineOrder, TasksInLineOrder}
-use Rattle.tele_rounds.specs.Runs.{LaneRun, AreWhole, answers_of_runs, left_of_runs}
+use Rattle.tele_generations.specs.Runs.{LaneRun, AreWhole, answers_of_runs, left_of_runs}
 use Rattle.tele_generations.specs.Generations.{LanesRanOn, RanFull}
 
 -- how the lanes ended: each answered all of its tasks, or the table ran full with these numbers

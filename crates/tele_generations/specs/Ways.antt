@@ -9,8 +9,8 @@ use Rattle.ist_core.specs.Lawful.{CanOpen}
 use Rattle.tele_lanes.specs.declared.task_lists.Task.{Task}
 use Rattle.tele_lanes.specs.declared.answer_lists.Answer.{Answer}
 use Rattle.tele_lanes.specs.Lines.{task_lines}
-use Rattle.tele_rounds.specs.Turns.{IsUnderWay, plain_answer}
-use Rattle.tele_rounds.specs.Suffixes.{LeavesSuffixes}
+use Rattle.tele_generations.specs.Turns.{IsUnderWay, plain_answer}
+use Rattle.tele_generations.specs.Suffixes.{LeavesSuffixes}
 use Rattle.plain_map.specs.Rising.{IsRising}
 use Rattle.tele_generations.specs.declared.rests.Turn.{Turn}
 use Rattle.tele_generations.specs.declared.ways.Way.{Way}

@@ -1,13 +1,16 @@
 //! A round of tasks in generations: a table that runs full is followed by a larger one, until all
-//! tasks are answered. The definitions, and the parts of the loop; nothing here opens a table.
+//! tasks are answered. The definitions, and the parts of the loop; nothing here opens a table. Laws say
+//! what lanes on a table answer, by its log and the lanes that ran on it.
 //!
-//! Read `specs/Generations.antt` and `specs/Rounds.antt`, then `tables.rt`, `ways.rt` and
-//! `rounds.rt`. Builds on `ist_core`, `ist_math`, `ist_rest`, `plain_map`, `tele_lanes`,
-//! `tele_rounds` and the laws of `laws_histories` and `laws_rows`.
+//! Read `specs/Runs.antt` and `specs/Turns.antt` with `laws.rt`; `specs/Generations.antt` and
+//! `specs/Rounds.antt`, then `tables.rt`, `ways.rt` and `rounds.rt`. Builds on `ist_core`, `ist_math`,
+//! `ist_rest`, `plain_map`, `tele_lanes` and the laws of `laws_links`, `laws_histories` and `laws_calls`.
 #![tactic(auto)]
 
 mod counts;
+pub mod examples;
 mod kept;
+pub mod laws;
 mod rests;
 mod rounds;
 mod shelves;

@@ -1,7 +1,7 @@
 //! What one thread answers between two tables.
 ghost use Rattle.std.specs.Prelude.{◌≡◌, ◌<◌, IfOk, length};
 ghost use Rattle.ist_core.specs.Map.{map_of, map_after};
-ghost use Rattle.tele_rounds.specs.Turns.{plain_answer};
+ghost use Rattle.tele_generations.specs.Turns.{plain_answer};
 ghost use Rattle.plain_map.specs.Rising.{IsRising};
 ghost use Rattle.tele_generations.specs.Ways.{Rests};
 

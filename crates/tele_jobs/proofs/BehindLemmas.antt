@@ -8,8 +8,8 @@ use Rattle.laws_histories.proofs.ContentLemmas.{pairs_rise_at}
 use Rattle.plain_map.specs.Rising.{IsRising}
 use Rattle.tele_lanes.specs.declared.task_lists.Task.{Task}
 use Rattle.tele_lanes.specs.Lines.{commands_of}
-use Rattle.tele_rounds.specs.Runs.{told_of_runs}
-use Rattle.tele_rounds.proofs.CountLemmas.{pairs_few, pairs_are_map}
+use Rattle.tele_generations.specs.Runs.{told_of_runs}
+use Rattle.tele_generations.proofs.PairCountLemmas.{pairs_few, pairs_are_map}
 use Rattle.tele_generations.specs.Tables.{HasPairs}
 use Rattle.tele_generations.specs.Rounds.{EndsTheRound}
 

@@ -2,8 +2,8 @@
 -- and the run.
 use Rattle.std.proofs.Common.{◌≡◌, ℕ, List, Bool, true, false, inl, inr, refl, sym, ◌∙◌, ap, subst, arith, lit<}
 use Rattle.std.specs.Prelude.{Some, None, if◌then◌else◌}
-use Rattle.tele_command.specs.CommandLine.{are_refused, options_in}
-use Rattle.tele_command.specs.declared.options.Options.{Options}
+use Rattle.tele_jobs.specs.CommandLine.{are_refused, options_in}
+use Rattle.tele_jobs.specs.declared.options.Options.{Options}
 use Rattle.tele_jobs.specs.declared.jobs.Job.{Job}
 use Rattle.tele_jobs.specs.declared.jobs.Job.TheVariants.{Refuse, Make, Read}
 use Rattle.tele_jobs.specs.declared.outcomes.TheConstants.{USAGE, READ_FAILED}

@@ -1,3 +1,5 @@
+pub mod OptionLemmas
+pub mod NumberLemmas
 pub mod RoundLemmas
 pub mod AnswerLemmas
 pub mod RepliesLemmas
@@ -5,7 +7,7 @@ pub mod TakeLemmas
 pub mod CauseLemmas
 pub mod StepLemmas
 pub mod EndLemmas
-pub mod WayLemmas
+pub mod StepKindLemmas
 pub mod PassLemmas
 pub mod JobLemmas
 pub mod MadeLemmas

@@ -10,9 +10,9 @@ use Rattle.tele_lanes.specs.declared.task_lists.Task.{Task}
 use Rattle.tele_lanes.specs.Lines.{commands_of}
 use Rattle.tele_jobs.specs.Rounds.{Team}
 use Rattle.tele_jobs.specs.Open.{Open, fresh_round, with_task, map_in}
-use Rattle.tele_made.specs.declared.summaries.Summary.{Summary}
-use Rattle.tele_made.specs.Summaries.{summary_of, value_sum}
-use Rattle.tele_made.specs.Made.{next_number, made_command, made_commands}
+use Rattle.tele_jobs.specs.declared.summaries.Summary.{Summary}
+use Rattle.tele_jobs.specs.Summaries.{summary_of, value_sum}
+use Rattle.tele_jobs.specs.Made.{next_number, made_command, made_commands}
 
 -- how many of the replies to some commands are values
 abbrev pub values_in : Map → List Command → ℕ

@@ -7,7 +7,7 @@ use Rattle.tele_lanes.specs.declared.task_lists.Task.{Task}
 use Rattle.tele_lines.specs.declared.items.Version.TheVariants.{One}
 use Rattle.tele_lines.specs.Answer.{Read}
 use Rattle.tele_lines.specs.Rounds.{round_limit}
-use Rattle.tele_made.specs.Made.{next_number, made_command, made_commands}
+use Rattle.tele_jobs.specs.Made.{next_number, made_command, made_commands}
 use Rattle.tele_jobs.specs.Rounds.{Team, task_rounds, numbered, made_rounds}
 use Rattle.tele_jobs.specs.Open.{Open, FollowsRounds, RunsOn, IsOpenBefore, with_task, asked, fresh_round, round_for}
 use Rattle.tele_jobs.proofs.CutLemmas.{task_rounds-full, task_rounds-open}

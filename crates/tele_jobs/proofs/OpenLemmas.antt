@@ -54,7 +54,6 @@ open_closed number old new none few h = record {
   below = subst (λ ts. Each (λ t. t.line < number) ts) (sym none) tt;
   few = omega (arith, h.few, few, ap length none);
 }
-}
 
 -- the fresh round is open before the first line
 pub open_first : (team : Team) (words : ℕ) (o : Open) → o ≡ fresh_round team words

@@ -1,6 +1,6 @@
 -- What the parts of a step say of the open round, joined. Serves the steps of a run.
 use Rattle.std.proofs.Common.{◌≡◌, ℕ, ◌<◌, List, [], ◌∷◌, ◌++◌, sym, ◌∙◌, ap, subst, length, append-nil}
-use Rattle.std.specs.Prelude.{Option, Result, Ok, Err, OnOk, OnErr, IsSome}
+use Rattle.std.specs.Prelude.{Option, IsSome}
 use Rattle.ist_core.specs.declared.commands.Command.{Command}
 use Rattle.ist_core.specs.declared.pairs.Pair.{Pair}
 use Rattle.ist_core.specs.Map.{Map, replay, listed}
@@ -20,27 +20,6 @@ use Rattle.tele_jobs.specs.Open.{asked}
 use Rattle.tele_jobs.specs.Due.{Takes}
 use Rattle.tele_jobs.proofs.AnswerLemmas.{text-asked, status-asked, asked-version}
 use Rattle.tele_jobs.proofs.TakeLemmas.{stay_open, answered_full, answered_interval, asked-more}
-
--- what follows if a call succeeds
-pub on_ok : {A E P Q : Type 0} (r : Result A E) → OnOk r P → (P → Q) → OnOk r Q
-on_ok (Ok a) p f = f p
-on_ok (Err e) p f = tt
-
--- what follows if a call fails
-pub on_err : {A E P Q : Type 0} (r : Result A E) → OnErr r P → (P → Q) → OnErr r Q
-on_err (Ok a) p f = tt
-on_err (Err e) p f = f p
-
--- what follows from two facts if a call succeeds
-pub on_ok2 : {A E P Q R : Type 0} (r : Result A E) → OnOk r P → OnOk r Q → (P → Q → R) → OnOk r R
-on_ok2 (Ok a) p q f = f p q
-on_ok2 (Err e) p q f = tt
-
--- what follows from three facts if a call succeeds
-pub on_ok3 : {A E P Q R S : Type 0} (r : Result A E) → OnOk r P → OnOk r Q → OnOk r R →
-    (P → Q → R → S) → OnOk r S
-on_ok3 (Ok a) p q r f = f p q r
-on_ok3 (Err e) p q r f = tt
 
 module _ (version : Version) (m : Map) (tasks : List Task) where
   -- a part of the text of a round is a part of its text and more

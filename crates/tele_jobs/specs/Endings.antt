@@ -1,6 +1,6 @@
 -- What a run leaves at its end, in addition to its text.
 use Rattle.std.specs.Prelude.{◌≡◌, ℕ, List, Option, None}
-use Rattle.tele_command.specs.declared.options.Options.{Options}
+use Rattle.tele_jobs.specs.declared.options.Options.{Options}
 use Rattle.tele_lanes.specs.declared.task_lists.Task.{Task}
 use Rattle.tele_jobs.specs.declared.outcomes.Outcome.{Outcome}
 use Rattle.tele_jobs.specs.Rounds.{RanRounds, team_of}

@@ -1,6 +1,6 @@
 -- What a run has to do, by its command line.
 use Rattle.std.specs.Prelude.{ℕ, List, Option, Some, None, if◌then◌else◌}
-use Rattle.tele_command.specs.CommandLine.{are_refused, options_in}
+use Rattle.tele_jobs.specs.CommandLine.{are_refused, options_in}
 use Rattle.tele_jobs.specs.declared.jobs.Job.{Job}
 use Rattle.tele_jobs.specs.declared.jobs.Job.TheVariants.{Refuse, Make, Read}
 

@@ -1,4 +1,8 @@
 -- what the public contracts rest on, in the order to read them
+pub mod CommandLine
+pub mod Numbers
+pub mod Made
+pub mod Summaries
 pub mod Jobs
 pub mod Causes
 pub mod Rounds

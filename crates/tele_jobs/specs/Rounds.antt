@@ -12,7 +12,7 @@ use Rattle.tele_lines.specs.declared.items.Version.TheVariants.{One}
 use Rattle.tele_lines.specs.Lines.{lines_of}
 use Rattle.tele_lines.specs.Answer.{Read, Good, Bad, input_lines}
 use Rattle.tele_lines.specs.Rounds.{rounds}
-use Rattle.tele_made.specs.Made.{made_commands}
+use Rattle.tele_jobs.specs.Made.{made_commands}
 use Rattle.tele_generations.specs.Sizes.{first_words}
 use Rattle.tele_generations.specs.Generations.{IsGenerations}
 use Rattle.tele_generations.specs.Shelves.{IsShelved}

@@ -1,10 +1,10 @@
 //! What a run has to do.
 ghost use Rattle.std.specs.Prelude.{◌≡◌, ℕ, ◌≤◌, ◌^◌, map, string_bytes, IfOk};
-ghost use Rattle.tele_command.specs.CommandLine.{options_in};
+ghost use Rattle.tele_jobs.specs.CommandLine.{options_in};
 ghost use Rattle.tele_jobs.specs.Jobs.{job_of};
 
+use crate::options::{Options, Refusal, read_options};
 use std::alloc::{AllocError, Global};
-use tele_command::{Options, Refusal, read_options};
 
 /// The most lines of a run.
 pub const LINE_LIMIT: u64 = 16_777_216;

@@ -3,18 +3,18 @@
 ghost use Rattle.std.specs.Prelude.{◌≡◌, ◌≤◌, [], Err, OnOk, OnErr, IsErrOf};
 ghost use Rattle.tele_io.specs.Bytes.{HaveRisen, Appends, AppendsPart};
 ghost use Rattle.tele_lines.specs.Answer.{interval_text, bad_text, usage_text};
-ghost use Rattle.tele_made.specs.Summaries.{summary_text};
+ghost use Rattle.tele_jobs.specs.Summaries.{summary_text};
 ghost use Rattle.tele_jobs.specs.Causes.{IsCutShort, IsStatus};
 ghost use Rattle.tele_jobs.specs.Open.{answers_text};
 
 use crate::jobs::Job;
 use crate::outcomes::{USAGE, WRITE_FAILED, refused};
+use crate::summaries::{Summary, print_summary};
 use ist_core::Pair;
 use std::alloc::Global;
 use tele_io::{Sink, SinkFault, write_whole};
 use tele_lanes::Answer;
 use tele_lines::{Cause, Version, print_answer, print_bad, print_interval};
-use tele_made::{Summary, print_summary};
 
 /// Prints each answer on its own line, in order.
 pub fn print_answers<O: Sink>(

@@ -80,7 +80,6 @@ goes_on_to one two three mid ended first second bytes here now lasts a b =
           ∙ ap (λ rs. first ++ rs) (next.whole going more)
           ∙ sym (append_assoc {A = Read} first second (read_at three (whole_lines more)));
     }
-}
 
 -- one stretch followed by another, also if the bytes aren't known
 pub goes_on_if : (one two three : Place) (mid ended : Bool) (second : List Read)

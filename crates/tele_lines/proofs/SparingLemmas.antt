@@ -19,17 +19,6 @@ pub record Took (kept bytes : List ℕ) (now : Option (List ℕ)) (buffer : List
   pub same : bytes ≡ taken ++ rest
   pub here : buffer ≡ kept ++ taken
 
--- at first none was taken
-pub none_took : (kept : List ℕ) (all : Option (List ℕ)) → IfSome all (λ bytes. Took kept bytes all kept)
-none_took kept None = tt
-none_took kept (Some bytes) = record {
-  taken = [];
-  rest = bytes;
-  left = refl;
-  same = refl;
-  here = sym (append-nil kept);
-}
-
 -- what a longer list has after the first bytes
 record Longer (old new rest more : List ℕ) : Type 0 where
   begins : new ≡ old ++ drop (length old) new
@@ -148,12 +137,6 @@ needed_if place kept was (Some bytes) now (inr some) =
         waits = ap (read_at place) (no_whole (kept ++ a.before) a.waits);
       },
     )
-
--- no byte was taken
-pub none_needed : (place : Place) (kept : List ℕ) (was : Bool) (all : Option (List ℕ))
-    → IfSome all (λ bytes. TakesAsNeeded place kept was bytes all)
-none_needed place kept was None = tt
-none_needed place kept was (Some bytes) = inl refl
 
 -- what was taken, and what is left
 pub record Given (bytes : List ℕ) (now : Option (List ℕ)) : Type 0 where

@@ -5,7 +5,7 @@ ghost use Rattle.std.specs.List.Sorted.{IsStrictlyIncreasing};
 ghost use Rattle.ist_core.specs.Map.{replay, replies};
 ghost use Rattle.tele_io.specs.Bytes.{HaveRisen, Appends, AppendsPart};
 ghost use Rattle.tele_lanes.specs.Lines.{commands_of, task_lines};
-ghost use Rattle.tele_made.specs.Summaries.{summary_of, summary_text};
+ghost use Rattle.tele_jobs.specs.Summaries.{summary_of, summary_text};
 ghost use Rattle.tele_jobs.specs.Causes.{IsAnswer, IsCutShort};
 ghost use Rattle.tele_jobs.specs.Rounds.{RanRounds, made_rounds};
 ghost use Rattle.tele_jobs.specs.Endings.{HasNoTable};
@@ -18,9 +18,10 @@ use std::sync::Wait;
 use std::thread::Threads;
 use tele_generations::Shelf;
 use tele_io::Sink;
-use tele_jobs::{ANSWERED, NO_MEMORY, Outcome, WRITE_FAILED, end_with_summary, refused};
+use tele_jobs::{
+    ANSWERED, Maker, NO_MEMORY, Outcome, Summary, WRITE_FAILED, end_with_summary, refused, sum_of,
+};
 use tele_lanes::{Answer, Gate, Task};
-use tele_made::{Maker, Summary, sum_of};
 use tele_trees::TreeTables;
 
 /// Makes lines from a seed, answers them, and prints the summary.

@@ -2,8 +2,8 @@
 ghost use Rattle.std.specs.Prelude.{◌≡◌, ℕ, ◌≤◌, ◌⊎◌, [], Some, map, string_bytes, IfSome};
 ghost use Rattle.tele_io.specs.Bytes.{HaveRisen, Appends, AppendsPart};
 ghost use Rattle.tele_lines.specs.Answer.{answer, usage_text};
-ghost use Rattle.tele_made.specs.Summaries.{summary_of, summary_text};
-ghost use Rattle.tele_command.specs.CommandLine.{options_in};
+ghost use Rattle.tele_jobs.specs.Summaries.{summary_of, summary_text};
+ghost use Rattle.tele_jobs.specs.CommandLine.{options_in};
 ghost use Rattle.tele_jobs.specs.Jobs.{job_of};
 ghost use Rattle.tele_jobs.specs.Causes.{IsAnswer, IsCutShort, IsStatus, IsWhole, Stops, ReachesBad, ReadsSparingly};
 ghost use Rattle.tele_jobs.specs.Rounds.{input_rounds, made_rounds};

@@ -2,7 +2,7 @@
 ghost use Rattle.std.specs.Prelude.{◌≡◌, ℕ, ◌≤◌, ◌^◌, [], IfSome};
 ghost use Rattle.tele_io.specs.Bytes.{HaveRisen};
 ghost use Rattle.tele_lines.specs.Answer.{usage_text};
-ghost use Rattle.tele_made.specs.Summaries.{summary_of, summary_text};
+ghost use Rattle.tele_jobs.specs.Summaries.{summary_of, summary_text};
 ghost use Rattle.tele_jobs.specs.Causes.{IsAnswer, IsCutShort, IsStatus, AnswersLines, WritesText};
 ghost use Rattle.tele_jobs.specs.Rounds.{RanRounds, team_of, input_rounds, made_rounds};
 ghost use Rattle.tele_jobs.specs.Endings.{HasNoTable};

@@ -1,5 +1,5 @@
 pub mod LaneLemmas
-pub mod CameLemmas
+pub mod RunLaneLemmas
 pub mod PutLemmas
 pub mod LogLemmas
 pub mod RefusalLemmas

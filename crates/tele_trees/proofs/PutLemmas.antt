@@ -16,12 +16,12 @@ use Rattle.ist_core.specs.Logs.{Log}
 use Rattle.ist_core.specs.Changes.{Entry, changes_of}
 use Rattle.ist_core.specs.Standing.{is_change, entry_by, entries_by}
 use Rattle.ist_core.specs.Resting.{AllStandIn, told_by_call}
-use Rattle.laws_rows.specs.Finishing.{is_put, puts_in}
+use Rattle.laws_calls.specs.Finishing.{is_put, puts_in}
 use Rattle.tele_lanes.specs.declared.task_lists.Task.{Task}
 use Rattle.tele_lanes.specs.Lines.{commands_of}
-use Rattle.tele_rounds.specs.Runs.{HasRun}
-use Rattle.tele_rounds.proofs.StandLemmas.{own_entry, other_entry}
-use Rattle.tele_rounds.proofs.LaneLemmas.{run_asked}
+use Rattle.tele_generations.specs.Runs.{HasRun}
+use Rattle.tele_generations.proofs.StandLemmas.{own_entry, other_entry}
+use Rattle.tele_generations.proofs.LaneLemmas.{run_asked}
 use Rattle.tele_generations.specs.Generations.{puts_done, all_done}
 use Rattle.tele_trees.specs.Ends.{TreeLane, run_of, HasEnded}
 

@@ -21,7 +21,7 @@ use Rattle.ist_core.specs.RowLayout.{next_place}
 use Rattle.ist_core.proofs.SpendingLemmas.{words_are_spent}
 use Rattle.ist_core.specs.StartLayout.{start}
 use Rattle.ist_core.specs.Spending.{spent}
-use Rattle.laws_rows.specs.Finishing.{puts_in}
+use Rattle.laws_calls.specs.Finishing.{puts_in}
 use Rattle.laws_histories.proofs.ChangeLemmas.{changes_on, on_trans}
 use Rattle.ist_tree.specs.Faces.{TreeFace, MakerFace, calls_in}
 use Rattle.ist_tree.specs.Opening.{IsNewTree}
@@ -32,7 +32,7 @@ use Rattle.tele_lanes.specs.declared.task_lists.Task.{Task}
 use Rattle.tele_lanes.specs.declared.answer_lists.Answer.{Answer}
 use Rattle.tele_lanes.specs.Lines.{commands_of}
 use Rattle.tele_lanes.specs.Lanes.{InLineOrder, TasksInLineOrder, unanswered, first_refusal}
-use Rattle.tele_rounds.specs.Runs.{LaneRun, HasRun, LanesRan, AreWhole, told_of_runs}
+use Rattle.tele_generations.specs.Runs.{LaneRun, HasRun, LanesRan, AreWhole, told_of_runs}
 use Rattle.tele_generations.specs.Generations.{RanFull, MayAsk, may_want_words}
 use Rattle.tele_generations.specs.Generations.{puts_done}
 use Rattle.tele_generations.specs.Tables.{RanOnTable, EndedWith}

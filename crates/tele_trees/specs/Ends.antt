@@ -14,7 +14,7 @@ use Rattle.tele_lanes.specs.declared.task_lists.Task.{Task}
 use Rattle.tele_lanes.specs.declared.answer_lists.Answer.{Answer}
 use Rattle.tele_lanes.specs.Lanes.{all_lane_tasks, unanswered, first_refusal, InLineOrder}
 use Rattle.tele_lanes.specs.Lanes.{TasksInLineOrder}
-use Rattle.tele_rounds.specs.Runs.{LaneRun}
+use Rattle.tele_generations.specs.Runs.{LaneRun}
 use Rattle.tele_steal.specs.Runs.{IsNewLane, IsRunLane}
 
 -- a lane whose port is a pass on a tree

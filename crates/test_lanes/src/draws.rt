@@ -2,7 +2,7 @@
 
 use std::alloc::{AllocError, Global};
 use std::test::Fail;
-use try_draws::{Draws, Kind, Shares, Spread};
+use test_tools::{Draws, Kind, Shares, Spread};
 
 #[test]
 fn numbers_are_those_of_the_source(rt: HostRuntime) {

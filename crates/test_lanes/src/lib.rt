@@ -2,7 +2,7 @@
 //!
 //! Read `bytes.rt` and `lines.rt`; `recorders.rt`, then `lanes.rt`, `meetings.rt` and `stealing.rt`; and
 //! `draws.rt`. Builds on `tele_io`, `tele_lines`, `plain_map`, `tele_lanes`,
-//! `tele_steal` and `try_draws`.
+//! `tele_steal` and `test_tools`.
 #![tactic(auto)]
 
 #[cfg(test)]

@@ -13,8 +13,8 @@ use Rattle.ist_core.proofs.ImageLemmas.{get-words_of_slot}
 use Rattle.ist_core.proofs.LeafLemmas.{reached, slots_reached}
 use Rattle.ist_core.proofs.ReferenceLemmas.{ref_of-word_of}
 use Rattle.ist_core.proofs.SlotLemmas.{same_inner}
-use Rattle.laws_rebuilds.proofs.FewLeafLemmas.{leaves_stand}
-use Rattle.laws_rebuilds.proofs.FinishedLeafLemmas.{finished_leaves}
+use Rattle.laws_links.proofs.FewLeafLemmas.{leaves_stand}
+use Rattle.laws_links.proofs.FinishedLeafLemmas.{finished_leaves}
 use Rattle.ist_rule.specs.declared.view.View.{View}
 use Rattle.ist_rule.specs.Learning.{now, Looked}
 use Rattle.ist_dcss.proofs.FieldLemmas.{looked_row}

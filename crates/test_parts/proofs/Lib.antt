@@ -1,3 +1,6 @@
+pub mod TableLemmas
+pub mod PutLemmas
+pub mod NewStartLemmas
 pub mod KeptLemmas
 pub mod LeafLemmas
 pub mod StartLemmas

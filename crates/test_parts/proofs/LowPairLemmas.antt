@@ -18,7 +18,7 @@ use Rattle.ist_rows.specs.declared.callers.Caller.{Caller}
 use Rattle.ist_rows.specs.Dropping.{HasPairBelow}
 use Rattle.ist_rows.specs.Rows.{IsCaller}
 use Rattle.ist_rows.proofs.CallerGoingLemmas.{caller_goes_on}
-use Rattle.ist_rule.specs.Faces.{SeatFace}
+use Rattle.ist_rule.specs.Faces.{TokenFace}
 use Rattle.test_parts.proofs.LeafLemmas.{good}
 
 -- the anchor's slot named the rebuild, so that it is published
@@ -50,18 +50,18 @@ root_seen w row e word x l is =
     (root.1.0, root.1.1)
 
 -- a caller that has made both loads
-module _ (who : Caller) (w x : SeatFace) (slot root : ℕ) (c : IsCaller who)
-    (l : Looked who.seat.view 3 slot w.view) (m : Looked w.view 18 root x.view) where
+module _ (who : Caller) (w x : TokenFace) (slot root : ℕ) (c : IsCaller who)
+    (l : Looked who.token.view 3 slot w.view) (m : Looked w.view 18 root x.view) where
   -- is one still
-  pub caller_both : IsCaller (record who { seat = x })
+  pub caller_both : IsCaller (record who { token = x })
   caller_both = caller_goes_on who x c (goes_on_more _ _ _ (looked_goes_on _ _ _ _ l)
       (looked_goes_on _ _ _ _ m))
 
   -- and holds its pair row below a published one
   pub pair_low : who.pair ≡ Some 29 → slot ≡ word_of (RebuildAt 15) → root ≡ word_of (InnerAt 36)
-      → HasPairBelow (record who { seat = x }) 36
+      → HasPairBelow (record who { token = x }) 36
   pair_low held slot_is root_is =
-      let rebuild = rebuild_seen who.seat.view slot w.view l slot_is in
+      let rebuild = rebuild_seen who.token.view slot w.view l slot_is in
       let row = root_seen w.view rebuild.0 rebuild.1 root x.view m root_is in
       record {
         pair = 29;

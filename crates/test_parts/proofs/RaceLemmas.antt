@@ -19,7 +19,7 @@ use Rattle.ist_core.specs.Elements.{Among}
 use Rattle.ist_core.proofs.MoveLemmas.{without-kept}
 use Rattle.ist_core.proofs.ReferenceLemmas.{ref_of-word_of}
 use Rattle.ist_core.proofs.RowLemmas.{with_row-same, with_inners-other}
-use Rattle.laws_rebuilds.proofs.FewLeafLemmas.{leaves_stand}
+use Rattle.laws_links.proofs.FewLeafLemmas.{leaves_stand}
 use Rattle.ist_rule.specs.declared.view.View.{View}
 use Rattle.ist_core.specs.declared.events.Who.TheVariants.{Caller as CallerOf}
 use Rattle.ist_core.specs.Shown.{IsShown, shown_row}
@@ -46,15 +46,15 @@ use Rattle.test_parts.proofs.LeafLemmas.{good}
 pub pair_stored : (old who : Caller) (base low high : ℕ) → low ≡ word_of (LeafAt 11)
     → high ≡ word_of (LeafAt 13)
     → who ≡ filled_with old base (0 ∷ 0 ∷ 2 ∷ 2 ∷ 9 ∷ low ∷ high ∷ [])
-    → StoredAll who.seat.view (root_rows base)
+    → StoredAll who.token.view (root_rows base)
 pair_stored old who base low high low_is high_is is =
     let words : List ℕ = 0 ∷ 0 ∷ 2 ∷ 2 ∷ 9 ∷ low ∷ high ∷ [] in
     let same : words ≡ 0 ∷ 0 ∷ 2 ∷ 2 ∷ 9 ∷ 89 ∷ 105 ∷ [] =
     ap₂ (λ a b. 0 ∷ 0 ∷ 2 ∷ 2 ∷ 9 ∷ a ∷ b ∷ []) low_is high_is in
-    subst (λ (x : Caller). StoredAll x.seat.view (root_rows base)) (sym is) (
+    subst (λ (x : Caller). StoredAll x.token.view (root_rows base)) (sym is) (
       λ k less. subst (λ (ws : List ℕ). slice_get ws k
-          ≡ Some (own_at (storing_all old.seat.view.own base words) (base + k))) same
-          (stored_at old.seat.view.own base words k less),
+          ≡ Some (own_at (storing_all old.token.view.own base words) (base + k))) same
+          (stored_at old.token.view.own base words k less),
       tt,
     )
 

@@ -16,7 +16,7 @@ use Rattle.ist_dcss.proofs.FieldLemmas.{looked_row, row_low}
 use Rattle.ist_rule.proofs.WentOnLemmas.{looked_went, went_grow}
 use Rattle.ist_rows.specs.CallerLaws.{KeepsRows}
 use Rattle.test_parts.specs.Racing.{IsUnderway}
-use Rattle.test_samples.proofs.StartLemmas.{good}
+use Rattle.test_parts.proofs.NewStartLemmas.{good}
 
 -- its places lie in the table
 pub change_low : (v : View) → IsSound v → MayHelp v 20 → 28 < v.words

@@ -1,2 +1,3 @@
 -- what the tests' functions promise each other
+pub mod Samples
 pub mod Racing

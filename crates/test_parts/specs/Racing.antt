@@ -22,7 +22,7 @@ use Rattle.laws_coming.specs.Builds.{IsRootBuilt, WasUnset}
 pub record HoldsStart (who : OneCaller) : Type 0 where
   pub number : who.number ≡ 0
   pub rows : (who.rebuild ≡ Some 15) × (who.change ≡ Some 20)
-  pub in_none : who.seat.view.pending ≡ None
+  pub in_none : who.token.view.pending ≡ None
 
 -- the rows of a root over the two leaves: one row at the base
 abbrev pub root_rows : ℕ → List Row
@@ -38,7 +38,7 @@ abbrev pub racing : View → ℕ → Event × Event
 racing v word =
     (Root (number_of v.who) 15 word (root_rows (word / 8)), Lose (number_of v.who) (word / 8 ∷ []))
 
--- the seat belongs to the caller with this number, which holds the row at the base and has filled it
+-- the token belongs to the caller with this number, which holds the row at the base and has filled it
 -- as a root
 pub record HasPrepared (v : View) (number base : ℕ) : Type 0 where
   pub mine : v.who ≡ Caller number

@@ -4,20 +4,20 @@ ghost use Rattle.ist_rows.specs.Rows.{IsCaller, spares_of, no_spares};
 ghost use Rattle.ist_dcss.specs.Helping.{MayHelp};
 ghost use Rattle.test_parts.specs.Racing.{HoldsStart};
 
+use crate::changes::{install_put, install_start};
 use ist_dcss::Installed;
 use ist_rows::{Caller, Kind, reserve};
 use ist_rule::TreeTable;
-use test_samples::{install_put, install_start};
 
 /// Reserves a leaf row and a change row, and installs a put with them, if the caller is the first
 /// and the rows lie at 4 and 6. Returns whether it is installed.
 pub(crate) fn begin_put(table: &TreeTable, who: &mut Caller) -> bool
-    requires same_table { who.old.seat.table ≡ table.now.table }
+    requires same_table { who.old.token.table ≡ table.now.table }
     requires caller { IsCaller who.old }
     requires no_rows { spares_of who.old ≡ no_spares }
-    requires in_none { who.old.seat.view.pending ≡ None }
-    ensures same_table { who.new.seat.table ≡ table.now.table }
-    ensures may_help { result ≡ true → MayHelp who.new.seat.view 6 }
+    requires in_none { who.old.token.view.pending ≡ None }
+    ensures same_table { who.new.token.table ≡ table.now.table }
+    ensures may_help { result ≡ true → MayHelp who.new.token.view 6 }
 {
     if reserve(table, who, Kind::Leaf) != Ok(4) {
         return false;
@@ -37,11 +37,11 @@ pub(crate) fn begin_put(table: &TreeTable, who: &mut Caller) -> bool
 /// Reserves a rebuild row and a change row. Returns whether the caller is the first and they lie at
 /// 15 and 20.
 pub(crate) fn reserve_start(table: &TreeTable, who: &mut Caller) -> bool
-    requires same_table { who.old.seat.table ≡ table.now.table }
+    requires same_table { who.old.token.table ≡ table.now.table }
     requires caller { IsCaller who.old }
     requires no_rows { spares_of who.old ≡ no_spares }
-    requires in_none { who.old.seat.view.pending ≡ None }
-    ensures same_table { who.new.seat.table ≡ table.now.table }
+    requires in_none { who.old.token.view.pending ≡ None }
+    ensures same_table { who.new.token.table ≡ table.now.table }
     ensures caller { IsCaller who.new }
     ensures start { result ≡ true → HoldsStart who.new }
 {
@@ -56,11 +56,11 @@ pub(crate) fn reserve_start(table: &TreeTable, who: &mut Caller) -> bool
 
 /// Installs a start of a rebuild of the row at 4 with these rows. Returns whether it is installed.
 pub(crate) fn begin_start(table: &TreeTable, who: &mut Caller) -> bool
-    requires same_table { who.old.seat.table ≡ table.now.table }
+    requires same_table { who.old.token.table ≡ table.now.table }
     requires caller { IsCaller who.old }
     requires start { HoldsStart who.old }
-    ensures same_table { who.new.seat.table ≡ table.now.table }
-    ensures may_help { result ≡ true → MayHelp who.new.seat.view 20 }
+    ensures same_table { who.new.token.table ≡ table.now.table }
+    ensures may_help { result ≡ true → MayHelp who.new.token.view 20 }
 {
     match install_start(table, who) {
         Installed::Yes => true,

@@ -1,14 +1,14 @@
-//! A caller that reserves, seats that part and meet, and two threads that reserve until the table is full.
+//! A caller that reserves, tokens that part and meet, and two threads that reserve until the table is full.
 ghost use Rattle.std.specs.Prelude.{◌≡◌};
 ghost use Rattle.ist_rows.specs.Rows.{IsCaller};
 
+use crate::empty_table;
 use ist_core::Full;
 use ist_layout::NEXT_PLACE;
 use ist_rows::{Caller, Kind, enter, fill, reserve};
 use ist_rule::{TreeTable, close, join as join_seats, load, split};
 use std::test::Fail;
 use std::thread::join;
-use test_samples::empty_table;
 
 #[test]
 fn a_caller_reserves_a_leaf_once_and_is_refused_a_change(rt: HostRuntime) -> Result<(), Fail> {
@@ -40,12 +40,12 @@ fn logs_of_different_length_meet(rt: HostRuntime) -> Result<(), Fail> {
     let mut first = enter(&table, &mut maker);
     let short = split(&table, &mut maker);
     assert_eq!(rt; reserve(&table, &mut first, Kind::Leaf), Ok(4));
-    let long = split(&table, &mut first.seat);
+    let long = split(&table, &mut first.token);
     join_seats(&table, &mut maker, long);
-    join_seats(&table, &mut first.seat, short);
+    join_seats(&table, &mut first.token, short);
     let second = enter(&table, &mut maker);
     assert_eq!(rt; second.number, 1);
-    assert_eq!(rt; load(&table, &mut first.seat, NEXT_PLACE), 6);
+    assert_eq!(rt; load(&table, &mut first.token, NEXT_PLACE), 6);
     Ok(())
 }
 
@@ -53,7 +53,7 @@ const KINDS: [Kind; 4] = [Kind::Leaf, Kind::Pair, Kind::Change, Kind::Rebuild];
 
 // Reserves one row of each kind, as far as there are words.
 fn reserve_each(table: &TreeTable, who: Caller) -> [Option<u32>; 4]
-    requires same_table { who.seat.table ≡ table.now.table }
+    requires same_table { who.token.table ≡ table.now.table }
     requires caller { IsCaller who }
 {
     let mut who = who;
@@ -86,11 +86,11 @@ fn two_threads_reserve_until_the_table_is_full(rt: HostRuntime) -> Result<(), Fa
     let (left, right) = join(
         &rt,
         ||
-            requires same_table { one.seat.table ≡ table.table }
+            requires same_table { one.token.table ≡ table.table }
             requires caller { IsCaller one }
         { reserve_each(&table, one) },
         ||
-            requires same_table { two.seat.table ≡ table.table }
+            requires same_table { two.token.table ≡ table.table }
             requires caller { IsCaller two }
         { reserve_each(&table, two) },
     );

@@ -3,29 +3,30 @@ ghost use Rattle.std.specs.Prelude.{◌≡◌, None};
 ghost use Rattle.ist_rows.specs.Rows.{IsCaller, spares_of, no_spares};
 
 use crate::beginnings::begin_put;
+use crate::changes::install_put;
 use crate::samples::word_at;
+use crate::tables::empty_table;
 use ist_dcss::{Decision, Installed, help};
 use ist_layout::{ANCHOR_SLOT_PLACE, Ref};
 use ist_rows::{Caller, Kind, enter, reserve};
-use ist_rule::{TreeSeat, TreeTable, know, load};
+use ist_rule::{TreeTable, TreeToken, know, load};
 use std::alloc::{AllocError, Global};
 use std::test::Fail;
 use std::thread::{Threads, join};
-use test_samples::{empty_table, install_put};
 
 /// Helps the change at 6 if the anchor's slot holds it.
 pub(crate) fn help_met(table: &TreeTable, who: &mut Caller) -> Option<Decision>
-    requires same_table { who.old.seat.table ≡ table.now.table }
+    requires same_table { who.old.token.table ≡ table.now.table }
     requires caller { IsCaller who.old }
-    ensures same_table { who.new.seat.table ≡ table.now.table }
+    ensures same_table { who.new.token.table ≡ table.now.table }
     ensures caller { IsCaller who.new }
     ensures same_rows { spares_of who.new ≡ spares_of who.old }
-    ensures in_same_call { who.new.seat.view.pending ≡ who.old.seat.view.pending }
+    ensures in_same_call { who.new.token.view.pending ≡ who.old.token.view.pending }
 {
-    know(&who.seat);
-    let met = load(table, &mut who.seat, ANCHOR_SLOT_PLACE);
+    know(&who.token);
+    let met = load(table, &mut who.token, ANCHOR_SLOT_PLACE);
     if met == (Ref::Change { base: 6 }).to_word() {
-        return Some(help(table, &mut who.seat, 6));
+        return Some(help(table, &mut who.token, 6));
     }
     None
 }
@@ -33,10 +34,10 @@ pub(crate) fn help_met(table: &TreeTable, who: &mut Caller) -> Option<Decision>
 // Has a caller that holds no rows try to install a put into the anchor's empty slot. Returns the word
 // that stood there.
 fn put_late(table: &TreeTable, who: &mut Caller) -> Option<u64>
-    requires same_table { who.old.seat.table ≡ table.now.table }
+    requires same_table { who.old.token.table ≡ table.now.table }
     requires caller { IsCaller who.old }
     requires no_rows { spares_of who.old ≡ no_spares }
-    requires in_none { who.old.seat.view.pending ≡ None }
+    requires in_none { who.old.token.view.pending ≡ None }
 {
     if reserve(table, who, Kind::Leaf) != Ok(15) || reserve(table, who, Kind::Change) != Ok(17) {
         return None;
@@ -63,19 +64,19 @@ struct Seen {
 // each sees the put decided, and the word that the last install met.
 fn help_in_turn(
     table: &TreeTable,
-    maker: &mut TreeSeat,
+    maker: &mut TreeToken,
     first: &mut Caller,
     second: &mut Caller,
 ) -> Option<Seen>
     requires maker_table { maker.old.table ≡ table.now.table }
-    requires first_table { first.old.seat.table ≡ table.now.table }
-    requires second_table { second.old.seat.table ≡ table.now.table }
+    requires first_table { first.old.token.table ≡ table.now.table }
+    requires second_table { second.old.token.table ≡ table.now.table }
     requires first { IsCaller first.old }
     requires no_rows { spares_of first.old ≡ no_spares }
-    requires in_none { first.old.seat.view.pending ≡ None }
+    requires in_none { first.old.token.view.pending ≡ None }
     requires second { IsCaller second.old }
     requires no_more_rows { spares_of second.old ≡ no_spares }
-    requires in_none_either { second.old.seat.view.pending ≡ None }
+    requires in_none_either { second.old.token.view.pending ≡ None }
 {
     if !begin_put(table, first) {
         return None;
@@ -83,7 +84,7 @@ fn help_in_turn(
     let installed = word_at(table, maker, ANCHOR_SLOT_PLACE);
     let by_second = help_met(table, second);
     let left = word_at(table, maker, ANCHOR_SLOT_PLACE);
-    let by_first = help(table, &mut first.seat, 6);
+    let by_first = help(table, &mut first.token, 6);
     let again = word_at(table, maker, ANCHOR_SLOT_PLACE);
     Some(Seen {
         words: [installed, left, again],
@@ -118,7 +119,7 @@ fn a_put_is_decided_once_and_leaves_its_slot(rt: HostRuntime) -> Result<(), Fail
 
 // Helps the change at 6, if the anchor's slot holds it, by a caller that has no more to do.
 fn help_moved(table: &TreeTable, who: Caller) -> Option<Decision>
-    requires same_table { who.seat.table ≡ table.now.table }
+    requires same_table { who.token.table ≡ table.now.table }
     requires caller { IsCaller who }
 {
     let mut who = who;
@@ -144,11 +145,11 @@ fn help_on_threads<R: Threads + Sync>(rt: &R, alloc: Global) -> Result<Helped, A
     let (left, right) = join(
         rt,
         ||
-            requires same_table { second.seat.table ≡ table.table }
+            requires same_table { second.token.table ≡ table.table }
             requires caller { IsCaller second }
         { help_moved(&table, second) },
         ||
-            requires same_table { third.seat.table ≡ table.table }
+            requires same_table { third.token.table ≡ table.table }
             requires caller { IsCaller third }
         { help_moved(&table, third) },
     );

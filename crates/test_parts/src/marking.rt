@@ -7,34 +7,34 @@ ghost use Rattle.ist_mark.specs.Marking.{MayMark};
 use crate::beginnings::{begin_start, reserve_start};
 use crate::races::follow;
 use crate::samples::word_at;
+use crate::table_of_two;
 use ist_layout::{ANCHOR_SLOT_PLACE, Ref, Status};
 use ist_mark::mark_and_count;
 use ist_rows::{Caller, enter};
-use ist_rule::{TreeSeat, TreeTable, know, load};
+use ist_rule::{TreeTable, TreeToken, know, load};
 use std::alloc::{AllocError, Global};
 use std::test::Fail;
 use std::thread::{Threads, join};
-use test_samples::table_of_two;
 
 // Helps the change at 20, and returns whether it has started a rebuild of the row at 4.
 fn see_start(table: &TreeTable, who: &mut Caller) -> bool
-    requires same_table { who.old.seat.table ≡ table.now.table }
-    requires may_help { MayHelp who.old.seat.view 20 }
-    ensures same_table { who.new.seat.table ≡ table.now.table }
-    ensures may_mark { result ≡ true → MayMark who.new.seat.view 4 }
+    requires same_table { who.old.token.table ≡ table.now.table }
+    requires may_help { MayHelp who.old.token.view 20 }
+    ensures same_table { who.new.token.table ≡ table.now.table }
+    ensures may_mark { result ≡ true → MayMark who.new.token.view 4 }
 {
-    follow(table, &mut who.seat)
+    follow(table, &mut who.token)
 }
 
 // The same, if the anchor's slot holds the change.
 fn meet(table: &TreeTable, who: &mut Caller) -> bool
-    requires same_table { who.old.seat.table ≡ table.now.table }
+    requires same_table { who.old.token.table ≡ table.now.table }
     requires caller { IsCaller who.old }
-    ensures same_table { who.new.seat.table ≡ table.now.table }
-    ensures may_mark { result ≡ true → MayMark who.new.seat.view 4 }
+    ensures same_table { who.new.token.table ≡ table.now.table }
+    ensures may_mark { result ≡ true → MayMark who.new.token.view 4 }
 {
-    know(&who.seat);
-    let met = load(table, &mut who.seat, ANCHOR_SLOT_PLACE);
+    know(&who.token);
+    let met = load(table, &mut who.token, ANCHOR_SLOT_PLACE);
     if met != (Ref::Change { base: 20 }).to_word() {
         return false;
     }
@@ -43,12 +43,12 @@ fn meet(table: &TreeTable, who: &mut Caller) -> bool
 
 // The first caller reserves the rows of a start, and installs it.
 fn start(table: &TreeTable, who: &mut Caller) -> bool
-    requires same_table { who.old.seat.table ≡ table.now.table }
+    requires same_table { who.old.token.table ≡ table.now.table }
     requires caller { IsCaller who.old }
     requires no_rows { spares_of who.old ≡ no_spares }
-    requires in_none { who.old.seat.view.pending ≡ None }
-    ensures same_table { who.new.seat.table ≡ table.now.table }
-    ensures may_help { result ≡ true → MayHelp who.new.seat.view 20 }
+    requires in_none { who.old.token.view.pending ≡ None }
+    ensures same_table { who.new.token.table ≡ table.now.table }
+    ensures may_help { result ≡ true → MayHelp who.new.token.view 20 }
 {
     if !reserve_start(table, who) {
         return false;
@@ -59,14 +59,14 @@ fn start(table: &TreeTable, who: &mut Caller) -> bool
 // Returns whether the second caller meets the start that the first one has installed, and both then
 // see the rebuild.
 fn see_both(table: &TreeTable, first: &mut Caller, second: &mut Caller) -> bool
-    requires first_table { first.old.seat.table ≡ table.now.table }
-    requires second_table { second.old.seat.table ≡ table.now.table }
-    requires may_help { MayHelp first.old.seat.view 20 }
+    requires first_table { first.old.token.table ≡ table.now.table }
+    requires second_table { second.old.token.table ≡ table.now.table }
+    requires may_help { MayHelp first.old.token.view 20 }
     requires second { IsCaller second.old }
-    ensures first_table { first.new.seat.table ≡ table.now.table }
-    ensures second_table { second.new.seat.table ≡ table.now.table }
-    ensures first_may { result ≡ true → MayMark first.new.seat.view 4 }
-    ensures second_may { result ≡ true → MayMark second.new.seat.view 4 }
+    ensures first_table { first.new.token.table ≡ table.now.table }
+    ensures second_table { second.new.token.table ≡ table.now.table }
+    ensures first_may { result ≡ true → MayMark first.new.token.view 4 }
+    ensures second_may { result ≡ true → MayMark second.new.token.view 4 }
 {
     if !meet(table, second) {
         return false;
@@ -78,16 +78,16 @@ fn see_both(table: &TreeTable, first: &mut Caller, second: &mut Caller) -> bool
 // counts.
 fn mark_in_turn(
     table: &TreeTable,
-    maker: &mut TreeSeat,
+    maker: &mut TreeToken,
     first: &mut Caller,
     second: &mut Caller,
 ) -> Option<([u64; 3], [u64; 2])>
     requires maker_table { maker.old.table ≡ table.now.table }
-    requires first_table { first.old.seat.table ≡ table.now.table }
-    requires second_table { second.old.seat.table ≡ table.now.table }
+    requires first_table { first.old.token.table ≡ table.now.table }
+    requires second_table { second.old.token.table ≡ table.now.table }
     requires first { IsCaller first.old }
     requires no_rows { spares_of first.old ≡ no_spares }
-    requires in_none { first.old.seat.view.pending ≡ None }
+    requires in_none { first.old.token.view.pending ≡ None }
     requires second { IsCaller second.old }
 {
     if !start(table, first) {
@@ -97,9 +97,9 @@ fn mark_in_turn(
     if !see_both(table, first, second) {
         return None;
     }
-    let by_first = mark_and_count(table, &mut first.seat, 4);
+    let by_first = mark_and_count(table, &mut first.token, 4);
     let status = word_at(table, maker, 4);
-    let by_second = mark_and_count(table, &mut second.seat, 4);
+    let by_second = mark_and_count(table, &mut second.token, 4);
     let again = word_at(table, maker, 4);
     Some(([clear, status, again], [by_first, by_second]))
 }
@@ -124,16 +124,16 @@ fn two_callers_mark_one_subtree_in_turn(rt: HostRuntime) -> Result<(), Fail> {
 
 // The same start, which both see.
 fn start_for_both(table: &TreeTable, first: &mut Caller, second: &mut Caller) -> bool
-    requires first_table { first.old.seat.table ≡ table.now.table }
-    requires second_table { second.old.seat.table ≡ table.now.table }
+    requires first_table { first.old.token.table ≡ table.now.table }
+    requires second_table { second.old.token.table ≡ table.now.table }
     requires first { IsCaller first.old }
     requires no_rows { spares_of first.old ≡ no_spares }
-    requires in_none { first.old.seat.view.pending ≡ None }
+    requires in_none { first.old.token.view.pending ≡ None }
     requires second { IsCaller second.old }
-    ensures first_table { first.new.seat.table ≡ table.now.table }
-    ensures second_table { second.new.seat.table ≡ table.now.table }
-    ensures first_may { result ≡ true → MayMark first.new.seat.view 4 }
-    ensures second_may { result ≡ true → MayMark second.new.seat.view 4 }
+    ensures first_table { first.new.token.table ≡ table.now.table }
+    ensures second_table { second.new.token.table ≡ table.now.table }
+    ensures first_may { result ≡ true → MayMark first.new.token.view 4 }
+    ensures second_may { result ≡ true → MayMark second.new.token.view 4 }
 {
     if !start(table, first) {
         return false;
@@ -143,12 +143,12 @@ fn start_for_both(table: &TreeTable, first: &mut Caller, second: &mut Caller) ->
 
 // Returns what a caller counts that has no more to do, if it may mark.
 fn mark_moved(table: &TreeTable, who: Caller, may: bool) -> Option<u64>
-    requires same_table { who.seat.table ≡ table.now.table }
-    requires may_mark { may ≡ true → MayMark who.seat.view 4 }
+    requires same_table { who.token.table ≡ table.now.table }
+    requires may_mark { may ≡ true → MayMark who.token.view 4 }
 {
     let mut who = who;
     if may {
-        Some(mark_and_count(table, &mut who.seat, 4))
+        Some(mark_and_count(table, &mut who.token, 4))
     } else {
         None
     }
@@ -166,12 +166,12 @@ fn mark_on_threads<R: Threads + Sync>(
     let (left, right) = join(
         rt,
         ||
-            requires same_table { first.seat.table ≡ table.table }
-            requires may_mark { may ≡ true → MayMark first.seat.view 4 }
+            requires same_table { first.token.table ≡ table.table }
+            requires may_mark { may ≡ true → MayMark first.token.view 4 }
         { mark_moved(&table, first, may) },
         ||
-            requires same_table { second.seat.table ≡ table.table }
-            requires may_mark { may ≡ true → MayMark second.seat.view 4 }
+            requires same_table { second.token.table ≡ table.table }
+            requires may_mark { may ≡ true → MayMark second.token.view 4 }
         { mark_moved(&table, second, may) },
     );
     Ok((left, right, word_at(&table, &mut maker, 4)))

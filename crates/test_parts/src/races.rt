@@ -14,23 +14,23 @@ ghost use Rattle.test_parts.specs.Racing.{root_rows, root_word, HasBothLeaves, H
 
 use crate::beginnings::{begin_start, reserve_start};
 use crate::samples::word_at;
+use crate::table_of_two;
 use ist_core::Full;
 use ist_dcss::{Decision, help};
 use ist_layout::{ANCHOR_SLOT_PLACE, Ref};
 use ist_mark::mark_and_count;
 use ist_rows::{Caller, Kind, drop_pair, enter, fill_row, reserve};
-use ist_rule::{TreeSeat, TreeTable, exchange_or_lose, know, load, word_count};
+use ist_rule::{TreeTable, TreeToken, exchange_or_lose, know, load, word_count};
 use std::alloc::{AllocError, Global};
 use std::test::Fail;
-use test_samples::table_of_two;
 
 // Reserves a pair row, and fills it as a root over the leaves at 11 and 13, if it lies at `base`.
 fn prepare(table: &TreeTable, who: &mut Caller, base: u32) -> bool
-    requires same_table { who.old.seat.table ≡ table.now.table }
+    requires same_table { who.old.token.table ≡ table.now.table }
     requires caller { IsCaller who.old }
     requires base { (base ≡ 29) ⊎ (base ≡ 36) }
-    ensures same_table { who.new.seat.table ≡ table.now.table }
-    ensures filled { result ≡ true → HasPrepared who.new.seat.view who.new.number base }
+    ensures same_table { who.new.token.table ≡ table.now.table }
+    ensures filled { result ≡ true → HasPrepared who.new.token.view who.new.number base }
 {
     if reserve(table, who, Kind::Pair).is_err() {
         return false;
@@ -45,15 +45,15 @@ fn prepare(table: &TreeTable, who: &mut Caller, base: u32) -> bool
 }
 
 // Returns whether the anchor's slot holds the change at 20.
-fn meet(table: &TreeTable, seat: &mut TreeSeat, number: u32, base: u32) -> bool
-    requires same_table { seat.old.table ≡ table.now.table }
-    requires filled { HasPrepared seat.old.view number base }
-    ensures same_table { seat.new.table ≡ table.now.table }
-    ensures filled { HasPrepared seat.new.view number base }
-    ensures may_help { result ≡ true → MayHelp seat.new.view 20 }
+fn meet(table: &TreeTable, token: &mut TreeToken, number: u32, base: u32) -> bool
+    requires same_table { token.old.table ≡ table.now.table }
+    requires filled { HasPrepared token.old.view number base }
+    ensures same_table { token.new.table ≡ table.now.table }
+    ensures filled { HasPrepared token.new.view number base }
+    ensures may_help { result ≡ true → MayHelp token.new.view 20 }
 {
-    know(seat);
-    let met = load(table, seat, ANCHOR_SLOT_PLACE);
+    know(token);
+    let met = load(table, token, ANCHOR_SLOT_PLACE);
     if met != (Ref::Change { base: 20 }).to_word() {
         return false;
     }
@@ -61,19 +61,19 @@ fn meet(table: &TreeTable, seat: &mut TreeSeat, number: u32, base: u32) -> bool
 }
 
 // Helps the change at 20, and returns whether it has started a rebuild of the row at 4.
-pub(crate) fn follow(table: &TreeTable, seat: &mut TreeSeat) -> bool
-    requires same_table { seat.old.table ≡ table.now.table }
-    requires may_help { MayHelp seat.old.view 20 }
-    ensures same_table { seat.new.table ≡ table.now.table }
-    ensures went { WentOn KeepsRows seat.old.view seat.new.view }
-    ensures own { seat.new.view.own ≡ seat.old.view.own }
-    ensures underway { result ≡ true → IsUnderway (now seat.new.view) }
+pub(crate) fn follow(table: &TreeTable, token: &mut TreeToken) -> bool
+    requires same_table { token.old.table ≡ table.now.table }
+    requires may_help { MayHelp token.old.view 20 }
+    ensures same_table { token.new.table ≡ table.now.table }
+    ensures went { WentOn KeepsRows token.old.view token.new.view }
+    ensures own { token.new.view.own ≡ token.old.view.own }
+    ensures underway { result ≡ true → IsUnderway (now token.new.view) }
 {
-    know(seat);
-    let decision = help(table, seat, 20);
-    let kind = load(table, seat, 21);
-    let to = load(table, seat, 25);
-    let target = load(table, seat, 15);
+    know(token);
+    let decision = help(table, token, 20);
+    let kind = load(table, token, 21);
+    let to = load(table, token, 25);
+    let target = load(table, token, 15);
     if kind != 3 || to != 124 || target != 4 {
         return false;
     }
@@ -84,22 +84,22 @@ pub(crate) fn follow(table: &TreeTable, seat: &mut TreeSeat) -> bool
 }
 
 // Returns whether the leaves at 11 and 13 lie below the row at 4, the second with the key 9.
-fn find_both(table: &TreeTable, seat: &mut TreeSeat) -> bool
-    requires same_table { seat.old.table ≡ table.now.table }
-    requires finished { IsFinishedWith (now seat.old.view) 4 2 }
-    ensures same_table { seat.new.table ≡ table.now.table }
-    ensures went { WentOn KeepsRows seat.old.view seat.new.view }
-    ensures own { seat.new.view.own ≡ seat.old.view.own }
-    ensures both { result ≡ true → HasBothLeaves (now seat.new.view) }
+fn find_both(table: &TreeTable, token: &mut TreeToken) -> bool
+    requires same_table { token.old.table ≡ table.now.table }
+    requires finished { IsFinishedWith (now token.old.view) 4 2 }
+    ensures same_table { token.new.table ≡ table.now.table }
+    ensures went { WentOn KeepsRows token.old.view token.new.view }
+    ensures own { token.new.view.own ≡ token.old.view.own }
+    ensures both { result ≡ true → HasBothLeaves (now token.new.view) }
 {
-    know(seat);
+    know(token);
     if word_count(table) < 44 {
         return false;
     }
-    let degree = load(table, seat, 6);
-    let low = load(table, seat, 9);
-    let high = load(table, seat, 10);
-    let key = load(table, seat, 13);
+    let degree = load(table, token, 6);
+    let low = load(table, token, 9);
+    let high = load(table, token, 10);
+    let key = load(table, token, 13);
     if degree != 2 || low != 89 || high != 105 || key != 9 {
         return false;
     }
@@ -107,19 +107,19 @@ fn find_both(table: &TreeTable, seat: &mut TreeSeat) -> bool
 }
 
 // Returns whether the rebuild at 15 has no root.
-fn find_no_root(table: &TreeTable, seat: &mut TreeSeat, number: u32) -> bool
-    requires same_table { seat.old.table ≡ table.now.table }
-    requires underway { IsUnderway (now seat.old.view) }
-    ensures same_table { seat.new.table ≡ table.now.table }
-    ensures went { WentOn KeepsRows seat.old.view seat.new.view }
-    ensures own { seat.new.view.own ≡ seat.old.view.own }
-    ensures unset { result ≡ true → WasUnset seat.new.view number 18 }
+fn find_no_root(table: &TreeTable, token: &mut TreeToken, number: u32) -> bool
+    requires same_table { token.old.table ≡ table.now.table }
+    requires underway { IsUnderway (now token.old.view) }
+    ensures same_table { token.new.table ≡ table.now.table }
+    ensures went { WentOn KeepsRows token.old.view token.new.view }
+    ensures own { token.new.view.own ≡ token.old.view.own }
+    ensures unset { result ≡ true → WasUnset token.new.view number 18 }
 {
-    know(seat);
+    know(token);
     if word_count(table) < 44 {
         return false;
     }
-    let root = load(table, seat, 18);
+    let root = load(table, token, 18);
     if root != 7 {
         return false;
     }
@@ -128,41 +128,41 @@ fn find_no_root(table: &TreeTable, seat: &mut TreeSeat, number: u32) -> bool
 
 // Returns whether the row at `base` is a root for the rebuild, and a load found that the rebuild
 // has none yet.
-fn build(table: &TreeTable, seat: &mut TreeSeat, number: u32, base: u32) -> bool
-    requires same_table { seat.old.table ≡ table.now.table }
-    requires may_help { MayHelp seat.old.view 20 }
-    requires filled { HasPrepared seat.old.view number base }
-    ensures same_table { seat.new.table ≡ table.now.table }
-    ensures built { result ≡ true → HasPairRoot seat.new.view number base }
+fn build(table: &TreeTable, token: &mut TreeToken, number: u32, base: u32) -> bool
+    requires same_table { token.old.table ≡ table.now.table }
+    requires may_help { MayHelp token.old.view 20 }
+    requires filled { HasPrepared token.old.view number base }
+    ensures same_table { token.new.table ≡ table.now.table }
+    ensures built { result ≡ true → HasPairRoot token.new.view number base }
 {
-    let underway = follow(table, seat);
+    let underway = follow(table, token);
     if !underway {
         return false;
     }
-    let keys = mark_and_count(table, seat, 4);
+    let keys = mark_and_count(table, token, 4);
     if keys != 2 {
         return false;
     }
-    let both = find_both(table, seat);
+    let both = find_both(table, token);
     if !both {
         return false;
     }
-    find_no_root(table, seat, number)
+    find_no_root(table, token, number)
 }
 
 // Makes the row at `base` the root of the rebuild, or loses it, and returns the word found at the
 // root's place. The caller no longer holds the row.
-fn root_or_lose(table: &TreeTable, seat: &mut TreeSeat, number: u32, base: u32) -> u64
-    requires same_table { seat.old.table ≡ table.now.table }
-    requires built { HasPairRoot seat.old.view number base }
-    ensures same_table { seat.new.table ≡ table.now.table }
+fn root_or_lose(table: &TreeTable, token: &mut TreeToken, number: u32, base: u32) -> u64
+    requires same_table { token.old.table ≡ table.now.table }
+    requires built { HasPairRoot token.old.view number base }
+    ensures same_table { token.new.table ≡ table.now.table }
     ensures rooted_or_lost { let root = Root number 15 (root_word base) (root_rows base) in
-        ExchangedOrLost seat.old.view root (Lose number (base ∷ [])) 18 7 result seat.new.view }
-    ensures holds_none { ¬ (HoldsRow (now seat.new.view) number base 7) }
+        ExchangedOrLost token.old.view root (Lose number (base ∷ [])) 18 7 result token.new.view }
+    ensures holds_none { ¬ (HoldsRow (now token.new.view) number base 7) }
 {
-    know(seat);
+    know(token);
     // Root, or Lose if another's root came first. Meets the other caller's.
-    exchange_or_lose(table, seat, 18, 7, u64::from(base) * 8 + 2)
+    exchange_or_lose(table, token, 18, 7, u64::from(base) * 8 + 2)
 }
 
 // What is seen if the first caller starts a rebuild of the row at 4, and two others build a root
@@ -170,18 +170,18 @@ fn root_or_lose(table: &TreeTable, seat: &mut TreeSeat, number: u32, base: u32) 
 // and the word in the anchor's slot.
 fn race(
     table: &TreeTable,
-    maker: &mut TreeSeat,
+    maker: &mut TreeToken,
     starter: &mut Caller,
     first: &mut Caller,
     second: &mut Caller,
 ) -> Option<[u64; 6]>
     requires maker_table { maker.old.table ≡ table.now.table }
-    requires starter_table { starter.old.seat.table ≡ table.now.table }
-    requires first_table { first.old.seat.table ≡ table.now.table }
-    requires second_table { second.old.seat.table ≡ table.now.table }
+    requires starter_table { starter.old.token.table ≡ table.now.table }
+    requires first_table { first.old.token.table ≡ table.now.table }
+    requires second_table { second.old.token.table ≡ table.now.table }
     requires starter { IsCaller starter.old }
     requires no_rows { spares_of starter.old ≡ no_spares }
-    requires in_none { starter.old.seat.view.pending ≡ None }
+    requires in_none { starter.old.token.view.pending ≡ None }
     requires first { IsCaller first.old }
     requires second { IsCaller second.old }
 {
@@ -194,17 +194,17 @@ fn race(
     if !begin_start(table, starter) {
         return None;
     }
-    if !meet(table, &mut first.seat, first.number, 29)
-        || !meet(table, &mut second.seat, second.number, 36)
-        || !build(table, &mut first.seat, first.number, 29)
-        || !build(table, &mut second.seat, second.number, 36)
+    if !meet(table, &mut first.token, first.number, 29)
+        || !meet(table, &mut second.token, second.number, 36)
+        || !build(table, &mut first.token, first.number, 29)
+        || !build(table, &mut second.token, second.number, 36)
     {
         return None;
     }
     Some([
         word_at(table, maker, 18),
-        root_or_lose(table, &mut first.seat, first.number, 29),
-        root_or_lose(table, &mut second.seat, second.number, 36),
+        root_or_lose(table, &mut first.token, first.number, 29),
+        root_or_lose(table, &mut second.token, second.number, 36),
         word_at(table, maker, 18),
         word_at(table, maker, 4),
         word_at(table, maker, ANCHOR_SLOT_PLACE),
@@ -233,21 +233,21 @@ fn who_comes_second_with_a_root_loses_its_row(rt: HostRuntime) -> Result<(), Fai
 // Gives up the pair row at 29, if the anchor's slot holds the rebuild at 15 and its root is the row
 // at 36.
 fn give_up_low(table: &TreeTable, who: &mut Caller) -> bool
-    requires same_table { who.old.seat.table ≡ table.now.table }
+    requires same_table { who.old.token.table ≡ table.now.table }
     requires caller { IsCaller who.old }
     requires pair { who.old.pair ≡ Some 29 }
-    ensures same_table { who.new.seat.table ≡ table.now.table }
+    ensures same_table { who.new.token.table ≡ table.now.table }
     ensures caller { IsCaller who.new }
 {
-    know(&who.seat);
+    know(&who.token);
     if word_count(table) < 44 {
         return false;
     }
-    let slot = load(table, &mut who.seat, ANCHOR_SLOT_PLACE);
+    let slot = load(table, &mut who.token, ANCHOR_SLOT_PLACE);
     if slot != (Ref::Rebuild { base: 15 }).to_word() {
         return false;
     }
-    let root = load(table, &mut who.seat, 18);
+    let root = load(table, &mut who.token, 18);
     if root != (Ref::Inner { base: 36 }).to_word() {
         return false;
     }
@@ -264,12 +264,12 @@ fn give_up(
     low: &mut Caller,
     high: &mut Caller,
 ) -> Option<(u64, Result<u32, Full>)>
-    requires starter_table { starter.old.seat.table ≡ table.now.table }
-    requires low_table { low.old.seat.table ≡ table.now.table }
-    requires high_table { high.old.seat.table ≡ table.now.table }
+    requires starter_table { starter.old.token.table ≡ table.now.table }
+    requires low_table { low.old.token.table ≡ table.now.table }
+    requires high_table { high.old.token.table ≡ table.now.table }
     requires starter { IsCaller starter.old }
     requires no_rows { spares_of starter.old ≡ no_spares }
-    requires in_none { starter.old.seat.view.pending ≡ None }
+    requires in_none { starter.old.token.view.pending ≡ None }
     requires low { IsCaller low.old }
     requires high { IsCaller high.old }
 {
@@ -282,12 +282,12 @@ fn give_up(
     if !prepare(table, high, 36) || !begin_start(table, starter) {
         return None;
     }
-    if !meet(table, &mut high.seat, high.number, 36)
-        || !build(table, &mut high.seat, high.number, 36)
+    if !meet(table, &mut high.token, high.number, 36)
+        || !build(table, &mut high.token, high.number, 36)
     {
         return None;
     }
-    let found = root_or_lose(table, &mut high.seat, high.number, 36);
+    let found = root_or_lose(table, &mut high.token, high.number, 36);
     if !give_up_low(table, low) {
         return None;
     }

@@ -4,7 +4,7 @@ ghost use Rattle.ist_core.specs.Lawful.{CanOpen};
 ghost use Rattle.ist_core.specs.RowLayout.{place_limit};
 
 use ist_core::Pair;
-use ist_rule::{TreeSeat, TreeTable, load, word_count};
+use ist_rule::{TreeTable, TreeToken, load, word_count};
 use std::alloc::{AllocError, Global};
 
 /// Returns the pairs with the keys from 0 on, each with a value that is one more than its key.
@@ -25,12 +25,12 @@ pub(crate) fn pairs_of(alloc: Global, count: u64) -> Result<Vec<Pair>, AllocErro
 }
 
 /// Returns the word at the place, or the greatest `u64` if the table has none there.
-pub(crate) fn word_at(table: &TreeTable, seat: &mut TreeSeat, place: u64) -> u64
-    requires same_table { seat.old.table ≡ table.now.table }
-    ensures same_table { seat.new.table ≡ table.now.table }
+pub(crate) fn word_at(table: &TreeTable, token: &mut TreeToken, place: u64) -> u64
+    requires same_table { token.old.table ≡ table.now.table }
+    ensures same_table { token.new.table ≡ table.now.table }
 {
     if place < word_count(table) {
-        load(table, seat, place)
+        load(table, token, place)
     } else {
         u64::MAX
     }

@@ -6,18 +6,18 @@ ghost use Rattle.ist_find.specs.Searches.{IsRow};
 use crate::beginnings::begin_put;
 use crate::helping::help_met;
 use crate::samples::pairs_of;
+use crate::tables::{empty_table, table_of_two};
 use ist_core::Pair;
 use ist_dcss::Decision;
 use ist_find::{Child, Found, Span, child_at, find_and_loads, find_from_anchor, find_span};
 use ist_image::lay_image;
 use ist_rows::{Caller, enter};
-use ist_rule::{TreeSeat, TreeTable, open_table};
+use ist_rule::{TreeTable, TreeToken, open_table};
 use std::alloc::{AllocError, Global};
 use std::test::Fail;
-use test_samples::{empty_table, table_of_two};
 
 // The table of two pairs: an inner row at 4, and two leaves.
-fn two_pairs(alloc: Global) -> Result<(TreeTable, TreeSeat), AllocError>
+fn two_pairs(alloc: Global) -> Result<(TreeTable, TreeToken), AllocError>
     ensures same_table { IfOk result (λ t. t.1.table ≡ t.0.table) }
     ensures row { IfOk result (λ t. IsRow t.1.view 4) }
 {
@@ -26,9 +26,9 @@ fn two_pairs(alloc: Global) -> Result<(TreeTable, TreeSeat), AllocError>
 
 // Returns the child for a key in the row of the table of two pairs, and what is found at the key.
 fn found_in_two(alloc: Global, key: u64) -> Result<(Child, Found), AllocError> {
-    let (table, mut seat) = two_pairs(alloc)?;
-    let child = child_at(&table, &mut seat, 4, key);
-    let found = find_from_anchor(&table, &mut seat, key);
+    let (table, mut token) = two_pairs(alloc)?;
+    let child = child_at(&table, &mut token, 4, key);
+    let found = find_from_anchor(&table, &mut token, key);
     Ok((child, found))
 }
 
@@ -57,7 +57,7 @@ fn each_key_is_found_with_its_value(rt: HostRuntime) -> Result<(), Fail> {
 
 // A table of 100 words with ten pairs, whose keys are three apart: a row at 4 with the keys 13 and
 // 22, and below it rows with one key each.
-fn ten_pairs(alloc: Global) -> Result<(TreeTable, TreeSeat), AllocError>
+fn ten_pairs(alloc: Global) -> Result<(TreeTable, TreeToken), AllocError>
     ensures same_table { IfOk result (λ t. t.1.table ≡ t.0.table) }
 {
     let pairs = vec![in alloc;
@@ -78,8 +78,8 @@ fn ten_pairs(alloc: Global) -> Result<(TreeTable, TreeSeat), AllocError>
 
 // Returns what is found at a key in the table of ten pairs, and the loads of the search.
 fn search_of_ten(alloc: Global, key: u64) -> Result<(Option<u64>, u64), AllocError> {
-    let (table, mut seat) = ten_pairs(alloc)?;
-    let found = find_and_loads(&table, &mut seat, key);
+    let (table, mut token) = ten_pairs(alloc)?;
+    let found = find_and_loads(&table, &mut token, key);
     Ok((found.value.value, found.loads))
 }
 
@@ -122,8 +122,8 @@ fn a_search_loads_the_words_of_its_way_alone(rt: HostRuntime) -> Result<(), Fail
 
 // Returns the span of a key in the table of ten pairs.
 fn span_of_ten(alloc: Global, key: u64) -> Result<Span, AllocError> {
-    let (table, mut seat) = ten_pairs(alloc)?;
-    let span = find_span(&table, &mut seat, key);
+    let (table, mut token) = ten_pairs(alloc)?;
+    let span = find_span(&table, &mut token, key);
     Ok(span)
 }
 
@@ -154,7 +154,7 @@ fn a_span_reaches_from_its_pair_to_before_the_next_one(rt: HostRuntime) -> Resul
 }
 
 // A table of this many pairs, with the keys from 0 on.
-fn numbers(alloc: Global, count: u64) -> Result<(TreeTable, TreeSeat), AllocError>
+fn numbers(alloc: Global, count: u64) -> Result<(TreeTable, TreeToken), AllocError>
     requires few { count < 2 ^ 20 }
     ensures same_table { IfOk result (λ t. t.1.table ≡ t.0.table) }
 {
@@ -167,8 +167,8 @@ fn numbers(alloc: Global, count: u64) -> Result<(TreeTable, TreeSeat), AllocErro
 fn search_of(alloc: Global, count: u64, key: u64) -> Result<(Option<u64>, u64), AllocError>
     requires few { count < 2 ^ 20 }
 {
-    let (table, mut seat) = numbers(alloc, count)?;
-    let found = find_and_loads(&table, &mut seat, key);
+    let (table, mut token) = numbers(alloc, count)?;
+    let found = find_and_loads(&table, &mut token, key);
     Ok((found.value.value, found.loads))
 }
 
@@ -217,16 +217,16 @@ struct Beside {
 // The first caller installs the put, and the second helps it.
 fn find_beside(
     table: &TreeTable,
-    maker: &mut TreeSeat,
+    maker: &mut TreeToken,
     first: &mut Caller,
     second: &mut Caller,
 ) -> Option<Beside>
     requires maker_table { maker.old.table ≡ table.now.table }
-    requires first_table { first.old.seat.table ≡ table.now.table }
-    requires second_table { second.old.seat.table ≡ table.now.table }
+    requires first_table { first.old.token.table ≡ table.now.table }
+    requires second_table { second.old.token.table ≡ table.now.table }
     requires first { IsCaller first.old }
     requires no_rows { spares_of first.old ≡ no_spares }
-    requires in_none { first.old.seat.view.pending ≡ None }
+    requires in_none { first.old.token.view.pending ≡ None }
     requires second { IsCaller second.old }
 {
     let before = find_from_anchor(table, maker, 1).value;

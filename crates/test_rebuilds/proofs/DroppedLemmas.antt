@@ -5,21 +5,21 @@ use Rattle.ist_core.specs.RowLayout.{anchor}
 use Rattle.ist_core.specs.Shown.{shown_slot}
 use Rattle.ist_core.proofs.NamingLemmas.{SlotNames}
 use Rattle.ist_core.proofs.OrderLemmas.{names}
-use Rattle.ist_rule.specs.Faces.{SeatFace}
+use Rattle.ist_rule.specs.Faces.{TokenFace}
 use Rattle.ist_rule.specs.Learning.{now, Looked}
 use Rattle.ist_rows.specs.declared.callers.Caller.{Caller}
 use Rattle.ist_rows.specs.Dropping.{HasPairBelow}
 
 -- a caller whose load of the anchor's slot named a row above its pair row has a pair row below it
-pub below_row_in_slot : (who : Caller) (seat : SeatFace) (word pair base : ℕ)
-    → Looked who.seat.view 3 word seat.view → ref_of word ≡ Some (InnerAt base)
-    → who.pair ≡ Some pair → pair < base → HasPairBelow (record who { seat = seat }) base
-below_row_in_slot who seat word pair base l is held below =
-    let t = now seat.view in
+pub below_row_in_slot : (who : Caller) (token : TokenFace) (word pair base : ℕ)
+    → Looked who.token.view 3 word token.view → ref_of word ≡ Some (InnerAt base)
+    → who.pair ≡ Some pair → pair < base → HasPairBelow (record who { token = token }) base
+below_row_in_slot who token word pair base l is held below =
+    let t = now token.view in
     let reads : ref_of t.anchor ≡ Some (InnerAt base) =
     ap ref_of (sym (l.stood t.anchor shown_slot)) ∙ is in
     let row = (subst (SlotNames t.pieces anchor 0) reads
-    (names seat.view.start seat.view.words l.sound.lawful.opens seat.view.log
+    (names token.view.start token.view.words l.sound.lawful.opens token.view.log
     l.sound.lawful.enabled).anchor_slot).1 in
     record {
       pair = pair;

@@ -35,12 +35,12 @@ use Rattle.test_rebuilds.specs.Late.{HasBoth, WasAt, put_of, row_of_put}
 
 -- the result of filling both rows
 pub record HasFilledBoth (old new : Caller) (change leaf : ℕ) (row : ChangeRow) : Type 0 where
-  pub same : new ≡ with_own old new.seat.view.own
-  pub stored : StoredAll new.seat.view (rows_of (put_of leaf row) change)
+  pub same : new ≡ with_own old new.token.view.own
+  pub stored : StoredAll new.token.view (rows_of (put_of leaf row) change)
 
 -- filling the leaf and then the change fills both rows
-pub both_filled : (old mid new : Caller) (change leaf : ℕ) (row : ChangeRow) → IsSound old.seat.view
-    → IsSound mid.seat.view → IsCaller old → IsCaller mid → HasBoth old change leaf
+pub both_filled : (old mid new : Caller) (change leaf : ℕ) (row : ChangeRow) → IsSound old.token.view
+    → IsSound mid.token.view → IsCaller old → IsCaller mid → HasBoth old change leaf
     → mid ≡ filled_with old leaf (row.key ∷ row.value ∷ [])
     → new ≡ filled_with mid change (words_of (ChangePiece row))
     → HasFilledBoth old new change leaf row
@@ -71,13 +71,13 @@ both_filled old mid new change leaf row s t c d has first second =
 -- the put is filled for a slot of a node that was open, and may be installed
 pub put_filled : (old first mid new : Caller) (key value node index word change leaf : ℕ)
     (row : ChangeRow) → IsAsked old (Put key value) → HasGone Prepares old first
-    → WasAt first.seat.view key node index word → HasRoomFor (now first.seat.view) key word
-    → IsUnrefused (now first.seat.view) first.number node → HasGone Prepares first mid
+    → WasAt first.token.view key node index word → HasRoomFor (now first.token.view) key word
+    → IsUnrefused (now first.token.view) first.number node → HasGone Prepares first mid
     → HasBoth mid change leaf → IsGoodBase leaf
     → row ≡ row_of_put key value node index word leaf mid.number → IsCaller new
-    → IsSound new.seat.view → new ≡ with_own mid new.seat.view.own
-    → StoredAll new.seat.view (rows_of (put_of leaf row) change)
-    → IsInstallable new.seat.view change (put_of leaf row)
+    → IsSound new.token.view → new ≡ with_own mid new.token.view.own
+    → StoredAll new.token.view (rows_of (put_of leaf row) change)
+    → IsInstallable new.token.view change (put_of leaf row)
 put_filled old first mid new key value node index word change leaf row asked gone at room unrefused
     taken has good row_is c s same stored =
     let planned = leaf_planned Prepares first mid taken.went

@@ -29,7 +29,7 @@ use Rattle.laws_coming.proofs.RootLemmas.{root_comes, root_comes_or_loses}
 use Rattle.laws_coming.proofs.SizeLemmas.{IsRootSizes, of_whole, of_top, root_sizes}
 use Rattle.laws_links.proofs.FinishedLemmas.{target_grows}
 use Rattle.laws_links.proofs.FormLemmas.{finished_with_grows}
-use Rattle.laws_rebuilds.proofs.FinishedLeafLemmas.{finished_leaves}
+use Rattle.laws_links.proofs.FinishedLeafLemmas.{finished_leaves}
 use Rattle.ist_rebuild.proofs.HelpedLemmas.{started_went}
 use Rattle.ist_rule.specs.declared.view.View.{View}
 use Rattle.ist_rule.specs.declared.view.OwnWord.{OwnWord}
@@ -83,17 +83,17 @@ one_base (row ∷ other ∷ rows) base rest e f = absurd (let n = ap length e in
 
 -- what was built over both leaves is a root for the rebuild
 module _ (old new : Caller) (rebuild target keys word : ℕ) (ref : Ref) (two : keys ≡ 2)
-    (s : IsSound old.seat.view) (m : IsMarked (now old.seat.view) rebuild target keys)
-    (mine : old.seat.view.who ≡ CallerOf old.number) (number : new.number ≡ old.number)
-    (went : WentOn Builds old.seat.view new.seat.view)
+    (s : IsSound old.token.view) (m : IsMarked (now old.token.view) rebuild target keys)
+    (mine : old.token.view.who ≡ CallerOf old.number) (number : new.number ≡ old.number)
+    (went : WentOn Builds old.token.view new.token.view)
     (laid : (all : List PlacedLeaf)
-    → HasLeaves (now old.seat.view).pieces (Some (InnerAt target)) all
+    → HasLeaves (now old.token.view).pieces (Some (InnerAt target)) all
     → IsPartLaid old new ref (take 2 (drop 0 all))) (ref_is : ref_of word ≡ Some ref) where
   abbrev v : View
-  v = old.seat.view
+  v = old.token.view
 
   abbrev w : View
-  w = new.seat.view
+  w = new.token.view
 
   grow : AllGrow (now v).pieces (now w).pieces
   grow = went_grow Builds v w went

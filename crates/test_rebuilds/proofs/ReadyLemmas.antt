@@ -11,23 +11,23 @@ use Rattle.ist_rebuild.specs.Going.{Serves}
 use Rattle.ist_rebuild.proofs.HelpedLemmas.{started_went}
 use Rattle.ist_rebuild.proofs.BuiltOutLemmas.{has_marked}
 use Rattle.ist_rule.specs.declared.view.View.{View}
-use Rattle.ist_rule.specs.Faces.{SeatFace}
+use Rattle.ist_rule.specs.Faces.{TokenFace}
 use Rattle.ist_rule.specs.Going.{WentOn}
 use Rattle.ist_rule.specs.Learning.{GoesOnTo, now}
 use Rattle.ist_rule.proofs.WentOnLemmas.{goes_on_went, went_grow}
 use Rattle.ist_rows.specs.declared.callers.Caller.{Caller}
 
 -- the target that it marked is finished
-pub is_marked : (who : Caller) (mid seat : SeatFace) (rebuild target keys : ℕ) → IsReady who
-    → IsStarted (now who.seat.view) rebuild → GoesOnTo who.seat.view mid.view
-    → HasTarget (now mid.view) rebuild target → WentOn (Marks seat.view target) mid.view seat.view
-    → IsFinishedWith (now seat.view) target keys → IsMarked (now seat.view) rebuild target keys
-is_marked who mid seat rebuild target keys ready started seen h marks finished =
-    let m = has_marked who mid seat rebuild target keys ready started seen h marks finished in
+pub is_marked : (who : Caller) (mid token : TokenFace) (rebuild target keys : ℕ) → IsReady who
+    → IsStarted (now who.token.view) rebuild → GoesOnTo who.token.view mid.view
+    → HasTarget (now mid.view) rebuild target → WentOn (Marks token.view target) mid.view token.view
+    → IsFinishedWith (now token.view) target keys → IsMarked (now token.view) rebuild target keys
+is_marked who mid token rebuild target keys ready started seen h marks finished =
+    let m = has_marked who mid token rebuild target keys ready started seen h marks finished in
     record {
-      started = started_went Serves who.seat.view seat.view m.helped.on.gone.went rebuild started;
-      target_is = target_grows (now mid.view) (now seat.view)
-          (went_grow (Marks seat.view target) mid.view seat.view marks) rebuild target h;
+      started = started_went Serves who.token.view token.view m.helped.on.gone.went rebuild started;
+      target_is = target_grows (now mid.view) (now token.view)
+          (went_grow (Marks token.view target) mid.view token.view marks) rebuild target h;
       finished = finished;
     }
 

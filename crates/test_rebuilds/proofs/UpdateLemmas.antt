@@ -4,7 +4,7 @@ use Rattle.ist_core.specs.declared.calls.Call.{Call}
 use Rattle.ist_core.specs.declared.commands.Command.{Command}
 use Rattle.ist_rule.specs.declared.view.View.{View}
 use Rattle.ist_rule.specs.Conditions.{CanEnd}
-use Rattle.ist_rule.specs.Faces.{SeatFace}
+use Rattle.ist_rule.specs.Faces.{TokenFace}
 use Rattle.ist_rule.specs.Going.{SearchedOn}
 use Rattle.ist_rule.specs.Learning.{Turned, beginning, ending}
 use Rattle.ist_rule.specs.Rule.{IsSound}
@@ -16,7 +16,7 @@ use Rattle.ist_rows.specs.Going.{IsQuiet}
 use Rattle.ist_tree.specs.Insides.{IsPass}
 use Rattle.ist_tree.specs.Working.{Works}
 use Rattle.ist_tree.proofs.EndingLemmas.{ended_call}
-use Rattle.ist_tree.proofs.EndsLemmas.{picked_ends}
+use Rattle.ist_tree.proofs.UpdateStepLemmas.{picked_ends}
 use Rattle.ist_tree.proofs.EventLemmas.{updates_work}
 use Rattle.ist_tree.proofs.GoingLemmas.{caller_on}
 use Rattle.ist_updates.specs.declared.updates.Due.{Due}
@@ -25,22 +25,22 @@ use Rattle.ist_updates.specs.Counting.{LeavesDue}
 use Rattle.test_rebuilds.specs.Steps.{HasDue}
 
 -- the call of an update that was carried out may end
-pub may_end : (who began new : Caller) (command : Command) → IsSound who.seat.view → IsPass who
-    → Turned who.seat.view (beginning who.seat.view (Some command)) began.seat.view
-    → began.number ≡ who.number → SearchedOn Updates began.seat.view new.seat.view
+pub may_end : (who began new : Caller) (command : Command) → IsSound who.token.view → IsPass who
+    → Turned who.token.view (beginning who.token.view (Some command)) began.token.view
+    → began.number ≡ who.number → SearchedOn Updates began.token.view new.token.view
     → new.number ≡ began.number → IsCaller new → (reply : Option ℕ) → MayEnd new command reply
-    → CanEnd new.seat.view (ended_call new.seat.view reply)
-    × (reply ≡ (ended_call new.seat.view reply).reply)
+    → CanEnd new.token.view (ended_call new.token.view reply)
+    × (reply ≡ (ended_call new.token.view reply).reply)
 may_end who began new command s p begun began_number went number c reply m =
     picked_ends who began new command s p begun began_number
-    (searched_all Updates Works updates_work began.seat.view new.seat.view went) number c.mine reply m
+    (searched_all Updates Works updates_work began.token.view new.token.view went) number c.mine reply m
 
 -- and its caller is in no call then
-pub ended_pass : (who : Caller) (seat : SeatFace) (call : Call) → IsCaller who → HasRefused who
-    → Turned who.seat.view (ending who.seat.view call) seat.view
-    → IsPass (record who { seat = seat })
-ended_pass who seat call c r t =
-    let it = caller_on who seat c r record {
+pub ended_pass : (who : Caller) (token : TokenFace) (call : Call) → IsCaller who → HasRefused who
+    → Turned who.token.view (ending who.token.view call) token.view
+    → IsPass (record who { token = token })
+ended_pass who token call c r t =
+    let it = caller_on who token c r record {
       who_is = ap (λ (y : View). y.who) t.view;
       start_is = ap (λ (y : View). y.start) t.view;
       words_is = ap (λ (y : View). y.words) t.view;
@@ -55,6 +55,6 @@ ended_pass who seat call c r t =
 
 -- what an update has made due may be rebuilt
 pub made_due : (old new : Caller) (due : Option Due) → IsCaller new → HasRefused new → IsQuiet new
-    → LeavesDue old.seat.view new.seat.view old.number due → IfSome due (HasDue new)
+    → LeavesDue old.token.view new.token.view old.number due → IfSome due (HasDue new)
 made_due old new None c r q d = tt
 made_due old new (Some due) c r q d = record { caller = c; refused = r; quiet = q; may = d.may }

@@ -15,12 +15,12 @@ use Rattle.ist_updates.specs.Trying.{IsAtSlot}
 
 -- ---- the slot
 
--- the seat has begun a search, made loads, and reached this slot, which held the word then
+-- the token has begun a search, made loads, and reached this slot, which held the word then
 pub record HasReachedSlot (v : View) (key node index word : ℕ) (w : View) : Type 0 where
   pub went : SearchedOn (λ event. ⊥) v w
   pub at : IsAtSlot w key node index word
 
--- the seat has only made loads since it was at the slot, which held the word then
+-- the token has only made loads since it was at the slot, which held the word then
 abbrev pub WasAt : View → ℕ → ℕ → ℕ → ℕ → Type 0
 WasAt v key node index word =
     WasAtSlot v record { node = node; index = index; word = word; key = key }
@@ -54,4 +54,4 @@ pub record HasBoth (who : Caller) (change leaf : ℕ) : Type 0 where
 -- the rows are filled, and the change may be installed
 pub record IsFilled (who : Caller) (change leaf : ℕ) (row : ChangeRow) : Type 0 where
   pub caller : IsCaller who
-  pub installable : IsInstallable who.seat.view change (put_of leaf row)
+  pub installable : IsInstallable who.token.view change (put_of leaf row)

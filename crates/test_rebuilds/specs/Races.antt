@@ -14,7 +14,7 @@ use Rattle.ist_rule.specs.Watching.{number_of}
 use Rattle.laws_coming.specs.Builds.{IsRootBuilt, WasUnset}
 use Rattle.ist_build.specs.Naming.{row_stored}
 
--- the one row of the root that the word names, with the words that the seat stored there
+-- the one row of the root that the word names, with the words that the token stored there
 abbrev pub row_named : View → ℕ → List Row
 row_named v word =
     row_stored v record { caller = number_of v.who; base = word / tag_count; size = pair_words } ∷ []

@@ -21,4 +21,4 @@ pub record HasDue (who : Caller) (due : Due) : Type 0 where
   pub caller : IsCaller who
   pub refused : HasRefused who
   pub quiet : IsQuiet who
-  pub may : MayStart who.seat.view due.parent due.index due.target
+  pub may : MayStart who.token.view due.parent due.index due.target

@@ -19,7 +19,7 @@ use ist_layout::{ANCHOR, ANCHOR_SLOT_PLACE, Ref};
 use ist_mark::mark_and_count;
 use ist_rebuild::{Helped, Started, help_rebuild, start};
 use ist_rows::{Caller, enter};
-use ist_rule::{TreeSeat, TreeTable, begin_call, know, load};
+use ist_rule::{TreeTable, TreeToken, begin_call, know, load};
 
 /// A finished row, and how many keys it has.
 #[derive(Clone, Copy, Drop)]
@@ -29,45 +29,45 @@ pub(crate) struct Marked {
 }
 
 /// The next caller, in a call of its own.
-pub(crate) fn enter_call(table: &TreeTable, maker: &mut TreeSeat) -> Caller
+pub(crate) fn enter_call(table: &TreeTable, maker: &mut TreeToken) -> Caller
     requires same_table { maker.old.table ≡ table.now.table }
     requires maker { maker.old.view.who ≡ Maker }
     requires given { maker.old.view.given ≡ maker.old.view.made }
     requires few { maker.old.view.made < caller_limit }
     ensures ready { IsReady result }
-    ensures same_table { result.seat.table ≡ table.now.table }
+    ensures same_table { result.token.table ≡ table.now.table }
     ensures maker_table { maker.new.table ≡ table.now.table }
     ensures made { (maker.new.view.who ≡ Maker) × (maker.new.view.made ≡ maker.old.view.made + 1) }
     ensures given { maker.new.view.given ≡ maker.new.view.made }
 {
     let mut who = enter(table, maker);
-    know(&who.seat);
-    begin_call(table, &mut who.seat, None);
+    know(&who.token);
+    begin_call(table, &mut who.token, None);
     who
 }
 
 // Returns the word in the anchor's slot.
 fn slot_word(table: &TreeTable, who: &mut Caller) -> u64
-    requires same_table { who.old.seat.table ≡ table.now.table }
+    requires same_table { who.old.token.table ≡ table.now.table }
     requires ready { IsReady who.old }
-    ensures same_table { who.new.seat.table ≡ table.now.table }
+    ensures same_table { who.new.token.table ≡ table.now.table }
     ensures ready { IsReady who.new }
-    ensures holds { SlotHolds (now who.new.seat.view) anchor 0 result }
+    ensures holds { SlotHolds (now who.new.token.view) anchor 0 result }
 {
-    know(&who.seat);
-    load(table, &mut who.seat, ANCHOR_SLOT_PLACE)
+    know(&who.token);
+    load(table, &mut who.token, ANCHOR_SLOT_PLACE)
 }
 
 /// Returns the inner row below the anchor, if there is one: a rebuild of it may be started.
 pub(crate) fn see_row(table: &TreeTable, who: &mut Caller) -> Option<u32>
-    requires same_table { who.old.seat.table ≡ table.now.table }
+    requires same_table { who.old.token.table ≡ table.now.table }
     requires ready { IsReady who.old }
-    ensures same_table { who.new.seat.table ≡ table.now.table }
+    ensures same_table { who.new.token.table ≡ table.now.table }
     ensures ready { IsReady who.new }
-    ensures may_start { IfSome result (MayStart who.new.seat.view anchor 0) }
+    ensures may_start { IfSome result (MayStart who.new.token.view anchor 0) }
 {
     let word = slot_word(table, who);
-    know(&who.seat);
+    know(&who.token);
     match Ref::from_word(word) {
         Some(Ref::Inner { base }) => Some(base),
         _ => None,
@@ -76,27 +76,27 @@ pub(crate) fn see_row(table: &TreeTable, who: &mut Caller) -> Option<u32>
 
 /// Starts a rebuild of the row that the caller has seen below the anchor.
 pub(crate) fn begin(table: &TreeTable, who: &mut Caller, target: u32) -> Result<Started, Full>
-    requires same_table { who.old.seat.table ≡ table.now.table }
+    requires same_table { who.old.token.table ≡ table.now.table }
     requires ready { IsReady who.old }
-    requires may_start { MayStart who.old.seat.view anchor 0 target }
-    ensures same_table { who.new.seat.table ≡ table.now.table }
+    requires may_start { MayStart who.old.token.view anchor 0 target }
+    ensures same_table { who.new.token.table ≡ table.now.table }
     ensures ready { IsReady who.new }
     ensures started { (rebuild : ℕ) → result ≡ Ok (Yes rebuild)
-        → IsStarted (now who.new.seat.view) rebuild }
+        → IsStarted (now who.new.token.view) rebuild }
 {
     start(table, who, ANCHOR, 0, target)
 }
 
 /// Returns the rebuild below the anchor, if there is one.
 pub(crate) fn see_rebuild(table: &TreeTable, who: &mut Caller) -> Option<u32>
-    requires same_table { who.old.seat.table ≡ table.now.table }
+    requires same_table { who.old.token.table ≡ table.now.table }
     requires ready { IsReady who.old }
-    ensures same_table { who.new.seat.table ≡ table.now.table }
+    ensures same_table { who.new.token.table ≡ table.now.table }
     ensures ready { IsReady who.new }
-    ensures started { IfSome result (IsStarted (now who.new.seat.view)) }
+    ensures started { IfSome result (IsStarted (now who.new.token.view)) }
 {
     let word = slot_word(table, who);
-    know(&who.seat);
+    know(&who.token);
     match Ref::from_word(word) {
         Some(Ref::Rebuild { base }) => Some(base),
         _ => None,
@@ -105,58 +105,58 @@ pub(crate) fn see_rebuild(table: &TreeTable, who: &mut Caller) -> Option<u32>
 
 /// Marks the target of the rebuild, and counts its keys.
 pub(crate) fn mark(table: &TreeTable, who: &mut Caller, rebuild: u32) -> Marked
-    requires same_table { who.old.seat.table ≡ table.now.table }
+    requires same_table { who.old.token.table ≡ table.now.table }
     requires ready { IsReady who.old }
-    requires started { IsStarted (now who.old.seat.view) rebuild }
-    ensures same_table { who.new.seat.table ≡ table.now.table }
+    requires started { IsStarted (now who.old.token.view) rebuild }
+    ensures same_table { who.new.token.table ≡ table.now.table }
     ensures ready { IsReady who.new }
-    ensures marked { IsMarked (now who.new.seat.view) rebuild result.target result.keys }
-    ensures started { IsStarted (now who.new.seat.view) rebuild }
-    ensures buildable { IsBuildable (now who.new.seat.view) rebuild }
+    ensures marked { IsMarked (now who.new.token.view) rebuild result.target result.keys }
+    ensures started { IsStarted (now who.new.token.view) rebuild }
+    ensures buildable { IsBuildable (now who.new.token.view) rebuild }
 {
-    know(&who.seat);
-    let target = target_of(table, &mut who.seat, rebuild);
-    let keys = mark_and_count(table, &mut who.seat, target);
+    know(&who.token);
+    let target = target_of(table, &mut who.token, rebuild);
+    let keys = mark_and_count(table, &mut who.token, target);
     Marked { target, keys }
 }
 
 /// Gives the rebuild its root.
 pub(crate) fn set(table: &TreeTable, who: &mut Caller, rebuild: u32) -> Result<Ref, Full>
-    requires same_table { who.old.seat.table ≡ table.now.table }
+    requires same_table { who.old.token.table ≡ table.now.table }
     requires ready { IsReady who.old }
-    requires buildable { IsBuildable (now who.old.seat.view) rebuild }
-    ensures same_table { who.new.seat.table ≡ table.now.table }
+    requires buildable { IsBuildable (now who.old.token.view) rebuild }
+    ensures same_table { who.new.token.table ≡ table.now.table }
     ensures ready { IsReady who.new }
-    ensures buildable { IsBuildable (now who.new.seat.view) rebuild }
-    ensures started { IsStarted (now who.new.seat.view) rebuild }
-    ensures rooted { IfOk result (λ root. IsRooted (now who.new.seat.view) rebuild) }
+    ensures buildable { IsBuildable (now who.new.token.view) rebuild }
+    ensures started { IsStarted (now who.new.token.view) rebuild }
+    ensures rooted { IfOk result (λ root. IsRooted (now who.new.token.view) rebuild) }
 {
-    know(&who.seat);
+    know(&who.token);
     set_root(table, who, rebuild)
 }
 
 /// Fills the parts of the rebuild's root.
 pub(crate) fn fill_all(table: &TreeTable, who: &mut Caller, rebuild: u32) -> Result<(), Full>
-    requires same_table { who.old.seat.table ≡ table.now.table }
+    requires same_table { who.old.token.table ≡ table.now.table }
     requires ready { IsReady who.old }
-    requires buildable { IsBuildable (now who.old.seat.view) rebuild }
-    requires rooted { IsRooted (now who.old.seat.view) rebuild }
-    ensures same_table { who.new.seat.table ≡ table.now.table }
+    requires buildable { IsBuildable (now who.old.token.view) rebuild }
+    requires rooted { IsRooted (now who.old.token.view) rebuild }
+    ensures same_table { who.new.token.table ≡ table.now.table }
     ensures ready { IsReady who.new }
 {
-    know(&who.seat);
+    know(&who.token);
     fill_parts(table, who, rebuild)
 }
 
 /// Helps the rebuild until it is done.
 pub(crate) fn help_on(table: &TreeTable, who: &mut Caller, rebuild: u32) -> Result<Helped, Full>
-    requires same_table { who.old.seat.table ≡ table.now.table }
+    requires same_table { who.old.token.table ≡ table.now.table }
     requires ready { IsReady who.old }
-    requires started { IsStarted (now who.old.seat.view) rebuild }
-    ensures same_table { who.new.seat.table ≡ table.now.table }
+    requires started { IsStarted (now who.old.token.view) rebuild }
+    ensures same_table { who.new.token.table ≡ table.now.table }
     ensures ready { IsReady who.new }
-    ensures started { IsStarted (now who.new.seat.view) rebuild }
+    ensures started { IsStarted (now who.new.token.view) rebuild }
 {
-    know(&who.seat);
+    know(&who.token);
     help_rebuild(table, who, rebuild)
 }

@@ -16,13 +16,13 @@ use std::test::Fail;
 // The row at which the inner row in the anchor's slot lies, for which the caller gives up its pair row,
 // if that lies lower.
 fn give_up(table: &TreeTable, who: &mut Caller) -> Option<u32>
-    requires same_table { who.old.seat.table ≡ table.now.table }
+    requires same_table { who.old.token.table ≡ table.now.table }
     requires caller { IsCaller who.old }
-    ensures same_table { who.new.seat.table ≡ table.now.table }
+    ensures same_table { who.new.token.table ≡ table.now.table }
     ensures caller { IsCaller who.new }
 {
-    know(&who.seat);
-    let word = load(table, &mut who.seat, ANCHOR_SLOT_PLACE);
+    know(&who.token);
+    let word = load(table, &mut who.token, ANCHOR_SLOT_PLACE);
     let base = match Ref::from_word(word) {
         Some(Ref::Inner { base }) => base,
         _ => return None,
@@ -39,9 +39,9 @@ fn give_up(table: &TreeTable, who: &mut Caller) -> Option<u32>
 type Seen = (Result<u32, Full>, Option<u32>, Result<u32, Full>);
 
 fn reserve_again(table: &TreeTable, low: &mut Caller, other: &mut Caller) -> Option<Seen>
-    requires same_table { low.old.seat.table ≡ table.now.table }
+    requires same_table { low.old.token.table ≡ table.now.table }
     requires caller { IsCaller low.old }
-    requires other_table { other.old.seat.table ≡ table.now.table }
+    requires other_table { other.old.token.table ≡ table.now.table }
     requires other_pass { IsPass other.old }
 {
     let held = reserve(table, low, Kind::Pair);

@@ -19,7 +19,7 @@ use ist_dcss::{Decision, Installed, help};
 use ist_layout::Ref;
 use ist_rebuild::Helped;
 use ist_rows::Caller;
-use ist_rule::{TreeSeat, TreeTable};
+use ist_rule::{TreeTable, TreeToken};
 use ist_tree::OpenFault;
 use plain_map::Plain;
 use std::alloc::{AllocError, Global};
@@ -45,14 +45,14 @@ struct Seen {
 }
 
 // The tags of the first three slots of the row over all pairs, which lies at 4 and has 14 of them.
-fn tags(table: &TreeTable, seat: &mut TreeSeat) -> (u64, u64, u64)
-    requires same_table { seat.old.table ≡ table.now.table }
-    ensures same_table { seat.new.table ≡ table.now.table }
+fn tags(table: &TreeTable, token: &mut TreeToken) -> (u64, u64, u64)
+    requires same_table { token.old.table ≡ table.now.table }
+    ensures same_table { token.new.table ≡ table.now.table }
 {
     (
-        word_at(table, seat, 21) % 8,
-        word_at(table, seat, 22) % 8,
-        word_at(table, seat, 23) % 8,
+        word_at(table, token, 21) % 8,
+        word_at(table, token, 22) % 8,
+        word_at(table, token, 23) % 8,
     )
 }
 
@@ -61,13 +61,13 @@ fn tags(table: &TreeTable, seat: &mut TreeSeat) -> (u64, u64, u64)
 fn build_over(
     table: &TreeTable,
     alloc: Global,
-    maker: &mut TreeSeat,
+    maker: &mut TreeToken,
     builder: &mut Caller,
     pairs: &[Pair],
     image: &[u64],
 ) -> Result<(bool, bool), AllocError>
     requires maker_table { maker.old.table ≡ table.now.table }
-    requires same_table { builder.old.seat.table ≡ table.now.table }
+    requires same_table { builder.old.token.table ≡ table.now.table }
     requires ready { IsReady builder.old }
     ensures maker_table { maker.new.table ≡ table.now.table }
 {
@@ -94,11 +94,11 @@ fn end_late(
     put: LatePut,
     installed: Option<Installed>,
 ) -> Option<Decision>
-    requires same_table { who.old.seat.table ≡ table.now.table }
-    requires helped { installed ≡ Some Yes → MayHelp who.old.seat.view put.change }
+    requires same_table { who.old.token.table ≡ table.now.table }
+    requires helped { installed ≡ Some Yes → MayHelp who.old.token.view put.change }
 {
     match installed {
-        Some(Installed::Yes) => Some(help(table, &mut who.seat, put.change)),
+        Some(Installed::Yes) => Some(help(table, &mut who.token, put.change)),
         _ => None,
     }
 }
@@ -108,17 +108,17 @@ fn end_late(
 fn rebuild_over(
     table: &TreeTable,
     alloc: Global,
-    maker: &mut TreeSeat,
+    maker: &mut TreeToken,
     helper: &mut Caller,
     builder: &mut Caller,
     rebuild: u32,
     map: &Plain,
 ) -> Result<Rebuilt, OpenFault>
     requires maker_table { maker.old.table ≡ table.now.table }
-    requires helper_table { helper.old.seat.table ≡ table.now.table }
+    requires helper_table { helper.old.token.table ≡ table.now.table }
     requires helper { IsReady helper.old }
-    requires started { IsStarted (now helper.old.seat.view) rebuild }
-    requires builder_table { builder.old.seat.table ≡ table.now.table }
+    requires started { IsStarted (now helper.old.token.view) rebuild }
+    requires builder_table { builder.old.token.table ≡ table.now.table }
     requires builder { IsReady builder.old }
 {
     let pairs = map.pairs();
@@ -136,10 +136,10 @@ fn rebuild_over(
 
 // Installs the late put, if there is one.
 fn may_install(table: &TreeTable, who: &mut Caller, put: LatePut, late: bool) -> Option<Installed>
-    requires same_table { who.old.seat.table ≡ table.now.table }
+    requires same_table { who.old.token.table ≡ table.now.table }
     requires filled { IsFilled who.old put.change put.leaf put.row }
-    ensures same_table { who.new.seat.table ≡ table.now.table }
-    ensures may_help { result ≡ Some Yes → MayHelp who.new.seat.view put.change }
+    ensures same_table { who.new.token.table ≡ table.now.table }
+    ensures may_help { result ≡ Some Yes → MayHelp who.new.token.view put.change }
 {
     if late {
         Some(install_late(table, who, put))

@@ -26,7 +26,7 @@ use ist_dcss::{Installed, install, is_open};
 use ist_find::step_down;
 use ist_layout::{ANCHOR, LEAF_KEY_OFFSET, PUT_KIND, Ref, UNDECIDED};
 use ist_rows::{Caller, Kind, fill_row, reserve};
-use ist_rule::{TreeSeat, TreeTable, begin_search, know, load};
+use ist_rule::{TreeTable, TreeToken, begin_search, know, load};
 
 /// A slot of a row below the anchor, and the word that it held.
 #[derive(Clone, Copy, Drop)]
@@ -57,19 +57,19 @@ fn inner_in(word: u64) -> Option<u32>
 
 // Walks to the slot of the key in the row below the anchor, if there is such a row, and no row
 // below it.
-fn walk(table: &TreeTable, seat: &mut TreeSeat, key: u64) -> Option<Slot>
-    requires same_table { seat.old.table ≡ table.now.table }
-    ensures same_table { seat.new.table ≡ table.now.table }
+fn walk(table: &TreeTable, token: &mut TreeToken, key: u64) -> Option<Slot>
+    requires same_table { token.old.table ≡ table.now.table }
+    ensures same_table { token.new.table ≡ table.now.table }
     ensures walked { IfSome result (λ slot.
-        HasReachedSlot seat.old.view key slot.node slot.index slot.word seat.new.view) }
+        HasReachedSlot token.old.view key slot.node slot.index slot.word token.new.view) }
 {
-    know(seat);
-    begin_search(table, seat);
-    let top = step_down(table, seat, ANCHOR, key);
+    know(token);
+    begin_search(table, token);
+    let top = step_down(table, token, ANCHOR, key);
     let Some(node) = inner_in(top.word) else {
         return None;
     };
-    let child = step_down(table, seat, node, key);
+    let child = step_down(table, token, node, key);
     match inner_in(child.word) {
         Some(_) => None,
         None => Some(Slot {
@@ -81,30 +81,30 @@ fn walk(table: &TreeTable, seat: &mut TreeSeat, key: u64) -> Option<Slot>
 }
 
 // Returns the key of the leaf at the base.
-fn leaf_key(table: &TreeTable, seat: &mut TreeSeat, base: u32) -> u64
-    requires same_table { seat.old.table ≡ table.now.table }
-    requires leaf { SeesLeaf seat.old.view base }
-    ensures same_table { seat.new.table ≡ table.now.table }
-    ensures seen { GoesOnTo seat.old.view seat.new.view }
-    ensures key { IsLeafOf (now seat.new.view) base result }
+fn leaf_key(table: &TreeTable, token: &mut TreeToken, base: u32) -> u64
+    requires same_table { token.old.table ≡ table.now.table }
+    requires leaf { SeesLeaf token.old.view base }
+    ensures same_table { token.new.table ≡ table.now.table }
+    ensures seen { GoesOnTo token.old.view token.new.view }
+    ensures key { IsLeafOf (now token.new.view) base result }
 {
-    know(seat);
-    load(table, seat, u64::from(base) + LEAF_KEY_OFFSET)
+    know(token);
+    load(table, token, u64::from(base) + LEAF_KEY_OFFSET)
 }
 
 // Returns whether the slot held a leaf of the key.
-fn has_leaf(table: &TreeTable, seat: &mut TreeSeat, slot: Slot, key: u64) -> bool
-    requires same_table { seat.old.table ≡ table.now.table }
-    requires at { IsAtSlot seat.old.view key slot.node slot.index slot.word }
-    ensures same_table { seat.new.table ≡ table.now.table }
-    ensures seen { GoesOnTo seat.old.view seat.new.view }
-    ensures room { result ≡ true → HasRoomFor (now seat.new.view) key slot.word }
+fn has_leaf(table: &TreeTable, token: &mut TreeToken, slot: Slot, key: u64) -> bool
+    requires same_table { token.old.table ≡ table.now.table }
+    requires at { IsAtSlot token.old.view key slot.node slot.index slot.word }
+    ensures same_table { token.new.table ≡ table.now.table }
+    ensures seen { GoesOnTo token.old.view token.new.view }
+    ensures room { result ≡ true → HasRoomFor (now token.new.view) key slot.word }
 {
-    know(seat);
+    know(token);
     let Some(Ref::Leaf { base }) = Ref::from_word(slot.word) else {
         return false;
     };
-    let found = leaf_key(table, seat, base);
+    let found = leaf_key(table, token, base);
     if found != key {
         return false;
     }
@@ -113,18 +113,18 @@ fn has_leaf(table: &TreeTable, seat: &mut TreeSeat, slot: Slot, key: u64) -> boo
 
 // Returns the row of this kind that the caller holds, or a fresh one.
 fn take(table: &TreeTable, who: &mut Caller, kind: Kind) -> Result<u32, Full>
-    requires same_table { who.old.seat.table ≡ table.now.table }
+    requires same_table { who.old.token.table ≡ table.now.table }
     requires caller { IsCaller who.old }
     requires refused { HasRefused who.old }
-    ensures same_table { who.new.seat.table ≡ table.now.table }
+    ensures same_table { who.new.token.table ≡ table.now.table }
     ensures gone { HasGone Prepares who.old who.new }
     ensures held { IfOk result (λ base. row_of kind (spares_of who.new) ≡ Some base) }
     ensures rows { IfOk result (λ base.
         spares_of who.new ≡ with_row kind base (spares_of who.old)) }
 {
-    know(&who.seat);
+    know(&who.token);
     let taken = reserve(table, who, kind);
-    know(&who.seat);
+    know(&who.token);
     taken
 }
 
@@ -136,10 +136,10 @@ fn plan(
     key: u64,
     value: u64,
 ) -> Result<LatePut, Full>
-    requires same_table { who.old.seat.table ≡ table.now.table }
+    requires same_table { who.old.token.table ≡ table.now.table }
     requires caller { IsCaller who.old }
     requires refused { HasRefused who.old }
-    ensures same_table { who.new.seat.table ≡ table.now.table }
+    ensures same_table { who.new.token.table ≡ table.now.table }
     ensures gone { IfOk result (λ put. HasGone Prepares who.old who.new) }
     ensures rows { IfOk result (λ put. HasBoth who.new put.change put.leaf) }
     ensures good { IfOk result (λ put. IsGoodBase put.leaf) }
@@ -164,19 +164,19 @@ fn plan(
 
 // Fills both rows of the put.
 fn fill_both(table: &TreeTable, who: &mut Caller, put: LatePut)
-    requires same_table { who.old.seat.table ≡ table.now.table }
+    requires same_table { who.old.token.table ≡ table.now.table }
     requires caller { IsCaller who.old }
     requires rows { HasBoth who.old put.change put.leaf }
-    ensures same_table { who.new.seat.table ≡ table.now.table }
+    ensures same_table { who.new.token.table ≡ table.now.table }
     ensures caller { IsCaller who.new }
-    ensures same { who.new ≡ with_own who.old who.new.seat.view.own }
-    ensures stored { StoredAll who.new.seat.view
+    ensures same { who.new ≡ with_own who.old who.new.token.view.own }
+    ensures stored { StoredAll who.new.token.view
         (rows_of (put_of put.leaf put.row) put.change) }
 {
-    know(&who.seat);
+    know(&who.token);
     let row = put.row;
     fill_row(table, who, Kind::Leaf, put.leaf, &[row.key, row.value]);
-    know(&who.seat);
+    know(&who.token);
     let words = [
         row.decision,
         row.kind,
@@ -199,38 +199,38 @@ fn fill_for(
     key: u64,
     value: u64,
 ) -> Option<LatePut>
-    requires same_table { who.old.seat.table ≡ table.now.table }
+    requires same_table { who.old.token.table ≡ table.now.table }
     requires asked { IsAsked who.old (Put key value) }
-    requires at_slot { WasAt who.old.seat.view key slot.node slot.index slot.word }
-    requires room { HasRoomFor (now who.old.seat.view) key slot.word }
-    ensures same_table { who.new.seat.table ≡ table.now.table }
+    requires at_slot { WasAt who.old.token.view key slot.node slot.index slot.word }
+    requires room { HasRoomFor (now who.old.token.view) key slot.word }
+    ensures same_table { who.new.token.table ≡ table.now.table }
     ensures filled { IfSome result (λ put. IsFilled who.new put.change put.leaf put.row) }
 {
-    if !is_open(table, &mut who.seat, slot.node) {
+    if !is_open(table, &mut who.token, slot.node) {
         return None;
     }
     let Ok(put) = plan(table, who, slot, key, value) else {
         return None;
     };
     fill_both(table, who, put);
-    know(&who.seat);
+    know(&who.token);
     Some(put)
 }
 
 /// Begins a put of the value at the key, whose leaf is in a slot of the row below the anchor. Makes all
 /// steps before the install, and no further step.
 pub(crate) fn prepare(table: &TreeTable, who: &mut Caller, key: u64, value: u64) -> Option<LatePut>
-    requires same_table { who.old.seat.table ≡ table.now.table }
+    requires same_table { who.old.token.table ≡ table.now.table }
     requires pass { IsPass who.old }
-    ensures same_table { who.new.seat.table ≡ table.now.table }
+    ensures same_table { who.new.token.table ≡ table.now.table }
     ensures filled { IfSome result (λ put. IsFilled who.new put.change put.leaf put.row) }
 {
     ask(table, who, key, Some(value));
-    let Some(slot) = walk(table, &mut who.seat, key) else {
+    let Some(slot) = walk(table, &mut who.token, key) else {
         return None;
     };
-    know(&who.seat);
-    if !has_leaf(table, &mut who.seat, slot, key) {
+    know(&who.token);
+    if !has_leaf(table, &mut who.token, slot, key) {
         return None;
     }
     fill_for(table, who, slot, key, value)
@@ -239,12 +239,12 @@ pub(crate) fn prepare(table: &TreeTable, who: &mut Caller, key: u64, value: u64)
 /// Installs the change.
 pub(crate) fn install_late(table: &TreeTable, who: &mut Caller, put: LatePut) -> Installed
     ghost filling: { Filling }
-    requires same_table { who.old.seat.table ≡ table.now.table }
+    requires same_table { who.old.token.table ≡ table.now.table }
     requires is_put { filling ≡ put_of put.leaf put.row }
     requires filled { IsFilled who.old put.change put.leaf put.row }
-    ensures same_table { who.new.seat.table ≡ table.now.table }
-    ensures may_help { result ≡ Yes → MayHelp who.new.seat.view put.change }
+    ensures same_table { who.new.token.table ≡ table.now.table }
+    ensures may_help { result ≡ Yes → MayHelp who.new.token.view put.change }
 {
-    know(&who.seat);
-    install(table, &mut who.seat, put.change)
+    know(&who.token);
+    install(table, &mut who.token, put.change)
 }

@@ -14,7 +14,7 @@ use ist_math::SHARE_FROM;
 use ist_math::laws::shared_roots_have_several_keys;
 use ist_rebuild::Started;
 use ist_rows::Caller;
-use ist_rule::{TreeSeat, TreeTable, know};
+use ist_rule::{TreeTable, TreeToken, know};
 use ist_tree::OpenFault;
 use std::alloc::Global;
 use std::test::Fail;
@@ -29,36 +29,36 @@ fn base_of(reference: Ref) -> u32 {
 
 // Returns the base of the leaf number `i` of the finished target.
 fn leaf_base(table: &TreeTable, who: &mut Caller, rebuild: u32, marked: Marked, i: u64) -> u32
-    requires same_table { who.old.seat.table ≡ table.now.table }
+    requires same_table { who.old.token.table ≡ table.now.table }
     requires ready { IsReady who.old }
-    requires marked { IsMarked (now who.old.seat.view) rebuild marked.target marked.keys }
+    requires marked { IsMarked (now who.old.token.view) rebuild marked.target marked.keys }
     requires within { i < marked.keys }
-    ensures same_table { who.new.seat.table ≡ table.now.table }
+    ensures same_table { who.new.token.table ≡ table.now.table }
     ensures ready { IsReady who.new }
-    ensures marked { IsMarked (now who.new.seat.view) rebuild marked.target marked.keys }
+    ensures marked { IsMarked (now who.new.token.view) rebuild marked.target marked.keys }
 {
-    know(&who.seat);
-    let leaf = leaf_at(table, &mut who.seat, marked.target, i);
+    know(&who.token);
+    let leaf = leaf_at(table, &mut who.token, marked.target, i);
     base_of(leaf)
 }
 
 /// Are the leaves of the finished target these pairs, in this order, and no more?
 pub(crate) fn are_pairs(
     table: &TreeTable,
-    maker: &mut TreeSeat,
+    maker: &mut TreeToken,
     who: &mut Caller,
     rebuild: u32,
     marked: Marked,
     pairs: &[Pair],
 ) -> bool
     requires maker_table { maker.old.table ≡ table.now.table }
-    requires same_table { who.old.seat.table ≡ table.now.table }
+    requires same_table { who.old.token.table ≡ table.now.table }
     requires ready { IsReady who.old }
-    requires marked { IsMarked (now who.old.seat.view) rebuild marked.target marked.keys }
+    requires marked { IsMarked (now who.old.token.view) rebuild marked.target marked.keys }
     ensures maker_table { maker.new.table ≡ table.now.table }
-    ensures same_table { who.new.seat.table ≡ table.now.table }
+    ensures same_table { who.new.token.table ≡ table.now.table }
     ensures ready { IsReady who.new }
-    ensures marked { IsMarked (now who.new.seat.view) rebuild marked.target marked.keys }
+    ensures marked { IsMarked (now who.new.token.view) rebuild marked.target marked.keys }
 {
     let mut right = pairs.len() as u64 == marked.keys;
     for i in 0..marked.keys {
@@ -77,11 +77,11 @@ pub(crate) fn part(
     rebuild: u32,
     marked: Marked,
 ) -> Result<Ref, Full>
-    requires same_table { who.old.seat.table ≡ table.now.table }
+    requires same_table { who.old.token.table ≡ table.now.table }
     requires ready { IsReady who.old }
-    requires marked { IsMarked (now who.old.seat.view) rebuild marked.target marked.keys }
+    requires marked { IsMarked (now who.old.token.view) rebuild marked.target marked.keys }
     requires few { marked.keys < share_from }
-    ensures same_table { who.new.seat.table ≡ table.now.table }
+    ensures same_table { who.new.token.table ≡ table.now.table }
 {
     build_part(table, who, marked.target, 0, marked.keys)
 }
@@ -98,13 +98,13 @@ pub(crate) fn are_few(keys: u64) -> bool
 fn agree_in(
     table: &TreeTable,
     alloc: Global,
-    maker: &mut TreeSeat,
+    maker: &mut TreeToken,
     who: &mut Caller,
     last: u64,
     image: &[u64],
 ) -> Result<(bool, bool), OpenFault>
     requires maker_table { maker.old.table ≡ table.now.table }
-    requires same_table { who.old.seat.table ≡ table.now.table }
+    requires same_table { who.old.token.table ≡ table.now.table }
     requires ready { IsReady who.old }
     requires few { last ≤ 100000 }
 {

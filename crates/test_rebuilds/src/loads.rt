@@ -16,16 +16,16 @@ use std::test::Fail;
 
 // How many words are loaded on the way to the leaf number `i` of the finished target.
 fn loads_to(table: &TreeTable, who: &mut Caller, rebuild: u32, marked: Marked, i: u64) -> u64
-    requires same_table { who.old.seat.table ≡ table.now.table }
+    requires same_table { who.old.token.table ≡ table.now.table }
     requires ready { IsReady who.old }
-    requires marked { IsMarked (now who.old.seat.view) rebuild marked.target marked.keys }
+    requires marked { IsMarked (now who.old.token.view) rebuild marked.target marked.keys }
     requires within { i < marked.keys }
-    ensures same_table { who.new.seat.table ≡ table.now.table }
+    ensures same_table { who.new.token.table ≡ table.now.table }
     ensures ready { IsReady who.new }
-    ensures marked { IsMarked (now who.new.seat.view) rebuild marked.target marked.keys }
+    ensures marked { IsMarked (now who.new.token.view) rebuild marked.target marked.keys }
 {
-    know(&who.seat);
-    leaf_and_loads(table, &mut who.seat, marked.target, i).1
+    know(&who.token);
+    leaf_and_loads(table, &mut who.token, marked.target, i).1
 }
 
 // Returns the first of these leaves for which a different number of words is loaded, or which isn't
@@ -37,9 +37,9 @@ fn first_other(
     marked: Marked,
     cases: &[(u64, u64)],
 ) -> Option<u64>
-    requires same_table { who.old.seat.table ≡ table.now.table }
+    requires same_table { who.old.token.table ≡ table.now.table }
     requires ready { IsReady who.old }
-    requires marked { IsMarked (now who.old.seat.view) rebuild marked.target marked.keys }
+    requires marked { IsMarked (now who.old.token.view) rebuild marked.target marked.keys }
 {
     for (i, loads) in cases {
         if *i >= marked.keys {

@@ -13,7 +13,7 @@ use ist_dcss::{Decision, Installed, help};
 use ist_layout::{ANCHOR, DECIDED_NO, Ref};
 use ist_rebuild::{Helped, Started};
 use ist_rows::Caller;
-use ist_rule::{TreeSeat, TreeTable};
+use ist_rule::{TreeTable, TreeToken};
 use ist_tree::OpenFault;
 use ist_updates::Due;
 use std::alloc::Global;
@@ -60,22 +60,22 @@ struct Late {
 }
 
 // The status and the count of the row over both pairs.
-fn top_words(table: &TreeTable, seat: &mut TreeSeat) -> (u64, u64)
-    requires same_table { seat.old.table ≡ table.now.table }
-    ensures same_table { seat.new.table ≡ table.now.table }
+fn top_words(table: &TreeTable, token: &mut TreeToken) -> (u64, u64)
+    requires same_table { token.old.table ≡ table.now.table }
+    ensures same_table { token.new.table ≡ table.now.table }
 {
-    (word_at(table, seat, 4), word_at(table, seat, 5))
+    (word_at(table, token, 4), word_at(table, token, 5))
 }
 
 // Installs the put into the slot at the place, and helps it.
 fn put_late(
     table: &TreeTable,
-    maker: &mut TreeSeat,
+    maker: &mut TreeToken,
     who: &mut Caller,
     put: LatePut,
     place: u64,
 ) -> Late
-    requires same_table { who.old.seat.table ≡ table.now.table }
+    requires same_table { who.old.token.table ≡ table.now.table }
     requires maker_table { maker.old.table ≡ table.now.table }
     requires filled { IsFilled who.old put.change put.leaf put.row }
     ensures maker_table { maker.new.table ≡ table.now.table }
@@ -84,7 +84,7 @@ fn put_late(
     let installed = install_late(table, who, put);
     let between = word_at(table, maker, place);
     let decision = match installed {
-        Installed::Yes => Some(help(table, &mut who.seat, put.change)),
+        Installed::Yes => Some(help(table, &mut who.token, put.change)),
         Installed::Other(_) => None,
     };
     Late {
@@ -100,7 +100,7 @@ fn put_late(
 // The same in a table of both pairs, with the late put at a key whose slot lies at a place: both are given.
 fn see_in(
     table: &TreeTable,
-    maker: &mut TreeSeat,
+    maker: &mut TreeToken,
     first: &mut Caller,
     second: &mut Caller,
     third: &mut Caller,
@@ -108,10 +108,10 @@ fn see_in(
     at: (u64, u64),
 ) -> Option<Seen>
     requires maker_table { maker.old.table ≡ table.now.table }
-    requires first_table { first.old.seat.table ≡ table.now.table }
-    requires second_table { second.old.seat.table ≡ table.now.table }
-    requires third_table { third.old.seat.table ≡ table.now.table }
-    requires fourth_table { fourth.old.seat.table ≡ table.now.table }
+    requires first_table { first.old.token.table ≡ table.now.table }
+    requires second_table { second.old.token.table ≡ table.now.table }
+    requires third_table { third.old.token.table ≡ table.now.table }
+    requires fourth_table { fourth.old.token.table ≡ table.now.table }
     requires first_pass { IsPass first.old }
     requires second_ready { IsReady second.old }
     requires third_ready { IsReady third.old }

@@ -24,13 +24,13 @@ use std::test::Fail;
 // Builds the root over two keys, in a row of the caller's own, and then looks whether the rebuild
 // has a root. If it has none yet, returns the word of what was built.
 fn build(table: &TreeTable, who: &mut Caller, rebuild: u32, marked: Marked) -> Option<u64>
-    requires same_table { who.old.seat.table ≡ table.now.table }
+    requires same_table { who.old.token.table ≡ table.now.table }
     requires ready { IsReady who.old }
-    requires marked { IsMarked (now who.old.seat.view) rebuild marked.target marked.keys }
-    ensures same_table { who.new.seat.table ≡ table.now.table }
-    ensures built { IfSome result (HoldsRoot who.new.seat.view who.new.number rebuild) }
+    requires marked { IsMarked (now who.old.token.view) rebuild marked.target marked.keys }
+    ensures same_table { who.new.token.table ≡ table.now.table }
+    ensures built { IfSome result (HoldsRoot who.new.token.view who.new.number rebuild) }
 {
-    know(&who.seat);
+    know(&who.token);
     if marked.keys != 2 {
         return None;
     }
@@ -38,10 +38,10 @@ fn build(table: &TreeTable, who: &mut Caller, rebuild: u32, marked: Marked) -> O
         return None;
     };
     let word = root.to_word();
-    know(&who.seat);
+    know(&who.token);
     let stood = load(
         table,
-        &mut who.seat,
+        &mut who.token,
         u64::from(rebuild) + REBUILD_ROOT_OFFSET,
     );
     if stood != Ref::Unset.to_word() {
@@ -53,18 +53,18 @@ fn build(table: &TreeTable, who: &mut Caller, rebuild: u32, marked: Marked) -> O
 // Gives the rebuild the root that was built, if it has none, and otherwise loses the row. Returns
 // the word found there.
 fn root_or_lose(table: &TreeTable, who: &mut Caller, rebuild: u32, word: u64) -> u64
-    requires same_table { who.old.seat.table ≡ table.now.table }
-    requires built { HoldsRoot who.old.seat.view who.old.number rebuild word }
-    ensures same_table { who.new.seat.table ≡ table.now.table }
-    ensures rooted_or_lost { let v = who.old.seat.view in
+    requires same_table { who.old.token.table ≡ table.now.table }
+    requires built { HoldsRoot who.old.token.view who.old.number rebuild word }
+    ensures same_table { who.new.token.table ≡ table.now.table }
+    ensures rooted_or_lost { let v = who.old.token.view in
         let place = rebuild + rebuild_root_offset in
         let events = racing v place word in
-        ExchangedOrLost v events.0 events.1 place unset_word result who.new.seat.view }
+        ExchangedOrLost v events.0 events.1 place unset_word result who.new.token.view }
 {
-    know(&who.seat);
+    know(&who.token);
     let place = u64::from(rebuild) + REBUILD_ROOT_OFFSET;
     // Root, or the Lose of the row. Meets the other caller's Root.
-    exchange_or_lose(table, &mut who.seat, place, Ref::Unset.to_word(), word)
+    exchange_or_lose(table, &mut who.token, place, Ref::Unset.to_word(), word)
 }
 
 // What two callers built, and the word that each then found at the root's place.
@@ -83,12 +83,12 @@ fn race(
     rebuild: u32,
     again: u32,
 ) -> Option<Raced>
-    requires first_table { first.old.seat.table ≡ table.now.table }
-    requires second_table { second.old.seat.table ≡ table.now.table }
+    requires first_table { first.old.token.table ≡ table.now.table }
+    requires second_table { second.old.token.table ≡ table.now.table }
     requires first_ready { IsReady first.old }
     requires second_ready { IsReady second.old }
-    requires first_started { IsStarted (now first.old.seat.view) rebuild }
-    requires second_started { IsStarted (now second.old.seat.view) again }
+    requires first_started { IsStarted (now first.old.token.view) rebuild }
+    requires second_started { IsStarted (now second.old.token.view) again }
 {
     let marked = mark(table, first, rebuild);
     let Some(left) = build(table, first, rebuild, marked) else {
@@ -108,9 +108,9 @@ fn race(
 
 // Returns the root that the rebuild has, and whether the root then replaces the target.
 fn end(table: &TreeTable, who: &mut Caller, rebuild: u32) -> (Option<Ref>, bool)
-    requires same_table { who.old.seat.table ≡ table.now.table }
+    requires same_table { who.old.token.table ≡ table.now.table }
     requires ready { IsReady who.old }
-    requires started { IsStarted (now who.old.seat.view) rebuild }
+    requires started { IsStarted (now who.old.token.view) rebuild }
 {
     mark(table, who, rebuild);
     let root = set(table, who, rebuild).ok();

@@ -74,11 +74,11 @@ fn shrink(
     rest: &mut Caller,
     first: u64,
 ) -> Result<bool, AllocError>
-    requires same_table { most.old.seat.table ≡ table.now.table }
+    requires same_table { most.old.token.table ≡ table.now.table }
     requires pass { IsPass most.old }
-    requires its_table { rest.old.seat.table ≡ table.now.table }
+    requires its_table { rest.old.token.table ≡ table.now.table }
     requires its_pass { IsPass rest.old }
-    ensures same_table { most.new.seat.table ≡ table.now.table }
+    ensures same_table { most.new.token.table ≡ table.now.table }
     ensures pass { result ≡ Ok true → IsPass most.new }
 {
     let last = first.saturating_add(14);
@@ -105,11 +105,11 @@ fn start_second(
     most: &mut Caller,
     starter: &mut Caller,
 ) -> Result<bool, AllocError>
-    requires same_table { most.old.seat.table ≡ table.now.table }
+    requires same_table { most.old.token.table ≡ table.now.table }
     requires pass { IsPass most.old }
-    requires its_table { starter.old.seat.table ≡ table.now.table }
+    requires its_table { starter.old.token.table ≡ table.now.table }
     requires its_pass { IsPass starter.old }
-    ensures same_table { most.new.seat.table ≡ table.now.table }
+    ensures same_table { most.new.token.table ≡ table.now.table }
     ensures pass { result ≡ Ok true → IsPass most.new }
 {
     let updates = puts(alloc, 16, 7)?;
@@ -151,13 +151,13 @@ pub(crate) fn bring(
     third: &mut Caller,
     shape: Shape,
 ) -> Result<bool, OpenFault>
-    requires same_table { most.old.seat.table ≡ table.now.table }
+    requires same_table { most.old.token.table ≡ table.now.table }
     requires pass { IsPass most.old }
-    requires first_table { first.old.seat.table ≡ table.now.table }
+    requires first_table { first.old.token.table ≡ table.now.table }
     requires first_pass { IsPass first.old }
-    requires second_table { second.old.seat.table ≡ table.now.table }
+    requires second_table { second.old.token.table ≡ table.now.table }
     requires second_pass { IsPass second.old }
-    requires third_table { third.old.seat.table ≡ table.now.table }
+    requires third_table { third.old.token.table ≡ table.now.table }
     requires third_pass { IsPass third.old }
 {
     if !shrink(table, alloc, most, first, 1)? || !shrink(table, alloc, most, third, 31)? {

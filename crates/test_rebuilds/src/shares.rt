@@ -10,7 +10,7 @@ use crate::tables::{Opened, is_image, open_numbered, word_at};
 use ist_layout::Ref;
 use ist_rebuild::{Helped, Started};
 use ist_rows::Caller;
-use ist_rule::{TreeSeat, TreeTable};
+use ist_rule::{TreeTable, TreeToken};
 use ist_tree::OpenFault;
 use std::alloc::Global;
 use std::test::Fail;
@@ -18,11 +18,11 @@ use std::thread::{Threads, join};
 
 /// Starts a rebuild of what is below the anchor.
 pub(crate) fn begin_top(table: &TreeTable, who: &mut Caller) -> Option<u32>
-    requires same_table { who.old.seat.table ≡ table.now.table }
+    requires same_table { who.old.token.table ≡ table.now.table }
     requires ready { IsReady who.old }
-    ensures same_table { who.new.seat.table ≡ table.now.table }
+    ensures same_table { who.new.token.table ≡ table.now.table }
     ensures ready { IsReady who.new }
-    ensures started { IfSome result (IsStarted (now who.new.seat.view)) }
+    ensures started { IfSome result (IsStarted (now who.new.token.view)) }
 {
     let Some(target) = see_row(table, who) else {
         return None;
@@ -34,18 +34,18 @@ pub(crate) fn begin_top(table: &TreeTable, who: &mut Caller) -> Option<u32>
 }
 
 // How many slots the row at the base has, and how many of them are Unset.
-fn unset_slots(table: &TreeTable, seat: &mut TreeSeat, base: u32) -> (u64, u64)
-    requires same_table { seat.old.table ≡ table.now.table }
-    ensures same_table { seat.new.table ≡ table.now.table }
+fn unset_slots(table: &TreeTable, token: &mut TreeToken, base: u32) -> (u64, u64)
+    requires same_table { token.old.table ≡ table.now.table }
+    ensures same_table { token.new.table ≡ table.now.table }
 {
     let base = u64::from(base);
-    let degree = word_at(table, seat, base + 2);
+    let degree = word_at(table, token, base + 2);
     if degree > 100_000 {
         return (degree, 0);
     }
     let mut unset: u64 = 0;
     for i in 0..degree {
-        if word_at(table, seat, base + degree + 3 + i) == Ref::Unset.to_word() {
+        if word_at(table, token, base + degree + 3 + i) == Ref::Unset.to_word() {
             unset = unset.saturating_add(1);
         }
     }
@@ -67,15 +67,15 @@ struct Shared {
 fn share_in(
     table: &TreeTable,
     alloc: Global,
-    maker: &mut TreeSeat,
+    maker: &mut TreeToken,
     first: &mut Caller,
     second: &mut Caller,
     image: &[u64],
 ) -> Result<Option<Shared>, OpenFault>
     requires maker_table { maker.old.table ≡ table.now.table }
-    requires first_table { first.old.seat.table ≡ table.now.table }
+    requires first_table { first.old.token.table ≡ table.now.table }
     requires first_ready { IsReady first.old }
-    requires second_table { second.old.seat.table ≡ table.now.table }
+    requires second_table { second.old.token.table ≡ table.now.table }
     requires second_ready { IsReady second.old }
 {
     let Some(rebuild) = begin_top(table, first) else {
@@ -164,9 +164,9 @@ struct Beside {
 
 // Helps a rebuild by a caller that has no more to do. Returns whether it was replaced.
 fn help_moved(table: &TreeTable, who: Caller, rebuild: u32) -> bool
-    requires same_table { who.seat.table ≡ table.now.table }
+    requires same_table { who.token.table ≡ table.now.table }
     requires ready { IsReady who }
-    requires started { IsStarted (now who.seat.view) rebuild }
+    requires started { IsStarted (now who.token.view) rebuild }
 {
     let mut who = who;
     help_on(table, &mut who, rebuild) == Ok(Helped::Replaced)
@@ -180,25 +180,25 @@ fn help_beside<R: Threads + Sync>(
     second: Caller,
     rebuilds: (u32, u32),
 ) -> (bool, bool)
-    requires first_table { first.seat.table ≡ table.now.table }
+    requires first_table { first.token.table ≡ table.now.table }
     requires first_ready { IsReady first }
-    requires first_started { IsStarted (now first.seat.view) rebuilds.0 }
-    requires second_table { second.seat.table ≡ table.now.table }
+    requires first_started { IsStarted (now first.token.view) rebuilds.0 }
+    requires second_table { second.token.table ≡ table.now.table }
     requires second_ready { IsReady second }
-    requires second_started { IsStarted (now second.seat.view) rebuilds.1 }
+    requires second_started { IsStarted (now second.token.view) rebuilds.1 }
 {
     let (one, two) = rebuilds;
     join(
         rt,
         ||
-            requires same_table { first.seat.table ≡ table.now.table }
+            requires same_table { first.token.table ≡ table.now.table }
             requires ready { IsReady first }
-            requires started { IsStarted (now first.seat.view) one }
+            requires started { IsStarted (now first.token.view) one }
         { help_moved(table, first, one) },
         ||
-            requires same_table { second.seat.table ≡ table.now.table }
+            requires same_table { second.token.table ≡ table.now.table }
             requires ready { IsReady second }
-            requires started { IsStarted (now second.seat.view) two }
+            requires started { IsStarted (now second.token.view) two }
         { help_moved(table, second, two) },
     )
 }

@@ -13,7 +13,7 @@ use ist_core::{Full, Pair};
 use ist_find::find_from_anchor;
 use ist_rebuild::{Helped, Started};
 use ist_rows::Caller;
-use ist_rule::{TreeSeat, TreeTable};
+use ist_rule::{TreeTable, TreeToken};
 use ist_tree::OpenFault;
 use std::alloc::Global;
 use std::test::Fail;
@@ -94,12 +94,12 @@ fn help_where(
     rebuild: u32,
     at_once: bool,
 ) -> Option<Result<Helped, Full>>
-    requires same_table { who.old.seat.table ≡ table.now.table }
+    requires same_table { who.old.token.table ≡ table.now.table }
     requires ready { IsReady who.old }
-    requires started { IsStarted (now who.old.seat.view) rebuild }
-    ensures same_table { who.new.seat.table ≡ table.now.table }
+    requires started { IsStarted (now who.old.token.view) rebuild }
+    ensures same_table { who.new.token.table ≡ table.now.table }
     ensures ready { IsReady who.new }
-    ensures started { IsStarted (now who.new.seat.view) rebuild }
+    ensures started { IsStarted (now who.new.token.view) rebuild }
 {
     if at_once {
         return Some(help_on(table, who, rebuild));
@@ -124,18 +124,18 @@ struct Both {
 fn rebuild_both(
     table: &TreeTable,
     alloc: Global,
-    maker: &mut TreeSeat,
+    maker: &mut TreeToken,
     most: &mut Caller,
     low: &mut Caller,
     high: &mut Caller,
     early: bool,
 ) -> Result<Option<Both>, OpenFault>
     requires maker_table { maker.old.table ≡ table.now.table }
-    requires most_table { most.old.seat.table ≡ table.now.table }
+    requires most_table { most.old.token.table ≡ table.now.table }
     requires most_pass { IsPass most.old }
-    requires low_table { low.old.seat.table ≡ table.now.table }
+    requires low_table { low.old.token.table ≡ table.now.table }
     requires low_pass { IsPass low.old }
-    requires high_table { high.old.seat.table ≡ table.now.table }
+    requires high_table { high.old.token.table ≡ table.now.table }
     requires high_ready { IsReady high.old }
 {
     if !update_all(table, most, &SEVEN) {

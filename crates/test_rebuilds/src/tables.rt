@@ -6,16 +6,16 @@ ghost use Rattle.ist_core.specs.RowLayout.{place_limit};
 
 use ist_core::{Command, Pair};
 use ist_image::{lay_image, needed_words};
-use ist_rule::{TreeSeat, TreeTable, load, open_table, word_count};
+use ist_rule::{TreeTable, TreeToken, load, open_table, word_count};
 use ist_tree::OpenFault;
 use plain_map::Plain;
 use std::alloc::{AllocError, Global};
 
-/// A table in this many words, the maker's seat, and the words that the table has at first.
+/// A table in this many words, the maker's token, and the words that the table has at first.
 #[derive(Drop)]
 pub(crate) struct Opened {
     pub(crate) table: TreeTable,
-    pub(crate) maker: TreeSeat,
+    pub(crate) maker: TreeToken,
     pub(crate) image: Vec<u64>,
 }
 
@@ -88,12 +88,12 @@ pub(crate) fn open_numbered(alloc: Global, last: u64, words: u64) -> Result<Open
 }
 
 /// Returns the word at the place, or the greatest `u64` if the table has none there.
-pub(crate) fn word_at(table: &TreeTable, seat: &mut TreeSeat, place: u64) -> u64
-    requires same_table { seat.old.table ≡ table.now.table }
-    ensures same_table { seat.new.table ≡ table.now.table }
+pub(crate) fn word_at(table: &TreeTable, token: &mut TreeToken, place: u64) -> u64
+    requires same_table { token.old.table ≡ table.now.table }
+    ensures same_table { token.new.table ≡ table.now.table }
 {
     if place < word_count(table) {
-        load(table, seat, place)
+        load(table, token, place)
     } else {
         u64::MAX
     }
@@ -103,14 +103,14 @@ pub(crate) fn word_at(table: &TreeTable, seat: &mut TreeSeat, place: u64) -> u64
 pub(crate) fn all_words(
     alloc: Global,
     table: &TreeTable,
-    seat: &mut TreeSeat,
+    token: &mut TreeToken,
 ) -> Result<Vec<u64>, AllocError>
-    requires same_table { seat.old.table ≡ table.now.table }
-    ensures same_table { seat.new.table ≡ table.now.table }
+    requires same_table { token.old.table ≡ table.now.table }
+    ensures same_table { token.new.table ≡ table.now.table }
 {
     let mut words = Vec::new(alloc);
     for place in 0..word_count(table) {
-        words.push(word_at(table, seat, place))?;
+        words.push(word_at(table, token, place))?;
     }
     Ok(words)
 }
@@ -171,13 +171,13 @@ pub(crate) fn are_alike(
 pub(crate) fn is_image(
     alloc: Global,
     table: &TreeTable,
-    seat: &mut TreeSeat,
+    token: &mut TreeToken,
     image: &[u64],
 ) -> Result<bool, AllocError>
-    requires same_table { seat.old.table ≡ table.now.table }
-    ensures same_table { seat.new.table ≡ table.now.table }
+    requires same_table { token.old.table ≡ table.now.table }
+    ensures same_table { token.new.table ≡ table.now.table }
 {
-    let words = all_words(alloc, table, seat)?;
+    let words = all_words(alloc, table, token)?;
     let roots = (*image.get(3).unwrap_or(&0), *words.get(3).unwrap_or(&0));
     are_alike(alloc, image, words.as_slice(), roots)
 }

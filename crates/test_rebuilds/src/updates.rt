@@ -15,17 +15,17 @@ ghost use Rattle.ist_updates.specs.Asking.{IsAsked, command_for};
 use ist_core::{Command, Full};
 use ist_rebuild::{Started, start};
 use ist_rows::{Caller, enter};
-use ist_rule::{TreeSeat, TreeTable, begin_call, end_call, know};
+use ist_rule::{TreeTable, TreeToken, begin_call, end_call, know};
 use ist_updates::{Due, apply};
 
 /// Returns the next caller, in no call.
-pub(crate) fn enter_idle(table: &TreeTable, maker: &mut TreeSeat) -> Caller
+pub(crate) fn enter_idle(table: &TreeTable, maker: &mut TreeToken) -> Caller
     requires same_table { maker.old.table ≡ table.now.table }
     requires maker { maker.old.view.who ≡ Maker }
     requires given { maker.old.view.given ≡ maker.old.view.made }
     requires few { maker.old.view.made < caller_limit }
     ensures pass { IsPass result }
-    ensures same_table { result.seat.table ≡ table.now.table }
+    ensures same_table { result.token.table ≡ table.now.table }
     ensures maker_table { maker.new.table ≡ table.now.table }
     ensures made { (maker.new.view.who ≡ Maker) × (maker.new.view.made ≡ maker.old.view.made + 1) }
     ensures given { maker.new.view.given ≡ maker.new.view.made }
@@ -45,31 +45,31 @@ fn command_of(key: u64, value: Option<u64>) -> Command
 
 /// Begins a call that will put the value at the key, or remove the key if there is no value.
 pub(crate) fn ask(table: &TreeTable, who: &mut Caller, key: u64, value: Option<u64>)
-    requires same_table { who.old.seat.table ≡ table.now.table }
+    requires same_table { who.old.token.table ≡ table.now.table }
     requires pass { IsPass who.old }
-    ensures same_table { who.new.seat.table ≡ table.now.table }
+    ensures same_table { who.new.token.table ≡ table.now.table }
     ensures number { who.new.number ≡ who.old.number }
-    ensures sound { IsSound who.old.seat.view }
+    ensures sound { IsSound who.old.token.view }
     ensures begun { let command = command_for key value in
-        Turned who.old.seat.view (beginning who.old.seat.view (Some command)) who.new.seat.view }
+        Turned who.old.token.view (beginning who.old.token.view (Some command)) who.new.token.view }
     ensures asked { IsAsked who.new (command_for key value) }
 {
-    know(&who.seat);
-    begin_call(table, &mut who.seat, Some(command_of(key, value)));
+    know(&who.token);
+    begin_call(table, &mut who.token, Some(command_of(key, value)));
 }
 
 /// Puts the value at the key, or removes the key if there is no value, and rebuilds nothing.
 /// Returns whether that was carried out.
 pub(crate) fn update(table: &TreeTable, who: &mut Caller, key: u64, value: Option<u64>) -> bool
-    requires same_table { who.old.seat.table ≡ table.now.table }
+    requires same_table { who.old.token.table ≡ table.now.table }
     requires pass { IsPass who.old }
-    ensures same_table { who.new.seat.table ≡ table.now.table }
+    ensures same_table { who.new.token.table ≡ table.now.table }
     ensures pass { result ≡ true → IsPass who.new }
 {
     ask(table, who, key, value);
     match apply(table, who, key, value) {
         Ok(done) => {
-            end_call(table, &mut who.seat, done.reply);
+            end_call(table, &mut who.token, done.reply);
             true
         }
         Err(_) => false,
@@ -83,9 +83,9 @@ pub(crate) fn update_all(
     who: &mut Caller,
     updates: &[(u64, Option<u64>)],
 ) -> bool
-    requires same_table { who.old.seat.table ≡ table.now.table }
+    requires same_table { who.old.token.table ≡ table.now.table }
     requires pass { IsPass who.old }
-    ensures same_table { who.new.seat.table ≡ table.now.table }
+    ensures same_table { who.new.token.table ≡ table.now.table }
     ensures pass { result ≡ true → IsPass who.new }
 {
     for (key, value) in updates {
@@ -104,9 +104,9 @@ pub(crate) fn update_due(
     key: u64,
     value: Option<u64>,
 ) -> Option<Due>
-    requires same_table { who.old.seat.table ≡ table.now.table }
+    requires same_table { who.old.token.table ≡ table.now.table }
     requires pass { IsPass who.old }
-    ensures same_table { who.new.seat.table ≡ table.now.table }
+    ensures same_table { who.new.token.table ≡ table.now.table }
     ensures due { IfSome result (HasDue who.new) }
 {
     ask(table, who, key, value);
@@ -118,12 +118,12 @@ pub(crate) fn update_due(
 
 /// Starts the rebuild of the row that reached its limit. Its caller may help it, or make no step.
 pub(crate) fn start_due(table: &TreeTable, who: &mut Caller, due: Due) -> Result<Started, Full>
-    requires same_table { who.old.seat.table ≡ table.now.table }
+    requires same_table { who.old.token.table ≡ table.now.table }
     requires due { HasDue who.old due }
-    ensures same_table { who.new.seat.table ≡ table.now.table }
+    ensures same_table { who.new.token.table ≡ table.now.table }
     ensures ready { IsReady who.new }
     ensures started { (rebuild : ℕ) → result ≡ Ok (Yes rebuild)
-        → IsStarted (now who.new.seat.view) rebuild }
+        → IsStarted (now who.new.token.view) rebuild }
 {
     start(table, who, due.parent, due.index, due.target)
 }

@@ -2,8 +2,7 @@
 
 use crate::running::{Ran, has_pairs, one, run_over};
 use ist_core::Pair;
-use ist_rest::Closed;
-use ist_words::WordList;
+use ist_rest::{Closed, WordList};
 use std::alloc::{AllocError, Global};
 use std::sync::Wait;
 use std::sync::atomic::{AtomicU64, Ordering};

@@ -3,7 +3,7 @@ ghost use Rattle.std.specs.Prelude.{◌≡◌};
 
 use ist_core::{Full, Reply};
 use ist_tree::{Pass, Tree};
-use test_tales::Asked;
+use test_tools::Asked;
 
 /// Asks the tree by the pass.
 pub(crate) fn ask(tree: &Tree, pass: &mut Pass, asked: Asked) -> Result<Reply, Full>

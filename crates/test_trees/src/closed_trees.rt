@@ -1,9 +1,8 @@
 //! New trees that are closed at once: their words, one by one, and their lists.
 
 use crate::openings::{FIVE, NINE, two_pairs};
-use ist_rest::Closed;
+use ist_rest::{Closed, WordList};
 use ist_tree::{OpenFault, Tree};
-use ist_words::WordList;
 use std::alloc::{AllocError, Global};
 use std::test::Fail;
 

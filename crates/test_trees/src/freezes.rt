@@ -3,8 +3,8 @@ ghost use Rattle.std.specs.Prelude.{◌≡◌, ◌≤◌};
 
 use crate::openings::{FIVE, NINE, two_pairs};
 use ist_core::{Full, Pair};
+use ist_rest::WordList;
 use ist_tree::{OpenFault, Pass, Tree};
-use ist_words::WordList;
 use std::alloc::Global;
 use std::test::Fail;
 

@@ -2,7 +2,7 @@
 //!
 //! Read `openings.rt`, `new_trees.rt`, `closed_trees.rt` and `freezes.rt`, then `shapes.rt`, `rows.rt`,
 //! `rebuilds.rt`, `shortages.rt` and `finds.rt`, and then `shots.rt` with `scans.rt`, `scan_ends.rt` and
-//! `scan_threads.rt`, and `lives.rt`. Stands on `ist_tree`, `ist_scan`, `ist_live`, `test_tales` and
+//! `scan_threads.rt`, and `lives.rt`. Stands on `ist_tree`, `ist_scan`, `ist_live`, `test_tools` and
 //! `plain_map`.
 #![tactic(auto)]
 

@@ -5,9 +5,8 @@ ghost use Rattle.std.specs.List.Sorted.{IsStrictlyIncreasing};
 use crate::openings::{FIVE, NINE, two_pairs};
 use ist_core::Pair;
 use ist_image::Image;
-use ist_rest::Closed;
+use ist_rest::{Closed, WordList};
 use ist_tree::{OpenFault, Tree};
-use ist_words::WordList;
 use std::alloc::Global;
 use std::test::Fail;
 

@@ -8,7 +8,7 @@ use ist_core::{Command, Pair};
 use ist_tree::{OpenFault, Pass, Tree};
 use std::alloc::Global;
 use std::test::Fail;
-use test_tales::Asked;
+use test_tools::Asked;
 
 // Puts the numbers from 1 to `last` at a key, one behind another. Gives whether each found the one before.
 fn put_again(tree: &Tree, pass: &mut Pass, key: u64, first: u64, last: u64) -> bool

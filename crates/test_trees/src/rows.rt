@@ -10,7 +10,7 @@ use ist_rest::Closed;
 use ist_tree::{OpenFault, Tree};
 use std::alloc::{AllocError, Global};
 use std::test::Fail;
-use test_tales::Asked;
+use test_tools::Asked;
 
 // Opens a tree without pairs, asks it each in turn by one pass, and closes it. Gives the first of these
 // that was answered otherwise than it is to be.

@@ -9,7 +9,7 @@ use ist_tree::{OpenFault, Pass, Tree};
 use std::alloc::{AllocError, Global};
 use std::test::Fail;
 use std::thread::{Threads, join};
-use test_tales::Asked;
+use test_tools::Asked;
 
 // How many keys each thread puts and removes.
 const KEYS: u64 = 300;

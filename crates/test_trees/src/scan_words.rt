@@ -9,7 +9,7 @@ use ist_scan::{Shot, shot_words};
 use ist_tree::{OpenFault, Pass, Tree};
 use std::alloc::Global;
 use std::test::Fail;
-use test_tales::Asked::{Find, Put, Remove};
+use test_tools::Asked::{Find, Put, Remove};
 
 // How many words a shot of a new tree of so many keys takes: by the words left before and after it, and
 // by the words of the closed tree.

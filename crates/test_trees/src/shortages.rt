@@ -7,7 +7,7 @@ use ist_core::{Full, Reply};
 use ist_tree::{OpenFault, Pass, Tree};
 use std::alloc::Global;
 use std::test::Fail;
-use test_tales::Asked;
+use test_tools::Asked;
 
 // What came of ten puts of 1 to 10, each key with its own number as the value.
 #[derive(Drop)]

@@ -8,7 +8,7 @@ use ist_scan::{Shot, Total};
 use ist_tree::{OpenFault, Pass, Tree};
 use std::alloc::{AllocError, Global};
 use std::test::Fail;
-use test_tales::Asked;
+use test_tools::Asked;
 
 /// A tree of 20,000 words without pairs, and its first pass.
 pub(crate) fn new_tree(alloc: Global) -> Result<(Tree, Pass), OpenFault>

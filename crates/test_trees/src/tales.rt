@@ -4,7 +4,7 @@ use Asked::{Find, Put, Remove};
 use ist_core::{Pair, Reply};
 use std::alloc::{AllocError, Global};
 use std::test::Fail;
-use test_tales::{Asked, Misfit, Order, Told, judge_moments};
+use test_tools::{Asked, Misfit, Order, Told, judge_moments};
 
 // What a thread was told, in its order.
 fn tale(alloc: Global, replies: &[(Asked, Reply)]) -> Result<Vec<Told>, AllocError> {

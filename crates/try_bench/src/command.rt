@@ -4,7 +4,7 @@ use crate::plans::{MOST_KEYS, MOST_THREADS, MOST_WORDS, Plan};
 use clap::{Arg, ArgAction, ArgMatches, Command};
 use std::alloc::{AllocError, Global};
 use std::io;
-use try_draws::{Job, NumberOption, Shares, Spread, arguments, number, read_words, with_numbers};
+use test_tools::{Job, NumberOption, Shares, Spread, arguments, number, read_words, with_numbers};
 
 // The options with numbers that stand before `spread`.
 const CALLS: [NumberOption; 6] = [

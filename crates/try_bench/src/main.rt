@@ -1,6 +1,6 @@
 //! The program `try_bench`: it measures puts, removes, finds and ordered reads on one search tree.
 //!
-//! Read `plans.rt` and `runs.rt`. Stands on `ist_core`, `ist_tree`, `ist_live`, `try_draws`,
+//! Read `plans.rt` and `runs.rt`. Stands on `ist_core`, `ist_tree`, `ist_live`, `test_tools`,
 //! `plain_map` and `clap`.
 #![tactic(auto)]
 
@@ -14,7 +14,7 @@ use command::read_job;
 use runs::{Figures, measure};
 use std::io;
 use std::process::ExitCode;
-use try_draws::Job;
+use test_tools::Job;
 
 /// The status if the arguments are refused, or the tree can't be opened.
 const USAGE: u8 = 2;

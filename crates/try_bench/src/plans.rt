@@ -2,7 +2,7 @@
 ghost use Rattle.std.specs.Prelude.{◌≡◌, ◌≤◌, true};
 ghost use Rattle.ist_core.specs.RowLayout.{place_limit};
 
-use try_draws::{Shares, Spread};
+use test_tools::{Shares, Spread};
 
 /// How many threads there are at most.
 pub(crate) const MOST_THREADS: u64 = 64;

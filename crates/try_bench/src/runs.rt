@@ -6,7 +6,7 @@ use crate::clocks::{Moment, Spent};
 use crate::plans::Plan;
 use crate::workers::Worker;
 use ist_core::Command;
-use ist_tree::{Maker, OpenFault, Pass, Tree};
+use ist_tree::{Maker, OpenFault, Pass, Tree, take_all_back};
 use plain_map::Plain;
 use std::alloc::{AllocError, Global};
 use std::rt::Files;
@@ -115,23 +115,6 @@ fn call_all<R: Threads + Sync>(rt: &R, tree: &Tree, workers: &mut [Worker])
     }
 }
 
-// Gives each pass back to its maker.
-fn take_all_back(tree: &Tree, maker: &mut Maker, workers: Vec<Worker>)
-    requires same_tree { maker.old.tree ≡ tree.now }
-    requires trees { All (λ w. w.pass.tree ≡ tree.now) workers.items }
-    ensures same_tree { maker.new.tree ≡ maker.old.tree }
-    ensures made { maker.new.made ≡ maker.old.made }
-    ensures taken { length maker.new.taken ≡ length workers.items + length maker.old.taken }
-{
-    let mut workers = workers;
-    let Some(worker) = workers.pop() else {
-        return;
-    };
-    let Worker { pass, .. } = worker;
-    tree.take_back(maker, pass);
-    take_all_back(tree, maker, workers);
-}
-
 // What the workers found and were refused, who spent so much.
 fn done_by(spent: Spent, workers: &[Worker]) -> Done {
     let mut done = Done {
@@ -179,7 +162,7 @@ fn measure_workers<R: Threads + Sync + Files + Clock + AllocGlobal>(
 {
     let mut workers = make_workers(rt.alloc(), tree, maker, plan)?;
     let done = call_timed(rt, tree, workers.as_mut_slice());
-    take_all_back(tree, maker, workers);
+    take_all_back::<Worker, Worker>(tree, maker, workers);
     done
 }
 

@@ -5,7 +5,7 @@ use crate::plans::Plan;
 use ist_live::{at_least, list_live};
 use ist_tree::{Holds, Pass, Tree};
 use std::alloc::Global;
-use try_draws::{Draws, Kind};
+use test_tools::{Draws, Kind};
 
 /// One thread's calls on a tree.
 #[derive(Drop)]

@@ -5,7 +5,7 @@ use Rattle.std.specs.FinMap as fin
 use Rattle.ist_core.specs.declared.commands.Command.{Command}
 use Rattle.ist_core.specs.Map.{map_of}
 use Rattle.ist_core.specs.Replies.{Answered}
-use Rattle.ist_words.proofs.WholeLemmas.{same_pairs}
+use Rattle.ist_rest.proofs.WholeLemmas.{same_pairs}
 use Rattle.ist_map.specs.Owning.{OnlyGets, OwnersReadBack, ReadBack, is_about}
 use Rattle.ist_map.specs.Running.{IsOneHistory}
 use Rattle.ist_map.specs.Scripts.{told_in}

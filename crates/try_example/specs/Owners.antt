@@ -4,7 +4,7 @@ use Rattle.std.specs.FinMap as fin
 use Rattle.ist_core.specs.declared.pairs.Pair.{Pair}
 use Rattle.ist_core.specs.Map.{map_of}
 use Rattle.ist_core.specs.Replies.{Answered}
-use Rattle.ist_words.specs.RestingWords.{HoldPairs}
+use Rattle.ist_rest.specs.RestingWords.{HoldPairs}
 use Rattle.ist_map.specs.Owning.{OnlyGets, ReadBack, is_about}
 
 -- if all others only got the key, the owner read back what it wrote: from the value that the key had

@@ -1,7 +1,7 @@
 //! Workers, as many as are asked for, that share a map which grows.
 ghost use Rattle.std.specs.Prelude.{◌≡◌, ◌≤◌, [], length, map, All, IfOk, OnOk};
 ghost use Rattle.ist_core.specs.Enabled.{caller_limit};
-ghost use Rattle.ist_words.specs.RestingWords.{HoldPairs};
+ghost use Rattle.ist_rest.specs.RestingWords.{HoldPairs};
 ghost use Rattle.ist_map.specs.Running.{IsOneHistory};
 ghost use Rattle.ist_map.specs.Scripts.{told_in};
 ghost use Rattle.try_example.specs.Owners.{ReadsOwn};

@@ -5,7 +5,7 @@ ghost use Rattle.try_growth.specs.declared.faults.Fault.TheVariants as faults;
 use ist_map::ReopenFault;
 use ist_tree::OpenFault;
 use std::alloc::{AllocError, AllocFailed};
-use test_tales::Misfit;
+use test_tools::Misfit;
 
 /// Why the runs didn't come to a good end.
 #[derive(Clone, Copy, Debug, PartialEq, Eq, Drop)]

@@ -2,7 +2,7 @@
 //! of them was told.
 //!
 //! Read `plans.rt` and `runs.rt`. Stands on `ist_core`, `ist_rest`, `ist_tree`, `ist_map`,
-//! `test_tales`, `try_draws` and `clap`.
+//! `test_tools` and `clap`.
 #![tactic(auto)]
 
 mod command;
@@ -17,7 +17,7 @@ use plans::Plan;
 use runs::{Report, run_all};
 use std::io;
 use std::process::ExitCode;
-use try_draws::Job;
+use test_tools::Job;
 
 /// The status if a check failed.
 const WRONG: u8 = 1;

@@ -1,6 +1,6 @@
 //! How the runs are to go.
 
-use try_draws::Shares;
+use test_tools::Shares;
 
 /// How many workers there are at most.
 pub(crate) const MOST_WORKERS: u64 = 64;

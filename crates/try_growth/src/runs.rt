@@ -11,8 +11,7 @@ use ist_tree::OpenFault;
 use plain_map::Plain;
 use std::alloc::{AllocError, Global};
 use std::thread::Threads;
-use test_tales::{Misfit, Order, Told};
-use try_draws::opening_pairs;
+use test_tools::{Misfit, Order, Told, opening_pairs};
 
 /// What runs that came to a good end did.
 #[derive(Clone, Copy, Debug, PartialEq, Eq, Drop)]

@@ -4,8 +4,7 @@ ghost use Rattle.std.specs.Prelude.{◌≤◌};
 use crate::plans::{MOST_WORKERS, Plan};
 use ist_core::{Command, Reply};
 use std::alloc::{AllocError, Global};
-use test_tales::{Asked, Told};
-use try_draws::{Draws, Kind};
+use test_tools::{Asked, Draws, Kind, Told};
 
 // The value of a put: no two puts of all runs have the same.
 fn value_of(plan: &Plan, run: u64, worker: u64, call: u64) -> u64 {

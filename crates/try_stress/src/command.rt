@@ -4,7 +4,7 @@ use crate::plans::{MOST_KEYS, MOST_PASSES, MOST_WORDS, Plan};
 use clap::{ArgMatches, Command};
 use std::alloc::{AllocError, Global};
 use std::io;
-use try_draws::{
+use test_tools::{
     JUDGE_STATUSES, Job, NumberOption, Shares, arguments, number, read_words, with_numbers,
 };
 

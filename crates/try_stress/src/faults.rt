@@ -4,7 +4,7 @@ ghost use Rattle.try_stress.specs.declared.faults.Fault.TheVariants as faults;
 
 use ist_tree::OpenFault;
 use std::alloc::{AllocError, AllocFailed};
-use test_tales::Misfit;
+use test_tools::Misfit;
 
 /// Why a run didn't come to a good end.
 #[derive(Clone, Copy, Debug, PartialEq, Eq, Drop)]

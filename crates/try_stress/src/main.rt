@@ -1,7 +1,7 @@
 //! The program `try_stress`: threads on one search tree, and a judge of what each of them was told.
 //!
 //! Read `plans.rt`, `rounds.rt` and `closing.rt`. Stands on `ist_core`, `ist_rest`, `ist_tree`,
-//! `test_tales`, `try_draws`, `plain_map`, `tele_io`, `tele_audit` and `clap`.
+//! `test_tools`, `plain_map`, `tele_io`, `tele_audit` and `clap`.
 #![tactic(auto)]
 
 mod closing;
@@ -18,7 +18,7 @@ use plans::Plan;
 use runs::{Report, run};
 use std::io;
 use std::process::ExitCode;
-use try_draws::Job;
+use test_tools::Job;
 
 /// The status if a check failed.
 const WRONG: u8 = 1;

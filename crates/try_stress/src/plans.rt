@@ -2,7 +2,7 @@
 ghost use Rattle.std.specs.Prelude.{◌≡◌, ◌≤◌, true};
 ghost use Rattle.ist_core.specs.RowLayout.{place_limit};
 
-use try_draws::Shares;
+use test_tools::Shares;
 
 /// How many passes there are at most.
 pub(crate) const MOST_PASSES: u64 = 64;

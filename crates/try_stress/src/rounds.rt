@@ -9,7 +9,7 @@ use ist_tree::{Maker, Pass, Tree};
 use std::alloc::{AllocError, Global};
 use std::thread;
 use std::thread::Threads;
-use test_tales::{Misfit, Order};
+use test_tools::{Misfit, Order};
 
 /// A worker for each thread, each with a pass of its own.
 pub(crate) fn make_workers(

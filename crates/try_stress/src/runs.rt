@@ -9,11 +9,11 @@ use crate::rounds::{make_workers, run_round};
 use crate::workers::{Tally, Worker};
 use ist_core::Reply;
 use ist_rest::Closed;
-use ist_tree::{Maker, OpenFault, Pass, Tree};
+use ist_tree::{Maker, OpenFault, Pass, Tree, take_all_back};
 use plain_map::Plain;
 use std::alloc::Global;
 use std::thread::Threads;
-use try_draws::opening_pairs;
+use test_tools::opening_pairs;
 
 /// What a run that came to a good end did.
 #[derive(Clone, Copy, Debug, PartialEq, Eq, Drop)]
@@ -89,23 +89,6 @@ fn done_by(workers: &[Worker]) -> Done {
     done
 }
 
-// Gives each pass back to its maker.
-fn take_all_back(tree: &Tree, maker: &mut Maker, workers: Vec<Worker>)
-    requires same_tree { maker.old.tree ≡ tree.now }
-    requires trees { All (λ w. w.pass.tree ≡ tree.now) workers.items }
-    ensures same_tree { maker.new.tree ≡ maker.old.tree }
-    ensures made { maker.new.made ≡ maker.old.made }
-    ensures taken { length maker.new.taken ≡ length workers.items + length maker.old.taken }
-{
-    let mut workers = workers;
-    let Some(worker) = workers.pop() else {
-        return;
-    };
-    let Worker { pass, .. } = worker;
-    tree.take_back(maker, pass);
-    take_all_back(tree, maker, workers);
-}
-
 // Runs all rounds by workers of this tree, and takes their passes back.
 fn run_workers<R: Threads + Sync>(
     rt: &R,
@@ -136,7 +119,7 @@ fn run_workers<R: Threads + Sync>(
         values,
     );
     let done = done_by(workers.as_slice());
-    take_all_back(tree, maker, workers);
+    take_all_back::<Worker, Worker>(tree, maker, workers);
     ran?;
     Ok(done)
 }

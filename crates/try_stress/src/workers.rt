@@ -7,8 +7,7 @@ use ist_core::{Full, Pair, Reply};
 use ist_live::{at_least, list_live};
 use ist_tree::{Frozen, Holds, Pass, Tree};
 use std::alloc::{AllocError, Global};
-use test_tales::{Asked, Told};
-use try_draws::{Draws, Kind};
+use test_tools::{Asked, Draws, Kind, Told};
 
 /// How many keys a list reads at most.
 const LISTED: u64 = 64;

@@ -1,7 +1,7 @@
 use Rattle.std.proofs.Common.{◌≡◌, arith}
 use Rattle.ist_core.specs.RowLayout.{anchor}
 use Rattle.check_fairness.proofs.AnswerLemmas.{iff_trans}
-use Rattle.check_events.proofs.WayLemmas.{child_of_row}
+use Rattle.check_events.proofs.WayUpLemmas.{child_of_row}
 use Rattle.check_events.proofs.climbing.is_child_for.Goals as goal
 use Rattle.check_events.proofs.climbing.is_child_for.Goals.{
   else-node-from-via-then-node-from+else-i-eq0,

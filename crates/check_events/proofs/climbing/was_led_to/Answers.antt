@@ -2,7 +2,7 @@ use Rattle.std.proofs.Common.{◌≤◌, arith, sym}
 use Rattle.std.proofs.lemmas.Bool.Decides.{nat_tests}
 use Rattle.ist_core.specs.Logs.{state}
 use Rattle.check_fairness.proofs.AnswerLemmas.{iff_trans}
-use Rattle.check_events.proofs.WayLemmas.{climbs_is}
+use Rattle.check_events.proofs.WayUpLemmas.{climbs_is}
 use Rattle.check_events.proofs.climbing.was_led_to.Goals as goal
 
 pub returns-in-None : goal.returns-in-None

@@ -1,7 +1,7 @@
 use Rattle.std.proofs.Common.{◌≡◌, ◌≢◌, ◌↔◌, IsTrue, subst, sym, refl, arith}
 use Rattle.ist_core.specs.RowLayout.{anchor}
 use Rattle.ist_core.specs.Links.{WasLinked}
-use Rattle.check_events.proofs.WayLemmas.{anchor_linked, linked_is}
+use Rattle.check_events.proofs.WayUpLemmas.{anchor_linked, linked_is}
 use Rattle.check_events.proofs.climbing.was_linked.Goals as goal
 
 pub returns-then-node-from : goal.returns-then-node-from

@@ -1,7 +1,7 @@
 use Rattle.std.proofs.Common.{◌↔◌, IsTrue, sym, subst, arith}
 use Rattle.check_events.specs.Ways.{ClimbsBy}
 use Rattle.check_fairness.proofs.AnswerLemmas.{iff_trans, never}
-use Rattle.check_events.proofs.WayLemmas.{comes_is}
+use Rattle.check_events.proofs.WayUpLemmas.{comes_is}
 use Rattle.check_events.proofs.ClimbLemmas.{comes_here, comes_low}
 use Rattle.check_events.proofs.climbing.was_on_chain.Goals as goal
 

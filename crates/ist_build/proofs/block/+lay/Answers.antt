@@ -24,9 +24,9 @@ returns-then-leaves-lt2-clause-laid t c = c.small_word.ensures.laid _ _
 
 pub open_row-requires-clause-held : goal.open_row-requires-clause-held
 open_row-requires-clause-held t c =
-    subst (λ d. HoldsRow (now c.args.who.now.seat.view) c.args.who.now.number c.args.next.now
+    subst (λ d. HoldsRow (now c.args.who.now.token.view) c.args.who.now.number c.args.next.now
     (inner_words d)) (sym c.degree-degree.ensures.value)
-    (block_first (now c.args.who.now.seat.view) c.args.who.now.number c.args.next.now
+    (block_first (now c.args.who.now.token.view) c.args.who.now.number c.args.next.now
     (length c.args.leaves.now) c.if-leaves-lt2.false c.requires.held).0
 
 pub loop-j-init : goal.loop-j-init

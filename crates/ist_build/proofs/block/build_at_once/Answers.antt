@@ -55,7 +55,7 @@ returns-in-Some-clause-taken c =
 pub build-requires-in-None-clause-due : goal.build-requires-in-None-clause-due
 build-requires-in-None-clause-due c two =
     subst (λ x. IsDue x (length c.args.leaves.now)) (sym c.in-None.ensures.same)
-    (due_on c.args.who.now c.reserve_shape.new.who.seat (length c.args.leaves.now) c.requires.caller
+    (due_on c.args.who.now c.reserve_shape.new.who.token (length c.args.leaves.now) c.requires.caller
     (c.in-None.ensures.none refl) (c.requires.due two))
 
 pub build-requires-in-None-clause-leaves : goal.build-requires-in-None-clause-leaves

@@ -1,6 +1,6 @@
 use Rattle.std.proofs.Common.{rules}
 use Rattle.ist_build.proofs.BuildingLemmas.{next_row, row_refused}
-use Rattle.ist_build.proofs.MidwayLemmas.{midway_opened}
+use Rattle.ist_build.proofs.HalfBuiltLemmas.{midway_opened}
 use Rattle.ist_build.proofs.RowOpenedLemmas.{reserved_held}
 use Rattle.ist_build.proofs.building.begin_row.Goals as goal
 

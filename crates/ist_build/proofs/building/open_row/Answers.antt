@@ -13,6 +13,6 @@ pub fill-requires-2-clause-held : goal.fill-requires-2-clause-held
 fill-requires-2-clause-held c =
     let some = c.requires.some in
     subst (λ (who : Caller). HoldsPlace who c.args.base 3) (sym c.fill.ensures.stored)
-    (holds_place (record c.args.who.now { seat = record c.args.who.now.seat { view = _ } })
+    (holds_place (record c.args.who.now { token = record c.args.who.now.token { view = _ } })
     c.args.base
     c.args.degree 3 c.requires.held (omega arith))

@@ -13,6 +13,6 @@ pub fill-requires-then-j-gt0-clause-held : goal.fill-requires-then-j-gt0-clause-
 fill-requires-then-j-gt0-clause-held c =
     let less = c.requires.within in
     subst (λ (who : Caller). HoldsPlace who c.args.base (3 + c.args.j)) (sym c.fill.ensures.stored)
-    (holds_place (record c.args.who.now { seat = record c.args.who.now.seat { view = _ } })
+    (holds_place (record c.args.who.now { token = record c.args.who.now.token { view = _ } })
     c.args.base
     c.args.degree _ c.requires.held (omega arith))

@@ -35,7 +35,7 @@ rest : (t : ℕ) (c : After-go_down-reached t)
     ≤ (place_limit - c.args.node) * 2 ^ 31
 rest t c =
     let i = c.loop-index.invariant in let e = c.look_below-below.ensures in
-    few_below _ c.look_below-below.new.seat.view i.1.sound c.args.node _ c.loop-index.index
+    few_below _ c.look_below-below.new.token.view i.1.sound c.args.node _ c.loop-index.index
     _ _ c.in-Row.base c.in-Row.keys _ i.2 c.loop-index-test.true i.4 e.few _ c.in-Row.is e.under
     c.go_down-reached.ensures.fits
 

@@ -12,12 +12,12 @@ decreases-go_down l = 2 ^ 32 - l.node
 -- the leaves below the slots so far were left out, and few words loaded
 abbrev pub invariant-loop-index : goal.invariant-loop-index
 invariant-loop-index l =
-    (l.seat.table ≡ l.fn.seat.table)
-    × GoesOnTo l.fn.seat.view l.seat.view
-    × HasSlots l.seat.view l.node l.degree
-    × (l.seat.view.loaded ≡ l.fn.seat.view.loaded + l.loads)
+    (l.token.table ≡ l.fn.token.table)
+    × GoesOnTo l.fn.token.view l.token.view
+    × HasSlots l.token.view l.node l.degree
+    × (l.token.view.loaded ≡ l.fn.token.view.loaded + l.loads)
     × (l.loads ≤ 4 * l.index + 1)
     × ((leaves : List PlacedLeaf)
-    → HasLeaves (now l.fn.seat.view).pieces (Some (InnerAt l.node)) leaves
-    → IsReading leaves (0 ∷ []) (before_one l.i) l.seat.view l.node l.index (0 ∷ [])
+    → HasLeaves (now l.fn.token.view).pieces (Some (InnerAt l.node)) leaves
+    → IsReading leaves (0 ∷ []) (before_one l.i) l.token.view l.node l.index (0 ∷ [])
     (before_one l.skip))

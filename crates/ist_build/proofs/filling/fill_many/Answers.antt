@@ -14,7 +14,7 @@ returns-clause-back c =
 pub returns-clause-filled : goal.returns-clause-filled
 returns-clause-filled c =
     subst (λ n. IfOk c.fill_shared.result
-    (λ done. IsBuiltOut (now c.fill_shared.new.who.seat.view) n))
+    (λ done. IsBuiltOut (now c.fill_shared.new.who.token.view) n))
     c.shared_root-shared.ensures.rebuild c.fill_shared.ensures.filled
 
 pub returns-clause-full : goal.returns-clause-full
@@ -22,6 +22,6 @@ returns-clause-full c =
     err_stopped _ _ _ _ _ record { k = c.args.target.keys; told = c.requires.told }
     c.shared_root-shared.ensures.back c.fill_shared.result
     (subst (λ n. IfErr c.fill_shared.result (λ full. IsStopped
-    c.shared_root-shared.new.who.seat.view n (word_count_of c.args.table.now) full
-    c.fill_shared.new.who.seat.view)) c.shared_root-shared.ensures.rebuild
+    c.shared_root-shared.new.who.token.view n (word_count_of c.args.table.now) full
+    c.fill_shared.new.who.token.view)) c.shared_root-shared.ensures.rebuild
     c.fill_shared.ensures.full)

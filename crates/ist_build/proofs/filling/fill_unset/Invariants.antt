@@ -4,4 +4,4 @@ use Rattle.ist_build.proofs.filling.fill_unset.Given as goal
 
 -- the slots so far are set
 abbrev pub invariant-loop-i : goal.invariant-loop-i
-invariant-loop-i l = (l.who.seat.table ≡ l.table.table) × IsFilling l.fn.who l.shared l.i l.who
+invariant-loop-i l = (l.who.token.table ≡ l.table.table) × IsFilling l.fn.who l.shared l.i l.who

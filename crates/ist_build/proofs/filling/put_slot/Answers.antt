@@ -25,4 +25,4 @@ returns-clause-put c =
     λ old made.
     (may_put old c.args.who.now c.args.shared c.args.i c.args.word made _
     c.slot_place-place.ensures.value).behind
-    c.put_part.new.seat c.put_part.result c.put_part.ensures.exchanged
+    c.put_part.new.token c.put_part.result c.put_part.ensures.exchanged

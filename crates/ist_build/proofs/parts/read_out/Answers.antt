@@ -8,8 +8,8 @@ use Rattle.ist_build.proofs.parts.read_out.Goals as goal
 use Rattle.ist_build.proofs.parts.read_out.Goals.{After-know-2}
 
 -- the leaves are read out, and stay so after further loads
-read : (c : After-know-2) (w : View) → GoesOnTo c.read_leaves.new.seat.view w
-    → HasReadOut c.args.seat.now.view c.args.target c.args.start (length c.args.leaves.now)
+read : (c : After-know-2) (w : View) → GoesOnTo c.read_leaves.new.token.view w
+    → HasReadOut c.args.token.now.view c.args.target c.args.start (length c.args.leaves.now)
     c.read_leaves.new.into w
 read c w on =
     has_read_out _ _ w c.know.ensures.sound c.args.target _ _ c.args.leaves.now _ refl

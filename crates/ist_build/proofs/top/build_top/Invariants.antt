@@ -5,5 +5,5 @@ use Rattle.ist_build.proofs.top.build_top.Given as goal
 -- the slots so far are Unset, and their keys are stored
 abbrev pub invariant-loop-j : goal.invariant-loop-j
 invariant-loop-j l =
-    (l.who.seat.table ≡ l.table.table) × IsTopMidway l.fn.who l.target l.keys l.base l.degree l.j
+    (l.who.token.table ≡ l.table.table) × IsTopMidway l.fn.who l.target l.keys l.base l.degree l.j
     l.who

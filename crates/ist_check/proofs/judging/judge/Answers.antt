@@ -5,7 +5,7 @@ use Rattle.ist_core.specs.StartLayout.{start}
 use Rattle.ist_core.specs.Lawful.{Lawful, state_of}
 use Rattle.check_events.specs.Mirroring.{Mirrors}
 use Rattle.check_events.specs.Remembering.{KnowsSlots, KnowsWays}
-use Rattle.check_reasons.specs.declared.conditions.Condition.{Condition}
+use Rattle.ist_check.specs.declared.conditions.Condition.{Condition}
 use Rattle.ist_check.specs.Knowing.{Knows}
 use Rattle.ist_check.proofs.CheckingLemmas.{reverse_more, first_unlawful, fails_at, lawful_more}
 use Rattle.ist_check.proofs.CheckingLemmas.{known_more}

@@ -1,9 +1,9 @@
 use Rattle.std.proofs.Common.{◌≡◌, ◌∙◌, true, false, List, Option, Some, None, IfSome, sym, subst}
 use Rattle.std.proofs.lemmas.Result.{IfOk-weaker}
 use Rattle.ist_core.specs.StartLayout.{start}
-use Rattle.check_reasons.specs.Conditions.{says_of}
-use Rattle.check_reasons.specs.declared.conditions.Condition.{Condition}
-use Rattle.check_reasons.specs.Failing.{Stated, Tells}
+use Rattle.ist_check.specs.Conditions.{says_of}
+use Rattle.ist_check.specs.declared.conditions.Condition.{Condition}
+use Rattle.ist_check.specs.Failing.{Stated, Tells}
 use Rattle.ist_check.proofs.ReasonLemmas.{all_hold}
 use Rattle.ist_check.proofs.judging.refused_for.Goals as goal
 

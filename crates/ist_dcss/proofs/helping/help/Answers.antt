@@ -24,7 +24,7 @@ pub returns-clause-yes : goal.returns-clause-yes
 returns-clause-yes c is =
     yes_seen _ c.resolve.ensures.went.sound c.args.change
     (decided_on c.args.change _ _ c.resolve.ensures.went true
-    (subst (λ d. IsDecided c.decide-decision.new.seat.view c.args.change (is_yes d)) is
+    (subst (λ d. IsDecided c.decide-decision.new.token.view c.args.change (is_yes d)) is
     c.decide-decision.ensures.decided))
 
 -- a no is for a node that wasn't open
@@ -32,5 +32,5 @@ pub returns-clause-no : goal.returns-clause-no
 returns-clause-no c is =
     no_seen _ c.resolve.ensures.went.sound c.args.change
     (decided_on c.args.change _ _ c.resolve.ensures.went false
-    (subst (λ d. IsDecided c.decide-decision.new.seat.view c.args.change (is_yes d)) is
+    (subst (λ d. IsDecided c.decide-decision.new.token.view c.args.change (is_yes d)) is
     c.decide-decision.ensures.decided))

@@ -24,7 +24,7 @@ to_word-word-requires c =
 -- the change may leave its slot
 pub exchange-requires : goal.exchange-requires
 exchange-requires c =
-    let v = c.field-side.new.seat.view in
+    let v = c.field-side.new.token.view in
     let it = may_resolve _ c.args.change c.requires.may_help (is_yes c.args.decision)
     c.requires.decided _ c.slot_of-place.ensures.went _ c.slot_of-place.ensures.slot v
     c.field-side.ensures.went c.slot_of-place.ensures.went.sound _
@@ -50,7 +50,7 @@ exchange-requires c =
 -- the caller only made steps that serve the change
 pub returns-clause-went : goal.returns-clause-went
 returns-clause-went c =
-    let v = c.field-side.new.seat.view in
+    let v = c.field-side.new.token.view in
     let it = may_resolve _ c.args.change c.requires.may_help (is_yes c.args.decision)
     c.requires.decided _ c.slot_of-place.ensures.went _ c.slot_of-place.ensures.slot v
     c.field-side.ensures.went c.slot_of-place.ensures.went.sound _
@@ -75,7 +75,7 @@ returns-clause-search c =
 -- the change is out of its slot
 pub returns-clause-out : goal.returns-clause-out
 returns-clause-out c =
-    let v = c.field-side.new.seat.view in
+    let v = c.field-side.new.token.view in
     let it = may_resolve _ c.args.change c.requires.may_help (is_yes c.args.decision)
     c.requires.decided _ c.slot_of-place.ensures.went _ c.slot_of-place.ensures.slot v
     c.field-side.ensures.went c.slot_of-place.ensures.went.sound _

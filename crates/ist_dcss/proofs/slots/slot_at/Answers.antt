@@ -11,7 +11,7 @@ returns-then-node-from-clause-seen c = goes_on_same _ c.know.ensures.sound
 
 pub returns-then-node-from-clause-place : goal.returns-then-node-from-clause-place
 returns-then-node-from-clause-place c =
-    sym (ap (λ n. place_of_slot (now c.args.seat.now.view) n c.args.index)
+    sym (ap (λ n. place_of_slot (now c.args.token.now.view) n c.args.index)
     (c.if-node-from.true ∙ c.from.ensures))
 
 -- the node lies within the table, which is small

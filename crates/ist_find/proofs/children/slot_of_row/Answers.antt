@@ -6,17 +6,17 @@ use Rattle.ist_find.proofs.children.slot_of_row.Goals as goal
 -- the slots of a row lie within the table
 pub overflow_add-count : goal.overflow_add-count
 overflow_add-count c =
-    let k = knows_row c.args.seat.now.view c.know.ensures.sound c.args.node c.requires.row in
+    let k = knows_row c.args.token.now.view c.know.ensures.sound c.args.node c.requires.row in
     omega arith
 
 pub slot_place-requires-clause-fits : goal.slot_place-requires-clause-fits
 slot_place-requires-clause-fits c =
-    let k = knows_row c.args.seat.now.view c.know.ensures.sound c.args.node c.requires.row in
+    let k = knows_row c.args.token.now.view c.know.ensures.sound c.args.node c.requires.row in
     omega arith
 
 pub load-requires-clause-within : goal.load-requires-clause-within
 load-requires-clause-within c =
-    let k = knows_row c.args.seat.now.view c.know.ensures.sound c.args.node c.requires.row in
+    let k = knows_row c.args.token.now.view c.know.ensures.sound c.args.node c.requires.row in
     let same = ap (λ t. t.words) c.requires.same_table in
     omega arith
 

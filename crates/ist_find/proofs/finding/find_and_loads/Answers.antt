@@ -24,7 +24,7 @@ look_at-look-requires-in-Inner-clause-come c =
 -- which lies above the last one, and within the table
 pub loop-look-smaller : goal.loop-look-smaller
 loop-look-smaller c =
-    let lies = search_rises _ c.loop-look.seat.view c.args.key c.loop-look.node _ _ _
+    let lies = search_rises _ c.loop-look.token.view c.args.key c.loop-look.node _ _ _
     c.loop-look.invariant.here c.in-Inner.base (ap ref_meant c.in-Inner.is) in
     let up = lies.up in
     let inside = lies.inside in

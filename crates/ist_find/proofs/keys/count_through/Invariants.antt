@@ -4,5 +4,5 @@ use Rattle.ist_find.proofs.keys.count_through.Given as goal
 
 -- the keys so far were loaded, and counted if they are at most the key
 abbrev pub invariant-loop-j : goal.invariant-loop-j
-invariant-loop-j l = (l.seat.table ≡ l.fn.seat.table)
-    × HasCounted l.fn.seat.view l.seat.view l.node l.j l.key l.found
+invariant-loop-j l = (l.token.table ≡ l.fn.token.table)
+    × HasCounted l.fn.token.view l.token.view l.node l.j l.key l.found

@@ -4,8 +4,8 @@ use Rattle.ist_find.proofs.keys.gallop_from.Given as goal
 
 -- each load was a look of the gallop, and counted
 abbrev pub invariant-loop-gallop : goal.invariant-loop-gallop
-invariant-loop-gallop l = (l.seat.table ≡ l.fn.seat.table)
-    × HasRun l.fn.seat.view l.seat.view l.node l.from l.key l.gallop l.loads
+invariant-loop-gallop l = (l.token.table ≡ l.fn.token.table)
+    × HasRun l.fn.token.view l.token.view l.node l.from l.key l.gallop l.loads
 
 abbrev pub decreases-loop-gallop : goal.decreases-loop-gallop
 decreases-loop-gallop l = l.gallop.high - l.gallop.low

@@ -6,18 +6,18 @@ use Rattle.ist_find.proofs.keys.key_at.Goals as goal
 -- the row lies within the table, which is small
 pub overflow_add-j : goal.overflow_add-j
 overflow_add-j c =
-    let k = knows_row c.args.seat.now.view c.know.ensures.sound c.args.node c.requires.row in
+    let k = knows_row c.args.token.now.view c.know.ensures.sound c.args.node c.requires.row in
     let h : c.args.j + 1 < 2 ^ 64 = omega arith in
     record { fits = h }
 
 pub key_place-requires-clause-fits : goal.key_place-requires-clause-fits
 key_place-requires-clause-fits c =
-    let k = knows_row c.args.seat.now.view c.know.ensures.sound c.args.node c.requires.row in
+    let k = knows_row c.args.token.now.view c.know.ensures.sound c.args.node c.requires.row in
     omega arith
 
 pub load-requires-clause-within : goal.load-requires-clause-within
 load-requires-clause-within c =
-    let k = knows_row c.args.seat.now.view c.know.ensures.sound c.args.node c.requires.row in
+    let k = knows_row c.args.token.now.view c.know.ensures.sound c.args.node c.requires.row in
     let same = ap (λ t. t.words) c.requires.same_table in
     omega arith
 

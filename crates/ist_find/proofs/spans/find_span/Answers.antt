@@ -35,7 +35,7 @@ look_for_all-look-requires-in-Inner c =
 -- which lies above the last one, and within the table
 pub loop-look-smaller : goal.loop-look-smaller
 loop-look-smaller c =
-    let lies = span_rises _ c.loop-look.seat.view c.args.key c.loop-look.node _ _ _ _
+    let lies = span_rises _ c.loop-look.token.view c.args.key c.loop-look.node _ _ _ _
     c.loop-look.invariant.here c.in-Inner.base (ap ref_meant c.in-Inner.is) in
     let up = lies.up in
     let inside = lies.inside in

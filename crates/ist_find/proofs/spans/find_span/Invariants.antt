@@ -7,11 +7,11 @@ use Rattle.ist_find.proofs.spans.find_span.Given as goal
 -- between has reached
 abbrev pub invariant-loop-look : goal.invariant-loop-look
 invariant-loop-look l = record {
-  table : l.seat.table ≡ l.fn.seat.table;
-  here : SpanIsAt l.fn.seat.view l.seat.view l.key l.node l.look.index l.look.ends.first l.look.ends.last
+  table : l.token.table ≡ l.fn.token.table;
+  here : SpanIsAt l.fn.token.view l.token.view l.key l.node l.look.index l.look.ends.first l.look.ends.last
       (ref_meant l.look.reference);
 }
 
 -- each row lies above the one before it
 abbrev pub decreases-loop-look : goal.decreases-loop-look
-decreases-loop-look l = l.seat.view.words - l.node
+decreases-loop-look l = l.token.view.words - l.node

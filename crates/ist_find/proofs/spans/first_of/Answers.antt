@@ -12,5 +12,5 @@ returns-then-index-eq0-clause-seen c = goes_on_same _ c.know.ensures.sound
 pub returns-then-first-low-clause-edge : goal.returns-then-first-low-clause-edge
 returns-then-first-low-clause-edge c less =
     let within = c.requires.within in
-    key_among (keys_at c.args.seat.now.view c.args.node) (c.args.index - 1) _ (omega arith)
+    key_among (keys_at c.args.token.now.view c.args.node) (c.args.index - 1) _ (omega arith)
     c.key_at-low.ensures.value

@@ -11,7 +11,7 @@ returns-then-index-count-clause-seen c = goes_on_same _ c.know.ensures.sound
 -- the key after a lesser one than the last is one of the row
 pub returns-then-next-last-clause-edge : goal.returns-then-next-last-clause-edge
 returns-then-next-last-clause-edge c less =
-    let keys = keys_at c.args.seat.now.view c.args.node in
+    let keys = keys_at c.args.token.now.view c.args.node in
     let within = c.requires.within in
     let count = c.requires.count in
     let other = c.if-index-count.false in

@@ -16,21 +16,21 @@ returns-then-node-eq-ANCHOR-clause-share c k low high =
 
 -- another node is a row
 pub row_ends-requires-clause-row : goal.row_ends-requires-clause-row
-row_ends-requires-clause-row c = node_row c.args.seat.now.view c.args.node c.if-node-eq-ANCHOR.false c.requires.node
+row_ends-requires-clause-row c = node_row c.args.token.now.view c.args.node c.if-node-eq-ANCHOR.false c.requires.node
 
 pub row_ends-requires-clause-child : goal.row_ends-requires-clause-child
 row_ends-requires-clause-child c =
-    row_child c.args.seat.now.view c.args.node c.args.key c.args.index c.if-node-eq-ANCHOR.false c.requires.child
+    row_child c.args.token.now.view c.args.node c.args.key c.args.index c.if-node-eq-ANCHOR.false c.requires.child
 
 pub returns-clause-share : goal.returns-clause-share
 returns-clause-share c k low high =
-    child_is c.args.seat.now.view c.args.node (node_row c.args.seat.now.view c.args.node c.if-node-eq-ANCHOR.false c.requires.node) k
+    child_is c.args.token.now.view c.args.node (node_row c.args.token.now.view c.args.node c.if-node-eq-ANCHOR.false c.requires.node) k
     c.args.index (sym (c.row_ends.ensures.share k low high))
 
 -- they end at edges, as before or by keys of the row
 pub returns-clause-edges : goal.returns-clause-edges
 returns-clause-edges c =
-    let v = c.args.seat.now.view in
+    let v = c.args.token.now.view in
     let other = c.if-node-eq-ANCHOR.false in
     edges_on _ _ c.row_ends.ensures.seen _ _
     (edges_row v c.args.node (node_row v c.args.node other c.requires.node) c.args.ends.first

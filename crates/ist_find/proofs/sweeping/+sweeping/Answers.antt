@@ -74,8 +74,8 @@ sweep_below-returns-then-read-last-clause-seen t c =
 
 pub sweep_below-returns-then-read-last-clause-swept : goal.sweep_below-returns-then-read-last-clause-swept
 sweep_below-returns-then-read-last-clause-swept t c =
-    subst (λ n. HasSwept c.args.seat.now.view c.sweep_slot.new.seat.view c.args.first (n + 1) c.args.last
-    c.args.node 0 (starting c.args.seat.now.view c.args.node c.args.first) c.args.found.now.items
+    subst (λ n. HasSwept c.args.token.now.view c.sweep_slot.new.token.view c.args.first (n + 1) c.args.last
+    c.args.node 0 (starting c.args.token.now.view c.args.node c.args.first) c.args.found.now.items
     c.sweep_slot.new.found.items) c.if-read-last.true
     (one_more _ _ _ c.args.node c.args.first c.slots.from c.read_from-read.result.to c.args.last _ _ _ _ _ _
     c.slots.invariant.here c.read_from-read.ensures.read _ _ c.sweep_slot.ensures.seen

@@ -13,9 +13,9 @@ decreases-sweep_below l = 2 * (2 ^ 32 - l.node) + 1
 -- the keys below the next one were swept
 abbrev pub invariant-sweep_below-slots : goal.invariant-sweep_below-slots
 invariant-sweep_below-slots l = record {
-  table : l.seat.table ≡ l.fn.seat.table;
-  here : HasSweptTo l.fn.seat.view l.seat.view l.node l.first l.from l.last l.place.index l.place.count
-      (starting l.fn.seat.view l.node l.first) l.fn.found.items l.found.items;
+  table : l.token.table ≡ l.fn.token.table;
+  here : HasSweptTo l.fn.token.view l.token.view l.node l.first l.from l.last l.place.index l.place.count
+      (starting l.fn.token.view l.node l.first) l.fn.found.items l.found.items;
 }
 
 -- the next key rises

@@ -15,11 +15,11 @@ returns-then-node-eq-ANCHOR-clause-at c =
 -- another node is a row
 pub place_in_row-requires-clause-row : goal.place_in_row-requires-clause-row
 place_in_row-requires-clause-row c =
-    node_row c.args.seat.now.view c.args.node c.if-node-eq-ANCHOR.false c.requires.node
+    node_row c.args.token.now.view c.args.node c.if-node-eq-ANCHOR.false c.requires.node
 
 pub returns-clause-loads : goal.returns-clause-loads
 returns-clause-loads c =
-    let v = c.args.seat.now.view in
+    let v = c.args.token.now.view in
     let few = few_to_start v _ c.place_in_row.ensures.seen c.args.node c.args.key _ _
     c.place_in_row.result.loads c.if-node-eq-ANCHOR.false
     (node_row v c.args.node c.if-node-eq-ANCHOR.false c.requires.node) c.place_in_row.ensures.at

@@ -16,7 +16,7 @@ read_slot-reference-requires-clause-count c =
 
 pub read_slot-reference-requires-clause-within : goal.read_slot-reference-requires-clause-within
 read_slot-reference-requires-clause-within c =
-    let within = slot_within c.args.seat.now.view c.args.node c.args.from c.args.place.index
+    let within = slot_within c.args.token.now.view c.args.node c.args.from c.args.place.index
     c.requires.at.child in
     let long = c.requires.at.count_is in
     omega arith

@@ -18,7 +18,7 @@ returns-then-node-eq-ANCHOR-clause-ends c =
 -- another node is a row, whose keys rise
 pub last_of-requires : goal.last_of-requires
 last_of-requires c =
-    let v = c.args.seat.now.view in
+    let v = c.args.token.now.view in
     let other = c.if-node-eq-ANCHOR.false in
     let row = node_row v c.args.node other c.requires.at.node_is in
     record {

@@ -83,7 +83,7 @@ mark_and_count-finish-requires t c =
           ∙ c.mark.ensures.marked.same_table ∙ c.requires.same_table;
       may_finish = all_counted _ _ m.went c.args.node _ c.loop-index.keys
           c.degree_of-degree.ensures.degree
-          (subst (λ n. AreCounted (now c.loop-index.seat.view) c.loop-index.seat.view.log
+          (subst (λ n. AreCounted (now c.loop-index.token.view) c.loop-index.token.view.log
           c.args.node n c.loop-index.keys) last c.loop-index.invariant.1);
     }
 

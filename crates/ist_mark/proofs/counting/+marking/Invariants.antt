@@ -13,5 +13,5 @@ decreases-mark_and_count l = 2 * (2 ^ 32 - l.node) + 1
 -- the slots so far were passed, and count for the keys so far
 abbrev pub invariant-mark_and_count-loop-index : goal.invariant-mark_and_count-loop-index
 invariant-mark_and_count-loop-index l =
-    HasMarked l.node l.initial.seat l.seat
-    × AreCounted (now l.seat.view) l.seat.view.log l.node l.index l.keys
+    HasMarked l.node l.initial.token l.token
+    × AreCounted (now l.token.view) l.token.view.log l.node l.index l.keys

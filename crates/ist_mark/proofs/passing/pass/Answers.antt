@@ -34,6 +34,6 @@ turns-smaller c =
     let word = c.look-word.ensures in
     let met = word.change _ c.in-Some.ensures.change in
     fewer_left _ _ c.help.ensures.went.sound
-    (no_less (Marks c.look-word.new.seat.view c.args.node) _ _ _ word.marked.went
+    (no_less (Marks c.look-word.new.token.view c.args.node) _ _ _ word.marked.went
     (resolved_further (Serves c.in-Some.change) _ _ c.help.ensures.went c.in-Some.change
     met.unresolved c.help.ensures.out.resolved))

@@ -14,4 +14,4 @@ decreases-mark_and_count_from l = 3 * (2 ^ 32 - l.node) + 2
 
 -- each step so far was one of marking
 abbrev pub invariant-mark_ahead-loop-k : goal.invariant-mark_ahead-loop-k
-invariant-mark_ahead-loop-k l = HasMarked l.node l.initial.seat l.seat
+invariant-mark_ahead-loop-k l = HasMarked l.node l.initial.token l.token

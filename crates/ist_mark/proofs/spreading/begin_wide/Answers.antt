@@ -6,7 +6,7 @@ use Rattle.ist_mark.proofs.SubtreeLemmas.{mark_more, mark_loads, may_mark_on}
 use Rattle.ist_mark.proofs.spreading.begin_wide.Goals as goal
 use Rattle.ist_mark.proofs.spreading.begin_wide.Goals.{After-own_word}
 
-loaded : (c : After-own_word) → HasMarked c.args.node c.args.seat.now c.own_word.new.seat
+loaded : (c : After-own_word) → HasMarked c.args.node c.args.token.now c.own_word.new.token
 loaded c =
     mark_loads c.args.node _ _ c.own_word.ensures.same_table
     (looked_goes_on _ _ _ _ c.own_word.ensures.looked)

@@ -6,7 +6,7 @@ use Rattle.ist_mark.proofs.statuses.mark.Goals as goal
 use Rattle.ist_mark.proofs.statuses.mark.Goals.{After-finished_keys}
 
 -- the load leaves the cause as it was
-loaded : (c : After-finished_keys) → HasMarked c.args.node c.args.seat.now c.finished_keys.new.seat
+loaded : (c : After-finished_keys) → HasMarked c.args.node c.args.token.now c.finished_keys.new.token
 loaded c =
     mark_loads c.args.node _ _ c.finished_keys.ensures.same_table c.finished_keys.ensures.seen
 

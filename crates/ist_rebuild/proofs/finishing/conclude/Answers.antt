@@ -17,7 +17,7 @@ help-requires-clause-may_help c =
 
 pub returns-in-Change-clause-helped : goal.returns-in-Change-clause-helped
 returns-in-Change-clause-helped c =
-    help_helped _ c.help.new.seat _ c.requires.ready c.help.ensures.went
+    help_helped _ c.help.new.token _ c.requires.ready c.help.ensures.went
 
 pub returns-in-Change-clause-further : goal.returns-in-Change-clause-further
 returns-in-Change-clause-further c _ =

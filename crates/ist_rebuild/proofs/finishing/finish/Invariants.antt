@@ -1,12 +1,12 @@
 use Rattle.std.proofs.Common.{◌≡◌, ◌-◌}
-use Rattle.laws_progress.specs.Progress.{most_progress, progress}
+use Rattle.laws_stability.specs.Progress.{most_progress, progress}
 use Rattle.ist_rebuild.specs.Helping.{HasHelped}
 use Rattle.ist_rebuild.proofs.finishing.finish.Given as goal
 
 -- each turn only made steps of help
 abbrev pub invariant-turns : goal.invariant-turns
-invariant-turns l = (l.who.seat.table ≡ l.table.table) × HasHelped l.fn.who l.who
+invariant-turns l = (l.who.token.table ≡ l.table.table) × HasHelped l.fn.who l.who
 
 -- each turn but the last resolved a change
 abbrev pub decreases-turns : goal.decreases-turns
-decreases-turns l = most_progress - progress l.who.seat.view.log
+decreases-turns l = most_progress - progress l.who.token.view.log

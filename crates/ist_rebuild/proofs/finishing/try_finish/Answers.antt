@@ -18,7 +18,7 @@ is_open-requires-clause-node c =
 pub settle-requires-clause-ready : goal.settle-requires-clause-ready
 settle-requires-clause-ready c =
     still_ready
-    (loads_ready Serves c.args.who.now c.is_open.new.seat c.requires.ready c.is_open.ensures.seen)
+    (loads_ready Serves c.args.who.now c.is_open.new.token c.requires.ready c.is_open.ensures.seen)
 
 pub settle-requires-clause-plan : goal.settle-requires-clause-plan
 settle-requires-clause-plan c =
@@ -27,14 +27,14 @@ settle-requires-clause-plan c =
 pub returns-then-not-is_open-clause-helped : goal.returns-then-not-is_open-clause-helped
 returns-then-not-is_open-clause-helped c =
     helped_more c.args.who.now _ c.settle.new.who
-    (loads_helped c.args.who.now c.is_open.new.seat c.requires.ready c.is_open.ensures.seen)
+    (loads_helped c.args.who.now c.is_open.new.token c.requires.ready c.is_open.ensures.seen)
     c.settle.ensures.helped
 
 -- if it is open, no change of the caller's on it was refused
 pub prepare-requires-clause-ready : goal.prepare-requires-clause-ready
 prepare-requires-clause-ready c =
     still_ready
-    (loads_ready Serves c.args.who.now c.is_open.new.seat c.requires.ready c.is_open.ensures.seen)
+    (loads_ready Serves c.args.who.now c.is_open.new.token c.requires.ready c.is_open.ensures.seen)
 
 pub prepare-requires-clause-plan : goal.prepare-requires-clause-plan
 prepare-requires-clause-plan c =
@@ -48,12 +48,12 @@ prepare-requires-clause-unrefused c =
 pub returns-in_err-change-clause-helped : goal.returns-in_err-change-clause-helped
 returns-in_err-change-clause-helped c =
     helped_more c.args.who.now _ c.prepare.new.who
-    (loads_helped c.args.who.now c.is_open.new.seat c.requires.ready c.is_open.ensures.seen)
+    (loads_helped c.args.who.now c.is_open.new.token c.requires.ready c.is_open.ensures.seen)
     c.prepare.ensures.helped
 
 pub returns-in_err-change-clause-full : goal.returns-in_err-change-clause-full
 returns-in_err-change-clause-full c =
-    let first = loads_helped c.args.who.now c.is_open.new.seat c.requires.ready
+    let first = loads_helped c.args.who.now c.is_open.new.token c.requires.ready
     c.is_open.ensures.seen in
     passed_on c.from_residual.result _ _ c.from_residual.ensures.1
     (refused_more _ _ _ c.args.plan.rebuild _ _ first.on.gone.went c.in_err-change.ensures.full)
@@ -76,13 +76,13 @@ returns-clause-helped c =
     helped_more c.args.who.now c.carry-tried.new.who c.conclude.new.who
     (helped_more c.args.who.now c.prepare.new.who c.carry-tried.new.who
     (helped_more c.args.who.now _ c.prepare.new.who
-    (loads_helped c.args.who.now c.is_open.new.seat c.requires.ready c.is_open.ensures.seen)
+    (loads_helped c.args.who.now c.is_open.new.token c.requires.ready c.is_open.ensures.seen)
     c.prepare.ensures.helped) c.carry-tried.ensures.helped) c.conclude.ensures.helped
 
 -- a turn that must be repeated has resolved a change
 pub returns-clause-further : goal.returns-clause-further
 returns-clause-further c is =
-    let first = loads_helped c.args.who.now c.is_open.new.seat c.requires.ready
+    let first = loads_helped c.args.who.now c.is_open.new.token c.requires.ready
     c.is_open.ensures.seen in
     no_less Serves _ _ _ first.on.gone.went
     (no_less Serves _ _ _ c.prepare.ensures.helped.on.gone.went

@@ -31,13 +31,13 @@ plan_of-plan-requires-clause-started c =
 
 pub finish-requires-clause-ready : goal.finish-requires-clause-ready
 finish-requires-clause-ready c =
-    still_ready (helped_loads c.mark_target.new.who c.build_out.new.who c.plan_of-plan.new.seat
+    still_ready (helped_loads c.mark_target.new.who c.build_out.new.who c.plan_of-plan.new.token
     c.build_out.ensures.helped c.plan_of-plan.ensures.seen).on
 
 -- the steps were steps of help
 pub returns-clause-helped : goal.returns-clause-helped
 returns-clause-helped c =
-    let built = helped_loads c.mark_target.new.who c.build_out.new.who c.plan_of-plan.new.seat
+    let built = helped_loads c.mark_target.new.who c.build_out.new.who c.plan_of-plan.new.token
     c.build_out.ensures.helped c.plan_of-plan.ensures.seen in
     helped_more c.args.who.now _ c.finish.new.who
     (helped_more c.args.who.now c.mark_target.new.who _ c.mark_target.ensures.helped built)
@@ -45,14 +45,14 @@ returns-clause-helped c =
 
 pub returns-clause-full : goal.returns-clause-full
 returns-clause-full c =
-    let built = helped_loads c.mark_target.new.who c.build_out.new.who c.plan_of-plan.new.seat
+    let built = helped_loads c.mark_target.new.who c.build_out.new.who c.plan_of-plan.new.token
     c.build_out.ensures.helped c.plan_of-plan.ensures.seen in
     let all = helped_more c.args.who.now c.mark_target.new.who _ c.mark_target.ensures.helped
     built in
     err_map _ _ c.finish.result
     (λ full h. refused_more _ _ _ c.args.rebuild _ full all.on.gone.went
-    (subst (λ n. IsHelpRefused c.plan_of-plan.new.seat.view n (word_count_of c.args.table.now) full
-    c.finish.new.who.seat.view) c.plan_of-plan.ensures.rebuild h)) c.finish.ensures.full
+    (subst (λ n. IsHelpRefused c.plan_of-plan.new.token.view n (word_count_of c.args.table.now) full
+    c.finish.new.who.token.view) c.plan_of-plan.ensures.rebuild h)) c.finish.ensures.full
 
 -- the target was finished by the first step, and stays so
 pub returns-in_err-build_out-clause-finished : goal.returns-in_err-build_out-clause-finished
@@ -62,7 +62,7 @@ returns-in_err-build_out-clause-finished c =
 
 pub returns-clause-finished : goal.returns-clause-finished
 returns-clause-finished c =
-    let built = helped_loads c.mark_target.new.who c.build_out.new.who c.plan_of-plan.new.seat
+    let built = helped_loads c.mark_target.new.who c.build_out.new.who c.plan_of-plan.new.token
     c.build_out.ensures.helped c.plan_of-plan.ensures.seen in
     buildable_went Serves _ _
     (helped_more c.mark_target.new.who _ c.finish.new.who built

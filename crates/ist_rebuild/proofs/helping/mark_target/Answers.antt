@@ -10,20 +10,20 @@ target_of-target-requires-clause-published c =
 -- its target may be marked
 pub mark_and_count_from-requires-clause-may_mark : goal.mark_and_count_from-requires-clause-may_mark
 mark_and_count_from-requires-clause-may_mark c =
-    may_mark c.args.who.now c.target_of-target.new.seat c.args.rebuild _ c.requires.ready
+    may_mark c.args.who.now c.target_of-target.new.token c.args.rebuild _ c.requires.ready
     c.requires.started c.target_of-target.ensures.seen c.target_of-target.ensures.target
 
 -- the target is then finished
 pub returns-clause-helped : goal.returns-clause-helped
 returns-clause-helped c =
-    (has_marked c.args.who.now c.target_of-target.new.seat c.mark_and_count_from.new.seat c.args.rebuild
+    (has_marked c.args.who.now c.target_of-target.new.token c.mark_and_count_from.new.token c.args.rebuild
     _ _ c.requires.ready c.requires.started c.target_of-target.ensures.seen
     c.target_of-target.ensures.target c.mark_and_count_from.ensures.went
     c.mark_and_count_from.ensures.finished).helped
 
 pub returns-clause-buildable : goal.returns-clause-buildable
 returns-clause-buildable c =
-    (has_marked c.args.who.now c.target_of-target.new.seat c.mark_and_count_from.new.seat c.args.rebuild
+    (has_marked c.args.who.now c.target_of-target.new.token c.mark_and_count_from.new.token c.args.rebuild
     _ _ c.requires.ready c.requires.started c.target_of-target.ensures.seen
     c.target_of-target.ensures.target c.mark_and_count_from.ensures.went
     c.mark_and_count_from.ensures.finished).buildable

@@ -25,11 +25,11 @@ returns-clause-seen c =
 -- the words are the row's
 pub returns-clause-plan : goal.returns-clause-plan
 returns-clause-plan c =
-    planned c.args.seat.now.view c.field-root.new.seat.view c.know.ensures.sound _
+    planned c.args.token.now.view c.field-root.new.token.view c.know.ensures.sound _
     c.requires.started c.requires.built
     record {
-      a = c.field-parent.new.seat.view;
-      b = c.field-index.new.seat.view;
+      a = c.field-parent.new.token.view;
+      b = c.field-index.new.token.view;
       to_parent = c.field-parent.ensures.seen;
       to_index = c.field-index.ensures.seen;
       to_root = c.field-root.ensures.seen;

@@ -23,7 +23,7 @@ slot_word-word-requires-clause-plan c =
 -- the change that was met may be helped
 pub help-requires-clause-may_help : goal.help-requires-clause-may_help
 help-requires-clause-may_help c =
-    let l = loads_helped c.turns.who c.slot_word-word.new.seat (still_ready c.turns.invariant.1.on)
+    let l = loads_helped c.turns.who c.slot_word-word.new.token (still_ready c.turns.invariant.1.on)
     c.slot_word-word.ensures.seen in
     met_change _ c.slot_word-word.ensures.seen.sound c.turns.who.number l.on.gone.caller.mine
     c.args.plan.parent c.args.plan.index _ _ c.slot_word-word.ensures.holds
@@ -32,13 +32,13 @@ help-requires-clause-may_help c =
 -- a turn helps a change
 pub turns-preserved : goal.turns-preserved
 turns-preserved c =
-    let mid = record c.turns.who { seat = c.slot_word-word.new.seat } in
-    let l = loads_helped c.turns.who c.slot_word-word.new.seat (still_ready c.turns.invariant.1.on)
+    let mid = record c.turns.who { token = c.slot_word-word.new.token } in
+    let l = loads_helped c.turns.who c.slot_word-word.new.token (still_ready c.turns.invariant.1.on)
     c.slot_word-word.ensures.seen in (
       c.help.ensures.same_table ∙ c.slot_word-word.ensures.same_table ∙ c.turns.invariant.0,
       helped_more c.args.who.now mid _
           (helped_more c.args.who.now c.turns.who mid c.turns.invariant.1 l)
-          (help_helped mid c.help.new.seat c.in-Change.change (still_ready l.on)
+          (help_helped mid c.help.new.token c.in-Change.change (still_ready l.on)
           c.help.ensures.went),
     )
 
@@ -55,13 +55,13 @@ turns-smaller c =
 pub returns-in-Itself-clause-helped : goal.returns-in-Itself-clause-helped
 returns-in-Itself-clause-helped c =
     helped_more c.args.who.now c.turns.who _ c.turns.invariant.1
-    (loads_helped c.turns.who c.slot_word-word.new.seat (still_ready c.turns.invariant.1.on)
+    (loads_helped c.turns.who c.slot_word-word.new.token (still_ready c.turns.invariant.1.on)
     c.slot_word-word.ensures.seen)
 
 pub returns-in-Itself-clause-left : goal.returns-in-Itself-clause-left
 returns-in-Itself-clause-left c _ =
     let l = helped_more c.args.who.now c.turns.who _ c.turns.invariant.1
-    (loads_helped c.turns.who c.slot_word-word.new.seat (still_ready c.turns.invariant.1.on)
+    (loads_helped c.turns.who c.slot_word-word.new.token (still_ready c.turns.invariant.1.on)
     c.slot_word-word.ensures.seen) in
     tells_left _ l.on.gone.went.sound c.args.plan
     (plan_went Serves _ _ l.on.gone.went c.args.plan c.requires.plan) _
@@ -74,13 +74,13 @@ returns-in-Itself-clause-left c _ =
 pub returns-in-Another-clause-helped : goal.returns-in-Another-clause-helped
 returns-in-Another-clause-helped c =
     helped_more c.args.who.now c.turns.who _ c.turns.invariant.1
-    (loads_helped c.turns.who c.slot_word-word.new.seat (still_ready c.turns.invariant.1.on)
+    (loads_helped c.turns.who c.slot_word-word.new.token (still_ready c.turns.invariant.1.on)
     c.slot_word-word.ensures.seen)
 
 pub returns-in-Another-clause-replaced : goal.returns-in-Another-clause-replaced
 returns-in-Another-clause-replaced c _ =
     let l = helped_more c.args.who.now c.turns.who _ c.turns.invariant.1
-    (loads_helped c.turns.who c.slot_word-word.new.seat (still_ready c.turns.invariant.1.on)
+    (loads_helped c.turns.who c.slot_word-word.new.token (still_ready c.turns.invariant.1.on)
     c.slot_word-word.ensures.seen) in
     tells_replaced _ l.on.gone.went.sound c.args.plan
     (plan_went Serves _ _ l.on.gone.went c.args.plan c.requires.plan) _

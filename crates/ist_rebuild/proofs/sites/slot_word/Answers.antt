@@ -8,7 +8,7 @@ use Rattle.ist_rebuild.proofs.sites.slot_word.Goals as goal
 -- the parent has the slot
 pub slot_at-place-requires-clause-slot : goal.slot_at-place-requires-clause-slot
 slot_at-place-requires-clause-slot c =
-    subst (λ n. IsSlot c.args.seat.now.view n c.args.plan.index) (sym c.from.ensures)
+    subst (λ n. IsSlot c.args.token.now.view n c.args.plan.index) (sym c.from.ensures)
     (parent_slot _ c.know.ensures.sound c.args.plan c.requires.plan)
 
 -- it lies in the table

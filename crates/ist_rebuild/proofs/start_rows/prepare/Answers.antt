@@ -22,10 +22,10 @@ returns-clause-reserved c =
 pub returns-clause-ready : goal.returns-clause-ready
 returns-clause-ready c =
     let r = c.in_ok-rows.ensures.reserved in
-    start_ready c.args.who.now.seat.view c.args.parent c.args.index c.args.target
+    start_ready c.args.who.now.token.view c.args.parent c.args.index c.args.target
     c.requires.may_start c.reserve_rows.new.who c.fill_rows.new.who c.in_ok-rows.rows.rebuild
     c.in_ok-rows.rows.change c.in_ok-rows.ensures.rows r.caller r.went r.quiet
-    (subst (λ n. IsUnrefused (now c.reserve_rows.new.who.seat.view) n c.args.parent) (sym r.number)
+    (subst (λ n. IsUnrefused (now c.reserve_rows.new.who.token.view) n c.args.parent) (sym r.number)
     (unrefused_reserving _ _ r.went c.args.who.now.number c.args.parent c.requires.caller.mine
     c.requires.quiet.resolved c.requires.unrefused))
     c.fill_rows.ensures.filled c.fill_rows.ensures.caller c.know.ensures.sound

@@ -6,35 +6,35 @@ use Rattle.ist_rebuild.proofs.starting.put_in.Goals as goal
 pub returns-in-Other-clause-begun : goal.returns-in-Other-clause-begun
 returns-in-Other-clause-begun g c =
     other_begun c.args.who.now _ _ _ _ _ g.filling c.requires.1.0 c.requires.1.1
-    c.know.ensures.sound c.install.new.seat (c.in-Other.ensures.other c.in-Other.word refl).seen
+    c.know.ensures.sound c.install.new.token (c.in-Other.ensures.other c.in-Other.word refl).seen
 
 pub returns-in-Other-clause-told : goal.returns-in-Other-clause-told
 returns-in-Other-clause-told g c =
     other_told_of c.args.who.now _ _ _ _ _ g.filling c.requires.1.0 c.requires.1.1
-    c.know.ensures.sound c.install.new.seat _ (c.in-Other.ensures.other c.in-Other.word refl)
+    c.know.ensures.sound c.install.new.token _ (c.in-Other.ensures.other c.in-Other.word refl)
 
 -- it was decided yes
 pub returns-in-Yes-clause-begun : goal.returns-in-Yes-clause-begun
 returns-in-Yes-clause-begun g c =
     put_begun c.args.who.now _ _ _ _ _ g.filling c.requires.1.0 c.requires.1.1 c.know.ensures.sound
-    c.install.new.seat (c.install.ensures.yes c.in_default.is) c.help.new.seat c.help.ensures.went
+    c.install.new.token (c.install.ensures.yes c.in_default.is) c.help.new.token c.help.ensures.went
     true c.in-Yes.ensures.decided c.help.ensures.out
 
 pub returns-in-Yes-clause-told : goal.returns-in-Yes-clause-told
 returns-in-Yes-clause-told g c =
     yes_told c.args.who.now _ _ _ _ _ g.filling c.requires.1.0 c.requires.1.1 c.know.ensures.sound
-    c.install.new.seat (c.install.ensures.yes c.in_default.is) c.help.new.seat c.help.ensures.went
+    c.install.new.token (c.install.ensures.yes c.in_default.is) c.help.new.token c.help.ensures.went
     c.in-Yes.ensures.decided
 
 -- it was decided no
 pub returns-in-No-clause-begun : goal.returns-in-No-clause-begun
 returns-in-No-clause-begun g c =
     put_begun c.args.who.now _ _ _ _ _ g.filling c.requires.1.0 c.requires.1.1 c.know.ensures.sound
-    c.install.new.seat (c.install.ensures.yes c.in_default.is) c.help.new.seat c.help.ensures.went
+    c.install.new.token (c.install.ensures.yes c.in_default.is) c.help.new.token c.help.ensures.went
     false c.in-No.ensures.decided c.help.ensures.out
 
 pub returns-in-No-clause-told : goal.returns-in-No-clause-told
 returns-in-No-clause-told g c =
     no_told c.args.who.now _ _ _ _ _ g.filling c.requires.1.0 c.requires.1.1 c.know.ensures.sound
-    c.install.new.seat (c.install.ensures.yes c.in_default.is) c.help.new.seat c.help.ensures.went
+    c.install.new.token (c.install.ensures.yes c.in_default.is) c.help.new.token c.help.ensures.went
     c.in-No.ensures.decided

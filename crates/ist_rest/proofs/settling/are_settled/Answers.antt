@@ -1,7 +1,7 @@
 use Rattle.std.proofs.Common.{◌≡◌, ℕ, Some, subst}
 use Rattle.ist_core.specs.References.{InnerAt}
-use Rattle.ist_words.specs.WordRows.{reads_in}
-use Rattle.ist_words.specs.Walks.{first_visit}
+use Rattle.ist_rest.specs.WordRows.{reads_in}
+use Rattle.ist_rest.specs.Walks.{first_visit}
 use Rattle.ist_rest.proofs.SettleLemmas.{first_good, good_child, row_here}
 use Rattle.ist_rest.proofs.settling.are_settled.Goals as goal
 

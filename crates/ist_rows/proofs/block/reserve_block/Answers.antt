@@ -17,11 +17,11 @@ take_all-requires g c = (
 -- the caller is still a caller
 pub returns-clause-caller : goal.returns-clause-caller
 returns-clause-caller g c =
-    caller_after_all c.args.who.now c.take_all.new.seat _ _ g.sizes c.take_all.result
+    caller_after_all c.args.who.now c.take_all.new.token _ _ g.sizes c.take_all.result
     c.requires.1.0 c.requires.1.1.0 c.take_all.ensures.reserved c.take_all.ensures.none
 
 -- the caller has taken the rows
 pub returns-clause-taken : goal.returns-clause-taken
 returns-clause-taken g c =
-    taken_after_all c.args.who.now c.take_all.new.seat g.sizes c.take_all.result
+    taken_after_all c.args.who.now c.take_all.new.token g.sizes c.take_all.result
     c.requires.1.0 c.take_all.ensures.reserved

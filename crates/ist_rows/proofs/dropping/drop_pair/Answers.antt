@@ -10,10 +10,10 @@ load_past-requires-clause-may_load c =
 
 -- the row is lost
 loses : (c : goal.After-who-1)
-    → HasLost c.args.who.now.seat.view c.args.who.now.number c.in-Some.pair c.args.node
+    → HasLost c.args.who.now.token.view c.args.who.now.number c.in-Some.pair c.args.node
     c.load_past.new.seat.view
 loses c =
-    has_lost c.args.who.now.seat.view c.args.who.now.number c.in-Some.pair c.args.node _
+    has_lost c.args.who.now.token.view c.args.who.now.number c.in-Some.pair c.args.node _
     c.load_past.result c.load_past.new.seat.view c.requires.caller.mine refl c.load_past.ensures.seen
 
 pub returns-in-Some-clause-caller : goal.returns-in-Some-clause-caller
@@ -24,5 +24,5 @@ returns-in-Some-clause-caller c =
 
 pub returns-in-Some-clause-lost : goal.returns-in-Some-clause-lost
 returns-in-Some-clause-lost c =
-    subst (λ o. IfSome o (λ pair. HasLost c.args.who.now.seat.view c.args.who.now.number pair
+    subst (λ o. IfSome o (λ pair. HasLost c.args.who.now.token.view c.args.who.now.number pair
     c.args.node c.load_past.new.seat.view)) (sym c.in-Some.is) (loses c)

@@ -17,7 +17,7 @@ add-number-requires c =
       ),
     )
 
--- the seat that the maker gives is a caller's
+-- the token that the maker gives is a caller's
 pub returns-clause-caller : goal.returns-clause-caller
 returns-clause-caller c =
     let e = entered _ _ _ c.know.ensures.sound c.requires.maker c.add-number.ensures.added.logged in
@@ -28,12 +28,12 @@ returns-clause-caller c =
     let less : c.add-number.new.seat.view.given < c.add-number.new.seat.view.made = omega arith in
     let same : c.add-number.new.seat.view.given ≡ c.add-number.result = omega arith in
     new_caller c.add-number.new.seat.view _ c.know-2.ensures.sound e.who less
-    c.split-seat.ensures.new.1 (sym same) refl
+    c.split-token.ensures.new.1 (sym same) refl
 
--- what both seats are then
-split : (c : goal.After-split-seat)
-    → Parts c.args.maker.now.view c.add-number.result c.split-seat.new.seat.view
-    c.split-seat.result.view
+-- what both tokens are then
+split : (c : goal.After-split-token)
+    → Parts c.args.maker.now.view c.add-number.result c.split-token.new.seat.view
+    c.split-token.result.view
 split c =
     let e = entered _ _ _ c.know.ensures.sound c.requires.maker c.add-number.ensures.added.logged in
     let given = c.requires.given in
@@ -45,8 +45,8 @@ split c =
     let p = parts c.args.maker.now.view c.add-number.new.seat.view c.add-number.result
     c.requires.maker c.add-number.ensures.added.logged c.know-2.ensures.sound same less in
     subst (λ (w : View). Parts c.args.maker.now.view c.add-number.result w
-    c.split-seat.result.view) (sym c.split-seat.ensures.old.1)
-    (subst (Parts c.args.maker.now.view c.add-number.result _) (sym c.split-seat.ensures.new.1) p)
+    c.split-token.result.view) (sym c.split-token.ensures.old.1)
+    (subst (Parts c.args.maker.now.view c.add-number.result _) (sym c.split-token.ensures.new.1) p)
 
 pub returns-clause-holds_none : goal.returns-clause-holds_none
 returns-clause-holds_none c = (split c).held
@@ -54,8 +54,8 @@ returns-clause-holds_none c = (split c).held
 pub returns-clause-idle : goal.returns-clause-idle
 returns-clause-idle c = (split c).idle
 
-pub returns-clause-seat : goal.returns-clause-seat
-returns-clause-seat c = (split c).seat
+pub returns-clause-token : goal.returns-clause-token
+returns-clause-token c = (split c).token
 
 pub returns-clause-entered : goal.returns-clause-entered
 returns-clause-entered c = (split c).entered

@@ -25,5 +25,5 @@ store-requires-clause-within c =
 -- the place is in an own row
 pub store-requires-clause-own : goal.store-requires-clause-own
 store-requires-clause-own c =
-    subst (λ n. IsOwn c.args.who.now.seat.view (n + c.args.at)) (sym c.from.ensures)
+    subst (λ n. IsOwn c.args.who.now.token.view (n + c.args.at)) (sym c.from.ensures)
     (place_low _ _ _ c.know.ensures.sound c.requires.caller c.requires.held).0

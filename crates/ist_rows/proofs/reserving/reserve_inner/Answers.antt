@@ -14,7 +14,7 @@ take-requires-clause-fair c =
 -- the caller is still a caller
 pub returns-clause-caller : goal.returns-clause-caller
 returns-clause-caller c =
-    caller_behind c.args.who.now c.take.new.seat _ c.inner_words.result c.take.result
+    caller_behind c.args.who.now c.take.new.token _ c.inner_words.result c.take.result
     c.requires.caller
     (subst (IsNext c.args.who.now) (sym c.inner_words.ensures.value) c.requires.next)
     c.take.ensures.reserved c.take.ensures.full
@@ -23,14 +23,14 @@ returns-clause-caller c =
 pub returns-clause-taken : goal.returns-clause-taken
 returns-clause-taken c =
     subst (λ size. IfOk c.take.result (λ base. HasTaken c.args.who.now (size ∷ [])
-    (record c.args.who.now { seat = c.take.new.seat }))) c.inner_words.ensures.value
-    (taken_behind c.args.who.now c.take.new.seat c.inner_words.result c.take.result
+    (record c.args.who.now { token = c.take.new.token }))) c.inner_words.ensures.value
+    (taken_behind c.args.who.now c.take.new.token c.inner_words.result c.take.result
     c.requires.caller c.take.ensures.reserved)
 
 -- if it was refused, its build was refused
 pub returns-clause-refused : goal.returns-clause-refused
 returns-clause-refused c =
-    refused_behind c.args.who.now c.take.new.seat _ c.inner_words.result c.take.result
+    refused_behind c.args.who.now c.take.new.token _ c.inner_words.result c.take.result
     c.requires.caller (sym (ap (λ t. t.words) c.requires.same_table) ∙ sym c.know.ensures.words)
     (subst (IsNext c.args.who.now) (sym c.inner_words.ensures.value) c.requires.next)
     c.take.ensures.full

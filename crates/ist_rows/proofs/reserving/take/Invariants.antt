@@ -12,8 +12,8 @@ ghost-exchange a = reserving a.seat.now.view a.old a.new
 abbrev pub invariant-turns : goal.invariant-turns
 invariant-turns l =
     record {
-      same_table : l.seat.table ≡ l.fn.seat.table;
-      read : HasReadNext l.fn.seat.view l.next l.seat.view;
+      same_table : l.token.table ≡ l.fn.token.table;
+      read : HasReadNext l.fn.token.view l.next l.token.view;
     }
 
 -- each further turn met a Reserve of another: fewer words are free

@@ -1,5 +1,5 @@
 use Rattle.std.proofs.Common.{sym, ap, ◌∙◌, arith}
-use Rattle.ist_rule.specs.Faces.{SeatFace, TableFace}
+use Rattle.ist_rule.specs.Faces.{TokenFace, TableFace}
 use Rattle.ist_rule.proofs.CallPlayLemmas.{searches_moves}
 use Rattle.ist_rule.proofs.calling.begin_search.Goals as goal
 
@@ -7,7 +7,7 @@ use Rattle.ist_rule.proofs.calling.begin_search.Goals as goal
 pub load-requires : goal.load-requires
 load-requires c =
     let i = c.table.invariant in (
-      ap (λ (s : SeatFace). s.table) c.seat.view_is ∙ c.requires.same_table ∙ sym
+      ap (λ (s : TokenFace). s.table) c.seat.view_is ∙ c.requires.same_table ∙ sym
           (ap (λ (t : TableFace). t.table) c.table.view_is),
       omega arith,
       searches_moves _ _ _ _ c.seat.invariant.1.live,

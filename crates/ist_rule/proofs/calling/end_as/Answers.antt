@@ -1,6 +1,6 @@
 use Rattle.std.proofs.Common.{sym, ap, subst, ◌∙◌, arith}
 use Rattle.ist_rule.specs.declared.view.View.{View}
-use Rattle.ist_rule.specs.Faces.{SeatFace, TableFace}
+use Rattle.ist_rule.specs.Faces.{TokenFace, TableFace}
 use Rattle.ist_rule.specs.Conditions.{CanEnd}
 use Rattle.ist_rule.proofs.CallPlayLemmas.{ends_moves}
 use Rattle.ist_rule.proofs.calling.end_as.Goals as goal
@@ -11,8 +11,8 @@ load-requires g c =
     let i = c.table.invariant in
     let v : View = c.seat.inside.seat.me.0 in
     let can = subst (λ (x : View). CanEnd x g.A.Answered.call)
-    (ap (λ (s : SeatFace). s.view) (sym c.seat.view_is)) c.requires.may_end in (
-      ap (λ (s : SeatFace). s.table) c.seat.view_is ∙ c.requires.same_table ∙ sym
+    (ap (λ (s : TokenFace). s.view) (sym c.seat.view_is)) c.requires.may_end in (
+      ap (λ (s : TokenFace). s.table) c.seat.view_is ∙ c.requires.same_table ∙ sym
           (ap (λ (t : TableFace). t.table) c.table.view_is),
       omega arith,
       ends_moves _ _ _ _ _ c.seat.invariant.1.live can,

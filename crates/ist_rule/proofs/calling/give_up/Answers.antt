@@ -1,5 +1,5 @@
 use Rattle.std.proofs.Common.{sym, ap, subst, ◌∙◌, arith}
-use Rattle.ist_rule.specs.Faces.{SeatFace, TableFace}
+use Rattle.ist_rule.specs.Faces.{TokenFace, TableFace}
 use Rattle.ist_rule.specs.Conditions.{CanGiveUp}
 use Rattle.ist_rule.proofs.CallPlayLemmas.{gives_up_moves}
 use Rattle.ist_rule.proofs.calling.give_up.Goals as goal
@@ -8,9 +8,9 @@ use Rattle.ist_rule.proofs.calling.give_up.Goals as goal
 pub load-requires : goal.load-requires
 load-requires c =
     let i = c.table.invariant in
-    let can = subst CanGiveUp (ap (λ (s : SeatFace). s.view) (sym c.seat.view_is))
+    let can = subst CanGiveUp (ap (λ (s : TokenFace). s.view) (sym c.seat.view_is))
     c.requires.may_give_up in (
-      ap (λ (s : SeatFace). s.table) c.seat.view_is ∙ c.requires.same_table ∙ sym
+      ap (λ (s : TokenFace). s.table) c.seat.view_is ∙ c.requires.same_table ∙ sym
           (ap (λ (t : TableFace). t.table) c.table.view_is),
       omega arith,
       gives_up_moves _ _ _ _ c.seat.invariant.1.live can,

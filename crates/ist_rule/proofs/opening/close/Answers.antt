@@ -1,7 +1,7 @@
 use Rattle.std.proofs.Common.{ap, subst}
 use Rattle.std.specs.Mem.Slots.{slots_items}
 use Rattle.ist_rule.specs.declared.view.View.{View}
-use Rattle.ist_rule.specs.Faces.{SeatFace}
+use Rattle.ist_rule.specs.Faces.{TokenFace}
 use Rattle.ist_rule.specs.Seating.{IsLast}
 use Rattle.ist_rule.proofs.OpenLemmas.{closes}
 use Rattle.ist_rule.proofs.opening.close.Goals as goal
@@ -10,5 +10,5 @@ use Rattle.ist_rule.proofs.opening.close.Goals as goal
 pub returns-clause-words : goal.returns-clause-words
 returns-clause-words c =
     subst (λ (v : View). IsLast v (slots_items c.close_with.result.words))
-    (ap (λ (s : SeatFace). s.view) c.seat.view_is)
+    (ap (λ (s : TokenFace). s.view) c.seat.view_is)
     (closes _ _ _ _ _ c.seat.invariant.1.live c.close_with.ensures.values.2)

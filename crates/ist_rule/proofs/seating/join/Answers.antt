@@ -1,6 +1,6 @@
 use Rattle.std.proofs.Common.{sym, ap, subst, ◌∙◌, arith}
 use Rattle.ist_rule.specs.declared.view.View.{View}
-use Rattle.ist_rule.specs.Faces.{SeatFace, TableFace}
+use Rattle.ist_rule.specs.Faces.{TokenFace, TableFace}
 use Rattle.ist_core.specs.Authors.{Later}
 use Rattle.ist_rule.specs.Learning.{Looked}
 use Rattle.ist_rule.specs.Seating.{joined, CanJoin}
@@ -13,9 +13,9 @@ use Rattle.ist_rule.proofs.seating.join.Goals as goal
 can_join : (c : goal.After-load) → CanJoin c.seat.inside.seat.me.0 c.other.inside.seat.me.0
 can_join c =
     subst (λ x. CanJoin x c.other.inside.seat.me.0)
-    (ap (λ (s : SeatFace). s.view) (sym c.seat.view_is))
+    (ap (λ (s : TokenFace). s.view) (sym c.seat.view_is))
     (subst (λ x. CanJoin c.args.seat.now.view x)
-    (ap (λ (s : SeatFace). s.view) (sym c.other.view_is)) c.requires.may_join)
+    (ap (λ (s : TokenFace). s.view) (sym c.other.view_is)) c.requires.may_join)
 
 -- a join keeps the rule
 pub join_seat-requires : goal.join_seat-requires
@@ -24,12 +24,12 @@ join_seat-requires c =
     let v : View = c.seat.inside.seat.me.0 in
     let w : View = c.other.inside.seat.me.0 in
     let can : CanJoin v w = subst (λ x. CanJoin x w)
-    (ap (λ (s : SeatFace). s.view) (sym c.seat.view_is))
+    (ap (λ (s : TokenFace). s.view) (sym c.seat.view_is))
     (subst (λ x. CanJoin c.args.seat.now.view x)
-    (ap (λ (s : SeatFace). s.view) (sym c.other.view_is)) c.requires.may_join) in (
-      ap (λ (s : SeatFace). s.table) c.seat.view_is ∙ c.requires.same_table ∙ sym
+    (ap (λ (s : TokenFace). s.view) (sym c.other.view_is)) c.requires.may_join) in (
+      ap (λ (s : TokenFace). s.table) c.seat.view_is ∙ c.requires.same_table ∙ sym
           (ap (λ (t : TableFace). t.table) c.table.view_is),
-      ap (λ (s : SeatFace). s.table) c.other.view_is ∙ c.requires.other_table ∙ sym
+      ap (λ (s : TokenFace). s.table) c.other.view_is ∙ c.requires.other_table ∙ sym
           (ap (λ (t : TableFace). t.table) c.table.view_is),
       c.other.invariant.0,
       omega arith,
@@ -41,7 +41,7 @@ pub load-requires : goal.load-requires
 load-requires c =
     let i = c.table.invariant in
     let e = c.join_seat.ensures in (
-      e.0 ∙ (ap (λ (s : SeatFace). s.table) c.seat.view_is ∙ c.requires.same_table ∙ sym
+      e.0 ∙ (ap (λ (s : TokenFace). s.table) c.seat.view_is ∙ c.requires.same_table ∙ sym
           (ap (λ (t : TableFace). t.table) c.table.view_is)),
       omega arith,
       looks_moves _ _ _ _ _ (λ dead. c.seat.invariant.1.live
@@ -59,12 +59,12 @@ looked_behind c =
 -- only others made events since the seat's log
 pub returns-clause-later : goal.returns-clause-later
 returns-clause-later c =
-    subst (λ (s : SeatFace). Later s.view.who s.view.log c.load.new.seat.me.0.log) c.seat.view_is
+    subst (λ (s : TokenFace). Later s.view.who s.view.log c.load.new.seat.me.0.log) c.seat.view_is
     (joined_later c.seat.inside.seat.me.0 c.other.inside.seat.me.0 _ _ (looked_behind c))
 
 -- only others made events since the other seat's log
 pub returns-clause-other_later : goal.returns-clause-other_later
 returns-clause-other_later c =
-    subst (λ (s : SeatFace). Later s.view.who s.view.log c.load.new.seat.me.0.log) c.other.view_is
+    subst (λ (s : TokenFace). Later s.view.who s.view.log c.load.new.seat.me.0.log) c.other.view_is
     (joined_away_later c.seat.inside.seat.me.0 c.other.inside.seat.me.0 _ _ (looked_behind c)
     (can_join c) c.other.invariant.1.live)

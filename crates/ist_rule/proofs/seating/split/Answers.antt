@@ -1,6 +1,6 @@
 use Rattle.std.proofs.Common.{sym, ap, subst, ◌∙◌, arith}
 use Rattle.ist_rule.specs.declared.view.View.{View}
-use Rattle.ist_rule.specs.Faces.{SeatFace, TableFace}
+use Rattle.ist_rule.specs.Faces.{TokenFace, TableFace}
 use Rattle.ist_rule.specs.Rule.{IsSound}
 use Rattle.ist_rule.specs.Playing.{Seated}
 use Rattle.ist_rule.proofs.SplitSeatLemmas.{splits, left_sound, right_sound, left_words, right_words}
@@ -10,7 +10,7 @@ use Rattle.ist_rule.proofs.seating.split.Goals as goal
 pub split_seat-requires : goal.split_seat-requires
 split_seat-requires c =
     let i = c.table.invariant in (
-      ap (λ (s : SeatFace). s.table) c.seat.view_is ∙ c.requires.same_table ∙ sym
+      ap (λ (s : TokenFace). s.table) c.seat.view_is ∙ c.requires.same_table ∙ sym
           (ap (λ (t : TableFace). t.table) c.table.view_is),
       omega arith,
       splits _ _ _ c.seat.invariant.1.live,

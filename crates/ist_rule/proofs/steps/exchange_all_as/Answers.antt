@@ -1,5 +1,5 @@
 use Rattle.std.proofs.Common.{sym, ap, subst, ◌∙◌, arith}
-use Rattle.ist_rule.specs.Faces.{SeatFace, TableFace}
+use Rattle.ist_rule.specs.Faces.{TokenFace, TableFace}
 use Rattle.ist_rule.specs.Several.{CanExchangeAll}
 use Rattle.ist_rule.proofs.ListLogLemmas.{exchanges_all_moves, exchanged_all_sound}
 use Rattle.ist_rule.proofs.steps.exchange_all_as.Goals as goal
@@ -10,8 +10,8 @@ compare_exchange-requires g c =
     let w = ap (λ (t : TableFace). t.table.words) c.table.view_is in
     let p = c.requires.within in
     let can = subst (λ x. CanExchangeAll x c.args.place c.args.old c.args.new g.N.NamedAll.events)
-    (ap (λ (s : SeatFace). s.view) (sym c.seat.view_is)) c.requires.events in (
-      ap (λ (s : SeatFace). s.table) c.seat.view_is ∙ c.requires.same_table ∙ sym
+    (ap (λ (s : TokenFace). s.view) (sym c.seat.view_is)) c.requires.events in (
+      ap (λ (s : TokenFace). s.table) c.seat.view_is ∙ c.requires.same_table ∙ sym
           (ap (λ (t : TableFace). t.table) c.table.view_is),
       omega arith,
       exchanges_all_moves _ _ _ _ _ _ _ _ c.seat.invariant.1.live can,

@@ -1,5 +1,5 @@
 use Rattle.std.proofs.Common.{sym, ap, subst, ◌∙◌, arith}
-use Rattle.ist_rule.specs.Faces.{SeatFace, TableFace}
+use Rattle.ist_rule.specs.Faces.{TokenFace, TableFace}
 use Rattle.ist_rule.specs.Conditions.{CanExchangeOrLose}
 use Rattle.ist_rule.proofs.LeavingLemmas.{exchanges_or_loses_moves, exchanged_or_lost_sound}
 use Rattle.ist_rule.proofs.steps.exchange_or_lose_as.Goals as goal
@@ -11,8 +11,8 @@ compare_exchange-requires g c =
     let p = c.requires.within in
     let can = subst (λ x. CanExchangeOrLose x c.args.place c.args.old c.args.new
     g.N.NamedEitherWay.events.0 g.N.NamedEitherWay.events.1)
-    (ap (λ (s : SeatFace). s.view) (sym c.seat.view_is)) c.requires.events in (
-      ap (λ (s : SeatFace). s.table) c.seat.view_is ∙ c.requires.same_table ∙ sym
+    (ap (λ (s : TokenFace). s.view) (sym c.seat.view_is)) c.requires.events in (
+      ap (λ (s : TokenFace). s.table) c.seat.view_is ∙ c.requires.same_table ∙ sym
           (ap (λ (t : TableFace). t.table) c.table.view_is),
       omega arith,
       exchanges_or_loses_moves _ _ _ _ _ _ _ g.N.NamedEitherWay.events c.seat.invariant.1.live can,

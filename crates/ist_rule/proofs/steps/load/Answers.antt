@@ -1,5 +1,5 @@
 use Rattle.std.proofs.Common.{sym, ap, ◌∙◌, arith}
-use Rattle.ist_rule.specs.Faces.{SeatFace, TableFace}
+use Rattle.ist_rule.specs.Faces.{TokenFace, TableFace}
 use Rattle.ist_rule.proofs.LookLemmas.{looks_moves}
 use Rattle.ist_rule.proofs.steps.load.Goals as goal
 
@@ -8,7 +8,7 @@ pub load-requires : goal.load-requires
 load-requires c =
     let w = ap (λ (t : TableFace). t.table.words) c.table.view_is in
     let p = c.requires.within in (
-      ap (λ (s : SeatFace). s.table) c.seat.view_is ∙ c.requires.same_table ∙ sym
+      ap (λ (s : TokenFace). s.table) c.seat.view_is ∙ c.requires.same_table ∙ sym
           (ap (λ (t : TableFace). t.table) c.table.view_is),
       omega arith,
       looks_moves _ _ _ _ _ c.seat.invariant.1.live,

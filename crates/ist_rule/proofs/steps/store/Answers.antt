@@ -1,6 +1,6 @@
 use Rattle.std.proofs.Common.{sym, ap, subst, ◌∙◌, arith}
 use Rattle.ist_rule.specs.declared.view.View.{View}
-use Rattle.ist_rule.specs.Faces.{SeatFace, TableFace}
+use Rattle.ist_rule.specs.Faces.{TokenFace, TableFace}
 use Rattle.ist_rule.specs.Conditions.{IsOwn}
 use Rattle.ist_rule.specs.Rule.{IsSound}
 use Rattle.ist_rule.proofs.StoreLemmas.{stores_moves, storing_sound}
@@ -11,9 +11,9 @@ pub store-requires : goal.store-requires
 store-requires c =
     let w = ap (λ (t : TableFace). t.table.words) c.table.view_is in
     let p = c.requires.within in
-    let own = subst (λ x. IsOwn x c.args.place) (ap (λ (s : SeatFace). s.view) (sym c.seat.view_is))
+    let own = subst (λ x. IsOwn x c.args.place) (ap (λ (s : TokenFace). s.view) (sym c.seat.view_is))
     c.requires.own in (
-      ap (λ (s : SeatFace). s.table) c.seat.view_is ∙ c.requires.same_table ∙ sym
+      ap (λ (s : TokenFace). s.table) c.seat.view_is ∙ c.requires.same_table ∙ sym
           (ap (λ (t : TableFace). t.table) c.table.view_is),
       omega arith,
       stores_moves _ _ _ _ _ _ c.seat.invariant.1.live own,
@@ -24,7 +24,7 @@ pub invariant_of-seat : goal.invariant_of-seat
 invariant_of-seat c =
     let e = c.store.ensures in
     let v : View = c.seat.inside.seat.me.0 in
-    let own = subst (λ x. IsOwn x c.args.place) (ap (λ (s : SeatFace). s.view) (sym c.seat.view_is))
+    let own = subst (λ x. IsOwn x c.args.place) (ap (λ (s : TokenFace). s.view) (sym c.seat.view_is))
     c.requires.own in (
       e.2.1 ∙ c.seat.invariant.0,
       subst IsSound (sym e.2.0) (storing_sound v c.args.place c.args.word own c.seat.invariant.1),

@@ -1,5 +1,5 @@
 use Rattle.std.proofs.Common.{sym, ap, subst, ◌∙◌, arith}
-use Rattle.ist_rule.specs.Faces.{SeatFace, TableFace}
+use Rattle.ist_rule.specs.Faces.{TokenFace, TableFace}
 use Rattle.ist_rule.specs.Conditions.{CanLoadAs}
 use Rattle.ist_rule.proofs.LeavingLemmas.{loads_as_moves, loaded_as_sound}
 use Rattle.ist_rule.proofs.watching.load_as.Goals as goal
@@ -10,8 +10,8 @@ load-requires g c =
     let w = ap (λ (t : TableFace). t.table.words) c.table.view_is in
     let p = c.requires.within in
     let can = subst (λ x. CanLoadAs x c.args.place g.N.NamedByLog.event)
-    (ap (λ (s : SeatFace). s.view) (sym c.seat.view_is)) c.requires.event in (
-      ap (λ (s : SeatFace). s.table) c.seat.view_is ∙ c.requires.same_table ∙ sym
+    (ap (λ (s : TokenFace). s.view) (sym c.seat.view_is)) c.requires.event in (
+      ap (λ (s : TokenFace). s.table) c.seat.view_is ∙ c.requires.same_table ∙ sym
           (ap (λ (t : TableFace). t.table) c.table.view_is),
       omega arith,
       loads_as_moves _ _ _ _ _ _ c.seat.invariant.1.live can,

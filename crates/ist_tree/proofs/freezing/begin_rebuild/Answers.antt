@@ -24,7 +24,7 @@ pub returns-in-Yes-clause-begun : goal.returns-in-Yes-clause-begun
 returns-in-Yes-clause-begun c = (
   begins_on _ _ c.requires.ready c.start.ensures.caller c.start.ensures.refused
       c.start.ensures.quiet c.start.ensures.went c.start.ensures.number,
-  begun_of c.start.new.who.seat.view _ _ _ (c.in_ok-rebuild.ensures.yes _ (ap Ok c.in-Yes.is)),
+  begun_of c.start.new.who.token.view _ _ _ (c.in_ok-rebuild.ensures.yes _ (ap Ok c.in-Yes.is)),
   λ done. yes_leaves _ _ _ _ c.in-Yes.is (c.in_ok-rebuild.ensures.done done),
 )
 
@@ -35,7 +35,7 @@ returns-in-Other-clause-begun c =
     (begins_on _ _ c.requires.ready c.start.ensures.caller c.start.ensures.refused
     c.start.ensures.quiet c.start.ensures.went c.start.ensures.number)
     (λ done. other_leaves _ _ _ _ c.in-Other.is (c.in_ok-rebuild.ensures.done done))
-    (other_unstarted c.args.who.now.seat.view c.start.new.who.seat.view _ _ _ c.in-Other.is c.in_ok-rebuild.ensures.unstarted)
+    (other_unstarted c.args.who.now.token.view c.start.new.who.token.view _ _ _ c.in-Other.is c.in_ok-rebuild.ensures.unstarted)
 
 pub returns-in-Marked-clause-begun : goal.returns-in-Marked-clause-begun
 returns-in-Marked-clause-begun c =
@@ -43,7 +43,7 @@ returns-in-Marked-clause-begun c =
     (begins_on _ _ c.requires.ready c.start.ensures.caller c.start.ensures.refused
     c.start.ensures.quiet c.start.ensures.went c.start.ensures.number)
     (λ done. marked_leaves _ _ _ c.in-Marked.is (c.in_ok-rebuild.ensures.done done))
-    (marked_unstarted c.args.who.now.seat.view c.start.new.who.seat.view _ _ c.in-Marked.is c.in_ok-rebuild.ensures.unstarted)
+    (marked_unstarted c.args.who.now.token.view c.start.new.who.token.view _ _ c.in-Marked.is c.in_ok-rebuild.ensures.unstarted)
 
 pub returns-in-Other-clause-further : goal.returns-in-Other-clause-further
 returns-in-Other-clause-further c _ word is here =

@@ -14,19 +14,19 @@ mark_and_count-keys-requires-clause-may_mark c =
 
 pub help_rebuild-requires-clause-ready : goal.help_rebuild-requires-clause-ready
 help_rebuild-requires-clause-ready c =
-    still_ready (marked c.args.who.now c.mark_and_count-keys.new.seat c.args.target c.requires.ready
+    still_ready (marked c.args.who.now c.mark_and_count-keys.new.token c.args.target c.requires.ready
     c.mark_and_count-keys.ensures.went)
 
 pub help_rebuild-requires-clause-started : goal.help_rebuild-requires-clause-started
 help_rebuild-requires-clause-started c =
-    (rebuild_on (Marks c.mark_and_count-keys.new.seat.view c.args.target) _ _
+    (rebuild_on (Marks c.mark_and_count-keys.new.token.view c.args.target) _ _
     c.mark_and_count-keys.ensures.went c.args.rebuild c.args.target c.requires.of).started
 
 -- ---- what it results in
 
 pub returns-clause-froze : goal.returns-clause-froze
 returns-clause-froze c =
-    target_froze c.args.who.now c.mark_and_count-keys.new.seat c.help_rebuild.new.who _
+    target_froze c.args.who.now c.mark_and_count-keys.new.token c.help_rebuild.new.who _
     c.args.rebuild c.args.target c.mark_and_count-keys.result c.requires.ready c.requires.of.below
     c.mark_and_count-keys.ensures.went c.mark_and_count-keys.ensures.finished
     (serves_on _ _ c.help_rebuild.ensures.helped)

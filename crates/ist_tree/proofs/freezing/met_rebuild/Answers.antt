@@ -10,6 +10,6 @@ target_of-target-requires-clause-published c =
 -- the rebuild that stood there is met, by its target
 pub returns-clause-met : goal.returns-clause-met
 returns-clause-met c =
-    stood_met c.args.who.now c.target_of-target.new.seat c.args.rebuild c.target_of-target.result
+    stood_met c.args.who.now c.target_of-target.new.token c.args.rebuild c.target_of-target.result
     c.know.ensures.sound c.requires.ready c.target_of-target.ensures.seen c.requires.row.started
     c.target_of-target.ensures.target c.requires.row.below c.requires.row.top

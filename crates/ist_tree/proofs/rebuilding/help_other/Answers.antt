@@ -2,7 +2,7 @@
 use Rattle.std.proofs.Common.{sym, ◌∙◌}
 use Rattle.ist_tree.proofs.AttemptLemmas.{other_changed, other_none, other_rebuilt, other_short}
 use Rattle.ist_tree.proofs.InsteadLemmas.{names_change, names_rebuild}
-use Rattle.ist_tree.proofs.ShutLemmas.{other_helped, other_started}
+use Rattle.ist_tree.proofs.HelpedRebuildLemmas.{other_helped, other_started}
 use Rattle.ist_tree.proofs.rebuilding.help_other.Goals as goal
 
 -- a rebuild
@@ -31,7 +31,7 @@ help-requires-clause-may_help c =
 
 pub returns-in-Change-clause-helped : goal.returns-in-Change-clause-helped
 returns-in-Change-clause-helped c =
-    other_changed _ c.help.new.seat c.args.due _ _ _ c.requires.ready c.help.ensures.went
+    other_changed _ c.help.new.token c.args.due _ _ _ c.requires.ready c.help.ensures.went
     (names_change _ _ (sym c.instead_in.ensures.value ∙ c.in-Change.is)) c.help.ensures.out.resolved
 
 pub returns-in-Other-clause-helped : goal.returns-in-Other-clause-helped

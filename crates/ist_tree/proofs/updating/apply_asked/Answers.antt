@@ -1,5 +1,5 @@
 -- The update is applied, or let go, or refused.
-use Rattle.ist_tree.proofs.CarriedLemmas.{applies_by, let_go, turned_by}
+use Rattle.ist_tree.proofs.UpdateResultLemmas.{applies_by, let_go, turned_by}
 use Rattle.ist_tree.proofs.InstallLemmas.{applied_starts}
 use Rattle.ist_tree.proofs.updating.apply_asked.Goals as goal
 

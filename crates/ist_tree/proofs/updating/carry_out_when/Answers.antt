@@ -3,7 +3,7 @@
 use Rattle.std.proofs.Common.{Some, Ok, ap, subst, ◌∙◌}
 use Rattle.ist_updates.specs.Asking.{command_for}
 use Rattle.ist_tree.specs.Working.{Applies}
-use Rattle.ist_tree.proofs.CarriedLemmas.{carried_none, carried_some}
+use Rattle.ist_tree.proofs.UpdateResultLemmas.{carried_none, carried_some}
 use Rattle.ist_tree.proofs.InstallLemmas.{carried_starts}
 use Rattle.ist_tree.proofs.ShortLemmas.{some_is}
 use Rattle.ist_tree.proofs.updating.carry_out_when.Goals as goal

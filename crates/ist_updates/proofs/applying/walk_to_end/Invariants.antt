@@ -1,17 +1,17 @@
 use Rattle.std.proofs.Common.{◌≡◌, ◌+◌, ◌-◌, ◌≤◌}
-use Rattle.laws_progress.specs.Progress.{most_progress, progress}
+use Rattle.laws_stability.specs.Progress.{most_progress, progress}
 use Rattle.ist_updates.specs.Asking.{command_for}
 use Rattle.ist_updates.specs.Walking.{IsAskedAgain}
 use Rattle.ist_updates.proofs.applying.walk_to_end.Given as goal
 
 -- each walk so far took no effect, and was paid for by progress
 abbrev pub invariant-turns : goal.invariant-turns
-invariant-turns l = (l.who.seat.table ≡ l.initial.who.seat.table)
+invariant-turns l = (l.who.token.table ≡ l.initial.who.token.table)
     × (l.who.number ≡ l.initial.who.number)
     × IsAskedAgain l.initial.who l.who (command_for l.key l.value)
-    × (l.who.seat.view.searches + progress l.initial.who.seat.view.log
-    ≤ l.initial.who.seat.view.searches + progress l.who.seat.view.log)
+    × (l.who.token.view.searches + progress l.initial.who.token.view.log
+    ≤ l.initial.who.token.view.searches + progress l.who.token.view.log)
 
 -- and saw the table come further
 abbrev pub decreases-turns : goal.decreases-turns
-decreases-turns l = most_progress - progress l.who.seat.view.log
+decreases-turns l = most_progress - progress l.who.token.view.log

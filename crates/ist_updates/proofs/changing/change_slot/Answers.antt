@@ -10,13 +10,13 @@ is_open-requires-clause-node c = slot_node _ c.args.aim c.requires.at_slot
 -- which isn't open
 pub returns-then-not-is_open-clause-changed : goal.returns-then-not-is_open-clause-changed
 returns-then-not-is_open-clause-changed c =
-    shut_changed c.args.who.now c.args.aim c.args.way c.requires.asked c.is_open.new.seat
+    shut_changed c.args.who.now c.args.aim c.args.way c.requires.asked c.is_open.new.token
     c.is_open.ensures.seen _ (λ is. not_true _ c.if-not-is_open.true (c.is_open.ensures.open.1 is))
 
 -- or is
 pub change_open-requires-clause-asked : goal.change_open-requires-clause-asked
 change_open-requires-clause-asked c =
-    loads_still c.args.who.now c.args.aim c.args.way c.requires.asked c.is_open.new.seat
+    loads_still c.args.who.now c.args.aim c.args.way c.requires.asked c.is_open.new.token
     c.is_open.ensures.seen
 
 pub change_open-requires-clause-at_slot : goal.change_open-requires-clause-at_slot
@@ -25,7 +25,7 @@ change_open-requires-clause-at_slot c =
 
 pub change_open-requires-clause-room : goal.change_open-requires-clause-room
 change_open-requires-clause-room c =
-    loads_room c.args.who.now c.args.aim c.args.way c.requires.asked c.is_open.new.seat
+    loads_room c.args.who.now c.args.aim c.args.way c.requires.asked c.is_open.new.token
     c.is_open.ensures.seen c.requires.room
 
 pub change_open-requires-clause-unrefused : goal.change_open-requires-clause-unrefused
@@ -34,6 +34,6 @@ change_open-requires-clause-unrefused c =
 
 pub returns-clause-changed : goal.returns-clause-changed
 returns-clause-changed c =
-    loads_changed c.args.who.now c.args.aim c.args.way c.requires.asked c.is_open.new.seat
+    loads_changed c.args.who.now c.args.aim c.args.way c.requires.asked c.is_open.new.token
     c.is_open.ensures.seen _ c.change_open.result c.change_open.new.who c.requires.room
     c.change_open.ensures.changed

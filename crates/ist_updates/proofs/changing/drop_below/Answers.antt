@@ -13,7 +13,7 @@ drop_pair-requires-clause-below c =
 -- with none nothing was done
 pub returns-then-not-is_below-clause-gone : goal.returns-then-not-is_below-clause-gone
 returns-then-not-is_below-clause-gone c =
-    loads_gone Prepares c.args.who.now c.args.who.now.seat c.requires.caller c.requires.refused
+    loads_gone Prepares c.args.who.now c.args.who.now.token c.requires.caller c.requires.refused
     (goes_on_same _ c.know.ensures.sound)
 
 pub returns-then-not-is_below-clause-above : goal.returns-then-not-is_below-clause-above

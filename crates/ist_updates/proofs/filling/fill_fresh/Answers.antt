@@ -12,7 +12,7 @@ pub returns-in-Pair-clause-stored : goal.returns-in-Pair-clause-stored
 returns-in-Pair-clause-stored c =
     let rows = subst (λ f. AreBasesOf (kinds_of f) (spares_of c.args.who.now)
     (bases_of (fresh_rows c.args.row f))) c.in-Pair.is c.requires.rows in
-    subst (λ f. StoredAll c.fill_pair.new.who.seat.view (fresh_rows c.args.row f)) (sym c.in-Pair.is)
+    subst (λ f. StoredAll c.fill_pair.new.who.token.view (fresh_rows c.args.row f)) (sym c.in-Pair.is)
     (pair_stored c.args.who.now c.fill_leaf-in-Pair.new.who c.fill_pair.new.who
     c.know.ensures.sound c.requires.caller c.fill_leaf-in-Pair.ensures.caller
     c.fill_leaf-in-Pair.ensures.same c.args.row c.in-Pair.base c.in-Pair.leaf c.in-Pair.other

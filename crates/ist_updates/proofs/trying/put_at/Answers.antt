@@ -22,7 +22,7 @@ pub returns-then-leaf-aim-clause-tried : goal.returns-then-leaf-aim-clause-tried
 returns-then-leaf-aim-clause-tried c =
     changed_tried (Some c.args.value) c.answer.result (Some c.args.leaf.value) refl
     c.in_ok-taken.ensures.changed c.answer.ensures.took c.answer.ensures.again
-    (own_value (now c.args.who.now.seat.view).pieces c.args.base c.args.aim.key c.args.aim.word
+    (own_value (now c.args.who.now.token.view).pieces c.args.base c.args.aim.key c.args.aim.word
     c.args.leaf c.requires.leaf c.requires.stands c.if-leaf-aim.true)
 
 -- or beside one of another key
@@ -35,5 +35,5 @@ pub returns-clause-tried : goal.returns-clause-tried
 returns-clause-tried c =
     changed_tried (Some c.args.value) c.answer-2.result None refl c.in_ok-beside.ensures.changed
     c.answer-2.ensures.took c.answer-2.ensures.again
-    (other_value (now c.args.who.now.seat.view).pieces c.args.base c.args.aim.key c.args.aim.word
+    (other_value (now c.args.who.now.token.view).pieces c.args.base c.args.aim.key c.args.aim.word
     c.args.leaf c.requires.leaf c.requires.stands c.if-leaf-aim.false)

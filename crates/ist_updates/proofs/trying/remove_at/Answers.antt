@@ -25,5 +25,5 @@ pub returns-clause-tried : goal.returns-clause-tried
 returns-clause-tried c =
     changed_tried None c.answer.result (Some c.args.leaf.value) refl c.in_ok-removed.ensures.changed
     c.answer.ensures.took c.answer.ensures.again
-    (own_value (now c.args.who.now.seat.view).pieces c.args.base c.args.aim.key c.args.aim.word
+    (own_value (now c.args.who.now.token.view).pieces c.args.base c.args.aim.key c.args.aim.word
     c.args.leaf c.requires.leaf c.requires.stands c.if-leaf-aim.false)

@@ -31,7 +31,7 @@ returns-in_ok-taken-in-Some-clause-tried c =
     changed_tried c.args.value c.answer.result None
     (ap (command_for c.args.aim.key) (sym c.in-Some.is)) c.in_ok-taken-in-Some.ensures.changed
     c.answer.ensures.took c.answer.ensures.again
-    (ap (λ r. value_at (now c.args.who.now.seat.view).pieces r c.args.aim.key) c.requires.empty)
+    (ap (λ r. value_at (now c.args.who.now.token.view).pieces r c.args.aim.key) c.requires.empty)
 
 -- nothing is there to remove
 pub returns-in-None-clause-tried : goal.returns-in-None-clause-tried

@@ -12,7 +12,7 @@ read_leaf-leaf-requires-clause-leaf c =
 -- the loads of its words are steps of the try
 pub try_read-requires-clause-asked : goal.try_read-requires-clause-asked
 try_read-requires-clause-asked c =
-    loads_asked c.args.who.now c.read_leaf-leaf.new.seat c.args.aim.key c.args.value
+    loads_asked c.args.who.now c.read_leaf-leaf.new.token c.args.aim.key c.args.value
     c.requires.asked c.read_leaf-leaf.ensures.seen
 
 pub try_read-requires-clause-at_slot : goal.try_read-requires-clause-at_slot
@@ -21,7 +21,7 @@ try_read-requires-clause-at_slot c =
 
 pub returns-clause-tried : goal.returns-clause-tried
 returns-clause-tried c =
-    loads_tried c.args.who.now c.read_leaf-leaf.new.seat c.requires.asked
+    loads_tried c.args.who.now c.read_leaf-leaf.new.token c.requires.asked
     c.read_leaf-leaf.ensures.seen c.try_read.ensures.tried
 
 pub returns-clause-missed : goal.returns-clause-missed

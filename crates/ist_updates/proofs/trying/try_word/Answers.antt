@@ -5,7 +5,7 @@ use Rattle.ist_updates.proofs.trying.try_word.Goals as goal
 pub try_empty-requires-clause-at_slot : goal.try_empty-requires-clause-at_slot
 try_empty-requires-clause-at_slot c =
     record {
-      before = c.args.who.now.seat.view;
+      before = c.args.who.now.token.view;
       at = c.requires.at_slot;
       sound = c.know.ensures.sound;
       seen = goes_on_same _ c.know.ensures.sound;
@@ -14,7 +14,7 @@ try_empty-requires-clause-at_slot c =
 pub try_leaf-requires-clause-at_slot : goal.try_leaf-requires-clause-at_slot
 try_leaf-requires-clause-at_slot c =
     record {
-      before = c.args.who.now.seat.view;
+      before = c.args.who.now.token.view;
       at = c.requires.at_slot;
       sound = c.know.ensures.sound;
       seen = goes_on_same _ c.know.ensures.sound;

@@ -8,12 +8,12 @@ use Rattle.ist_updates.proofs.walking.+descend.Goals as goal
 use Rattle.ist_updates.proofs.walking.+descend.Goals.{After-step_down-child}
 
 -- the step down
-down : (t : ℕ) (c : After-step_down-child t) → IsDown c.args.who.now c.step_down-child.new.seat
+down : (t : ℕ) (c : After-step_down-child t) → IsDown c.args.who.now c.step_down-child.new.token
     c.args.key c.args.value c.args.node c.step_down-child.result.index c.step_down-child.result.word
 down t c =
     let e = c.step_down-child.ensures in
     record {
-      asked = asked_went c.args.who.now c.step_down-child.new.seat _ c.requires.asked
+      asked = asked_went c.args.who.now c.step_down-child.new.token _ c.requires.asked
           (goes_on_went NoEvent _ _ e.seen);
       came = c.requires.came;
       seen = e.seen;

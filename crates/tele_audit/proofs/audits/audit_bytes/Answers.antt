@@ -1,5 +1,5 @@
 use Rattle.std.proofs.Common.{◌≡◌, ◌∙◌, ap, sym, subst, drop}
-use Rattle.ist_words.specs.RestingWords.{AreLawful}
+use Rattle.ist_rest.specs.RestingWords.{AreLawful}
 use Rattle.tele_audit.specs.declared.flaws.Flaw.TheVariants.{Row}
 use Rattle.tele_audit.specs.Dumps.{IsLawfulDump}
 use Rattle.tele_audit.specs.Flaws.{IsFirstFlaw, number_of}

@@ -1,6 +1,7 @@
 use Rattle.std.proofs.Common.{subst, arith}
 use Rattle.tele_io.specs.Bytes.{AppendsPart}
-use Rattle.tele_audit.proofs.PieceLemmas.{dumped_out, dumped_word, dumped_part, on_err, err_so}
+use Rattle.tele_io.proofs.OutcomeLemmas.{at_refusal, on_err}
+use Rattle.tele_audit.proofs.PieceLemmas.{dumped_out, dumped_word, dumped_part}
 use Rattle.tele_audit.proofs.dumps.write_dump.Goals as goal
 
 -- a part of the piece was written
@@ -8,7 +9,7 @@ pub returns-in_err-make_room-clause-part : goal.returns-in_err-make_room-clause-
 returns-in_err-make_room-clause-part g c =
     let used = c.word-used.ensures.value in
     let less = c.loop-place-test.true in
-    on_err c.from_residual.result
+    at_refusal c.from_residual.result
     (dumped_part _ _ _ _ _ _ c.loop-place.invariant.dumped (omega arith)
     c.in_err-make_room.ensures.part)
 
@@ -30,8 +31,7 @@ pub returns-clause-part : goal.returns-clause-part
 returns-clause-part g c =
     let used = c.word-used.ensures.value in
     let end = c.loop-place.auto.place-end in
-    err_so c.write_whole.result
+    on_err c.write_whole.result c.write_whole.ensures.part
     (λ part. dumped_part _ _ _ _ _ _ c.loop-place.invariant.dumped (omega arith)
     (subst (AppendsPart (g.O.Sink.written c.loop-place.out)
     (g.O.Sink.written c.write_whole.new.out)) c.as_slice.ensures.value part))
-    c.write_whole.ensures.part

@@ -1,7 +1,7 @@
 use Rattle.std.proofs.Common.{◌≡◌, ℕ, inl, inr, arith, sym, subst}
 use Rattle.tele_io.specs.Bytes.{AppendsPart}
 use Rattle.tele_io.proofs.AppendsLemmas.{AppendsPart-nothing}
-use Rattle.tele_made.specs.Summaries.{summary_of, summary_text}
+use Rattle.tele_jobs.specs.Summaries.{summary_of, summary_text}
 use Rattle.tele_jobs.specs.Causes.{IsCutShort}
 use Rattle.tele_jobs.specs.declared.outcomes.TheConstants.{ANSWERED}
 use Rattle.tele_run.proofs.made.make_all.Goals as goal

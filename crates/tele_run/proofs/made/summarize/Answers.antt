@@ -1,5 +1,5 @@
 use Rattle.std.proofs.Common.{◌+◌, ℕ, List, Option, refl, sym, ◌∙◌, ap, subst, length}
-use Rattle.tele_made.specs.Summaries.{value_sum}
+use Rattle.tele_jobs.specs.Summaries.{value_sum}
 use Rattle.tele_jobs.specs.Open.{Open, map_in}
 use Rattle.tele_jobs.proofs.MadeLemmas.{Sums, sums_first, sums_asked, sums_closed, sums_last, summary_is}
 use Rattle.tele_jobs.proofs.OpenLemmas.{open_more}

@@ -1,10 +1,9 @@
 use Rattle.std.proofs.Common.{ap, ◌∙◌, subst}
 use Rattle.tele_io.specs.Bytes.{Appends, AppendsPart}
 use Rattle.tele_io.proofs.AppendsLemmas.{AppendsPart-nothing}
-use Rattle.tele_io.proofs.OutcomeLemmas.{at_ok}
+use Rattle.tele_io.proofs.OutcomeLemmas.{at_ok, on_err, on_ok}
 use Rattle.tele_jobs.specs.Open.{answers_text, map_in}
 use Rattle.tele_jobs.proofs.AnswerLemmas.{text-answered}
-use Rattle.tele_jobs.proofs.StepLemmas.{on_ok, on_err}
 use Rattle.tele_run.proofs.steps.answer.Goals as goal
 
 -- the text of the answers is the text of the lines

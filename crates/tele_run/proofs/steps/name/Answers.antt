@@ -1,8 +1,8 @@
 use Rattle.std.proofs.Common.{[], ◌∷◌}
-use Rattle.tele_io.proofs.OutcomeLemmas.{at_refusal}
+use Rattle.tele_io.proofs.OutcomeLemmas.{at_refusal, on_err, on_ok}
 use Rattle.tele_lines.specs.Answer.{Bad}
 use Rattle.tele_jobs.specs.Open.{map_in}
-use Rattle.tele_jobs.proofs.StepLemmas.{on_ok, on_err, part_before, text_then, part_then}
+use Rattle.tele_jobs.proofs.StepLemmas.{part_before, text_then, part_then}
 use Rattle.tele_run.proofs.steps.name.Goals as goal
 
 -- a part of the round was answered

@@ -4,7 +4,7 @@ use Rattle.tele_io.specs.Bytes.{AppendsPart}
 use Rattle.tele_lines.specs.Answer.{Bad}
 use Rattle.tele_jobs.specs.Open.{map_in}
 use Rattle.tele_jobs.proofs.StepLemmas.{at_end}
-use Rattle.tele_jobs.proofs.WayLemmas.{line_taken, line_cut, input_done, bad_done, read_done, last_cut, none_cut}
+use Rattle.tele_jobs.proofs.StepKindLemmas.{line_taken, line_cut, input_done, bad_done, read_done, last_cut, none_cut}
 use Rattle.tele_run.proofs.steps.step.Goals as goal
 
 -- a line was taken

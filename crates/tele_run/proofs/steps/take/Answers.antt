@@ -1,8 +1,8 @@
 use Rattle.std.proofs.Common.{ap, refl, [], ◌∷◌}
-use Rattle.tele_io.proofs.OutcomeLemmas.{at_ok, at_refusal}
+use Rattle.tele_io.proofs.OutcomeLemmas.{at_ok, at_refusal, on_err, on_ok, on_ok2, on_ok3}
 use Rattle.tele_lines.specs.Answer.{Good}
 use Rattle.tele_jobs.specs.Open.{Open, map_in}
-use Rattle.tele_jobs.proofs.StepLemmas.{on_ok, on_ok2, on_err, on_ok3, part_before, taken_open, taken_full, taken_part, taken_interval, interval_part}
+use Rattle.tele_jobs.proofs.StepLemmas.{part_before, taken_open, taken_full, taken_part, taken_interval, interval_part}
 use Rattle.tele_jobs.proofs.OpenLemmas.{open_more}
 use Rattle.tele_jobs.proofs.TakenLemmas.{rounds_full, rounds_open, rounds_interval}
 use Rattle.tele_run.proofs.steps.take.Goals as goal

@@ -1,7 +1,7 @@
 use Rattle.std.proofs.Common.{ap, sym, subst}
 use Rattle.tele_lines.specs.Answer.{usage_text}
 use Rattle.tele_jobs.specs.declared.outcomes.Outcome.{Outcome}
-use Rattle.tele_made.specs.Summaries.{summary_of, summary_text}
+use Rattle.tele_jobs.specs.Summaries.{summary_of, summary_text}
 use Rattle.tele_jobs.specs.declared.outcomes.TheConstants.{ANSWERED, USAGE}
 use Rattle.tele_jobs.specs.Causes.{WritesText}
 use Rattle.tele_jobs.proofs.JobLemmas.{of_same_lines}

@@ -5,7 +5,7 @@ use Rattle.tele_lanes.specs.Lanes.{HaveOwnLines}
 use Rattle.tele_lanes.proofs.SplitLemmas.{length-all_lane_tasks}
 use Rattle.tele_trees.specs.Ends.{TreeLane}
 use Rattle.tele_trees.proofs.LaneLemmas.{numbers_rise}
-use Rattle.tele_trees.proofs.CameLemmas.{own_lines, its_tree, came_to}
+use Rattle.tele_trees.proofs.RunLaneLemmas.{own_lines, its_tree, came_to}
 use Rattle.tele_trees.proofs.runs.run_tree.Goals as goal
 
 -- the numbers of the lanes are strictly increasing, and there are no more than may be stolen

@@ -1,4 +1,4 @@
-use Rattle.test_samples.specs.Samples.{sample_put}
+use Rattle.test_parts.specs.Samples.{sample_put}
 use Rattle.test_parts.proofs.beginnings.begin_put.Given as goal
 
 -- it installs the caller's put of the leaf

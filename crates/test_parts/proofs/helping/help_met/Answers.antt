@@ -4,7 +4,7 @@ use Rattle.ist_rule.proofs.WentOnLemmas.{went_all}
 use Rattle.ist_rows.proofs.CallerGoingLemmas.{caller_goes_on}
 use Rattle.ist_rows.proofs.CallerLawLemmas.{caller_went}
 use Rattle.ist_dcss.proofs.HelperLemmas.{serves_keep}
-use Rattle.test_samples.proofs.PutLemmas.{put_met}
+use Rattle.test_parts.proofs.PutLemmas.{put_met}
 use Rattle.test_parts.proofs.helping.help_met.Goals as goal
 
 -- the caller has met the change
@@ -22,7 +22,7 @@ returns-clause-caller c =
 -- and so it is when it has helped
 pub returns-then-met-to_word-clause-caller : goal.returns-then-met-to_word-clause-caller
 returns-then-met-to_word-clause-caller c =
-    caller_went _ c.help.new.seat
+    caller_went _ c.help.new.token
     (caller_goes_on c.args.who.now c.load-met.new.seat c.requires.caller
     (looked_goes_on _ _ _ _ c.load-met.ensures.looked))
     (went_all _ _ (serves_keep 6) _ _ c.help.ensures.went)

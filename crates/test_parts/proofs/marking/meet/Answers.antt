@@ -1,5 +1,5 @@
 use Rattle.std.proofs.Common.{◌∙◌}
-use Rattle.test_samples.proofs.StartLemmas.{start_met}
+use Rattle.test_parts.proofs.NewStartLemmas.{start_met}
 use Rattle.test_parts.proofs.marking.meet.Goals as goal
 
 -- the caller has met the change

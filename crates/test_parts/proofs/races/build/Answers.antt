@@ -33,7 +33,7 @@ find_no_root-requires-clause-underway c =
 -- the row is a root, and none was seen
 pub returns-clause-built : goal.returns-clause-built
 returns-clause-built c is =
-    let done = subst (IsFinishedWith (now c.mark_and_count-keys.new.seat.view) 4)
+    let done = subst (IsFinishedWith (now c.mark_and_count-keys.new.token.view) 4)
     c.if-keys-ne2.false c.mark_and_count-keys.ensures.finished in
     let found = finished_went _ _ c.find_both-both.ensures.went done in
     has_built _ c.args.number c.args.base

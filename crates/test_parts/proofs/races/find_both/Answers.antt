@@ -4,7 +4,7 @@ use Rattle.test_parts.proofs.KeptLemmas.{went_four}
 use Rattle.test_parts.proofs.LeafLemmas.{found_both}
 use Rattle.test_parts.proofs.races.find_both.Goals as goal
 
--- the seat has made loads
+-- the token has made loads
 pub returns-then-word_count-lt44-clause-went : goal.returns-then-word_count-lt44-clause-went
 returns-then-word_count-lt44-clause-went c = went_same KeepsRows _ c.know.ensures.sound
 

@@ -3,7 +3,7 @@ use Rattle.ist_rows.specs.CallerLaws.{KeepsRows}
 use Rattle.test_parts.proofs.RaceLemmas.{unset_seen}
 use Rattle.test_parts.proofs.races.find_no_root.Goals as goal
 
--- the seat has made a load at most
+-- the token has made a load at most
 pub returns-then-word_count-lt44-clause-went : goal.returns-then-word_count-lt44-clause-went
 returns-then-word_count-lt44-clause-went c = went_same KeepsRows _ c.know.ensures.sound
 

@@ -25,7 +25,7 @@ load-target-requires-clause-within c =
     let same = ap (λ t. t.words) c.requires.same_table in
     omega arith
 
--- the seat has made steps of marking
+-- the token has made steps of marking
 pub returns-then-kind-ne3-clause-went : goal.returns-then-kind-ne3-clause-went
 returns-then-kind-ne3-clause-went c =
     went_help _ _ _ _ _ 20 _ _ _ _ _ _ c.help-decision.ensures.went c.load-kind.ensures.looked

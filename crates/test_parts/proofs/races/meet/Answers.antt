@@ -1,7 +1,7 @@
 use Rattle.std.proofs.Common.{◌∙◌, ap}
 use Rattle.ist_rule.proofs.WentOnLemmas.{looked_went}
 use Rattle.ist_rows.specs.CallerLaws.{KeepsRows}
-use Rattle.test_samples.proofs.StartLemmas.{start_met}
+use Rattle.test_parts.proofs.NewStartLemmas.{start_met}
 use Rattle.test_parts.proofs.KeptLemmas.{filled_went}
 use Rattle.test_parts.proofs.races.meet.Goals as goal
 

@@ -8,9 +8,9 @@ pub exchange_or_lose-requires : goal.exchange_or_lose-requires
 exchange_or_lose-requires c =
     let from = c.from.ensures in
     let at : c.from.result * 8 + 2 ≡ c.args.base * 8 + 2 = omega arith in
-    let can = may_race c.args.seat.now.view c.know.ensures.sound c.args.number c.args.base
+    let can = may_race c.args.token.now.view c.know.ensures.sound c.args.number c.args.base
     c.requires.built _ at in
-    let low = known_low c.args.seat.now.view _ c.know.ensures.sound can.hit.known in
+    let low = known_low c.args.token.now.view _ c.know.ensures.sound can.hit.known in
     let known = c.know.ensures.words in
     let same = ap (λ t. t.words) c.requires.same_table in
     (c.requires.same_table, (omega arith, can))

@@ -33,4 +33,4 @@ ok_with (Err e) f h = h
 pub returns-clause-row : goal.returns-clause-row
 returns-clause-row c =
     ok_with c.table_of_two.result (λ t h. subst (λ v. IsRow v 4) (sym h) row_there)
-    c.table_of_two.ensures.seat
+    c.table_of_two.ensures.token

@@ -12,35 +12,35 @@ target_of-target-requires-clause-published c =
 -- the target of a started rebuild may be marked
 pub mark_and_count-keys-requires-clause-may_mark : goal.mark_and_count-keys-requires-clause-may_mark
 mark_and_count-keys-requires-clause-may_mark c =
-    may_mark c.args.who.now c.target_of-target.new.seat c.args.rebuild _ c.requires.ready
+    may_mark c.args.who.now c.target_of-target.new.token c.args.rebuild _ c.requires.ready
     c.requires.started c.target_of-target.ensures.seen c.target_of-target.ensures.target
 
 -- and is finished then
 pub returns-clause-ready : goal.returns-clause-ready
 returns-clause-ready c =
-    still_ready (has_marked c.args.who.now c.target_of-target.new.seat
-    c.mark_and_count-keys.new.seat
+    still_ready (has_marked c.args.who.now c.target_of-target.new.token
+    c.mark_and_count-keys.new.token
     c.args.rebuild _ _ c.requires.ready c.requires.started c.target_of-target.ensures.seen
     c.target_of-target.ensures.target c.mark_and_count-keys.ensures.went
     c.mark_and_count-keys.ensures.finished).helped.on
 
 pub returns-clause-marked : goal.returns-clause-marked
 returns-clause-marked c =
-    is_marked c.args.who.now c.target_of-target.new.seat c.mark_and_count-keys.new.seat
+    is_marked c.args.who.now c.target_of-target.new.token c.mark_and_count-keys.new.token
     c.args.rebuild _ _ c.requires.ready c.requires.started c.target_of-target.ensures.seen
     c.target_of-target.ensures.target c.mark_and_count-keys.ensures.went
     c.mark_and_count-keys.ensures.finished
 
 pub returns-clause-started : goal.returns-clause-started
 returns-clause-started c =
-    (is_marked c.args.who.now c.target_of-target.new.seat c.mark_and_count-keys.new.seat
+    (is_marked c.args.who.now c.target_of-target.new.token c.mark_and_count-keys.new.token
     c.args.rebuild _ _ c.requires.ready c.requires.started c.target_of-target.ensures.seen
     c.target_of-target.ensures.target c.mark_and_count-keys.ensures.went
     c.mark_and_count-keys.ensures.finished).started
 
 pub returns-clause-buildable : goal.returns-clause-buildable
 returns-clause-buildable c =
-    (has_marked c.args.who.now c.target_of-target.new.seat c.mark_and_count-keys.new.seat
+    (has_marked c.args.who.now c.target_of-target.new.token c.mark_and_count-keys.new.token
     c.args.rebuild _ _ c.requires.ready c.requires.started c.target_of-target.ensures.seen
     c.target_of-target.ensures.target c.mark_and_count-keys.ensures.went
     c.mark_and_count-keys.ensures.finished).buildable

@@ -12,12 +12,12 @@ is_open-requires-clause-node c = slot_node _ _ c.requires.at_slot
 
 pub plan-requires-clause-caller : goal.plan-requires-clause-caller
 plan-requires-clause-caller c =
-    (loads_gone Prepares c.args.who.now c.is_open.new.seat c.requires.asked.caller
+    (loads_gone Prepares c.args.who.now c.is_open.new.token c.requires.asked.caller
     c.requires.asked.refused c.is_open.ensures.seen).caller
 
 pub plan-requires-clause-refused : goal.plan-requires-clause-refused
 plan-requires-clause-refused c =
-    (loads_gone Prepares c.args.who.now c.is_open.new.seat c.requires.asked.caller
+    (loads_gone Prepares c.args.who.now c.is_open.new.token c.requires.asked.caller
     c.requires.asked.refused c.is_open.ensures.seen).refused
 
 -- which was open, so that the change may be installed
@@ -25,11 +25,11 @@ pub returns-clause-filled : goal.returns-clause-filled
 returns-clause-filled c =
     record {
       caller = c.fill_both.ensures.caller;
-      installable = put_filled c.args.who.now (record c.args.who.now { seat = c.is_open.new.seat })
+      installable = put_filled c.args.who.now (record c.args.who.now { token = c.is_open.new.token })
           c.plan.new.who c.fill_both.new.who c.args.key c.args.value c.args.slot.node
           c.args.slot.index c.args.slot.word c.in-Ok.put.change c.in-Ok.put.leaf c.in-Ok.put.row
           c.requires.asked
-          (loads_gone Prepares c.args.who.now c.is_open.new.seat c.requires.asked.caller
+          (loads_gone Prepares c.args.who.now c.is_open.new.token c.requires.asked.caller
           c.requires.asked.refused c.is_open.ensures.seen)
           (slot_loads _ _ c.requires.at_slot _ c.is_open.ensures.seen)
           (room_grows _ _ (goes_on_grow _ _ c.is_open.ensures.seen) c.args.key c.args.slot.word

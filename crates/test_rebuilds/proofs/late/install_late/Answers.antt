@@ -7,7 +7,7 @@ use Rattle.test_rebuilds.proofs.late.install_late.Goals as goal
 pub install-requires : goal.install-requires
 install-requires g c = (
   c.requires.0,
-  subst (λ (f : Filling). IsInstallable c.args.who.now.seat.view c.args.put.change f)
+  subst (λ (f : Filling). IsInstallable c.args.who.now.token.view c.args.put.change f)
       (sym c.requires.1.0) c.requires.1.1.installable,
 )
 
@@ -16,5 +16,5 @@ pub returns-clause-may_help : goal.returns-clause-may_help
 returns-clause-may_help g c is =
     late_helps _ _ c.args.who.now.number c.args.put.change c.args.put.leaf c.args.put.row
     c.requires.1.1.caller.mine
-    (subst (λ (f : Filling). IsInstalled c.args.who.now.seat.view c.args.put.change f
-    c.install.new.seat.view) c.requires.1.0 (c.install.ensures.yes is))
+    (subst (λ (f : Filling). IsInstalled c.args.who.now.token.view c.args.put.change f
+    c.install.new.token.view) c.requires.1.0 (c.install.ensures.yes is))

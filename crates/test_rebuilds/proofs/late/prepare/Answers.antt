@@ -5,8 +5,8 @@ use Rattle.test_rebuilds.proofs.late.prepare.Goals as goal
 -- the walk and the look at the leaf are loads
 pub fill_for-requires-clause-asked : goal.fill_for-requires-clause-asked
 fill_for-requires-clause-asked c =
-    asked_went _ c.has_leaf.new.seat _
-    (asked_searched c.ask.new.who c.walk.new.seat _ c.ask.ensures.asked
+    asked_went _ c.has_leaf.new.token _
+    (asked_searched c.ask.new.who c.walk.new.token _ c.ask.ensures.asked
     c.in-Some.ensures.walked.went)
     (goes_on_went NoEvent _ _ c.has_leaf.ensures.seen)
 

@@ -4,10 +4,10 @@ use Rattle.ist_rows.specs.Going.{IsReady}
 use Rattle.ist_rule.specs.Learning.{now}
 use Rattle.test_rebuilds.proofs.leaves.are_pairs.Given as goal
 
--- both seats are of the table, and the target is finished still
+-- both tokens are of the table, and the target is finished still
 abbrev pub invariant-loop-i : goal.invariant-loop-i
 invariant-loop-i l =
     (l.maker.table ≡ l.table.table)
-    × (l.who.seat.table ≡ l.table.table)
+    × (l.who.token.table ≡ l.table.table)
     × IsReady l.who
-    × IsMarked (now l.who.seat.view) l.rebuild l.marked.target l.marked.keys
+    × IsMarked (now l.who.token.view) l.rebuild l.marked.target l.marked.keys

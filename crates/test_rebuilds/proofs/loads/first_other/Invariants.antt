@@ -4,9 +4,9 @@ use Rattle.ist_rows.specs.Going.{IsReady}
 use Rattle.ist_rule.specs.Learning.{now}
 use Rattle.test_rebuilds.proofs.loads.first_other.Given as goal
 
--- the seat is of the table, and the target is finished still
+-- the token is of the table, and the target is finished still
 abbrev pub invariant-loop-i : goal.invariant-loop-i
 invariant-loop-i l =
-    (l.who.seat.table ≡ l.table.table)
+    (l.who.token.table ≡ l.table.table)
     × IsReady l.who
-    × IsMarked (now l.who.seat.view) l.rebuild l.marked.target l.marked.keys
+    × IsMarked (now l.who.token.view) l.rebuild l.marked.target l.marked.keys

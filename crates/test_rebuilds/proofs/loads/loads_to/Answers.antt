@@ -5,7 +5,7 @@ use Rattle.test_rebuilds.proofs.loads.loads_to.Goals as goal
 
 pub returns-clause-ready : goal.returns-clause-ready
 returns-clause-ready c =
-    still_ready (loads_helped c.args.who.now c.leaf_and_loads.new.seat c.requires.ready
+    still_ready (loads_helped c.args.who.now c.leaf_and_loads.new.token c.requires.ready
     c.leaf_and_loads.ensures.seen).on
 
 pub returns-clause-marked : goal.returns-clause-marked

@@ -11,7 +11,7 @@ use Rattle.test_rebuilds.proofs.races.build.Goals as goal
 
 pub build_part-requires-clause-share : goal.build_part-requires-clause-share
 build_part-requires-clause-share c =
-    may_build (now c.args.who.now.seat.view) c.args.rebuild c.args.marked.target c.args.marked.keys
+    may_build (now c.args.who.now.token.view) c.args.rebuild c.args.marked.target c.args.marked.keys
     c.if-marked-ne2.false c.requires.marked
 
 -- the rebuild lies within the table
@@ -23,7 +23,7 @@ load-stood-requires-clause-within c =
     c.build_part.ensures.went c.in-Ok.ensures.laid
     (ap ref_of c.to_word-word.ensures.value ∙ ref_of-word_of (ref_meant c.in-Ok.root)
     c.in-Ok.ensures.good) in
-    let low = (row_low c.build_part.new.who.seat.view c.know-2.ensures.sound c.args.rebuild
+    let low = (row_low c.build_part.new.who.token.view c.know-2.ensures.sound c.args.rebuild
     (Rebuild laid.built.row) laid.built.published 3 (omega arith)).0 in
     let from = c.from.ensures in
     let known = c.know-2.ensures.words in
@@ -41,7 +41,7 @@ returns-clause-built c =
     c.in-Ok.ensures.good) in
     let from = c.from.ensures in
     let at : c.from.result + 3 ≡ c.args.rebuild + rebuild_root_offset = omega arith in
-    has_built c.build_part.new.who.seat.view c.load-stood.new.seat.view c.build_part.new.who.number
+    has_built c.build_part.new.who.token.view c.load-stood.new.seat.view c.build_part.new.who.number
     c.args.rebuild (c.from.result + 3) c.to_word-word.result c.load-stood.result
     c.know-2.ensures.sound at c.load-stood.ensures.looked
     (c.if-stood-to_word.false ∙ c.to_word.ensures.value) laid

@@ -1,6 +1,6 @@
 use Rattle.std.proofs.Common.{◌≡◌}
 use Rattle.test_rebuilds.proofs.shares.unset_slots.Given as goal
 
--- the seat is of the table
+-- the token is of the table
 abbrev pub invariant-loop-i : goal.invariant-loop-i
-invariant-loop-i l = l.seat.table ≡ l.table.table
+invariant-loop-i l = l.token.table ≡ l.table.table

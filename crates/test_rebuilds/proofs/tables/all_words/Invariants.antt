@@ -1,6 +1,6 @@
 use Rattle.std.proofs.Common.{◌≡◌}
 use Rattle.test_rebuilds.proofs.tables.all_words.Given as goal
 
--- the seat is of the table
+-- the token is of the table
 abbrev pub invariant-loop-place : goal.invariant-loop-place
-invariant-loop-place l = l.seat.table ≡ l.table.table
+invariant-loop-place l = l.token.table ≡ l.table.table

@@ -8,8 +8,8 @@ use Rattle.test_rebuilds.proofs.updates.ask.Goals as goal
 -- the call has begun
 pub returns-clause-begun : goal.returns-clause-begun
 returns-clause-begun c =
-    subst (λ (command : Command). Turned c.args.who.now.seat.view
-    (beginning c.args.who.now.seat.view (Some command)) c.begin_call.new.seat.view)
+    subst (λ (command : Command). Turned c.args.who.now.token.view
+    (beginning c.args.who.now.token.view (Some command)) c.begin_call.new.seat.view)
     c.command_of.ensures.value c.begin_call.ensures.begun
 
 -- and nothing of it took effect yet
@@ -17,6 +17,6 @@ pub returns-clause-asked : goal.returns-clause-asked
 returns-clause-asked c =
     begun_asked c.args.who.now c.begin_call.new.seat (command_for c.args.key c.args.value)
     c.know.ensures.sound c.requires.pass
-    (subst (λ (command : Command). Turned c.args.who.now.seat.view
-    (beginning c.args.who.now.seat.view (Some command)) c.begin_call.new.seat.view)
+    (subst (λ (command : Command). Turned c.args.who.now.token.view
+    (beginning c.args.who.now.token.view (Some command)) c.begin_call.new.seat.view)
     c.command_of.ensures.value c.begin_call.ensures.begun)

@@ -1,6 +1,6 @@
 use Rattle.std.proofs.Common.{◌∙◌, map, sym, ap, subst}
 use Rattle.std.specs.List.Sorted.{IsStrictlyIncreasing}
-use Rattle.ist_words.specs.RestingWords.{HoldPairs}
+use Rattle.ist_rest.specs.RestingWords.{HoldPairs}
 use Rattle.ist_tree.specs.Faces.{TreeFace}
 use Rattle.ist_map.proofs.RunLemmas.{holds_first}
 use Rattle.ist_map.proofs.running.Map.open.Goals as goal

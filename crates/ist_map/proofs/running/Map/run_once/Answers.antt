@@ -1,6 +1,6 @@
 use Rattle.std.proofs.Common.{◌≡◌, ◌∙◌, ◌++◌, map, length, sym, ap, subst, append-nil, arith}
 use Rattle.std.specs.List.{range_with_len}
-use Rattle.ist_words.specs.RestingWords.{HoldPairs}
+use Rattle.ist_rest.specs.RestingWords.{HoldPairs}
 use Rattle.ist_tree.specs.Faces.{TreeFace}
 use Rattle.ist_map.specs.Growing.{tree_words}
 use Rattle.ist_map.specs.Hands.{calls_by}

@@ -4,8 +4,8 @@ use Rattle.ist_core.specs.Map.{pairs_of}
 use Rattle.ist_core.specs.Replies.{Answered}
 use Rattle.ist_core.specs.Resting.{StandsFor}
 use Rattle.laws_histories.specs.Telling.{map_now}
-use Rattle.ist_words.specs.RestingWords.{HoldPairs}
-use Rattle.ist_words.proofs.WholeLemmas.{if_ok_so}
+use Rattle.ist_rest.specs.RestingWords.{HoldPairs}
+use Rattle.ist_rest.proofs.WholeLemmas.{if_ok_so}
 use Rattle.ist_rest.proofs.MapLemmas.{stand_hold, pairs_of_map}
 use Rattle.ist_rest.proofs.closed.Closed.pairs.Goals as goal
 

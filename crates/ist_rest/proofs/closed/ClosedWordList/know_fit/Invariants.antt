@@ -1,5 +1,5 @@
 use Rattle.std.proofs.Common.{◌<◌, ◌^◌, ℕ}
-use Rattle.ist_words.specs.WordRows.{word_at}
+use Rattle.ist_rest.specs.WordRows.{word_at}
 use Rattle.ist_rest.proofs.closed.ClosedWordList.know_fit.Given as goal
 
 -- the words so far are below 2^64

@@ -5,10 +5,10 @@ use Rattle.ist_tree.proofs.trees.Tree.span.Goals.{After-find_span}
 
 -- what the search results in
 ends : (c : After-find_span) → SpanEnds c.args.pass.now c.pass.inside.caller c.pass.inside.refused
-    c.find_span.new.seat c.args.key c.find_span.result.first c.find_span.result.last
+    c.find_span.new.token c.args.key c.find_span.result.first c.find_span.result.last
     c.find_span.result.pair
 ends c =
-    span_ends c.pass.inside.caller c.pass.inside.refused c.find_span.new.seat c.pass.invariant
+    span_ends c.pass.inside.caller c.pass.inside.refused c.find_span.new.token c.pass.invariant
     c.find_span.ensures.seen c.find_span.ensures.same_table c.args.key c.find_span.result.first
     c.find_span.result.last c.find_span.result.pair c.find_span.ensures.loads
     c.find_span.ensures.edges c.find_span.ensures.values c.args.pass.now c.pass.view_is

@@ -5,10 +5,10 @@ use Rattle.ist_tree.proofs.trees.Tree.sweep.Goals.{After-sweep}
 
 -- what the sweep results in
 ends : (c : After-sweep) → SweepEnds c.args.pass.now c.pass.inside.caller c.pass.inside.refused
-    c.sweep.new.seat c.args.first c.args.last c.args.found.now.items c.sweep.new.found.items
+    c.sweep.new.token c.args.first c.args.last c.args.found.now.items c.sweep.new.found.items
     c.sweep.result
 ends c =
-    sweep_ends c.pass.inside.caller c.pass.inside.refused c.sweep.new.seat c.pass.invariant
+    sweep_ends c.pass.inside.caller c.pass.inside.refused c.sweep.new.token c.pass.invariant
     c.sweep.ensures.seen c.sweep.ensures.same_table c.args.first c.args.last c.args.found.now.items
     c.sweep.new.found.items c.sweep.result c.sweep.ensures.swept c.args.pass.now c.pass.view_is
 

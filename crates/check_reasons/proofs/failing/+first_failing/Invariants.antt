@@ -1,5 +1,0 @@
-use Rattle.std.proofs.Common.{length}
-use Rattle.check_reasons.proofs.failing.+first_failing.Given as goal
-
-abbrev pub decreases-first_failing : goal.decreases-first_failing
-decreases-first_failing l = length l.tests.now

@@ -1,0 +1,237 @@
+-- A finish that was installed, and helped. Serves `carry`.
+use Rattle.std.proofs.Common.{◌≡◌, ◌≢◌, ℕ, ◌==◌, if◌then◌else◌, true, false, Bool, [], ◌∷◌, Some, None, option_map, refl, sym, ap, ◌∙◌, subst}
+use Rattle.ist_core.specs.declared.events.Event.{Event}
+use Rattle.ist_core.specs.declared.events.Event.TheVariants.{Install}
+use Rattle.ist_core.specs.declared.states.ChangeRow.{ChangeRow}
+use Rattle.ist_core.specs.Growing.{ChangeGrows}
+use Rattle.ist_core.specs.Lawful.{state_of}
+use Rattle.ist_core.specs.Pieces.{Pieces, Change, with_row, changed_at, with_slot}
+use Rattle.ist_core.specs.Rebuilding.{IsReplaced}
+use Rattle.ist_core.specs.References.{ChangeAt, RebuildAt, ref_of, word_of}
+use Rattle.ist_core.specs.Slots.{IsOpen, SlotHolds}
+use Rattle.ist_core.specs.StartLayout.{start}
+use Rattle.ist_core.proofs.FateLemmas.{grow_between, enabled_before}
+use Rattle.ist_core.proofs.GrowingLemmas.{change_there}
+use Rattle.ist_core.proofs.PlaceLemmas.{one_piece}
+use Rattle.ist_core.proofs.ReferenceLemmas.{ref_of-word_of}
+use Rattle.ist_rule.specs.declared.view.View.{View}
+use Rattle.ist_core.specs.declared.events.Who.TheVariants.{Caller as CallerOf}
+use Rattle.ist_rule.specs.Faces.{TokenFace}
+use Rattle.ist_rule.specs.Going.{WentOn}
+use Rattle.ist_rule.specs.Learning.{now}
+use Rattle.ist_rule.specs.Rule.{IsSound}
+use Rattle.ist_rule.specs.Watching.{number_of}
+use Rattle.ist_rule.proofs.GoingOnLemmas.{goes_on_who}
+use Rattle.ist_rule.proofs.WatchLemmas.{change_node}
+use Rattle.ist_rule.proofs.WentOnLemmas.{goes_on_went, logged_went, went_all, went_more}
+use Rattle.ist_rows.specs.declared.callers.Caller.{Caller}
+use Rattle.ist_rows.specs.declared.kinds.Kind.TheVariants.{Change as ChangeKind}
+use Rattle.ist_rows.specs.Building.{HasRefused}
+use Rattle.ist_rows.specs.CallerLaws.{KeepsRows}
+use Rattle.ist_rows.specs.Rows.{IsCaller}
+use Rattle.ist_rows.proofs.CallerGoingLemmas.{caller_goes_on}
+use Rattle.ist_rows.proofs.CallerLawLemmas.{caller_made, caller_went, logged_made, refused_made, refused_went}
+use Rattle.ist_rows.proofs.HeldBehindLemmas.{own_number}
+use Rattle.ist_dcss.specs.Helping.{Serves as HelpsWith, IsDecided, IsOut, MayHelp, WasClosed}
+use Rattle.ist_dcss.specs.Installing.{IsInstalled, IsOther, rows_of}
+use Rattle.ist_dcss.proofs.HelperLemmas.{serves_keep, went_row}
+use Rattle.ist_dcss.proofs.OpeningLemmas.{closed_node_stays}
+use Rattle.ist_dcss.proofs.ResolvedLemmas.{resolved_helped}
+use Rattle.ist_rebuild.specs.declared.finishing.Tried.TheVariants.{Other}
+use Rattle.ist_rebuild.specs.declared.sites.Plan.{Plan}
+use Rattle.ist_rebuild.specs.Finishing.{IsPlan, IsPrepared, filling_at, finish_row}
+use Rattle.ist_rebuild.specs.Helping.{HasHelped}
+use Rattle.ist_rows.specs.Going.{IsReady}
+use Rattle.ist_rebuild.specs.Going.{Serves}
+use Rattle.ist_rebuild.proofs.EventLemmas.{change_serves}
+use Rattle.ist_rebuild.proofs.SiteLemmas.{rebuild_good}
+
+-- a change that was put among the rows is there, also after a write of a slot
+there_behind : (ps : Pieces) (base node i word : ℕ) (r : ChangeRow)
+    → changed_at (with_row ps base (Some (Change r))) node (with_slot i word) base
+    ≡ Some (Change r)
+there_behind ps base node i word r = at (base == node)
+  where
+    here : with_row ps base (Some (Change r)) base ≡ Some (Change r)
+    here = ap (λ b. if b then Some (Change r) else ps base) (own_number base)
+
+    at : (b : Bool)
+        → (if b then option_map (with_slot i word) (with_row ps base (Some (Change r)) base)
+        else with_row ps base (Some (Change r)) base) ≡ Some (Change r)
+    at true = ap (option_map (with_slot i word)) here
+    at false = here
+
+one_change : (a b : ChangeRow) → Some a ≡ Some b → a ≡ b
+one_change a b e = cc
+
+same_change : (a b : ChangeRow) → Change a ≡ Change b → a ≡ b
+same_change a b e = cc
+
+-- the caller after its Install
+pub record HasInstalled (who : Caller) (plan : Plan) (change : ℕ) (token : TokenFace) : Type 0 where
+  pub caller : IsCaller (record who { token = token; change = None })
+  pub refused : HasRefused (record who { token = token; change = None })
+  pub went : WentOn Serves who.token.view token.view
+  pub published : (now token.view).pieces change ≡ Some (Change (finish_row plan who.number))
+  pub may_help : MayHelp token.view change
+
+module _ (who : Caller) (plan : Plan) (change : ℕ) (ready : IsReady who)
+    (p : IsPrepared who plan change) (token : TokenFace)
+    (i : IsInstalled who.token.view change (filling_at who.token.view change) token.view) where
+  abbrev event : Event
+  event = Install i.number change (rows_of (filling_at who.token.view change) change)
+
+  abbrev before : Caller
+  before = record who { token = record who.token { view = i.before } }
+
+  abbrev behind : Caller
+  behind = record who { token = token; change = None }
+
+  number_is : i.number ≡ who.number
+  number_is = ap number_of (sym i.mine ∙ ready.caller.mine)
+
+  serves : Serves event
+  serves r e = ap (λ c. c.kind) (sym (one_change (filling_at who.token.view change).change r e))
+      ∙ ap (λ c. c.kind) p.is
+
+  refused_before : HasRefused before
+  refused_before =
+      refused_went who (record who.token { view = i.before }) ready.caller ready.refused
+      (goes_on_went KeepsRows who.token.view i.before i.seen)
+
+  caller_before : IsCaller before
+  caller_before = caller_goes_on who (record who.token { view = i.before }) ready.caller i.seen
+
+  -- the caller after its Install
+  pub has_installed : HasInstalled who plan change token
+  has_installed =
+      let made = logged_made i.before event token.view i.logged in
+      let mine = ap (λ x. x.who) i.logged.view ∙ goes_on_who i.seen ∙ ready.caller.mine in
+      let published : (now token.view).pieces change
+      ≡ Some (Change (filling_at who.token.view change).change) =
+      ap (λ t. t.pieces change) (ap now i.logged.view)
+      ∙ there_behind (state_of i.before.start i.before.words i.logged.before).pieces change
+      (filling_at who.token.view change).change.node (filling_at who.token.view change).change.index
+      (word_of (ChangeAt change)) (filling_at who.token.view change).change in
+      let there = published ∙ ap (λ r. Some (Change r)) p.is in
+      record {
+        caller = caller_made before behind (ChangeKind ∷ []) event (change ∷ []) caller_before
+            i.logged.before made (ap CallerOf number_is) refl (p.row, tt)
+            record { number = refl; rows = refl };
+        refused = refused_made before behind (ChangeKind ∷ []) event (change ∷ []) caller_before
+            i.logged.before made (ap CallerOf number_is) refl (p.row, tt)
+            record { number = refl; rows = refl } refused_before;
+        went = went_more Serves who.token.view i.before token.view
+            (goes_on_went Serves who.token.view i.before i.seen)
+            (logged_went Serves i.before event token.view i.logged serves refl);
+        published = there;
+        may_help = record {
+          number = who.number;
+          mine = mine;
+          row = finish_row plan who.number;
+          installed = there;
+        };
+      }
+
+  -- ---- after the help
+
+  module _ (last : TokenFace) (g : WentOn (HelpsWith change) token.view last.view) where
+    -- the caller has helped
+    pub carried_helped : IsOut last.view change
+        → HasHelped who (record who { token = last; change = None })
+    carried_helped out =
+        let h = has_installed in
+        let kept = went_all (HelpsWith change) KeepsRows (serves_keep change) token.view last.view g
+        in
+        record {
+          on = record {
+            gone = record {
+              caller = caller_went behind last h.caller kept;
+              number = refl;
+              refused = refused_went behind last h.caller h.refused kept;
+              went = went_more Serves who.token.view token.view last.view h.went
+                  (went_all (HelpsWith change) Serves (change_serves change) token.view last.view g);
+            };
+            quiet = record {
+              pending = ready.quiet.pending;
+              in_call = ap (λ x. x.pending) g.same ∙ ap (λ x. x.pending) h.went.same
+                  ∙ ready.quiet.in_call;
+              resolved = resolved_helped who.token.view token.view last.view who.number change
+                  (filling_at who.token.view change) ready.caller.mine ready.quiet.resolved i g out;
+            };
+          };
+          fresh = (refl, refl);
+        }
+
+    -- the change is what was installed, except for its decision
+    the_change : (r : ChangeRow) × ((now last.view).pieces change ≡ Some (Change r))
+        × ChangeGrows (finish_row plan who.number) r
+    the_change =
+        went_row (HelpsWith change) change token.view last.view g (finish_row plan who.number)
+        has_installed.published
+
+    same_row : (r : ChangeRow) → (now last.view).pieces change ≡ Some (Change r)
+        → the_change.0 ≡ r
+    same_row r e =
+        same_change the_change.0 r
+        (one_piece ((now last.view).pieces change) (Change the_change.0) (Change r) the_change.1 e)
+
+    -- if it was decided yes, the rebuild was replaced
+    pub carried_yes : IsSound who.token.view → IsPlan who.token.view plan
+        → IsDecided last.view change true → IsReplaced (now last.view) plan.rebuild
+    carried_yes s q d =
+        let same = same_row d.row d.published in
+        record {
+          base = change;
+          change = d.row;
+          published = d.published;
+          kind = ap (λ r. r.kind) (sym same) ∙ ap (λ r. r.kind) the_change.2.others;
+          decision = d.decision;
+          from = ap (λ r. ref_of r.from) (sym same) ∙ ap (λ r. ref_of r.from) the_change.2.others
+              ∙ ref_of-word_of (RebuildAt plan.rebuild)
+              (rebuild_good who.token.view s plan.rebuild
+              record { row = q.row; published = q.published });
+        }
+
+    -- if it was decided no, the parent isn't open
+    pub carried_no : WasClosed last.view change → ¬ (IsOpen (now last.view) plan.parent)
+    carried_no c =
+        let v = last.view in
+        let lawful = g.sound.lawful in
+        let grow = grow_between v.start v.words c.prefix v.log lawful.enabled c.goes_on in
+        let on = change_there (state_of v.start v.words c.prefix).pieces (now v).pieces grow change
+        c.row c.installed in
+        let same = same_row on.0 on.1 in
+        let node_is : c.row.node ≡ plan.parent =
+        sym (ap (λ r. r.node) on.2.others) ∙ ap (λ r. r.node) (sym same)
+        ∙ ap (λ r. r.node) the_change.2.others in
+        subst (λ n. ¬ (IsOpen (now v) n)) node_is
+        (closed_node_stays v.start v.words c.prefix v.log lawful c.goes_on c.row.node
+        (change_node v.start v.words c.prefix
+        (enabled_before (start v.start v.words) c.prefix v.log c.goes_on lawful.enabled) change
+        c.row c.installed) c.node)
+
+-- ---- another word
+
+-- the slot held the word that was answered
+pub other_holds : (who : Caller) (plan : Plan) (change found : ℕ) (w : View)
+    → IsPrepared who plan change
+    → IsOther who.token.view change (filling_at who.token.view change) found w
+    → (word : ℕ) → Other found ≡ Other word → SlotHolds (now w) plan.parent plan.index word
+other_holds who plan change found w p o word e =
+    subst (SlotHolds (now w) plan.parent plan.index) (answer found word e)
+    (subst (λ (r : ChangeRow). SlotHolds (now w) r.node r.index found) p.is o.in_slot)
+  where
+    answer : (a b : ℕ) → Other a ≡ Other b → a ≡ b
+    answer a b e = cc
+
+-- the other word isn't the rebuild's
+pub other_differs : (who : Caller) (plan : Plan) (change found : ℕ) (w : View)
+    → IsPrepared who plan change
+    → IsOther who.token.view change (filling_at who.token.view change) found w
+    → (word : ℕ) → Other found ≡ Other word → word ≢ word_of (RebuildAt plan.rebuild)
+other_differs who plan change found w p o word e is =
+    o.differs (answer found word e ∙ is ∙ sym (ap (λ (r : ChangeRow). r.from) p.is))
+  where
+    answer : (a b : ℕ) → Other a ≡ Other b → a ≡ b
+    answer a b e = cc

@@ -1,0 +1,178 @@
+-- How far a listing has come, step by step. Serves `listing`.
+use Rattle.std.proofs.Common.{◌≡◌, ℕ, suc, ◌+◌, ◌-◌, ◌<◌, ◌≤◌, ⊎_elim, List, [], ◌∷◌, ◌++◌, length}
+use Rattle.std.proofs.Common.{reverse, take, drop, slice_range, get_or, refl, sym, ap, ◌∙◌, subst}
+use Rattle.std.proofs.Common.{arith}
+use Rattle.std.proofs.lemmas.Bool.Decides.{leb_tells}
+use Rattle.std.proofs.lemmas.List.{append_assoc, append-nil, reverse-append, reverse-reverse}
+use Rattle.std.proofs.lemmas.List.{drop_more}
+use Rattle.std.proofs.lemmas.List.Sums.{sum_by-append, sum_by-cons}
+use Rattle.std.specs.List.{sum_by}
+use Rattle.ist_core.specs.declared.pairs.Pair.{Pair}
+use Rattle.ist_core.specs.Map.{pairs_between}
+use Rattle.ist_rest.specs.declared.slots.SlotLeft.{SlotLeft}
+use Rattle.ist_rest.specs.WordRows.{word_at, reads_in}
+use Rattle.ist_core.specs.Arithmetic.{child_count}
+use Rattle.ist_core.proofs.RisingLemmas.{child_count_tells}
+use Rattle.ist_rest.specs.Walks.{Visit, IsGood, first_visit}
+use Rattle.ist_rest.specs.RestingWords.{HoldPairs, AreListed}
+use Rattle.ist_rest.specs.Steps.{GiveBetween, no_slot, one_slot, slot_of, slots_of, slots_between}
+use Rattle.ist_rest.specs.Steps.{pairs_at, work_of, work_left, IsGoodSlot}
+use Rattle.ist_rest.specs.Listing.{HasListed}
+use Rattle.ist_rest.proofs.GiveLemmas.{IsVisited, visited}
+use Rattle.ist_rest.proofs.IntervalLemmas.{no_pair}
+use Rattle.ist_rest.proofs.WorkLemmas.{work_falls}
+
+-- the last of some slots is the first of them in reverse
+turned : (xs ys : List SlotLeft) (x : SlotLeft) → xs ≡ ys ++ x ∷ [] → reverse xs ≡ x ∷ reverse ys
+turned xs ys x e = ap reverse e ∙ reverse-append ys (x ∷ [])
+
+turned_back : (ys zs xs : List SlotLeft) → xs ≡ ys ++ reverse zs → reverse xs ≡ zs ++ reverse ys
+turned_back ys zs xs e = ap reverse e ∙ reverse-append ys (reverse zs)
+    ∙ ap (λ ws. ws ++ reverse ys) (reverse-reverse zs)
+
+-- a sum over a list in reverse
+sum_reverse : (f : SlotLeft → ℕ) (xs : List SlotLeft) → sum_by f (reverse xs) ≡ sum_by f xs
+sum_reverse f [] = refl
+sum_reverse f (x ∷ xs) =
+    let a = sum_by-append f (reverse xs) (x ∷ []) in
+    let b = sum_by-cons f x xs in
+    let c = sum_by-cons f x [] in
+    let d = sum_reverse f xs in
+    let e : reverse (x ∷ xs) ≡ reverse xs ++ x ∷ [] = reverse-append (x ∷ []) xs in
+    let g : sum_by f (reverse xs ++ x ∷ []) ≡ sum_by f (x ∷ xs) = let n : sum_by f [] ≡ 0 =
+    refl in omega arith in
+    ap (sum_by f) e ∙ g
+
+module _ (words : List ℕ) (first last : ℕ) where
+  -- a listing begins at the anchor's slot
+  pub come_start : (pairs : List Pair) → HoldPairs words pairs
+      → (left none : List SlotLeft) (found : List Pair) (word node : ℕ) → word ≡ word_at words 3
+      → node ≡ 2
+      → none ≡ [] → left ≡ none ++ record { word = word; node = node } ∷ [] → found ≡ []
+      → HasListed words first last left found
+  come_start pairs h left none found word node w e given is g =
+      let f : left ≡ none ++ slot_of (first_visit words) ∷ [] =
+      is ∙ ap (λ n. none ++ record { word = word; node = n } ∷ []) e
+      ∙ ap (λ x. none ++ record { word = x; node = 2 } ∷ []) w in
+      let all = pairs_between first last pairs ++ [] in
+      let one : GiveBetween words first last (slot_of (first_visit words) ∷ []) all =
+      one_slot (first_visit words) h.walk no_slot in
+      let r : reverse left ≡ slot_of (first_visit words) ∷ [] =
+      turned left none (slot_of (first_visit words)) f
+      ∙ ap (λ (xs : List SlotLeft). slot_of (first_visit words) ∷ reverse xs) given in
+      record {
+        pairs = pairs;
+        holds = h;
+        rest = all;
+        gives = subst (λ ss. GiveBetween words first last ss all) (sym r) one;
+        so_far = sym (append-nil (pairs_between first last pairs))
+            ∙ ap (λ (xs : List Pair). xs ++ all) (sym g);
+      }
+
+  -- the next slot is visited
+  next : (left ys : List SlotLeft) (found : List Pair) (slot : SlotLeft)
+      (h : HasListed words first last left found) → left ≡ ys ++ slot ∷ []
+      → IsVisited words first last slot (reverse ys) h.rest
+  next left ys found slot h e = visited words first last (reverse left) h.rest h.gives slot
+      (reverse ys) (turned left ys slot e)
+
+  -- it is in good shape
+  pub come_good : (left ys : List SlotLeft) (found : List Pair) (slot : SlotLeft)
+      → HasListed words first last left found → left ≡ ys ++ slot ∷ []
+      → IsGoodSlot words slot
+  come_good left ys found slot h e = let it = next left ys found slot h e in it.good
+
+  -- what is left is less
+  pub come_less : (left ys new : List SlotLeft) (found : List Pair) (slot : SlotLeft)
+      → HasListed words first last left found → left ≡ ys ++ slot ∷ []
+      → new ≡ ys ++ reverse (slots_between words first last (reads_in words slot.word))
+      → work_left words new < work_left words left
+  come_less left ys new found slot h e f =
+      let used = h.holds.bounds in
+      let falls = work_falls words slot first last used.high (come_good left ys found slot h e) in
+      let bs = slots_between words first last (reads_in words slot.word) in
+      let a = sum_by-append (work_of words) ys (reverse bs) in
+      let b = sum_reverse (work_of words) bs in
+      let c = sum_by-append (work_of words) ys (slot ∷ []) in
+      let d = sum_by-cons (work_of words) slot [] in
+      let n : sum_by (work_of words) [] ≡ 0 = refl in
+      let x = ap (sum_by (work_of words)) e in
+      let y = ap (sum_by (work_of words)) f in
+      omega arith
+
+  -- the listing has come further
+  pub come_step : (left ys new : List SlotLeft) (found more : List Pair) (slot : SlotLeft)
+      → HasListed words first last left found → left ≡ ys ++ slot ∷ []
+      → new ≡ ys ++ reverse (slots_between words first last (reads_in words slot.word))
+      → more ≡ found ++ pairs_at words first last (reads_in words slot.word)
+      → HasListed words first last new more
+  come_step left ys new found more slot h e f g =
+      let it = next left ys found slot h e in
+      let ps = pairs_at words first last (reads_in words slot.word) in
+      record {
+        pairs = h.pairs;
+        holds = h.holds;
+        rest = it.rest;
+        gives = subst (λ ss. GiveBetween words first last ss it.rest)
+            (sym (turned_back ys (slots_between words first last (reads_in words slot.word)) new
+            f)) it.gives;
+        so_far = h.so_far ∙ ap (λ xs. found ++ xs) it.pairs_are
+            ∙ sym (append_assoc found ps it.rest) ∙ ap (λ xs. xs ++ it.rest) (sym g);
+      }
+
+  -- no slot gives no pair
+  none_left : (zs : List SlotLeft) (rest : List Pair) → GiveBetween words first last zs rest
+      → zs ≡ [] → rest ≡ []
+  none_left _ _ no_slot e = refl
+  none_left _ _ (one_slot visit w more) e = absurd (cc)
+
+  -- if no slot is left, all was found
+  pub come_end : (left : List SlotLeft) (found : List Pair) → HasListed words first last left
+      found → left ≡ [] → AreListed words first last found
+  come_end left found h e =
+      let none = none_left (reverse left) h.rest h.gives (ap reverse e) in
+      (h.pairs, h.holds, sym (append-nil found) ∙ ap (λ xs. found ++ xs) (sym none) ∙ sym h.so_far)
+
+  -- an interval that ends before it begins has no pair
+  pub none_between : (pairs : List Pair) → HoldPairs words pairs → (found : List Pair)
+      → last < first → found ≡ [] → AreListed words first last found
+  none_between pairs h found less e = (pairs, h, e ∙ sym (no_pair first last pairs less))
+
+-- ---- slots of a node, from number k on
+
+-- pushing the slot before the pushed ones leaves the slots of a longer range
+pub pushed : (slots : List ℕ) (base at to word node : ℕ) (left start new : List SlotLeft)
+    → 0 < at → at ≤ to → to ≤ length slots → word ≡ get_or slots (at - 1) 0 → node ≡ base
+    → left ≡ start ++ reverse (slots_of base (slice_range slots at to))
+    → new ≡ left ++ record { word = word; node = node } ∷ []
+    → new ≡ start ++ reverse (slots_of base (slice_range slots (at - 1) to))
+pushed slots base at to word node left start new some high within w n e f =
+    let k = at - 1 in
+    let on : List ℕ → List SlotLeft = slots_of base in
+    let m : to - k ≡ suc (to - at) = omega arith in
+    let j : k + 1 ≡ at = omega arith in
+    let here : slice_range slots k to ≡ get_or slots k 0 ∷ slice_range slots at to =
+    ap (λ i. take i (drop k slots)) m
+    ∙ ap (take (suc (to - at))) (drop_more slots k 0 (omega arith))
+    ∙ ap (λ i. get_or slots k 0 ∷ take (to - at) (drop i slots)) j in
+    let xs = on (slice_range slots at to) in
+    let x : SlotLeft = record { word = get_or slots k 0; node = base } in
+    let back : reverse (x ∷ xs) ≡ reverse xs ++ x ∷ [] = reverse-append (x ∷ []) xs in
+    f ∙ ap (λ i. left ++ record { word = word; node = i } ∷ []) n
+    ∙ ap (λ i. left ++ record { word = i; node = base } ∷ []) w
+    ∙ ap (λ ls. ls ++ x ∷ []) e ∙ append_assoc start (reverse xs) (x ∷ [])
+    ∙ ap (λ ls. start ++ ls) (sym back)
+    ∙ ap (λ ws. start ++ reverse (on ws)) (sym here)
+
+-- a greater key has no earlier child
+pub ordered : (keys : List ℕ) (first last from to : ℕ) → first ≤ last → from ≡ child_count keys
+    first → to ≡ child_count keys last
+    → from ≤ to + 1
+ordered keys first last from to h e f =
+    ⊎_elim (λ k. let l = k.1 in omega arith) (λ k. let l = k.1 in let less =
+    child_count_tells keys last first (omega arith) in absurd (omega arith)) (leb_tells from to)
+
+-- a slot in good shape reads as something
+pub reads_some : (words : List ℕ) (slot : SlotLeft) → IsGoodSlot words slot
+    → ((visit : Visit) → visit.word ≡ slot.word → IsGood words visit → ⊥) → ⊥
+reads_some words slot g none = none g.visit (ap (λ s. s.word) g.slot_is) g.good

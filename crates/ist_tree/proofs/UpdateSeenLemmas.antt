@@ -1,0 +1,192 @@
+-- The way of a pass through the call of a put or a remove: what it has seen, and what of its own is
+-- settled then. Serves `update`.
+use Rattle.std.proofs.Common.{◌≡◌, ◌≤◌, Option, Some, None, sym, ap, ap₂, ◌∙◌, subst}
+use Rattle.ist_core.specs.declared.commands.Command.{Command}
+use Rattle.ist_core.specs.declared.ports.Full.{Full}
+use Rattle.ist_core.specs.Deciding.{AllResolvedOf}
+use Rattle.ist_core.specs.Lawful.{Lawful, state_of}
+use Rattle.ist_core.proofs.FateLemmas.{enabled_before}
+use Rattle.ist_core.specs.Logs.{GoesOn}
+use Rattle.ist_core.specs.StartLayout.{start}
+use Rattle.laws_calls.specs.Settling.{DueRowsAreClosed, StartsAreDone}
+use Rattle.ist_rule.specs.declared.view.View.{View}
+use Rattle.ist_core.specs.declared.events.Who.TheVariants.{Caller as CallerOf}
+use Rattle.ist_core.specs.Authors.{Later}
+use Rattle.ist_rule.specs.Conditions.{IsResolved}
+use Rattle.ist_rule.specs.Faces.{TokenFace}
+use Rattle.ist_rule.specs.Going.{SearchedOn}
+use Rattle.ist_rule.specs.Learning.{Turned, beginning, now}
+use Rattle.ist_rule.specs.Rule.{IsSound}
+use Rattle.ist_rule.proofs.LaterLemmas.{goes_on_more, later-goes_on}
+use Rattle.ist_rule.proofs.WentOnLemmas.{later_by-goes_on}
+use Rattle.ist_rows.specs.declared.callers.Caller.{Caller}
+use Rattle.ist_rows.specs.Building.{HasRefused}
+use Rattle.ist_rows.specs.Rows.{IsCaller}
+use Rattle.ist_tree.specs.Calls.{HasSeenMore}
+use Rattle.ist_tree.specs.Insides.{HasSettled, IsPass, face_as, pass_face, tree_of}
+use Rattle.ist_tree.specs.Working.{KeepsDone, Works}
+use Rattle.ist_tree.proofs.BeginningLemmas.{begun_view}
+use Rattle.ist_tree.proofs.GoingLemmas.{IsLaterView, caller_on, lawful_behind}
+use Rattle.ist_tree.proofs.SettlingLemmas.{settled_later}
+
+-- a pass began its call, worked, and ended it or gave it up
+pub record IsWay (who began new : Caller) (token : TokenFace) (command : Command) : Type 0 where
+  pub sound : IsSound who.token.view
+  pub pass : IsPass who
+  pub begun : Turned who.token.view (beginning who.token.view (Some command)) began.token.view
+  pub began_number : began.number ≡ who.number
+  pub went : SearchedOn Works began.token.view new.token.view
+  pub number : new.number ≡ began.number
+  pub caller : IsCaller new
+  pub refused : HasRefused new
+  pub last : IsLaterView new.token.view token.view
+  pub none : token.view.pending ≡ None
+  pub table : token.table ≡ who.token.table
+
+module _ (who began new : Caller) (token : TokenFace) (command : Command)
+    (way : IsWay who began new token command) where
+  -- the view before the call
+  abbrev v : View
+  v = who.token.view
+
+  -- the view when the call has begun
+  abbrev b : View
+  b = began.token.view
+
+  -- the view after the work
+  abbrev w : View
+  w = new.token.view
+
+  -- the view after the call
+  abbrev x : View
+  x = token.view
+
+  -- the caller keeps its number
+  pub number_is : new.number ≡ who.number
+  number_is = way.number ∙ way.began_number
+
+  -- the begun view is later than the first
+  pub b_view : IsLaterView v b
+  b_view = begun_view who began.token command way.sound way.pass way.begun
+
+  -- the start pairs are the same when the call has begun
+  pub b_start : b.start ≡ v.start
+  b_start = ap (λ (y : View). y.start) way.begun.view
+
+  -- the number of words is the same when the call has begun
+  pub b_words : b.words ≡ v.words
+  b_words = ap (λ (y : View). y.words) way.begun.view
+
+  -- the start pairs are the same after the work
+  pub w_start : w.start ≡ v.start
+  w_start = ap (λ (y : View). y.start) way.went.went.same ∙ b_start
+
+  -- the number of words is the same after the work
+  pub w_words : w.words ≡ v.words
+  w_words = ap (λ (y : View). y.words) way.went.went.same ∙ b_words
+
+  -- the start pairs are the same after the call
+  pub x_start : x.start ≡ v.start
+  x_start = way.last.start_is ∙ w_start
+
+  -- the number of words is the same after the call
+  pub x_words : x.words ≡ v.words
+  x_words = way.last.words_is ∙ w_words
+
+  -- the log goes on while the call begins
+  pub v_to_b : GoesOn v.log b.log
+  v_to_b = later-goes_on b_view.later
+
+  -- the log goes on during the work
+  pub b_to_w : GoesOn b.log w.log
+  b_to_w = later_by-goes_on way.went.went.later
+
+  -- the log goes on while the call ends
+  pub w_to_x : GoesOn w.log x.log
+  w_to_x = later-goes_on way.last.later
+
+  -- the log goes on during the whole call
+  pub v_to_x : GoesOn v.log x.log
+  v_to_x = goes_on_more (goes_on_more v_to_b b_to_w) w_to_x
+
+  -- the log after the call is lawful
+  pub lawful_x : Lawful v.start v.words x.log
+  lawful_x =
+      subst (λ pairs. Lawful pairs v.words x.log) x_start
+      (subst (λ words. Lawful x.start words x.log) x_words way.last.sound.lawful)
+
+  -- the log after the work is lawful
+  pub lawful_w : Lawful v.start v.words w.log
+  lawful_w =
+      record {
+        opens = lawful_x.opens;
+        enabled = enabled_before (start v.start v.words) w.log x.log w_to_x lawful_x.enabled;
+      }
+
+  -- the view is still the caller's after the work
+  pub w_mine : w.who ≡ CallerOf who.number
+  w_mine = way.caller.mine ∙ ap CallerOf number_is
+
+  -- others made the events while the call began
+  pub later_b : Later (CallerOf who.number) v.log b.log
+  later_b = subst (λ a. Later a v.log b.log) way.pass.caller.mine b_view.later
+
+  -- others made the events while the call ended
+  pub later_x : Later (CallerOf who.number) w.log x.log
+  later_x = subst (λ a. Later a w.log x.log) w_mine way.last.later
+
+  -- it is a pass in no call again
+  pub final_pass : IsPass (record new { token = token })
+  final_pass =
+      let it = caller_on new token way.caller way.refused way.last in
+      record { caller = it.caller; refused = it.refused; in_none = way.none }
+
+  -- of its tree
+  pub same_tree : tree_of token ≡ tree_of who.token
+  same_tree =
+      ap₂ (λ t words. record { table = t; start = x.start; words = words }) way.table x_words
+      ∙ ap (λ pairs. record { table = who.token.table; start = pairs; words = v.words }) x_start
+
+  -- which has seen more
+  pub seen_more : (r q : Option Full) → v.stamp ≤ x.stamp
+      → HasSeenMore (pass_face who r) (face_as token new.number q)
+  seen_more r q up =
+      record {
+        tree = same_tree;
+        number = number_is;
+        seen = v_to_x;
+        stamp = up;
+      }
+
+  -- what it had settled is settled, if the work kept it so
+  pub settled_then : IsResolved w new.number → KeepsDone began new
+      → (DueRowsAreClosed (start b.start b.words) b.log began.number
+      → DueRowsAreClosed (start b.start b.words) w.log began.number)
+      → HasSettled v.start v.words v.log who.number → HasSettled x.start x.words x.log new.number
+  settled_then resolved starts due old =
+      let at_b = settled_later v.start v.words v.log b.log (lawful_behind v b b_view) who.number
+      later_b old in
+      let of_b = subst (λ (y : View). HasSettled y.start y.words b.log who.number) (sym way.begun.view)
+      at_b in
+      let its_b = subst (HasSettled b.start b.words b.log) (sym way.began_number) of_b in
+      let at_w : HasSettled v.start v.words w.log who.number =
+      record {
+        resolved =
+            subst (λ n. AllResolvedOf (state_of v.start v.words w.log) w.log n) number_is
+            (subst (λ t. AllResolvedOf t w.log new.number) now_w resolved);
+        starts =
+            subst (StartsAreDone (state_of v.start v.words w.log)) way.began_number
+            (subst (λ t. StartsAreDone t began.number) now_w (starts its_b.starts));
+        due =
+            subst (DueRowsAreClosed (start v.start v.words) w.log) way.began_number
+            (subst (λ pairs. DueRowsAreClosed (start pairs v.words) w.log began.number) b_start
+            (subst (λ words. DueRowsAreClosed (start b.start words) w.log began.number) b_words
+            (due its_b.due)));
+      } in
+      let at_x = settled_later v.start v.words w.log x.log lawful_x who.number later_x at_w in
+      subst (HasSettled x.start x.words x.log) (sym number_is)
+      (subst (λ pairs. HasSettled pairs x.words x.log who.number) (sym x_start)
+      (subst (λ words. HasSettled v.start words x.log who.number) (sym x_words) at_x))
+    where
+      now_w : now w ≡ state_of v.start v.words w.log
+      now_w = ap₂ (λ pairs words. state_of pairs words w.log) w_start w_words

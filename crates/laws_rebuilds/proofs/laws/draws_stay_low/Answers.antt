@@ -1,5 +1,0 @@
-use Rattle.laws_rebuilds.proofs.DrawWordLemmas.{draw_low}
-use Rattle.laws_rebuilds.proofs.laws.draws_stay_low.Goals as goal
-
-pub returns : goal.returns
-returns c = record { low = λ pairs words log l. draw_low pairs words l.opens log l.enabled }

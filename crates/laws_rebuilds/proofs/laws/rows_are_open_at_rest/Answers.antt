@@ -1,8 +1,0 @@
-use Rattle.laws_rebuilds.proofs.OpenRowLemmas.{rest_is_open}
-use Rattle.laws_rebuilds.proofs.laws.rows_are_open_at_rest.Goals as goal
-
-pub returns : goal.returns
-returns c =
-    record {
-      all_open = λ pairs words log l. rest_is_open pairs words l.opens log l.enabled;
-    }

@@ -1,8 +1,0 @@
-use Rattle.laws_rebuilds.proofs.ReturnLemmas.{unlinked_stays}
-use Rattle.laws_rebuilds.proofs.laws.unlinked_rows_stay_out.Goals as goal
-
-pub returns : goal.returns
-returns c =
-    record {
-      out = λ pairs words earlier log l on node was unlinked. (unlinked_stays pairs words l.opens earlier log on l.enabled node was unlinked).0;
-    }

@@ -1,5 +1,0 @@
-use Rattle.laws_rows.proofs.PartLemmas.{keys_next, part_is, parts_all, parts_next}
-use Rattle.laws_rows.proofs.laws.parts_are_shares.Goals as goal
-
-pub returns : goal.returns
-returns c = record { share = part_is; next = parts_next; all = parts_all; keys = keys_next }

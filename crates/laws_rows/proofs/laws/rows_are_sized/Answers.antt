@@ -1,5 +1,0 @@
-use Rattle.laws_rows.proofs.SizedLemmas.{row_sized}
-use Rattle.laws_rows.proofs.laws.rows_are_sized.Goals as goal
-
-pub returns : goal.returns
-returns c = record { sized = λ pairs words log l. row_sized pairs words l.opens log l.enabled }

@@ -1,8 +1,0 @@
--- what the public contracts rest on, in the order to read them
-
-pub mod Sizing
-pub mod Rooting
-pub mod Dividing
-pub mod Carrying
-pub mod Finishing
-pub mod Freezing

@@ -1,9 +1,0 @@
-pub mod ClosedLemmas
-pub mod OwnLemmas
-pub mod RefusedLemmas
-pub mod StartLemmas
-pub mod RebuildSlotLemmas
-pub mod ReadLemmas
-pub mod DueLemmas
-pub mod SettledLemmas
-pub mod DoneLemmas

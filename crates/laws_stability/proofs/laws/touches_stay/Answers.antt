@@ -1,9 +1,0 @@
-use Rattle.laws_stability.proofs.TouchLemmas.{touch_stays}
-use Rattle.laws_stability.proofs.laws.touches_stay.Goals as goal
-
-pub returns : goal.returns
-returns c =
-    record {
-      touch = λ pairs words earlier log event l on can adds.
-          touch_stays pairs words earlier log on l.enabled event can adds;
-    }

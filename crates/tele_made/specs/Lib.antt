@@ -1,3 +1,0 @@
--- what the public contracts rest on, in the order to read them
-pub mod Made
-pub mod Summaries

@@ -1,0 +1,40 @@
+use Rattle.std.proofs.Common.{ap, ◌∙◌}
+use Rattle.ist_rows.specs.declared.callers.Caller.{Caller}
+use Rattle.test_parts.proofs.NewStartLemmas.{HasFilledStart, begins_met, start_filled, met_installable, start_helps}
+use Rattle.test_parts.proofs.changes.install_start.Goals as goal
+use Rattle.test_parts.proofs.changes.install_start.Goals.{After-fill_row-2}
+
+pub fill_row-requires-clause-row : goal.fill_row-requires-clause-row
+fill_row-requires-clause-row c = c.requires.rows.0
+
+-- the caller holds the change as it held it
+pub fill_row-requires-2-clause-row : goal.fill_row-requires-2-clause-row
+fill_row-requires-2-clause-row c =
+    ap (λ (x : Caller). x.change) c.fill_row.ensures.stored ∙ c.requires.rows.1
+
+filled : (c : After-fill_row-2) → HasFilledStart c.fill_row-2.new.who
+filled c =
+    start_filled _ _ _ _ _ _ c.to_word-from.ensures.value c.to_word-to.ensures.value
+    c.to_word-unset.ensures.value c.requires.rows c.requires.number c.requires.in_none
+    c.fill_row.ensures.stored c.fill_row-2.ensures.stored c.fill_row-2.ensures.caller
+
+-- it is in no call
+pub begin_call-requires-clause-may_begin : goal.begin_call-requires-clause-may_begin
+begin_call-requires-clause-may_begin c =
+    begins_met _ (filled (goal.at.begin_call-requires-clause-may_begin c).After-fill_row-2) _ _ _
+    c.load-met.ensures.looked
+
+-- the rows are filled, the row at 4 was met, and the call has begun
+pub install-requires : goal.install-requires
+install-requires c =
+    let f = filled (goal.at.install-requires c).After-fill_row-2 in (
+      c.begin_call.ensures.same_table ∙ c.load-met.ensures.same_table ∙ c.fill_row-2.ensures.same_table,
+      met_installable _ f.mine f.none f.stored f.change f.rebuild _ _ c.load-met.ensures.looked
+          (c.if-met-from.false ∙ c.to_word-from.ensures.value) _ c.begin_call.ensures.begun,
+    )
+
+-- if it is installed, its caller may help it
+pub returns-clause-may_help : goal.returns-clause-may_help
+returns-clause-may_help c is =
+    start_helps _ _ _ _ _ (filled (goal.at.returns-clause-may_help c).After-fill_row-2).mine
+    c.load-met.ensures.looked c.begin_call.ensures.begun (c.install.ensures.yes is)

@@ -1,2 +1,0 @@
--- what the contracts rest on
-pub mod Samples
