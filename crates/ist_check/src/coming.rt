@@ -74,15 +74,10 @@ fn may_build(
             rebuild,
             word,
             rows,
-        } => can_root(
-            alloc,
-            replica,
-            past,
-            *caller,
-            *rebuild,
-            *word,
-            rows.as_slice(),
-        ),
+        } => {
+            let rows = rows.as_slice();
+            can_root(alloc, replica, past, *caller, *rebuild, *word, rows)
+        }
         Event::Draw {
             caller,
             rebuild,
@@ -94,16 +89,10 @@ fn may_build(
             part,
             word,
             rows,
-        } => can_place(
-            alloc,
-            replica,
-            past,
-            *caller,
-            *rebuild,
-            *part,
-            *word,
-            rows.as_slice(),
-        ),
+        } => {
+            let rows = rows.as_slice();
+            can_place(alloc, replica, past, *caller, *rebuild, *part, *word, rows)
+        }
         Event::Lose { caller, bases } => {
             can_lose(alloc, replica, past, *caller, bases.as_slice())
         }

@@ -81,51 +81,60 @@ pub enum Condition {
     Cause,
 }
 
+// The text of `Uncounted`, which like the next three is too long for a line of `fmt`.
+const UNCOUNTED: &str =
+    "a put or remove of the caller was decided yes last, and not counted at the node since";
+
+// The text of `Root`.
+const ROOT: &str = "the word and the rows are the root over the target's leaves, each row once";
+
+// The text of `Ideal`.
+const IDEAL: &str =
+    "the word and the rows are the ideal subtree over the part's leaves, each row once";
+
+// The text of `Cause`.
+const CAUSE: &str = "the rows are a pair row that may be too low, or a build that comes too late";
+
 impl fmt::Display for Condition {
     fn fmt<W: fmt::Write>(&self, f: &mut fmt::Formatter<W>) -> fmt::Result {
         f.write_str(match self {
-            Condition::Known => "the caller has entered",
-            Condition::Number => "the caller's number is that of those before it",
-            Condition::BelowLimit => "the caller's number lies below the limit",
-            Condition::BaseIs => "the row begins at the first free word",
-            Condition::Room => "there is room for the row",
-            Condition::Fair => "what the caller then holds is fair",
-            Condition::RowsAre => "the first row is a change at the base",
-            Condition::Held => "the caller holds each of the rows",
-            Condition::Owned => "the change is the caller's",
-            Condition::Unset => "the change is undecided",
-            Condition::InSlot => "the slot holds the word",
-            Condition::Linked => "the node is linked or was",
-            Condition::Unrefused => "no change of the caller on the node was decided no",
-            Condition::Fits => "the change meets the condition of its kind",
-            Condition::Published => "the row is published",
-            Condition::NodeOpen => "the change's node is open",
-            Condition::Outcome => "yes takes an Okay of the change, and no a node that isn't open",
-            Condition::Decided => "the change is decided",
-            Condition::Uncounted =>
-                "a put or remove of the caller was decided yes last, and not counted at the node since",
-            Condition::OnChain => "the node lies on the chain of that put or remove",
-            Condition::RowOpen => "the row is open",
-            Condition::Called => "there is a cause to mark the row",
-            Condition::Marked => "the row is marked",
-            Condition::NoChange => "the word is none of a change",
-            Condition::Set => "the word is set",
-            Condition::Passed =>
-                "each slot was passed, and the passed words count for so many keys",
-            Condition::Started => "the rebuild is started",
-            Condition::Rootless => "the rebuild has no root yet",
-            Condition::Finished => "the rebuild's target is finished",
-            Condition::Root =>
-                "the word and the rows are the root over the target's leaves, each row once",
-            Condition::Rooted => "the rebuild has a root",
-            Condition::Shared => "the target has so many keys that its root is shared",
-            Condition::PartIs => "the part is the rebuild's draw word",
-            Condition::NotPast => "no part that the caller drew before lay past the last",
-            Condition::Free => "the root's slot isn't built yet",
-            Condition::Ideal =>
-                "the word and the rows are the ideal subtree over the part's leaves, each row once",
-            Condition::Cause =>
-                "the rows are a pair row that may be too low, or a build that comes too late",
+            Self::Known => "the caller has entered",
+            Self::Number => "the caller's number is that of those before it",
+            Self::BelowLimit => "the caller's number lies below the limit",
+            Self::BaseIs => "the row begins at the first free word",
+            Self::Room => "there is room for the row",
+            Self::Fair => "what the caller then holds is fair",
+            Self::RowsAre => "the first row is a change at the base",
+            Self::Held => "the caller holds each of the rows",
+            Self::Owned => "the change is the caller's",
+            Self::Unset => "the change is undecided",
+            Self::InSlot => "the slot holds the word",
+            Self::Linked => "the node is linked or was",
+            Self::Unrefused => "no change of the caller on the node was decided no",
+            Self::Fits => "the change meets the condition of its kind",
+            Self::Published => "the row is published",
+            Self::NodeOpen => "the change's node is open",
+            Self::Outcome => "yes takes an Okay of the change, and no a node that isn't open",
+            Self::Decided => "the change is decided",
+            Self::Uncounted => UNCOUNTED,
+            Self::OnChain => "the node lies on the chain of that put or remove",
+            Self::RowOpen => "the row is open",
+            Self::Called => "there is a cause to mark the row",
+            Self::Marked => "the row is marked",
+            Self::NoChange => "the word is none of a change",
+            Self::Set => "the word is set",
+            Self::Passed => "each slot was passed, and the passed words count for so many keys",
+            Self::Started => "the rebuild is started",
+            Self::Rootless => "the rebuild has no root yet",
+            Self::Finished => "the rebuild's target is finished",
+            Self::Root => ROOT,
+            Self::Rooted => "the rebuild has a root",
+            Self::Shared => "the target has so many keys that its root is shared",
+            Self::PartIs => "the part is the rebuild's draw word",
+            Self::NotPast => "no part that the caller drew before lay past the last",
+            Self::Free => "the root's slot isn't built yet",
+            Self::Ideal => IDEAL,
+            Self::Cause => CAUSE,
         })
     }
 }

@@ -78,15 +78,10 @@ fn build_fails(
             rebuild,
             word,
             rows,
-        } => root_fails(
-            alloc,
-            replica,
-            past,
-            *caller,
-            *rebuild,
-            *word,
-            rows.as_slice(),
-        ),
+        } => {
+            let rows = rows.as_slice();
+            root_fails(alloc, replica, past, *caller, *rebuild, *word, rows)
+        }
         Event::Draw {
             caller,
             rebuild,
@@ -98,16 +93,10 @@ fn build_fails(
             part,
             word,
             rows,
-        } => place_fails(
-            alloc,
-            replica,
-            past,
-            *caller,
-            *rebuild,
-            *part,
-            *word,
-            rows.as_slice(),
-        ),
+        } => {
+            let rows = rows.as_slice();
+            place_fails(alloc, replica, past, *caller, *rebuild, *part, *word, rows)
+        }
         Event::Lose { caller, bases } => {
             lose_fails(alloc, replica, past, *caller, bases.as_slice())
         }

@@ -10,7 +10,7 @@ pub returns-in-Root : goal.returns-in-Root
 returns-in-Root c = record {
   exact = IfOk-weaker c.root_fails.result _ _
       (λ fails exact pairs words log knows build. tells_by pairs words log
-      (ap (Root c.in-Root.caller c.in-Root.rebuild c.in-Root.word) c.as_slice.ensures.value
+      (ap (Root c.in-Root.caller c.in-Root.rebuild c.in-Root.word) c.as_slice-rows.ensures.value
       ∙ sym c.in-Root.is) fails (exact (state_of pairs words log) knows.mirrors
       knows.remembers.started (held_are_free pairs words log knows.lawful)))
       c.root_fails.ensures.exact;
@@ -29,7 +29,8 @@ returns-in-Place c =
     record {
       exact = IfOk-weaker c.place_fails.result _ _
           (λ fails exact pairs words log knows build. tells_by pairs words log
-          (ap (Place i.caller i.rebuild i.part i.word) c.as_slice-in-Place.ensures.value ∙ sym i.is)
+          (ap (Place i.caller i.rebuild i.part i.word) c.as_slice-rows-in-Place.ensures.value
+          ∙ sym i.is)
           fails (exact (state_of pairs words log) knows.mirrors
           (held_are_free pairs words log knows.lawful) knows.remembers.leaves))
           c.place_fails.ensures.exact;
@@ -39,7 +40,7 @@ pub returns-in-Lose : goal.returns-in-Lose
 returns-in-Lose c = record {
   exact = IfOk-weaker c.lose_fails.result _ _
       (λ fails exact pairs words log knows build. tells_by pairs words log
-      (ap (Lose c.in-Lose.caller) c.as_slice-in-Lose.ensures.value ∙ sym c.in-Lose.is) fails
+      (ap (Lose c.in-Lose.caller) c.as_slice.ensures.value ∙ sym c.in-Lose.is) fails
       (exact (state_of pairs words log) log knows.mirrors knows.remembers.lists
       knows.remembers.builds))
       c.lose_fails.ensures.exact;
