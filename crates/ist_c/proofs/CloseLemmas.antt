@@ -1,19 +1,8 @@
 -- What closing and reopening left in an owner's handle.
-use Rattle.std.proofs.Common.{◌≡◌, ℕ, List, length, map, Result, Ok, Err, IfOk, IfErr, sym, subst, ◌∙◌}
-use Rattle.std.specs.List.Sorted.{IsStrictlyIncreasing}
+use Rattle.std.proofs.Common.{◌≡◌, ℕ, length, Result, Ok, Err, IfOk, IfErr, sym, subst}
 use Rattle.std.specs.Arc.{arc_value}
-use Rattle.ist_core.specs.declared.pairs.Pair.{Pair}
-use Rattle.ist_core.specs.Map.{pairs_of}
-use Rattle.ist_core.specs.Replies.{Answered}
-use Rattle.ist_core.specs.Resting.{StandsFor}
-use Rattle.laws_histories.specs.Telling.{map_now}
-use Rattle.laws_histories.proofs.ContentLemmas.{pairs_rise_at}
-use Rattle.ist_rest.specs.RestingWords.{HoldPairs}
-use Rattle.ist_rest.specs.Standings.{Stands}
-use Rattle.ist_tree.specs.Closing.{ClosesWith, told_to}
-use Rattle.ist_tree.specs.Faces.{TreeFace, MakerFace}
-use Rattle.ist_tree.specs.Opening.{IsNewTree}
-use Rattle.ist_c.specs.Reopening.{OpensOver, FollowsOn}
+use Rattle.ist_tree.specs.Closing.{ClosesWith}
+use Rattle.ist_reopen.proofs.ReopenLemmas.{follows}
 use Rattle.ist_c.specs.declared.closed_trees.ClosedTree.{ClosedTree}
 use Rattle.ist_c.specs.declared.held.Held.{Held}
 use Rattle.ist_c.specs.declared.held.Held.TheVariants as of
@@ -56,44 +45,6 @@ closed_other held other is = subst (λ (h : Held). Closes held h misuse) (sym is
 
 -- ---- the next tree
 
--- a new tree of the pairs that were found in closed words
-pub opens_over : (closed : List ℕ) (words : ℕ) (given found : List Pair) (tree : TreeFace)
-    (maker : MakerFace) → IsNewTree words given tree maker → given ≡ found → HoldPairs closed found
-    → ((pairs : List Pair) (told : List (List Answered)) (s : StandsFor closed pairs told)
-    → found ≡ pairs_of (map_now pairs (length closed) s.log))
-    → OpensOver closed words tree maker
-opens_over closed words given found tree maker new same holds of_map =
-    let start = new.start_is ∙ same in
-    record {
-      new = subst (λ ps. IsNewTree words ps tree maker) (sym new.start_is) new;
-      holds = subst (HoldPairs closed) (sym start) holds;
-      of_map = λ pairs told s. start ∙ of_map pairs told s;
-    }
-
--- the keys of the pairs that closed words hold are strictly increasing
-pub held_rise : (closed : List ℕ) (found : List Pair) → Stands closed
-    → ((pairs : List Pair) (told : List (List Answered)) (s : StandsFor closed pairs told)
-    → found ≡ pairs_of (map_now pairs (length closed) s.log))
-    → IsStrictlyIncreasing (map (λ pair. pair.key) found)
-held_rise closed found stands of_map =
-    subst (λ ps. IsStrictlyIncreasing (map (λ pair. pair.key) ps))
-    (sym (of_map stands.0 stands.1 stands.2))
-    (pairs_rise_at stands.0 (length closed) stands.2.lawful.opens stands.2.log
-    stands.2.lawful.enabled)
-
--- if the words were closed with this maker, the tree begins with what the maker's passes left
-follows : (m : MakerFace) (closed : List ℕ) (words : ℕ) (tree : TreeFace) (maker : MakerFace)
-    → length closed ≡ m.tree.words → ClosesWith m closed → OpensOver closed words tree maker
-    → FollowsOn m words tree maker
-follows m closed words tree maker size closes opened = record {
-  closed = closed;
-  size = size;
-  closes = closes;
-  holds = opened.holds;
-  new = opened.new;
-  left = opened.of_map m.tree.start (told_to m) closes.stands;
-}
-
 -- what was opened over an owner's closed tree begins with what its passes left
 owner_opened : (owner : TreeOwner) (closed : ClosedTree) (words : ℕ) (after : Held) (status : ℕ)
     → length closed.closed ≡ owner.maker.tree.words → ClosesWith owner.maker closed.closed
@@ -101,8 +52,8 @@ owner_opened : (owner : TreeOwner) (closed : ClosedTree) (words : ℕ) (after : 
 owner_opened owner closed words _ _ size closes (opens_owner new opens) =
     owner_reopens owner new words
     (follows owner.maker closed.closed words (arc_value new.tree) new.maker size closes opens)
-owner_opened owner closed words _ _ size closes (opens_none fault is) =
-    owner_closed owner closed words fault closes is
+owner_opened owner closed words _ _ size closes (opens_none fault within is) =
+    owner_closed owner closed words fault closes within is
 
 -- so it is of a handle of an owner whose tree was closed
 pub reopened_owner : (held after : Held) (owner : TreeOwner) (result : Result ClosedTree TreeOwner)
@@ -126,7 +77,7 @@ reopened_busy held owner kept result words is err same =
 closed_opened : (closed : ClosedTree) (words : ℕ) (after : Held) (status : ℕ)
     → Opens closed words after status → Reopens (of.Closed closed) after words status
 closed_opened closed words _ _ (opens_owner new opens) = closed_opens closed new words opens
-closed_opened closed words _ _ (opens_none fault is) = closed_stays closed words fault is
+closed_opened closed words _ _ (opens_none fault within is) = closed_stays closed words fault within is
 
 -- a handle of a closed tree holds what was opened over it
 pub reopened_closed : (held after : Held) (closed : ClosedTree) (words status : ℕ)

@@ -1,16 +1,17 @@
 -- What closing and reopening leave in an owner's handle.
-use Rattle.std.specs.Prelude.{◌≡◌, ℕ, List}
+use Rattle.std.specs.Prelude.{◌≡◌, ℕ, ◌≤◌, List}
 use Rattle.std.specs.Arc.{arc_value}
+use Rattle.ist_core.specs.RowLayout.{place_limit}
 use Rattle.ist_tree.specs.Closing.{ClosesWith}
-use Rattle.ist_tree.specs.declared.faults.OpenFault.{OpenFault}
-use Rattle.ist_tree.specs.declared.faults.OpenFault.TheVariants.{Small, Memory}
+use Rattle.ist_reopen.specs.declared.faults.ReopenFault.{ReopenFault}
+use Rattle.ist_reopen.specs.declared.faults.ReopenFault.TheVariants.{Beyond, Small, Memory}
+use Rattle.ist_reopen.specs.Reopening.{OpensAfter, BeginsAfter, IsReopenFaultOf}
 use Rattle.ist_c.specs.declared.closed_trees.ClosedTree.{ClosedTree}
 use Rattle.ist_c.specs.declared.closed_trees.LeftPairs.{LeftPairs}
 use Rattle.ist_c.specs.declared.held.Held.{Held}
 use Rattle.ist_c.specs.declared.held.Held.TheVariants as of
 use Rattle.ist_c.specs.declared.owners.TreeOwner.{TreeOwner}
 use Rattle.ist_c.specs.Leaving.{IsLeft}
-use Rattle.ist_c.specs.Reopening.{OpensOver, FollowsOn, IsOverFault}
 use Rattle.ist_c.specs.Results.{done, memory, small, busy, misuse}
 
 -- ---- closing
@@ -38,36 +39,39 @@ pub data Closes : Held → Held → ℕ → Type 0 where
 -- ---- reopening
 
 -- the status for a fault
-abbrev pub status_of : OpenFault → ℕ
+abbrev pub status_of : ReopenFault → ℕ
+status_of (Beyond words) = misuse
 status_of (Small needed words) = small
 status_of Memory = memory
 
 -- the handle holds the owner of a tree of the pairs that the closed words hold, or the closed tree still
--- if none was opened
+-- if none was opened, though no more words were asked for than a tree may have
 pub data Opens (closed : ClosedTree) (words : ℕ) : Held → ℕ → Type 0 where
   opens_owner : (new : TreeOwner)
-      → OpensOver closed.closed words (arc_value new.tree) new.maker
+      → OpensAfter closed.closed words (arc_value new.tree) new.maker
       → Opens closed words (of.Owner new) done
-  opens_none : (fault : OpenFault) → IsOverFault closed.closed words fault
+  opens_none : (fault : ReopenFault) → words ≤ place_limit
+      → IsReopenFaultOf closed.closed words fault
       → Opens closed words (of.Closed closed) (status_of fault)
 
 -- a handle of an owner holds the owner of a new tree, which begins with exactly the pairs that all calls
--- of the old tree's passes left; or the closed tree if none was opened, or the owner still if a pass or
--- a note is out. A handle of a closed tree holds the owner of a tree of its pairs, or is as before, as is
--- a handle of something else
+-- of the old tree's passes left; or the closed tree if none was opened, though no more words were asked
+-- for than a tree may have; or the owner still if a pass or a note is out. A handle of a closed tree holds
+-- the owner of a tree of its pairs, or is as before, as is a handle of something else
 pub data Reopens : Held → Held → ℕ → ℕ → Type 0 where
   owner_reopens : (old new : TreeOwner) (words : ℕ)
-      → FollowsOn old.maker words (arc_value new.tree) new.maker
+      → BeginsAfter old.maker words (arc_value new.tree) new.maker
       → Reopens (of.Owner old) (of.Owner new) words done
-  owner_closed : (old : TreeOwner) (closed : ClosedTree) (words : ℕ) (fault : OpenFault)
-      → ClosesWith old.maker closed.closed → IsOverFault closed.closed words fault
+  owner_closed : (old : TreeOwner) (closed : ClosedTree) (words : ℕ) (fault : ReopenFault)
+      → ClosesWith old.maker closed.closed → words ≤ place_limit
+      → IsReopenFaultOf closed.closed words fault
       → Reopens (of.Owner old) (of.Closed closed) words (status_of fault)
   owner_busy : (owner kept : TreeOwner) (words : ℕ) → kept.maker ≡ owner.maker
       → Reopens (of.Owner owner) (of.Owner kept) words busy
   closed_opens : (closed : ClosedTree) (new : TreeOwner) (words : ℕ)
-      → OpensOver closed.closed words (arc_value new.tree) new.maker
+      → OpensAfter closed.closed words (arc_value new.tree) new.maker
       → Reopens (of.Closed closed) (of.Owner new) words done
-  closed_stays : (closed : ClosedTree) (words : ℕ) (fault : OpenFault)
-      → IsOverFault closed.closed words fault
+  closed_stays : (closed : ClosedTree) (words : ℕ) (fault : ReopenFault)
+      → words ≤ place_limit → IsReopenFaultOf closed.closed words fault
       → Reopens (of.Closed closed) (of.Closed closed) words (status_of fault)
   none_reopens : (held : Held) (words : ℕ) → Reopens held held words misuse

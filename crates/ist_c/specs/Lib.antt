@@ -9,7 +9,6 @@ pub mod Opening
 pub mod Passes
 pub mod Notes
 pub mod Leaving
-pub mod Reopening
 pub mod Closing
 pub mod Listing
 -- what a handle owns

@@ -7,7 +7,8 @@ use crate::closed_trees::ClosedTree;
 use crate::handles::Handle;
 use crate::held::Held;
 use crate::results::{BUSY, DONE, MEMORY, MISUSE};
-use crate::tree_calls::{WORDS_LIMIT, status_for};
+use crate::tree_calls::status_for;
+use ist_reopen::MOST_WORDS;
 use std::alloc::Global;
 use std::mem;
 
@@ -86,7 +87,7 @@ fn open_next(alloc: Global, closed: ClosedTree, words: u32, held: &mut Held) -> 
 fn reopen_in(alloc: Global, held: &mut Held, words: u32) -> u32
     ensures reopens { Reopens held.old held.new words result }
 {
-    if words > WORDS_LIMIT {
+    if words > MOST_WORDS {
         return MISUSE;
     }
     match mem::replace(held, Held::Nothing) {

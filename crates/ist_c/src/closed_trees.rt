@@ -1,15 +1,16 @@
 //! A tree that was closed, and what is left of it.
-ghost use Rattle.std.specs.Prelude.{◌≤◌, IfOk, IfErr};
+ghost use Rattle.std.specs.Prelude.{IfOk, IfErr};
 ghost use Rattle.std.specs.Arc.{arc_value};
-ghost use Rattle.ist_core.specs.RowLayout.{place_limit};
+ghost use Rattle.ist_reopen.specs.Reopening.{OpensAfter, IsReopenFaultOf};
 ghost use Rattle.ist_c.specs.Leaving.{IsLeft};
-ghost use Rattle.ist_c.specs.Reopening.{OpensOver, IsOverFault};
 
-use crate::owners::{PAIRS_LIMIT, TreeOwner};
+use crate::owners::TreeOwner;
 use ist_core::Pair;
+use ist_image::Image;
+use ist_reopen::{ReopenFault, open_after};
 use ist_rest::Closed;
-use ist_tree::OpenFault;
 use std::alloc::{AllocError, Global};
+use std::sync::Arc;
 
 /// A tree that was closed: its words after the last call.
 #[derive(Drop)]
@@ -28,20 +29,16 @@ pub struct LeftPairs {
 impl ClosedTree {
     /// Opens a tree of the pairs, with this many words, and returns its owner. The closed tree stays as it
     /// is.
-    pub fn open(&self, alloc: Global, words: u32) -> Result<TreeOwner, OpenFault>
-        requires within { words ≤ place_limit }
+    pub fn open(&self, alloc: Global, words: u32) -> Result<TreeOwner, ReopenFault>
         ensures new { IfOk result (λ owner.
-            OpensOver self.now.closed words (arc_value owner.tree) owner.maker) }
-        ensures fault { IfErr result (IsOverFault self.now.closed words) }
+            OpensAfter self.now.closed words (arc_value owner.tree) owner.maker) }
+        ensures fault { IfErr result (IsReopenFaultOf self.now.closed words) }
     {
-        let pairs = self.closed.pairs(alloc)?;
-        if pairs.len() as u64 > PAIRS_LIMIT {
-            return Err(OpenFault::Memory);
-        }
-        self.closed.know();
-        match TreeOwner::open(alloc, words, &pairs) {
-            Ok(owner) => Ok(owner),
-            Err(fault) => Err(fault),
+        let mut image = Image::new(alloc);
+        let (tree, maker) = open_after(alloc, &mut image, &self.closed, words)?;
+        match Arc::new(alloc, tree) {
+            Ok(tree) => Ok(TreeOwner { tree, maker }),
+            Err(_) => Err(ReopenFault::Memory),
         }
     }
 

@@ -16,11 +16,8 @@ use crate::owners::{PAIRS_LIMIT, TreeOwner};
 use crate::results::{DONE, MEMORY, MISUSE, SMALL};
 use ist_core::Pair;
 use ist_image::needed_words;
-use ist_tree::OpenFault;
+use ist_reopen::{MOST_WORDS, ReopenFault};
 use std::alloc::Global;
-
-/// How many words a tree has at most.
-pub(crate) const WORDS_LIMIT: u32 = 0x1000_0000;
 
 /// Makes a handle of what is held. If there is no memory for it, what is held is dropped.
 pub(crate) fn keep(alloc: Global, held: Held, out: &mut Handle) -> u32
@@ -48,15 +45,16 @@ pub extern "C" fn ist_words_for(pairs: u64) -> u64
 }
 
 /// Returns the status for the fault.
-pub(crate) fn status_for(fault: OpenFault) -> u32
+pub(crate) fn status_for(fault: ReopenFault) -> u32
     ensures value { result ≡ status_of fault }
 {
     match fault {
-        OpenFault::Small {
+        ReopenFault::Beyond { words: _ } => MISUSE,
+        ReopenFault::Small {
             needed: _,
             words: _,
         } => SMALL,
-        OpenFault::Memory => MEMORY,
+        ReopenFault::Memory => MEMORY,
     }
 }
 
@@ -65,12 +63,12 @@ fn open_owner(alloc: Global, words: u32, pairs: &[Pair], out: &mut Handle) -> u3
     requires rising { IsRising pairs.now }
     ensures opens { OpensNew words pairs.now out.old out.new result }
 {
-    if words > WORDS_LIMIT || pairs.len() as u64 > PAIRS_LIMIT {
+    if words > MOST_WORDS || pairs.len() as u64 > PAIRS_LIMIT {
         return MISUSE;
     }
     match TreeOwner::open(alloc, words, pairs) {
         Ok(owner) => keep(alloc, Held::Owner(owner), out),
-        Err(fault) => status_for(fault),
+        Err(fault) => status_for(ReopenFault::from(fault)),
     }
 }
 

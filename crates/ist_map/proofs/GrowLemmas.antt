@@ -12,10 +12,10 @@ use Rattle.ist_rest.proofs.WholeLemmas.{same_pairs}
 use Rattle.ist_rest.specs.Standings.{Stands}
 use Rattle.ist_tree.specs.Faces.{TreeFace, MakerFace}
 use Rattle.ist_tree.specs.Opening.{words_for}
-use Rattle.ist_map.specs.declared.faults.ReopenFault.{ReopenFault}
-use Rattle.ist_map.specs.declared.faults.ReopenFault.TheVariants.{Beyond, Small, Memory}
+use Rattle.ist_reopen.specs.declared.faults.ReopenFault.{ReopenFault}
+use Rattle.ist_reopen.specs.declared.faults.ReopenFault.TheVariants.{Beyond, Small, Memory}
 use Rattle.ist_map.specs.Growing.{IsGrowFault, tree_words}
-use Rattle.ist_map.specs.Reopening.{OpensAfter, IsReopenFaultOf}
+use Rattle.ist_reopen.specs.Reopening.{OpensAfter, IsReopenFaultOf}
 use Rattle.ist_map.specs.Running.{HasRunTo, HasStopped, IsUnderway, OpensEnough}
 use Rattle.ist_map.proofs.RunLemmas.{run_none, run_on}
 

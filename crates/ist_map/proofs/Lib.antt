@@ -1,13 +1,3 @@
-pub mod FewLemmas
-pub mod ReopenLemmas
-pub mod HistoryLemmas
-pub mod GenerationLemmas
-pub mod OwnedLemmas
-pub mod SplitLemmas
-pub mod CountLemmas
-pub mod LaidLemmas
-pub mod PassLemmas
-pub mod NumberLemmas
 pub mod HandLemmas
 pub mod RunLemmas
 pub mod GrowLemmas

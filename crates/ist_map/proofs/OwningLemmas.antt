@@ -10,7 +10,7 @@ use Rattle.ist_core.specs.Map.{Map, key_of, map_after}
 use Rattle.ist_core.specs.Histories.{IsLegal}
 use Rattle.ist_core.specs.Replies.{Answered}
 use Rattle.laws_histories.proofs.MapLemmas.{same_head, same_tail}
-use Rattle.ist_map.specs.Interleaving.{Owned, IsMadeOf, told_to_pass}
+use Rattle.ist_reopen.specs.Interleaving.{Owned, IsMadeOf, told_to_pass}
 use Rattle.ist_map.specs.Owning.{is_about, value_after, ReadBack, OnlyGets}
 
 -- a command about another key leaves this one's value

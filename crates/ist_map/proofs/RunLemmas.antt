@@ -16,13 +16,13 @@ use Rattle.ist_rest.specs.Standings.{Stands}
 use Rattle.ist_rest.proofs.MapLemmas.{hold_map}
 use Rattle.ist_tree.specs.Faces.{MakerFace}
 use Rattle.ist_tree.specs.Closing.{ClosesWith, calls_taken, told_to}
-use Rattle.ist_map.specs.Generations.{Generation, generation_of, FollowOn, pairs_left, history}
-use Rattle.ist_map.specs.Interleaving.{calls_of, told_over}
+use Rattle.ist_reopen.specs.Generations.{Generation, generation_of, FollowOn, pairs_left, history}
+use Rattle.ist_reopen.specs.Interleaving.{calls_of, told_over}
 use Rattle.ist_map.specs.Hands.{HaveWorked}
 use Rattle.ist_map.specs.Growing.{HaveDoubled, tree_words, asked_after}
 use Rattle.ist_map.specs.Running.{HasRunOn, HasRunTo, IsOneHistory}
-use Rattle.ist_map.proofs.GenerationLemmas.{closed_is, history_legal, history_leads}
-use Rattle.ist_map.proofs.PassLemmas.{made_over}
+use Rattle.ist_reopen.proofs.GenerationLemmas.{closed_is, history_legal, history_leads}
+use Rattle.ist_reopen.proofs.PassLemmas.{made_over}
 
 -- trees that follow others, which lead to where these begin, follow on from where the others began
 pub follow-append : (first middle last : List Pair) (gs hs : List Generation)

@@ -6,9 +6,9 @@ use Rattle.ist_rest.specs.RestingWords.{HoldPairs}
 use Rattle.ist_tree.specs.declared.faults.OpenFault.{OpenFault}
 use Rattle.ist_tree.specs.declared.faults.OpenFault.TheVariants as opening
 use Rattle.ist_tree.specs.Opening.{words_for}
-use Rattle.ist_map.specs.declared.faults.ReopenFault.{ReopenFault}
-use Rattle.ist_map.specs.declared.faults.ReopenFault.TheVariants.{Beyond, Small, Memory}
-use Rattle.ist_map.specs.Generations.{Generation}
+use Rattle.ist_reopen.specs.declared.faults.ReopenFault.{ReopenFault}
+use Rattle.ist_reopen.specs.declared.faults.ReopenFault.TheVariants.{Beyond, Small, Memory}
+use Rattle.ist_reopen.specs.Generations.{Generation}
 
 -- how many words a tree of these pairs has if this many are asked for: as many, or as many as the
 -- pairs take if these are more

@@ -1,7 +1,4 @@
 -- what the public contracts rest on, in the order to read them
-pub mod Generations
-pub mod Interleaving
-pub mod Reopening
 pub mod Growing
 pub mod Hands
 pub mod Running

@@ -7,7 +7,7 @@ use Rattle.ist_core.specs.Elements.{Each}
 use Rattle.ist_core.specs.Map.{Map, key_of}
 use Rattle.ist_core.specs.Histories.{IsLegal}
 use Rattle.ist_core.specs.Replies.{Answered}
-use Rattle.ist_map.specs.Interleaving.{IsMadeOf}
+use Rattle.ist_reopen.specs.Interleaving.{IsMadeOf}
 
 -- is the call about this key?
 abbrev pub is_about : ℕ → Answered → Bool

@@ -8,11 +8,11 @@ use Rattle.ist_core.specs.RowLayout.{place_limit}
 use Rattle.ist_core.specs.Replies.{Answered}
 use Rattle.ist_rest.specs.RestingWords.{HoldPairs}
 use Rattle.ist_tree.specs.Faces.{TreeFace, MakerFace}
-use Rattle.ist_map.specs.declared.faults.ReopenFault.{ReopenFault}
-use Rattle.ist_map.specs.Generations.{Generation, FollowOn, map_told}
+use Rattle.ist_reopen.specs.declared.faults.ReopenFault.{ReopenFault}
+use Rattle.ist_reopen.specs.Generations.{Generation, FollowOn, map_told}
 use Rattle.ist_map.specs.Growing.{tree_words, HaveDoubled, asked_after, IsGrowFault}
-use Rattle.ist_map.specs.Interleaving.{IsMadeOf, told_over}
-use Rattle.ist_map.specs.Reopening.{OpensAfter}
+use Rattle.ist_reopen.specs.Interleaving.{IsMadeOf, told_over}
+use Rattle.ist_reopen.specs.Reopening.{OpensAfter}
 
 -- the workers ran on trees that follow one another: the first begins with exactly the pairs that the
 -- words `first` hold, each other one with those that the tree before it left, and `last` holds what

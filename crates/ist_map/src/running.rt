@@ -9,11 +9,10 @@ ghost use Rattle.ist_tree.specs.Opening.{IsNewTree};
 ghost use Rattle.ist_map.specs.Growing.{IsFirstFault, IsGrowFault};
 ghost use Rattle.ist_map.specs.Running.{HasRunOn, HasRunTo, HasStopped, OpensEnough};
 
-use crate::faults::ReopenFault;
 use crate::hands::{Hand, Worker, dismiss_all, has_refused, hire_all, work_all};
-use crate::reopening::{MOST_WORDS, open_after};
 use ist_core::Pair;
 use ist_image::Image;
+use ist_reopen::{MOST_WORDS, ReopenFault, open_after};
 use ist_rest::Closed;
 use ist_tree::{Maker, OpenFault, Tree};
 use std::alloc::{AllocError, Global};

@@ -11,5 +11,5 @@ pub returns-in-Err : goal.returns-in-Err
 returns-in-Err c =
     record {
       opens = subst (Opens c.args.closed c.args.words (of.Closed c.args.closed)) (sym c.status_for.ensures.value)
-          (opens_none c.in-Err.fault c.in-Err.ensures.fault);
+          (opens_none c.in-Err.fault c.requires.within c.in-Err.ensures.fault);
     }

@@ -4,8 +4,8 @@ use Rattle.ist_c.specs.Closing.{none_reopens}
 use Rattle.ist_c.proofs.CloseLemmas.{reopened_owner, reopened_busy, reopened_closed, reopened_other}
 use Rattle.ist_c.proofs.close_calls.reopen_in.Goals as goal
 
-pub returns-then-words-gt-WORDS_LIMIT : goal.returns-then-words-gt-WORDS_LIMIT
-returns-then-words-gt-WORDS_LIMIT c = record { reopens = none_reopens c.args.held.now c.args.words }
+pub returns-then-words-gt-MOST_WORDS : goal.returns-then-words-gt-MOST_WORDS
+returns-then-words-gt-MOST_WORDS c = record { reopens = none_reopens c.args.held.now c.args.words }
 
 pub returns-in-Ok : goal.returns-in-Ok
 returns-in-Ok c =

@@ -1,19 +1,20 @@
 -- The handle holds the owner of a new tree, or is as before.
-use Rattle.std.proofs.Common.{arith, inl, inr, sym, subst}
+use Rattle.std.proofs.Common.{arith, inl, inr, sym, ap, subst, ◌∙◌}
+use Rattle.ist_c.specs.Closing.{status_of}
 use Rattle.ist_c.specs.Opening.{OpensNew, opens_misuse}
 use Rattle.ist_c.proofs.OpenLemmas.{opened_one, opened_none}
 use Rattle.ist_c.proofs.tree_calls.open_owner.Goals as goal
 use Rattle.ist_c.proofs.tree_calls.open_owner.Goals.{
-  then-words-gt-WORDS_LIMIT-via-then-words-gt-WORDS_LIMIT,
-  then-words-gt-WORDS_LIMIT-via-else-words-gt-WORDS_LIMIT+then-pairs-gt-PAIRS_LIMIT,
+  then-words-gt-MOST_WORDS-via-then-words-gt-MOST_WORDS,
+  then-words-gt-MOST_WORDS-via-else-words-gt-MOST_WORDS+then-pairs-gt-PAIRS_LIMIT,
 }
 
-pub returns-then-words-gt-WORDS_LIMIT : goal.returns-then-words-gt-WORDS_LIMIT
-returns-then-words-gt-WORDS_LIMIT c =
+pub returns-then-words-gt-MOST_WORDS : goal.returns-then-words-gt-MOST_WORDS
+returns-then-words-gt-MOST_WORDS c =
     record {
-      opens = opens_misuse c.args.out.now (elim c.then-words-gt-WORDS_LIMIT.branch [
-        | then-words-gt-WORDS_LIMIT-via-then-words-gt-WORDS_LIMIT w ↦ inl w.if-words-gt-WORDS_LIMIT.true
-        | then-words-gt-WORDS_LIMIT-via-else-words-gt-WORDS_LIMIT+then-pairs-gt-PAIRS_LIMIT w ↦
+      opens = opens_misuse c.args.out.now (elim c.then-words-gt-MOST_WORDS.branch [
+        | then-words-gt-MOST_WORDS-via-then-words-gt-MOST_WORDS w ↦ inl w.if-words-gt-MOST_WORDS.true
+        | then-words-gt-MOST_WORDS-via-else-words-gt-MOST_WORDS+then-pairs-gt-PAIRS_LIMIT w ↦
             let many = w.if-pairs-gt-PAIRS_LIMIT.true in inr (omega arith)
       ]);
     }
@@ -29,6 +30,6 @@ pub returns-in-Err : goal.returns-in-Err
 returns-in-Err c =
     record {
       opens = subst (OpensNew c.args.words c.args.pairs.now c.args.out.now c.args.out.now)
-          (sym c.status_for.ensures.value)
+          (sym (c.status_for.ensures.value ∙ ap status_of c.from.ensures))
           (opened_none c.args.words c.args.pairs.now c.args.out.now c.in-Err.fault c.in-Err.ensures.fault);
     }

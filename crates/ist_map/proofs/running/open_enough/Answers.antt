@@ -1,5 +1,5 @@
 use Rattle.std.proofs.Common.{rules, subst}
-use Rattle.ist_map.specs.Reopening.{IsReopenFaultOf}
+use Rattle.ist_reopen.specs.Reopening.{IsReopenFaultOf}
 use Rattle.ist_map.proofs.GrowLemmas.{enough_opened, not_enough_opened}
 use Rattle.ist_map.proofs.running.open_enough.Goals as goal
 

@@ -1,7 +1,7 @@
 //! Why a closed tree isn't followed by another one.
 ghost use Rattle.std.specs.Prelude.{◌≡◌};
-ghost use Rattle.ist_map.specs.declared.faults.ReopenFault.TheVariants.{Memory};
-ghost use Rattle.ist_map.specs.Reopening.{as_reopen};
+ghost use Rattle.ist_reopen.specs.declared.faults.ReopenFault.TheVariants.{Memory};
+ghost use Rattle.ist_reopen.specs.Reopening.{as_reopen};
 
 use ist_rest::Closed;
 use ist_tree::OpenFault;

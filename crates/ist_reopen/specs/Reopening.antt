@@ -12,9 +12,9 @@ use Rattle.ist_tree.specs.declared.faults.OpenFault.TheVariants as opening
 use Rattle.ist_tree.specs.Faces.{TreeFace, MakerFace}
 use Rattle.ist_tree.specs.Opening.{IsNewTree, words_for}
 use Rattle.ist_tree.specs.Closing.{ClosesWith}
-use Rattle.ist_map.specs.declared.faults.ReopenFault.{ReopenFault}
-use Rattle.ist_map.specs.declared.faults.ReopenFault.TheVariants.{Beyond, Small, Memory}
-use Rattle.ist_map.specs.Generations.{generation_of, pairs_left}
+use Rattle.ist_reopen.specs.declared.faults.ReopenFault.{ReopenFault}
+use Rattle.ist_reopen.specs.declared.faults.ReopenFault.TheVariants.{Beyond, Small, Memory}
+use Rattle.ist_reopen.specs.Generations.{generation_of, pairs_left}
 
 -- the tree is a new one of the pairs that the closed words hold. Whatever pairs and calls these
 -- words represent, they are the pairs of the map after the changes

@@ -9,7 +9,7 @@ use Rattle.ist_rest.specs.RestingWords.{HoldPairs}
 use Rattle.ist_tree.specs.Faces.{TreeFace, MakerFace}
 use Rattle.ist_tree.specs.Opening.{IsNewTree}
 use Rattle.ist_tree.specs.Closing.{ClosesWith, told_to}
-use Rattle.ist_map.specs.Reopening.{OpensAfter, BeginsAfter}
+use Rattle.ist_reopen.specs.Reopening.{OpensAfter, BeginsAfter}
 
 -- a new tree of the pairs that were found in closed words
 pub opens_after : (closed : List ℕ) (words : ℕ) (given found : List Pair) (tree : TreeFace)

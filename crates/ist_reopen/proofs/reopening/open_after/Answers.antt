@@ -1,8 +1,8 @@
 use Rattle.std.proofs.Common.{◌<◌, ◌^◌, length, map, sym, subst}
 use Rattle.std.specs.List.Sorted.{IsStrictlyIncreasing}
-use Rattle.ist_map.proofs.FewLemmas.{found_few, found_rise}
-use Rattle.ist_map.proofs.ReopenLemmas.{opens_after}
-use Rattle.ist_map.proofs.reopening.open_after.Goals as goal
+use Rattle.ist_reopen.proofs.FewLemmas.{found_few, found_rise}
+use Rattle.ist_reopen.proofs.ReopenLemmas.{opens_after}
+use Rattle.ist_reopen.proofs.reopening.open_after.Goals as goal
 
 -- the pairs that closed words hold are few, and in order
 pub open_over-requires-clause-rising : goal.open_over-requires-clause-rising

@@ -17,9 +17,9 @@ use Rattle.laws_histories.proofs.MapLemmas.{legal_append}
 use Rattle.laws_histories.proofs.WovenLemmas.{taken_legal}
 use Rattle.ist_tree.specs.Faces.{MakerFace}
 use Rattle.ist_tree.specs.Closing.{ClosesWith, calls_from}
-use Rattle.ist_map.specs.Generations.{Generation, generation_of, IsGeneration, FollowOn, history}
-use Rattle.ist_map.specs.Generations.{changes_in, history_in, pairs_left, map_told}
-use Rattle.ist_map.proofs.HistoryLemmas.{told-append, woven_leads}
+use Rattle.ist_reopen.specs.Generations.{Generation, generation_of, IsGeneration, FollowOn, history}
+use Rattle.ist_reopen.specs.Generations.{changes_in, history_in, pairs_left, map_told}
+use Rattle.ist_reopen.proofs.HistoryLemmas.{told-append, woven_leads}
 
 -- there is a list of calls for each number
 calls_long : (number count : ℕ) (taken : List PassCalls)

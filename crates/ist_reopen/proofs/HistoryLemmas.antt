@@ -9,7 +9,7 @@ use Rattle.ist_core.specs.Histories.{PassCalls, Reading, readings, in_order, at_
 use Rattle.ist_core.specs.Replies.{Answered}
 use Rattle.laws_histories.proofs.MapLemmas.{same_head, same_tail, replay-append, no_entry_leaves}
 use Rattle.laws_histories.proofs.WovenLemmas.{among-in_order, of_passes}
-use Rattle.ist_map.specs.Generations.{map_told}
+use Rattle.ist_reopen.specs.Generations.{map_told}
 
 -- the map after two histories is the map after the second on the map after the first
 pub told-append : (m : Map) (xs ys : List Answered)

@@ -9,11 +9,11 @@ use Rattle.ist_core.specs.Changes.{Entry}
 use Rattle.ist_core.specs.Standing.{is_change, entry_by, entries_by, AllFollow}
 use Rattle.ist_core.specs.Histories.{Reading, at_position, told_by_entry, told_by_reading}
 use Rattle.ist_core.specs.Resting.{told_by_call}
-use Rattle.ist_map.specs.Interleaving.{told_to_pass}
-use Rattle.ist_map.proofs.OwnedLemmas.{own_entry, own_reading, owned_from, mine, told_to-append, told_at_position}
-use Rattle.ist_map.proofs.SplitLemmas.{read_by, reads_at, Rest, Splits, splits, here_changes, here_reads, other_reads}
-use Rattle.ist_map.proofs.SplitLemmas.Rest.{later, changes}
-use Rattle.ist_map.proofs.CountLemmas.{MadeAt, shift_made, changes_few}
+use Rattle.ist_reopen.specs.Interleaving.{told_to_pass}
+use Rattle.ist_reopen.proofs.OwnedLemmas.{own_entry, own_reading, owned_from, mine, told_to-append, told_at_position}
+use Rattle.ist_reopen.proofs.SplitLemmas.{read_by, reads_at, Rest, Splits, splits, here_changes, here_reads, other_reads}
+use Rattle.ist_reopen.proofs.SplitLemmas.Rest.{later, changes}
+use Rattle.ist_reopen.proofs.CountLemmas.{MadeAt, shift_made, changes_few}
 
 module _ (number : ℕ) where
   -- the calls are placed among the entries and readings from this position on

@@ -7,7 +7,7 @@ use Rattle.std.proofs.lemmas.List.Elements.{filter-append}
 use Rattle.ist_core.specs.Elements.{Each}
 use Rattle.ist_core.specs.Changes.{Entry}
 use Rattle.ist_core.specs.Histories.{Reading, comes_first, put_in, in_order, at_position, told_by_entry, told_by_reading, woven_from}
-use Rattle.ist_map.specs.Interleaving.{Owned, told_to_pass}
+use Rattle.ist_reopen.specs.Interleaving.{Owned, told_to_pass}
 
 -- an entry and a reading with their owners
 abbrev pub own_entry : Entry → Owned

@@ -3,7 +3,7 @@ use Rattle.std.specs.Prelude.{◌≡◌, ℕ, ◌==◌, List, [], ◌∷◌, ◌
 use Rattle.ist_core.specs.declared.calls.Call.{Call}
 use Rattle.ist_core.specs.Replies.{Answered}
 use Rattle.ist_core.specs.Resting.{told_by_call}
-use Rattle.ist_map.specs.Generations.{Generation}
+use Rattle.ist_reopen.specs.Generations.{Generation}
 
 -- an answered call, with the number of the pass that made it
 pub record Owned : Type 0 where

@@ -2,7 +2,7 @@
 ghost use Rattle.std.specs.Prelude.{◌≡◌, ◌≤◌, length, IfOk, IfErr, OnOk};
 ghost use Rattle.ist_core.specs.RowLayout.{place_limit};
 ghost use Rattle.ist_tree.specs.Closing.{ClosesWith};
-ghost use Rattle.ist_map.specs.Reopening.{OpensAfter, BeginsAfter, IsReopenFaultOf};
+ghost use Rattle.ist_reopen.specs.Reopening.{OpensAfter, BeginsAfter, IsReopenFaultOf};
 
 use crate::faults::{NotReopened, ReopenFault};
 use ist_image::Image;
@@ -53,6 +53,7 @@ pub fn reopen(
     requires all_back { length maker.taken ≡ maker.made }
     ensures follows { IfOk result (λ t. BeginsAfter maker words t.0 t.1) }
     ensures kept { IfErr result (λ n. ClosesWith maker n.closed) }
+    ensures size { IfErr result (λ n. length n.closed ≡ maker.tree.words) }
     ensures fault { IfErr result (λ n. IsReopenFaultOf n.closed words n.fault) }
 {
     let closed = tree.close(maker);

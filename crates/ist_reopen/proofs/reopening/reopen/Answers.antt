@@ -1,7 +1,7 @@
 use Rattle.std.proofs.Common.{◌∙◌, ap, sym}
 use Rattle.ist_tree.specs.Faces.{TreeFace}
-use Rattle.ist_map.proofs.ReopenLemmas.{follows}
-use Rattle.ist_map.proofs.reopening.reopen.Goals as goal
+use Rattle.ist_reopen.proofs.ReopenLemmas.{follows}
+use Rattle.ist_reopen.proofs.reopening.reopen.Goals as goal
 
 -- the tree was opened over the words that were closed with this maker
 pub returns-in-Ok-clause-follows : goal.returns-in-Ok-clause-follows

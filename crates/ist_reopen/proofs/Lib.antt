@@ -1,0 +1,9 @@
+pub mod FewLemmas
+pub mod ReopenLemmas
+pub mod HistoryLemmas
+pub mod GenerationLemmas
+pub mod OwnedLemmas
+pub mod SplitLemmas
+pub mod CountLemmas
+pub mod LaidLemmas
+pub mod PassLemmas
