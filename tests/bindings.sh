@@ -40,13 +40,13 @@ ends() {
     exit
 }
 
-# The functions with the types of their parameters, the structs and the statuses: as the crate exports them, and as C and Rust
-# declare them.
+# The functions with the types of their parameters, the structs and the statuses: as the crate exports them (ist_handles has its
+# structs and statuses), and as C and Rust declare them.
 crate=$here/crates/ist_c
 exports() {
     python3 "$here/tests/exports.py" "$@"
 }
-exports rattle "$crate"/src/*.rt >"$all/rattle"
+exports rattle "$crate"/src/*.rt "$here"/crates/ist_handles/src/*.rt >"$all/rattle"
 exports c "$crate/include/ist.h" >"$all/c"
 exports rust "$here/bindings/rust/src/ffi.rs" >"$all/rust"
 well 'there are exports' grep -q '^ist_find(' "$all/rattle"

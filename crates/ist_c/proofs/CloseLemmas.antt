@@ -3,13 +3,13 @@ use Rattle.std.proofs.Common.{◌≡◌, ℕ, length, Result, Ok, Err, IfOk, IfE
 use Rattle.std.specs.Arc.{arc_value}
 use Rattle.ist_tree.specs.Closing.{ClosesWith}
 use Rattle.ist_reopen.proofs.ReopenLemmas.{follows}
-use Rattle.ist_c.specs.declared.closed_trees.ClosedTree.{ClosedTree}
-use Rattle.ist_c.specs.declared.held.Held.{Held}
-use Rattle.ist_c.specs.declared.held.Held.TheVariants as of
-use Rattle.ist_c.specs.declared.owners.TreeOwner.{TreeOwner}
+use Rattle.ist_handles.specs.declared.closed_trees.ClosedTree.{ClosedTree}
+use Rattle.ist_handles.specs.declared.held.Held.{Held}
+use Rattle.ist_handles.specs.declared.held.Held.TheVariants as of
+use Rattle.ist_handles.specs.declared.owners.TreeOwner.{TreeOwner}
 use Rattle.ist_c.specs.Closing.{Leaves, Closes, owner_closes, closed_leaves, is_busy, no_owner}
 use Rattle.ist_c.specs.Closing.{Opens, opens_owner, opens_none, Reopens, owner_reopens, owner_closed, owner_busy, closed_opens, closed_stays, none_reopens}
-use Rattle.ist_c.specs.Results.{busy, misuse}
+use Rattle.ist_handles.specs.Results.{busy, misuse}
 
 -- ---- the owner's tree
 

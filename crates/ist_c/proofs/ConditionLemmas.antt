@@ -6,12 +6,12 @@ use Rattle.ist_core.specs.declared.ports.Full.{Full}
 use Rattle.ist_updates.specs.Asking.{command_for}
 use Rattle.ist_tree.specs.Calls.{HasSeenMore, AddsCall}
 use Rattle.ist_tree.specs.Refusals.{IsRefused}
-use Rattle.ist_c.specs.declared.results.CallResult.{CallResult}
-use Rattle.ist_c.specs.declared.results.Shortage.{Shortage}
-use Rattle.ist_c.specs.declared.held.Held.{Held}
-use Rattle.ist_c.specs.declared.held.Held.TheVariants as of
-use Rattle.ist_c.specs.declared.passes.TreePass.{TreePass}
-use Rattle.ist_c.specs.Results.{done, full, reply_of, full_of}
+use Rattle.ist_handles.specs.declared.results.CallResult.{CallResult}
+use Rattle.ist_handles.specs.declared.results.Shortage.{Shortage}
+use Rattle.ist_handles.specs.declared.held.Held.{Held}
+use Rattle.ist_handles.specs.declared.held.Held.TheVariants as of
+use Rattle.ist_handles.specs.declared.passes.TreePass.{TreePass}
+use Rattle.ist_handles.specs.Results.{done, full, reply_of, full_of}
 use Rattle.ist_c.proofs.CallLemmas.{not_called}
 use Rattle.ist_c.specs.Conditions.{UpdatesIf, pass_updates_if, pass_refused_if}
 

@@ -1,41 +1,17 @@
 -- What is written of the pairs that are left. Serves `ist_list` and `ist_count`.
-use Rattle.std.proofs.Common.{◌≡◌, ℕ, zero, suc, ◌+◌, ◌-◌, ◌<◌, ◌≤◌, List, [], ◌∷◌, ◌++◌, length, map, take, drop, drop-cons, slice_index_or, slice_set, refl, sym, ap, subst, ◌∙◌, arith}
+use Rattle.std.proofs.Common.{◌≡◌, ℕ, ◌-◌, ◌≤◌, List, [], ◌∷◌, length, take, drop, refl, sym, ap, subst, ◌∙◌, arith}
 use Rattle.std.proofs.lemmas.List.{drop_all, length-drop, take_all}
 use Rattle.ist_core.specs.declared.pairs.Pair.{Pair}
-use Rattle.ist_c.specs.Entries.{entry_of, written}
+use Rattle.ist_handles.specs.Entries.{written}
 use Rattle.ist_c.specs.Listing.{ListsLeft, CountsLeft, lists_left, counts_left}
-use Rattle.ist_c.specs.Results.{done}
-use Rattle.ist_c.specs.declared.closed_trees.LeftPairs.{LeftPairs}
-use Rattle.ist_c.specs.declared.entries.Entry.{Entry}
-use Rattle.ist_c.specs.declared.held.Held.{Held}
-use Rattle.ist_c.specs.declared.held.Held.TheVariants as of
-use Rattle.ist_c.specs.declared.results.Stats.{Stats}
+use Rattle.ist_handles.specs.Results.{done}
+use Rattle.ist_handles.specs.declared.closed_trees.LeftPairs.{LeftPairs}
+use Rattle.ist_handles.specs.declared.entries.Entry.{Entry}
+use Rattle.ist_handles.specs.declared.held.Held.{Held}
+use Rattle.ist_handles.specs.declared.held.Held.TheVariants as of
+use Rattle.ist_handles.specs.declared.results.Stats.{Stats}
 
 -- ---- entries
-
--- the room after the first pairs were written
-abbrev pub part : ℕ → List Pair → List Entry → List Entry
-part at pairs room = map entry_of (take at pairs) ++ drop at room
-
-part_next : (pairs : List Pair) (room : List Entry) (at : ℕ) (other : Pair) → at < length pairs
-    → at < length room
-    → slice_set (part at pairs room) at (entry_of (slice_index_or pairs at other)) ≡ part (suc at) pairs room
-part_next [] room at other some within = absurd (omega arith)
-part_next (p ∷ pairs) [] at other some within = absurd (omega arith)
-part_next (p ∷ pairs) (e ∷ room) zero other some within = refl
-part_next (p ∷ pairs) (e ∷ room) (suc at) other some within =
-    ap (λ es. entry_of p ∷ es) (part_next pairs room at other (omega arith) (omega arith))
-
--- one more pair is written after them
-pub part_more : (pairs : List Pair) (room now : List Entry) (at : ℕ) (other : Pair) → now ≡ part at pairs room
-    → at < length pairs → at < length room
-    → slice_set now at (entry_of (slice_index_or pairs at other)) ≡ part (at + 1) pairs room
-part_more pairs room now at other is some within =
-    let same : suc at ≡ at + 1 = omega arith in
-    let entry : Entry = entry_of (slice_index_or pairs at other) in
-    ap (λ es. slice_set es at entry) is
-    ∙ subst (λ n. slice_set (part at pairs room) at entry ≡ part n pairs room) same
-    (part_next pairs room at other some within)
 
 nothing_written : (room : List Entry) → room ≡ written [] room
 nothing_written [] = refl

@@ -1,10 +1,8 @@
 pub mod CallLemmas
 pub mod CloseLemmas
-pub mod SendLemmas
 pub mod ConditionLemmas
 pub mod LeftLemmas
 pub mod NoteLemmas
 pub mod OpenLemmas
 pub mod PassLemmas
 pub mod ReadLemmas
-pub mod ValueLemmas

@@ -1,15 +1,14 @@
 -- What a pass behind a handle noted and learnt.
 use Rattle.std.proofs.Common.{◌≡◌, ℕ, sym, subst}
-use Rattle.std.specs.Arc.{arc_value}
 use Rattle.ist_tree.specs.Faces.{noted}
-use Rattle.ist_c.specs.declared.handles.Handle.{Handle}
-use Rattle.ist_c.specs.declared.held.Held.{Held}
-use Rattle.ist_c.specs.declared.held.Held.TheVariants as of
-use Rattle.ist_c.specs.declared.passes.TreeNote.{TreeNote}
-use Rattle.ist_c.specs.declared.passes.TreePass.{TreePass}
+use Rattle.ist_handles.specs.declared.handles.Handle.{Handle}
+use Rattle.ist_handles.specs.declared.held.Held.{Held}
+use Rattle.ist_handles.specs.declared.held.Held.TheVariants as of
+use Rattle.ist_handles.specs.declared.passes.TreeNote.{TreeNote}
+use Rattle.ist_handles.specs.declared.passes.TreePass.{TreePass}
 use Rattle.ist_c.specs.Keeping.{Keeps}
 use Rattle.ist_c.specs.Notes.{IsSamePass, HasMet, Notes, Meets, notes_pass, notes_none, meets_note}
-use Rattle.ist_c.specs.Results.{done, memory}
+use Rattle.ist_handles.specs.Results.{done, memory}
 
 -- a note of a pass behind a handle is kept by the other handle, or there is no memory for that
 pub noted_one : (held : Held) (p q : TreePass) (n : TreeNote) (before out : Handle) (status : ℕ)

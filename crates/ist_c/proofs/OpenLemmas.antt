@@ -1,5 +1,5 @@
 -- What a handle holds after a tree was opened. Serves `ist_open`.
-use Rattle.std.proofs.Common.{◌≡◌, ℕ, ◌<◌, List, subst}
+use Rattle.std.proofs.Common.{ℕ, ◌<◌, List, subst}
 use Rattle.std.specs.Arc.{arc_value}
 use Rattle.ist_core.specs.declared.pairs.Pair.{Pair}
 use Rattle.ist_tree.specs.Opening.{IsNewTree, IsFaultOf}
@@ -9,9 +9,9 @@ use Rattle.ist_reopen.specs.Reopening.{as_reopen}
 use Rattle.ist_c.specs.Closing.{status_of}
 use Rattle.ist_c.specs.Keeping.{Keeps, keeps_it, keeps_none}
 use Rattle.ist_c.specs.Opening.{OpensNew, opens_new, opens_small, opens_memory}
-use Rattle.ist_c.specs.declared.handles.Handle.{Handle}
-use Rattle.ist_c.specs.declared.held.Held.TheVariants as of
-use Rattle.ist_c.specs.declared.owners.TreeOwner.{TreeOwner}
+use Rattle.ist_handles.specs.declared.handles.Handle.{Handle}
+use Rattle.ist_handles.specs.declared.held.Held.TheVariants as of
+use Rattle.ist_handles.specs.declared.owners.TreeOwner.{TreeOwner}
 
 -- a handle that keeps the owner of a new tree holds it, or is as before
 pub opened_one : (words : ℕ) (pairs : List Pair) (owner : TreeOwner) (before after : Handle) (status : ℕ)

@@ -1,12 +1,12 @@
 -- What an owner behind a handle made and took back.
 use Rattle.std.proofs.Common.{◌≡◌, true, sym, subst}
 use Rattle.std.specs.Arc.{arc_value}
-use Rattle.ist_c.specs.declared.handles.Handle.{Handle}
-use Rattle.ist_c.specs.declared.held.Held.{Held}
-use Rattle.ist_c.specs.declared.held.Held.TheVariants as of
-use Rattle.ist_c.specs.declared.owners.TreeOwner.{TreeOwner}
-use Rattle.ist_c.specs.declared.passes.TreePass.{TreePass}
-use Rattle.ist_c.specs.Results.{done, memory}
+use Rattle.ist_handles.specs.declared.handles.Handle.{Handle}
+use Rattle.ist_handles.specs.declared.held.Held.{Held}
+use Rattle.ist_handles.specs.declared.held.Held.TheVariants as of
+use Rattle.ist_handles.specs.declared.owners.TreeOwner.{TreeOwner}
+use Rattle.ist_handles.specs.declared.passes.TreePass.{TreePass}
+use Rattle.ist_handles.specs.Results.{done, memory}
 use Rattle.ist_c.specs.Passes.{HasMade, HasTakenBack, Makes, TakesBack, makes_pass, makes_none, takes_pass}
 
 -- a handle of an owner that made a pass still holds the owner, and the other handle the pass

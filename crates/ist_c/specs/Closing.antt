@@ -6,13 +6,13 @@ use Rattle.ist_tree.specs.Closing.{ClosesWith}
 use Rattle.ist_reopen.specs.declared.faults.ReopenFault.{ReopenFault}
 use Rattle.ist_reopen.specs.declared.faults.ReopenFault.TheVariants.{Beyond, Small, Memory}
 use Rattle.ist_reopen.specs.Reopening.{OpensAfter, BeginsAfter, IsReopenFaultOf}
-use Rattle.ist_c.specs.declared.closed_trees.ClosedTree.{ClosedTree}
-use Rattle.ist_c.specs.declared.closed_trees.LeftPairs.{LeftPairs}
-use Rattle.ist_c.specs.declared.held.Held.{Held}
-use Rattle.ist_c.specs.declared.held.Held.TheVariants as of
-use Rattle.ist_c.specs.declared.owners.TreeOwner.{TreeOwner}
-use Rattle.ist_c.specs.Leaving.{IsLeft}
-use Rattle.ist_c.specs.Results.{done, memory, small, busy, misuse}
+use Rattle.ist_handles.specs.declared.closed_trees.ClosedTree.{ClosedTree}
+use Rattle.ist_handles.specs.declared.closed_trees.LeftPairs.{LeftPairs}
+use Rattle.ist_handles.specs.declared.held.Held.{Held}
+use Rattle.ist_handles.specs.declared.held.Held.TheVariants as of
+use Rattle.ist_handles.specs.declared.owners.TreeOwner.{TreeOwner}
+use Rattle.ist_handles.specs.Leaving.{IsLeft}
+use Rattle.ist_handles.specs.Results.{done, memory, small, busy, misuse}
 
 -- ---- closing
 

@@ -4,13 +4,13 @@ use Rattle.std.specs.Arc.{arc_value}
 use Rattle.ist_core.specs.declared.commands.Command.TheVariants.{Get}
 use Rattle.ist_updates.specs.Asking.{command_for}
 use Rattle.ist_tree.specs.Calls.{HasSeenMore, AddsCall}
-use Rattle.ist_c.specs.declared.results.CallResult.{CallResult}
-use Rattle.ist_c.specs.declared.results.Shortage.{Shortage}
-use Rattle.ist_c.specs.declared.held.Held.{Held}
-use Rattle.ist_c.specs.declared.held.Held.TheVariants as of
-use Rattle.ist_c.specs.declared.passes.TreePass.{TreePass}
+use Rattle.ist_handles.specs.declared.results.CallResult.{CallResult}
+use Rattle.ist_handles.specs.declared.results.Shortage.{Shortage}
+use Rattle.ist_handles.specs.declared.held.Held.{Held}
+use Rattle.ist_handles.specs.declared.held.Held.TheVariants as of
+use Rattle.ist_handles.specs.declared.passes.TreePass.{TreePass}
 use Rattle.ist_c.specs.Calls.{HasNotCalled}
-use Rattle.ist_c.specs.Results.{done, full, misuse, reply_of, full_of}
+use Rattle.ist_handles.specs.Results.{done, full, misuse, reply_of, full_of}
 
 -- the pass is of the same tree, and made one call more, with this reply: if it is what was expected, an
 -- update of the key (a put of the value, or a remove if there is none), and else a get

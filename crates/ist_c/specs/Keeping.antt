@@ -1,8 +1,8 @@
 -- What a handle keeps.
 use Rattle.std.specs.Prelude.{◌≡◌, ℕ, true}
-use Rattle.ist_c.specs.declared.handles.Handle.{Handle}
-use Rattle.ist_c.specs.declared.held.Held.{Held}
-use Rattle.ist_c.specs.Results.{done, memory}
+use Rattle.ist_handles.specs.declared.handles.Handle.{Handle}
+use Rattle.ist_handles.specs.declared.held.Held.{Held}
+use Rattle.ist_handles.specs.Results.{done, memory}
 
 -- the handle holds this, or is as before if there is no memory for it
 pub data Keeps (held : Held) : Handle → Handle → ℕ → Type 0 where

@@ -1,12 +1,12 @@
 -- What a caller is told of the pairs that are left of a closed tree.
 use Rattle.std.specs.Prelude.{ℕ, List, drop, length}
-use Rattle.ist_c.specs.declared.entries.Entry.{Entry}
-use Rattle.ist_c.specs.declared.held.Held.{Held}
-use Rattle.ist_c.specs.declared.held.Held.TheVariants as of
-use Rattle.ist_c.specs.declared.closed_trees.LeftPairs.{LeftPairs}
-use Rattle.ist_c.specs.declared.results.Stats.{Stats}
-use Rattle.ist_c.specs.Entries.{written}
-use Rattle.ist_c.specs.Results.{done, misuse}
+use Rattle.ist_handles.specs.declared.entries.Entry.{Entry}
+use Rattle.ist_handles.specs.declared.held.Held.{Held}
+use Rattle.ist_handles.specs.declared.held.Held.TheVariants as of
+use Rattle.ist_handles.specs.declared.closed_trees.LeftPairs.{LeftPairs}
+use Rattle.ist_handles.specs.declared.results.Stats.{Stats}
+use Rattle.ist_handles.specs.Entries.{written}
+use Rattle.ist_handles.specs.Results.{done, misuse}
 
 -- by a handle of the pairs that are left, the room has those from this number on, as many as there is
 -- room for, and the count is that of all; by a handle of something else nothing is written

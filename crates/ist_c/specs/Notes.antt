@@ -3,13 +3,13 @@ use Rattle.std.specs.Prelude.{◌≡◌, ℕ, true}
 use Rattle.std.specs.Arc.{arc_value}
 use Rattle.ist_tree.specs.Calls.{HasSeenMore, HasLearnt, WeavesWith}
 use Rattle.ist_tree.specs.Faces.{noted}
-use Rattle.ist_c.specs.declared.handles.Handle.{Handle}
-use Rattle.ist_c.specs.declared.held.Held.{Held}
-use Rattle.ist_c.specs.declared.held.Held.TheVariants as of
-use Rattle.ist_c.specs.declared.passes.TreeNote.{TreeNote}
-use Rattle.ist_c.specs.declared.passes.TreePass.{TreePass}
+use Rattle.ist_handles.specs.declared.handles.Handle.{Handle}
+use Rattle.ist_handles.specs.declared.held.Held.{Held}
+use Rattle.ist_handles.specs.declared.held.Held.TheVariants as of
+use Rattle.ist_handles.specs.declared.passes.TreeNote.{TreeNote}
+use Rattle.ist_handles.specs.declared.passes.TreePass.{TreePass}
 use Rattle.ist_c.specs.Keeping.{Keeps}
-use Rattle.ist_c.specs.Results.{done, memory, misuse}
+use Rattle.ist_handles.specs.Results.{done, memory, misuse}
 
 -- the pass is the same, of the same tree
 pub record IsSamePass (p q : TreePass) : Type 0 where

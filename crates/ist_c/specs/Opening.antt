@@ -4,10 +4,10 @@ use Rattle.std.specs.Arc.{arc_value}
 use Rattle.ist_core.specs.RowLayout.{place_limit}
 use Rattle.ist_core.specs.declared.pairs.Pair.{Pair}
 use Rattle.ist_tree.specs.Opening.{IsNewTree, words_for}
-use Rattle.ist_c.specs.declared.handles.Handle.{Handle}
-use Rattle.ist_c.specs.declared.held.Held.TheVariants as of
-use Rattle.ist_c.specs.declared.owners.TreeOwner.{TreeOwner}
-use Rattle.ist_c.specs.Results.{done, memory, small, misuse}
+use Rattle.ist_handles.specs.declared.handles.Handle.{Handle}
+use Rattle.ist_handles.specs.declared.held.Held.TheVariants as of
+use Rattle.ist_handles.specs.declared.owners.TreeOwner.{TreeOwner}
+use Rattle.ist_handles.specs.Results.{done, memory, small, misuse}
 
 -- this is how many words a tree takes at least, of any pairs of this number
 abbrev pub AreWordsFor : ℕ → ℕ → Type 0

@@ -2,12 +2,12 @@
 use Rattle.std.specs.Prelude.{◌≡◌, ℕ, ◌+◌, [], ◌∷◌, true}
 use Rattle.std.specs.Arc.{arc_value}
 use Rattle.ist_tree.specs.Faces.{calls_in}
-use Rattle.ist_c.specs.declared.handles.Handle.{Handle}
-use Rattle.ist_c.specs.declared.held.Held.{Held}
-use Rattle.ist_c.specs.declared.held.Held.TheVariants as of
-use Rattle.ist_c.specs.declared.owners.TreeOwner.{TreeOwner}
-use Rattle.ist_c.specs.declared.passes.TreePass.{TreePass}
-use Rattle.ist_c.specs.Results.{done, memory, misuse}
+use Rattle.ist_handles.specs.declared.handles.Handle.{Handle}
+use Rattle.ist_handles.specs.declared.held.Held.{Held}
+use Rattle.ist_handles.specs.declared.held.Held.TheVariants as of
+use Rattle.ist_handles.specs.declared.owners.TreeOwner.{TreeOwner}
+use Rattle.ist_handles.specs.declared.passes.TreePass.{TreePass}
+use Rattle.ist_handles.specs.Results.{done, memory, misuse}
 
 -- the owner is of the same tree, and made one pass more: this one, which has made no call
 pub record HasMade (o q : TreeOwner) (p : TreePass) : Type 0 where

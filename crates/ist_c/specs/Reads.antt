@@ -6,13 +6,13 @@ use Rattle.ist_tree.specs.Faces.{PassFace}
 use Rattle.ist_live.specs.Reading.{HasOnlyRead}
 use Rattle.ist_live.specs.Ends.{IsNextUp, IsNextDown}
 use Rattle.ist_live.specs.Pieces.{IsPiece}
-use Rattle.ist_c.specs.declared.entries.Entry.{Entry}
-use Rattle.ist_c.specs.declared.pieces.Piece.{Piece}
-use Rattle.ist_c.specs.declared.held.Held.{Held}
-use Rattle.ist_c.specs.declared.held.Held.TheVariants as of
-use Rattle.ist_c.specs.declared.passes.TreePass.{TreePass}
-use Rattle.ist_c.specs.Entries.{pairs_in, Wrote, next_key}
-use Rattle.ist_c.specs.Results.{done, misuse}
+use Rattle.ist_handles.specs.declared.entries.Entry.{Entry}
+use Rattle.ist_handles.specs.declared.pieces.Piece.{Piece}
+use Rattle.ist_handles.specs.declared.held.Held.{Held}
+use Rattle.ist_handles.specs.declared.held.Held.TheVariants as of
+use Rattle.ist_handles.specs.declared.passes.TreePass.{TreePass}
+use Rattle.ist_handles.specs.Entries.{pairs_in, Wrote, next_key}
+use Rattle.ist_handles.specs.Results.{done, misuse}
 
 -- the pass is of the same tree, and made no call: it has only read
 pub record HasRead (p q : TreePass) : Type 0 where

@@ -3,11 +3,8 @@ ghost use Rattle.std.specs.Prelude.{◌≡◌, ◌≤◌, true};
 ghost use Rattle.ist_core.specs.RowLayout.{place_limit};
 ghost use Rattle.ist_c.specs.Closing.{Leaves, Closes, Opens, Reopens};
 
-use crate::closed_trees::ClosedTree;
-use crate::handles::Handle;
-use crate::held::Held;
-use crate::results::{BUSY, DONE, MEMORY, MISUSE};
 use crate::tree_calls::status_for;
+use ist_handles::{BUSY, ClosedTree, DONE, Handle, Held, MEMORY, MISUSE};
 use ist_reopen::MOST_WORDS;
 use std::alloc::Global;
 use std::mem;

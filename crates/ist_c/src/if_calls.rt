@@ -2,9 +2,7 @@
 ghost use Rattle.std.specs.Prelude.{◌≡◌, true, Some, None};
 ghost use Rattle.ist_c.specs.Conditions.{UpdatesIf};
 
-use crate::handles::Handle;
-use crate::held::Held;
-use crate::results::{CallResult, Shortage, misused, refused, replied};
+use ist_handles::{CallResult, Handle, Held, Shortage, misused, refused, replied};
 use std::alloc::Global;
 
 // Puts the value at the key by the pass, if the key has what is expected.

@@ -2,9 +2,7 @@
 ghost use Rattle.std.specs.Prelude.{◌≡◌, true, Some, None};
 ghost use Rattle.ist_c.specs.Calls.{FindsBy, UpdatesBy};
 
-use crate::handles::Handle;
-use crate::held::Held;
-use crate::results::{CallResult, Shortage, misused, refused, replied};
+use ist_handles::{CallResult, Handle, Held, Shortage, misused, refused, replied};
 use std::alloc::Global;
 
 // FindsBy the key by the pass.

@@ -2,10 +2,7 @@
 ghost use Rattle.std.specs.Prelude.{◌≡◌, true};
 ghost use Rattle.ist_c.specs.Listing.{ListsLeft, CountsLeft};
 
-use crate::entries::{Entry, write_entries};
-use crate::handles::Handle;
-use crate::held::Held;
-use crate::results::{DONE, MISUSE, Stats};
+use ist_handles::{DONE, Entry, Handle, Held, MISUSE, Stats, write_entries};
 use std::alloc::Global;
 
 // Writes the pairs from this number on.

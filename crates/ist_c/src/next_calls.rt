@@ -2,10 +2,7 @@
 ghost use Rattle.std.specs.Prelude.{◌≡◌, true};
 ghost use Rattle.ist_c.specs.Reads.{ReadsBy, up, down};
 
-use crate::entries::{Entry, write_pair};
-use crate::handles::Handle;
-use crate::held::Held;
-use crate::results::MISUSE;
+use ist_handles::{Entry, Handle, Held, MISUSE, write_pair};
 use std::alloc::Global;
 
 // Writes the pair with the least key that is at least `key`.

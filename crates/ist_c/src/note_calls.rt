@@ -3,10 +3,8 @@ ghost use Rattle.std.specs.Prelude.{◌≡◌, true, false};
 ghost use Rattle.ist_c.specs.Calls.{MayMeet};
 ghost use Rattle.ist_c.specs.Notes.{Notes, Meets};
 
-use crate::handles::Handle;
-use crate::held::Held;
-use crate::results::{DONE, MEMORY, MISUSE};
 use crate::tree_calls::keep;
+use ist_handles::{DONE, Handle, Held, MEMORY, MISUSE};
 use std::alloc::Global;
 
 // Makes `out` a note of the pass.

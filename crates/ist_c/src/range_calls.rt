@@ -2,11 +2,7 @@
 ghost use Rattle.std.specs.Prelude.{◌≡◌, true};
 ghost use Rattle.ist_c.specs.Reads.{ListsBy};
 
-use crate::entries::Entry;
-use crate::handles::Handle;
-use crate::held::Held;
-use crate::pieces::Piece;
-use crate::results::{DONE, MISUSE};
+use ist_handles::{DONE, Entry, Handle, Held, MISUSE, Piece};
 use std::alloc::Global;
 
 // Writes the pairs from `first` to `last`, as many as there is room for.

@@ -3,18 +3,16 @@ ghost use Rattle.std.specs.Prelude.{◌≡◌, ◌<◌, ◌≤◌, ◌^◌, true
 ghost use Rattle.plain_map.specs.Rising.{IsRising};
 ghost use Rattle.ist_c.specs.Calls.{MayGiveBack};
 ghost use Rattle.ist_c.specs.Closing.{status_of};
-ghost use Rattle.ist_c.specs.Entries.{pairs_given};
+ghost use Rattle.ist_handles.specs.Entries.{pairs_given};
 ghost use Rattle.ist_c.specs.Keeping.{Keeps};
 ghost use Rattle.ist_c.specs.Opening.{AreWordsFor, OpensNew};
 ghost use Rattle.ist_c.specs.Passes.{Makes, TakesBack};
-ghost use Rattle.ist_c.specs.Results.{misuse};
+ghost use Rattle.ist_handles.specs.Results.{misuse};
 
-use crate::entries::{Entry, pairs_of_entries};
-use crate::handles::Handle;
-use crate::held::Held;
-use crate::owners::{PAIRS_LIMIT, TreeOwner};
-use crate::results::{DONE, MEMORY, MISUSE, SMALL};
 use ist_core::Pair;
+use ist_handles::{
+    DONE, Entry, Handle, Held, MEMORY, MISUSE, PAIRS_LIMIT, SMALL, TreeOwner, pairs_of_entries,
+};
 use ist_image::needed_words;
 use ist_reopen::{MOST_WORDS, ReopenFault};
 use std::alloc::Global;

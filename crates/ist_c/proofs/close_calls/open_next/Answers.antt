@@ -1,7 +1,7 @@
 -- The handle holds the next tree's owner, or the closed tree.
 use Rattle.std.proofs.Common.{sym, subst}
 use Rattle.ist_c.specs.Closing.{Opens, opens_owner, opens_none}
-use Rattle.ist_c.specs.declared.held.Held.TheVariants as of
+use Rattle.ist_handles.specs.declared.held.Held.TheVariants as of
 use Rattle.ist_c.proofs.close_calls.open_next.Goals as goal
 
 pub returns-in-Ok : goal.returns-in-Ok

@@ -1,0 +1,6 @@
+-- what the public contracts rest on, in the order to read them
+pub mod Results
+pub mod Entries
+pub mod Leaving
+-- what a handle owns
+pub mod Owning

@@ -1,0 +1,62 @@
+//! The pairs that a caller in C passes in, and that it gets.
+ghost use Rattle.std.specs.Prelude.{◌≡◌, IfOk};
+ghost use Rattle.plain_map.specs.Rising.{IsRising};
+ghost use Rattle.ist_handles.specs.Entries.{Wrote, pairs_given, written};
+
+use crate::results::{DONE, NO_KEY};
+use ist_core::{Command, Pair};
+use plain_map::Plain;
+use std::alloc::{AllocError, Global};
+
+/// A key with its value.
+#[repr(C)]
+#[derive(Clone, Copy, Drop)]
+pub struct Entry {
+    pub key: u64,
+    pub value: u64,
+}
+
+/// Returns the pairs of the entries, in increasing order of keys: of entries with one key the last.
+/// Fails only if memory runs out.
+pub fn pairs_of_entries(alloc: Global, entries: &[Entry]) -> Result<Vec<Pair>, AllocError>
+    ensures rising { IfOk result (λ pairs. IsRising pairs.items) }
+    ensures given { IfOk result (λ pairs. pairs.items ≡ pairs_given entries.now) }
+{
+    let mut map = Plain::new(alloc);
+    for entry in entries {
+        let _had = map.apply(Command::Put {
+            key: entry.key,
+            value: entry.value,
+        })?;
+    }
+    Ok(map.into_pairs())
+}
+
+/// Writes the pair to the entry, if there is one, and returns a status.
+pub fn write_pair(pair: Option<Pair>, entry: &mut Entry) -> u32
+    ensures wrote { Wrote pair result entry.old entry.new }
+{
+    match pair {
+        Some(pair) => {
+            *entry = Entry {
+                key: pair.key,
+                value: pair.value,
+            };
+            DONE
+        }
+        None => NO_KEY,
+    }
+}
+
+/// Writes as many of the pairs as there is room for.
+pub fn write_entries(pairs: &[Pair], room: &mut [Entry])
+    ensures written { room.new ≡ written pairs.now room.old }
+{
+    for at in 0..pairs.len().min(room.len()) {
+        let pair = pairs[at];
+        room[at] = Entry {
+            key: pair.key,
+            value: pair.value,
+        };
+    }
+}
