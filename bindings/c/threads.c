@@ -1,4 +1,5 @@
-/* Threads put, find and remove keys of one tree. Then the passes go back, and the tree is closed and listed.
+/* Threads put, find and remove keys of one tree. Then the passes go back, and the tree is closed and listed. Others read shots of
+ * a tree while it is written.
  *
  *     bash tools/library.sh
  *     cc -O2 -Icrates/ist_c/include bindings/c/threads.c -Lout -lluskadorv -lpthread -o out/threads
@@ -201,6 +202,81 @@ static void read_in_order(void) {
     ist_free(&owner);
 }
 
+/* A thread that raises values and puts new keys, for those who read shots meanwhile. */
+enum { CELLS = 40, UNITS = 1000 };
+
+static void *raise_and_put(void *argument) {
+    struct worker *worker = argument;
+    ist_shortage why;
+    for (uint64_t i = 0; i < keys / 10; i++) {
+        uint64_t from = (7 * i + worker->number) % CELLS;
+        ist_result had = ist_find(&worker->pass, from);
+        check(had.some && ist_put(&worker->pass, from, had.value + 1, &why).status == IST_DONE, 110);
+        check(ist_put(&worker->pass, CELLS + i, i, &why).status == IST_DONE, 111);
+    }
+    return NULL;
+}
+
+/* The pairs of a shot, read in pieces of three. */
+static uint64_t read_shot(ist_pass *shot, ist_entry *pairs, uint64_t most) {
+    uint64_t count = 0, first = 0;
+    ist_piece piece;
+    do {
+        check(count + 3 <= most && ist_list_shot(shot, first, UINT64_MAX, pairs + count, 3, &piece) == IST_DONE, 112);
+        count += piece.count;
+        first = piece.next;
+    } while (piece.more);
+    return count;
+}
+
+/* A shot stays as it is while another thread writes, and a later one has what was written. */
+static void read_shots(void) {
+    static ist_entry once[20000], again[20000];
+    ist_entry entries[CELLS];
+    for (uint64_t i = 0; i < CELLS; i++) entries[i] = (ist_entry){i, UNITS};
+    ist_owner owner = {0};
+    ist_pass reader = {0};
+    struct worker worker = {.number = 3};
+    pthread_t thread;
+    ist_shortage why = {0};
+    uint64_t count = 0;
+    check(ist_open(WORDS, entries, CELLS, &owner) == IST_DONE && ist_new_pass(&owner, &reader) == IST_DONE, 100);
+    check(ist_new_pass(&owner, &worker.pass) == IST_DONE, 101);
+    check(ist_shot_words(CELLS) > 23 && ist_shot_words(UINT64_MAX) == 0, 102);
+    check(ist_take_shot(&reader, WORDS, &why) == IST_FULL && why.asked == WORDS && why.words == WORDS && reader.full, 103);
+    check(ist_take_shot(&reader, ist_shot_words(CELLS), &why) == IST_DONE, 104);
+    check(pthread_create(&thread, NULL, raise_and_put, &worker) == 0, 105);
+    for (int turn = 0; turn < 20; turn++) {
+        check(ist_count_shot(&reader, &count) == IST_DONE && count == CELLS, 106);
+        check(read_shot(&reader, once, 20000) == CELLS, 107);
+        for (uint64_t i = 0; i < CELLS; i++) check(once[i].key == i && once[i].value == UNITS, 108);
+    }
+    check(ist_drop_shot(&reader) == IST_DONE && ist_take_shot(&reader, 0, &why) == IST_DONE, 113);
+    check(ist_count_shot(&reader, &count) == IST_DONE && count >= CELLS && read_shot(&reader, once, 20000) == count, 114);
+    check(pthread_join(thread, NULL) == 0, 115);
+    /* what the other thread wrote since isn't in the shot */
+    check(read_shot(&reader, again, 20000) == count, 116);
+    for (uint64_t i = 0; i < count; i++) check(again[i].key == once[i].key && again[i].value == once[i].value, 117);
+    check(ist_drop_shot(&reader) == IST_DONE && ist_take_shot(&reader, 0, &why) == IST_DONE, 118);
+    check(ist_count_shot(&reader, &count) == IST_DONE && count == CELLS + keys / 10, 119);
+    ist_piece piece = {0};
+    check(ist_list_shot(&reader, CELLS, UINT64_MAX, once, 0, &piece) == IST_MISUSE && piece.count == 0, 120);
+    check(ist_list_shot(&reader, 5, 4, once, 3, &piece) == IST_DONE && piece.count == 0 && !piece.more, 121);
+    check(ist_list_shot(&reader, 5, 7, once, 3, &piece) == IST_DONE && piece.count == 3 && !piece.more, 122);
+    check(ist_list_shot(&reader, 5, 8, once, 3, &piece) == IST_DONE && piece.more && piece.next == 8, 123);
+    /* a handle with a shot is no pass, and a handle of a pass has no shot */
+    check(ist_find(&reader, 5).status == IST_MISUSE && ist_take_shot(&reader, 0, &why) == IST_MISUSE && reader.full, 124);
+    check(ist_close(&owner) == IST_BUSY, 125);
+    check(ist_drop_shot(&reader) == IST_DONE && ist_drop_shot(&reader) == IST_MISUSE && ist_find(&reader, 5).some, 126);
+    check(ist_list_shot(&reader, 5, 8, once, 3, &piece) == IST_MISUSE && piece.next == 8, 127);
+    count = 7;
+    check(ist_count_shot(&reader, &count) == IST_MISUSE && count == 7, 128);
+    check(ist_give_back(&owner, &reader) == IST_DONE && ist_give_back(&owner, &worker.pass) == IST_DONE, 129);
+    check(ist_close(&owner) == IST_DONE, 130);
+    ist_free(&owner);
+    printf("shots stayed as they were\n");
+}
+
 /* Calls by wrong or empty handles, and at a wrong time. */
 static void misuse(void) {
     ist_entry entries[1] = {{5, 50}};
@@ -245,6 +321,7 @@ int main(int count, char **words) {
     run_full();
     reopen();
     read_in_order();
+    read_shots();
     misuse();
     return 0;
 }

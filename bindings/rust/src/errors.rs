@@ -2,7 +2,7 @@
 
 use std::fmt::{Display, Formatter, Result};
 
-/// Why a tree isn't opened or closed, or a pass or a note isn't made.
+/// Why a tree isn't opened or closed, or a pass, a note or a shot isn't made.
 #[derive(Clone, Copy, Debug, PartialEq, Eq)]
 #[non_exhaustive]
 pub enum Error {
@@ -10,18 +10,27 @@ pub enum Error {
     Memory,
     /// The words are too few for the pairs, or more than 2^28.
     Words,
-    /// A pass or a note was leaked, so the tree can't be closed.
+    /// A pass, a note or a shot was leaked, so the tree can't be closed.
     Leaked,
     /// The tree is closed, since a [`reopen`](crate::Tree::reopen) failed.
     Closed,
+    /// The tree has too few words left for a shot, which wasn't taken.
+    Full(Full),
+}
+
+impl From<Full> for Error {
+    fn from(full: Full) -> Error {
+        Error::Full(full)
+    }
 }
 
 impl Display for Error {
     fn fmt(&self, out: &mut Formatter<'_>) -> Result {
         out.write_str(match self {
+            Error::Full(full) => return full.fmt(out),
             Error::Memory => "out of memory",
             Error::Words => "the words are too few for the pairs, or more than 2^28",
-            Error::Leaked => "a pass or a note of the tree was leaked",
+            Error::Leaked => "a pass, a note or a shot of the tree was leaked",
             Error::Closed => "the tree is closed, since reopening it failed",
         })
     }
@@ -29,7 +38,7 @@ impl Display for Error {
 
 impl std::error::Error for Error {}
 
-/// The tree has too few words left for the update, which didn't happen.
+/// The tree has too few words left for the update or the shot, which didn't happen.
 #[derive(Clone, Copy, Debug, PartialEq, Eq)]
 pub struct Full {
     /// The number of the first free word.

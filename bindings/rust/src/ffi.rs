@@ -103,6 +103,11 @@ unsafe extern "C" {
     fn ist_at_least(pass: *mut Handle, key: u64, found: *mut Pair) -> u32;
     fn ist_at_most(pass: *mut Handle, key: u64, found: *mut Pair) -> u32;
     fn ist_list_range(pass: *mut Handle, first: u64, last: u64, room: *mut Pair, rooms: usize, piece: *mut Piece) -> u32;
+    fn ist_shot_words(pairs: u64) -> u64;
+    fn ist_take_shot(pass: *mut Handle, words: u64, why: *mut Shortage) -> u32;
+    fn ist_count_shot(shot: *mut Handle, count: *mut u64) -> u32;
+    fn ist_list_shot(shot: *mut Handle, first: u64, last: u64, room: *mut Pair, rooms: usize, piece: *mut Piece) -> u32;
+    fn ist_drop_shot(shot: *mut Handle) -> u32;
     fn ist_write_note(pass: *mut Handle, out: *mut Handle) -> u32;
     fn ist_meet(pass: *mut Handle, note: *mut Handle) -> u32;
     fn ist_give_back(owner: *mut Handle, pass: *mut Handle) -> u32;
@@ -137,6 +142,12 @@ fn replied(called: CallResult, why: Shortage) -> Result<Option<u64>, Full> {
 pub(crate) fn words_for(pairs: u64) -> u64 {
     // SAFETY: it asks for nothing.
     unsafe { ist_words_for(pairs) }
+}
+
+/// How many words a shot of this many pairs takes at most, if one pass does all the work; 0 if there are 2^32 or more.
+pub(crate) fn shot_words(pairs: u64) -> u64 {
+    // SAFETY: it asks for nothing.
+    unsafe { ist_shot_words(pairs) }
 }
 
 /// The number of a tree, which no other tree of the process has.
@@ -320,6 +331,19 @@ impl PassHandle {
         (piece.count as usize, piece.more.then_some(piece.next))
     }
 
+    /// Takes a shot of the map, if at least this many words are left at a moment of the call. Else the pass is returned, with the
+    /// numbers of the refusal.
+    pub(crate) fn into_shot(mut self, words: u64) -> Result<ShotHandle, (PassHandle, Full)> {
+        let mut why = Shortage::default();
+        // SAFETY: the handle is the call's alone, and so is `why`.
+        let status = unsafe { ist_take_shot(&mut self.handle, words, &mut why) };
+        if status == FULL {
+            return Err((self, Full { next: why.next, asked: why.asked, words: why.words }));
+        }
+        debug_assert_eq!(status, DONE);
+        Ok(ShotHandle { handle: self.handle, tree: self.tree })
+    }
+
     /// Makes a note of what the pass has seen.
     pub(crate) fn note(&mut self) -> Result<NoteHandle, Error> {
         let mut handle = Handle::new();
@@ -338,6 +362,44 @@ impl PassHandle {
         // SAFETY: both handles are the call's alone, and of the tree with one number.
         let status = unsafe { ist_meet(&mut self.handle, &mut note.handle) };
         debug_assert_eq!(status, DONE);
+    }
+}
+
+/// A pass with the shot that it took.
+pub(crate) struct ShotHandle {
+    handle: Handle,
+    tree: TreeNumber,
+}
+
+impl ShotHandle {
+    /// How many pairs the shot has.
+    pub(crate) fn count(&mut self) -> u64 {
+        let mut count = 0;
+        // SAFETY: the handle is the call's alone, and so is `count`.
+        let status = unsafe { ist_count_shot(&mut self.handle, &mut count) };
+        debug_assert_eq!(status, DONE);
+        count
+    }
+
+    /// As [`PassHandle::list`], of the shot.
+    pub(crate) fn list(&mut self, first: u64, last: u64, room: &mut [Pair]) -> (usize, Option<u64>) {
+        if room.is_empty() {
+            return (0, (first <= last).then_some(first));
+        }
+        let mut piece = Piece::default();
+        let (at, rooms) = (room.as_mut_ptr(), room.len());
+        // SAFETY: pointer and length are those of one slice, and the handle and `piece` are the call's alone.
+        let status = unsafe { ist_list_shot(&mut self.handle, first, last, at, rooms, &mut piece) };
+        debug_assert_eq!(status, DONE);
+        (piece.count as usize, piece.more.then_some(piece.next))
+    }
+
+    /// Drops the shot, and returns its pass.
+    pub(crate) fn into_pass(mut self) -> PassHandle {
+        // SAFETY: the handle is the call's alone.
+        let status = unsafe { ist_drop_shot(&mut self.handle) };
+        debug_assert_eq!(status, DONE);
+        PassHandle { handle: self.handle, tree: self.tree }
     }
 }
 

@@ -37,4 +37,4 @@ mod tree;
 pub use errors::{Error, Full};
 pub use ffi::{Pair, Stats};
 pub use map::{Map, Range};
-pub use tree::{Exchanged, Note, Pass, Tree, words_for};
+pub use tree::{Exchanged, Note, Pass, Shot, Tree, shot_words, words_for};

@@ -9,7 +9,7 @@
 //! waits for another lock.
 
 use crate::ffi::{self, MOST_WORDS, Owner, PassHandle, TreeNumber};
-use crate::tree::ends;
+use crate::tree::{ends, listed};
 use crate::{Error, Exchanged, Full, Pair};
 use std::collections::BTreeMap;
 use std::fmt::{Debug, Formatter};
@@ -114,7 +114,8 @@ fn thread_number() -> usize {
 ///
 /// Calls have the names and the meaning that they have in `crossbeam_skiplist::SkipMap` and in `BTreeMap`, except that keys and
 /// values are passed and returned by value. [Calls on one key](Map::insert) are atomic. Reads of several keys
-/// ([`range`](Map::range), [`first`](Map::first), [`len`](Map::len)) aren't: others may change the map between two keys.
+/// ([`range`](Map::range), [`first`](Map::first), [`len`](Map::len)) aren't: others may change the map between two keys. A
+/// [`snapshot`](Map::snapshot) is.
 ///
 /// A call locks one of 64 slots, each on memory of its own: its thread's, or the next one that is free. So threads don't wait for
 /// one another, unless there are more than 64. Growing locks all slots: all calls wait while the pairs are moved to the next tree,
@@ -516,6 +517,42 @@ impl Map {
     /// ```
     pub fn iter(&self) -> Range<'_> {
         self.range(..)
+    }
+
+    /// Returns the pairs with keys in the range as they all were at one moment of the call, in increasing order of keys. Other calls go
+    /// on meanwhile.
+    ///
+    /// It costs more than [`range`](Map::range): the whole tree is frozen, and rebuilt for those who go on, however few keys the range
+    /// has. So a map of which snapshots are taken often grows sooner.
+    ///
+    /// If the map can't grow for it, it returns an error, as [`try_insert`](Map::try_insert).
+    ///
+    /// ```
+    /// let map = luskadorv::Map::from([(5, 50), (6, 60), (7, 70)]);
+    /// assert_eq!(map.snapshot(6..)?, [(6, 60), (7, 70)]);
+    /// # Ok::<(), luskadorv::Error>(())
+    /// ```
+    pub fn snapshot<R: RangeBounds<u64>>(&self, range: R) -> Result<Vec<(u64, u64)>, Error> {
+        let ends = ends(range);
+        let mut is_again = false;
+        loop {
+            let (_, mut locked) = self.slot()?;
+            let pass = locked.take().expect("the slot has a pass");
+            let tree = pass.tree();
+            match pass.into_shot(ffi::shot_words(self.keys())) {
+                Ok(mut shot) => {
+                    let pairs = listed(ends, |first, last, room| shot.list(first, last, room));
+                    *locked = Some(shot.into_pass());
+                    return Ok(pairs.into_iter().map(|pair| (pair.key, pair.value)).collect());
+                }
+                Err((pass, _)) => {
+                    *locked = Some(pass);
+                    drop(locked);
+                    self.grow(tree, is_again)?;
+                    is_again = true;
+                }
+            }
+        }
     }
 
     /// Returns how many keys have a value. While others update the map, the number counts each update that ended before the call,

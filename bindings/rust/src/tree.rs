@@ -1,6 +1,6 @@
 //! The tree and its passes.
 
-use crate::ffi::{self, NoteHandle, Owner, PassHandle};
+use crate::ffi::{self, NoteHandle, Owner, PassHandle, ShotHandle};
 use crate::{Error, Full, Pair, Stats};
 use std::fmt::{Debug, Formatter};
 use std::ops::RangeBounds;
@@ -18,6 +18,35 @@ pub type Exchanged = Result<Option<u64>, Option<u64>>;
 pub fn words_for(pairs: usize) -> Option<u32> {
     let words = ffi::words_for(pairs as u64);
     u32::try_from(words).ok().filter(|words| (1..=ffi::MOST_WORDS).contains(words))
+}
+
+/// Returns how many words a [shot](Tree::shot) of this many pairs takes at most, if no other thread helps with it. No tree has 2^32
+/// pairs or more.
+///
+/// ```
+/// assert_eq!(luskadorv::shot_words(1 << 32), None);
+/// ```
+pub fn shot_words(pairs: usize) -> Option<u64> {
+    Some(ffi::shot_words(pairs as u64)).filter(|words| *words != 0)
+}
+
+// The pairs from the first key to the last, by calls that write as many as there is room for, and return how many these are and
+// the key to go on from.
+pub(crate) fn listed(ends: Option<(u64, u64)>, mut list: impl FnMut(u64, u64, &mut [Pair]) -> (usize, Option<u64>)) -> Vec<Pair> {
+    let mut pairs = Vec::new();
+    let Some((mut first, last)) = ends else {
+        return pairs;
+    };
+    loop {
+        let begun = pairs.len();
+        pairs.resize(begun + 64, Pair::default());
+        let (count, next) = list(first, last, &mut pairs[begun..]);
+        pairs.truncate(begun + count);
+        match next {
+            Some(key) => first = key,
+            None => return pairs,
+        }
+    }
 }
 
 // The first and the last key of the range, if it has keys.
@@ -76,6 +105,45 @@ impl Tree {
         Ok(Pass { tree: self, pass: Some(pass) })
     }
 
+    /// Takes a shot: the map as it was at one moment of the call, whatever others do from then on. The whole tree is rebuilt for
+    /// those who go on, which takes at most [`shot_words`] words if no other thread helps with it.
+    ///
+    /// If fewer than `words` words are left at a moment of the call, it returns [`Error::Full`], and nothing was changed. A shot
+    /// that runs out of words is taken, but later updates of the tree are [`Full`]: so ask for [`shot_words`] of its pairs, and for
+    /// the words of updates that are made meanwhile.
+    ///
+    /// ```
+    /// use luskadorv::{Error, Pair, Tree};
+    ///
+    /// let pairs = [5, 6, 7].map(|key| Pair { key, value: 10 * key });
+    /// let tree = Tree::open(1000, &pairs)?;
+    /// let mut shot = tree.shot(luskadorv::shot_words(3).unwrap())?;
+    /// let mut pass = tree.pass()?;
+    /// assert_eq!(pass.remove(6), Ok(Some(60)));
+    /// assert_eq!(shot.list(..), pairs);
+    /// assert_eq!(pass.list(..).len(), 2);
+    /// assert!(matches!(tree.shot(1000), Err(Error::Full(full)) if full.asked == 1000));
+    /// # Ok::<(), Error>(())
+    /// ```
+    pub fn shot(&self, words: u64) -> Result<Shot<'_>, Error> {
+        let pass = self.owner().pass()?;
+        self.shot_by(pass, words)
+    }
+
+    // Takes a shot by this pass, which is given back if it is refused.
+    fn shot_by(&self, pass: PassHandle, words: u64) -> Result<Shot<'_>, Error> {
+        match pass.into_shot(words) {
+            Ok(mut shot) => {
+                let len = shot.count() as usize;
+                Ok(Shot { tree: self, shot: Some(shot), len })
+            }
+            Err((pass, full)) => {
+                self.owner().give_back(pass);
+                Err(full.into())
+            }
+        }
+    }
+
     /// Goes on with this many words: closes the tree, and opens one that begins with exactly the pairs that all calls left.
     /// All passes were dropped, as the compiler sees.
     ///
@@ -131,7 +199,7 @@ impl Debug for Tree {
 
 /// What one thread calls its tree by. It can be sent to another thread.
 ///
-/// Its calls never block and always return; only [`list`](Pass::list) and [`note`](Pass::note) allocate. A pass that is
+/// Its calls never block and always return; only [`list`](Pass::list), [`note`](Pass::note) and [`shot`](Pass::shot) allocate. A pass that is
 /// forgotten instead of dropped keeps its tree from being closed.
 pub struct Pass<'t> {
     tree: &'t Tree,
@@ -234,26 +302,32 @@ impl<'t> Pass<'t> {
     /// # Ok::<(), luskadorv::Error>(())
     /// ```
     pub fn list<R: RangeBounds<u64>>(&mut self, range: R) -> Vec<Pair> {
-        let mut pairs = Vec::new();
-        let Some((mut first, last)) = ends(range) else {
-            return pairs;
-        };
-        loop {
-            let begun = pairs.len();
-            pairs.resize(begun + 64, Pair::default());
-            let (count, next) = self.handle().list(first, last, &mut pairs[begun..]);
-            pairs.truncate(begun + count);
-            match next {
-                Some(key) => first = key,
-                None => return pairs,
-            }
-        }
+        let handle = self.handle();
+        listed(ends(range), |first, last, room| handle.list(first, last, room))
     }
 
     /// Writes the pairs from `first` to `last` into `room`, in increasing order of keys, as many as there is room for. Returns
     /// how many these are, and the key to go on from if keys are left. It allocates nothing.
     pub fn list_into(&mut self, first: u64, last: u64, room: &mut [Pair]) -> (usize, Option<u64>) {
         self.handle().list(first, last, room)
+    }
+
+    /// Takes a shot, as [`Tree::shot`]. It has all that this pass has done and seen, and it is read beside the pass.
+    ///
+    /// ```
+    /// let tree = luskadorv::Tree::open(1000, &[])?;
+    /// let mut pass = tree.pass()?;
+    /// pass.insert(7, 70).unwrap();
+    /// let mut shot = pass.shot(0)?;
+    /// pass.insert(7, 71).unwrap();
+    /// assert_eq!((shot.get(7), pass.get(7)), (Some(70), Some(71)));
+    /// # Ok::<(), luskadorv::Error>(())
+    /// ```
+    pub fn shot(&mut self, words: u64) -> Result<Shot<'t>, Error> {
+        let note = self.handle().note()?;
+        let mut pass = self.tree.owner().pass()?;
+        pass.meet(note);
+        self.tree.shot_by(pass, words)
     }
 
     /// Makes a note of what the pass has seen, for another pass of its tree.
@@ -306,5 +380,77 @@ pub struct Note<'t> {
 impl Debug for Note<'_> {
     fn fmt(&self, out: &mut Formatter<'_>) -> std::fmt::Result {
         out.debug_struct("Note").finish_non_exhaustive()
+    }
+}
+
+/// The map as it was at one moment: see [`Tree::shot`]. It can be sent to another thread.
+///
+/// The words of the shot's tree are in use until the tree is closed. A shot that is forgotten instead of dropped keeps its tree
+/// from being closed.
+pub struct Shot<'t> {
+    tree: &'t Tree,
+    // None only while it is dropped.
+    shot: Option<ShotHandle>,
+    len: usize,
+}
+
+impl Shot<'_> {
+    fn handle(&mut self) -> &mut ShotHandle {
+        self.shot.as_mut().expect("a shot has its handle until it is dropped")
+    }
+
+    /// Returns how many pairs it has.
+    ///
+    /// ```
+    /// let tree = luskadorv::Tree::open(1000, &[luskadorv::Pair { key: 5, value: 50 }])?;
+    /// assert_eq!(tree.shot(0)?.len(), 1);
+    /// # Ok::<(), luskadorv::Error>(())
+    /// ```
+    pub fn len(&self) -> usize {
+        self.len
+    }
+
+    /// Returns whether it has no pairs.
+    pub fn is_empty(&self) -> bool {
+        self.len == 0
+    }
+
+    /// Returns the value that the key had, if it had one.
+    pub fn get(&mut self, key: u64) -> Option<u64> {
+        let mut room = [Pair::default()];
+        let (count, _) = self.handle().list(key, key, &mut room);
+        (count == 1).then_some(room[0].value)
+    }
+
+    /// Returns the pairs with keys in the range, in increasing order of keys.
+    ///
+    /// ```
+    /// let pairs = [5, 6, 7].map(|key| luskadorv::Pair { key, value: 10 * key });
+    /// let tree = luskadorv::Tree::open(1000, &pairs)?;
+    /// assert_eq!(tree.shot(0)?.list(6..), pairs[1..]);
+    /// # Ok::<(), luskadorv::Error>(())
+    /// ```
+    pub fn list<R: RangeBounds<u64>>(&mut self, range: R) -> Vec<Pair> {
+        let handle = self.handle();
+        listed(ends(range), |first, last, room| handle.list(first, last, room))
+    }
+
+    /// Writes the pairs from `first` to `last` into `room`, as [`Pass::list_into`].
+    pub fn list_into(&mut self, first: u64, last: u64, room: &mut [Pair]) -> (usize, Option<u64>) {
+        self.handle().list(first, last, room)
+    }
+}
+
+impl Drop for Shot<'_> {
+    fn drop(&mut self) {
+        if let Some(shot) = self.shot.take() {
+            self.tree.owner().give_back(shot.into_pass());
+        }
+    }
+}
+
+impl Debug for Shot<'_> {
+    fn fmt(&self, out: &mut Formatter<'_>) -> std::fmt::Result {
+        out.debug_struct("Shot").field("len", &self.len).finish_non_exhaustive()
     }
 }

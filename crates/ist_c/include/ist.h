@@ -33,7 +33,7 @@ enum ist_status {
 };
 
 typedef struct ist_owner { bool full; void *at; } ist_owner; /* a tree with its maker; a closed tree; or its pairs */
-typedef struct ist_pass { bool full; void *at; } ist_pass;   /* what one thread calls the tree by */
+typedef struct ist_pass { bool full; void *at; } ist_pass;   /* what one thread calls the tree by; a pass with its shot */
 typedef struct ist_note { bool full; void *at; } ist_note;   /* what a pass had seen */
 
 /* A key with its value. */
@@ -87,6 +87,29 @@ uint32_t ist_at_most(ist_pass *pass, uint64_t key, ist_entry *found);
  * which is at least one. Each key has what the list says at a moment of its own. `piece` says how many were written, and where
  * to go on: also later, and by another pass. It allocates nothing. */
 uint32_t ist_list_range(ist_pass *pass, uint64_t first, uint64_t last, ist_entry *room, size_t rooms, ist_piece *piece);
+
+/* How many words a shot of this many pairs takes at most, if one pass does all the work; 0 for 2^32 pairs or more. Passes that
+ * help at the same time may take more together. */
+uint64_t ist_shot_words(uint64_t pairs);
+
+/* Takes a shot: the map as it was at one moment of the call, whatever others do from then on. The handle then holds the shot with
+ * its pass, and other calls of a pass by it are IST_MISUSE until ist_drop_shot; to go on meanwhile, make a second pass. The whole
+ * tree is rebuilt for those who go on. If fewer than `words` words are left at a moment of the call, no shot is taken: the status
+ * is IST_FULL, `why` is written, and the handle holds the pass still.
+ *
+ * A shot that runs out of words makes the tree read-only: each later update is IST_FULL. So ask for the ist_shot_words of its
+ * pairs and for the words of updates that are made meanwhile. */
+uint32_t ist_take_shot(ist_pass *pass, uint64_t words, ist_shortage *why);
+
+/* Writes how many pairs the shot has. */
+uint32_t ist_count_shot(ist_pass *shot, uint64_t *count);
+
+/* As ist_list_range, of the shot: all that it writes is of the shot's moment, whenever it is called. */
+uint32_t ist_list_shot(ist_pass *shot, uint64_t first, uint64_t last, ist_entry *room, size_t rooms, ist_piece *piece);
+
+/* Drops the shot. The handle then holds the pass as before. A handle with a shot that is given back (ist_give_back) is IST_MISUSE
+ * and is freed, so drop the shot first. */
+uint32_t ist_drop_shot(ist_pass *shot);
 
 /* Makes a note of what the pass has seen (ist_write_note), and lets a pass learn it, which uses the note up (ist_meet,
  * same tree). The calls of the second pass then come after those that the first had made. */

@@ -6,3 +6,4 @@ pub mod NoteLemmas
 pub mod OpenLemmas
 pub mod PassLemmas
 pub mod ReadLemmas
+pub mod ShotLemmas

@@ -2,6 +2,7 @@
 pub mod Calls
 pub mod Conditions
 pub mod Reads
+pub mod Shots
 pub mod Keeping
 pub mod Opening
 pub mod Passes

@@ -11,4 +11,5 @@ mod left_calls;
 mod next_calls;
 mod note_calls;
 mod range_calls;
+mod shot_calls;
 mod tree_calls;

@@ -1,3 +1,5 @@
 pub mod EntryLemmas
 pub mod SendLemmas
+pub mod ShotPieceLemmas
+pub mod UptoLemmas
 pub mod ValueLemmas

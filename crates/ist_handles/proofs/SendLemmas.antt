@@ -33,6 +33,8 @@ use Rattle.ist_handles.specs.contracts.passes.TreeNote as note
 use Rattle.ist_handles.proofs.passes.TreeNote.TheSendSync.{the_field_send as note_send}
 use Rattle.ist_handles.specs.contracts.passes.TreePass as pass
 use Rattle.ist_handles.proofs.passes.TreePass.TheSendSync.{the_field_send as pass_send}
+use Rattle.ist_handles.specs.contracts.shots.TreeShot as shot
+use Rattle.ist_handles.proofs.shots.TreeShot.TheSendSync.{the_send as shot_send}
 
 -- ---- a row of places
 
@@ -98,6 +100,7 @@ pub held_send : IsSend held.the_row
 held_send =
     let o : IsSend (owner.the_field).row = owner_send in
     let p : IsSend (pass.the_field).row = pass_send in
+    let s : IsSend shot.the_row = shot_send in
     let n : IsSend (note.the_field).row = note_send in
     let l : IsSend (left.the_field).row = left_send in
     let w : IsSend (closed.the_field).row = closed_send in

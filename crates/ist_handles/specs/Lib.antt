@@ -1,6 +1,7 @@
 -- what the public contracts rest on, in the order to read them
 pub mod Results
 pub mod Entries
+pub mod ShotPieces
 pub mod Leaving
 -- what a handle owns
 pub mod Owning

@@ -1,7 +1,8 @@
 //! What a handle of a caller in C holds, and what a call writes to the caller's memory.
 //!
 //! Read `src/held.rt`, which has the kinds of what a handle holds, then `src/handles.rt`, then the file of
-//! each kind. The exports over it are those of `ist_c`. Stands on `ist_tree`, `ist_live` and `ist_reopen`.
+//! each kind. The exports over it are those of `ist_c`. Stands on `ist_tree`, `ist_scan`,
+//! `ist_live` and `ist_reopen`.
 #![tactic(auto)]
 
 mod closed_trees;
@@ -14,6 +15,8 @@ mod passes;
 mod pieces;
 mod raw_boxes;
 mod results;
+mod shot_pieces;
+mod shots;
 
 pub use crate::closed_trees::{ClosedTree, LeftPairs};
 pub use crate::entries::{Entry, pairs_of_entries, write_entries, write_pair};
@@ -27,3 +30,4 @@ pub use crate::results::{
     BUSY, CallResult, DONE, FULL, MEMORY, MISUSE, NO_KEY, SMALL, Shortage, Stats, misused, refused,
     replied,
 };
+pub use crate::shots::TreeShot;

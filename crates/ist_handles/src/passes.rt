@@ -1,20 +1,24 @@
 //! A pass with the tree that it calls, and a note with its tree.
-ghost use Rattle.std.specs.Prelude.{◌≡◌, ◌≢◌, ◌+◌, ◌<◌, ◌≤◌, length, Some, None, IfOk, IfErr, OnErr};
+ghost use Rattle.std.specs.Prelude.{◌≡◌, ◌≢◌, ◌+◌, ◌<◌, ◌≤◌, length, Some, None, IfOk, IfErr, OnOk, OnErr};
 ghost use Rattle.std.specs.Arc.{arc_value};
 ghost use Rattle.ist_core.specs.declared.commands.Command.TheVariants.{Get, Put, Remove};
 ghost use Rattle.ist_updates.specs.Asking.{command_for};
 ghost use Rattle.ist_tree.specs.Calls.{HasSeenMore, HasLearnt, AddsCall, WeavesWith};
 ghost use Rattle.ist_tree.specs.Faces.{noted};
+ghost use Rattle.ist_tree.specs.Freezing.{IsFrozenFor, HasStartedNone};
 ghost use Rattle.ist_tree.specs.Refusals.{IsRefused};
 ghost use Rattle.ist_live.specs.Ends.{IsNextUp, IsNextDown};
 ghost use Rattle.ist_live.specs.Pieces.{IsPiece};
 ghost use Rattle.ist_live.specs.Reading.{HasOnlyRead};
+ghost use Rattle.ist_scan.specs.Room.{HadRoom, IsShotRefused};
+ghost use Rattle.ist_scan.specs.Shots.{HasTaken};
 ghost use Rattle.ist_handles.specs.Entries.{next_key, pairs_in};
 
 use crate::entries::Entry;
 use crate::pieces::{Piece, read_piece};
 use ist_core::{Full, Pair, Reply};
 use ist_live::{at_least, at_most};
+use ist_scan::Shot;
 use ist_tree::{Note, Pass, Tree};
 use std::alloc::{AllocError, Global};
 use std::sync::Arc;
@@ -121,6 +125,20 @@ impl TreePass {
         ensures room { length room.new ≡ length room.old }
     {
         read_piece(&self.tree, &mut self.pass, first, last, room)
+    }
+
+    /// Takes a shot of the map, if at least this many words are left at one moment of the call.
+    pub fn shot(&mut self, words: u64) -> Result<Shot, Full>
+        ensures tree { arc_value self.new.tree ≡ arc_value self.old.tree }
+        ensures seen { HasSeenMore self.old.pass self.new.pass }
+        ensures calls { self.new.pass.calls ≡ self.old.pass.calls }
+        ensures frozen { IfOk result (IsFrozenFor self.new.pass) }
+        ensures taken { IfOk result (HasTaken self.old.pass self.new.pass) }
+        ensures room { OnOk result (HadRoom self.old.pass self.new.pass words) }
+        ensures full { IfErr result (IsShotRefused self.old.pass self.new.pass words) }
+        ensures unstarted { OnErr result (HasStartedNone self.old.pass self.new.pass) }
+    {
+        Shot::take_if_room(&self.tree, &mut self.pass, words)
     }
 
     /// Makes a note of what the pass has seen, for another pass of its tree. Fails only if memory runs out.

@@ -207,6 +207,7 @@ impl Shot {
         ensures shot { result.shot ≡ self.now }
         ensures first { result.first ≡ first }
         ensures last { result.last ≡ last }
+        ensures given { result.given ≡ 0 }
         ensures way { (p : PassFace) → HasWalked p result }
     {
         Walk::new(self.frozen, first, last)
