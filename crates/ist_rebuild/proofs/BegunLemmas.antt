@@ -1,5 +1,5 @@
 -- How a caller goes on that starts a rebuild, and what the result tells. Serves `put_in` and
--- `start_if_open`.
+-- `start`.
 use Rattle.std.proofs.Common.{◌≡◌, ◌∙◌, ℕ, Bool, true, false, Result, Ok, Err, None, refl, subst}
 use Rattle.std.specs.Result.{IsErr}
 use Rattle.ist_build.specs.Laying.{Reserves}

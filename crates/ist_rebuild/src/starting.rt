@@ -106,31 +106,6 @@ fn start_open(
     Ok(put_in(table, who, plan))
 }
 
-// Starts the rebuild, unless the parent isn't open.
-fn start_if_open(
-    table: &TreeTable,
-    who: &mut Caller,
-    parent: u32,
-    index: u64,
-    target: u32,
-) -> Result<Started, Full>
-    requires same_table { who.old.token.table ≡ table.now.table }
-    requires caller { IsCaller who.old }
-    requires quiet { IsQuiet who.old }
-    requires may_start { MayStart who.old.token.view parent index target }
-    ensures same_table { who.new.token.table ≡ table.now.table }
-    ensures begun { HasBegun target who.old who.new }
-    ensures told { TellsStart who.old who.new parent index target result }
-    ensures full { IfErr result (λ full.
-        IsStartRefused who.old.token.view (word_count_of table.now) full who.new.token.view) }
-{
-    if parent_is_open(table, who, parent, index, target) {
-        start_open(table, who, parent, index, target)
-    } else {
-        Ok(Started::Marked)
-    }
-}
-
 /// Starts a rebuild of the target, which was in slot `index` of the parent: replaces it by a fresh
 /// rebuild, by a change.
 ///
@@ -175,5 +150,9 @@ pub fn start(
         LeavesUnstarted old (now who.new.token.view) who.old.number result }
     ensures uninstalled { LeavesUninstalled who.old.token.view who.new.token.view result }
 {
-    start_if_open(table, who, parent, index, target)
+    if parent_is_open(table, who, parent, index, target) {
+        start_open(table, who, parent, index, target)
+    } else {
+        Ok(Started::Marked)
+    }
 }

@@ -1,7 +1,6 @@
 -- A step that is an event of its seat: what it keeps, and what the seat learns. Serves exchanges and
 -- adds.
 use Rattle.std.proofs.Common.{◌≡◌, ◌≢◌, ℕ, List, [], ◌∷◌, slice_index, slice_set, Some, refl, sym, ap, ◌∙◌, subst, le_refl}
-use mathlib.Core.Option as maybe
 use Rattle.atomic_table.specs.Table.{keeps}
 use Rattle.ist_core.specs.declared.events.Event.{Event}
 use Rattle.ist_core.specs.Elements.{Each}

@@ -16,7 +16,6 @@ mod watching;
 
 pub use calling::{begin_call, begin_search, end_call, give_up};
 pub use opening::{close, know, open_table, open_table_over};
-pub use plays::{Answered, Asked, Named, NamedAll, NamedByLog, NamedByWord, NamedEitherWay};
 pub use seating::{join, split};
 pub use steps::{add, exchange, exchange_all, exchange_or_lose, load, store};
 pub use table::{TreeTable, TreeToken, word_count};

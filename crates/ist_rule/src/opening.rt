@@ -1,4 +1,4 @@
-//! Opening and closing a table, and what holds of each seat.
+//! Opening and closing a table, and what holds of each token.
 ghost use Rattle.std.specs.Prelude.{◌≡◌, IfOk, length};
 ghost use Rattle.std.specs.Mem.Slots.{slots_items, slots_len, IsFull};
 ghost use Rattle.ist_core.specs.StartLayout.{start};
@@ -15,7 +15,7 @@ use ist_core::Pair;
 use std::alloc::{AllocError, Global};
 use std::snapshot::Snapshot;
 
-/// Makes a table of these words, and the maker's seat, which has seen nothing yet.
+/// Makes a table of these words, and the maker's token, which has seen nothing yet.
 ///
 /// The words are the image of a new tree of the pairs. Fails only if memory runs out.
 pub fn open_table(
@@ -28,7 +28,7 @@ pub fn open_table(
     ensures words { IfOk result (λ t. word_count_of t.0 ≡ length image.items) }
     ensures start { IfOk result (λ t. t.0.start ≡ pairs.now.items) }
     ensures same_table { IfOk result (λ t. t.1.table ≡ t.0.table) }
-    ensures seat { IfOk result (λ t. t.1.view ≡ opened_view pairs.now.items (length image.items)) }
+    ensures token { IfOk result (λ t. t.1.view ≡ opened_view pairs.now.items (length image.items)) }
 {
     open_table_over(alloc, image.as_slice(), pairs)
 }
@@ -45,7 +45,7 @@ pub fn open_table_over(
     ensures words { IfOk result (λ t. word_count_of t.0 ≡ length image.now) }
     ensures start { IfOk result (λ t. t.0.start ≡ pairs.now.items) }
     ensures same_table { IfOk result (λ t. t.1.table ≡ t.0.table) }
-    ensures seat { IfOk result (λ t. t.1.view ≡ opened_view pairs.now.items (length image.now)) }
+    ensures token { IfOk result (λ t. t.1.view ≡ opened_view pairs.now.items (length image.now)) }
 {
     let about = About {
         start: Snapshot::of(pairs),
@@ -55,22 +55,22 @@ pub fn open_table_over(
     Ok((TreeTable { table }, TreeToken { seat }))
 }
 
-/// Gives the caller what holds of each seat's view. It costs nothing.
-pub fn know(seat: &TreeToken)
-    ensures sound { IsSound seat.now.view }
-    ensures words { seat.now.view.words ≡ seat.now.table.words }
+/// Gives the caller what holds of each token's view. It costs nothing.
+pub fn know(token: &TreeToken)
+    ensures sound { IsSound token.now.view }
+    ensures words { token.now.view.words ≡ token.now.table.words }
 {
-    let _ = &seat.seat;
+    let _ = &token.seat;
 }
 
 /// Returns the words after the last step, without a copy.
 ///
-/// They are the image of a lawful log that goes on from the seat's own by events of others.
-pub fn close(table: TreeTable, seat: TreeToken) -> Closed<(), Global>
-    requires same_table { seat.table ≡ table.table }
+/// They are the image of a lawful log that goes on from the token's own by events of others.
+pub fn close(table: TreeTable, token: TreeToken) -> Closed<(), Global>
+    requires same_table { token.table ≡ table.table }
     ensures full { IsFull result.words × IsFull result.slots }
     ensures counts { (slots_len result.words ≡ word_count_of table) × (slots_len result.slots ≡ 0) }
-    ensures words { IsLast seat.view (slots_items result.words) }
+    ensures words { IsLast token.view (slots_items result.words) }
 {
-    table.table.close_with(seat.seat)
+    table.table.close_with(token.seat)
 }

@@ -1,4 +1,4 @@
-//! The table and its seats, as contracts see them.
+//! The table and its tokens, as contracts see them.
 ghost use Rattle.std.specs.Prelude.{◌≡◌, ◌≤◌, ◌^◌};
 ghost use Rattle.ist_rule.specs.Faces.{word_count_of};
 
@@ -7,7 +7,7 @@ use atomic_table::{Seat, Table};
 use std::alloc::Global;
 use std::marker::Model;
 
-/// The words of a tree, shared by the threads that have seats of it.
+/// The words of a tree, shared by the threads that have tokens of it.
 ///
 /// Contracts see which table it is, with its number of words, and its start pairs.
 #[derive(Drop)]
@@ -30,7 +30,7 @@ impl Model for TreeTable {
 
 /// The token by which one thread steps on the words. It has no bytes.
 ///
-/// Contracts see its table and what the seat knows.
+/// Contracts see its table and what the token knows.
 #[derive(Drop)]
 pub struct TreeToken {
     pub(crate) seat: Seat<(), View>,

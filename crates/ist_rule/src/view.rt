@@ -1,10 +1,10 @@
-//! What a seat knows, and the rule that ties all views to the words.
+//! What a token knows, and the rule that ties all views to the words.
 use atomic_table::TableRule;
 use ist_core::{Call, Command, Event, Load, Pair, Who};
 use std::collections::LinkedList;
 use std::snapshot::Snapshot;
 
-/// A word that the seat stored into a row of its own.
+/// A word that the token stored into a row of its own.
 pub struct OwnWord {
     pub place: u64,
     pub word: u64,
@@ -22,27 +22,27 @@ pub struct Pending {
     pub length: u64,
 }
 
-/// A seat that met another at a join: whose it was, what it had seen, and the log of both.
+/// A token that met another at a join: whose it was, what it had seen, and the log of both.
 pub struct Met {
     pub who: Who,
     pub log: LinkedList<Event>,
     pub both: LinkedList<Event>,
 }
 
-/// A caller whose seat the maker took back: its calls, and what its seat had seen.
+/// A caller whose token the maker took back: its calls, and what its token had seen.
 pub struct Taken {
     pub number: u64,
     pub calls: LinkedList<Call>,
     pub log: LinkedList<Event>,
 }
 
-/// What a seat knows. No value of it is ever made: only contracts see it.
+/// What a token knows. No value of it is ever made: only contracts see it.
 ///
 /// `start` and `words` are the table's. `log` is what was seen, the newest event first, and `olds`
-/// the two seats that met at the last join. `own` are the words of own rows, the newest first;
+/// the two tokens that met at the last join. `own` are the words of own rows, the newest first;
 /// `calls` the calls that were ended, the oldest first. `loaded` counts loads and failed exchanges,
-/// and `searches` the searches that the seat began. `made`, `given` and `taken` are the maker's:
-/// how many callers it entered, how many of these have their seats, and those that it took back.
+/// and `searches` the searches that the token began. `made`, `given` and `taken` are the maker's:
+/// how many callers it entered, how many of these have their tokens, and those that it took back.
 pub struct View {
     pub start: LinkedList<Pair>,
     pub words: u64,

@@ -54,6 +54,7 @@ use Rattle.ist_rows.proofs.GoneLemmas.{still_ready}
 
 -- an update that returned a reply was applied
 pub applies_by : (old mid : Caller) (command : Command) (answer : Result (Option Applied) Full)
+    (done : Applied) → answer ≡ Ok (Some done)
     → IsCaller mid → HasRefused mid → IsQuiet mid → mid.number ≡ old.number
     → SearchedOn Updates old.token.view mid.token.view → HasWalkedFew old.token.view mid.token.view
     → IfOk answer (λ o. IfSome o (λ x. MayEnd mid command x.reply))
@@ -61,8 +62,8 @@ pub applies_by : (old mid : Caller) (command : Command) (answer : Result (Option
     → IsCounted old.token.view.start old.token.view.words old.token.view.log mid.token.view.log
     old.number command))
     → IfOk answer (λ o. IfSome o (λ x. LeavesDue old.token.view mid.token.view old.number x.due))
-    → IfOk answer (λ o. IfSome o (λ x. Applies old mid command x.reply x.due))
-applies_by old mid command (Ok (Some done)) c r q n w few may counted left =
+    → Applies old mid command done.reply done.due
+applies_by old mid command answer done e c r q n w few may counted left =
     record {
       caller = c;
       refused = r;
@@ -70,12 +71,13 @@ applies_by old mid command (Ok (Some done)) c r q n w few may counted left =
       number = n;
       went = w;
       few_walks = few;
-      may = may;
-      counted = counted;
-      due = left;
+      may = subst (λ a. IfOk a (λ o. IfSome o (λ x. MayEnd mid command x.reply))) e may;
+      counted = subst (λ a. IfOk a (λ o. IfSome o (λ x. makes_entry command x.reply ≡ true
+          → IsCounted old.token.view.start old.token.view.words old.token.view.log
+          mid.token.view.log old.number command))) e counted;
+      due = subst (λ a. IfOk a (λ o. IfSome o (λ x. LeavesDue old.token.view mid.token.view
+          old.number x.due))) e left;
     }
-applies_by old mid command (Ok None) c r q n w few may counted left = tt
-applies_by old mid command (Err full) c r q n w few may counted left = tt
 
 -- it starts no rebuild
 applied_done : (old mid : Caller) → old.token.view.who ≡ CallerOf old.number
@@ -135,17 +137,15 @@ let_go old new mine resolved c refused number went few can due uncounted =
     }
 
 -- it was refused
-pub turned_by : (old new : Caller) (words key : ℕ) (value : Option ℕ)
-    (answer : Result (Option Applied) Full) → old.token.view.who ≡ CallerOf old.number
+pub turned_by : (old new : Caller) (words key : ℕ) (value : Option ℕ) (full : Full)
+    → old.token.view.who ≡ CallerOf old.number
     → IsResolved old.token.view old.number → IsCaller new → HasRefused new → new.number ≡ old.number
     → SearchedOn Updates old.token.view new.token.view → HasWalkedFew old.token.view new.token.view
-    → IfErr answer (λ full. WasRefused old.token.view key value words full new.token.view)
-    → IfErr answer (λ full. CanGiveUp new.token.view)
-    → OnErr answer (LeavesDue old.token.view new.token.view old.number None)
-    → OnErr answer (CountedNowhere old.token.view.log new.token.view.log old.number)
-    → IfErr answer (IsTurnedDown old new words key value)
-turned_by old new words key value (Ok a) mine resolved c r n w few cause can due uncounted = tt
-turned_by old new words key value (Err e) mine resolved c r n w few cause can due uncounted =
+    → WasRefused old.token.view key value words full new.token.view → CanGiveUp new.token.view
+    → LeavesDue old.token.view new.token.view old.number None
+    → CountedNowhere old.token.view.log new.token.view.log old.number
+    → IsTurnedDown old new words key value full
+turned_by old new words key value full mine resolved c r n w few cause can due uncounted =
     record { let_go = let_go old new mine resolved c r n w few can due uncounted; cause = cause }
 
 -- ---- a row was made due

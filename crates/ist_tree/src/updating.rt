@@ -15,7 +15,7 @@ ghost use Rattle.ist_tree.specs.Refusals.{HasStartsDone, IsRefused, KeepsRowRefu
 ghost use Rattle.ist_tree.specs.Rounds.{BeginsFewRounds};
 ghost use Rattle.ist_tree.specs.Updates.{HasAnswered, HasMetAt, HasMissedAt, HasRun, HasUpdated, HasWorked};
 ghost use Rattle.ist_tree.specs.Updates.{IsTurnedAway, OnlyFinds};
-ghost use Rattle.ist_tree.specs.Working.{Applies, CarriesOut, IsLetGo, IsTurnedDown, StartsDue};
+ghost use Rattle.ist_tree.specs.Working.{CarriesOut, IsLetGo, IsTurnedDown, StartsDue};
 
 use crate::finding::begin_find;
 use crate::passes::Pass;
@@ -24,7 +24,7 @@ use crate::trees::Tree;
 use ist_core::{Command, Full, Reply};
 use ist_rows::Caller;
 use ist_rule::{TreeTable, begin_call, end_call, give_up, know};
-use ist_updates::{Applied, When, apply_when};
+use ist_updates::{When, apply_when};
 
 // The put of a value at the key, or the remove of the key if there is no value.
 fn command_of(key: u64, value: Option<u64>) -> Command
@@ -58,29 +58,6 @@ struct Carried {
     refused: Option<Full>,
 }
 
-// Applies the update in the call that asks for it, if `when` allows the value that the key has.
-fn apply_asked(
-    table: &TreeTable,
-    who: &mut Caller,
-    key: u64,
-    value: Option<u64>,
-    when: When,
-) -> Result<Option<Applied>, Full>
-    requires same_table { who.old.token.table ≡ table.now.table }
-    requires asked { IsAsked who.old (command_for key value) }
-    ensures same_table { who.new.token.table ≡ table.now.table }
-    ensures applied { IfOk result (λ o. IfSome o (λ done.
-        Applies who.old who.new (command_for key value) done.reply done.due)) }
-    ensures met { IfOk result (λ o. IfSome o (λ done. IsMetBy when done.reply)) }
-    ensures let_go { result ≡ Ok None → IsLetGo who.old who.new }
-    ensures missed { result ≡ Ok None → WasMissed who.old.token.view who.new.token.view key when }
-    ensures full { IfErr result (λ full.
-        IsTurnedDown who.old who.new (word_count_of table.now) key value full) }
-    ensures starts { StartsDue who.old who.new }
-{
-    apply_when(table, who, key, value, when)
-}
-
 // Carries out the update, and rebuilds the topmost row that reached its limit by the update's
 // counts. Returns `None` if the key had a value at which the update isn't meant to take effect.
 fn carry_out_when(
@@ -102,7 +79,7 @@ fn carry_out_when(
         IsTurnedDown who.old who.new (word_count_of table.now) key value full) }
     ensures starts { StartsDue who.old who.new }
 {
-    match apply_asked(table, who, key, value, when)? {
+    match apply_when(table, who, key, value, when)? {
         Some(done) => {
             let refused = match done.due {
                 Some(due) => rebuild_due(table, who, due).err(),

@@ -1,7 +1,7 @@
 -- The owner's tally after what it takes back. Serves the calls of the owner.
-use Rattle.std.proofs.Common.{◌≡◌, ℕ, ◌+◌, ◌-◌, List, ◌++◌, sym, refl, ap, ◌∙◌, subst, arith}
+use Rattle.std.proofs.Common.{◌≡◌, ℕ, ◌+◌, ◌-◌, ◌≤◌, List, [], ◌∷◌, ◌++◌, length, length-append, sym, refl, ap, ◌∙◌, subst, arith}
 use Rattle.tele_steal.specs.declared.tallies.Tally.{Tally}
-use Rattle.tele_steal.specs.Tallies.{of_owner, IsOwners}
+use Rattle.tele_steal.specs.Tallies.{of_owner, HasDrawn, IsOwners}
 
 -- a tally written as an owner's is the owner's
 pub is_owners : {X : Type 0} (v : Tally X) (out : ℕ) (put back : List X) → v ≡ of_owner out put back
@@ -24,3 +24,12 @@ pub draw_step : {X : Type 0} (v w : Tally X) (put more : List X) → v ≡ of_ow
 draw_step v w put more old new =
     let back : v.back ++ more ≡ w.back = sym (ap (λ z. z.back) new) in
     new ∙ (λ i. of_owner ((ap (λ z. z.out) old) i) ((ap (λ z. z.put) old) i) (back i))
+
+-- the owner drew one: one more came back, of those that were put in
+pub room_after : {X : Type 0} (Fits : X → Type 0) (v w : Tally X) (put : List X) (x : X)
+    → v ≡ of_owner 0 put v.back → HasDrawn Fits v (x ∷ []) w
+    → (length w.back ≡ length v.back + 1) × (length v.back + 1 ≤ length put)
+room_after Fits v w put x old drawn =
+    let more = ap (λ z. length z.back) drawn.tally ∙ length-append v.back (x ∷ []) in
+    let all = ap (λ z. length z.put) (draw_step v w put (x ∷ []) old drawn.tally) in
+    (more, omega (arith, more, all, drawn.few))

@@ -7,7 +7,7 @@ ghost use Rattle.tele_steal.specs.Yards.{IsReadyYard};
 
 use crate::collecting::{get_back, hire_all, put_in, run_kept};
 use crate::tallies::{Hand, Owner, Thief};
-use crate::workers::work_hands;
+use crate::workers::work_all;
 use crate::yards::Yard;
 use ist_core::Port;
 use std::sync::Wait;
@@ -100,7 +100,7 @@ fn run_shared<R: Threads + Wait + Sync, P: Port + Send, G: Gate + Sync>(
     hire_all(owner, bags, hands);
     put_in(owner, &mut lanes, kept);
     run_kept(rt, gate, kept, &mut lanes);
-    work_hands(rt, gate, thief, hands);
+    work_all(rt, gate, thief, hands);
     get_back(rt, gate, owner, hands, bags, &mut lanes);
     lanes
 }

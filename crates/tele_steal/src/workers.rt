@@ -123,20 +123,21 @@ pub(crate) fn work_all<R: Threads + Wait + Sync, P: Port + Send, G: Gate + Sync>
     rt: &R,
     gate: &G,
     thief: &Thief<P>,
-    hands: &mut [Hand<P>],
+    hands: &mut Vec<Hand<P>>,
 )
-    requires tables { All (λ h. IsPassOf (stealer_deque thief.now) h.pass) hands.old }
+    requires tables { All (λ h. IsPassOf (stealer_deque thief.now) h.pass) hands.old.items }
     requires first_in { stealer_flavor thief.now ≡ 0 }
-    requires workers { All (λ h. view h.pass ≡ of_worker []) hands.old }
-    requires empty { All (λ h. h.bag.items ≡ []) hands.old }
-    requires room { All (λ h. 64 ≤ vec_capacity h.bag) hands.old }
-    ensures count { length hands.new ≡ length hands.old }
-    ensures tables { All (λ h. IsPassOf (stealer_deque thief.now) h.pass) hands.new }
-    ensures workers { All (λ h. view h.pass ≡ of_worker (taken_by (view h.pass))) hands.new }
+    requires workers { All (λ h. view h.pass ≡ of_worker []) hands.old.items }
+    requires empty { All (λ h. h.bag.items ≡ []) hands.old.items }
+    requires room { All (λ h. 64 ≤ vec_capacity h.bag) hands.old.items }
+    ensures count { length hands.new.items ≡ length hands.old.items }
+    ensures tables { All (λ h. IsPassOf (stealer_deque thief.now) h.pass) hands.new.items }
+    ensures workers { All (λ h. view h.pass ≡ of_worker (taken_by (view h.pass))) hands.new.items }
     ensures tickets { All (λ h. map (ticket P.tie) h.bag.items
-        ≡ map (ticket P.tie) (taken_by (view h.pass))) hands.new }
-    ensures ran { All (λ h. All (IsRunLane P.calls P.refused) h.bag.items) hands.new }
-    ensures room { All (λ h. 64 ≤ vec_capacity h.bag) hands.new }
+        ≡ map (ticket P.tie) (taken_by (view h.pass))) hands.new.items }
+    ensures ran { All (λ h. All (IsRunLane P.calls P.refused) h.bag.items) hands.new.items }
+    ensures room { All (λ h. 64 ≤ vec_capacity h.bag) hands.new.items }
+    ensures seats { vec_capacity hands.new ≡ vec_capacity hands.old }
 {
     if !hands.is_empty() {
         let count = hands.len();
@@ -156,31 +157,4 @@ pub(crate) fn work_all<R: Threads + Wait + Sync, P: Port + Send, G: Gate + Sync>
             },
         );
     }
-}
-
-/// Does the same for hands in a vector.
-///
-/// A vector that is lent as a slice gets back as many items as it had. That these are what the slice
-/// has, with all that is said of them, is shown here by itself, and not where the vector is used.
-pub(crate) fn work_hands<R: Threads + Wait + Sync, P: Port + Send, G: Gate + Sync>(
-    rt: &R,
-    gate: &G,
-    thief: &Thief<P>,
-    hands: &mut Vec<Hand<P>>,
-)
-    requires tables { All (λ h. IsPassOf (stealer_deque thief.now) h.pass) hands.old.items }
-    requires first_in { stealer_flavor thief.now ≡ 0 }
-    requires workers { All (λ h. view h.pass ≡ of_worker []) hands.old.items }
-    requires empty { All (λ h. h.bag.items ≡ []) hands.old.items }
-    requires room { All (λ h. 64 ≤ vec_capacity h.bag) hands.old.items }
-    ensures count { length hands.new.items ≡ length hands.old.items }
-    ensures tables { All (λ h. IsPassOf (stealer_deque thief.now) h.pass) hands.new.items }
-    ensures workers { All (λ h. view h.pass ≡ of_worker (taken_by (view h.pass))) hands.new.items }
-    ensures tickets { All (λ h. map (ticket P.tie) h.bag.items
-        ≡ map (ticket P.tie) (taken_by (view h.pass))) hands.new.items }
-    ensures ran { All (λ h. All (IsRunLane P.calls P.refused) h.bag.items) hands.new.items }
-    ensures room { All (λ h. 64 ≤ vec_capacity h.bag) hands.new.items }
-    ensures seats { vec_capacity hands.new ≡ vec_capacity hands.old }
-{
-    work_all(rt, gate, thief, hands);
 }

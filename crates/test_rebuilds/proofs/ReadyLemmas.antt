@@ -1,10 +1,13 @@
 -- What a caller knows of a rebuild over further steps. Serves the steps of the tests.
-use Rattle.std.proofs.Common.{ℕ}
+use Rattle.std.proofs.Common.{ℕ, ◌+◌, ◌<◌, arith}
 use Rattle.ist_core.specs.Marking.{HasTarget}
+use Rattle.ist_core.specs.Pieces.{Rebuild}
 use Rattle.ist_core.specs.Rebuilding.{IsFinishedWith, IsStarted}
 use Rattle.laws_links.proofs.FinishedLemmas.{target_grows}
 use Rattle.laws_links.proofs.FormLemmas.{finished_with_grows}
+use Rattle.test_rebuilds.specs.Races.{HasLaid}
 use Rattle.test_rebuilds.specs.Steps.{IsMarked}
+use Rattle.ist_dcss.proofs.FieldLemmas.{row_low}
 use Rattle.ist_mark.specs.Marking.{Marks}
 use Rattle.ist_rows.specs.Going.{IsReady}
 use Rattle.ist_rebuild.specs.Going.{Serves}
@@ -14,6 +17,7 @@ use Rattle.ist_rule.specs.declared.view.View.{View}
 use Rattle.ist_rule.specs.Faces.{TokenFace}
 use Rattle.ist_rule.specs.Going.{WentOn}
 use Rattle.ist_rule.specs.Learning.{GoesOnTo, now}
+use Rattle.ist_rule.specs.Rule.{IsSound}
 use Rattle.ist_rule.proofs.WentOnLemmas.{goes_on_went, went_grow}
 use Rattle.ist_rows.specs.declared.callers.Caller.{Caller}
 
@@ -42,3 +46,9 @@ marked_loads v w g rebuild target keys m =
       target_is = target_grows (now v) (now w) grow rebuild target m.target_is;
       finished = finished_with_grows (now v) (now w) grow target keys m.finished;
     }
+
+-- the root word of a rebuild for which a root was built lies within the table
+pub laid_low : (v : View) (number rebuild word : ℕ) → IsSound v → HasLaid v number rebuild word
+    → rebuild + 3 < v.words
+laid_low v number rebuild word s h =
+    (row_low v s rebuild (Rebuild h.built.row) h.built.published 3 (omega arith)).0

@@ -12,7 +12,7 @@ load-next-requires-clause-within c =
 
 -- the part that the draw word names may be drawn
 may : (c : After-load-next)
-    → MayDraw c.args.who.now c.load-next.new.seat (c.from-place.result + 4) c.load-next.result
+    → MayDraw c.args.who.now c.load-next.new.token (c.from-place.result + 4) c.load-next.result
     c.args.shared.degree
 may c =
     may_draw c.args.who.now _ c.requires.ready c.know.ensures.sound c.args.shared c.requires.shared
@@ -35,5 +35,5 @@ returns-then-next-shared-clause-back c =
 
 pub returns-clause-back : goal.returns-clause-back
 returns-clause-back c =
-    (may (goal.at.returns-clause-back c).After-load-next).back c.add.new.seat c.add.result
+    (may (goal.at.returns-clause-back c).After-load-next).back c.add.new.token c.add.result
     c.add.ensures.added.logged

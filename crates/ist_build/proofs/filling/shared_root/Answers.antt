@@ -14,7 +14,7 @@ load-root-requires-clause-within c =
     c.requires.told.published 3 _ (omega arith) (omega (arith, c.from.ensures))
 
 names : (c : After-load-root)
-    → NamesRoot c.load-root.new.seat.view c.args.rebuild c.args.target.base c.args.target.keys
+    → NamesRoot c.load-root.new.token.view c.args.rebuild c.args.target.base c.args.target.keys
     c.load-root.result
 names c =
     names_root _ _ c.args.rebuild c.args.target.base c.args.target.keys (c.from.result + 3) _

@@ -26,13 +26,13 @@ pub returns-then-stood-unset-clause-put : goal.returns-then-stood-unset-clause-p
 returns-then-stood-unset-clause-put c =
     λ old made.
     (may (goal.at.returns-then-stood-unset-clause-put c).After-from-place old made).hit
-    c.exchange_or_lose-stood.new.seat
+    c.exchange_or_lose-stood.new.token
     (c.exchange_or_lose-stood.ensures.exchanged.0 c.if-stood-unset.true)
 
 pub returns-else-stood-unset-clause-put : goal.returns-else-stood-unset-clause-put
 returns-else-stood-unset-clause-put c =
     λ old made.
     (may (goal.at.returns-else-stood-unset-clause-put c).After-from-place old made).missed
-    c.exchange_or_lose-stood.new.seat _
+    c.exchange_or_lose-stood.new.token _
     (λ e. c.if-stood-unset.false (e ∙ sym c.to_word-unset.ensures.value))
     (c.exchange_or_lose-stood.ensures.exchanged.1 c.if-stood-unset.false)

@@ -16,7 +16,7 @@ use Rattle.ist_dcss.proofs.helping.decide.Goals as goal
 -- the change may be decided by the status that was loaded
 pub exchange-stood-requires : goal.exchange-stood-requires
 exchange-stood-requires c =
-    let v = c.load_okay-status.new.seat.view in
+    let v = c.load_okay-status.new.token.view in
     let it = may_decide _ c.args.change c.requires.may_help _ c.field-node.ensures.went _
     c.field-node.ensures.field _ c.status_place.ensures.value _ v
     c.load_okay-status.ensures.seen in
@@ -45,7 +45,7 @@ exchange-stood-requires c =
 -- the caller only made steps that serve the change
 pub returns-clause-went : goal.returns-clause-went
 returns-clause-went c =
-    let v = c.load_okay-status.new.seat.view in
+    let v = c.load_okay-status.new.token.view in
     let it = may_decide _ c.args.change c.requires.may_help _ c.field-node.ensures.went _
     c.field-node.ensures.field _ c.status_place.ensures.value _ v
     c.load_okay-status.ensures.seen in
@@ -55,7 +55,7 @@ returns-clause-went c =
     let tells = decide_tells v c.args.change c.requires.may_help.number _ (c.from.result + 0) _ _
     it.row it.published at
     (subst (λ (e : Event). Exchanged v e (c.from.result + 0) undecided
-    c.exchange-stood.result c.exchange-stood.new.seat.view)
+    c.exchange-stood.result c.exchange-stood.new.token.view)
     (deciding_is v c.requires.may_help.number c.args.change (c.from.result + 0) _ _ it.mine
     base c.decision_for-wanted.ensures.value) c.exchange-stood.ensures.exchanged) in
     went_more (Serves c.args.change) _ v _ it.went tells.0
@@ -70,7 +70,7 @@ returns-clause-search c =
 -- the change has the decision that is returned
 pub returns-clause-decided : goal.returns-clause-decided
 returns-clause-decided c =
-    let v = c.load_okay-status.new.seat.view in
+    let v = c.load_okay-status.new.token.view in
     let it = may_decide _ c.args.change c.requires.may_help _ c.field-node.ensures.went _
     c.field-node.ensures.field _ c.status_place.ensures.value _ v
     c.load_okay-status.ensures.seen in
@@ -80,7 +80,7 @@ returns-clause-decided c =
     let tells = decide_tells v c.args.change c.requires.may_help.number _ (c.from.result + 0) _ _
     it.row it.published at
     (subst (λ (e : Event). Exchanged v e (c.from.result + 0) undecided
-    c.exchange-stood.result c.exchange-stood.new.seat.view)
+    c.exchange-stood.result c.exchange-stood.new.token.view)
     (deciding_is v c.requires.may_help.number c.args.change (c.from.result + 0) _ _ it.mine
     base c.decision_for-wanted.ensures.value) c.exchange-stood.ensures.exchanged) in
     let r = tells.1 in

@@ -61,7 +61,7 @@ returns-clause-went c =
     it.row
     it.published it.at c.to_word-word.ensures.value
     (subst (λ (e : Event). Exchanged v e c.slot_of-place.result c.to_word-word.result
-    c.exchange.result c.exchange.new.seat.view)
+    c.exchange.result c.exchange.new.token.view)
     (resolving_is v c.requires.may_help.number c.args.change c.to_word-word.result it.mine
     c.to_word-word.ensures.value) c.exchange.ensures.exchanged)).0
 
@@ -84,6 +84,6 @@ returns-clause-out c =
     (resolve_tells v c.know.ensures.sound c.args.change c.requires.may_help.number _ _ _ _ it.row
     it.published it.at c.to_word-word.ensures.value
     (subst (λ (e : Event). Exchanged v e c.slot_of-place.result c.to_word-word.result
-    c.exchange.result c.exchange.new.seat.view)
+    c.exchange.result c.exchange.new.token.view)
     (resolving_is v c.requires.may_help.number c.args.change c.to_word-word.result it.mine
     c.to_word-word.ensures.value) c.exchange.ensures.exchanged)).1

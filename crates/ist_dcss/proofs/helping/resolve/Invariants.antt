@@ -5,4 +5,4 @@ use Rattle.ist_dcss.proofs.helping.resolve.Given as goal
 
 -- the event is the Resolve of the change whose word is expected
 abbrev pub ghost-exchange : goal.ghost-exchange
-ghost-exchange a = resolving a.seat.now.view (a.old / tag_count)
+ghost-exchange a = resolving a.token.now.view (a.old / tag_count)

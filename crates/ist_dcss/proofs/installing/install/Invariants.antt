@@ -9,4 +9,4 @@ ghost-aim_of g a = g.filling
 
 -- the event is the Install of the change whose word is written
 abbrev pub ghost-exchange : goal.ghost-exchange
-ghost-exchange g a = installing a.seat.now.view g.filling (a.new / tag_count)
+ghost-exchange g a = installing a.token.now.view g.filling (a.new / tag_count)

@@ -19,5 +19,5 @@ load-requires-clause-within c =
 
 pub returns-clause-looked : goal.returns-clause-looked
 returns-clause-looked c =
-    subst (λ n. Looked c.args.token.now.view (n + c.args.offset) c.load.result c.load.new.seat.view)
+    subst (λ n. Looked c.args.token.now.view (n + c.args.offset) c.load.result c.load.new.token.view)
     c.from.ensures c.load.ensures.looked

@@ -7,7 +7,7 @@ use Rattle.ist_rows.proofs.block.take_all.Given as goal
 
 -- the events are the reservings of the words between
 abbrev pub ghost-exchange_all : goal.ghost-exchange_all
-ghost-exchange_all g a = reservings (number_of a.seat.now.view.who) a.old g.sizes
+ghost-exchange_all g a = reservings (number_of a.token.now.view.who) a.old g.sizes
 
 -- the first free word was read, after loads only
 abbrev pub invariant-turns : goal.invariant-turns

@@ -11,18 +11,18 @@ load_past-requires-clause-may_load c =
 -- the row is lost
 loses : (c : goal.After-who-1)
     → HasLost c.args.who.now.token.view c.args.who.now.number c.in-Some.pair c.args.node
-    c.load_past.new.seat.view
+    c.load_past.new.token.view
 loses c =
     has_lost c.args.who.now.token.view c.args.who.now.number c.in-Some.pair c.args.node _
-    c.load_past.result c.load_past.new.seat.view c.requires.caller.mine refl c.load_past.ensures.seen
+    c.load_past.result c.load_past.new.token.view c.requires.caller.mine refl c.load_past.ensures.seen
 
 pub returns-in-Some-clause-caller : goal.returns-in-Some-clause-caller
 returns-in-Some-clause-caller c =
     let l = loses c in
-    caller_dropped c.args.who.now c.load_past.new.seat c.in-Some.pair _ l.0 c.requires.caller
+    caller_dropped c.args.who.now c.load_past.new.token c.in-Some.pair _ l.0 c.requires.caller
     c.in-Some.is l.1
 
 pub returns-in-Some-clause-lost : goal.returns-in-Some-clause-lost
 returns-in-Some-clause-lost c =
     subst (λ o. IfSome o (λ pair. HasLost c.args.who.now.token.view c.args.who.now.number pair
-    c.args.node c.load_past.new.seat.view)) (sym c.in-Some.is) (loses c)
+    c.args.node c.load_past.new.token.view)) (sym c.in-Some.is) (loses c)

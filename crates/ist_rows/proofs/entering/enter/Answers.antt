@@ -25,14 +25,14 @@ returns-clause-caller c =
     let number = e.number in
     let made = e.made in
     let kept = e.given in
-    let less : c.add-number.new.seat.view.given < c.add-number.new.seat.view.made = omega arith in
-    let same : c.add-number.new.seat.view.given ≡ c.add-number.result = omega arith in
-    new_caller c.add-number.new.seat.view _ c.know-2.ensures.sound e.who less
+    let less : c.add-number.new.token.view.given < c.add-number.new.token.view.made = omega arith in
+    let same : c.add-number.new.token.view.given ≡ c.add-number.result = omega arith in
+    new_caller c.add-number.new.token.view _ c.know-2.ensures.sound e.who less
     c.split-token.ensures.new.1 (sym same) refl
 
 -- what both tokens are then
 split : (c : goal.After-split-token)
-    → Parts c.args.maker.now.view c.add-number.result c.split-token.new.seat.view
+    → Parts c.args.maker.now.view c.add-number.result c.split-token.new.token.view
     c.split-token.result.view
 split c =
     let e = entered _ _ _ c.know.ensures.sound c.requires.maker c.add-number.ensures.added.logged in
@@ -40,9 +40,9 @@ split c =
     let number = e.number in
     let made = e.made in
     let kept = e.given in
-    let less : c.add-number.new.seat.view.given < c.add-number.new.seat.view.made = omega arith in
-    let same : c.add-number.new.seat.view.given ≡ c.add-number.result = omega arith in
-    let p = parts c.args.maker.now.view c.add-number.new.seat.view c.add-number.result
+    let less : c.add-number.new.token.view.given < c.add-number.new.token.view.made = omega arith in
+    let same : c.add-number.new.token.view.given ≡ c.add-number.result = omega arith in
+    let p = parts c.args.maker.now.view c.add-number.new.token.view c.add-number.result
     c.requires.maker c.add-number.ensures.added.logged c.know-2.ensures.sound same less in
     subst (λ (w : View). Parts c.args.maker.now.view c.add-number.result w
     c.split-token.result.view) (sym c.split-token.ensures.old.1)

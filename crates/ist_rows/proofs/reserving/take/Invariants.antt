@@ -6,7 +6,7 @@ use Rattle.ist_rows.proofs.reserving.take.Given as goal
 
 -- the event is the reserving of the words between
 abbrev pub ghost-exchange : goal.ghost-exchange
-ghost-exchange a = reserving a.seat.now.view a.old a.new
+ghost-exchange a = reserving a.token.now.view a.old a.new
 
 -- the first free word was read, after loads only
 abbrev pub invariant-turns : goal.invariant-turns

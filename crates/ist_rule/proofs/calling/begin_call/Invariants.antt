@@ -1,5 +1,6 @@
+use Rattle.ist_rule.specs.Playing.{begins}
 use Rattle.ist_rule.proofs.calling.begin_call.Given as goal
 
--- the command is the one that the caller gives
-abbrev pub ghosts-begin_as : goal.ghosts-begin_as
-ghosts-begin_as a = record { command = a.command }
+-- the step begins a call with the command that the caller gives
+abbrev pub ghosts-load : goal.ghosts-load
+ghosts-load g a = record { then = begins g.asked }

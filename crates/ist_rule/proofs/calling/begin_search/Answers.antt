@@ -7,8 +7,8 @@ use Rattle.ist_rule.proofs.calling.begin_search.Goals as goal
 pub load-requires : goal.load-requires
 load-requires c =
     let i = c.table.invariant in (
-      ap (λ (s : TokenFace). s.table) c.seat.view_is ∙ c.requires.same_table ∙ sym
+      ap (λ (s : TokenFace). s.table) c.token.view_is ∙ c.requires.same_table ∙ sym
           (ap (λ (t : TableFace). t.table) c.table.view_is),
       omega arith,
-      searches_moves _ _ _ _ c.seat.invariant.1.live,
+      searches_moves _ _ _ _ c.token.invariant.1.live,
     )

@@ -1,5 +1,6 @@
+use Rattle.ist_rule.specs.Playing.{ends}
 use Rattle.ist_rule.proofs.calling.end_call.Given as goal
 
--- the call is the one that the caller shows
-abbrev pub ghosts-end_as : goal.ghosts-end_as
-ghosts-end_as g a = record { call = g.call }
+-- the step ends the call that the caller shows
+abbrev pub ghosts-load : goal.ghosts-load
+ghosts-load g a = record { then = ends g.call }

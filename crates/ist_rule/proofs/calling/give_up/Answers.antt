@@ -8,10 +8,10 @@ use Rattle.ist_rule.proofs.calling.give_up.Goals as goal
 pub load-requires : goal.load-requires
 load-requires c =
     let i = c.table.invariant in
-    let can = subst CanGiveUp (ap (λ (s : TokenFace). s.view) (sym c.seat.view_is))
+    let can = subst CanGiveUp (ap (λ (s : TokenFace). s.view) (sym c.token.view_is))
     c.requires.may_give_up in (
-      ap (λ (s : TokenFace). s.table) c.seat.view_is ∙ c.requires.same_table ∙ sym
+      ap (λ (s : TokenFace). s.table) c.token.view_is ∙ c.requires.same_table ∙ sym
           (ap (λ (t : TableFace). t.table) c.table.view_is),
       omega arith,
-      gives_up_moves _ _ _ _ c.seat.invariant.1.live can,
+      gives_up_moves _ _ _ _ c.token.invariant.1.live can,
     )

@@ -10,5 +10,5 @@ use Rattle.ist_rule.proofs.opening.close.Goals as goal
 pub returns-clause-words : goal.returns-clause-words
 returns-clause-words c =
     subst (λ (v : View). IsLast v (slots_items c.close_with.result.words))
-    (ap (λ (s : TokenFace). s.view) c.seat.view_is)
-    (closes _ _ _ _ _ c.seat.invariant.1.live c.close_with.ensures.values.2)
+    (ap (λ (s : TokenFace). s.view) c.token.view_is)
+    (closes _ _ _ _ _ c.token.invariant.1.live c.close_with.ensures.values.2)

@@ -10,30 +10,30 @@ use Rattle.ist_rule.proofs.seating.split.Goals as goal
 pub split_seat-requires : goal.split_seat-requires
 split_seat-requires c =
     let i = c.table.invariant in (
-      ap (λ (s : TokenFace). s.table) c.seat.view_is ∙ c.requires.same_table ∙ sym
+      ap (λ (s : TokenFace). s.table) c.token.view_is ∙ c.requires.same_table ∙ sym
           (ap (λ (t : TableFace). t.table) c.table.view_is),
       omega arith,
-      splits _ _ _ c.seat.invariant.1.live,
+      splits _ _ _ c.token.invariant.1.live,
     )
 
--- the seat that was split is sound
-pub invariant_of-seat : goal.invariant_of-seat
-invariant_of-seat c =
-    let v : View = c.seat.inside.seat.me.0 in
+-- the token that was split is sound
+pub invariant_of-token : goal.invariant_of-token
+invariant_of-token c =
+    let v : View = c.token.inside.seat.me.0 in
     let me = c.split_seat.ensures.2 in (
-      ap (λ (m : Seated). m.1) me ∙ c.seat.invariant.0,
-      subst (λ (m : Seated). IsSound m.0) (sym me) (left_sound v c.seat.invariant.1),
-      ap (λ (m : Seated). m.0.words) me ∙ left_words v ∙ c.seat.invariant.2 ∙ sym
+      ap (λ (m : Seated). m.1) me ∙ c.token.invariant.0,
+      subst (λ (m : Seated). IsSound m.0) (sym me) (left_sound v c.token.invariant.1),
+      ap (λ (m : Seated). m.0.words) me ∙ left_words v ∙ c.token.invariant.2 ∙ sym
           (ap (λ t. t.words) c.split_seat.ensures.0),
     )
 
--- the new seat keeps the invariant too
+-- the new token keeps the invariant too
 pub invariant_of-result : goal.invariant_of-result
 invariant_of-result c =
-    let v : View = c.seat.inside.seat.me.0 in
+    let v : View = c.token.inside.seat.me.0 in
     let me = c.split_seat.ensures.4 in (
       ap (λ (m : Seated). m.1) me,
-      subst (λ (m : Seated). IsSound m.0) (sym me) (right_sound v c.seat.invariant.1),
-      ap (λ (m : Seated). m.0.words) me ∙ right_words v ∙ c.seat.invariant.2 ∙ sym
+      subst (λ (m : Seated). IsSound m.0) (sym me) (right_sound v c.token.invariant.1),
+      ap (λ (m : Seated). m.0.words) me ∙ right_words v ∙ c.token.invariant.2 ∙ sym
           (ap (λ t. t.words) c.split_seat.ensures.3),
     )

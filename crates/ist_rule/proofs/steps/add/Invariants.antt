@@ -1,5 +1,6 @@
+use Rattle.ist_rule.specs.Playing.{adds}
 use Rattle.ist_rule.proofs.steps.add.Given as goal
 
--- the event is the one that the caller names
-abbrev pub ghosts-add_as : goal.ghosts-add_as
-ghosts-add_as g a = record { event = g.event }
+-- the step is the event that the caller names for the word found
+abbrev pub ghosts-fetch_add : goal.ghosts-fetch_add
+ghosts-fetch_add g a = record { then = adds g.event }

@@ -1,5 +1,6 @@
+use Rattle.ist_rule.specs.Playing.{exchanges}
 use Rattle.ist_rule.proofs.steps.exchange.Given as goal
 
--- the event is the one that the caller names
-abbrev pub ghosts-exchange_as : goal.ghosts-exchange_as
-ghosts-exchange_as g a = record { event = g.event }
+-- the step is the event that the caller names, or a load
+abbrev pub ghosts-compare_exchange : goal.ghosts-compare_exchange
+ghosts-compare_exchange g a = record { then = exchanges g.event }

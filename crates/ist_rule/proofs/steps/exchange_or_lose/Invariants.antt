@@ -1,5 +1,6 @@
+use Rattle.ist_rule.specs.Playing.{exchanges_or_loses}
 use Rattle.ist_rule.proofs.steps.exchange_or_lose.Given as goal
 
--- the events are those that the caller names
-abbrev pub ghosts-exchange_or_lose_as : goal.ghosts-exchange_or_lose_as
-ghosts-exchange_or_lose_as g a = record { events = g.events }
+-- the step is one of the two events that the caller names
+abbrev pub ghosts-compare_exchange : goal.ghosts-compare_exchange
+ghosts-compare_exchange g a = record { then = exchanges_or_loses g.events }

@@ -8,8 +8,8 @@ pub load-requires : goal.load-requires
 load-requires c =
     let w = ap (λ (t : TableFace). t.table.words) c.table.view_is in
     let p = c.requires.within in (
-      ap (λ (s : TokenFace). s.table) c.seat.view_is ∙ c.requires.same_table ∙ sym
+      ap (λ (s : TokenFace). s.table) c.token.view_is ∙ c.requires.same_table ∙ sym
           (ap (λ (t : TableFace). t.table) c.table.view_is),
       omega arith,
-      looks_moves _ _ _ _ _ c.seat.invariant.1.live,
+      looks_moves _ _ _ _ _ c.token.invariant.1.live,
     )

@@ -11,22 +11,22 @@ pub store-requires : goal.store-requires
 store-requires c =
     let w = ap (λ (t : TableFace). t.table.words) c.table.view_is in
     let p = c.requires.within in
-    let own = subst (λ x. IsOwn x c.args.place) (ap (λ (s : TokenFace). s.view) (sym c.seat.view_is))
+    let own = subst (λ x. IsOwn x c.args.place) (ap (λ (s : TokenFace). s.view) (sym c.token.view_is))
     c.requires.own in (
-      ap (λ (s : TokenFace). s.table) c.seat.view_is ∙ c.requires.same_table ∙ sym
+      ap (λ (s : TokenFace). s.table) c.token.view_is ∙ c.requires.same_table ∙ sym
           (ap (λ (t : TableFace). t.table) c.table.view_is),
       omega arith,
-      stores_moves _ _ _ _ _ _ c.seat.invariant.1.live own,
+      stores_moves _ _ _ _ _ _ c.token.invariant.1.live own,
     )
 
--- the seat is sound
-pub invariant_of-seat : goal.invariant_of-seat
-invariant_of-seat c =
+-- the token is sound
+pub invariant_of-token : goal.invariant_of-token
+invariant_of-token c =
     let e = c.store.ensures in
-    let v : View = c.seat.inside.seat.me.0 in
-    let own = subst (λ x. IsOwn x c.args.place) (ap (λ (s : TokenFace). s.view) (sym c.seat.view_is))
+    let v : View = c.token.inside.seat.me.0 in
+    let own = subst (λ x. IsOwn x c.args.place) (ap (λ (s : TokenFace). s.view) (sym c.token.view_is))
     c.requires.own in (
-      e.2.1 ∙ c.seat.invariant.0,
-      subst IsSound (sym e.2.0) (storing_sound v c.args.place c.args.word own c.seat.invariant.1),
-      ap (λ (x : View). x.words) e.2.0 ∙ c.seat.invariant.2 ∙ sym (ap (λ t. t.words) e.0),
+      e.2.1 ∙ c.token.invariant.0,
+      subst IsSound (sym e.2.0) (storing_sound v c.args.place c.args.word own c.token.invariant.1),
+      ap (λ (x : View). x.words) e.2.0 ∙ c.token.invariant.2 ∙ sym (ap (λ t. t.words) e.0),
     )

@@ -2,5 +2,5 @@ use Rattle.ist_rule.specs.Watching.{okay_of}
 use Rattle.ist_rule.proofs.watching.load_okay.Given as goal
 
 -- the event is named by the rows that are given
-abbrev pub ghosts-load_as : goal.ghosts-load_as
-ghosts-load_as a = record { event = okay_of a.seat.now.view a.row }
+abbrev pub ghost-load_as : goal.ghost-load_as
+ghost-load_as a = okay_of a.token.now.view a.row

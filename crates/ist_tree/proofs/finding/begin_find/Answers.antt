@@ -5,7 +5,7 @@ pub returns-clause-found : goal.returns-clause-found
 returns-clause-found c =
     record {
       sound = c.know.ensures.sound;
-      began = c.begin_call.new.seat.view;
+      began = c.begin_call.new.token.view;
       begun = c.begin_call.ensures.begun;
       seen = c.find_from_anchor.ensures.seen;
       position = c.find_from_anchor.ensures.value;

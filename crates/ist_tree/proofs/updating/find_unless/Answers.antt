@@ -13,7 +13,7 @@ give_up-requires-clause-may_give_up c =
     may_stop_found c.pass.inside.caller _ _ _ c.pass.invariant.pass c.begin_find-found.ensures.found
 
 stops : (c : After-know-then-eq) → StopsFound c.args.pass.now c.pass.inside.caller
-    c.pass.inside.refused c.give_up.new.seat c.args.key c.begin_find-found.result.value
+    c.pass.inside.refused c.give_up.new.token c.args.key c.begin_find-found.result.value
 stops c =
     stops_found c.pass.inside.caller _ _ _ c.pass.invariant.pass c.begin_find-found.ensures.found _ _
     c.pass.invariant (c.give_up.ensures.same_table ∙ c.begin_find-found.ensures.same_table) _
@@ -29,7 +29,7 @@ pub returns-then-eq-clause-met : goal.returns-then-eq-clause-met
 returns-then-eq-clause-met c e =
     let same : c.begin_find-found.result.value ≡ c.args.expected = search rules in
     subst (HasMetAt c.args.pass.now
-    (face_as c.give_up.new.seat c.pass.inside.caller.number c.pass.inside.refused) c.args.key) same
+    (face_as c.give_up.new.token c.pass.inside.caller.number c.pass.inside.refused) c.args.key) same
     (stops c).met
 
 -- it met another
@@ -44,7 +44,7 @@ end_call-requires c = (
 )
 
 ends : (c : After-know-2) → EndsFound c.args.pass.now c.pass.inside.caller c.pass.inside.refused
-    c.end_call.new.seat c.args.key c.begin_find-found.result.value
+    c.end_call.new.token c.args.key c.begin_find-found.result.value
 ends c =
     ends_found c.pass.inside.caller _ _ _ c.pass.invariant.pass c.begin_find-found.ensures.found _ _
     c.pass.invariant (c.end_call.ensures.same_table ∙ c.begin_find-found.ensures.same_table) _

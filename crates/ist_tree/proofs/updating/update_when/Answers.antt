@@ -21,7 +21,7 @@ end_call-requires c = (
       c.in-Some.is c.in-Ok.ensures.carried),
 )
 
-ends : (c : goal.After-pass-1) → CallEnds c.args.pass.now c.carry_out_when.new.who c.end_call.new.seat
+ends : (c : goal.After-pass-1) → CallEnds c.args.pass.now c.carry_out_when.new.who c.end_call.new.token
     c.or-pass-inside.result (command_for c.args.key c.args.value) c.in-Some.done.reply
 ends c =
     call_ends _ _ _ _ _ _ _
@@ -45,7 +45,7 @@ returns-in-Some-clause-updated c = (ends c).updated
 
 -- it was refused
 refused : (c : After-give_up-in-Err) → CallStops c.args.pass.now c.begin.new.who
-    c.carry_out_when.new.who c.give_up-in-Err.new.seat c.pass.inside.refused
+    c.carry_out_when.new.who c.give_up-in-Err.new.token c.pass.inside.refused
     (word_count_of c.tree.inside.table)
 refused c =
     call_stops _ _ _ _ _ _ _
@@ -66,7 +66,7 @@ returns-in-Err-clause-turned_away c = (refused c).turned_away _ _ _ c.in-Err.ens
 
 -- it met another value
 missed : (c : After-give_up) → CallStops c.args.pass.now c.begin.new.who c.carry_out_when.new.who
-    c.give_up.new.seat c.pass.inside.refused (word_count_of c.tree.inside.table)
+    c.give_up.new.token c.pass.inside.refused (word_count_of c.tree.inside.table)
 missed c =
     call_stops _ _ _ _ _ _ _
     (begins_update c.pass.inside.caller c.begin.new.who _ _ _ _ _ _

@@ -3,4 +3,4 @@ use Rattle.ist_tree.proofs.updating.update_when.Given as goal
 
 -- the call ends at its entry, or at the first position with its reply
 abbrev pub ghost-end_call : goal.ghost-end_call
-ghost-end_call a = ended_call a.seat.now.view a.reply
+ghost-end_call a = ended_call a.token.now.view a.reply

@@ -15,7 +15,7 @@ turns-init c =
     (refl, refl, record { went = went; asked = c.requires.asked }, le_refl _)
 
 -- a walk begins, at the anchor
-turn : (c : After-begin_search) → IsTurn c.args.who.now c.turns.who c.begin_search.new.seat
+turn : (c : After-begin_search) → IsTurn c.args.who.now c.turns.who c.begin_search.new.token
     c.args.key c.args.value
 turn c =
     let i = c.turns.invariant in let begun = c.begin_search.ensures.begun in

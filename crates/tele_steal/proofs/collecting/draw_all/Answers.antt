@@ -1,7 +1,7 @@
-use Rattle.std.proofs.Common.{[], ◌∷◌, length, ap, ◌∙◌, arith, rules, length-append}
+use Rattle.std.proofs.Common.{[], ap, arith, rules}
 use Rattle.std.proofs.lemmas.List.Elements.{All-head}
 use Rattle.tele_steal.specs.Runs.{IsNewLane, ticket}
-use Rattle.tele_steal.proofs.OwnerLemmas.{is_owners, draw_step}
+use Rattle.tele_steal.proofs.OwnerLemmas.{draw_step, is_owners, room_after}
 use Rattle.tele_steal.proofs.RunLemmas.{behind, same_length}
 use Rattle.tele_steal.proofs.collecting.draw_all.Goals as goal
 
@@ -17,10 +17,8 @@ run_into-requires-clause-fresh g c κs within =
 -- there is room
 pub run_into-requires-clause-room : goal.run_into-requires-clause-room
 run_into-requires-clause-room g c =
-    let drawn = c.in-Some-draw.ensures.drawn in
-    let put = ap (λ v. length v.put) (draw_step _ _ _ _ c.loop.invariant.owner drawn.tally) in
-    let back = ap (λ v. length v.back) drawn.tally ∙ length-append _ (c.in-Some-draw.lane ∷ []) in
-    omega (arith, put, back, drawn.few, c.loop.invariant.room)
+    let room = room_after _ _ _ _ _ c.loop.invariant.owner c.in-Some-draw.ensures.drawn in
+    omega (arith, room, c.loop.invariant.room)
 
 -- one more lane came back
 pub loop-preserved : goal.loop-preserved
@@ -29,15 +27,13 @@ loop-preserved g c =
     let drawn = c.in-Some-draw.ensures.drawn in
     let now = c.run_into.ensures in
     let t = ticket g.P.Port.tie in
-    let back = ap (λ v. v.back) drawn.tally in
-    let sum = ap length back ∙ length-append _ (c.in-Some-draw.lane ∷ []) in
-    let grown = same_length t c.loop.lanes.items c.run_into.new.bag.items
-    (t c.in-Some-draw.lane ∷ []) now.tickets in
+    let room = room_after _ _ _ _ _ old.owner drawn in
+    let grown = same_length t c.loop.lanes.items c.run_into.new.bag.items _ now.tickets in
     record {
       same = search (arith, rules);
       owner = draw_step _ _ _ _ old.owner drawn.tally;
-      tickets = λ kept before. behind t t _ _ kept _ (c.in-Some-draw.lane ∷ []) _ now.tickets
-          (old.tickets kept before) back;
+      tickets = λ kept before. behind t t _ _ kept _ _ _ now.tickets (old.tickets kept before)
+          (ap (λ v. v.back) drawn.tally);
       ran = now.ran old.ran;
-      room = omega (arith, sum, grown, old.room, now.room);
+      room = omega (arith, room.0, grown, old.room, now.room);
     }

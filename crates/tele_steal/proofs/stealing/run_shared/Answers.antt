@@ -20,8 +20,8 @@ run_kept-requires-clause-room g c =
     omega (arith, n, c.put_in.ensures.lane_room, c.args.lanes.ok)
 
 -- the passes are of this deque
-pub work_hands-requires-clause-tables : goal.work_hands-requires-clause-tables
-work_hands-requires-clause-tables g c κs within =
+pub work_all-requires-clause-tables : goal.work_all-requires-clause-tables
+work_all-requires-clause-tables g c κs within =
     subst (λ d. All (λ (h : Hand g.row.P.Denot g.row.P-Tie.Denot). IsPassOf d h.pass)
     c.hire_all.new.hands.items)
     (sym c.requires.ready.same) c.hire_all.ensures.tables
@@ -29,9 +29,9 @@ work_hands-requires-clause-tables g c κs within =
 pub get_back-requires-clause-tables : goal.get_back-requires-clause-tables
 get_back-requires-clause-tables g c κs within =
     subst (λ d. All (λ (h : Hand g.row.P.Denot g.row.P-Tie.Denot). IsPassOf d h.pass)
-    c.work_hands.new.hands.items)
+    c.work_all.new.hands.items)
     (c.requires.ready.same ∙ sym (c.put_in.ensures.same.0 ∙ c.hire_all.ensures.same.0))
-    c.work_hands.ensures.tables
+    c.work_all.ensures.tables
 
 -- there is room for all lanes
 pub get_back-requires-clause-lane_room : goal.get_back-requires-clause-lane_room
@@ -48,7 +48,7 @@ returns-clause-ready g c =
     let was = c.requires.ready in
     let hired = c.hire_all.ensures in
     let put = c.put_in.ensures in
-    let worked = c.work_hands.ensures in
+    let worked = c.work_all.ensures in
     let got = c.get_back.ensures in
     let bags = got.bags ∙ worked.count ∙ hired.count in
     record {

@@ -16,7 +16,7 @@ fill_row-requires-2-clause-row g c =
 pub install-requires : goal.install-requires
 install-requires g c = (
   c.begin_call.ensures.same_table ∙ c.fill_row-2.ensures.same_table,
-  subst (λ (f : Filling). IsInstallable c.begin_call.new.seat.view c.args.change f)
+  subst (λ (f : Filling). IsInstallable c.begin_call.new.token.view c.args.change f)
       (sym c.requires.1.0)
       (put_filled c.args.who.now c.fill_row.new.who c.fill_row-2.new.who _ _ _ _ _ _
       c.requires.1.1.1.1.0 c.requires.1.1.1.1.1.0.0 c.requires.1.1.1.1.1.0.1 c.to_word-from.ensures.value
@@ -36,5 +36,5 @@ returns-clause-may_help g c is =
     c.fill_row.ensures.stored c.fill_row-2.ensures.stored c.fill_row-2.ensures.caller
     c.know.ensures.sound _ c.begin_call.ensures.begun).1
     c.begin_call.ensures.begun
-    (subst (λ (f : Filling). IsInstalled c.begin_call.new.seat.view c.args.change f
+    (subst (λ (f : Filling). IsInstalled c.begin_call.new.token.view c.args.change f
     c.install.new.token.view) c.requires.1.0 (c.install.ensures.yes is))

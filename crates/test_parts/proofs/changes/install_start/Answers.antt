@@ -1,4 +1,4 @@
-use Rattle.std.proofs.Common.{ap, ◌∙◌}
+use Rattle.std.proofs.Common.{ap, refl, ◌∙◌}
 use Rattle.ist_rows.specs.declared.callers.Caller.{Caller}
 use Rattle.test_parts.proofs.NewStartLemmas.{HasFilledStart, begins_met, start_filled, met_installable, start_helps}
 use Rattle.test_parts.proofs.changes.install_start.Goals as goal
@@ -19,10 +19,15 @@ filled c =
     c.fill_row.ensures.stored c.fill_row-2.ensures.stored c.fill_row-2.ensures.caller
 
 -- it is in no call
-pub begin_call-requires-clause-may_begin : goal.begin_call-requires-clause-may_begin
-begin_call-requires-clause-may_begin c =
-    begins_met _ (filled (goal.at.begin_call-requires-clause-may_begin c).After-fill_row-2) _ _ _
-    c.load-met.ensures.looked
+pub begin_call-requires : goal.begin_call-requires
+begin_call-requires c = (
+  c.load-met.ensures.same_table ∙ c.fill_row-2.ensures.same_table,
+  (
+    begins_met _ (filled (goal.at.begin_call-requires c).After-fill_row-2) _ _ _
+        c.load-met.ensures.looked,
+    refl,
+  ),
+)
 
 -- the rows are filled, the row at 4 was met, and the call has begun
 pub install-requires : goal.install-requires

@@ -16,13 +16,13 @@ help-requires-clause-may_help c =
 -- a caller that made a load is still a caller
 pub returns-clause-caller : goal.returns-clause-caller
 returns-clause-caller c =
-    caller_goes_on c.args.who.now c.load-met.new.seat c.requires.caller
+    caller_goes_on c.args.who.now c.load-met.new.token c.requires.caller
     (looked_goes_on _ _ _ _ c.load-met.ensures.looked)
 
 -- and so it is when it has helped
 pub returns-then-met-to_word-clause-caller : goal.returns-then-met-to_word-clause-caller
 returns-then-met-to_word-clause-caller c =
     caller_went _ c.help.new.token
-    (caller_goes_on c.args.who.now c.load-met.new.seat c.requires.caller
+    (caller_goes_on c.args.who.now c.load-met.new.token c.requires.caller
     (looked_goes_on _ _ _ _ c.load-met.ensures.looked))
     (went_all _ _ (serves_keep 6) _ _ c.help.ensures.went)

@@ -1,6 +1,6 @@
 use Rattle.ist_dcss.proofs.TargetLemmas.{started_rebuild}
 use Rattle.test_rebuilds.proofs.ReadyLemmas.{is_marked}
-use Rattle.ist_rebuild.proofs.BuiltOutLemmas.{has_marked, may_mark}
+use Rattle.ist_rebuild.proofs.BuiltOutLemmas.{HasMarked, has_marked, may_mark}
 use Rattle.ist_rows.proofs.GoneLemmas.{still_ready}
 use Rattle.test_rebuilds.proofs.callers.mark.Goals as goal
 
@@ -16,31 +16,25 @@ mark_and_count-keys-requires-clause-may_mark c =
     c.requires.started c.target_of-target.ensures.seen c.target_of-target.ensures.target
 
 -- and is finished then
+marked : (c : goal.After-mark_and_count-keys)
+    → HasMarked c.args.who.now c.mark_and_count-keys.new.token c.args.rebuild
+marked c =
+    has_marked c.args.who.now c.target_of-target.new.token _ _ _ _ c.requires.ready
+    c.requires.started c.target_of-target.ensures.seen c.target_of-target.ensures.target
+    c.mark_and_count-keys.ensures.went c.mark_and_count-keys.ensures.finished
+
 pub returns-clause-ready : goal.returns-clause-ready
-returns-clause-ready c =
-    still_ready (has_marked c.args.who.now c.target_of-target.new.token
-    c.mark_and_count-keys.new.token
-    c.args.rebuild _ _ c.requires.ready c.requires.started c.target_of-target.ensures.seen
-    c.target_of-target.ensures.target c.mark_and_count-keys.ensures.went
-    c.mark_and_count-keys.ensures.finished).helped.on
+returns-clause-ready c = still_ready (marked c).helped.on
 
 pub returns-clause-marked : goal.returns-clause-marked
 returns-clause-marked c =
-    is_marked c.args.who.now c.target_of-target.new.token c.mark_and_count-keys.new.token
-    c.args.rebuild _ _ c.requires.ready c.requires.started c.target_of-target.ensures.seen
+    is_marked c.args.who.now c.target_of-target.new.token c.mark_and_count-keys.new.token _ _ _
+    c.requires.ready c.requires.started c.target_of-target.ensures.seen
     c.target_of-target.ensures.target c.mark_and_count-keys.ensures.went
     c.mark_and_count-keys.ensures.finished
 
 pub returns-clause-started : goal.returns-clause-started
-returns-clause-started c =
-    (is_marked c.args.who.now c.target_of-target.new.token c.mark_and_count-keys.new.token
-    c.args.rebuild _ _ c.requires.ready c.requires.started c.target_of-target.ensures.seen
-    c.target_of-target.ensures.target c.mark_and_count-keys.ensures.went
-    c.mark_and_count-keys.ensures.finished).started
+returns-clause-started c = (returns-clause-marked c).started
 
 pub returns-clause-buildable : goal.returns-clause-buildable
-returns-clause-buildable c =
-    (has_marked c.args.who.now c.target_of-target.new.token c.mark_and_count-keys.new.token
-    c.args.rebuild _ _ c.requires.ready c.requires.started c.target_of-target.ensures.seen
-    c.target_of-target.ensures.target c.mark_and_count-keys.ensures.went
-    c.mark_and_count-keys.ensures.finished).buildable
+returns-clause-buildable c = (marked c).buildable

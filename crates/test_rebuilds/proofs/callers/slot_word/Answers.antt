@@ -8,7 +8,7 @@ use Rattle.test_rebuilds.proofs.callers.slot_word.Goals as goal
 
 pub returns-clause-ready : goal.returns-clause-ready
 returns-clause-ready c =
-    still_ready (loads_helped c.args.who.now c.load.new.seat c.requires.ready
+    still_ready (loads_helped c.args.who.now c.load.new.token c.requires.ready
     (looked_goes_on _ _ _ _ c.load.ensures.looked)).on
 
 -- the slot held the word that was loaded

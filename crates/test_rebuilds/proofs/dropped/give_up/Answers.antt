@@ -1,41 +1,40 @@
-use Rattle.std.proofs.Common.{◌∙◌}
 use Rattle.ist_mark.proofs.BelowLemmas.{read_as}
 use Rattle.ist_rule.proofs.GoingOnLemmas.{looked_goes_on}
+use Rattle.ist_rows.specs.Rows.{IsCaller}
 use Rattle.ist_rows.proofs.CallerGoingLemmas.{caller_goes_on}
 use Rattle.test_rebuilds.proofs.DroppedLemmas.{below_row_in_slot}
 use Rattle.test_rebuilds.proofs.dropped.give_up.Goals as goal
+use Rattle.test_rebuilds.proofs.dropped.give_up.Goals.{After-load-word}
 
 -- a caller that has made a load is still a caller
-pub returns-in_default : goal.returns-in_default
-returns-in_default c = record {
-  same_table = c.load-word.ensures.same_table ∙ c.requires.same_table;
-  caller = caller_goes_on c.args.who.now c.load-word.new.seat c.requires.caller
-      (looked_goes_on _ _ _ _ c.load-word.ensures.looked);
-}
+still : (c : After-load-word) → IsCaller (record c.args.who.now { token = c.load-word.new.token })
+still c =
+    caller_goes_on c.args.who.now c.load-word.new.token c.requires.caller
+    (looked_goes_on _ _ _ _ c.load-word.ensures.looked)
+
+pub returns-in_default-clause-caller : goal.returns-in_default-clause-caller
+returns-in_default-clause-caller c =
+    still (goal.at.returns-in_default-clause-caller c).After-load-word
 
 pub returns-in_default-2-clause-caller : goal.returns-in_default-2-clause-caller
 returns-in_default-2-clause-caller c =
-    caller_goes_on c.args.who.now c.load-word.new.seat c.requires.caller
-    (looked_goes_on _ _ _ _ c.load-word.ensures.looked)
+    still (goal.at.returns-in_default-2-clause-caller c).After-load-word
 
 pub drop_pair-requires-clause-caller : goal.drop_pair-requires-clause-caller
 drop_pair-requires-clause-caller c =
-    caller_goes_on c.args.who.now c.load-word.new.seat c.requires.caller
-    (looked_goes_on _ _ _ _ c.load-word.ensures.looked)
+    still (goal.at.drop_pair-requires-clause-caller c).After-load-word
 
 -- its pair row lies below the row in the slot
 pub drop_pair-requires-clause-below : goal.drop_pair-requires-clause-below
 drop_pair-requires-clause-below c =
-    below_row_in_slot c.args.who.now c.load-word.new.seat _ _ _ c.load-word.ensures.looked
+    below_row_in_slot c.args.who.now c.load-word.new.token _ _ _ c.load-word.ensures.looked
     (read_as _ _ _ _ c.from_word.ensures.value c.in-Some-Inner.is c.in-Some-Inner.field-0-is)
     c.in-Some.is c.if-pair-base.true
 
 pub returns-in_default-pair-clause-caller : goal.returns-in_default-pair-clause-caller
 returns-in_default-pair-clause-caller c =
-    caller_goes_on c.args.who.now c.load-word.new.seat c.requires.caller
-    (looked_goes_on _ _ _ _ c.load-word.ensures.looked)
+    still (goal.at.returns-in_default-pair-clause-caller c).After-load-word
 
 pub returns-in_default-pair-2-clause-caller : goal.returns-in_default-pair-2-clause-caller
 returns-in_default-pair-2-clause-caller c =
-    caller_goes_on c.args.who.now c.load-word.new.seat c.requires.caller
-    (looked_goes_on _ _ _ _ c.load-word.ensures.looked)
+    still (goal.at.returns-in_default-pair-2-clause-caller c).After-load-word

@@ -26,9 +26,8 @@ returns-clause-filled c =
     record {
       caller = c.fill_both.ensures.caller;
       installable = put_filled c.args.who.now (record c.args.who.now { token = c.is_open.new.token })
-          c.plan.new.who c.fill_both.new.who c.args.key c.args.value c.args.slot.node
-          c.args.slot.index c.args.slot.word c.in-Ok.put.change c.in-Ok.put.leaf c.in-Ok.put.row
-          c.requires.asked
+          c.plan.new.who c.fill_both.new.who _ _ _ _ _ c.in-Ok.put.change c.in-Ok.put.leaf
+          c.in-Ok.put.row c.requires.asked
           (loads_gone Prepares c.args.who.now c.is_open.new.token c.requires.asked.caller
           c.requires.asked.refused c.is_open.ensures.seen)
           (slot_loads _ _ c.requires.at_slot _ c.is_open.ensures.seen)

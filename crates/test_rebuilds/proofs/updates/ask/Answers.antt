@@ -9,14 +9,14 @@ use Rattle.test_rebuilds.proofs.updates.ask.Goals as goal
 pub returns-clause-begun : goal.returns-clause-begun
 returns-clause-begun c =
     subst (λ (command : Command). Turned c.args.who.now.token.view
-    (beginning c.args.who.now.token.view (Some command)) c.begin_call.new.seat.view)
+    (beginning c.args.who.now.token.view (Some command)) c.begin_call.new.token.view)
     c.command_of.ensures.value c.begin_call.ensures.begun
 
 -- and nothing of it took effect yet
 pub returns-clause-asked : goal.returns-clause-asked
 returns-clause-asked c =
-    begun_asked c.args.who.now c.begin_call.new.seat (command_for c.args.key c.args.value)
+    begun_asked c.args.who.now c.begin_call.new.token (command_for c.args.key c.args.value)
     c.know.ensures.sound c.requires.pass
     (subst (λ (command : Command). Turned c.args.who.now.token.view
-    (beginning c.args.who.now.token.view (Some command)) c.begin_call.new.seat.view)
+    (beginning c.args.who.now.token.view (Some command)) c.begin_call.new.token.view)
     c.command_of.ensures.value c.begin_call.ensures.begun)

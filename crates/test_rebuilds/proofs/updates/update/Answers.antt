@@ -15,5 +15,5 @@ end_call-requires c =
 -- and its caller is in none then
 pub returns-in-Ok-clause-pass : goal.returns-in-Ok-clause-pass
 returns-in-Ok-clause-pass c _ =
-    ended_pass c.apply.new.who c.end_call.new.seat _ c.in-Ok.ensures.caller c.in-Ok.ensures.refused
+    ended_pass c.apply.new.who c.end_call.new.token _ c.in-Ok.ensures.caller c.in-Ok.ensures.refused
     c.end_call.ensures.ended

@@ -13,8 +13,7 @@ pub returns-clause-ran : goal.returns-clause-ran
 returns-clause-ran g c =
     let opened = c.in_ok-tree.ensures.new in
     let new = opened.opens.new in
-    let same_tree = c.dismiss_all.ensures.same_tree ∙ c.hire_all.ensures.same_tree
-    ∙ new.same_tree in
+    let same_tree = c.dismiss_all.ensures.same_tree ∙ c.hire_all.ensures.same_tree ∙ new.same_tree in
     let made = c.hire_all.ensures.made in
     let none = new.made in
     let still = c.dismiss_all.ensures.made in

@@ -19,7 +19,7 @@ end_call-requires c = (
 
 -- what the find results in
 ends : (c : After-know-2) → EndsFound c.args.pass.now c.pass.inside.caller c.pass.inside.refused
-    c.end_call.new.seat c.args.key c.begin_find-found.result.value
+    c.end_call.new.token c.args.key c.begin_find-found.result.value
 ends c =
     ends_found c.pass.inside.caller _ _ _ c.pass.invariant.pass c.begin_find-found.ensures.found _ _
     c.pass.invariant (c.end_call.ensures.same_table ∙ c.begin_find-found.ensures.same_table) _

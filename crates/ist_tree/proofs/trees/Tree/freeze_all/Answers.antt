@@ -12,10 +12,10 @@ give_up-requires-clause-may_give_up c =
     c.begin.ensures.number c.begin.ensures.begun c.begin.ensures.ready c.in-Ok.ensures.froze.on
 
 ends : (c : goal.After-result-1) → FreezeEnds c.args.pass.now c.freeze_below.new.who
-    c.give_up.new.seat c.or-pass-inside.result c.in-Ok.outcome.frozen
+    c.give_up.new.token c.or-pass-inside.result c.in-Ok.outcome.frozen
 ends c =
     freeze_ends _ _ _ _
-    (way_of c.pass.inside.caller c.begin.new.who _ c.give_up.new.seat c.begin.ensures.sound
+    (way_of c.pass.inside.caller c.begin.new.who _ c.give_up.new.token c.begin.ensures.sound
     c.pass.invariant.pass c.begin.ensures.number c.begin.ensures.begun c.begin.ensures.ready
     c.in-Ok.ensures.froze.on c.give_up.ensures.given_up) _ _ c.pass.invariant _
     (words_are c.pass.inside.caller _ _ _ _ c.pass.view_is c.requires.same_tree c.self.view_is)
@@ -36,10 +36,10 @@ give_up-requires-in-Err-clause-may_give_up c =
     c.begin.ensures.number c.begin.ensures.begun c.begin.ensures.ready c.in-Err.ensures.full.idle.on
 
 stops : (c : goal.After-give_up-in-Err) → StopEnds c.args.pass.now c.freeze_below.new.who
-    c.give_up-in-Err.new.seat c.pass.inside.refused c.in-Err.full
+    c.give_up-in-Err.new.token c.pass.inside.refused c.in-Err.full
 stops c =
     stop_ends _ _ _ _
-    (way_of c.pass.inside.caller c.begin.new.who _ c.give_up-in-Err.new.seat c.begin.ensures.sound
+    (way_of c.pass.inside.caller c.begin.new.who _ c.give_up-in-Err.new.token c.begin.ensures.sound
     c.pass.invariant.pass c.begin.ensures.number c.begin.ensures.begun c.begin.ensures.ready
     c.in-Err.ensures.full.idle.on c.give_up-in-Err.ensures.given_up) _ c.pass.invariant _
     (words_are c.pass.inside.caller _ _ _ _ c.pass.view_is c.requires.same_tree c.self.view_is)

@@ -10,10 +10,10 @@ use Rattle.ist_tree.proofs.trees.Tree.learn.Goals as goal
 use Rattle.ist_tree.proofs.trees.Tree.learn.Goals.{After-join}
 
 -- the maker with what the note holds
-with : (c : After-join) → IsMakerWith c.join.new.seat.view c.maker.inside.refused
-    × (c.join.new.seat.view.taken ≡ c.maker.inside.token.view.taken)
+with : (c : After-join) → IsMakerWith c.join.new.token.view c.maker.inside.refused
+    × (c.join.new.token.view.taken ≡ c.maker.inside.token.view.taken)
 with c =
-    learnt c.maker.inside.token.view c.note.inside.token.view c.join.new.seat.view
+    learnt c.maker.inside.token.view c.note.inside.token.view c.join.new.token.view
     c.join.ensures.joined.0 c.maker.inside.refused c.maker.invariant.with c.note.invariant
     c.join.ensures.joined.1
 
@@ -28,10 +28,10 @@ invariant_of-maker c =
 
 pub returns-clause-seen : goal.returns-clause-seen
 returns-clause-seen c =
-    subst (λ (m : MakerFace). GoesOn m.seen c.join.new.seat.view.log) c.maker.view_is
+    subst (λ (m : MakerFace). GoesOn m.seen c.join.new.token.view.log) c.maker.view_is
     (later-goes_on c.join.ensures.later)
 
 pub returns-clause-note_seen : goal.returns-clause-note_seen
 returns-clause-note_seen c =
-    subst (λ (p : PassFace). GoesOn p.seen c.join.new.seat.view.log) c.note.view_is
+    subst (λ (p : PassFace). GoesOn p.seen c.join.new.token.view.log) c.note.view_is
     (later-goes_on c.join.ensures.other_later)

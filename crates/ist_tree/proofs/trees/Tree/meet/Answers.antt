@@ -7,9 +7,9 @@ use Rattle.ist_tree.proofs.trees.Tree.meet.Goals.{After-join}
 
 -- what the meeting results in
 ends : (c : After-join) → MeetEnds c.args.pass.now c.args.note c.pass.inside.caller c.pass.inside.refused
-    c.join.new.seat
+    c.join.new.token
 ends c =
-    meet_ends c.pass.inside.caller c.note.inside.token c.join.new.seat c.pass.inside.refused
+    meet_ends c.pass.inside.caller c.note.inside.token c.join.new.token c.pass.inside.refused
     c.pass.invariant
     c.note.invariant c.join.ensures.joined.0 c.join.ensures.same_table c.join.ensures.joined.1
     c.join.ensures.later c.join.ensures.other_later

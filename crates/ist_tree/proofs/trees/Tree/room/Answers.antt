@@ -7,7 +7,7 @@ use Rattle.ist_tree.proofs.trees.Tree.room.Goals as goal
 use Rattle.ist_tree.proofs.trees.Tree.room.Goals.{After-word_count}
 
 -- the pass's view has as many words as the table
-all_words : (c : After-word_count) → c.load-next.new.seat.view.words ≡ c.word_count.result
+all_words : (c : After-word_count) → c.load-next.new.token.view.words ≡ c.word_count.result
 all_words c =
     ap (λ (y : View). y.words) c.load-next.ensures.looked.view
     ∙ sym (words_are c.pass.inside.caller _ _ _ _ c.pass.view_is c.requires.same_tree c.self.view_is)
@@ -18,9 +18,9 @@ overflow_sub-result c = (room_sum _ _ _ _ c.load-next.ensures.looked (all_words 
 
 -- what the load results in
 ends : (c : After-word_count) → RoomEnds c.args.pass.now c.pass.inside.caller c.pass.inside.refused
-    c.load-next.new.seat (c.word_count.result - c.load-next.result)
+    c.load-next.new.token (c.word_count.result - c.load-next.result)
 ends c =
-    room_ends c.pass.inside.caller _ c.load-next.new.seat c.pass.invariant c.know.ensures.sound
+    room_ends c.pass.inside.caller _ c.load-next.new.token c.pass.invariant c.know.ensures.sound
     c.load-next.result _ c.load-next.ensures.looked c.load-next.ensures.same_table
     (room_sum _ _ _ _ c.load-next.ensures.looked (all_words c)).1 _ c.pass.view_is
 

@@ -3,17 +3,17 @@ use Rattle.ist_rule.specs.declared.view.View.{View}
 use Rattle.ist_rule.specs.Faces.{TokenFace, TableFace}
 use Rattle.ist_rule.specs.Conditions.{CanEnd}
 use Rattle.ist_rule.proofs.CallPlayLemmas.{ends_moves}
-use Rattle.ist_rule.proofs.calling.end_as.Goals as goal
+use Rattle.ist_rule.proofs.calling.end_call.Goals as goal
 
 -- a load that ends a call keeps the rule
 pub load-requires : goal.load-requires
 load-requires g c =
     let i = c.table.invariant in
-    let v : View = c.seat.inside.seat.me.0 in
-    let can = subst (λ (x : View). CanEnd x g.A.Answered.call)
-    (ap (λ (s : TokenFace). s.view) (sym c.seat.view_is)) c.requires.may_end in (
-      ap (λ (s : TokenFace). s.table) c.seat.view_is ∙ c.requires.same_table ∙ sym
+    let v : View = c.token.inside.seat.me.0 in
+    let can = subst (λ (x : View). CanEnd x g.call)
+    (ap (λ (s : TokenFace). s.view) (sym c.token.view_is)) c.requires.1.0 in (
+      ap (λ (s : TokenFace). s.table) c.token.view_is ∙ c.requires.0 ∙ sym
           (ap (λ (t : TableFace). t.table) c.table.view_is),
       omega arith,
-      ends_moves _ _ _ _ _ c.seat.invariant.1.live can,
+      ends_moves _ _ _ _ _ c.token.invariant.1.live can,
     )

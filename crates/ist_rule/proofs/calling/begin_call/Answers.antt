@@ -2,16 +2,16 @@ use Rattle.std.proofs.Common.{sym, ap, subst, ◌∙◌, arith}
 use Rattle.ist_rule.specs.Faces.{TokenFace, TableFace}
 use Rattle.ist_rule.specs.Conditions.{CanBegin}
 use Rattle.ist_rule.proofs.CallPlayLemmas.{begins_moves}
-use Rattle.ist_rule.proofs.calling.begin_as.Goals as goal
+use Rattle.ist_rule.proofs.calling.begin_call.Goals as goal
 
 -- a load that begins a call keeps the rule
 pub load-requires : goal.load-requires
 load-requires g c =
     let i = c.table.invariant in
-    let can = subst CanBegin (ap (λ (s : TokenFace). s.view) (sym c.seat.view_is))
-    c.requires.may_begin in (
-      ap (λ (s : TokenFace). s.table) c.seat.view_is ∙ c.requires.same_table ∙ sym
+    let can = subst CanBegin (ap (λ (s : TokenFace). s.view) (sym c.token.view_is))
+    c.requires.1.0 in (
+      ap (λ (s : TokenFace). s.table) c.token.view_is ∙ c.requires.0 ∙ sym
           (ap (λ (t : TableFace). t.table) c.table.view_is),
       omega arith,
-      begins_moves _ _ _ _ _ c.seat.invariant.1.live can,
+      begins_moves _ _ _ _ _ c.token.invariant.1.live can,
     )

@@ -2,17 +2,17 @@ use Rattle.std.proofs.Common.{sym, ap, subst, ◌∙◌, arith}
 use Rattle.ist_rule.specs.Faces.{TokenFace, TableFace}
 use Rattle.ist_rule.specs.Conditions.{CanAdd}
 use Rattle.ist_rule.proofs.ExchangeLemmas.{adds_moves}
-use Rattle.ist_rule.proofs.steps.add_as.Goals as goal
+use Rattle.ist_rule.proofs.steps.add.Goals as goal
 
 -- an add that may be made keeps the rule
 pub fetch_add-requires : goal.fetch_add-requires
 fetch_add-requires g c =
     let w = ap (λ (t : TableFace). t.table.words) c.table.view_is in
-    let p = c.requires.within in
-    let can = subst (λ x. CanAdd x c.args.place g.N.NamedByWord.event)
-    (ap (λ (s : TokenFace). s.view) (sym c.seat.view_is)) c.requires.event in (
-      ap (λ (s : TokenFace). s.table) c.seat.view_is ∙ c.requires.same_table ∙ sym
+    let p = c.requires.1.0 in
+    let can = subst (λ x. CanAdd x c.args.place g.event)
+    (ap (λ (s : TokenFace). s.view) (sym c.token.view_is)) c.requires.1.1 in (
+      ap (λ (s : TokenFace). s.table) c.token.view_is ∙ c.requires.0 ∙ sym
           (ap (λ (t : TableFace). t.table) c.table.view_is),
       omega arith,
-      adds_moves _ _ _ _ _ _ c.seat.invariant.1.live can,
+      adds_moves _ _ _ _ _ _ c.token.invariant.1.live can,
     )

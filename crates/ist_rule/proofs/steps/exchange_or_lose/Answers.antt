@@ -2,28 +2,28 @@ use Rattle.std.proofs.Common.{sym, ap, subst, ◌∙◌, arith}
 use Rattle.ist_rule.specs.Faces.{TokenFace, TableFace}
 use Rattle.ist_rule.specs.Conditions.{CanExchangeOrLose}
 use Rattle.ist_rule.proofs.LeavingLemmas.{exchanges_or_loses_moves, exchanged_or_lost_sound}
-use Rattle.ist_rule.proofs.steps.exchange_or_lose_as.Goals as goal
+use Rattle.ist_rule.proofs.steps.exchange_or_lose.Goals as goal
 
 -- an exchange that may be made keeps the rule
 pub compare_exchange-requires : goal.compare_exchange-requires
 compare_exchange-requires g c =
     let w = ap (λ (t : TableFace). t.table.words) c.table.view_is in
-    let p = c.requires.within in
+    let p = c.requires.1.0 in
     let can = subst (λ x. CanExchangeOrLose x c.args.place c.args.old c.args.new
-    g.N.NamedEitherWay.events.0 g.N.NamedEitherWay.events.1)
-    (ap (λ (s : TokenFace). s.view) (sym c.seat.view_is)) c.requires.events in (
-      ap (λ (s : TokenFace). s.table) c.seat.view_is ∙ c.requires.same_table ∙ sym
+    g.events.0 g.events.1)
+    (ap (λ (s : TokenFace). s.view) (sym c.token.view_is)) c.requires.1.1 in (
+      ap (λ (s : TokenFace). s.table) c.token.view_is ∙ c.requires.0 ∙ sym
           (ap (λ (t : TableFace). t.table) c.table.view_is),
       omega arith,
-      exchanges_or_loses_moves _ _ _ _ _ _ _ g.N.NamedEitherWay.events c.seat.invariant.1.live can,
+      exchanges_or_loses_moves _ _ _ _ _ _ _ g.events c.token.invariant.1.live can,
     )
 
--- the seat is sound
-pub invariant_of-seat : goal.invariant_of-seat
-invariant_of-seat g c =
+-- the token is sound
+pub invariant_of-token : goal.invariant_of-token
+invariant_of-token g c =
     let e = c.compare_exchange.ensures in
     let it = exchanged_or_lost_sound _ _ _ _ _ _ _ e.2.0 in (
-      e.2.1 ∙ c.seat.invariant.0,
+      e.2.1 ∙ c.token.invariant.0,
       it.0,
-      it.1 ∙ c.seat.invariant.2 ∙ sym (ap (λ t. t.words) e.0),
+      it.1 ∙ c.token.invariant.2 ∙ sym (ap (λ t. t.words) e.0),
     )

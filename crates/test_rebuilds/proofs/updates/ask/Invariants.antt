@@ -1,0 +1,5 @@
+use Rattle.test_rebuilds.proofs.updates.ask.Given as goal
+
+-- the command is the one that is given
+abbrev pub ghost-begin_call : goal.ghost-begin_call
+ghost-begin_call a = a.command
