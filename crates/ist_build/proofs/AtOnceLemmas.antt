@@ -16,7 +16,7 @@ use Rattle.ist_rows.specs.Building.{IsInBuild, HasTaken}
 use Rattle.ist_rows.specs.Block.{HoldsBlock, AreNext, ReservedAll}
 use Rattle.ist_rows.proofs.BlockLemmas.{holds_them}
 use Rattle.ist_rows.proofs.ReserveLemmas.{next_low}
-use Rattle.ist_build.specs.Laying.{BuiltOn, ArePlaced, HaveLeaves, AreKeysOf, IsDue, IsLaid, IsShort, IsWritten, IsLaidBelow}
+use Rattle.ist_build.specs.Laying.{BuiltOn, ArePlaced, HaveLeaves, AreKeysOf, AreNextRows, IsLaid, IsShort, IsWritten, IsLaidBelow}
 use Rattle.ist_build.proofs.BuiltLemmas.{built_grow, built_more, built_next, loads_built, rewritten_built}
 use Rattle.ist_build.proofs.HalfBuiltLemmas.{published_on}
 use Rattle.ist_build.proofs.KeyLemmas.{keys_on}
@@ -31,11 +31,11 @@ pub some_rows : (n : ℕ) → 2 ≤ n → 1 ≤ length (shape n)
 some_rows n two = let long = ap length (shape_many n two) in omega arith
 
 -- the rows that are due are the next
-pub due_next : (who : Caller) (n : ℕ) → IsDue who n → AreNext who (shape n)
+pub due_next : (who : Caller) (n : ℕ) → AreNextRows who n → AreNext who (shape n)
 due_next who n h = record { stuck = h.stuck; done = h.done; rest = h.rest; at = h.at }
 
 -- so they are for a list that is the shape
-pub shape_next : (who : Caller) (n : ℕ) (sizes : List ℕ) → sizes ≡ shape n → IsDue who n → 2 ≤ n
+pub shape_next : (who : Caller) (n : ℕ) (sizes : List ℕ) → sizes ≡ shape n → AreNextRows who n → 2 ≤ n
     → AreNext who sizes × (1 ≤ length sizes)
 shape_next who n sizes is due two = (
   subst (AreNext who) (sym is) (due_next who n due),

@@ -28,7 +28,7 @@ use Rattle.ist_dcss.proofs.FieldLemmas.{good_base}
 use Rattle.ist_rows.specs.declared.callers.Caller.{Caller}
 use Rattle.ist_rows.specs.Rows.{IsCaller, IsFull, spares_of}
 use Rattle.ist_rows.specs.Building.{IsInBuild, IsNext, HasTaken, HasRefused}
-use Rattle.ist_build.specs.Laying.{BuiltOn, ArePlaced, HaveLeaves, IsLaid, IsDue, IsShort}
+use Rattle.ist_build.specs.Laying.{BuiltOn, ArePlaced, HaveLeaves, IsLaid, AreNextRows, IsShort}
 use Rattle.ist_build.specs.Midway.{words_at, AreLaid, lens_from, IsOpened, IsMidway, IsTopRowRefused}
 use Rattle.ist_build.proofs.BuiltLemmas.{built_more, loads_built}
 use Rattle.ist_build.proofs.JoinedSubtreeLemmas.{laid_top}
@@ -77,7 +77,7 @@ small_taken who leaves few stuck done rest h =
 -- ---- the row
 
 -- its row is the next
-pub next_row : (who : Caller) (n d : ℕ) → 2 ≤ n → d ≡ degree n → IsDue who n
+pub next_row : (who : Caller) (n d : ℕ) → 2 ≤ n → d ≡ degree n → AreNextRows who n
     → IsNext who (inner_words d)
 next_row who n d two same h =
     subst (λ k. IsNext who (inner_words k)) (sym same)
@@ -165,7 +165,7 @@ module _ (old who : Caller) (leaves : List ℕ) (base d j : ℕ) (m : IsMidway o
   length_own = ap length own_is ∙ length-share_of n j leaves refl less
 
   -- its rows are due
-  pub part_due : IsDue old n → IsDue who (length own)
+  pub part_due : AreNextRows old n → AreNextRows who (length own)
   part_due h =
       record {
         stuck = h.stuck;

@@ -26,7 +26,7 @@ use Rattle.ist_core.specs.Authors.{no_more, one_more, LaterBy}
 use Rattle.ist_core.proofs.GrowingLemmas.{leaf_there}
 use Rattle.ist_rule.proofs.WentOnLemmas.{goes_on_grow}
 use Rattle.ist_build.proofs.LaidOnLemmas.{laid_now, laid_lawful, laid_grow, laid_next, laid_same, laid_more, goes_on_laid, logged_laid}
-use Rattle.ist_build.specs.Laying.{Reserves, BuiltOn}
+use Rattle.ist_build.specs.Laying.{IsReservation, BuiltOn}
 
 -- ---- leaves
 
@@ -41,7 +41,7 @@ leaf_goes_on v w g base r e =
 module _ (pairs : List Pair) (words : ℕ) where
   -- what is held stays held if the holder only reserves
   held_between : (h : HeldRow) (old log : Log) → EachEnabled (start pairs words) log
-      → LaterBy (Caller h.caller) Reserves old log
+      → LaterBy (Caller h.caller) IsReservation old log
       → Among h (state_of pairs words old).held → Among h (state_of pairs words log).held
   held_between h old _ enabled no_more i = i
   held_between h old _ enabled (one_more {log = log} event l (inl other)) i =
@@ -51,7 +51,7 @@ module _ (pairs : List Pair) (words : ℕ) where
   held_between h old _ enabled (one_more {log = log} event l (inr own)) i =
       by_event event own (held_between h old log enabled.0 l i)
     where
-      by_event : (e : Event) → Reserves e → Among h (state_of pairs words log).held
+      by_event : (e : Event) → IsReservation e → Among h (state_of pairs words log).held
           → Among h (state_of pairs words (e ∷ log)).held
       by_event (Reserve caller base size) own j =
           among_left h (state_of pairs words log).held
@@ -60,19 +60,19 @@ module _ (pairs : List Pair) (words : ℕ) where
 
 -- the state after the log, by the first view's table
 pub built_now : (v w : View) → BuiltOn v w → now w ≡ state_of v.start v.words w.log
-built_now = laid_now Reserves
+built_now = laid_now IsReservation
 
 -- the log after a build is lawful
 pub built_lawful : (v w : View) → BuiltOn v w → Lawful v.start v.words w.log
-built_lawful = laid_lawful Reserves
+built_lawful = laid_lawful IsReservation
 
 -- rows grow
 pub built_grow : (v w : View) → BuiltOn v w → AllGrow (now v).pieces (now w).pieces
-built_grow = laid_grow Reserves
+built_grow = laid_grow IsReservation
 
 -- the first free word never falls
 pub built_next : (v w : View) → BuiltOn v w → (now v).next ≤ (now w).next
-built_next = laid_next Reserves
+built_next = laid_next IsReservation
 
 -- what the caller held it holds
 pub built_held : (v w : View) → BuiltOn v w → (number base size : ℕ) → v.who ≡ Caller number
@@ -81,26 +81,26 @@ built_held v w b number base size mine i =
     subst (λ t. HoldsRow t number base size) (sym (built_now v w b))
     (held_between v.start v.words record { caller = number; base = base; size = size } v.log w.log
     (built_lawful v w b).enabled
-    (subst (λ x. LaterBy x Reserves v.log w.log) mine b.later) i)
+    (subst (λ x. LaterBy x IsReservation v.log w.log) mine b.later) i)
 
 -- nothing was done
 pub built_same : (v : View) → IsSound v → BuiltOn v v
-built_same v s = laid_same Reserves v s
+built_same v s = laid_same IsReservation v s
 
 -- going on twice
 pub built_more : (u v w : View) → BuiltOn u v → BuiltOn v w → BuiltOn u w
-built_more = laid_more Reserves
+built_more = laid_more IsReservation
 
 -- a caller that went on by loads has built on
 pub loads_built : (v w : View) → GoesOnTo v w → BuiltOn v w
-loads_built = goes_on_laid Reserves
+loads_built = goes_on_laid IsReservation
 
 -- a caller that reserved a row has built on
 pub reserved_built : (v : View) (number base size : ℕ) (w : View) → Reserved v number base size w
     → BuiltOn v w
 reserved_built v number base size w r =
     built_more v r.before w (loads_built v r.before r.seen)
-    (logged_laid Reserves r.before (Reserve number base size) w r.reserved tt refl)
+    (logged_laid IsReservation r.before (Reserve number base size) w r.reserved tt refl)
 
 -- so has one that stored words into rows that it reserved since
 pub rewritten_built : (u v : View) (own : List OwnWord) → BuiltOn u v

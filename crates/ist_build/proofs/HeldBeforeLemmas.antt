@@ -39,7 +39,7 @@ use Rattle.ist_rows.proofs.CallerGoingLemmas.{base_same}
 use Rattle.ist_rows.proofs.HeldListLemmas.{held_by_later}
 use Rattle.ist_rule.proofs.WentOnLemmas.{later_by, later_by_more, later_by_all, later_by-goes_on}
 use Rattle.ist_build.specs.Naming.{is_from, row_stored, rows_from}
-use Rattle.ist_build.specs.Laying.{Reserves, BuiltOn, OwnsRows}
+use Rattle.ist_build.specs.Laying.{IsReservation, BuiltOn, OwnsRows}
 use Rattle.ist_rows.proofs.HeldBehindLemmas.{filter_swap}
 use Rattle.ist_build.proofs.BuiltLemmas.{built_now, built_lawful}
 use Rattle.ist_build.proofs.LaidOnLemmas.{next_between}
@@ -66,7 +66,7 @@ module _ (who : Caller) (c : IsCaller who) (s : IsSound who.token.view) (w : Vie
   more : HoldsMore v.start v.words number v.log w.log
   more =
       holds_more v.start v.words number v.log w.log (built_lawful v w b).enabled
-      (subst (λ x. LaterBy x Reserves v.log w.log) c.mine b.later)
+      (subst (λ x. LaterBy x IsReservation v.log w.log) c.mine b.later)
 
   held_is : held_by (now w) number ≡ held ++ more.fresh
   held_is = ap (λ t. held_by t number) (built_now v w b) ∙ more.is

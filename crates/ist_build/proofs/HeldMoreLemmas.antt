@@ -28,7 +28,7 @@ use Rattle.ist_rows.proofs.HeldListLemmas.{held_by_step}
 use Rattle.ist_core.specs.Authors.{no_more, one_more, LaterBy}
 use Rattle.ist_build.specs.Naming.{row_stored}
 use Rattle.ist_build.specs.Midway.{words_at}
-use Rattle.ist_build.specs.Laying.{Rises, Reserves}
+use Rattle.ist_build.specs.Laying.{Rises, IsReservation}
 use Rattle.ist_build.proofs.LaidOnLemmas.{next_between}
 use Rattle.ist_build.proofs.RisingListLemmas.{of_map, rises_last}
 
@@ -100,7 +100,7 @@ module _ (pairs : List Pair) (words number : ℕ) where
 
   -- after reservations only, the caller holds what it held and fresh rows above the first free word
   pub holds_more : (old log : Log) → EachEnabled (start pairs words) log
-      → LaterBy (CallerOf number) Reserves old log → HoldsMore pairs words number old log
+      → LaterBy (CallerOf number) IsReservation old log → HoldsMore pairs words number old log
   holds_more old _ enabled no_more =
       record {
         fresh = [];
@@ -119,10 +119,10 @@ module _ (pairs : List Pair) (words number : ℕ) where
   holds_more old _ enabled (one_more {log = log} event l (inr own)) =
       by_event event own enabled (holds_more old log enabled.0 l)
     where
-      by_event : (e : Event) → Reserves e → EachEnabled (start pairs words) (e ∷ log)
+      by_event : (e : Event) → IsReservation e → EachEnabled (start pairs words) (e ∷ log)
           → HoldsMore pairs words number old log → HoldsMore pairs words number old (e ∷ log)
       by_event (Reserve caller base size) own can rest =
-          let up = next_between pairs words (CallerOf number) Reserves old log can.0 l in
+          let up = next_between pairs words (CallerOf number) IsReservation old log can.0 l in
           let at_next = can.1.base_is in
           reserve_more old log caller base size can (omega arith) rest
       by_event _ own can rest = absurd own

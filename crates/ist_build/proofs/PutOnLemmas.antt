@@ -10,7 +10,7 @@ use Rattle.ist_rule.specs.Rule.{IsSound}
 use Rattle.ist_rule.specs.Learning.{now, GoesOnTo}
 use Rattle.ist_build.proofs.BuiltLemmas.{built_same}
 use Rattle.ist_build.proofs.LaidOnLemmas.{laid_now, laid_lawful, laid_grow, laid_more, laid_all, goes_on_laid}
-use Rattle.ist_build.specs.Laying.{Reserves, BuiltOn, IsShort}
+use Rattle.ist_build.specs.Laying.{IsReservation, BuiltOn, IsShort}
 use Rattle.ist_build.specs.Calls.{Builds, IsTold}
 use Rattle.ist_build.specs.Putting.{PutOn, IsStopped}
 use Rattle.ist_build.proofs.ShortLemmas.{short_for_more}
@@ -32,13 +32,13 @@ pub put_more : (u v w : View) → PutOn u v → PutOn v w → PutOn u w
 put_more = laid_more Builds
 
 -- a reservation is an event of a build
-builds_reserving : (event : Event) → Reserves event → Builds event
+builds_reserving : (event : Event) → IsReservation event → Builds event
 builds_reserving (Reserve c base size) is = tt
 builds_reserving _ is = absurd is
 
 -- a caller that only reserved has put on
 pub built_put : (v w : View) → BuiltOn v w → PutOn v w
-built_put = laid_all Reserves Builds builds_reserving
+built_put = laid_all IsReservation Builds builds_reserving
 
 -- a caller that made loads has put on
 pub loads_put : (v w : View) → GoesOnTo v w → PutOn v w

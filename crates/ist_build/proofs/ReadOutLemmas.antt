@@ -14,7 +14,7 @@ use Rattle.ist_rows.specs.Rows.{IsCaller}
 use Rattle.ist_rows.specs.Building.{HasTaken}
 use Rattle.ist_build.specs.declared.reading.Cursor.{Cursor}
 use Rattle.ist_build.specs.Calls.{HasKeys}
-use Rattle.ist_build.specs.Laying.{BuiltOn, ArePlaced, IsLaid, IsDue, IsShort}
+use Rattle.ist_build.specs.Laying.{BuiltOn, ArePlaced, IsLaid, AreNextRows, IsShort}
 use Rattle.ist_build.specs.Reading.{HasRead, HasReadOut}
 use Rattle.ist_build.proofs.BuiltLemmas.{loads_built, built_more, built_next}
 use Rattle.ist_build.proofs.ShareLemmas.{read_whole, read_placed, some_leaves, enough_leaves, laid_lower, due_on, taken_on, short_on}
@@ -47,10 +47,10 @@ has_read_out v u w s target from to old new none h first second read =
 -- the rows over what was read out are due
 pub out_due : (who : Caller) (token : TokenFace) (target start len : ℕ) (bases : List ℕ)
     → IsCaller who → HasReadOut who.token.view target start len bases token.view
-    → (2 ≤ len → IsDue who len) → 2 ≤ length bases
-    → IsDue (record who { token = token }) (length bases)
+    → (2 ≤ len → AreNextRows who len) → 2 ≤ length bases
+    → AreNextRows (record who { token = token }) (length bases)
 out_due who token target start len bases c r due two =
-    subst (IsDue (record who { token = token })) (sym r.size)
+    subst (AreNextRows (record who { token = token })) (sym r.size)
     (due_on who token len c r.seen (due (subst (λ n. 2 ≤ n) r.size two)))
 
 -- what a build over the leaves from number `start` on gives

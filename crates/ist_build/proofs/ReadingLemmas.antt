@@ -21,7 +21,7 @@ use Rattle.ist_rule.specs.Learning.{now, GoesOnTo}
 use Rattle.ist_dcss.proofs.SlotPlaceLemmas.{has_degree}
 use Rattle.ist_rule.proofs.WentOnLemmas.{goes_on_went, went_now, went_lawful, later_by-goes_on, goes_on_grow}
 use Rattle.ist_build.specs.declared.reading.Cursor.{Cursor}
-use Rattle.ist_build.specs.Laying.{Reserves}
+use Rattle.ist_build.specs.Laying.{IsReservation}
 use Rattle.ist_build.specs.Reading.{HasSlots, SlotReads, HasRead, SlotsFrom, IsReading}
 use Rattle.ist_build.proofs.SlotLemmas.{slots_on, slots_finished, slot_some, frozen_on, child_finished}
 use Rattle.ist_build.proofs.ReadLemmas.{read_full, read_more, read_none}
@@ -37,11 +37,11 @@ ref_leaves_on v w s g _ _ done (leaf_here {base = base} r e) =
     leaf_here r (leaf_there (now v).pieces (now w).pieces
     (goes_on_grow v w g) base r e)
 ref_leaves_on v w s g _ leaves done (row_here {base = base} r e slots) =
-    let b = goes_on_went Reserves v w g in
+    let b = goes_on_went IsReservation v w g in
     let f = done base refl in
-    subst (λ t. HasLeaves t.pieces (Some (InnerAt base)) leaves) (sym (went_now Reserves v w b))
+    subst (λ t. HasLeaves t.pieces (Some (InnerAt base)) leaves) (sym (went_now IsReservation v w b))
     (finished_leaves_stay v.start v.words s.lawful.opens v.log w.log (later_by-goes_on b.later)
-    (went_lawful Reserves v w b).enabled base leaves f (row_here r e slots))
+    (went_lawful IsReservation v w b).enabled base leaves f (row_here r e slots))
 
 -- what was passed reads as the same later
 past_later : (v w : View) → GoesOnTo v w → (o : Option Ref) (ref : Ref)

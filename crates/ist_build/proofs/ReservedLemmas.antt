@@ -15,7 +15,7 @@ use Rattle.ist_rule.proofs.ListLogLemmas.{enabled_before}
 use Rattle.ist_rule.proofs.WentOnLemmas.{later_by}
 use Rattle.ist_rows.specs.Block.{reservings, ReservedAll}
 use Rattle.ist_rows.proofs.BlockLemmas.{none_made, took_all}
-use Rattle.ist_build.specs.Laying.{LaidOn, BuiltOn, Reserves}
+use Rattle.ist_build.specs.Laying.{LaidOn, BuiltOn, IsReservation}
 use Rattle.ist_build.proofs.BuiltLemmas.{built_more, loads_built}
 use Rattle.ist_build.proofs.LaidOnLemmas.{next_between}
 
@@ -47,7 +47,7 @@ logged_all_laid P v events w l is made =
       loaded = let is = ap (λ x. x.loaded) l.view in omega arith;
     }
 
-are_reservings : (number base : ℕ) (sizes : List ℕ) → Each Reserves (reservings number base sizes)
+are_reservings : (number base : ℕ) (sizes : List ℕ) → Each IsReservation (reservings number base sizes)
 are_reservings number base [] = tt
 are_reservings number base (size ∷ more) = (tt, are_reservings number (base + size) more)
 
@@ -56,7 +56,7 @@ pub reserved_all_built : (v : View) (number base : ℕ) (sizes : List ℕ) (w : 
     → ReservedAll v number base sizes w → BuiltOn v w
 reserved_all_built v number base sizes w r =
     built_more v r.before w (loads_built v r.before r.seen)
-    (logged_all_laid Reserves r.before (reservings number base sizes) w r.reserved
+    (logged_all_laid IsReservation r.before (reservings number base sizes) w r.reserved
     (are_reservings number base sizes) (none_made number base sizes r.before.made))
 
 -- where the rows lie: from the first free word on, and their words are 0
@@ -73,7 +73,7 @@ fresh_block v s number base (size ∷ more) some w r =
     let it = took_all v number base (size ∷ more) w r in
     let here = enabled_before (start v.start v.words) (reservings number (base + size) more) _
     it.lawful.enabled in
-    let up = next_between v.start v.words v.who Reserves v.log it.before here.0
+    let up = next_between v.start v.words v.who IsReservation v.log it.before here.0
     (later_by it.later) in
     let at_next = here.1.base_is in
     let own_is : w.own ≡ v.own = ap (λ x. x.own) r.reserved.view ∙ ap (λ x. x.own) r.seen.same in

@@ -19,7 +19,7 @@ use Rattle.ist_rows.specs.declared.callers.Caller.{Caller}
 use Rattle.ist_rows.specs.Rows.{spares_of, IsCaller, Reserved, HoldsPlace}
 use Rattle.ist_rows.specs.Building.{IsInBuild, HasTaken}
 use Rattle.ist_rows.proofs.BuildingCallLemmas.{took, at_storing}
-use Rattle.ist_build.specs.Laying.{Reserves}
+use Rattle.ist_build.specs.Laying.{IsReservation}
 use Rattle.laws_calls.specs.Dividing.{lens_to}
 use Rattle.ist_rule.proofs.StoreLemmas.{own_here, own_else}
 use Rattle.ist_build.specs.Midway.{lens_from, IsOpened, IsMidway, opening, setting}
@@ -48,7 +48,7 @@ pub fresh_row : (v : View) → IsSound v → (number base size : ℕ) (w : View)
     → Reserved v number base size w → IsFreshRow v number base size w
 fresh_row v s number base size w r =
     let it = took v number base size w r in
-    let up = next_between v.start v.words v.who Reserves v.log it.before it.lawful.enabled.0
+    let up = next_between v.start v.words v.who IsReservation v.log it.before it.lawful.enabled.0
     (later_by it.later) in
     let at_next = it.lawful.enabled.1.base_is in
     let own_is : w.own ≡ v.own = ap (λ x. x.own) r.reserved.view ∙ ap (λ x. x.own) r.seen.same in

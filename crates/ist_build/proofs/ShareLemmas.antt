@@ -22,7 +22,7 @@ use Rattle.ist_rows.specs.Building.{IsInBuild, HasTaken, HasRefused, sizes_built
 use Rattle.ist_rows.proofs.BuildingCallLemmas.{at_goes_on}
 use Rattle.ist_build.specs.declared.reading.Cursor.{Cursor}
 use Rattle.ist_build.specs.Calls.{IsShare, share_whole, share_part, MayBuild, HasKeys}
-use Rattle.ist_build.specs.Laying.{ArePlaced, IsLaid, IsDue, IsShort, BuiltOn}
+use Rattle.ist_build.specs.Laying.{ArePlaced, IsLaid, AreNextRows, IsShort, BuiltOn}
 use Rattle.ist_build.specs.Reading.{HasRead, read_all}
 use Rattle.ist_build.proofs.BuiltLemmas.{loads_built, built_more}
 use Rattle.ist_build.proofs.JoinedSubtreeLemmas.{high_more}
@@ -113,7 +113,7 @@ laid_lower w number low high word leaves le h =
 
 -- the next rows of a build stay the same after loads
 pub due_on : (who : Caller) (token : TokenFace) (keys : ℕ) → IsCaller who
-    → GoesOnTo who.token.view token.view → IsDue who keys → IsDue (record who { token = token }) keys
+    → GoesOnTo who.token.view token.view → AreNextRows who keys → AreNextRows (record who { token = token }) keys
 due_on who token keys c g h =
     record {
       stuck = h.stuck;
@@ -180,7 +180,7 @@ share_at who target start len refused m two =
 
 -- the rows over a share are the next rows of a build that begins
 pub share_due : (who : Caller) (target start len : ℕ) → HasRefused who
-    → MayBuild (now who.token.view) target start len → 2 ≤ len → IsDue who len
+    → MayBuild (now who.token.view) target start len → 2 ≤ len → AreNextRows who len
 share_due who target start len refused m two =
     record {
       stuck = sizes_built who;

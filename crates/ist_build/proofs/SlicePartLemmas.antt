@@ -16,7 +16,7 @@ use Rattle.ist_rows.specs.declared.callers.Caller.{Caller}
 use Rattle.ist_rows.specs.Rows.{IsCaller, spares_of}
 use Rattle.ist_rows.specs.Block.{HoldsBlock}
 use Rattle.ist_rows.specs.Building.{HasTaken}
-use Rattle.ist_build.specs.Laying.{BuiltOn, ArePlaced, HaveLeaves, AreKeysOf, IsDue, IsLaid, IsShort, IsWritten, IsLaidBelow}
+use Rattle.ist_build.specs.Laying.{BuiltOn, ArePlaced, HaveLeaves, AreKeysOf, AreNextRows, IsLaid, IsShort, IsWritten, IsLaidBelow}
 use Rattle.ist_build.specs.Midway.{IsPart, IsMidway, IsLaying, setting}
 use Rattle.ist_build.proofs.BuiltLemmas.{built_held}
 use Rattle.ist_build.proofs.BuildingLemmas.{slice_part, part_leaves, length_own, part_due, part_short}
@@ -54,7 +54,7 @@ part_long n j leaves keys own own_keys all p =
 
 -- what a build of the part asks for
 pub record PartAsked (who : Caller) (n : ℕ) (own own_keys : List ℕ) : Type 0 where
-  pub due : IsDue who (length own)
+  pub due : AreNextRows who (length own)
   pub leaves : HaveLeaves (now who.token.view) own
   pub keys : AreKeysOf (now who.token.view) own own_keys
   pub many : length own_keys ≡ length own
@@ -63,7 +63,7 @@ pub record PartAsked (who : Caller) (n : ℕ) (own own_keys : List ℕ) : Type 0
 -- it is there
 pub part_asked : (old who : Caller) (leaves keys : List ℕ) (base d j : ℕ) (own own_keys : List ℕ)
     → IsMidway old leaves base d j who → IsPart (length leaves) j leaves keys own own_keys
-    → IsDue old (length leaves) → HaveLeaves (now old.token.view) leaves
+    → AreNextRows old (length leaves) → HaveLeaves (now old.token.view) leaves
     → AreKeysOf (now old.token.view) leaves keys → length keys ≡ length leaves
     → PartAsked who (length leaves) own own_keys
 part_asked old who leaves keys base d j own own_keys m p due have keys_have many =

@@ -28,7 +28,7 @@ use Rattle.ist_dcss.proofs.FieldLemmas.{row_low, looked_row, good_base}
 use Rattle.ist_dcss.proofs.SlotPlaceLemmas.{has_degree}
 use Rattle.ist_rule.proofs.WentOnLemmas.{goes_on_went, goes_on_grow}
 use Rattle.ist_mark.proofs.KeepingLemmas.{happened_went}
-use Rattle.ist_build.specs.Laying.{Reserves}
+use Rattle.ist_build.specs.Laying.{IsReservation}
 use Rattle.ist_dcss.specs.Reading.{IsNoChange}
 use Rattle.ist_build.specs.Reading.{HasSlots, SlotReads}
 
@@ -66,7 +66,7 @@ finished_on v w g node k f =
 pub frozen_on : (v w : View) → GoesOnTo v w → (node i word : ℕ) → IsFrozen v.log node i word
     → IsFrozen w.log node i word
 frozen_on v w g node i word p =
-    happened_went Reserves v w (goes_on_went Reserves v w g) (Passes node i word) p
+    happened_went IsReservation v w (goes_on_went IsReservation v w g) (Passes node i word) p
 
 -- ---- slots
 

@@ -13,15 +13,15 @@ use Rattle.ist_core.specs.Shown.{IsShown}
 use Rattle.laws_coming.specs.Builds.{EndsBuild, WasUnset, EndsNone}
 use Rattle.ist_core.specs.Authors.{no_more, one_more, LaterBy}
 use Rattle.laws_coming.proofs.BeatenLemmas.{others_build}
-use Rattle.ist_build.specs.Laying.{Reserves, BuiltOn}
+use Rattle.ist_build.specs.Laying.{IsReservation, BuiltOn}
 
 -- a reserving ends no build
-reserving_ends : (caller : ℕ) (event : Event) → Reserves event → ¬ (EndsBuild caller event)
+reserving_ends : (caller : ℕ) (event : Event) → IsReservation event → ¬ (EndsBuild caller event)
 reserving_ends caller (Reserve c base size) is = λ e. e
 reserving_ends caller _ is = absurd is
 
 without_reserving : (caller : ℕ) {who : Who} {a b c : Log} → who ≡ Caller caller
-    → EndsNone caller a b → LaterBy who Reserves b c
+    → EndsNone caller a b → LaterBy who IsReservation b c
     → EndsNone caller a c
 without_reserving caller mine g no_more = g
 without_reserving caller mine g (one_more event k (inl other)) =

@@ -30,9 +30,9 @@ use Rattle.ist_core.specs.Authors.{LaterBy}
 -- ---- what the caller does
 
 -- the event is a reservation
-abbrev pub Reserves : Event → Type 0
-Reserves (Reserve caller base size) = Unit {0}
-Reserves _ = ⊥
+abbrev pub IsReservation : Event → Type 0
+IsReservation (Reserve caller base size) = Unit {0}
+IsReservation _ = ⊥
 
 -- from v to w the caller has only made loads, made events for which P holds, and stored words into
 -- rows that it reserved since
@@ -45,7 +45,7 @@ pub record LaidOn (P : Event → Type 0) (v w : View) : Type 0 where
 
 -- the same, with reservations as the only events
 abbrev pub BuiltOn : View → View → Type 0
-BuiltOn = LaidOn Reserves
+BuiltOn = LaidOn IsReservation
 
 -- ---- leaves
 
@@ -124,7 +124,7 @@ pub record IsRootLaid (old new : Caller) (target k word : ℕ) (leaves : List Pl
 -- ---- a build
 
 -- the next rows of the caller's build are the rows of an ideal subtree over `keys` keys
-pub record IsDue (who : Caller) (keys : ℕ) : Type 0 where
+pub record AreNextRows (who : Caller) (keys : ℕ) : Type 0 where
   pub stuck : List ℕ
   pub done : List ℕ
   pub rest : List ℕ

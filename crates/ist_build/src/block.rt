@@ -9,7 +9,7 @@ ghost use Rattle.ist_rule.specs.Rule.{own_at};
 ghost use Rattle.ist_rule.specs.Learning.{now, GoesOnTo};
 ghost use Rattle.ist_rows.specs.Rows.{IsCaller, spares_of};
 ghost use Rattle.ist_rows.specs.Building.{HasTaken, HasRefused};
-ghost use Rattle.ist_build.specs.Laying.{BuiltOn, HaveLeaves, AreKeysOf, ArePlaced, IsLaid, IsDue, IsShort, IsWritten, IsLaidBelow};
+ghost use Rattle.ist_build.specs.Laying.{BuiltOn, HaveLeaves, AreKeysOf, ArePlaced, IsLaid, AreNextRows, IsShort, IsWritten, IsLaidBelow};
 ghost use Rattle.ist_rows.specs.Block.{HoldsBlock, ReservedAll};
 
 use crate::building::{build, open_row, set_part, small_word};
@@ -72,7 +72,7 @@ fn reserve_shape(table: &TreeTable, who: &mut Caller, size: u64) -> Option<u32>
     requires sizes { sizes ≡ shape size }
     requires same_table { who.old.token.table ≡ table.now.table }
     requires caller { IsCaller who.old }
-    requires due { IsDue who.old size }
+    requires due { AreNextRows who.old size }
     requires several { 2 ≤ size }
     requires few { size < place_limit }
     ensures same_table { who.new.token.table ≡ table.now.table }
@@ -96,7 +96,7 @@ pub(crate) fn build_at_once(
 ) -> Result<u64, Full>
     requires same_table { who.old.token.table ≡ table.now.table }
     requires caller { IsCaller who.old }
-    requires due { 2 ≤ length leaves.now → IsDue who.old (length leaves.now) }
+    requires due { 2 ≤ length leaves.now → AreNextRows who.old (length leaves.now) }
     requires leaves { HaveLeaves (now who.old.token.view) leaves.now }
     requires keys { AreKeysOf (now who.old.token.view) leaves.now keys.now }
     requires many { length keys.now ≡ length leaves.now }

@@ -10,7 +10,7 @@ ghost use Rattle.ist_rule.specs.Learning.{now, GoesOnTo};
 ghost use Rattle.ist_rows.specs.Rows.{IsCaller, spares_of};
 ghost use Rattle.ist_rows.specs.Building.{HasTaken, HasRefused, IsInBuild, sizes_built};
 ghost use Rattle.ist_build.specs.Calls.{MayBuild, HasKeys};
-ghost use Rattle.ist_build.specs.Laying.{BuiltOn, AreKeysOf, IsLaid, IsDue, IsShort};
+ghost use Rattle.ist_build.specs.Laying.{BuiltOn, AreKeysOf, IsLaid, AreNextRows, IsShort};
 ghost use Rattle.ist_build.specs.Reading.{HasReadOut};
 
 use crate::block::build_at_once;
@@ -66,7 +66,7 @@ fn build_read(
 ) -> Result<u64, Full>
     requires same_table { who.old.token.table ≡ table.now.table }
     requires caller { IsCaller who.old }
-    requires due { 2 ≤ length leaves.old → IsDue who.old (length leaves.old) }
+    requires due { 2 ≤ length leaves.old → AreNextRows who.old (length leaves.old) }
     requires finished { HasKeys (now who.old.token.view) target (start + length leaves.old) }
     requires many { length keys.old ≡ length leaves.old }
     requires few { length leaves.old < place_limit }
@@ -98,7 +98,7 @@ fn build_few(
 ) -> Result<u64, Full>
     requires same_table { who.old.token.table ≡ table.now.table }
     requires caller { IsCaller who.old }
-    requires due { 2 ≤ len → IsDue who.old len }
+    requires due { 2 ≤ len → AreNextRows who.old len }
     requires finished { HasKeys (now who.old.token.view) target (start + len) }
     requires few { len ≤ 256 }
     ensures same_table { who.new.token.table ≡ table.now.table }
@@ -137,7 +137,7 @@ fn build_many(
 ) -> Result<u64, Full>
     requires same_table { who.old.token.table ≡ table.now.table }
     requires caller { IsCaller who.old }
-    requires due { 2 ≤ len → IsDue who.old len }
+    requires due { 2 ≤ len → AreNextRows who.old len }
     requires finished { HasKeys (now who.old.token.view) target (start + len) }
     requires few { len ≤ 16388 }
     ensures same_table { who.new.token.table ≡ table.now.table }

@@ -8,7 +8,7 @@ use Rattle.ist_handles.specs.declared.held.Held.{Held}
 use Rattle.ist_handles.specs.declared.held.Held.TheVariants as of
 use Rattle.ist_handles.specs.declared.owners.TreeOwner.{TreeOwner}
 use Rattle.ist_c.specs.Closing.{Leaves, Closes, owner_closes, closed_leaves, is_busy, no_owner}
-use Rattle.ist_c.specs.Closing.{Opens, opens_owner, opens_none, Reopens, owner_reopens, owner_closed, owner_busy, closed_opens, closed_stays, none_reopens}
+use Rattle.ist_c.specs.Closing.{OpensInHandle, opens_owner, opens_none, Reopens, owner_reopens, owner_closed, owner_busy, closed_opens, closed_stays, none_reopens}
 use Rattle.ist_handles.specs.Results.{busy, misuse}
 
 -- ---- the owner's tree
@@ -48,7 +48,7 @@ closed_other held other is = subst (λ (h : Held). Closes held h misuse) (sym is
 -- what was opened over an owner's closed tree begins with what its passes left
 owner_opened : (owner : TreeOwner) (closed : ClosedTree) (words : ℕ) (after : Held) (status : ℕ)
     → length closed.closed ≡ owner.maker.tree.words → ClosesWith owner.maker closed.closed
-    → Opens closed words after status → Reopens (of.Owner owner) after words status
+    → OpensInHandle closed words after status → Reopens (of.Owner owner) after words status
 owner_opened owner closed words _ _ size closes (opens_owner new opens) =
     owner_reopens owner new words
     (follows owner.maker closed.closed words (arc_value new.tree) new.maker size closes opens)
@@ -59,7 +59,7 @@ owner_opened owner closed words _ _ size closes (opens_none fault within is) =
 pub reopened_owner : (held after : Held) (owner : TreeOwner) (result : Result ClosedTree TreeOwner)
     (closed : ClosedTree) (words status : ℕ) → held ≡ of.Owner owner → result ≡ Ok closed
     → IfOk result (λ c. length c.closed ≡ owner.maker.tree.words) → Closed owner result
-    → Opens closed words after status → Reopens held after words status
+    → OpensInHandle closed words after status → Reopens held after words status
 reopened_owner held after owner result closed words status is ok size closes opens =
     let R : Type 0 = Result ClosedTree TreeOwner in
     subst (λ (h : Held). Reopens h after words status) (sym is) (owner_opened owner closed words after status
@@ -75,13 +75,13 @@ reopened_busy held owner kept result words is err same =
     (subst (λ (r : Result ClosedTree TreeOwner). IfErr r (λ o. o.maker ≡ owner.maker)) err same))
 
 closed_opened : (closed : ClosedTree) (words : ℕ) (after : Held) (status : ℕ)
-    → Opens closed words after status → Reopens (of.Closed closed) after words status
+    → OpensInHandle closed words after status → Reopens (of.Closed closed) after words status
 closed_opened closed words _ _ (opens_owner new opens) = closed_opens closed new words opens
 closed_opened closed words _ _ (opens_none fault within is) = closed_stays closed words fault within is
 
 -- a handle of a closed tree holds what was opened over it
 pub reopened_closed : (held after : Held) (closed : ClosedTree) (words status : ℕ)
-    → held ≡ of.Closed closed → Opens closed words after status → Reopens held after words status
+    → held ≡ of.Closed closed → OpensInHandle closed words after status → Reopens held after words status
 reopened_closed held after closed words status is opens =
     subst (λ (h : Held). Reopens h after words status) (sym is)
     (closed_opened closed words after status opens)

@@ -7,7 +7,7 @@ use Rattle.ist_tree.specs.declared.faults.OpenFault.{OpenFault}
 use Rattle.ist_tree.specs.declared.faults.OpenFault.TheVariants.{Small, Memory}
 use Rattle.ist_reopen.specs.Reopening.{as_reopen}
 use Rattle.ist_c.specs.Closing.{status_of}
-use Rattle.ist_c.specs.Keeping.{Keeps, keeps_it, keeps_none}
+use Rattle.ist_c.specs.Keeping.{KeepsInHandle, keeps_it, keeps_none}
 use Rattle.ist_c.specs.Opening.{OpensNew, opens_new, opens_small, opens_memory}
 use Rattle.ist_handles.specs.declared.handles.Handle.{Handle}
 use Rattle.ist_handles.specs.declared.held.Held.TheVariants as of
@@ -16,7 +16,7 @@ use Rattle.ist_handles.specs.declared.owners.TreeOwner.{TreeOwner}
 -- a handle that keeps the owner of a new tree holds it, or is as before
 pub opened_one : (words : ℕ) (pairs : List Pair) (owner : TreeOwner) (before after : Handle) (status : ℕ)
     → IsNewTree words pairs (arc_value owner.tree) owner.maker
-    → Keeps (of.Owner owner) before after status → OpensNew words pairs before after status
+    → KeepsInHandle (of.Owner owner) before after status → OpensNew words pairs before after status
 opened_one words pairs owner _ _ _ new (keeps_it before after full value) =
     opens_new owner before after new full value
 opened_one words pairs owner _ _ _ new (keeps_none out) = opens_memory out

@@ -7,11 +7,11 @@ use Rattle.ist_handles.specs.declared.held.Held.TheVariants as of
 use Rattle.ist_handles.specs.declared.owners.TreeOwner.{TreeOwner}
 use Rattle.ist_handles.specs.declared.passes.TreePass.{TreePass}
 use Rattle.ist_handles.specs.Results.{done, memory}
-use Rattle.ist_c.specs.Passes.{HasMade, HasTakenBack, Makes, TakesBack, makes_pass, makes_none, takes_pass}
+use Rattle.ist_c.specs.Passes.{HasMadePass, HasTakenBack, Makes, TakesBack, makes_pass, makes_none, takes_pass}
 
 -- a handle of an owner that made a pass still holds the owner, and the other handle the pass
 pub made_one : (held : Held) (o q : TreeOwner) (p : TreePass) (before out : Handle)
-    → held ≡ of.Owner o → HasMade o q p → out.full ≡ true → out.opaque.value ≡ of.Pass p
+    → held ≡ of.Owner o → HasMadePass o q p → out.full ≡ true → out.opaque.value ≡ of.Pass p
     → Makes held (of.Owner q) before out done
 made_one held o q p before out is made full value =
     subst (λ (h : Held). Makes h (of.Owner q) before out done) (sym is)

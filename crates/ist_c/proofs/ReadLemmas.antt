@@ -10,12 +10,12 @@ use Rattle.ist_handles.specs.declared.held.Held.TheVariants as of
 use Rattle.ist_handles.specs.declared.passes.TreePass.{TreePass}
 use Rattle.ist_handles.specs.Results.{done}
 use Rattle.ist_handles.specs.Entries.{Wrote}
-use Rattle.ist_c.specs.Reads.{IsNext, ReadsBy, pass_reads, HasListed, ListsBy, pass_lists}
+use Rattle.ist_c.specs.Reads.{IsNextPair, ReadsBy, pass_reads, EntriesHold, ListsBy, pass_lists}
 
 -- what a pass behind a handle found as the next pair was read by this pass, and written
 pub read_next : (way : Bool) (held : Held) (p q : TreePass) (key status : ℕ) (pair : Option Pair)
     (before after : Entry) → held ≡ of.Pass p → arc_value q.tree ≡ arc_value p.tree
-    → HasOnlyRead p.pass q.pass → IsNext way p.pass q.pass key pair → Wrote pair status before after
+    → HasOnlyRead p.pass q.pass → IsNextPair way p.pass q.pass key pair → Wrote pair status before after
     → ReadsBy way held (of.Pass q) key status before after
 read_next way held p q key status pair before after is tree read next wrote =
     subst (λ (h : Held). ReadsBy way h (of.Pass q) key status before after) (sym is)
@@ -24,7 +24,7 @@ read_next way held p q key status pair before after is tree read next wrote =
 -- what a pass behind a handle listed was read by this pass, and written
 pub read_range : (held : Held) (p q : TreePass) (first last : ℕ) (room after : List Entry)
     (before piece : Piece) → held ≡ of.Pass p → length after ≡ length room
-    → HasListed p q first last after piece
+    → EntriesHold p q first last after piece
     → ListsBy held (of.Pass q) first last done room after before piece
 read_range held p q first last room after before piece is same listed =
     subst (λ (h : Held). ListsBy h (of.Pass q) first last done room after before piece) (sym is)

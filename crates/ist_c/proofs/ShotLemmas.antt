@@ -7,7 +7,7 @@ use Rattle.ist_tree.specs.Calls.{HasSeenMore}
 use Rattle.ist_tree.specs.Faces.{PassFace}
 use Rattle.ist_tree.specs.Freezing.{HasStartedNone}
 use Rattle.ist_scan.specs.Room.{HadRoom, IsShotRefused}
-use Rattle.ist_scan.specs.Shots.{HasTaken}
+use Rattle.ist_scan.specs.Shots.{HasTakenShot}
 use Rattle.ist_handles.specs.declared.entries.Entry.{Entry}
 use Rattle.ist_handles.specs.declared.held.Held.{Held}
 use Rattle.ist_handles.specs.declared.held.Held.TheVariants as of
@@ -24,15 +24,15 @@ use Rattle.ist_c.specs.Shots.{pass_takes, shot_refused, none_takes, counts_shot,
 -- a shot that the pass took is held with the pass
 pub shot_taken : (p q : TreePass) (s : ShotFace) (shot : Frozen) (words : ℕ) (short : Shortage)
     → arc_value q.tree ≡ arc_value p.tree → HasSeenMore p.pass q.pass → q.pass.calls ≡ p.pass.calls
-    → HasTaken p.pass q.pass shot → HadRoom p.pass q.pass words → s.tree ≡ arc_value q.tree
+    → HasTakenShot p.pass q.pass shot → HadRoom p.pass q.pass words → s.tree ≡ arc_value q.tree
     → s.pass ≡ q.pass → s.shot ≡ shot → TakesShot (of.Pass p) (of.Shot s) words done short short
 shot_taken p q s shot words short tree seen calls taken room its_tree its_pass its_shot =
     pass_takes p s words short (record {
       same_tree = its_tree ∙ tree;
       seen = subst (λ (f : PassFace). HasSeenMore p.pass f) (sym its_pass) seen;
       calls = subst (λ (f : PassFace). f.calls ≡ p.pass.calls) (sym its_pass) calls;
-      taken = subst (λ (f : PassFace). HasTaken p.pass f s.shot) (sym its_pass)
-          (subst (λ (t : Frozen). HasTaken p.pass q.pass t) (sym its_shot) taken);
+      taken = subst (λ (f : PassFace). HasTakenShot p.pass f s.shot) (sym its_pass)
+          (subst (λ (t : Frozen). HasTakenShot p.pass q.pass t) (sym its_shot) taken);
       room = subst (λ (f : PassFace). HadRoom p.pass f words) (sym its_pass) room;
     })
 

@@ -46,13 +46,13 @@ status_of Memory = memory
 
 -- the handle holds the owner of a tree of the pairs that the closed words hold, or the closed tree still
 -- if none was opened, though no more words were asked for than a tree may have
-pub data Opens (closed : ClosedTree) (words : ℕ) : Held → ℕ → Type 0 where
+pub data OpensInHandle (closed : ClosedTree) (words : ℕ) : Held → ℕ → Type 0 where
   opens_owner : (new : TreeOwner)
       → OpensAfter closed.closed words (arc_value new.tree) new.maker
-      → Opens closed words (of.Owner new) done
+      → OpensInHandle closed words (of.Owner new) done
   opens_none : (fault : ReopenFault) → words ≤ place_limit
       → IsReopenFaultOf closed.closed words fault
-      → Opens closed words (of.Closed closed) (status_of fault)
+      → OpensInHandle closed words (of.Closed closed) (status_of fault)
 
 -- a handle of an owner holds the owner of a new tree, which begins with exactly the pairs that all calls
 -- of the old tree's passes left; or the closed tree if none was opened, though no more words were asked

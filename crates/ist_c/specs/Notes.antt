@@ -8,7 +8,7 @@ use Rattle.ist_handles.specs.declared.held.Held.{Held}
 use Rattle.ist_handles.specs.declared.held.Held.TheVariants as of
 use Rattle.ist_handles.specs.declared.passes.TreeNote.{TreeNote}
 use Rattle.ist_handles.specs.declared.passes.TreePass.{TreePass}
-use Rattle.ist_c.specs.Keeping.{Keeps}
+use Rattle.ist_c.specs.Keeping.{KeepsInHandle}
 use Rattle.ist_handles.specs.Results.{done, memory, misuse}
 
 -- the pass is the same, of the same tree
@@ -18,7 +18,7 @@ pub record IsSamePass (p q : TreePass) : Type 0 where
 
 -- the pass is of the same tree, made no call, and learnt what the note holds: the calls of both are woven
 -- into one legal history
-pub record HasMet (p q : TreePass) (n : TreeNote) : Type 0 where
+pub record HasMetNote (p q : TreePass) (n : TreeNote) : Type 0 where
   pub same_tree : arc_value q.tree ≡ arc_value p.tree
   pub seen : HasSeenMore p.pass q.pass
   pub calls : q.pass.calls ≡ p.pass.calls
@@ -29,7 +29,7 @@ pub record HasMet (p q : TreePass) (n : TreeNote) : Type 0 where
 -- none. A handle of something else is as before
 pub data Notes : Held → Held → Handle → Handle → ℕ → Type 0 where
   notes_pass : (p q : TreePass) (n : TreeNote) (before out : Handle) (status : ℕ) → IsSamePass p q
-      → n.note ≡ noted p.pass → Keeps (of.Note n) before out status
+      → n.note ≡ noted p.pass → KeepsInHandle (of.Note n) before out status
       → Notes (of.Pass p) (of.Pass q) before out status
   notes_none : (p q : TreePass) (out : Handle) → IsSamePass p q
       → Notes (of.Pass p) (of.Pass q) out out memory
@@ -38,6 +38,6 @@ pub data Notes : Held → Held → Handle → Handle → ℕ → Type 0 where
 -- a handle of a pass holds it still, and it learnt what the note holds, if that is one; a handle of
 -- something else is as before
 pub data Meets : Held → Held → Held → ℕ → Type 0 where
-  meets_note : (p q : TreePass) (n : TreeNote) → HasMet p q n
+  meets_note : (p q : TreePass) (n : TreeNote) → HasMetNote p q n
       → Meets (of.Pass p) (of.Pass q) (of.Note n) done
   meets_none : (held told : Held) → Meets held held told misuse

@@ -10,7 +10,7 @@ use Rattle.ist_handles.specs.declared.passes.TreePass.{TreePass}
 use Rattle.ist_handles.specs.Results.{done, memory, misuse}
 
 -- the owner is of the same tree, and made one pass more: this one, which has made no call
-pub record HasMade (o q : TreeOwner) (p : TreePass) : Type 0 where
+pub record HasMadePass (o q : TreeOwner) (p : TreePass) : Type 0 where
   pub same_tree : arc_value q.tree ≡ arc_value o.tree
   pub its_tree : arc_value p.tree ≡ arc_value o.tree
   pub number : p.pass.number ≡ o.maker.made
@@ -27,7 +27,7 @@ pub record HasTakenBack (o q : TreeOwner) (p : TreePass) : Type 0 where
 -- a handle of an owner holds it still, and the other handle holds the pass that it made; without memory
 -- no pass is made. A handle of something else is as before
 pub data Makes : Held → Held → Handle → Handle → ℕ → Type 0 where
-  makes_pass : (o q : TreeOwner) (p : TreePass) (before out : Handle) → HasMade o q p
+  makes_pass : (o q : TreeOwner) (p : TreePass) (before out : Handle) → HasMadePass o q p
       → out.full ≡ true → out.opaque.value ≡ of.Pass p
       → Makes (of.Owner o) (of.Owner q) before out done
   makes_none : (o q : TreeOwner) (out : Handle) → arc_value q.tree ≡ arc_value o.tree

@@ -15,7 +15,7 @@ use Rattle.ist_handles.specs.Entries.{pairs_in, Wrote, next_key}
 use Rattle.ist_handles.specs.Results.{done, misuse}
 
 -- the pass is of the same tree, and made no call: it has only read
-pub record HasRead (p q : TreePass) : Type 0 where
+pub record ReadsInTree (p q : TreePass) : Type 0 where
   pub same_tree : arc_value q.tree ≡ arc_value p.tree
   pub read : HasOnlyRead p.pass q.pass
 
@@ -30,15 +30,15 @@ abbrev pub down : Bool
 down = false
 
 -- the pair is the next one in this direction, from this key on
-abbrev pub IsNext : Bool → PassFace → PassFace → ℕ → Option Pair → Type 0
-IsNext true p q key pair = IsNextUp p q key pair
-IsNext false p q key pair = IsNextDown p q (key + 1) pair
+abbrev pub IsNextPair : Bool → PassFace → PassFace → ℕ → Option Pair → Type 0
+IsNextPair true p q key pair = IsNextUp p q key pair
+IsNextPair false p q key pair = IsNextDown p q (key + 1) pair
 
 -- a handle of a pass holds this pass still, which read the next pair in this direction, and the entry
 -- has it, or is as before if there is none; a handle of something else is as before
 pub data ReadsBy : Bool → Held → Held → ℕ → ℕ → Entry → Entry → Type 0 where
   pass_reads : (way : Bool) (p q : TreePass) (key status : ℕ) (pair : Option Pair)
-      (before after : Entry) → HasRead p q → IsNext way p.pass q.pass key pair
+      (before after : Entry) → ReadsInTree p q → IsNextPair way p.pass q.pass key pair
       → Wrote pair status before after
       → ReadsBy way (of.Pass p) (of.Pass q) key status before after
   none_reads : (way : Bool) (held : Held) (key : ℕ) (entry : Entry)
@@ -47,9 +47,9 @@ pub data ReadsBy : Bool → Held → Held → ℕ → ℕ → Entry → Entry �
 -- ---- a range
 
 -- the first entries have the pairs of a range from its first key up to the key to go on from
-pub record HasListed (p q : TreePass) (first last : ℕ) (room : List Entry) (piece : Piece)
+pub record EntriesHold (p q : TreePass) (first last : ℕ) (room : List Entry) (piece : Piece)
     : Type 0 where
-  pub read : HasRead p q
+  pub read : ReadsInTree p q
   pub within : piece.count ≤ length room
   pub pairs : IsPiece p.pass q.pass first last (next_key piece) (pairs_in piece.count room)
 
@@ -58,7 +58,7 @@ pub record HasListed (p q : TreePass) (first last : ℕ) (room : List Entry) (pi
 pub data ListsBy : Held → Held → ℕ → ℕ → ℕ → List Entry → List Entry → Piece → Piece → Type 0
   where
     pass_lists : (p q : TreePass) (first last : ℕ) (room after : List Entry) (before piece : Piece)
-        → length after ≡ length room → HasListed p q first last after piece
+        → length after ≡ length room → EntriesHold p q first last after piece
         → ListsBy (of.Pass p) (of.Pass q) first last done room after before piece
     none_lists : (held : Held) (first last : ℕ) (room : List Entry) (piece : Piece)
         → ListsBy held held first last misuse room room piece piece

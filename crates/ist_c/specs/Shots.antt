@@ -5,7 +5,7 @@ use Rattle.ist_core.specs.declared.ports.Full.{Full}
 use Rattle.ist_tree.specs.Calls.{HasSeenMore}
 use Rattle.ist_tree.specs.Freezing.{HasStartedNone}
 use Rattle.ist_scan.specs.Room.{HadRoom, IsShotRefused}
-use Rattle.ist_scan.specs.Shots.{HasTaken, HasOnlyLooked}
+use Rattle.ist_scan.specs.Shots.{HasTakenShot, HasOnlyLooked}
 use Rattle.ist_handles.specs.declared.entries.Entry.{Entry}
 use Rattle.ist_handles.specs.declared.held.Held.{Held}
 use Rattle.ist_handles.specs.declared.held.Held.TheVariants as of
@@ -24,7 +24,7 @@ pub record HasShot (p : TreePass) (s : ShotFace) (words : ℕ) : Type 0 where
   pub same_tree : s.tree ≡ arc_value p.tree
   pub seen : HasSeenMore p.pass s.pass
   pub calls : s.pass.calls ≡ p.pass.calls
-  pub taken : HasTaken p.pass s.pass s.shot
+  pub taken : HasTakenShot p.pass s.pass s.shot
   pub room : HadRoom p.pass s.pass words
 
 -- the pass is of the same tree, made no call and started no rebuild: a shot was refused with these numbers

@@ -1,7 +1,7 @@
 //! The exports that close a tree, and open the next one.
 ghost use Rattle.std.specs.Prelude.{◌≡◌, ◌≤◌, true};
 ghost use Rattle.ist_core.specs.RowLayout.{place_limit};
-ghost use Rattle.ist_c.specs.Closing.{Leaves, Closes, Opens, Reopens};
+ghost use Rattle.ist_c.specs.Closing.{Leaves, Closes, OpensInHandle, Reopens};
 
 use crate::tree_calls::status_for;
 use ist_handles::{BUSY, ClosedTree, DONE, Handle, Held, MEMORY, MISUSE};
@@ -66,7 +66,7 @@ pub extern "C" fn ist_close(alloc: Global, owner: &mut Handle) -> u32
 // Opens a tree over the closed one, which is kept if none is opened.
 fn open_next(alloc: Global, closed: ClosedTree, words: u32, held: &mut Held) -> u32
     requires within { words ≤ place_limit }
-    ensures opens { Opens closed words held.new result }
+    ensures opens { OpensInHandle closed words held.new result }
 {
     match closed.open(alloc, words) {
         Ok(owner) => {

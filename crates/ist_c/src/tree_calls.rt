@@ -4,7 +4,7 @@ ghost use Rattle.plain_map.specs.Rising.{IsRising};
 ghost use Rattle.ist_c.specs.Calls.{MayGiveBack};
 ghost use Rattle.ist_c.specs.Closing.{status_of};
 ghost use Rattle.ist_handles.specs.Entries.{pairs_given};
-ghost use Rattle.ist_c.specs.Keeping.{Keeps};
+ghost use Rattle.ist_c.specs.Keeping.{KeepsInHandle};
 ghost use Rattle.ist_c.specs.Opening.{AreWordsFor, OpensNew};
 ghost use Rattle.ist_c.specs.Passes.{Makes, TakesBack};
 ghost use Rattle.ist_handles.specs.Results.{misuse};
@@ -19,7 +19,7 @@ use std::alloc::Global;
 
 /// Makes a handle of what is held. If there is no memory for it, what is held is dropped.
 pub(crate) fn keep(alloc: Global, held: Held, out: &mut Handle) -> u32
-    ensures keeps { Keeps held out.old out.new result }
+    ensures keeps { KeepsInHandle held out.old out.new result }
 {
     match Box::new(alloc, held) {
         Ok(held) => {

@@ -17,7 +17,7 @@ use Rattle.check_events.specs.declared.pasts.Slot.{Slot}
 use Rattle.check_events.specs.declared.pasts.Way.{Way}
 use Rattle.ist_check.specs.declared.conditions.Condition.{Condition}
 use Rattle.ist_check.specs.Conditions.{says_of}
-use Rattle.ist_check.specs.Failing.{Tells}
+use Rattle.ist_check.specs.Failing.{TellsCondition}
 use Rattle.ist_check.specs.Knowing.{Knows, Remembers}
 use Rattle.ist_check.specs.Verdicts.{IsFirstUnlawful, FailsAt}
 use Rattle.ist_check.proofs.ReasonLemmas.{not_covered}
@@ -54,7 +54,7 @@ module _ (events : List Event) (at : ℕ) (event : Event) (below : at < length e
   -- if a condition of it is the first that is false, it fails in this way
   pub fails_at : (pairs : List Pair) (words : ℕ) (condition : Condition) → Lawful pairs words
       (reverse (take at events))
-      → Tells (says_of (start pairs words) (reverse (take at events)) event) (Some condition)
+      → TellsCondition (says_of (start pairs words) (reverse (take at events)) event) (Some condition)
       → FailsAt pairs words events at condition
   fails_at pairs words condition lawful tells =
       record {

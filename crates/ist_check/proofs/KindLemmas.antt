@@ -10,7 +10,7 @@ use Rattle.ist_core.specs.Logs.{Log}
 use Rattle.ist_core.specs.Enabled.{Enabled}
 use Rattle.ist_check.specs.declared.conditions.Condition.{Condition}
 use Rattle.ist_check.specs.Conditions.{says_of}
-use Rattle.ist_check.specs.Failing.{Tells}
+use Rattle.ist_check.specs.Failing.{TellsCondition}
 use Rattle.ist_check.specs.Knowing.{IsOfBuild}
 
 module _ (pairs : List Pair) (words : ℕ) (log : Log) {other event : Event} (is : other ≡ event) where
@@ -20,9 +20,9 @@ module _ (pairs : List Pair) (words : ℕ) (log : Log) {other event : Event} (is
   enabled_by may = subst (λ e. IsTrue may ↔ Enabled (start pairs words) log e) is
 
   -- the same condition of it fails first
-  pub tells_by : (fails : Option Condition) → Tells (says_of (start pairs words) log other) fails
-      → Tells (says_of (start pairs words) log event) fails
-  tells_by fails = subst (λ e. Tells (says_of (start pairs words) log e) fails) is
+  pub tells_by : (fails : Option Condition) → TellsCondition (says_of (start pairs words) log other) fails
+      → TellsCondition (says_of (start pairs words) log event) fails
+  tells_by fails = subst (λ e. TellsCondition (says_of (start pairs words) log e) fails) is
 
 -- an event of none of the other kinds is of a build
 pub of_build : (e : Event) → ((c : ℕ) → e ≢ Enter c) → ((c b n : ℕ) → e ≢ Reserve c b n)

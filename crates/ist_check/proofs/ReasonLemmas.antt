@@ -22,13 +22,13 @@ use Rattle.laws_links.proofs.ContentLemmas.{linked_set}
 use Rattle.ist_check.specs.declared.conditions.Condition.{Condition}
 use Rattle.ist_check.specs.declared.conditions.Condition.TheVariants.{Finished, InSlot, Known, Marked, NoChange, NotPast, PartIs, Published, Rooted, Set, Shared}
 use Rattle.ist_check.specs.Conditions.{says_of, pass_says, draw_says}
-use Rattle.ist_check.specs.Failing.{Tells}
+use Rattle.ist_check.specs.Failing.{TellsCondition}
 use Rattle.ist_check.specs.Verdicts.{IsCovered}
 
 -- ---- if all hold
 
 -- an event of which all conditions hold may come
-pub all_hold : (first : Snapshot) (log : Log) (event : Event) → Tells (says_of first log event) None
+pub all_hold : (first : Snapshot) (log : Log) (event : Event) → TellsCondition (says_of first log event) None
     → Enabled first log event
 all_hold first log (Enter caller) t = t.1.0
 all_hold first log (Reserve caller base size) t = t.1.1.1.0
@@ -92,7 +92,7 @@ module _ (pairs : List Pair) (words : ℕ) (log : Log) (law : Lawful pairs words
       (λ e. let one : row.status ≡ 1 = marked in omega arith)))
 
   -- if the other conditions of a Pass hold, its word is set
-  pass_set : (caller node i word : ℕ) → ¬ (Tells (pass_says t caller node i word) (Some Set))
+  pass_set : (caller node i word : ℕ) → ¬ (TellsCondition (pass_says t caller node i word) (Some Set))
   pass_set caller node i word t0 =
       let t1 = other t0 (λ here. differ is_set Set Known refl refl here.0) in
       let t2 = other t1.1 (λ here. differ is_set Set Published refl refl here.0) in
@@ -119,7 +119,7 @@ module _ (pairs : List Pair) (words : ℕ) (log : Log) (law : Lawful pairs words
 
   -- if a rebuild has a root, its target is finished
   draw_finished : (caller rebuild part : ℕ)
-      → ¬ (Tells (draw_says t log caller rebuild part) (Some Finished))
+      → ¬ (TellsCondition (draw_says t log caller rebuild part) (Some Finished))
   draw_finished caller rebuild part t0 =
       let t1 = other t0 (λ here. differ is_finished Finished Known refl refl here.0) in
       let t2 = other t1.1 (λ here. differ is_finished Finished Published refl refl here.0) in
@@ -142,7 +142,7 @@ module _ (pairs : List Pair) (words : ℕ) (log : Log) (law : Lawful pairs words
 
   -- so neither is the first that is false
   pub not_covered : (event : Event) (condition : Condition)
-      → Tells (says_of (start pairs words) log event) (Some condition)
+      → TellsCondition (says_of (start pairs words) log event) (Some condition)
       → ¬ (IsCovered event condition)
   not_covered (Pass caller node i word) Set tells k = pass_set caller node i word tells
   not_covered (Draw caller rebuild part) Finished tells k = draw_finished caller rebuild part tells

@@ -2,7 +2,7 @@
 use Rattle.std.proofs.Common.{◌≡◌, ◌∙◌, ◌↔◌, IsTrue, Bool, List, [], ◌∷◌, Option, Some, None, sym, ap, subst, inl, inr, ⊎_elim}
 use Rattle.ist_check.specs.declared.conditions.Condition.{Condition}
 use Rattle.ist_check.specs.declared.tested.Tested.{Tested}
-use Rattle.ist_check.specs.Failing.{Stated, Tells, TellsFirst, Tests}
+use Rattle.ist_check.specs.Failing.{Stated, TellsCondition, TellsFirst, Tests}
 
 -- one more test in front: it is of the condition that it was made with, and returns what that says
 pub next : (x : Tested) {holds : Bool} {name : Condition} {says others : Type 0}
@@ -16,7 +16,7 @@ next x {says = says} is tests rest = (
 
 -- the first test that fails names the first condition that is false
 pub tells : (xs : List Tested) (ss : List Stated) (o : Option Condition) → Tests xs ss
-    → TellsFirst xs o → Tells ss o
+    → TellsFirst xs o → TellsCondition ss o
 tells [] [] None t f = tt
 tells [] [] (Some c) t f = f
 tells (x ∷ xs) (s ∷ ss) None t f = (t.1.0 f.0, tells xs ss None t.2 f.1)

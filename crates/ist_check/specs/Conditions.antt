@@ -22,7 +22,7 @@ use Rattle.check_events.specs.Mirroring.{RowHolds}
 use Rattle.check_events.specs.Remembering.{IsUncounted}
 use Rattle.ist_check.specs.declared.conditions.Condition.TheVariants as c
 use Rattle.ist_check.specs.Failing.{Stated, states}
-use Rattle.ist_check.specs.Published.{HasChange, HasInner, HasRebuild, Any, first_change, IsWith, IsFinishedSo}
+use Rattle.ist_check.specs.Published.{HasChangeRow, HasInner, HasRebuild, Any, first_change, IsWith, IsFinishedSo}
 
 -- the conditions of an Enter
 abbrev pub enter_says : Snapshot → ℕ → List Stated
@@ -63,8 +63,8 @@ install_says first log caller base rows = says_of_change first log caller base r
 abbrev pub okay_says : Snapshot → ℕ → ℕ → List Stated
 okay_says t caller base =
     states c.Known (caller < t.callers)
-    ∷ states c.Published (HasChange t base Any)
-    ∷ states c.Unset (HasChange t base (λ change. change.decision ≡ undecided))
+    ∷ states c.Published (HasChangeRow t base Any)
+    ∷ states c.Unset (HasChangeRow t base (λ change. change.decision ≡ undecided))
     ∷ states c.NodeOpen (CanOkay t caller base)
     ∷ []
 
@@ -72,8 +72,8 @@ okay_says t caller base =
 abbrev pub decide_says : Snapshot → Log → ℕ → ℕ → Bool → List Stated
 decide_says t log caller base said =
     states c.Known (caller < t.callers)
-    ∷ states c.Published (HasChange t base Any)
-    ∷ states c.Unset (HasChange t base (λ change. change.decision ≡ undecided))
+    ∷ states c.Published (HasChangeRow t base Any)
+    ∷ states c.Unset (HasChangeRow t base (λ change. change.decision ≡ undecided))
     ∷ states c.Outcome (CanDecide t log caller base said)
     ∷ []
 
@@ -81,8 +81,8 @@ decide_says t log caller base said =
 abbrev pub resolve_says : Snapshot → ℕ → ℕ → List Stated
 resolve_says t caller base =
     states c.Known (caller < t.callers)
-    ∷ states c.Published (HasChange t base Any)
-    ∷ states c.Decided (HasChange t base (λ change. change.decision ≢ undecided))
+    ∷ states c.Published (HasChangeRow t base Any)
+    ∷ states c.Decided (HasChangeRow t base (λ change. change.decision ≢ undecided))
     ∷ states c.InSlot (CanResolve t caller base)
     ∷ []
 

@@ -13,11 +13,11 @@ abbrev pub states : Condition → Type 0 → Stated
 states name says = record { name = name; says = says }
 
 -- the condition returned is false, and all before it hold; if none is returned, all hold
-abbrev pub Tells : List Stated → Option Condition → Type 0
-Tells [] None = Unit {0}
-Tells [] (Some named) = ⊥
-Tells (s ∷ ss) None = s.says × Tells ss None
-Tells (s ∷ ss) (Some named) = ((named ≡ s.name) × ¬ s.says) ⊎ (s.says × Tells ss (Some named))
+abbrev pub TellsCondition : List Stated → Option Condition → Type 0
+TellsCondition [] None = Unit {0}
+TellsCondition [] (Some named) = ⊥
+TellsCondition (s ∷ ss) None = s.says × TellsCondition ss None
+TellsCondition (s ∷ ss) (Some named) = ((named ≡ s.name) × ¬ s.says) ⊎ (s.says × TellsCondition ss (Some named))
 
 -- the same for the results of tests
 abbrev pub TellsFirst : List Tested → Option Condition → Type 0

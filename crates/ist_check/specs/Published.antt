@@ -9,7 +9,7 @@ use Rattle.ist_core.specs.Snapshots.{Snapshot}
 use Rattle.ist_core.specs.Rebuilding.{IsFinishedWith}
 
 -- a change with P is published at the base
-pub record HasChange (t : Snapshot) (base : ℕ) (P : ChangeRow → Type 0) : Type 0 where
+pub record HasChangeRow (t : Snapshot) (base : ℕ) (P : ChangeRow → Type 0) : Type 0 where
   pub change : ChangeRow
   pub published : t.pieces base ≡ Some (Change change)
   pub says : P change

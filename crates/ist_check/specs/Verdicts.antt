@@ -11,7 +11,7 @@ use Rattle.ist_core.specs.Snapshots.{Shows}
 use Rattle.ist_check.specs.declared.conditions.Condition.{Condition}
 use Rattle.ist_check.specs.declared.conditions.Condition.TheVariants.{Finished, Set}
 use Rattle.ist_check.specs.Conditions.{says_of}
-use Rattle.ist_check.specs.Failing.{Tells}
+use Rattle.ist_check.specs.Failing.{TellsCondition}
 use Rattle.ist_check.specs.declared.judging.Judgement.{Judgement}
 use Rattle.ist_check.specs.declared.judging.Judgement.TheVariants.{AllLawful, Refused}
 
@@ -43,7 +43,7 @@ pub record FailsAt (pairs : List Pair) (words : ℕ) (events : List Event) (at :
   pub events_are : events ≡ before ++ event ∷ after_it
   pub at_is : at ≡ length before
   pub lawful : Lawful pairs words (reverse before)
-  pub fails : Tells (says_of (start pairs words) (reverse before) event) (Some condition)
+  pub fails : TellsCondition (says_of (start pairs words) (reverse before) event) (Some condition)
   pub uncovered : ¬ (IsCovered event condition)
 
 -- what is found of the events is true: either they are a lawful log, and the state is the one after

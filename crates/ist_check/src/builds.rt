@@ -6,7 +6,7 @@ ghost use Rattle.check_events.specs.Mirroring.{Mirrors};
 ghost use Rattle.check_events.specs.Remembering.{KnowsStarts, KnowsDraws, KnowsBuilds, KnowsLeaves};
 ghost use Rattle.check_fairness.specs.Knowing.{KnowsLists};
 ghost use Rattle.check_builds.specs.Standing.{HeldAreFree};
-ghost use Rattle.ist_check.specs.Failing.{Tells};
+ghost use Rattle.ist_check.specs.Failing.{TellsCondition};
 ghost use Rattle.ist_check.specs.Conditions.{root_says, draw_says, place_says, lose_says};
 
 use crate::conditions::Condition;
@@ -32,7 +32,7 @@ pub(crate) fn root_fails(
 ) -> Result<Option<Condition>, AllocError>
     ensures exact { IfOk result (λ fails. (t : Snapshot) → Mirrors replica.now t
         → KnowsStarts past.now.started t → HeldAreFree t
-        → Tells (root_says t caller rebuild word rows.now) fails) }
+        → TellsCondition (root_says t caller rebuild word rows.now) fails) }
 {
     let may = can_root(alloc, replica, past, caller, rebuild, word, rows)?;
     Ok(first_failing(&[
@@ -55,7 +55,7 @@ pub(crate) fn draw_fails(
     part: u64,
 ) -> Option<Condition>
     ensures exact { (t : Snapshot) (log : Log) → Mirrors replica.now t
-        → KnowsDraws past.now.drawn log → Tells (draw_says t log caller rebuild part) result }
+        → KnowsDraws past.now.drawn log → TellsCondition (draw_says t log caller rebuild part) result }
 {
     first_failing(&[
         test_of(Condition::Known, is_known(replica, caller)),
@@ -84,7 +84,7 @@ pub(crate) fn place_fails(
 ) -> Result<Option<Condition>, AllocError>
     ensures exact { IfOk result (λ fails. (t : Snapshot) → Mirrors replica.now t
         → HeldAreFree t → KnowsLeaves past.now.leaves t
-        → Tells (place_says t caller rebuild i word rows.now) fails) }
+        → TellsCondition (place_says t caller rebuild i word rows.now) fails) }
 {
     let may = can_place(alloc, replica, past, caller, rebuild, i, word, rows)?;
     Ok(first_failing(&[
@@ -107,7 +107,7 @@ pub(crate) fn lose_fails(
 ) -> Result<Option<Condition>, AllocError>
     ensures exact { IfOk result (λ fails. (t : Snapshot) (log : Log) → Mirrors replica.now t
         → KnowsLists past.now.building t
-        → KnowsBuilds past.now.builds log → Tells (lose_says t log caller bases.now) fails) }
+        → KnowsBuilds past.now.builds log → TellsCondition (lose_says t log caller bases.now) fails) }
 {
     let may = can_lose(alloc, replica, past, caller, bases)?;
     Ok(first_failing(&[

@@ -7,7 +7,7 @@ ghost use Rattle.check_events.specs.Mirroring.{Mirrors};
 ghost use Rattle.check_events.specs.Remembering.{KnowsSlots, KnowsWays, KnowsOkays, KnowsUpdates};
 ghost use Rattle.check_fairness.specs.Knowing.{KnowsLists};
 ghost use Rattle.check_events.specs.Ways.{KeysStay};
-ghost use Rattle.ist_check.specs.Failing.{Tells};
+ghost use Rattle.ist_check.specs.Failing.{TellsCondition};
 ghost use Rattle.ist_check.specs.Conditions.{enter_says, reserve_says, okay_says, decide_says, resolve_says, count_says};
 
 use crate::conditions::Condition;
@@ -22,7 +22,7 @@ use std::alloc::{AllocError, Global};
 
 /// Returns the first condition of an Enter that fails, or `None`.
 pub(crate) fn enter_fails(replica: &Replica, caller: u64) -> Option<Condition>
-    ensures exact { (t : Snapshot) → Mirrors replica.now t → Tells (enter_says t caller) result }
+    ensures exact { (t : Snapshot) → Mirrors replica.now t → TellsCondition (enter_says t caller) result }
 {
     first_failing(&[
         test_of(Condition::Number, is_next_caller(replica, caller)),
@@ -41,7 +41,7 @@ pub(crate) fn reserve_fails(
 ) -> Result<Option<Condition>, AllocError>
     ensures exact { IfOk result (λ fails. (t : Snapshot) → Mirrors replica.now t
         → KnowsLists past.now.building t
-        → Tells (reserve_says t caller base size) fails) }
+        → TellsCondition (reserve_says t caller base size) fails) }
 {
     let may = can_reserve(alloc, replica, past, caller, base, size)?;
     Ok(first_failing(&[
@@ -55,7 +55,7 @@ pub(crate) fn reserve_fails(
 /// Returns the first condition of an Okay that fails, or `None`.
 pub(crate) fn okay_fails(replica: &Replica, caller: u64, change: u64) -> Option<Condition>
     ensures exact { (t : Snapshot) → Mirrors replica.now t
-        → Tells (okay_says t caller change) result }
+        → TellsCondition (okay_says t caller change) result }
 {
     first_failing(&[
         test_of(Condition::Known, is_known(replica, caller)),
@@ -74,7 +74,7 @@ pub(crate) fn decide_fails(
     yes: bool,
 ) -> Option<Condition>
     ensures exact { (t : Snapshot) (log : Log) → Mirrors replica.now t
-        → KnowsOkays past.now.okayed log → Tells (decide_says t log caller change yes) result }
+        → KnowsOkays past.now.okayed log → TellsCondition (decide_says t log caller change yes) result }
 {
     first_failing(&[
         test_of(Condition::Known, is_known(replica, caller)),
@@ -90,7 +90,7 @@ pub(crate) fn decide_fails(
 /// Returns the first condition of a Resolve that fails, or `None`.
 pub(crate) fn resolve_fails(replica: &Replica, caller: u64, change: u64) -> Option<Condition>
     ensures exact { (t : Snapshot) → Mirrors replica.now t
-        → Tells (resolve_says t caller change) result }
+        → TellsCondition (resolve_says t caller change) result }
 {
     first_failing(&[
         test_of(Condition::Known, is_known(replica, caller)),
@@ -109,7 +109,7 @@ pub(crate) fn count_fails(
 ) -> Option<Condition>
     ensures exact { (first : Snapshot) (log : Log) → Mirrors replica.now (state first log)
         → KnowsUpdates past.now.updates (state first log) log → KnowsSlots past.now.slots first log
-        → KnowsWays past.now.ways first log → Tells (count_says first log caller node) result }
+        → KnowsWays past.now.ways first log → TellsCondition (count_says first log caller node) result }
 {
     first_failing(&[
         test_of(Condition::Known, is_known(replica, caller)),

@@ -4,7 +4,7 @@ ghost use Rattle.ist_core.specs.declared.pairs.Pair.{Pair as APair};
 ghost use Rattle.ist_core.specs.StartLayout.{start};
 ghost use Rattle.ist_core.specs.Logs.{Log};
 ghost use Rattle.ist_check.specs.Conditions.{says_of};
-ghost use Rattle.ist_check.specs.Failing.{Tells};
+ghost use Rattle.ist_check.specs.Failing.{TellsCondition};
 ghost use Rattle.ist_check.specs.Knowing.{Knows, IsOfBuild};
 
 use crate::builds::{draw_fails, lose_fails, place_fails, root_fails};
@@ -27,7 +27,7 @@ pub(crate) fn fails(
 ) -> Result<Option<Condition>, AllocError>
     ensures exact { IfOk result (λ fails. (pairs : List APair) → (words : ℕ) → (log : Log)
         → Knows replica.now past.now pairs words log
-        → Tells (says_of (start pairs words) log event.now) fails) }
+        → TellsCondition (says_of (start pairs words) log event.now) fails) }
 {
     match event {
         Event::Enter { caller } => Ok(enter_fails(replica, *caller)),
@@ -70,7 +70,7 @@ fn build_fails(
 ) -> Result<Option<Condition>, AllocError>
     ensures exact { IfOk result (λ fails. (pairs : List APair) → (words : ℕ) → (log : Log)
         → Knows replica.now past.now pairs words log → IsOfBuild event.now
-        → Tells (says_of (start pairs words) log event.now) fails) }
+        → TellsCondition (says_of (start pairs words) log event.now) fails) }
 {
     match event {
         Event::Root {

@@ -9,7 +9,7 @@ ghost use Rattle.ist_core.specs.Installing.{IsUnrefused};
 ghost use Rattle.check_events.specs.Mirroring.{Mirrors};
 ghost use Rattle.check_events.specs.Remembering.{KnowsSlots, KnowsWays, KnowsRefusals, KnowsStarts};
 ghost use Rattle.check_events.specs.Ways.{KeysStay};
-ghost use Rattle.ist_check.specs.Failing.{Tells};
+ghost use Rattle.ist_check.specs.Failing.{TellsCondition};
 ghost use Rattle.ist_check.specs.Published as published;
 ghost use Rattle.ist_check.specs.Published.{Any, IsWith};
 ghost use Rattle.ist_check.specs.Conditions.{install_says};
@@ -33,7 +33,7 @@ pub(crate) fn install_fails(
         → KnowsSlots past.now.slots first log → KnowsWays past.now.ways first log
         → KnowsRefusals past.now.refused (state first log)
         → KnowsStarts past.now.started (state first log) → KeysStay first log
-        → Tells (install_says first log caller base rows.now) result }
+        → TellsCondition (install_says first log caller base rows.now) result }
 {
     let change = first_change(rows, base);
     first_failing(&[

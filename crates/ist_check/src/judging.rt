@@ -6,7 +6,7 @@ ghost use Rattle.ist_core.specs.Logs.{Log};
 ghost use Rattle.ist_core.specs.Enabled.{Enabled};
 ghost use Rattle.ist_core.specs.Lawful.{CanOpen};
 ghost use Rattle.ist_check.specs.Conditions.{says_of};
-ghost use Rattle.ist_check.specs.Failing.{Tells};
+ghost use Rattle.ist_check.specs.Failing.{TellsCondition};
 ghost use Rattle.ist_check.specs.Knowing.{Knows};
 ghost use Rattle.ist_check.specs.Verdicts.{IsTrueJudgement};
 
@@ -85,7 +85,7 @@ fn refused_for(
     ensures refused { IfOk result (λ found. (pairs : List APair) → (words : ℕ) → (log : Log)
         → Knows replica.now past.now pairs words log → IfSome found (λ condition.
         ¬ (Enabled (start pairs words) log event.now)
-        × Tells (says_of (start pairs words) log event.now) (Some condition))) }
+        × TellsCondition (says_of (start pairs words) log event.now) (Some condition))) }
 {
     if may_come(alloc, replica, past, event)? {
         return Ok(None);

@@ -3,7 +3,7 @@ ghost use Rattle.ist_core.specs.Snapshots.{Snapshot};
 ghost use Rattle.ist_core.specs.Logs.{Log};
 ghost use Rattle.check_events.specs.Mirroring.{Mirrors};
 ghost use Rattle.check_events.specs.Remembering.{KnowsCalls, KnowsPasses};
-ghost use Rattle.ist_check.specs.Failing.{Tells};
+ghost use Rattle.ist_check.specs.Failing.{TellsCondition};
 ghost use Rattle.ist_check.specs.Conditions.{mark_says, pass_says, finish_says};
 
 use crate::conditions::Condition;
@@ -25,7 +25,7 @@ pub(crate) fn mark_fails(
     node: u64,
 ) -> Option<Condition>
     ensures exact { (t : Snapshot) (log : Log) → Mirrors replica.now t
-        → KnowsCalls past.now.called t log → Tells (mark_says t log caller node) result }
+        → KnowsCalls past.now.called t log → TellsCondition (mark_says t log caller node) result }
 {
     first_failing(&[
         test_of(Condition::Known, is_known(replica, caller)),
@@ -44,7 +44,7 @@ pub(crate) fn pass_fails(
     word: u64,
 ) -> Option<Condition>
     ensures exact { (t : Snapshot) → Mirrors replica.now t
-        → Tells (pass_says t caller node i word) result }
+        → TellsCondition (pass_says t caller node i word) result }
 {
     first_failing(&[
         test_of(Condition::Known, is_known(replica, caller)),
@@ -65,7 +65,7 @@ pub(crate) fn finish_fails(
     keys: u64,
 ) -> Option<Condition>
     ensures exact { (t : Snapshot) (log : Log) → Mirrors replica.now t
-        → KnowsPasses past.now.passed log → Tells (finish_says t log caller node keys) result }
+        → KnowsPasses past.now.passed log → TellsCondition (finish_says t log caller node keys) result }
 {
     first_failing(&[
         test_of(Condition::Known, is_known(replica, caller)),

@@ -8,7 +8,7 @@ ghost use Rattle.ist_core.specs.Shapes.{share_from};
 ghost use Rattle.ist_core.specs.Statuses.{undecided};
 ghost use Rattle.check_events.specs.Mirroring.{Mirrors, RowHolds};
 ghost use Rattle.check_events.specs.Remembering.{KnowsStarts, KnowsUpdates, IsUncounted};
-ghost use Rattle.ist_check.specs.Published.{HasChange, HasInner, HasRebuild, Any, IsFinishedSo};
+ghost use Rattle.ist_check.specs.Published.{HasChangeRow, HasInner, HasRebuild, Any, IsFinishedSo};
 
 use check_events::{Past, Replica, finished_keys, holds_at, inner_of_word};
 use ist_layout::{Ref, UNDECIDED};
@@ -51,7 +51,7 @@ pub(crate) fn has_room(replica: &Replica, size: u64) -> bool
 /// Returns whether a change is published at the base.
 pub(crate) fn has_change(replica: &Replica, base: u64) -> bool
     ensures exact { (t : Snapshot) → Mirrors replica.now t
-        → (IsTrue result ↔ HasChange t base Any) }
+        → (IsTrue result ↔ HasChangeRow t base Any) }
 {
     match replica.changes.get(&base) {
         None => false,
@@ -62,7 +62,7 @@ pub(crate) fn has_change(replica: &Replica, base: u64) -> bool
 /// Returns whether a change at the base is undecided.
 pub(crate) fn is_undecided(replica: &Replica, base: u64) -> bool
     ensures exact { (t : Snapshot) → Mirrors replica.now t
-        → (IsTrue result ↔ HasChange t base (λ change. change.decision ≡ undecided)) }
+        → (IsTrue result ↔ HasChangeRow t base (λ change. change.decision ≡ undecided)) }
 {
     match replica.changes.get(&base) {
         None => false,
@@ -73,7 +73,7 @@ pub(crate) fn is_undecided(replica: &Replica, base: u64) -> bool
 /// Returns whether a change at the base is decided.
 pub(crate) fn is_decided(replica: &Replica, base: u64) -> bool
     ensures exact { (t : Snapshot) → Mirrors replica.now t
-        → (IsTrue result ↔ HasChange t base (λ change. change.decision ≢ undecided)) }
+        → (IsTrue result ↔ HasChangeRow t base (λ change. change.decision ≢ undecided)) }
 {
     match replica.changes.get(&base) {
         None => false,

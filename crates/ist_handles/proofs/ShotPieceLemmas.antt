@@ -9,8 +9,8 @@ use Rattle.ist_tree.specs.declared.freezing.Frozen.{Frozen}
 use Rattle.ist_tree.specs.Faces.{PassFace}
 use Rattle.ist_tree.specs.Freezing.{IsFrozenFor}
 use Rattle.ist_live.specs.Pieces.{end_of}
-use Rattle.ist_scan.specs.Shots.{HasOnlyLooked, HasPairs, map_seen}
-use Rattle.ist_scan.specs.Walks.{WalkFace, AreOneWalk, HasWalked}
+use Rattle.ist_scan.specs.Shots.{HasOnlyLooked, ArePairsOf, map_seen}
+use Rattle.ist_scan.specs.Walks.{WalkFace, AreOneWalk, IsWalkOfPass}
 use Rattle.ist_scan.proofs.PairLemmas.{rise}
 use Rattle.ist_scan.proofs.ShotLemmas.{looked_not, looked_more, of_pairs, some_pairs}
 use Rattle.ist_handles.specs.ShotPieces.{IsShotPiece}
@@ -20,7 +20,7 @@ use Rattle.ist_handles.proofs.UptoLemmas.{inside, upto}
 pub record IsShotReadTo (p q : PassFace) (shot : Frozen) (first last count : ℕ) (pairs : List Pair)
     : Type 0 where
   pub looked : HasOnlyLooked p q
-  pub front : (all : List Pair) → HasPairs p shot all → pairs ≡ take count (pairs_between first last all)
+  pub front : (all : List Pair) → ArePairsOf p shot all → pairs ≡ take count (pairs_between first last all)
 
 -- the walk is over this interval of the shot, and has given this many pairs
 pub record IsWalkOf (q : PassFace) (w : WalkFace) (shot : Frozen) (first last count : ℕ) : Type 0 where
@@ -28,7 +28,7 @@ pub record IsWalkOf (q : PassFace) (w : WalkFace) (shot : Frozen) (first last co
   pub first_is : w.first ≡ first
   pub last_is : w.last ≡ last
   pub given_is : w.given ≡ count
-  pub way : HasWalked q w
+  pub way : IsWalkOfPass q w
 
 -- ---- lists
 
@@ -52,7 +52,7 @@ read_to_none p shot first last pairs none = record { looked = looked_not p; fron
 
 -- a walk that gave a pair is over the same interval, and has given one more
 pub walk_on : (q m : PassFace) (w v : WalkFace) (shot : Frozen) (first last count : ℕ)
-    → IsWalkOf m w shot first last count → AreOneWalk w v → v.given ≡ w.given + 1 → HasWalked q v
+    → IsWalkOf m w shot first last count → AreOneWalk w v → v.given ≡ w.given + 1 → IsWalkOfPass q v
     → IsWalkOf q v shot first last (count + 1)
 walk_on q m w v shot first last count walk one given way =
     record {
@@ -68,7 +68,7 @@ walk_on q m w v shot first last count walk one given way =
 -- what is said of the shot's pairs holds of the map's at each position that the shot is of
 piece_of : (p : PassFace) (shot : Frozen) (first last : ℕ) (next : Option ℕ) (pairs : List Pair)
     → Lawful p.tree.start p.tree.words p.seen
-    → ((all : List Pair) → HasPairs p shot all → pairs ≡ pairs_between first (end_of next last) all)
+    → ((all : List Pair) → ArePairsOf p shot all → pairs ≡ pairs_between first (end_of next last) all)
     → IfSome next (λ key. (first < key) × (key ≤ last)) → IsShotPiece p shot first last next pairs
 piece_of p shot first last next pairs lawful by goes =
     record {
@@ -80,13 +80,13 @@ piece_of p shot first last next pairs lawful by goes =
 module _ (p m q : PassFace) (shot : Frozen) (first last count : ℕ) (pairs : List Pair) (w : WalkFace)
     (found : Option Pair) (read : IsShotReadTo p m shot first last count pairs)
     (walk : IsWalkOf m w shot first last count) (looked : HasOnlyLooked m q)
-    (next : (all : List Pair) → HasPairs m shot all
+    (next : (all : List Pair) → ArePairsOf m shot all
     → found ≡ slice_get (pairs_between w.first w.last all) w.given) where
   -- the pass has only looked
   pub looked_on : HasOnlyLooked p q
   looked_on = looked_more p m q read.looked looked
 
-  came : (all : List Pair) → HasPairs p shot all
+  came : (all : List Pair) → ArePairsOf p shot all
       → slice_get (pairs_between first last all) count ≡ found
   came all h =
       sym (next all (read.looked.pairs shot all h)
@@ -122,7 +122,7 @@ module _ (p m q : PassFace) (shot : Frozen) (first last count : ℕ) (pairs : Li
                 ∙ take_next l count pair (came all h ∙ some) ∙ ap (λ n. take n l) same);
           }
 
-      upto_pair : (all : List Pair) → HasPairs p shot all → more ≡ pairs_between first pair.key all
+      upto_pair : (all : List Pair) → ArePairsOf p shot all → more ≡ pairs_between first pair.key all
       upto_pair all h =
           pushed ∙ ap (λ ps. ps ++ pair ∷ []) (read.front all h)
           ∙ take_next (pairs_between first last all) count pair (came all h ∙ some)

@@ -5,7 +5,7 @@ use Rattle.ist_core.specs.Map.{listed, pairs_between}
 use Rattle.ist_tree.specs.declared.freezing.Frozen.{Frozen}
 use Rattle.ist_tree.specs.Faces.{TreeFace, PassFace}
 use Rattle.ist_live.specs.Pieces.{end_of}
-use Rattle.ist_scan.specs.Shots.{HasPairs, IsOf, map_seen}
+use Rattle.ist_scan.specs.Shots.{ArePairsOf, IsOf, map_seen}
 
 -- a pass that took a shot: their tree, the pass, and the shot
 pub record ShotFace : Type 0 where
@@ -17,7 +17,7 @@ pub record ShotFace : Type 0 where
 -- map's at each position that the shot is of
 pub record IsShotPiece (p : PassFace) (shot : Frozen) (first last : ℕ) (next : Option ℕ)
     (pairs : List Pair) : Type 0 where
-  pub by_pairs : (all : List Pair) → HasPairs p shot all
+  pub by_pairs : (all : List Pair) → ArePairsOf p shot all
       → pairs ≡ pairs_between first (end_of next last) all
   pub of_map : (position : ℕ) → IsOf p position shot
       → pairs ≡ listed first (end_of next last) (map_seen p position)

@@ -11,7 +11,7 @@ ghost use Rattle.ist_live.specs.Ends.{IsNextUp, IsNextDown};
 ghost use Rattle.ist_live.specs.Pieces.{IsPiece};
 ghost use Rattle.ist_live.specs.Reading.{HasOnlyRead};
 ghost use Rattle.ist_scan.specs.Room.{HadRoom, IsShotRefused};
-ghost use Rattle.ist_scan.specs.Shots.{HasTaken};
+ghost use Rattle.ist_scan.specs.Shots.{HasTakenShot};
 ghost use Rattle.ist_handles.specs.Entries.{next_key, pairs_in};
 
 use crate::entries::Entry;
@@ -133,7 +133,7 @@ impl TreePass {
         ensures seen { HasSeenMore self.old.pass self.new.pass }
         ensures calls { self.new.pass.calls ≡ self.old.pass.calls }
         ensures frozen { IfOk result (IsFrozenFor self.new.pass) }
-        ensures taken { IfOk result (HasTaken self.old.pass self.new.pass) }
+        ensures taken { IfOk result (HasTakenShot self.old.pass self.new.pass) }
         ensures room { OnOk result (HadRoom self.old.pass self.new.pass words) }
         ensures full { IfErr result (IsShotRefused self.old.pass self.new.pass words) }
         ensures unstarted { OnErr result (HasStartedNone self.old.pass self.new.pass) }

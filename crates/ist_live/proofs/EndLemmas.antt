@@ -7,7 +7,7 @@ use Rattle.ist_find.specs.Spans.{IsEdge}
 use Rattle.ist_find.specs.Sweeps.{one_of}
 use Rattle.ist_tree.specs.Faces.{PassFace}
 use Rattle.ist_tree.specs.Spans.{state_seen}
-use Rattle.ist_live.specs.Reading.{Begins, HasOnlyRead, Had, HadNone, HasReadSpan, ReadsUp, ReadsDown, none_up, span_up, none_down, span_down}
+use Rattle.ist_live.specs.Reading.{ReadsFrom, HasOnlyRead, Had, HadNone, HasReadSpan, ReadsUp, ReadsDown, none_up, span_up, none_down, span_down}
 use Rattle.ist_live.specs.Lists.{value_among}
 use Rattle.ist_live.specs.Ends.{IsNextUp, IsNextDown, end_up, end_down}
 use Rattle.ist_live.proofs.ReadLemmas.{read_not, read_more, had_before, had_after, up_to_pair, down_to_pair}
@@ -105,7 +105,7 @@ pub record FoundUp (p q : PassFace) (key : ℕ) (pair : Option Pair) : Type 0 wh
 pub record IsUpTo (p m : PassFace) (key from : ℕ) : Type 0 where
   pub read : HasOnlyRead p m
   pub reads : ReadsUp p key m from []
-  pub begins : Begins m key from
+  pub begins : ReadsFrom m key from
   pub small : from < 2 ^ 64
 
 -- at first none was
@@ -151,7 +151,7 @@ pub record FoundDown (p q : PassFace) (behind : ℕ) (pair : Option Pair) : Type
 pub record IsDownTo (p m : PassFace) (behind from : ℕ) : Type 0 where
   pub read : HasOnlyRead p m
   pub reads : ReadsDown p behind m from []
-  pub begins : Begins m behind from
+  pub begins : ReadsFrom m behind from
 
 -- at first none was
 pub down_to_none : (p : PassFace) (behind : ℕ) → IsDownTo p p behind behind

@@ -36,8 +36,8 @@ pub record HasReadSpan (p q : PassFace) (asked first behind : ℕ) (pair : Optio
   pub loads : HasLoadedFewOver p q asked (pair_value pair asked)
 
 -- a read begins at the key that its caller named, or at an edge of the tree
-abbrev pub Begins : PassFace → ℕ → ℕ → Type 0
-Begins p named key = (key ≡ named) ⊎ IsEdge (state_seen p) key
+abbrev pub ReadsFrom : PassFace → ℕ → ℕ → Type 0
+ReadsFrom p named key = (key ≡ named) ⊎ IsEdge (state_seen p) key
 
 -- ---- span after span
 
@@ -46,13 +46,13 @@ Begins p named key = (key ≡ named) ⊎ IsEdge (state_seen p) key
 pub data ReadsUp (p : PassFace) (first : ℕ) : PassFace → ℕ → List Pair → Type 0 where
   none_up : ReadsUp p first p first []
   span_up : {m q : PassFace} {from behind : ℕ} {pairs : List Pair} (pair : Option Pair)
-      → ReadsUp p first m from pairs → Begins m first from
+      → ReadsUp p first m from pairs → ReadsFrom m first from
       → HasReadSpan m q from from behind pair → ReadsUp p first q behind (pairs ++ one_of pair)
 
 -- the pass read the keys from `first` to before `behind` downwards, one span after another
 pub data ReadsDown (p : PassFace) (behind : ℕ) : PassFace → ℕ → List Pair → Type 0 where
   none_down : ReadsDown p behind p behind []
   span_down : {m q : PassFace} {from first : ℕ} {pairs : List Pair} (pair : Option Pair)
-      → ReadsDown p behind m (from + 1) pairs → Begins m behind (from + 1)
+      → ReadsDown p behind m (from + 1) pairs → ReadsFrom m behind (from + 1)
       → HasReadSpan m q from first (from + 1) pair
       → ReadsDown p behind q first (one_of pair ++ pairs)

@@ -2,7 +2,7 @@
 -- `start`.
 use Rattle.std.proofs.Common.{◌≡◌, ◌∙◌, ℕ, Bool, true, false, Result, Ok, Err, None, refl, subst}
 use Rattle.std.specs.Result.{IsErr}
-use Rattle.ist_build.specs.Laying.{Reserves}
+use Rattle.ist_build.specs.Laying.{IsReservation}
 use Rattle.ist_core.specs.declared.ports.Full.{Full}
 use Rattle.ist_core.specs.Slots.{IsOpen}
 use Rattle.laws_calls.specs.Settling.{StartsAreDone}
@@ -37,8 +37,8 @@ reserved_begun target old new r =
       caller = r.caller;
       number = r.number;
       fresh = r.fresh;
-      went = went_all Reserves Begins begins_reserving old.token.view new.token.view r.went;
-      aims = went_all Reserves (StartsAt target) (aims_reserving target) old.token.view
+      went = went_all IsReservation Begins begins_reserving old.token.view new.token.view r.went;
+      aims = went_all IsReservation (StartsAt target) (aims_reserving target) old.token.view
           new.token.view r.went;
       quiet = r.quiet;
       refused = r.refused;
@@ -62,7 +62,7 @@ begun_more target old mid new a b =
 
 module _ (old new : Caller) (c : IsCaller old) (q : IsQuiet old) (r : HasReserved old new)
     (parent index target : ℕ) where
-  abbrev g : WentOn Reserves old.token.view new.token.view
+  abbrev g : WentOn IsReservation old.token.view new.token.view
   g = r.went
 
   done : StartsAreDone (now old.token.view) old.number → StartsAreDone (now new.token.view) old.number

@@ -18,7 +18,7 @@ use Rattle.ist_build.specs.Calls.{IsBuildable}
 use Rattle.ist_core.specs.Snapshots.{Snapshot}
 use Rattle.ist_rebuild.specs.Helping.{HasHelped}
 use Rattle.ist_rows.specs.Going.{IsReady}
-use Rattle.ist_rebuild.specs.Going.{Serves}
+use Rattle.ist_rebuild.specs.Going.{ServesRebuild}
 use Rattle.ist_rebuild.proofs.HelpedLemmas.{helped_more, loads_helped, marks_helped, started_went}
 use Rattle.ist_rows.proofs.GoneLemmas.{still_ready}
 
@@ -85,7 +85,7 @@ has_marked who mid token rebuild target keys ready started seen h marks finished
       helped = all;
       buildable = told_buildable (now token.view) rebuild target keys
           (target_went (Marks token.view target) mid.view token.view marks rebuild target h)
-          (started_went Serves who.token.view token.view all.on.gone.went rebuild started) finished;
+          (started_went ServesRebuild who.token.view token.view all.on.gone.went rebuild started) finished;
     }
 
 -- the caller might mark the target
@@ -95,4 +95,4 @@ pub may_mark : (who : Caller) (mid : TokenFace) (rebuild target : ℕ) → IsRea
 may_mark who mid rebuild target ready started seen h =
     let first = loads_helped who mid ready seen in
     may_mark_target mid.view who.number rebuild target first.on.gone.caller.mine h
-    (started_went Serves who.token.view mid.view first.on.gone.went rebuild started)
+    (started_went ServesRebuild who.token.view mid.view first.on.gone.went rebuild started)

@@ -8,10 +8,10 @@ use Rattle.ist_rows.specs.CallerLaws.{InstallsNone}
 use Rattle.ist_dcss.specs.Helping.{Serves as HelpsWith}
 use Rattle.ist_mark.specs.Marking.{Marks}
 use Rattle.ist_build.specs.Calls.{Builds}
-use Rattle.ist_rebuild.specs.Going.{Serves}
+use Rattle.ist_rebuild.specs.Going.{ServesRebuild}
 
 -- help for a change
-pub change_serves : (change : ℕ) (event : Event) → HelpsWith change event → Serves event
+pub change_serves : (change : ℕ) (event : Event) → HelpsWith change event → ServesRebuild event
 change_serves change (Okay caller other) is = tt
 change_serves change (Decide caller other said) is = tt
 change_serves change (Resolve caller other) is = tt
@@ -28,7 +28,7 @@ change_serves change (Place caller rebuild i word rows) is = absurd is
 change_serves change (Lose caller bases) is = absurd is
 
 -- marking
-pub marks_serve : (v : View) (node : ℕ) (event : Event) → Marks v node event → Serves event
+pub marks_serve : (v : View) (node : ℕ) (event : Event) → Marks v node event → ServesRebuild event
 marks_serve v node (Okay caller other) is = tt
 marks_serve v node (Decide caller other said) is = tt
 marks_serve v node (Resolve caller other) is = tt
@@ -45,7 +45,7 @@ marks_serve v node (Place caller rebuild i word rows) is = absurd is
 marks_serve v node (Lose caller bases) is = absurd is
 
 -- building
-pub builds_serve : (event : Event) → Builds event → Serves event
+pub builds_serve : (event : Event) → Builds event → ServesRebuild event
 builds_serve (Reserve caller base size) is = tt
 builds_serve (Root caller rebuild word rows) is = tt
 builds_serve (Draw caller rebuild part) is = tt

@@ -38,11 +38,11 @@ use Rattle.ist_dcss.proofs.HelperLemmas.{serves_keep, went_row}
 use Rattle.ist_dcss.proofs.OpeningLemmas.{closed_node_stays}
 use Rattle.ist_dcss.proofs.ResolvedLemmas.{resolved_helped}
 use Rattle.ist_rebuild.specs.declared.finishing.Tried.TheVariants.{Other}
-use Rattle.ist_rebuild.specs.declared.sites.Plan.{Plan}
+use Rattle.ist_rebuild.specs.declared.sites.PlannedFinish.{PlannedFinish}
 use Rattle.ist_rebuild.specs.Finishing.{IsPlan, IsPrepared, filling_at, finish_row}
 use Rattle.ist_rebuild.specs.Helping.{HasHelped}
 use Rattle.ist_rows.specs.Going.{IsReady}
-use Rattle.ist_rebuild.specs.Going.{Serves}
+use Rattle.ist_rebuild.specs.Going.{ServesRebuild}
 use Rattle.ist_rebuild.proofs.EventLemmas.{change_serves}
 use Rattle.ist_rebuild.proofs.SiteLemmas.{rebuild_good}
 
@@ -68,14 +68,14 @@ same_change : (a b : ChangeRow) → Change a ≡ Change b → a ≡ b
 same_change a b e = cc
 
 -- the caller after its Install
-pub record HasInstalled (who : Caller) (plan : Plan) (change : ℕ) (token : TokenFace) : Type 0 where
+pub record HasInstalled (who : Caller) (plan : PlannedFinish) (change : ℕ) (token : TokenFace) : Type 0 where
   pub caller : IsCaller (record who { token = token; change = None })
   pub refused : HasRefused (record who { token = token; change = None })
-  pub went : WentOn Serves who.token.view token.view
+  pub went : WentOn ServesRebuild who.token.view token.view
   pub published : (now token.view).pieces change ≡ Some (Change (finish_row plan who.number))
   pub may_help : MayHelp token.view change
 
-module _ (who : Caller) (plan : Plan) (change : ℕ) (ready : IsReady who)
+module _ (who : Caller) (plan : PlannedFinish) (change : ℕ) (ready : IsReady who)
     (p : IsPrepared who plan change) (token : TokenFace)
     (i : IsInstalled who.token.view change (filling_at who.token.view change) token.view) where
   abbrev event : Event
@@ -90,7 +90,7 @@ module _ (who : Caller) (plan : Plan) (change : ℕ) (ready : IsReady who)
   number_is : i.number ≡ who.number
   number_is = ap number_of (sym i.mine ∙ ready.caller.mine)
 
-  serves : Serves event
+  serves : ServesRebuild event
   serves r e = ap (λ c. c.kind) (sym (one_change (filling_at who.token.view change).change r e))
       ∙ ap (λ c. c.kind) p.is
 
@@ -121,9 +121,9 @@ module _ (who : Caller) (plan : Plan) (change : ℕ) (ready : IsReady who)
         refused = refused_made before behind (ChangeKind ∷ []) event (change ∷ []) caller_before
             i.logged.before made (ap CallerOf number_is) refl (p.row, tt)
             record { number = refl; rows = refl } refused_before;
-        went = went_more Serves who.token.view i.before token.view
-            (goes_on_went Serves who.token.view i.before i.seen)
-            (logged_went Serves i.before event token.view i.logged serves refl);
+        went = went_more ServesRebuild who.token.view i.before token.view
+            (goes_on_went ServesRebuild who.token.view i.before i.seen)
+            (logged_went ServesRebuild i.before event token.view i.logged serves refl);
         published = there;
         may_help = record {
           number = who.number;
@@ -149,8 +149,8 @@ module _ (who : Caller) (plan : Plan) (change : ℕ) (ready : IsReady who)
               caller = caller_went behind last h.caller kept;
               number = refl;
               refused = refused_went behind last h.caller h.refused kept;
-              went = went_more Serves who.token.view token.view last.view h.went
-                  (went_all (HelpsWith change) Serves (change_serves change) token.view last.view g);
+              went = went_more ServesRebuild who.token.view token.view last.view h.went
+                  (went_all (HelpsWith change) ServesRebuild (change_serves change) token.view last.view g);
             };
             quiet = record {
               pending = ready.quiet.pending;
@@ -214,7 +214,7 @@ module _ (who : Caller) (plan : Plan) (change : ℕ) (ready : IsReady who)
 -- ---- another word
 
 -- the slot held the word that was answered
-pub other_holds : (who : Caller) (plan : Plan) (change found : ℕ) (w : View)
+pub other_holds : (who : Caller) (plan : PlannedFinish) (change found : ℕ) (w : View)
     → IsPrepared who plan change
     → IsOther who.token.view change (filling_at who.token.view change) found w
     → (word : ℕ) → Other found ≡ Other word → SlotHolds (now w) plan.parent plan.index word
@@ -226,7 +226,7 @@ other_holds who plan change found w p o word e =
     answer a b e = cc
 
 -- the other word isn't the rebuild's
-pub other_differs : (who : Caller) (plan : Plan) (change found : ℕ) (w : View)
+pub other_differs : (who : Caller) (plan : PlannedFinish) (change found : ℕ) (w : View)
     → IsPrepared who plan change
     → IsOther who.token.view change (filling_at who.token.view change) found w
     → (word : ℕ) → Other found ≡ Other word → word ≢ word_of (RebuildAt plan.rebuild)

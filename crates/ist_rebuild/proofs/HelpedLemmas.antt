@@ -30,7 +30,7 @@ use Rattle.ist_mark.proofs.SubtreeLemmas.{marks_keep}
 use Rattle.ist_build.specs.Calls.{Builds}
 use Rattle.ist_rebuild.specs.Helping.{HasHelped}
 use Rattle.ist_rows.specs.Going.{IsReady}
-use Rattle.ist_rebuild.specs.Going.{Serves}
+use Rattle.ist_rebuild.specs.Going.{ServesRebuild}
 use Rattle.ist_rebuild.proofs.EventLemmas.{change_serves, marks_serve, builds_serve, builds_install_none}
 use Rattle.ist_rebuild.proofs.ReservedLemmas.{refused_reserved}
 
@@ -39,13 +39,13 @@ use Rattle.ist_rebuild.proofs.ReservedLemmas.{refused_reserved}
 -- who does nothing has helped
 pub helped_same : (who : Caller) → IsReady who → IsSound who.token.view → HasHelped who who
 helped_same who ready s =
-    record { on = ready_same Serves who s ready; fresh = (refl, refl) }
+    record { on = ready_same ServesRebuild who s ready; fresh = (refl, refl) }
 
 -- helping twice
 pub helped_more : (a b c : Caller) → HasHelped a b → HasHelped b c → HasHelped a c
 helped_more a b c h k =
     record {
-      on = ready_more Serves a b c h.on k.on;
+      on = ready_more ServesRebuild a b c h.on k.on;
       fresh = (k.fresh.0 ∙ h.fresh.0, k.fresh.1 ∙ h.fresh.1);
     }
 
@@ -58,11 +58,11 @@ started_went P v w g rebuild s = started_grows (now v) (now w) (went_grow P v w 
 
 -- a caller that went on by such events has helped
 kept_helped : (who : Caller) (token : TokenFace) → IsReady who → (P : Event → Type 0)
-    → ((event : Event) → P event → KeepsRows event) → ((event : Event) → P event → Serves event)
+    → ((event : Event) → P event → KeepsRows event) → ((event : Event) → P event → ServesRebuild event)
     → WentOn P who.token.view token.view → HasHelped who (record who { token = token })
 kept_helped who token ready P keeps serves g =
     record {
-      on = ready_all P Serves serves who (record who { token = token })
+      on = ready_all P ServesRebuild serves who (record who { token = token })
           (kept_ready P keeps who token ready g);
       fresh = (refl, refl);
     }
@@ -71,7 +71,7 @@ kept_helped who token ready P keeps serves g =
 pub loads_helped : (who : Caller) (token : TokenFace) → IsReady who → GoesOnTo who.token.view token.view
     → HasHelped who (record who { token = token })
 loads_helped who token ready g =
-    record { on = loads_ready Serves who token ready g; fresh = (refl, refl) }
+    record { on = loads_ready ServesRebuild who token ready g; fresh = (refl, refl) }
 
 -- help for a change
 pub help_helped : (who : Caller) (token : TokenFace) (change : ℕ) → IsReady who
@@ -98,7 +98,7 @@ builds_helped old new ready c refused number leaf pair g =
           caller = c;
           number = number;
           refused = refused;
-          went = went_all Builds Serves builds_serve old.token.view new.token.view g;
+          went = went_all Builds ServesRebuild builds_serve old.token.view new.token.view g;
         };
         quiet = record {
           pending = ready.quiet.pending;
@@ -186,7 +186,7 @@ refused_row old new words full ready c number h =
     let g : GoesOnTo v w =
     goes_on_more v h.cause.short.before w h.cause.short.seen
     (looked_goes_on h.cause.short.before _ full.next w h.cause.short.looked) in
-    let it = still_ready (loads_ready Serves old new.token ready g) in
+    let it = still_ready (loads_ready ServesRebuild old new.token ready g) in
     builds_helped old new ready c
     (subst (HasRefused) (same new.number new.leaf new.pair new.change new.rebuild number
     (ap (λ own. own.leaf) h.same) (ap (λ own. own.pair) h.same) (ap (λ own. own.change) h.same)
@@ -205,7 +205,7 @@ refused_row old new words full ready c number h =
 pub own_helped : (old : Caller) (own : List OwnWord) → IsReady old
     → IsSound (with_own old own).token.view → HasHelped old (with_own old own)
 own_helped old own ready s =
-    record { on = own_ready Serves old own ready s; fresh = (refl, refl) }
+    record { on = own_ready ServesRebuild old own ready s; fresh = (refl, refl) }
 
 -- loads after other steps of help
 pub helped_loads : (old mid : Caller) (token : TokenFace) → HasHelped old mid

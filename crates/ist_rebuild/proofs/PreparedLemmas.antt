@@ -16,11 +16,11 @@ use Rattle.ist_rows.specs.Filling.{filled_with}
 use Rattle.ist_rows.proofs.FillingLemmas.{stored_at}
 use Rattle.ist_dcss.specs.Installing.{IsInstallable}
 use Rattle.ist_build.specs.Calls.{Builds}
-use Rattle.ist_rebuild.specs.declared.sites.Plan.{Plan}
+use Rattle.ist_rebuild.specs.declared.sites.PlannedFinish.{PlannedFinish}
 use Rattle.ist_rebuild.specs.Finishing.{IsPlan, IsPrepared, filling_at, finish_row}
 use Rattle.ist_rebuild.specs.Helping.{HasHelped}
 use Rattle.ist_rows.specs.Going.{IsReady}
-use Rattle.ist_rebuild.specs.Going.{Serves}
+use Rattle.ist_rebuild.specs.Going.{ServesRebuild}
 use Rattle.ist_rebuild.proofs.HelpedLemmas.{HasRow, own_helped, helped_more, took_row}
 use Rattle.ist_rebuild.proofs.EventLemmas.{builds_install_none}
 use Rattle.ist_rebuild.proofs.OwnChangeLemmas.{unrefused_went}
@@ -33,7 +33,7 @@ no_update u = ⊎_elim (λ e. let four : ◌≡◌ {A = ℕ} 4 1 = e in omega ar
     (λ e. let four : ◌≡◌ {A = ℕ} 4 2 = e in omega arith) u
 
 -- a caller that stored the words of its plan's finish into its change row
-module _ (mid : Caller) (plan : Plan) (change : ℕ) (row : mid.change ≡ Some change)
+module _ (mid : Caller) (plan : PlannedFinish) (change : ℕ) (row : mid.change ≡ Some change)
     (words : List ℕ) (words_are : words ≡ words_of (Change (finish_row plan mid.number))) where
   abbrev w : View
   w = (filled_with mid change words).token.view
@@ -100,12 +100,12 @@ module _ (mid : Caller) (plan : Plan) (change : ℕ) (row : mid.change ≡ Some 
 -- ---- from the reserving on
 
 -- the caller has helped, and its change row is prepared
-pub record HasPrepared (old who : Caller) (plan : Plan) (change : ℕ) : Type 0 where
+pub record HasPrepared (old who : Caller) (plan : PlannedFinish) (change : ℕ) : Type 0 where
   pub helped : HasHelped old who
   pub prepared : IsPrepared who plan change
 
 -- a caller that reserved and filled its change row has helped and prepared it
-pub has_prepared : (old mid who : Caller) (plan : Plan) (change : ℕ) (words : List ℕ) → IsReady old
+pub has_prepared : (old mid who : Caller) (plan : PlannedFinish) (change : ℕ) (words : List ℕ) → IsReady old
     → IsSound old.token.view → IsPlan old.token.view plan
     → IsUnrefused (now old.token.view) old.number plan.parent → HasRow old mid (Ok change)
     → words ≡ words_of (Change (finish_row plan mid.number))
@@ -124,6 +124,6 @@ has_prepared old mid who plan change words ready s p unrefused row words_are sto
     subst (λ x. HasPrepared old x plan change) (sym stored) record {
       helped = all;
       prepared = filled_prepared mid plan change t.row words words_are (still_ready filled.on) here
-          (plan_went Serves old.token.view w all.on.gone.went plan p)
+          (plan_went ServesRebuild old.token.view w all.on.gone.went plan p)
           (subst (λ n. IsUnrefused (now mid.token.view) n plan.parent) (sym row.number) none);
     }

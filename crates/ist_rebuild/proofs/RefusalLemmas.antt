@@ -14,7 +14,7 @@ use Rattle.ist_rows.specs.declared.kinds.Kind.TheVariants.{Change}
 use Rattle.ist_rows.specs.Rows.{IsKindRefused}
 use Rattle.ist_rows.proofs.ShortLemmas.{short_from}
 use Rattle.ist_build.specs.Calls.{Builds, RebuildIsShort}
-use Rattle.ist_rebuild.specs.Going.{Serves}
+use Rattle.ist_rebuild.specs.Going.{ServesRebuild}
 use Rattle.ist_rebuild.specs.Helping.{IsHelpRefused, for_change, for_row}
 use Rattle.ist_rebuild.proofs.EventLemmas.{builds_serve}
 
@@ -23,12 +23,12 @@ pub short_refused : (v w : View) (rebuild words : ℕ) (full : Full)
     → RebuildIsShort v rebuild words full w → IsHelpRefused v rebuild words full w
 short_refused v w rebuild words full h =
     let o = h.out in
-    let short = short_from (WentOn Builds) (WentOn Serves) v v
-    (λ x. went_all Builds Serves builds_serve v x)
+    let short = short_from (WentOn Builds) (WentOn ServesRebuild) v v
+    (λ x. went_all Builds ServesRebuild builds_serve v x)
     words full w o.short in
-    let grow = went_grow Serves v w
-    (went_more Serves v short.before w short.seen
-    (looked_went Serves short.before _ full.next w short.looked)) in
+    let grow = went_grow ServesRebuild v w
+    (went_more ServesRebuild v short.before w short.seen
+    (looked_went ServesRebuild short.before _ full.next w short.looked)) in
     let it = rebuild_there (now v).pieces (now w).pieces grow rebuild h.told.row h.told.published in
     record {
       short = short;
@@ -44,18 +44,18 @@ pub row_refused : (old new : Caller) (rebuild words : ℕ) (full : Full)
     → IsHelpRefused old.token.view rebuild words full new.token.view
 row_refused old new rebuild words full h =
     record {
-      short = short_from GoesOnTo (WentOn Serves) old.token.view old.token.view
-          (λ x. goes_on_went Serves old.token.view x) words full new.token.view h.cause.short;
+      short = short_from GoesOnTo (WentOn ServesRebuild) old.token.view old.token.view
+          (λ x. goes_on_went ServesRebuild old.token.view x) words full new.token.view h.cause.short;
       asked = for_change h.cause.asked;
     }
 
 -- the refusal of a call holds from an earlier view too, if the caller helped in between
-pub refused_more : (u v w : View) (rebuild words : ℕ) (full : Full) → WentOn Serves u v
+pub refused_more : (u v w : View) (rebuild words : ℕ) (full : Full) → WentOn ServesRebuild u v
     → IsHelpRefused v rebuild words full w → IsHelpRefused u rebuild words full w
 refused_more u v w rebuild words full g h =
     record {
-      short = short_from (WentOn Serves) (WentOn Serves) u v
-          (λ x. went_more Serves u v x g) words full w
+      short = short_from (WentOn ServesRebuild) (WentOn ServesRebuild) u v
+          (λ x. went_more ServesRebuild u v x g) words full w
           h.short;
       asked = h.asked;
     }

@@ -34,7 +34,7 @@ use Rattle.ist_dcss.proofs.FitsLemmas.{fits_later}
 use Rattle.ist_dcss.proofs.SlotPlaceLemmas.{change_slot}
 use Rattle.ist_dcss.proofs.TargetLemmas.{started_row, started_rebuild, fields_low}
 use Rattle.ist_build.specs.Calls.{IsBuiltOut}
-use Rattle.ist_rebuild.specs.declared.sites.Plan.{Plan}
+use Rattle.ist_rebuild.specs.declared.sites.PlannedFinish.{PlannedFinish}
 use Rattle.ist_rebuild.specs.Finishing.{IsWordOf, IsPlan, finish_row}
 use Rattle.ist_rebuild.proofs.HelpedLemmas.{started_went}
 
@@ -48,7 +48,7 @@ rebuild_good v s rebuild h =
     h.published
 
 -- so is that of a plan's rebuild
-pub plan_good : (v : View) → IsSound v → (plan : Plan) → IsPlan v plan → IsGoodBase plan.rebuild
+pub plan_good : (v : View) → IsSound v → (plan : PlannedFinish) → IsPlan v plan → IsGoodBase plan.rebuild
 plan_good v s plan p =
     rebuild_good v s plan.rebuild record { row = p.row; published = p.published }
 
@@ -98,7 +98,7 @@ pub record HasRead (v w : View) (rebuild parent index root : ℕ) : Type 0 where
   pub root_is : IsWordOf (now w) rebuild 3 root
 
 -- the change that they make up fits, if they are the row's, and its root is built
-fits_first : (v : View) → IsSound v → (plan : Plan) (row : RebuildRow)
+fits_first : (v : View) → IsSound v → (plan : PlannedFinish) (row : RebuildRow)
     → (now v).pieces plan.rebuild ≡ Some (Rebuild row) → IsStarted (now v) plan.rebuild
     → (b : IsBuiltOut (now v) plan.rebuild) → row.parent ≡ plan.parent → row.index ≡ plan.index
     → row.root ≡ plan.root → (owner : ℕ)
@@ -124,7 +124,7 @@ fits_first v s plan row e started b parent index root owner =
     }
 
 -- a plan stays one
-pub plan_went : (P : Event → Type 0) (v w : View) → WentOn P v w → (plan : Plan) → IsPlan v plan
+pub plan_went : (P : Event → Type 0) (v w : View) → WentOn P v w → (plan : PlannedFinish) → IsPlan v plan
     → IsPlan w plan
 plan_went P v w g plan p =
     let it = rebuild_there (now v).pieces (now w).pieces (went_grow P v w g) plan.rebuild p.row
@@ -146,11 +146,11 @@ plan_went P v w g plan p =
     }
 
 -- a plan is still a plan after loads
-pub plan_on : (v w : View) → GoesOnTo v w → (plan : Plan) → IsPlan v plan → IsPlan w plan
+pub plan_on : (v w : View) → GoesOnTo v w → (plan : PlannedFinish) → IsPlan v plan → IsPlan w plan
 plan_on v w g plan p = plan_went (λ event. ⊥) v w (goes_on_went (λ event. ⊥) v w g) plan p
 
 -- the words that were loaded make a plan
-pub planned : (v w : View) → IsSound v → (plan : Plan) → IsStarted (now v) plan.rebuild
+pub planned : (v w : View) → IsSound v → (plan : PlannedFinish) → IsStarted (now v) plan.rebuild
     → IsBuiltOut (now v) plan.rebuild → HasRead v w plan.rebuild plan.parent plan.index plan.root
     → IsPlan w plan
 planned v w s plan started b r =
@@ -189,7 +189,7 @@ planned v w s plan started b r =
 
 -- ---- the slot of a plan
 
-module _ (v : View) (s : IsSound v) (plan : Plan) (p : IsPlan v plan) where
+module _ (v : View) (s : IsSound v) (plan : PlannedFinish) (p : IsPlan v plan) where
   here : IsRebuildFor (now v).pieces p.started.change.node p.started.change.index plan.rebuild
   here = started_row v s plan.rebuild p.started
 

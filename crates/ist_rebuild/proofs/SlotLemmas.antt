@@ -24,7 +24,7 @@ use Rattle.ist_dcss.proofs.InstallLemmas.{slot_on}
 use Rattle.ist_dcss.proofs.InstalledLemmas.{place_on}
 use Rattle.ist_dcss.proofs.OpeningLemmas.{closed_node_stays}
 use Rattle.ist_dcss.proofs.SlotPlaceLemmas.{slot_shown}
-use Rattle.ist_rebuild.specs.declared.sites.Plan.{Plan}
+use Rattle.ist_rebuild.specs.declared.sites.PlannedFinish.{PlannedFinish}
 use Rattle.ist_rebuild.specs.Finishing.{IsPlan}
 use Rattle.ist_rebuild.specs.Helping.{IsLeftToParent}
 use Rattle.ist_rebuild.proofs.SiteLemmas.{parent_node, parent_slot, plan_on}
@@ -71,7 +71,7 @@ slot_told v s node i place before at word w l =
     subst (SlotHolds (now w) node i) (sym same) slot.holds
 
 -- the place of a plan's slot, as it was reckoned after more loads
-module _ (u v : View) (s : IsSound v) (plan : Plan) (p : IsPlan u plan) (g : GoesOnTo u v)
+module _ (u v : View) (s : IsSound v) (plan : PlannedFinish) (p : IsPlan u plan) (g : GoesOnTo u v)
     (node place : ℕ) (is : node ≡ plan.parent) (at : place ≡ place_of_slot (now v) node plan.index)
   where
     slot : IsSlot v plan.parent plan.index
@@ -108,7 +108,7 @@ read_same ps (Some (InnerAt base)) none = refl
 read_same ps (Some (RebuildAt base)) none = refl
 read_same ps (Some (ChangeAt base)) none = absurd (none base refl)
 
-module _ (v : View) (s : IsSound v) (plan : Plan) (p : IsPlan v plan) (word : ℕ)
+module _ (v : View) (s : IsSound v) (plan : PlannedFinish) (p : IsPlan v plan) (word : ℕ)
     (holds : SlotHolds (now v) plan.parent plan.index word) where
   -- the slot, by the words of the rebuild's row
   in_row_words : SlotHolds (now v) p.row.parent p.row.index word
@@ -151,7 +151,7 @@ module _ (v : View) (s : IsSound v) (plan : Plan) (p : IsPlan v plan) (word : �
 -- ---- what stays
 
 -- a closed parent stays closed
-pub closed_went : (P : Event → Type 0) (v w : View) → WentOn P v w → IsSound v → (plan : Plan)
+pub closed_went : (P : Event → Type 0) (v w : View) → WentOn P v w → IsSound v → (plan : PlannedFinish)
     → IsPlan v plan → ¬ (IsOpen (now v) plan.parent) → ¬ (IsOpen (now w) plan.parent)
 closed_went P v w g s plan p closed =
     subst (λ t. ¬ (IsOpen t plan.parent)) (sym (went_now P v w g))

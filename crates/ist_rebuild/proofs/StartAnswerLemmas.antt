@@ -1,6 +1,6 @@
 -- What `start` returns, by the result of putting the start in. Serves `BegunLemmas`.
 use Rattle.std.proofs.Common.{◌≡◌, ◌≢◌, ℕ, Bool, true, false, Result, Some, Ok, Err, refl, sym, ◌∙◌, subst, inl, inr, ⊎_elim, arith}
-use Rattle.ist_build.specs.Laying.{Reserves}
+use Rattle.ist_build.specs.Laying.{IsReservation}
 use Rattle.ist_core.specs.declared.events.Event.{Event}
 use Rattle.ist_core.specs.declared.events.Event.TheVariants.{Okay, Decide, Resolve}
 use Rattle.ist_core.specs.declared.ports.Full.{Full}
@@ -161,18 +161,18 @@ module _ (who : Caller) (parent index target rebuild change : ℕ) (f : Filling)
 -- ---- refusals
 
 -- a refusal after reservings
-pub refused_behind : (u v w : View) (words : ℕ) (full : Full) → WentOn Reserves u v
+pub refused_behind : (u v w : View) (words : ℕ) (full : Full) → WentOn IsReservation u v
     → IsStartRefused v words full w → IsStartRefused u words full w
 refused_behind u v w words full g r =
     record {
       short = short_from (WentOn Begins) (WentOn Begins) u v
-          (λ x. went_more Begins u v x (went_all Reserves Begins begins_reserving u v g)) words full
+          (λ x. went_more Begins u v x (went_all IsReservation Begins begins_reserving u v g)) words full
           w r.short;
       asked = r.asked;
     }
 
 -- what a start leaves done, after reservings
-pub behind_done : (v u w : View) → WentOn Reserves v u → (number same : ℕ)
+pub behind_done : (v u w : View) → WentOn IsReservation v u → (number same : ℕ)
     → v.who ≡ CallerOf number → IsResolved v number → same ≡ number → (answer : Result Started Full)
     → (StartsAreDone (now u) same → LeavesDone (now w) same answer)
     → StartsAreDone (now v) number → LeavesDone (now w) number answer
@@ -184,15 +184,15 @@ behind_done v u w g number same mine resolved is answer leaves done =
 -- ---- what is left undone
 
 -- after reservings nothing more was installed
-pub behind_uninstalled : (v u w : View) → WentOn Reserves v u → (answer : Result Started Full)
+pub behind_uninstalled : (v u w : View) → WentOn IsReservation v u → (answer : Result Started Full)
     → LeavesUninstalled u w answer → LeavesUninstalled v w answer
 behind_uninstalled v u w g (Ok (Yes rebuild)) left = tt
-behind_uninstalled v u w g (Ok (Other word)) left = went_more Reserves v u w g left
+behind_uninstalled v u w g (Ok (Other word)) left = went_more IsReservation v u w g left
 behind_uninstalled v u w g (Ok Marked) left = tt
-behind_uninstalled v u w g (Err full) left = went_more Reserves v u w g left
+behind_uninstalled v u w g (Err full) left = went_more IsReservation v u w g left
 
 -- what was not started after reservings was not started from the beginning
-pub behind_unstarted : (v u w : View) → WentOn Reserves v u → (number same : ℕ)
+pub behind_unstarted : (v u w : View) → WentOn IsReservation v u → (number same : ℕ)
     → v.who ≡ CallerOf number → IsResolved v number → same ≡ number
     → (answer : Result Started Full) → LeavesUnstarted (now u) (now w) same answer
     → LeavesUnstarted (now v) (now w) number answer

@@ -1,6 +1,6 @@
 -- How a caller goes on while it starts a rebuild. Serves `start`.
 use Rattle.std.proofs.Common.{◌≡◌, ℕ, Bool, Some, refl, ap, ◌∙◌}
-use Rattle.ist_build.specs.Laying.{Reserves}
+use Rattle.ist_build.specs.Laying.{IsReservation}
 use Rattle.ist_core.specs.declared.events.Event.{Event}
 use Rattle.ist_core.specs.declared.events.Event.TheVariants.{Reserve, Install, Okay, Decide, Resolve}
 use Rattle.ist_core.specs.declared.states.ChangeRow.{ChangeRow}
@@ -14,7 +14,7 @@ use Rattle.ist_dcss.specs.Installing.{Filling, rows_of, IsInstalled}
 use Rattle.ist_rebuild.specs.Going.{Begins, IsOfKind, StartsAt}
 
 -- a reserving begins a start
-pub begins_reserving : (event : Event) → Reserves event → Begins event
+pub begins_reserving : (event : Event) → IsReservation event → Begins event
 begins_reserving (Reserve c base size) is = tt
 begins_reserving _ is = absurd is
 
@@ -26,7 +26,7 @@ begins_serving change (Resolve c other) is = tt
 begins_serving change _ is = absurd is
 
 -- neither installs a start
-pub aims_reserving : (target : ℕ) (event : Event) → Reserves event → StartsAt target event
+pub aims_reserving : (target : ℕ) (event : Event) → IsReservation event → StartsAt target event
 aims_reserving target (Reserve c base size) is = tt
 aims_reserving target _ is = absurd is
 

@@ -2,7 +2,7 @@
 -- `start`.
 use Rattle.std.proofs.Common.{◌≡◌, ◌≢◌, ◌⊎◌, ℕ, ◌+◌, List, ◌∷◌, Some, sym, ap, ◌∙◌, subst, inl, inr, ⊎_elim, arith}
 use Rattle.std.proofs.lemmas.Bool.Decides.{eqb_tells}
-use Rattle.ist_build.specs.Laying.{Reserves}
+use Rattle.ist_build.specs.Laying.{IsReservation}
 use Rattle.ist_core.specs.declared.events.Event.{Event}
 use Rattle.ist_core.specs.declared.events.Event.TheVariants.{Enter, Reserve, Install, Okay, Decide, Resolve, Count, Mark, Pass, Finish, Root, Draw, Place, Lose}
 use Rattle.ist_core.specs.declared.pairs.Pair.{Pair}
@@ -55,7 +55,7 @@ others_but caller but (Place by rebuild i word rows) other = tt
 others_but caller but (Lose by bases) other = tt
 
 -- a reserving installs no change
-pub reserves_but : (caller but : ℕ) (event : Event) → Reserves event → InstallsBut caller but event
+pub reserves_but : (caller but : ℕ) (event : Event) → IsReservation event → InstallsBut caller but event
 reserves_but caller but (Reserve by base size) is = tt
 reserves_but caller but _ is = absurd is
 
@@ -128,25 +128,25 @@ module _ (P : Event → Type 0) (v w : View) (g : WentOn P v w) (number but : �
       (eqb_tells base but)
 
 -- if a caller has only reserved, no change on the node was decided no since
-pub unrefused_reserving : (v w : View) → WentOn Reserves v w → (number node : ℕ)
+pub unrefused_reserving : (v w : View) → WentOn IsReservation v w → (number node : ℕ)
     → v.who ≡ Caller number → IsResolved v number → IsUnrefused (now v) number node
     → IsUnrefused (now w) number node
 unrefused_reserving v w g number node mine resolved none base x e own on =
     none base x
-    (own_was Reserves v w g number (base + 1) mine (reserves_but number (base + 1)) resolved base x
+    (own_was IsReservation v w g number (base + 1) mine (reserves_but number (base + 1)) resolved base x
     e own (λ same. let more : base ≡ base + 1 = same in omega arith)) own on
 
 -- if a caller has only reserved, the starts that were decided yes are done, if all were
-pub starts_reserving : (v w : View) → WentOn Reserves v w → (number : ℕ) → v.who ≡ Caller number
+pub starts_reserving : (v w : View) → WentOn IsReservation v w → (number : ℕ) → v.who ≡ Caller number
     → IsResolved v number → StartsAreDone (now v) number → StartsAreDone (now w) number
 starts_reserving v w g number mine resolved done base x e own kind said rebuild to =
     ⊎_elim (λ same. let more : base ≡ base + 1 = same in absurd (omega arith)) (λ d. d)
-    (starts_but Reserves v w g number (base + 1) mine (reserves_but number (base + 1)) resolved done
+    (starts_but IsReservation v w g number (base + 1) mine (reserves_but number (base + 1)) resolved done
     base x e own kind said rebuild to)
 
 -- if a caller has only reserved, none was started
-pub starts_none_reserving : (v w : View) → WentOn Reserves v w → (number : ℕ)
+pub starts_none_reserving : (v w : View) → WentOn IsReservation v w → (number : ℕ)
     → v.who ≡ Caller number → IsResolved v number → StartsNone (now v) (now w) number
 starts_none_reserving v w g number mine resolved base x e own kind said =
-    own_was Reserves v w g number (base + 1) mine (reserves_but number (base + 1)) resolved base x e
+    own_was IsReservation v w g number (base + 1) mine (reserves_but number (base + 1)) resolved base x e
     own (λ same. let more : base ≡ base + 1 = same in omega arith)

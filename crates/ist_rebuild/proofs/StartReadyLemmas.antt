@@ -1,6 +1,6 @@
 -- A start whose rows are filled may be installed. Serves `start`.
 use Rattle.std.proofs.Common.{◌≡◌, ℕ, ◌≤◌, refl, sym, ap, ap₂, ◌∙◌, subst, inl, inr, ⊎_elim, arith}
-use Rattle.ist_build.specs.Laying.{Reserves}
+use Rattle.ist_build.specs.Laying.{IsReservation}
 use Rattle.ist_core.specs.declared.events.Event.{Event}
 use Rattle.ist_core.specs.declared.events.Event.TheVariants.{Reserve}
 use Rattle.ist_core.specs.declared.states.InnerRow.{InnerRow}
@@ -77,7 +77,7 @@ target_good v s parent index target m =
 -- ---- what stays while the caller reserves
 
 -- a reserving installs nothing
-pub reserving_installs : (event : Event) → Reserves event → InstallsNone event
+pub reserving_installs : (event : Event) → IsReservation event → InstallsNone event
 reserving_installs (Reserve c base size) is = tt
 reserving_installs _ is = absurd is
 
@@ -92,14 +92,14 @@ due_on old new g due =
 
 -- a caller that reserved is in its call, and all its changes are resolved
 pub reserved_quiet : (old new : Caller) → IsCaller old → new.number ≡ old.number
-    → WentOn Reserves old.token.view new.token.view → IsQuiet old → IsQuiet new
+    → WentOn IsReservation old.token.view new.token.view → IsQuiet old → IsQuiet new
 reserved_quiet old new c same g q =
     record {
       pending = q.pending;
       in_call = ap (λ (x : View). x.pending) g.same ∙ q.in_call;
       resolved = subst (IsResolved new.token.view) (sym same)
           (resolved_went old.token.view new.token.view old.number c.mine q.resolved
-          (went_all Reserves InstallsNone reserving_installs old.token.view new.token.view g));
+          (went_all IsReservation InstallsNone reserving_installs old.token.view new.token.view g));
     }
 
 -- a caller that may start may do so still once it made loads
@@ -135,7 +135,7 @@ filled_quiet mid who rebuild change parent index target is q =
 module _ (v : View) (parent index target : ℕ) (m : MayStart v parent index target)
     (mid who : Caller) (rebuild change : ℕ) (rows : HasStartRows mid rebuild change)
     (c : IsCaller mid)
-    (g : WentOn Reserves v mid.token.view) (quiet : IsQuiet mid)
+    (g : WentOn IsReservation v mid.token.view) (quiet : IsQuiet mid)
     (none : IsUnrefused (now mid.token.view) mid.number parent)
     (is : who ≡ filled_start mid rebuild change parent index target) (cw : IsCaller who) where
   abbrev u : View
@@ -151,7 +151,7 @@ module _ (v : View) (parent index target : ℕ) (m : MayStart v parent index tar
       (start_change mid.number parent index target rebuild)
       (start_filling mid.number parent index target rebuild).fresh
   fits sv =
-      let row = inner_there (now v).pieces (now u).pieces (went_grow Reserves v u g) target m.row
+      let row = inner_there (now v).pieces (now u).pieces (went_grow IsReservation v u g) target m.row
       m.published in
       a_start record {
         kind = refl;
@@ -183,7 +183,7 @@ module _ (v : View) (parent index target : ℕ) (m : MayStart v parent index tar
       (start_filling mid.number parent index target rebuild)
   installable sv =
       let slot = start_slot v sv parent index target m in
-      let here = slot_remains (now v) (now u) (went_grow Reserves v u g) parent index slot.0 slot.1 in
+      let here = slot_remains (now v) (now u) (went_grow IsReservation v u g) parent index slot.0 slot.1 in
       record {
         number = mid.number;
         mine = c.mine;

@@ -1,6 +1,6 @@
 -- What reserving the rows of a start leaves of its caller. Serves `reserve_rows`.
 use Rattle.std.proofs.Common.{◌≡◌, ◌≢◌, ℕ, ◌==◌, ◌||◌, not, false, if◌then◌else◌, List, [], ◌∷◌, ◌++◌, map, filter, Option, Some, None, Result, Ok, Err, IfSome, IfErr, refl, sym, ap, ap₂, ◌∙◌, subst, inl, inr, ⊎_elim, arith}
-use Rattle.ist_build.specs.Laying.{Reserves}
+use Rattle.ist_build.specs.Laying.{IsReservation}
 use Rattle.ist_core.specs.declared.events.Event.TheVariants.{Reserve}
 use Rattle.ist_core.specs.declared.lists.HeldRow.{HeldRow}
 use Rattle.ist_core.specs.declared.ports.Full.{Full}
@@ -140,10 +140,10 @@ refused_beside old new kind base c none r number_is rows_are h =
 
 -- the caller goes on by its reserving
 reserved_went : (v : View) (number base size : ℕ) (w : View) → Reserved v number base size w
-    → WentOn Reserves v w
+    → WentOn IsReservation v w
 reserved_went v number base size w r =
-    went_more Reserves v r.before w (goes_on_went Reserves v r.before r.seen)
-    (logged_went Reserves r.before (Reserve number base size) w r.reserved tt refl)
+    went_more IsReservation v r.before w (goes_on_went IsReservation v r.before r.seen)
+    (logged_went IsReservation r.before (Reserve number base size) w r.reserved tt refl)
 
 -- what a reserving answers
 module _ (words : ℕ) (kind : Kind) (old new : Caller) (answer : Result ℕ Full)
@@ -151,21 +151,21 @@ module _ (words : ℕ) (kind : Kind) (old new : Caller) (answer : Result ℕ Ful
     (fresh : IsFreshRow kind old new answer)
     (full : IfErr answer (λ f. IsKindRefused words kind old new f)) where
   -- the caller has reserved at most
-  pub reserve_went : IsSound old.token.view → WentOn Reserves old.token.view new.token.view
+  pub reserve_went : IsSound old.token.view → WentOn IsReservation old.token.view new.token.view
   reserve_went s = at (row_of kind (spares_of old)) refl held answer refl fresh full
     where
       at : (o : Option ℕ) → row_of kind (spares_of old) ≡ o
           → IfSome o (λ base. (answer ≡ Ok base) × (new ≡ old))
           → (a : Result ℕ Full) → answer ≡ a → IsFreshRow kind old new a
           → IfErr a (λ f. IsKindRefused words kind old new f)
-          → WentOn Reserves old.token.view new.token.view
+          → WentOn IsReservation old.token.view new.token.view
       at (Some base) e h a is f r =
-          subst (λ (x : Caller). WentOn Reserves old.token.view x.token.view) (sym h.1)
-          (went_same Reserves old.token.view s)
+          subst (λ (x : Caller). WentOn IsReservation old.token.view x.token.view) (sym h.1)
+          (went_same IsReservation old.token.view s)
       at None e h (Ok base) is f r =
           reserved_went old.token.view old.number base (kind_words kind) new.token.view (f e).0
       at None e h (Err x) is f r =
-          goes_on_went Reserves old.token.view new.token.view
+          goes_on_went IsReservation old.token.view new.token.view
           (goes_on_more _ _ _ r.cause.short.seen (looked_goes_on _ _ _ _ r.cause.short.looked))
 
   -- the refused builds of the caller stay refused
@@ -199,12 +199,12 @@ rebuild_short v words full w f =
     }
 
 -- the change's row was refused
-pub change_short : (u v : View) (words : ℕ) (full : Full) (w : View) → WentOn Reserves u v
+pub change_short : (u v : View) (words : ℕ) (full : Full) (w : View) → WentOn IsReservation u v
     → IsFull v words change_words full w → IsStartRefused u words full w
 change_short u v words full w g f =
     record {
       short = short_from GoesOnTo (WentOn Begins) u v
-          (λ x s. went_more Begins u v x (went_all Reserves Begins begins_reserving u v g)
+          (λ x s. went_more Begins u v x (went_all IsReservation Begins begins_reserving u v g)
           (goes_on_went Begins v x s)) words full w f.short;
       asked = inr f.asked;
     }

@@ -1,6 +1,6 @@
 -- A caller that has made at most reservings. Serves `start_rows.rt` and `starting.rt`.
 use Rattle.std.proofs.Common.{◌≡◌, ◌∙◌, ℕ, Option, Some, None, Result, Ok, Err, IfSome, IfErr, refl, sym, ap, subst}
-use Rattle.ist_build.specs.Laying.{Reserves}
+use Rattle.ist_build.specs.Laying.{IsReservation}
 use Rattle.ist_core.specs.declared.ports.Full.{Full}
 use Rattle.ist_rule.specs.declared.view.View.{View}
 use Rattle.ist_rule.specs.Faces.{TokenFace}
@@ -28,7 +28,7 @@ loads_reserved who token c q g =
       fresh = (refl, refl);
       quiet = loads_quiet who token c g q;
       refused = loads_refused who token c g;
-      went = goes_on_went Reserves who.token.view token.view g;
+      went = goes_on_went IsReservation who.token.view token.view g;
     }
 
 -- reserving twice
@@ -41,7 +41,7 @@ reserved_more old mid new a b =
       fresh = (b.fresh.0 ∙ a.fresh.0, b.fresh.1 ∙ a.fresh.1);
       quiet = b.quiet;
       refused = λ was. b.refused (a.refused was);
-      went = went_more Reserves old.token.view mid.token.view new.token.view a.went b.went;
+      went = went_more IsReservation old.token.view mid.token.view new.token.view a.went b.went;
     }
 
 module _ (words : ℕ) (kind : Kind) (old new : Caller) (answer : Result ℕ Full)

@@ -15,7 +15,7 @@ use Rattle.ist_rule.specs.Learning.{now}
 use Rattle.ist_rule.specs.Rule.{own_at}
 use Rattle.ist_rows.specs.declared.callers.Caller.{Caller}
 use Rattle.ist_dcss.specs.Installing.{Filling, IsInstallable}
-use Rattle.ist_rebuild.specs.declared.sites.Plan.{Plan}
+use Rattle.ist_rebuild.specs.declared.sites.PlannedFinish.{PlannedFinish}
 
 -- ---- the rebuild
 
@@ -28,7 +28,7 @@ pub record IsWordOf (t : Snapshot) (rebuild offset word : ℕ) : Type 0 where
 -- ---- the change
 
 -- the change that puts the root of the rebuild in its place, owned by this caller
-abbrev pub finish_row : Plan → ℕ → ChangeRow
+abbrev pub finish_row : PlannedFinish → ℕ → ChangeRow
 finish_row plan owner =
     record {
       decision = undecided;
@@ -44,7 +44,7 @@ finish_row plan owner =
 
 -- the plan is for a started rebuild, and gives its slot and its root, which is built; whoever owns
 -- the finish, the change fits its kind
-pub record IsPlan (v : View) (plan : Plan) : Type 0 where
+pub record IsPlan (v : View) (plan : PlannedFinish) : Type 0 where
   pub row : RebuildRow
   pub published : (now v).pieces plan.rebuild ≡ Some (Rebuild row)
   pub parent_is : row.parent ≡ plan.parent
@@ -71,7 +71,7 @@ filling_at v base =
     }
 
 -- the caller holds its change row, and may install what it stored there: the finish of the plan
-pub record IsPrepared (who : Caller) (plan : Plan) (change : ℕ) : Type 0 where
+pub record IsPrepared (who : Caller) (plan : PlannedFinish) (change : ℕ) : Type 0 where
   pub row : who.change ≡ Some change
   pub is : (filling_at who.token.view change).change ≡ finish_row plan who.number
   pub may_install : IsInstallable who.token.view change (filling_at who.token.view change)

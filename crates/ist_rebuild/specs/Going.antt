@@ -34,11 +34,11 @@ StartsAt target _ = Unit {0}
 
 -- the event is a step of helping a rebuild: it is not a Count and not an Enter, and an Install only
 -- of a finish
-abbrev pub Serves : Event → Type 0
-Serves (Enter caller) = ⊥
-Serves (Install caller base rows) = IsOfKind finish_kind rows
-Serves (Count caller node) = ⊥
-Serves _ = Unit {0}
+abbrev pub ServesRebuild : Event → Type 0
+ServesRebuild (Enter caller) = ⊥
+ServesRebuild (Install caller base rows) = IsOfKind finish_kind rows
+ServesRebuild (Count caller node) = ⊥
+ServesRebuild _ = Unit {0}
 
 -- the caller holds the leaf and the pair row that it held
 abbrev pub KeepsFresh : Caller → Caller → Type 0

@@ -12,14 +12,14 @@ use Rattle.ist_rule.specs.declared.view.View.{View}
 use Rattle.ist_rule.specs.Learning.{now}
 use Rattle.ist_rows.specs.declared.callers.Caller.{Caller}
 use Rattle.ist_rows.specs.Going.{StaysReady}
-use Rattle.ist_rebuild.specs.Going.{KeepsFresh, Serves}
+use Rattle.ist_rebuild.specs.Going.{KeepsFresh, ServesRebuild}
 use Rattle.ist_rows.specs.Rows.{RanShort}
 use Rattle.ist_rule.specs.Going.{WentOn}
 
 -- the caller has only made steps of help and is ready, and holds the leaf and the pair row that it
 -- held
 pub record HasHelped (old new : Caller) : Type 0 where
-  pub on : StaysReady Serves old new
+  pub on : StaysReady ServesRebuild old new
   pub fresh : KeepsFresh old new
 
 -- the rebuild is still in its slot, in a parent that isn't open
@@ -39,5 +39,5 @@ pub data IsAskedFor (t : Snapshot) (rebuild asked : ℕ) : Type 0 where
 
 -- the caller was refused a row for the change, or for what it built
 pub record IsHelpRefused (v : View) (rebuild words : ℕ) (full : Full) (w : View) : Type 0 where
-  pub short : RanShort (WentOn Serves) v words full w
+  pub short : RanShort (WentOn ServesRebuild) v words full w
   pub asked : IsAskedFor (now w) rebuild full.asked

@@ -2,7 +2,7 @@
 -- filled, and that it may be installed.
 use Rattle.std.specs.Prelude.{◌≡◌, ℕ, [], ◌∷◌, Some, Result, Ok}
 use Rattle.ist_core.specs.declared.ports.Full.{Full}
-use Rattle.ist_build.specs.Laying.{Reserves}
+use Rattle.ist_build.specs.Laying.{IsReservation}
 use Rattle.ist_core.specs.declared.states.ChangeRow.{ChangeRow}
 use Rattle.ist_core.specs.Installing.{new_rebuild}
 use Rattle.ist_core.specs.Pieces.{Change, row_at, words_of}
@@ -81,7 +81,7 @@ pub record HasReserved (old new : Caller) : Type 0 where
   pub fresh : KeepsFresh old new
   pub quiet : IsQuiet new
   pub refused : HasRefused old → HasRefused new
-  pub went : WentOn Reserves old.token.view new.token.view
+  pub went : WentOn IsReservation old.token.view new.token.view
 
 -- the caller made only steps of a start of this target; otherwise as with reservings
 pub record HasBegun (target : ℕ) (old new : Caller) : Type 0 where

@@ -15,7 +15,7 @@ use Rattle.ist_core.specs.Slots.{SlotHolds}
 use Rattle.ist_core.specs.Snapshots.{Snapshot}
 use Rattle.ist_core.specs.StartLayout.{start}
 use Rattle.ist_core.specs.Statuses.{start_kind, decided_yes}
-use Rattle.ist_build.specs.Laying.{Reserves}
+use Rattle.ist_build.specs.Laying.{IsReservation}
 use Rattle.ist_rule.specs.declared.view.View.{View}
 use Rattle.ist_rule.specs.Going.{WentOn}
 use Rattle.ist_rule.specs.Learning.{now}
@@ -89,9 +89,9 @@ LeavesUnstarted t u caller (Err full) = StartsNone t u caller
 -- made reservings
 abbrev pub LeavesUninstalled : View → View → Result Started Full → Type 0
 LeavesUninstalled v w (Ok (Yes rebuild)) = Unit {0}
-LeavesUninstalled v w (Ok (Other word)) = WentOn Reserves v w
+LeavesUninstalled v w (Ok (Other word)) = WentOn IsReservation v w
 LeavesUninstalled v w (Ok Marked) = Unit {0}
-LeavesUninstalled v w (Err full) = WentOn Reserves v w
+LeavesUninstalled v w (Err full) = WentOn IsReservation v w
 
 -- ---- too few words
 

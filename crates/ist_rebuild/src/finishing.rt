@@ -17,7 +17,7 @@ ghost use Rattle.ist_rebuild.specs.Helping.{IsLeftToParent, IsHelpRefused, HasHe
 ghost use Rattle.laws_coming.specs.Further.{CameFurther};
 
 use crate::answers::Helped;
-use crate::sites::{Met, Plan, meet, settle};
+use crate::sites::{Met, PlannedFinish, meet, settle};
 use ist_build::{fill_parts, set_root};
 use ist_core::Full;
 use ist_dcss::{Decision, Installed, help, install, is_open};
@@ -54,7 +54,7 @@ pub(crate) fn build_out(table: &TreeTable, who: &mut Caller, rebuild: u32) -> Re
 }
 
 // Returns the words of the finish, in the order of its row.
-fn finish_words(plan: Plan, owner: u32) -> [u64; 9]
+fn finish_words(plan: PlannedFinish, owner: u32) -> [u64; 9]
     requires good { IsGoodBase plan.rebuild }
     ensures value { result ≡ words_of (ChangeRowOf (finish_row plan owner)) }
 {
@@ -73,7 +73,7 @@ fn finish_words(plan: Plan, owner: u32) -> [u64; 9]
 }
 
 // Fills the caller's change row as the finish of the plan, and returns it.
-fn prepare(table: &TreeTable, who: &mut Caller, plan: Plan) -> Result<u32, Full>
+fn prepare(table: &TreeTable, who: &mut Caller, plan: PlannedFinish) -> Result<u32, Full>
     requires same_table { who.old.token.table ≡ table.now.table }
     requires ready { IsReady who.old }
     requires plan { IsPlan who.old.token.view plan }
@@ -95,7 +95,7 @@ fn prepare(table: &TreeTable, who: &mut Caller, plan: Plan) -> Result<u32, Full>
 }
 
 // Installs the prepared finish and helps it, if the slot holds the rebuild.
-fn carry(table: &TreeTable, who: &mut Caller, plan: Plan, change: u32) -> Tried
+fn carry(table: &TreeTable, who: &mut Caller, plan: PlannedFinish, change: u32) -> Tried
     requires same_table { who.old.token.table ≡ table.now.table }
     requires ready { IsReady who.old }
     requires plan { IsPlan who.old.token.view plan }
@@ -125,7 +125,12 @@ fn carry(table: &TreeTable, who: &mut Caller, plan: Plan, change: u32) -> Tried
 }
 
 // Returns what a try says of the rebuild, if anything; helps a change that was met in its slot.
-fn conclude(table: &TreeTable, who: &mut Caller, plan: Plan, tried: Tried) -> Option<Helped>
+fn conclude(
+    table: &TreeTable,
+    who: &mut Caller,
+    plan: PlannedFinish,
+    tried: Tried,
+) -> Option<Helped>
     requires same_table { who.old.token.table ≡ table.now.table }
     requires ready { IsReady who.old }
     requires plan { IsPlan who.old.token.view plan }
@@ -158,7 +163,11 @@ fn conclude(table: &TreeTable, who: &mut Caller, plan: Plan, tried: Tried) -> Op
 }
 
 // Tries once to put the root of the rebuild in its place.
-fn try_finish(table: &TreeTable, who: &mut Caller, plan: Plan) -> Result<Option<Helped>, Full>
+fn try_finish(
+    table: &TreeTable,
+    who: &mut Caller,
+    plan: PlannedFinish,
+) -> Result<Option<Helped>, Full>
     requires same_table { who.old.token.table ≡ table.now.table }
     requires ready { IsReady who.old }
     requires plan { IsPlan who.old.token.view plan }
@@ -184,7 +193,11 @@ fn try_finish(table: &TreeTable, who: &mut Caller, plan: Plan) -> Result<Option<
 
 /// Puts the root of the rebuild in its place, or finds that the rebuild was replaced, or that it is
 /// in its slot and its parent isn't open.
-pub(crate) fn finish(table: &TreeTable, who: &mut Caller, plan: Plan) -> Result<Helped, Full>
+pub(crate) fn finish(
+    table: &TreeTable,
+    who: &mut Caller,
+    plan: PlannedFinish,
+) -> Result<Helped, Full>
     requires same_table { who.old.token.table ≡ table.now.table }
     requires ready { IsReady who.old }
     requires plan { IsPlan who.old.token.view plan }

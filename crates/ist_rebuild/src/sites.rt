@@ -21,7 +21,7 @@ use ist_rule::{TreeTable, TreeToken, know, load};
 
 /// What the finish of a rebuild will do: put this root into slot `index` of the parent.
 #[derive(Clone, Copy, Drop)]
-pub(crate) struct Plan {
+pub(crate) struct PlannedFinish {
     pub(crate) rebuild: u32,
     pub(crate) parent: u32,
     pub(crate) index: u64,
@@ -53,7 +53,7 @@ fn field(table: &TreeTable, token: &mut TreeToken, rebuild: u32, offset: u64) ->
 }
 
 /// Returns what the finish of a started rebuild will do, once its root is built.
-pub(crate) fn plan_of(table: &TreeTable, token: &mut TreeToken, rebuild: u32) -> Plan
+pub(crate) fn plan_of(table: &TreeTable, token: &mut TreeToken, rebuild: u32) -> PlannedFinish
     requires same_table { token.old.table ≡ table.now.table }
     requires started { IsStarted (now token.old.view) rebuild }
     requires built { IsBuiltOut (now token.old.view) rebuild }
@@ -68,7 +68,7 @@ pub(crate) fn plan_of(table: &TreeTable, token: &mut TreeToken, rebuild: u32) ->
     let root = field(table, token, rebuild, REBUILD_ROOT_OFFSET);
     know(token);
     let parent = parent as u32;
-    Plan {
+    PlannedFinish {
         rebuild,
         parent,
         index,
@@ -101,7 +101,7 @@ pub(crate) fn meet(word: u64, rebuild: u32) -> Met
 }
 
 // Loads the word in the slot of the rebuild.
-fn slot_word(table: &TreeTable, token: &mut TreeToken, plan: Plan) -> u64
+fn slot_word(table: &TreeTable, token: &mut TreeToken, plan: PlannedFinish) -> u64
     requires same_table { token.old.table ≡ table.now.table }
     requires plan { IsPlan token.old.view plan }
     ensures same_table { token.new.table ≡ token.old.table }
@@ -117,7 +117,7 @@ fn slot_word(table: &TreeTable, token: &mut TreeToken, plan: Plan) -> u64
 
 /// Returns what became of a rebuild whose parent isn't open, by a last load of its slot, after
 /// helping the changes that are there. Each help resolves one, so that there are few.
-pub(crate) fn settle(table: &TreeTable, who: &mut Caller, plan: Plan) -> Helped
+pub(crate) fn settle(table: &TreeTable, who: &mut Caller, plan: PlannedFinish) -> Helped
     requires same_table { who.old.token.table ≡ table.now.table }
     requires ready { IsReady who.old }
     requires plan { IsPlan who.old.token.view plan }

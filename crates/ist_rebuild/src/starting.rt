@@ -26,7 +26,7 @@ use ist_rule::{TreeTable, know};
 
 // A start whose rows are filled: its slot, the target that was there, the rows.
 #[derive(Clone, Copy, Drop)]
-struct Plan {
+struct FilledStart {
     parent: u32,
     index: u64,
     target: u32,
@@ -34,7 +34,7 @@ struct Plan {
 }
 
 // Installs the change whose rows are filled, and helps it until it is out of its slot.
-fn put_in(table: &TreeTable, who: &mut Caller, plan: Plan) -> Started
+fn put_in(table: &TreeTable, who: &mut Caller, plan: FilledStart) -> Started
     ghost filling: { Filling }
     requires same_table { who.old.token.table ≡ table.now.table }
     requires ready { IsStartReady who.old plan.rows.rebuild plan.rows.change filling }
@@ -97,7 +97,7 @@ fn start_open(
         IsStartRefused who.old.token.view (word_count_of table.now) full who.new.token.view) }
 {
     let rows = prepare(table, who, parent, index, target)?;
-    let plan = Plan {
+    let plan = FilledStart {
         parent,
         index,
         target,

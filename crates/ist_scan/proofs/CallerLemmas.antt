@@ -10,7 +10,7 @@ use Rattle.ist_tree.specs.Calls.{HasSeenMore, HasLearnt, AddsCall}
 use Rattle.ist_tree.specs.Faces.{PassFace, noted}
 use Rattle.ist_scan.specs.declared.totals.Total.{Total}
 use Rattle.ist_scan.specs.Callers.{IsTotalBefore, IsListOnce}
-use Rattle.ist_scan.specs.Shots.{IsOf, HasPairs, HasTaken, HasOnlyLooked, map_seen}
+use Rattle.ist_scan.specs.Shots.{IsOf, ArePairsOf, HasTakenShot, HasOnlyLooked, map_seen}
 use Rattle.ist_scan.specs.Totals.{total_of}
 use Rattle.ist_scan.proofs.ShotLemmas.{GoesOnWell, has_on, of_on, of_pairs, map_on, later_calls}
 
@@ -26,7 +26,7 @@ module _ (p taken made q : PassFace) (seen : HasSeenMore taken made)
 
   -- a total read after a remove is of a position that isn't after the remove
   pub total_before : (shot : Frozen) (first last key : ℕ) (reply : Option ℕ) (total : Total)
-      → HasTaken p taken shot → taken.calls ≡ p.calls → AddsCall taken made (Remove key) reply
+      → HasTakenShot p taken shot → taken.calls ≡ p.calls → AddsCall taken made (Remove key) reply
       → ((position : ℕ) → IsOf made position shot
       → total ≡ total_of (listed first last (map_seen made position)))
       → IsTotalBefore p q first last key total
@@ -44,7 +44,7 @@ module _ (p taken made q : PassFace) (seen : HasSeenMore taken made)
       }
 
 -- a pass that took a shot and then looked at it, which gave this list
-module _ (p taken q : PassFace) (shot : Frozen) (h : HasTaken p taken shot)
+module _ (p taken q : PassFace) (shot : Frozen) (h : HasTakenShot p taken shot)
     (lawful : Lawful taken.tree.start taken.tree.words taken.seen) (looked : HasOnlyLooked taken q)
     (lawful_now : Lawful q.tree.start q.tree.words q.seen) (first last : ℕ) (mine : List Pair)
     (value : (position : ℕ) → IsOf taken position shot
@@ -65,7 +65,7 @@ module _ (p taken q : PassFace) (shot : Frozen) (h : HasTaken p taken shot)
 
   -- a pass that learnt of the shot lists the same pairs
   pub listed_alike : (other : PassFace) → GoesOnWell taken other → (theirs : List Pair)
-      → ((pairs : List Pair) → HasPairs other shot pairs → theirs ≡ pairs_between first last pairs)
+      → ((pairs : List Pair) → ArePairsOf other shot pairs → theirs ≡ pairs_between first last pairs)
       → mine ≡ theirs
   listed_alike other on theirs by =
       let pairs = pairs_of (map_seen taken h.position) in
@@ -85,17 +85,17 @@ told_well took taken note other noted_is same l lawful =
     }
 
 -- one pass took a shot and listed it, and another met its note and listed it too
-module _ (p took taken q note other : PassFace) (shot : Frozen) (h : HasTaken p took shot)
+module _ (p took taken q note other : PassFace) (shot : Frozen) (h : HasTakenShot p took shot)
     (noted_is : note ≡ noted took) (same : taken ≡ took)
     (lawful : Lawful taken.tree.start taken.tree.words taken.seen) (looked : HasOnlyLooked taken q)
     (lawful_now : Lawful q.tree.start q.tree.words q.seen) (learnt : HasLearnt other note)
     (lawful_other : Lawful other.tree.start other.tree.words other.seen) (first last : ℕ)
     (mine theirs : List Pair) (value : (position : ℕ) → IsOf taken position shot
     → mine ≡ listed first last (map_seen taken position))
-    (by : (pairs : List Pair) → HasPairs other shot pairs
+    (by : (pairs : List Pair) → ArePairsOf other shot pairs
     → theirs ≡ pairs_between first last pairs) where
-  its : HasTaken p taken shot
-  its = subst (λ t. HasTaken p t shot) (sym same) h
+  its : HasTakenShot p taken shot
+  its = subst (λ t. HasTakenShot p t shot) (sym same) h
 
   -- both lists are the same pairs
   pub both_alike : mine ≡ theirs

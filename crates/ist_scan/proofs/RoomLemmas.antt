@@ -16,7 +16,7 @@ use Rattle.ist_tree.specs.Freezing.{IsFreezeRefused}
 use Rattle.ist_tree.specs.Refusals.{HadTooFew, IsTopRefused, KeepsRefusal}
 use Rattle.ist_tree.specs.Room.{HasLeft, HasMadeNone}
 use Rattle.ist_scan.specs.Room.{HadRoom, HadNoRoom, IsShotRefused, for_start}
-use Rattle.ist_scan.specs.Shots.{HasTaken}
+use Rattle.ist_scan.specs.Shots.{HasTakenShot}
 use Rattle.ist_scan.proofs.ShotLemmas.{GoesOnWell, further, more_on}
 
 -- ---- the look
@@ -73,7 +73,7 @@ module _ (p m q : PassFace) (look : HasSeenMore p m) (after : HasSeenMore m q) w
       }
 
   -- the shot isn't before what the pass had seen before the look
-  taken_both : GoesOnWell p m → (shot : Frozen) → HasTaken m q shot → HasTaken p q shot
+  taken_both : GoesOnWell p m → (shot : Frozen) → HasTakenShot m q shot → HasTakenShot p q shot
   taken_both on shot h =
       let more = more_on p m on (length (changes_seen p)) (le_refl _) in
       let fresh = h.fresh in
@@ -132,8 +132,8 @@ module _ (p m q : PassFace) (look : HasSeenMore p m) (after : HasSeenMore m q) w
       }
 
   -- what the shot after the look returned, it returned in the call
-  pub ok_both : GoesOnWell p m → (r : Result Frozen Full) → IfOk r (HasTaken m q)
-      → IfOk r (HasTaken p q)
+  pub ok_both : GoesOnWell p m → (r : Result Frozen Full) → IfOk r (HasTakenShot m q)
+      → IfOk r (HasTakenShot p q)
   ok_both on (Ok shot) h = taken_both on shot h
   ok_both on (Err full) h = tt
 

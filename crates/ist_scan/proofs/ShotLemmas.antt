@@ -11,9 +11,9 @@ use Rattle.laws_histories.proofs.ChangeLemmas.{changes_on}
 use Rattle.ist_tree.specs.declared.freezing.Frozen.{Frozen}
 use Rattle.ist_tree.specs.Calls.{HasSeenMore}
 use Rattle.ist_tree.specs.Faces.{TreeFace, PassFace, changes_seen}
-use Rattle.ist_tree.specs.Freezing.{IsFrozen, IsFrozenFor, HasFrozenPairs, HasFrozen}
+use Rattle.ist_tree.specs.Freezing.{IsFrozenIn, IsFrozenFor, HasFrozenPairs, HasFrozen}
 use Rattle.ist_tree.proofs.FreezingLemmas.{frozen_pairs_are_one, frozen_pairs_stay, frozen_stays, has_its_pairs}
-use Rattle.ist_scan.specs.Shots.{HasPairs, map_seen, IsOf, HasTaken, HasOnlyLooked, ShotsStay, LaterCallsComeBehind}
+use Rattle.ist_scan.specs.Shots.{ArePairsOf, map_seen, IsOf, HasTakenShot, HasOnlyLooked, ShotsStay, LaterCallsComeBehind}
 
 -- the pass has seen more, and what it has seen is lawful
 pub record GoesOnWell (p q : PassFace) : Type 0 where
@@ -26,7 +26,7 @@ module _ (p q : PassFace) (on : GoesOnWell p q) where
   pub frozen_on : (shot : Frozen) → IsFrozenFor p shot → IsFrozenFor q shot
   frozen_on shot f =
       frozen_stays q.tree.start q.tree.words p.seen q.seen on.lawful on.seen shot
-      (subst (λ (t : TreeFace). IsFrozen t.start t.words p.seen shot) (sym on.tree) f)
+      (subst (λ (t : TreeFace). IsFrozenIn t.start t.words p.seen shot) (sym on.tree) f)
 
   -- the shot keeps its frozen pairs
   pairs_on : (shot : Frozen) (pairs : List Pair) → IsFrozenFor p shot
@@ -34,11 +34,11 @@ module _ (p q : PassFace) (on : GoesOnWell p q) where
       → HasFrozenPairs q.tree.start q.tree.words q.seen shot pairs
   pairs_on shot pairs f h =
       frozen_pairs_stay q.tree.start q.tree.words p.seen q.seen on.lawful on.seen shot pairs
-      (subst (λ (t : TreeFace). IsFrozen t.start t.words p.seen shot) (sym on.tree) f)
+      (subst (λ (t : TreeFace). IsFrozenIn t.start t.words p.seen shot) (sym on.tree) f)
       (subst (λ (t : TreeFace). HasFrozenPairs t.start t.words p.seen shot pairs) (sym on.tree) h)
 
   -- a shot keeps its pairs
-  pub has_on : (shot : Frozen) (pairs : List Pair) → HasPairs p shot pairs → HasPairs q shot pairs
+  pub has_on : (shot : Frozen) (pairs : List Pair) → ArePairsOf p shot pairs → ArePairsOf q shot pairs
   has_on shot pairs h =
       record {
         frozen = frozen_on shot h.frozen;
@@ -106,12 +106,12 @@ looked p q seen calls refused lawful =
 -- a shot of a position has the pairs of the map there
 pub of_pairs : (p : PassFace) (position : ℕ) (shot : Frozen)
     → Lawful p.tree.start p.tree.words p.seen → IsOf p position shot
-    → HasPairs p shot (pairs_of (map_seen p position))
+    → ArePairsOf p shot (pairs_of (map_seen p position))
 of_pairs p position shot lawful o =
     let it = has_its_pairs p.tree.start p.tree.words p.seen lawful shot o.frozen in
     let same = frozen_pairs_are_one p.tree.start p.tree.words p.seen shot it.found
     (pairs_of (map_seen p position)) it.has o.pairs in
-    subst (HasPairs p shot) same record {
+    subst (ArePairsOf p shot) same record {
       frozen = o.frozen;
       has = it.has;
       number = it.number;
@@ -120,10 +120,10 @@ of_pairs p position shot lawful o =
 
 -- what a freeze answers is of a position
 pub taken : (p q : PassFace) (shot : Frozen) → q.tree ≡ p.tree
-    → Lawful q.tree.start q.tree.words q.seen → HasFrozen p q shot → HasTaken p q shot
+    → Lawful q.tree.start q.tree.words q.seen → HasFrozen p q shot → HasTakenShot p q shot
 taken p q shot tree lawful h =
     let at = h.were.position in
-    let frozen = subst (λ (t : TreeFace). IsFrozen t.start t.words q.seen shot) (sym tree) h.frozen_is in
+    let frozen = subst (λ (t : TreeFace). IsFrozenIn t.start t.words q.seen shot) (sym tree) h.frozen_is in
     let pairs = subst (λ (t : TreeFace). HasFrozenPairs t.start t.words q.seen shot
     (pairs_of (map_at (map_of t.start) (changes_of t.start t.words q.seen) at)))
     (sym tree) (subst (HasFrozenPairs p.tree.start p.tree.words q.seen shot) h.were.pairs_are h.has) in
@@ -144,14 +144,14 @@ taken p q shot tree lawful h =
 
 -- a frozen shot has pairs
 pub some_pairs : (p : PassFace) (shot : Frozen) → Lawful p.tree.start p.tree.words p.seen
-    → IsFrozenFor p shot → (pairs : List Pair) × HasPairs p shot pairs
+    → IsFrozenFor p shot → (pairs : List Pair) × ArePairsOf p shot pairs
 some_pairs p shot lawful f =
     let it = has_its_pairs p.tree.start p.tree.words p.seen lawful shot f in
     (it.found, record { frozen = f; has = it.has; number = it.number; rising = it.rising })
 
 -- a shot has one list of pairs
-pub one_pairs : (p : PassFace) (shot : Frozen) (found others : List Pair) → HasPairs p shot found
-    → HasPairs p shot others → found ≡ others
+pub one_pairs : (p : PassFace) (shot : Frozen) (found others : List Pair) → ArePairsOf p shot found
+    → ArePairsOf p shot others → found ≡ others
 one_pairs p shot found others h k =
     frozen_pairs_are_one p.tree.start p.tree.words p.seen shot found others h.has k.has
 

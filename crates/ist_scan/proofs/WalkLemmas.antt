@@ -11,8 +11,8 @@ use Rattle.ist_core.specs.Map.{pairs_between}
 use Rattle.ist_tree.specs.declared.freezing.Frozen.{Frozen}
 use Rattle.ist_tree.specs.Faces.{PassFace}
 use Rattle.ist_scan.specs.Cuts.{CutsAt, IsCut, part_of}
-use Rattle.ist_scan.specs.Shots.{HasOnlyLooked, HasPairs}
-use Rattle.ist_scan.specs.Walks.{WalkFace, AreOneWalk, HasBegun, WalksStay}
+use Rattle.ist_scan.specs.Shots.{HasOnlyLooked, ArePairsOf}
+use Rattle.ist_scan.specs.Walks.{WalkFace, AreOneWalk, WalkHasBegun, WalksStay}
 use Rattle.ist_scan.proofs.CutLemmas.{cut_is, between_is, none_between}
 use Rattle.ist_scan.proofs.PairLemmas.{rise}
 use Rattle.ist_scan.proofs.ShotLemmas.{GoesOnWell, has_on, one_pairs}
@@ -151,9 +151,9 @@ module _ (pairs : List Pair) (rising : IsStrictlyIncreasing (map (λ p. p.key) p
 
 -- the pairs of a shot, for a pass that has looked and a walk that goes on
 pub pairs_now : (p q : PassFace) (shot : Frozen) (v w : WalkFace) → HasOnlyLooked p q → AreOneWalk v w
-    → v.shot ≡ shot → (pairs : List Pair) → HasPairs p shot pairs → HasPairs q w.shot pairs
+    → v.shot ≡ shot → (pairs : List Pair) → ArePairsOf p shot pairs → ArePairsOf q w.shot pairs
 pairs_now p q shot v w looked one its pairs h =
-    subst (λ s. HasPairs q s pairs) (sym (one.shot ∙ its)) (looked.pairs shot pairs h)
+    subst (λ s. ArePairsOf q s pairs) (sym (one.shot ∙ its)) (looked.pairs shot pairs h)
 
 -- the pairs cut a walk that has begun
 record HasBegunBy (pairs : List Pair) (w : WalkFace) : Type 0 where
@@ -163,8 +163,8 @@ record HasBegunBy (pairs : List Pair) (w : WalkFace) : Type 0 where
 
 -- what comes next in a walk that has begun, by the pair whose number it has reached; stated of the
 -- walk as it was
-module _ (p : PassFace) (v w : WalkFace) (b : HasBegun p w) (one : AreOneWalk v w)
-    (given : w.given ≡ v.given) (pairs : List Pair) (h : HasPairs p w.shot pairs) where
+module _ (p : PassFace) (v w : WalkFace) (b : WalkHasBegun p w) (one : AreOneWalk v w)
+    (given : w.given ≡ v.given) (pairs : List Pair) (h : ArePairsOf p w.shot pairs) where
   -- the pairs that the walk was cut by
   these : HasBegunBy pairs w
   these =

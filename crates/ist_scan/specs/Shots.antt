@@ -25,13 +25,13 @@ pub record IsOf (p : PassFace) (position : ℕ) (shot : Frozen) : Type 0 where
   pub number : length (pairs_of (map_seen p position)) ≡ shot.keys
 
 -- the shot was taken in the call: its position isn't before what the pass had seen
-pub record HasTaken (p q : PassFace) (shot : Frozen) : Type 0 where
+pub record HasTakenShot (p q : PassFace) (shot : Frozen) : Type 0 where
   pub position : ℕ
   pub fresh : length (changes_seen p) ≤ position
   pub is_of : IsOf q position shot
 
 -- these are the pairs of the shot, in what the pass has seen
-pub record HasPairs (p : PassFace) (shot : Frozen) (pairs : List Pair) : Type 0 where
+pub record ArePairsOf (p : PassFace) (shot : Frozen) (pairs : List Pair) : Type 0 where
   pub frozen : IsFrozenFor p shot
   pub has : HasFrozenPairs p.tree.start p.tree.words p.seen shot pairs
   pub number : length pairs ≡ shot.keys
@@ -45,7 +45,7 @@ pub record HasOnlyLooked (p q : PassFace) : Type 0 where
   pub refused : q.refused ≡ p.refused
   pub frozen : (shot : Frozen) → IsFrozenFor p shot → IsFrozenFor q shot
   pub stays : (position : ℕ) (shot : Frozen) → IsOf p position shot → IsOf q position shot
-  pub pairs : (shot : Frozen) (pairs : List Pair) → HasPairs p shot pairs → HasPairs q shot pairs
+  pub pairs : (shot : Frozen) (pairs : List Pair) → ArePairsOf p shot pairs → ArePairsOf q shot pairs
 
 -- ---- laws
 
@@ -68,17 +68,17 @@ abbrev pub PairsStay : Type 0
 PairsStay =
     (p q : PassFace) → q.tree ≡ p.tree → GoesOn p.seen q.seen
     → Lawful q.tree.start q.tree.words q.seen → (shot : Frozen) → IsFrozenFor p shot
-    → IsFrozenFor q shot × ((pairs : List Pair) → HasPairs p shot pairs → HasPairs q shot pairs)
+    → IsFrozenFor q shot × ((pairs : List Pair) → ArePairsOf p shot pairs → ArePairsOf q shot pairs)
 
 -- a shot that is frozen has its pairs, and no others
 abbrev pub ShotsHavePairs : Type 0
 ShotsHavePairs =
     (p : PassFace) → Lawful p.tree.start p.tree.words p.seen → (shot : Frozen) → IsFrozenFor p shot
-    → (found : List Pair) × HasPairs p shot found
-    × ((others : List Pair) → HasPairs p shot others → others ≡ found)
+    → (found : List Pair) × ArePairsOf p shot found
+    × ((others : List Pair) → ArePairsOf p shot others → others ≡ found)
 
 -- if it is of a position, these are the pairs that the map has there
 abbrev pub PositionsHavePairs : Type 0
 PositionsHavePairs =
     (p : PassFace) → Lawful p.tree.start p.tree.words p.seen → (position : ℕ) (shot : Frozen)
-    → IsOf p position shot → HasPairs p shot (pairs_of (map_seen p position))
+    → IsOf p position shot → ArePairsOf p shot (pairs_of (map_seen p position))

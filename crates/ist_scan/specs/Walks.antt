@@ -6,7 +6,7 @@ use Rattle.ist_core.specs.Logs.{GoesOn}
 use Rattle.ist_tree.specs.declared.freezing.Frozen.{Frozen}
 use Rattle.ist_tree.specs.Faces.{PassFace}
 use Rattle.ist_scan.specs.Cuts.{CutsAt}
-use Rattle.ist_scan.specs.Shots.{HasPairs}
+use Rattle.ist_scan.specs.Shots.{ArePairsOf}
 
 -- a walk: its shot, its interval, how many pairs it has given, and the number of the next pair once
 -- the first one was looked for
@@ -26,17 +26,17 @@ pub record AreOneWalk (w v : WalkFace) : Type 0 where
 
 -- a walk that has begun: where the first pair of its interval is among the pairs of the shot; the
 -- next pair comes after those that were given
-pub record HasBegun (p : PassFace) (w : WalkFace) : Type 0 where
+pub record WalkHasBegun (p : PassFace) (w : WalkFace) : Type 0 where
   pub pairs : List Pair
-  pub has : HasPairs p w.shot pairs
+  pub has : ArePairsOf p w.shot pairs
   pub start : ℕ
   pub cut : CutsAt pairs w.first start
   pub next_is : w.next ≡ start + w.given
 
 -- the walk is where it should be, for the pass: it has given nothing or has begun
-pub record HasWalked (p : PassFace) (w : WalkFace) : Type 0 where
+pub record IsWalkOfPass (p : PassFace) (w : WalkFace) : Type 0 where
   pub fresh : w.begun ≡ false → w.given ≡ 0
-  pub way : w.begun ≡ true → HasBegun p w
+  pub way : w.begun ≡ true → WalkHasBegun p w
 
 -- ---- laws
 
@@ -44,4 +44,4 @@ pub record HasWalked (p : PassFace) (w : WalkFace) : Type 0 where
 abbrev pub WalksStay : Type 0
 WalksStay =
     (p q : PassFace) → q.tree ≡ p.tree → GoesOn p.seen q.seen
-    → Lawful q.tree.start q.tree.words q.seen → (w : WalkFace) → HasWalked p w → HasWalked q w
+    → Lawful q.tree.start q.tree.words q.seen → (w : WalkFace) → IsWalkOfPass p w → IsWalkOfPass q w

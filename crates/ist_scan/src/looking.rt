@@ -3,7 +3,7 @@ ghost use Rattle.std.specs.Prelude.{◌≡◌, ◌+◌, ◌*◌, ◌^◌, ◌<�
 ghost use Rattle.ist_core.specs.declared.pairs.Pair.{Pair};
 ghost use Rattle.ist_tree.specs.Freezing.{IsFrozenFor};
 ghost use Rattle.ist_scan.specs.Cuts.{CutsAt, IsCut};
-ghost use Rattle.ist_scan.specs.Shots.{HasOnlyLooked, HasPairs};
+ghost use Rattle.ist_scan.specs.Shots.{HasOnlyLooked, ArePairsOf};
 
 use ist_core::Pair;
 use ist_tree::{Frozen, Pass, Tree};
@@ -28,7 +28,7 @@ pub(crate) fn pair_at(tree: &Tree, pass: &mut Pass, shot: Frozen, i: u64) -> Pai
     requires frozen { IsFrozenFor pass.old shot }
     requires within { i < shot.keys }
     ensures looked { HasOnlyLooked pass.old pass.new }
-    ensures pair { (pairs : List Pair) → HasPairs pass.old shot pairs
+    ensures pair { (pairs : List Pair) → ArePairsOf pass.old shot pairs
         → slice_get pairs i ≡ Some result }
 {
     let pair = tree.frozen_pair(pass, &shot, i);
@@ -51,7 +51,7 @@ pub(crate) fn count_below(tree: &Tree, pass: &mut Pass, shot: Frozen, bound: u12
     requires frozen { IsFrozenFor pass.old shot }
     ensures looked { HasOnlyLooked pass.old pass.new }
     ensures within { result.count ≤ shot.keys }
-    ensures cuts { (pairs : List Pair) → HasPairs pass.old shot pairs
+    ensures cuts { (pairs : List Pair) → ArePairsOf pass.old shot pairs
         → CutsAt pairs bound result.count }
     ensures halves { 2 ^ result.looks ≤ 2 * shot.keys + 1 }
 {
@@ -76,7 +76,7 @@ pub(crate) fn ends_of(tree: &Tree, pass: &mut Pass, shot: Frozen, from: u128, to
     requires frozen { IsFrozenFor pass.old shot }
     requires some { from < to }
     ensures looked { HasOnlyLooked pass.old pass.new }
-    ensures cut { (pairs : List Pair) → HasPairs pass.old shot pairs
+    ensures cut { (pairs : List Pair) → ArePairsOf pass.old shot pairs
         → IsCut pairs from to result.low result.high }
     ensures order { result.low ≤ result.high }
     ensures within { result.high ≤ shot.keys }

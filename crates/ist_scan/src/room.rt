@@ -4,7 +4,7 @@ ghost use Rattle.ist_tree.specs.Calls.{HasSeenMore};
 ghost use Rattle.ist_tree.specs.Freezing.{IsFrozenFor, HasStartedNone};
 ghost use Rattle.ist_tree.specs.Refusals.{KeepsRefusal};
 ghost use Rattle.ist_scan.specs.Room.{words_of_shot, HadRoom, HadNoRoom, IsShotRefused};
-ghost use Rattle.ist_scan.specs.Shots.{HasTaken};
+ghost use Rattle.ist_scan.specs.Shots.{HasTakenShot};
 
 use crate::shots::Shot;
 use ist_core::Full;
@@ -58,7 +58,7 @@ impl Shot {
         requires same_tree { pass.old.tree ≡ tree.now }
         ensures seen { HasSeenMore pass.old pass.new }
         ensures frozen { IfOk result (IsFrozenFor pass.new) }
-        ensures taken { IfOk result (HasTaken pass.old pass.new) }
+        ensures taken { IfOk result (HasTakenShot pass.old pass.new) }
         ensures room { OnOk result (HadRoom pass.old pass.new words) }
         ensures full { IfErr result (IsShotRefused pass.old pass.new words) }
         ensures unstarted { OnErr result (HasStartedNone pass.old pass.new) }

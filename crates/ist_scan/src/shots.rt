@@ -2,13 +2,13 @@
 ghost use Rattle.std.specs.Prelude.{◌≡◌, ℕ, ◌+◌, ◌-◌, ◌*◌, ◌<◌, ◌≤◌, List, length, slice_get, Some, IfOk, IfErr, OnErr};
 ghost use Rattle.ist_core.specs.declared.pairs.Pair.{Pair};
 ghost use Rattle.ist_tree.specs.Faces.{PassFace};
-ghost use Rattle.ist_scan.specs.Walks.{HasWalked};
+ghost use Rattle.ist_scan.specs.Walks.{IsWalkOfPass};
 ghost use Rattle.ist_core.specs.Map.{listed, pairs_between};
 ghost use Rattle.ist_tree.specs.Calls.{HasSeenMore};
 ghost use Rattle.ist_tree.specs.Freezing.{IsFrozenFor, IsFreezeRefused, HasStartedNone};
 ghost use Rattle.ist_tree.specs.Refusals.{KeepsRefusal};
 ghost use Rattle.ist_scan.specs.Cuts.{part_of};
-ghost use Rattle.ist_scan.specs.Shots.{HasPairs, IsOf, HasTaken, HasOnlyLooked, map_seen};
+ghost use Rattle.ist_scan.specs.Shots.{ArePairsOf, IsOf, HasTakenShot, HasOnlyLooked, map_seen};
 ghost use Rattle.ist_scan.specs.Totals.{total_of, in_bin, pairs_in_bin};
 
 use crate::looking::{Ends, ends_of, pair_at};
@@ -45,7 +45,7 @@ fn total_at(tree: &Tree, pass: &mut Pass, shot: Frozen, ends: Ends) -> Total
     requires order { ends.low ≤ ends.high }
     requires within { ends.high ≤ shot.keys }
     ensures looked { HasOnlyLooked pass.old pass.new }
-    ensures total { (pairs : List Pair) → HasPairs pass.old shot pairs
+    ensures total { (pairs : List Pair) → ArePairsOf pass.old shot pairs
         → result ≡ total_of (part_of pairs ends.low ends.high) }
 {
     let mut total = Total::of_none();
@@ -69,7 +69,7 @@ fn list_at(
     requires order { ends.low ≤ ends.high }
     requires within { ends.high ≤ shot.keys }
     ensures looked { HasOnlyLooked pass.old pass.new }
-    ensures list { IfOk result (λ v. (pairs : List Pair) → HasPairs pass.old shot pairs
+    ensures list { IfOk result (λ v. (pairs : List Pair) → ArePairsOf pass.old shot pairs
         → v.items ≡ part_of pairs ends.low ends.high) }
 {
     let mut list = Vec::new(alloc);
@@ -85,7 +85,7 @@ fn bin_at(tree: &Tree, pass: &mut Pass, shot: Frozen, first: u64, width: u64, j:
     requires frozen { IsFrozenFor pass.old shot }
     requires some { 1 ≤ width }
     ensures looked { HasOnlyLooked pass.old pass.new }
-    ensures total { (pairs : List Pair) → HasPairs pass.old shot pairs → result ≡ total_of
+    ensures total { (pairs : List Pair) → ArePairsOf pass.old shot pairs → result ≡ total_of
         (pairs_between (first + j * width) (first + (j + 1) * width - 1) pairs) }
 {
     let from = u128::from(first) + u128::from(j) * u128::from(width);
@@ -105,7 +105,7 @@ impl Shot {
         requires same_tree { pass.old.tree ≡ tree.now }
         ensures seen { HasSeenMore pass.old pass.new }
         ensures frozen { IfOk result (IsFrozenFor pass.new) }
-        ensures taken { IfOk result (HasTaken pass.old pass.new) }
+        ensures taken { IfOk result (HasTakenShot pass.old pass.new) }
         ensures full { IfErr result (IsFreezeRefused pass.old pass.new) }
         ensures unstarted { OnErr result (HasStartedNone pass.old pass.new) }
         ensures calls { pass.new.calls ≡ pass.old.calls }
@@ -148,7 +148,7 @@ impl Shot {
         ensures list { IfOk result (λ v. (position : ℕ) → IsOf pass.old position self.now
             → v.items ≡ listed first last (map_seen pass.old position)) }
         ensures by_pairs { IfOk result (λ v. (pairs : List Pair)
-            → HasPairs pass.old self.now pairs → v.items ≡ pairs_between first last pairs) }
+            → ArePairsOf pass.old self.now pairs → v.items ≡ pairs_between first last pairs) }
     {
         pass.know();
         if first > last {
@@ -167,7 +167,7 @@ impl Shot {
         ensures looked { HasOnlyLooked pass.old pass.new }
         ensures total { (position : ℕ) → IsOf pass.old position self.now
             → result ≡ total_of (listed first last (map_seen pass.old position)) }
-        ensures by_pairs { (pairs : List Pair) → HasPairs pass.old self.now pairs
+        ensures by_pairs { (pairs : List Pair) → ArePairsOf pass.old self.now pairs
             → result ≡ total_of (pairs_between first last pairs) }
     {
         pass.know();
@@ -192,7 +192,7 @@ impl Shot {
             → (j : ℕ) → j < length out.old
             → slice_get out.new j
             ≡ Some (total_of (in_bin (map_seen pass.old position) first width j)) }
-        ensures by_pairs { (pairs : List Pair) → HasPairs pass.old self.now pairs
+        ensures by_pairs { (pairs : List Pair) → ArePairsOf pass.old self.now pairs
             → (j : ℕ) → j < length out.old
             → slice_get out.new j ≡ Some (total_of (pairs_in_bin pairs first width j)) }
     {
@@ -208,7 +208,7 @@ impl Shot {
         ensures first { result.first ≡ first }
         ensures last { result.last ≡ last }
         ensures given { result.given ≡ 0 }
-        ensures way { (p : PassFace) → HasWalked p result }
+        ensures way { (p : PassFace) → IsWalkOfPass p result }
     {
         Walk::new(self.frozen, first, last)
     }

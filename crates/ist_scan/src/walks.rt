@@ -3,8 +3,8 @@ ghost use Rattle.std.specs.Prelude.{◌≡◌, ℕ, ◌+◌, ◌*◌, ◌^◌, �
 ghost use Rattle.ist_core.specs.declared.pairs.Pair.{Pair};
 ghost use Rattle.ist_core.specs.Map.{listed, pairs_between};
 ghost use Rattle.ist_tree.specs.Freezing.{IsFrozenFor};
-ghost use Rattle.ist_scan.specs.Shots.{HasPairs, IsOf, HasOnlyLooked, map_seen};
-ghost use Rattle.ist_scan.specs.Walks.{HasWalked, HasBegun, AreOneWalk};
+ghost use Rattle.ist_scan.specs.Shots.{ArePairsOf, IsOf, HasOnlyLooked, map_seen};
+ghost use Rattle.ist_scan.specs.Walks.{IsWalkOfPass, WalkHasBegun, AreOneWalk};
 
 use crate::looking::{count_below, pair_at};
 use crate::shots::Shot;
@@ -69,12 +69,12 @@ impl Walk {
         requires same_tree { pass.old.tree ≡ tree.now }
         requires its_shot { self.old.shot ≡ shot }
         requires frozen { IsFrozenFor pass.old shot }
-        requires way { HasWalked pass.old self.old }
+        requires way { IsWalkOfPass pass.old self.old }
         ensures looked { HasOnlyLooked pass.old pass.new }
         ensures one_walk { AreOneWalk self.old self.new }
         ensures given { self.new.given ≡ self.old.given }
         ensures begun { self.new.begun ≡ true }
-        ensures way { HasBegun pass.new self.new }
+        ensures way { WalkHasBegun pass.new self.new }
         ensures not_again { self.old.begun ≡ true → result ≡ 0 }
         ensures halves { 2 ^ result ≤ 2 * shot.keys + 1 }
     {
@@ -98,16 +98,16 @@ impl Walk {
         requires same_tree { pass.old.tree ≡ tree.now }
         requires its_shot { self.old.shot ≡ shot.now }
         requires frozen { IsFrozenFor pass.old shot.now }
-        requires way { HasWalked pass.old self.old }
+        requires way { IsWalkOfPass pass.old self.old }
         ensures looked { HasOnlyLooked pass.old pass.new }
         ensures one_walk { AreOneWalk self.old self.new }
         ensures pair { (position : ℕ) → IsOf pass.old position shot.now → result ≡ slice_get
             (listed self.old.first self.old.last (map_seen pass.old position)) self.old.given }
-        ensures by_pairs { (pairs : List Pair) → HasPairs pass.old shot.now pairs
+        ensures by_pairs { (pairs : List Pair) → ArePairsOf pass.old shot.now pairs
             → result ≡ slice_get (pairs_between self.old.first self.old.last pairs) self.old.given }
         ensures given { OnSome result (self.new.given ≡ self.old.given + 1) }
         ensures ended { IfNone result (self.new.given ≡ self.old.given) }
-        ensures way { HasWalked pass.new self.new }
+        ensures way { IsWalkOfPass pass.new self.new }
     {
         pass.know();
         let frozen = shot.frozen();

@@ -17,12 +17,12 @@ use Rattle.ist_rows.specs.Going.{IsReady}
 use Rattle.ist_rows.proofs.GoneLemmas.{still_ready}
 use Rattle.ist_dcss.specs.Helping as dcss
 use Rattle.ist_build.specs.Calls.{IsBuildable}
-use Rattle.ist_rebuild.specs.Going.{Serves}
+use Rattle.ist_rebuild.specs.Going.{ServesRebuild}
 use Rattle.ist_rebuild.specs.Helping.{HasHelped, IsHelpRefused, IsLeftToParent}
 use Rattle.ist_rebuild.specs.Starting.{IsStartedAt, MayStart, StartsAreDoneBut, StoodInstead}
 use Rattle.ist_updates.specs.declared.updates.Due.{Due}
 use Rattle.ist_tree.specs.declared.rebuilding.Instead.TheVariants.{Other}
-use Rattle.ist_tree.specs.Attempts.{GoesFor, HelpsOther, HelpsOwn, RebuildsRow, Tries}
+use Rattle.ist_tree.specs.Attempts.{GoesFor, HelpsOther, HelpsOwn, RebuildsRow, TriesOnce}
 use Rattle.ist_tree.specs.Working.{IsDueRefused, KeepsDone, Rebuilds, instead_of}
 use Rattle.ist_tree.proofs.DueFurtherLemmas.{due_further}
 use Rattle.ist_tree.proofs.DueLemmas.{done_more, goes_more, goes_none, helped_for, helped_shut, loaded_for, plain_for}
@@ -72,7 +72,7 @@ module _ (old new : Caller) (due : Due) (words word base : ℕ) (h : HasHelped o
   other_rebuilt r finished =
       record {
         on = helped_for old new due.target h;
-        done = starts_went Serves old.number old.token.view new.token.view r.caller.mine
+        done = starts_went ServesRebuild old.number old.token.view new.token.view r.caller.mine
             h.on.gone.went (serves_start_none old.number) r.quiet.resolved;
         settled = rebuild_helped new.token.view word base is finished;
         full = tt;
@@ -123,7 +123,7 @@ other_none who due words word s r is =
 pub tried_short : (old new : Caller) (due : Due) (words : ℕ) (answer : Result Bool Full)
     (full : Full) → IsErrAnd answer (λ x. x ≡ full) → GoesFor old new due.target
     → IsDueRefused (now old.token.view) new.token.view due.target words full
-    → Tries old new due words answer
+    → TriesOnce old new due words answer
 tried_short old new due words (Ok a) full same on refused = absurd same
 tried_short old new due words (Err e) full same on refused =
     record {
@@ -138,7 +138,7 @@ tried_short old new due words (Err e) full same on refused =
 pub later_short : (a b c : Caller) (due : Due) (words : ℕ) (answer : Result Bool Full)
     (full : Full) → IsErrAnd answer (λ x. x ≡ full) → GoesFor a b due.target
     → GoesFor b c due.target → IsDueRefused (now b.token.view) c.token.view due.target words full
-    → Tries a c due words answer
+    → TriesOnce a c due words answer
 later_short a b c due words answer full same one two refused =
     tried_short a c due words answer full same (goes_more a b c due.target one two)
     (due_refused_more (now a.token.view) (now b.token.view)
@@ -148,7 +148,7 @@ later_short a b c due words answer full same one two refused =
 -- the rebuild that was started was helped to its end
 pub own_tried : (a b c : Caller) (due : Due) (words rebuild : ℕ) → GoesFor a b due.target
     → (StartsAreDone (now a.token.view) a.number → StartsAreDoneBut (now b.token.view) a.number rebuild)
-    → HelpsOwn b c due words rebuild (Ok tt) → Tries a c due words (Ok true)
+    → HelpsOwn b c due words rebuild (Ok tt) → TriesOnce a c due words (Ok true)
 own_tried a b c due words rebuild one but h =
     record {
       on = goes_more a b c due.target one h.on;
@@ -162,7 +162,7 @@ own_tried a b c due words rebuild one but h =
 
 -- the parent was marked
 pub marked_tried : (old new : Caller) (due : Due) (words : ℕ) → GoesFor old new due.target
-    → ¬ (IsOpen (now new.token.view) due.parent) → KeepsDone old new → Tries old new due words (Ok true)
+    → ¬ (IsOpen (now new.token.view) due.parent) → KeepsDone old new → TriesOnce old new due words (Ok true)
 marked_tried old new due words on closed done =
     record {
       on = on;
@@ -178,7 +178,7 @@ pub other_tried : (a b c : Caller) (token : TokenFace) (due : Due) (words word :
     → StoodInstead b.token.view due.parent due.index due.target word → KeepsDone a b
     → HelpsOther b c due words word (Ok tt) → GoesOnTo c.token.view token.view
     → IsTrue opened ↔ IsOpen (now token.view) due.target
-    → Tries a (record c { token = token }) due words (Ok (not opened))
+    → TriesOnce a (record c { token = token }) due words (Ok (not opened))
 other_tried a b c token due words word opened may one stood kept h seen iff =
     record {
       on = goes_more a b last due.target one
@@ -203,7 +203,7 @@ other_tried a b c token due words word opened may one stood kept h seen iff =
 module _ (a b c : Caller) (due : Due) (words : ℕ) (one : GoesFor a b due.target) where
   -- the last attempt was refused, which is handed on
   pub rebuilt_short : (answer : Result (Unit {0}) Full) (full : Full)
-      → IsErrAnd answer (λ x. x ≡ full) → Tries b c due words (Err full)
+      → IsErrAnd answer (λ x. x ≡ full) → TriesOnce b c due words (Err full)
       → RebuildsRow a c due words answer
   rebuilt_short (Ok a) full same t = absurd same
   rebuilt_short (Err e) full same t =
@@ -218,7 +218,7 @@ module _ (a b c : Caller) (due : Due) (words : ℕ) (one : GoesFor a b due.targe
       }
 
   -- the last attempt found the row or its parent not open
-  pub rebuilt_last : (last : Bool) → KeepsDone a b → Tries b c due words (Ok last) → last ≡ true
+  pub rebuilt_last : (last : Bool) → KeepsDone a b → TriesOnce b c due words (Ok last) → last ≡ true
       → RebuildsRow a c due words (Ok tt)
   rebuilt_last last kept t is =
       record {

@@ -18,7 +18,7 @@ use Rattle.ist_rebuild.specs.declared.answers.Helped.{Helped}
 use Rattle.ist_rebuild.specs.declared.answers.Helped.TheVariants.{Replaced, ParentMarked}
 use Rattle.ist_rebuild.specs.declared.answers.Started.{Started}
 use Rattle.ist_rebuild.specs.declared.answers.Started.TheVariants.{Yes, Other, Marked}
-use Rattle.ist_rebuild.specs.Going.{Begins, Serves, StartsAt}
+use Rattle.ist_rebuild.specs.Going.{Begins, ServesRebuild, StartsAt}
 use Rattle.ist_rows.specs.Going.{IsQuiet, IsReady, StaysReady}
 use Rattle.ist_rebuild.specs.Helping.{HasHelped, IsLeftToParent}
 use Rattle.ist_rebuild.specs.Starting.{IsStartedAt, LeavesDone, StartsAreDoneBut}
@@ -43,7 +43,7 @@ begins_on old new r c refused quiet went number =
 
 -- so did one that helped one
 pub serves_on : (old new : Caller) → HasHelped old new → StaysReady Rebuilds old new
-serves_on old new h = ready_all Serves Rebuilds serves_rebuild old new h.on
+serves_on old new h = ready_all ServesRebuild Rebuilds serves_rebuild old new h.on
 
 -- a caller that began a rebuild of the target went on for it
 pub begins_for : (old new : Caller) (target : ℕ) → IsReady old → IsCaller new
@@ -58,7 +58,7 @@ pub helped_for : (old new : Caller) (target : ℕ) → HasHelped old new → Goe
 helped_for old new target h =
     record {
       on = serves_on old new h;
-      aims = went_all Serves (StartsAt target) (serves_aims target) old.token.view new.token.view
+      aims = went_all ServesRebuild (StartsAt target) (serves_aims target) old.token.view new.token.view
           h.on.gone.went;
     }
 
@@ -130,12 +130,12 @@ helped_either Replaced t rebuild a b = inl (a refl)
 helped_either ParentMarked t rebuild a b = inr (b refl)
 
 -- so the row or its parent isn't open
-pub helped_shut : (v w : View) → WentOn Serves v w → (rebuild parent index target : ℕ)
+pub helped_shut : (v w : View) → WentOn ServesRebuild v w → (rebuild parent index target : ℕ)
     → IsStartedAt (now v) rebuild parent index target
     → IsReplaced (now w) rebuild ⊎ IsLeftToParent (now w) rebuild → IsShut (now w) parent target
 helped_shut v w went rebuild parent index target s either =
-    ⊎_elim (replaced_is_shut Serves v w went rebuild parent index target s)
-    (left_is_shut Serves v w went rebuild parent index target s) either
+    ⊎_elim (replaced_is_shut ServesRebuild v w went rebuild parent index target s)
+    (left_is_shut ServesRebuild v w went rebuild parent index target s) either
 
 -- ---- starts done, twice
 

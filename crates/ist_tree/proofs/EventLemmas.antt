@@ -8,7 +8,7 @@ use Rattle.ist_core.specs.Statuses.{start_kind, finish_kind}
 use Rattle.ist_dcss.specs.Helping as dcss
 use Rattle.ist_rows.specs.CallerLaws.{KeepsRows, InstallsNone}
 use Rattle.laws_calls.specs.Settling.{InstallsNoStart, CountsNothing}
-use Rattle.ist_rebuild.specs.Going.{Begins, Serves, StartsAt}
+use Rattle.ist_rebuild.specs.Going.{Begins, ServesRebuild, StartsAt}
 use Rattle.ist_updates.specs.Asking.{Updates}
 use Rattle.ist_tree.specs.Working.{Rebuilds, Works}
 
@@ -47,7 +47,7 @@ begins_rebuild (Place caller rebuild i word rows) p = tt
 begins_rebuild (Lose caller bases) p = tt
 
 -- a step of helping a rebuild is one of rebuilding
-pub serves_rebuild : (event : Event) → Serves event → Rebuilds event
+pub serves_rebuild : (event : Event) → ServesRebuild event → Rebuilds event
 serves_rebuild (Install caller base rows) p =
     λ change is. finish_no_update change.kind (p change is)
 serves_rebuild (Reserve caller base size) p = tt
@@ -108,7 +108,7 @@ none_starts_none number (Place caller rebuild i word rows) p = tt
 none_starts_none number (Lose caller bases) p = tt
 
 -- helping a rebuild starts none, so that no start is out of place
-pub serves_aims : (target : ℕ) (event : Event) → Serves event → StartsAt target event
+pub serves_aims : (target : ℕ) (event : Event) → ServesRebuild event → StartsAt target event
 serves_aims target (Install caller base rows) p =
     λ change is start. absurd (finish_no_start change.kind (p change is) start)
 serves_aims target (Reserve caller base size) p = tt
@@ -133,7 +133,7 @@ help_aims target base (Resolve caller other) p = tt
 help_aims target base _ p = absurd p
 
 -- helping a rebuild starts none
-pub serves_start_none : (number : ℕ) (event : Event) → Serves event → InstallsNoStart number event
+pub serves_start_none : (number : ℕ) (event : Event) → ServesRebuild event → InstallsNoStart number event
 serves_start_none number (Install caller base rows) p =
     λ mine change is. finish_no_start change.kind (p change is)
 serves_start_none number (Reserve caller base size) p = tt

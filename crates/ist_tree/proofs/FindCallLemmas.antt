@@ -9,7 +9,7 @@ use Rattle.ist_rule.specs.Learning.{Turned, ending, giving_up}
 use Rattle.ist_rows.specs.declared.callers.Caller.{Caller}
 use Rattle.ist_find.specs.declared.answers.Found.{Found}
 use Rattle.ist_tree.specs.Faces.{PassFace}
-use Rattle.ist_tree.specs.Finding.{Finds}
+use Rattle.ist_tree.specs.Finding.{FindsInCall}
 use Rattle.ist_tree.specs.Insides.{IsPass, IsPassWith, face_as, pass_face}
 use Rattle.ist_tree.specs.Updates.{HasMetAt, OnlyFinds}
 use Rattle.ist_tree.proofs.FoundLemmas.{FindEnds, can_end, find_ends}
@@ -30,7 +30,7 @@ pub record StopsFound (old : PassFace) (who : Caller) (refused : Option Full) (t
   pub met : HasMetAt old (face_as token who.number refused) key value
 
 module _ (who : Caller) (key : ℕ) (found : Found) (w : View) (p : IsPass who)
-    (it : Finds who.token.view w key found) where
+    (it : FindsInCall who.token.view w key found) where
   -- the call may end with what was found
   pub may_end_found : CanEnd w (found_call w found.value)
   may_end_found = can_end who key found.value it.began w it.sound p it.begun it.seen it.position

@@ -31,7 +31,7 @@ use Rattle.ist_tree.specs.declared.freezing.Outcome.{Outcome}
 use Rattle.ist_tree.specs.FreezeSteps.{Freezes, IsTopShort, IsFreezeStopped}
 use Rattle.ist_tree.specs.FreezeCalls.{FreezesAll, StopsFreeze}
 use Rattle.ist_tree.specs.Faces.{PassFace}
-use Rattle.ist_tree.specs.Freezing.{HasFrozen, HeldInnerRow, IsFreezeRefused, IsFrozen, IsFrozenFor, WasFrozen}
+use Rattle.ist_tree.specs.Freezing.{HasFrozen, HeldInnerRow, IsFreezeRefused, IsFrozenIn, IsFrozenFor, WasFrozen}
 use Rattle.ist_tree.specs.Insides.{IsPassWith, face_as, pass_face}
 use Rattle.ist_tree.specs.Refusals.{HadTooFew, IsForRebuild, IsTopRefused, KeepsRefusal, LeavesTooFew}
 use Rattle.ist_tree.proofs.AskedLemmas.{asked_grows, held_on}
@@ -72,11 +72,11 @@ module _ (who began new : Caller) (token : TokenFace) (it : IsWay who began new 
       (subst (λ words. WasFrozen b.start words b.log w.log frozen) l.words_is was))
 
   -- the tree is frozen by the table that the pass has then
-  pub frozen_for : (q : Option Full) (frozen : Frozen) → IsFrozen v.start v.words x.log frozen
+  pub frozen_for : (q : Option Full) (frozen : Frozen) → IsFrozenIn v.start v.words x.log frozen
       → IsFrozenFor (face_as token new.number q) frozen
   frozen_for q frozen f =
-      subst (λ pairs. IsFrozen pairs x.words x.log frozen) (sym (way.x_start who began new token it))
-      (subst (λ words. IsFrozen v.start words x.log frozen)
+      subst (λ pairs. IsFrozenIn pairs x.words x.log frozen) (sym (way.x_start who began new token it))
+      (subst (λ words. IsFrozenIn v.start words x.log frozen)
       (sym (way.x_words who began new token it)) f)
 
   -- ---- refusals

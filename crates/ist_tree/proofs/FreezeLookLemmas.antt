@@ -33,7 +33,7 @@ use Rattle.ist_rows.specs.declared.callers.Caller.{Caller}
 use Rattle.ist_tree.specs.declared.freezing.Frozen.{Frozen}
 use Rattle.ist_tree.specs.declared.freezing.Site.TheVariants.{Rebuilt, Still}
 use Rattle.ist_tree.specs.Freezing.{HeldInnerRow, IsStill, WasFrozen, all_keys, no_key, one_key}
-use Rattle.ist_tree.specs.FreezeSteps.{GoesIdle, HasBegun, HasMet, HasNoRow, IsBelowAnchor, WasTop}
+use Rattle.ist_tree.specs.FreezeSteps.{GoesIdle, HasStarted, HasMet, HasNoRow, IsBelowAnchor, WasTop}
 use Rattle.ist_rows.specs.Going.{IsReady}
 use Rattle.ist_tree.proofs.RowAtLimitLemmas.{ever_here}
 use Rattle.ist_tree.proofs.FreezeGoingLemmas.{all_but, below_grows, frozen_more, plain_idle}
@@ -202,7 +202,7 @@ empty_no_row row e = cc
 
 -- one that was started
 pub begun_met : (old new : Caller) (target rebuild : ℕ)
-    → WasTop old.token.view old.token.view.log target → HasBegun old new target (Some rebuild)
+    → WasTop old.token.view old.token.view.log target → HasStarted old new target (Some rebuild)
     → HasMet old new (Rebuilt rebuild target)
 begun_met old new target rebuild top b =
     record {

@@ -13,7 +13,7 @@ use Rattle.ist_mark.specs.Marking.{MayMark, Marks}
 use Rattle.ist_mark.proofs.SubtreeLemmas.{marks_keep}
 use Rattle.ist_rebuild.specs.declared.answers.Helped.{Helped}
 use Rattle.ist_rebuild.specs.declared.answers.Helped.TheVariants.{ParentMarked, Replaced}
-use Rattle.ist_rebuild.specs.Going.{Serves}
+use Rattle.ist_rebuild.specs.Going.{ServesRebuild}
 use Rattle.ist_rebuild.specs.Helping.{IsHelpRefused, IsLeftToParent}
 use Rattle.ist_rows.proofs.GoneLemmas.{keeping_installs_none, ready_more}
 use Rattle.ist_rebuild.proofs.EventLemmas.{marks_serve}
@@ -67,7 +67,7 @@ pub target_froze : (old : Caller) (token : TokenFace) (new : Caller) (words rebu
     → WentOn (Marks token.view target) old.token.view token.view
     → IsFinishedWith (now token.view) target keys
     → StaysReady Rebuilds (record old { token = token }) new
-    → WentOn Serves token.view new.token.view → (answer : Result Helped Full)
+    → WentOn ServesRebuild token.view new.token.view → (answer : Result Helped Full)
     → (refused : Option Full) → refused ≡ result_err answer
     → (answer ≡ Ok Replaced → IsReplaced (now new.token.view) rebuild)
     → (answer ≡ Ok ParentMarked → IsLeftToParent (now new.token.view) rebuild)
@@ -81,11 +81,11 @@ target_froze old token new words rebuild target keys ready below went f on serve
           (marked old token target ready went) on;
       root_is = refl;
       finished = finished_with_grows (now token.view) (now new.token.view)
-          (went_grow Serves token.view new.token.view serves) target keys f;
+          (went_grow ServesRebuild token.view new.token.view serves) target keys f;
       done = λ unrefused but.
           all_done old.number old.token.view new.token.view ready.caller.mine ready.quiet.resolved
-          (went_more Serves old.token.view token.view new.token.view
-          (went_all (Marks token.view target) Serves (marks_serve token.view target) old.token.view
+          (went_more ServesRebuild old.token.view token.view new.token.view
+          (went_all (Marks token.view target) ServesRebuild (marks_serve token.view target) old.token.view
           token.view went) serves)
           rebuild but (helped answer refl (sym is ∙ unrefused));
       replaced = λ unrefused. alone (helped answer refl (sym is ∙ unrefused));
@@ -99,7 +99,7 @@ target_froze old token new words rebuild target keys ready below went f on serve
     alone (inl k) = k
     alone (inr l) =
         let b = below_grows (now token.view) (now new.token.view)
-        (went_grow Serves token.view new.token.view serves) rebuild
+        (went_grow ServesRebuild token.view new.token.view serves) rebuild
         (below_grows (now old.token.view) (now token.view)
         (went_grow (Marks token.view target) old.token.view token.view went) rebuild below) in
         let one = same_rebuild ((now new.token.view).pieces rebuild) l.row b.row l.published b.published
@@ -118,6 +118,6 @@ target_froze old token new words rebuild target keys ready below went f on serve
     cause (Ok h) k = tt
     cause (Err full) k =
         record {
-          short = short_now Serves token.view words full new.token.view k.short;
+          short = short_now ServesRebuild token.view words full new.token.view k.short;
           asked = k.asked;
         }

@@ -30,7 +30,7 @@ use Rattle.ist_layout.specs.declared.references.Ref.TheVariants.{Inner}
 use Rattle.laws_links.proofs.FormLemmas.{finished_with_grows}
 use Rattle.laws_links.proofs.FinishedLeafLemmas.{finished_leaves}
 use Rattle.ist_tree.specs.declared.freezing.Frozen.{Frozen}
-use Rattle.ist_tree.specs.Freezing.{HasFrozenPairs, HasItsPairs, IsFrozen, IsStill, WasFrozen, all_keys, no_key, one_key}
+use Rattle.ist_tree.specs.Freezing.{HasFrozenPairs, HasItsPairs, IsFrozenIn, IsStill, WasFrozen, all_keys, no_key, one_key}
 use Rattle.laws_histories.proofs.PositionOnLemmas.{map_at_on}
 use Rattle.ist_tree.proofs.FindingLemmas.{changes_rise}
 
@@ -47,8 +47,8 @@ still_stays t u g _ _ (all_keys base keys f) =
 
 -- so a frozen tree stays frozen
 pub frozen_stays : (pairs : List Pair) (words : ℕ) (earlier log : Log) → Lawful pairs words log
-    → GoesOn earlier log → (frozen : Frozen) → IsFrozen pairs words earlier frozen
-    → IsFrozen pairs words log frozen
+    → GoesOn earlier log → (frozen : Frozen) → IsFrozenIn pairs words earlier frozen
+    → IsFrozenIn pairs words log frozen
 frozen_stays pairs words earlier log l on frozen f =
     still_stays (state_of pairs words earlier) (state_of pairs words log)
     (grow_between pairs words earlier log l.enabled on) (ref_meant frozen.root) frozen.keys f
@@ -74,7 +74,7 @@ still_leaves_stay pairs words earlier log l on _ _ (all_keys base keys f) leaves
 -- so with its pairs
 pub frozen_pairs_stay : (pairs : List Pair) (words : ℕ) (earlier log : Log)
     → Lawful pairs words log → GoesOn earlier log → (frozen : Frozen) (found : List Pair)
-    → IsFrozen pairs words earlier frozen → HasFrozenPairs pairs words earlier frozen found
+    → IsFrozenIn pairs words earlier frozen → HasFrozenPairs pairs words earlier frozen found
     → HasFrozenPairs pairs words log frozen found
 frozen_pairs_stay pairs words earlier log l on frozen found f h =
     record {
@@ -137,7 +137,7 @@ pairs_rise leaves rise =
 
 -- a frozen tree has pairs
 pub has_its_pairs : (pairs : List Pair) (words : ℕ) (log : Log) → Lawful pairs words log
-    → (frozen : Frozen) → IsFrozen pairs words log frozen → HasItsPairs pairs words log frozen
+    → (frozen : Frozen) → IsFrozenIn pairs words log frozen → HasItsPairs pairs words log frozen
 has_its_pairs pairs words log l frozen f =
     let it = still_leaves pairs words log l (ref_meant frozen.root) frozen.keys f in
     record {
@@ -188,7 +188,7 @@ pub top_was_frozen : (pairs : List Pair) (words : ℕ) (log : Log) → Lawful pa
     → (frozen : Frozen)
     → logical (state_of pairs words log).pieces (state_of pairs words log).anchor
     ≡ Some (ref_meant frozen.root)
-    → IsFrozen pairs words log frozen → WasFrozen pairs words log log frozen
+    → IsFrozenIn pairs words log frozen → WasFrozen pairs words log log frozen
 top_was_frozen pairs words log l frozen reads f =
     let t = state_of pairs words log in
     let all = contents_at pairs words l.opens log l.enabled in

@@ -27,7 +27,7 @@ use Rattle.ist_rule.specs.Learning.{now}
 use Rattle.ist_rule.specs.Rule.{IsSound}
 use Rattle.ist_rule.proofs.WentOnLemmas.{later_by-goes_on, went_grow, went_lawful, went_now}
 use Rattle.ist_dcss.specs.Helping as dcss
-use Rattle.ist_rebuild.specs.Going.{Serves}
+use Rattle.ist_rebuild.specs.Going.{ServesRebuild}
 use Rattle.ist_rebuild.specs.Helping.{IsLeftToParent}
 use Rattle.ist_rebuild.specs.Starting.{IsStartedAt, StoodInstead, StartsAreDoneBut}
 use Rattle.ist_tree.specs.Working.{IsShut}
@@ -75,13 +75,13 @@ left_is_shut P v w went rebuild parent index target s l =
 
 -- if a rebuild is done after its help, all starts of the caller are, if the others were
 pub all_done : (number : ℕ) (v w : View) → v.who ≡ CallerOf number → IsResolved v number
-    → WentOn Serves v w → (rebuild : ℕ) → StartsAreDoneBut (now v) number rebuild
+    → WentOn ServesRebuild v w → (rebuild : ℕ) → StartsAreDoneBut (now v) number rebuild
     → IsReplaced (now w) rebuild ⊎ IsLeftToParent (now w) rebuild
     → StartsAreDone (now w) number
 all_done number v w mine resolved went rebuild but done base change e own kind said other to =
-    let lawful = went_lawful Serves v w went in
-    let now_is = went_now Serves v w went in
-    let old = own_start_was Serves number (serves_start_none number) v w mine resolved went base
+    let lawful = went_lawful ServesRebuild v w went in
+    let now_is = went_now ServesRebuild v w went in
+    let old = own_start_was ServesRebuild number (serves_start_none number) v w mine resolved went base
     change e own kind in
     ⊎_elim
     (λ same. subst (IsDoneStart (now w) change) (sym same)

@@ -11,13 +11,13 @@ use Rattle.ist_rows.specs.declared.callers.Caller.{Caller}
 use Rattle.ist_rows.specs.Going.{IsReady}
 use Rattle.ist_tree.specs.declared.freezing.Site.TheVariants.{Still}
 use Rattle.ist_tree.specs.Freezing.{no_key}
-use Rattle.ist_tree.specs.FreezeSteps.{HasMet, IsTopRebuild, IsTopRow}
+use Rattle.ist_tree.specs.FreezeSteps.{HasMet, IsTopRebuild, IsAnchorsRow}
 use Rattle.ist_tree.proofs.FreezeLookLemmas.{empty_no_row, leaf_no_row, leaf_still, looked_still, rebuild_below, rebuild_started, rebuild_top, row_held, row_may_start, row_top, still_top}
 
 module _ (who : Caller) (s : IsSound who.token.view) (word : ℕ)
     (holds : SlotHolds (now who.token.view) anchor 0 word) where
   -- an inner row that the word names is the anchor's child
-  pub top_row : (target : ℕ) → ref_of word ≡ Some (InnerAt target) → IsTopRow who.token.view target
+  pub top_row : (target : ℕ) → ref_of word ≡ Some (InnerAt target) → IsAnchorsRow who.token.view target
   top_row target is =
       record {
         top = row_top who.token.view s word holds target is;

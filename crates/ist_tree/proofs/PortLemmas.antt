@@ -13,7 +13,7 @@ use Rattle.ist_updates.specs.Asking.{command_for}
 use Rattle.ist_tree.specs.Calls.{HasSeenMore}
 use Rattle.ist_tree.specs.Faces.{PassFace, TreeFace}
 use Rattle.ist_tree.specs.Insides.{IsPort}
-use Rattle.ist_tree.specs.Refusals.{IsAskedIn, IsForNode, IsRefused, IsRefusedCall, LeavesTooFew, MayBeAsked, WasRefused, for_leaf, for_pair, for_put, for_rebuild, for_remove}
+use Rattle.ist_tree.specs.Refusals.{IsAskedIn, IsForNode, IsRefused, IsRefusedCall, LeavesTooFew, MayBeAsked, PassWasRefused, for_leaf, for_pair, for_put, for_rebuild, for_remove}
 use Rattle.ist_tree.proofs.RefusalLemmas.{puts_rise}
 
 -- the size of a node is still one for a pass that has seen more
@@ -31,8 +31,8 @@ node_more p q asked m n =
     }
 
 -- a refusal that was met before was met by a pass that has seen more
-pub refused_more : (p q : PassFace) (said : Refused) → HasSeenMore p q → WasRefused p said
-    → WasRefused q said
+pub refused_more : (p q : PassFace) (said : Refused) → HasSeenMore p q → PassWasRefused p said
+    → PassWasRefused q said
 refused_more p q said m r =
     record {
       update = r.update;
@@ -70,7 +70,7 @@ asked_then p q key value asked (for_rebuild met a help) =
 -- a refusal of this call
 pub refused_now : (p q : PassFace) (key : ℕ) (value : Option ℕ) (command : Command) (full : Full)
     → HasSeenMore p q → ((k : ℕ) → command ≢ Get k) → command ≡ command_for key value
-    → IsRefused p q key value full → WasRefused q (refusal command full)
+    → IsRefused p q key value full → PassWasRefused q (refusal command full)
 refused_now p q key value command full m update is r =
     record {
       update = update;
@@ -100,7 +100,7 @@ pub port_more : (tree : TreeFace) (p q : PassFace) (said : Option Refused) → H
 port_more tree p q said m i =
     record { same_tree = m.tree ∙ i.same_tree; cause = keep said i.cause }
   where
-    keep : (o : Option Refused) → IfSome o (WasRefused p) → IfSome o (WasRefused q)
+    keep : (o : Option Refused) → IfSome o (PassWasRefused p) → IfSome o (PassWasRefused q)
     keep None c = c
     keep (Some r) c = refused_more p q r m c
 
@@ -108,7 +108,7 @@ port_more tree p q said m i =
 pub answer_refused : {A : Type 0} (answer : Result A Full) (p q : PassFace) (key : ℕ)
     (value : Option ℕ) (command : Command) → HasSeenMore p q → ((k : ℕ) → command ≢ Get k)
     → command ≡ command_for key value → IfErr answer (λ full. IsRefused p q key value full)
-    → IfErr answer (λ full. WasRefused q (refusal command full))
+    → IfErr answer (λ full. PassWasRefused q (refusal command full))
 answer_refused (Ok a) p q key value command m update is r = tt
 answer_refused (Err full) p q key value command m update is r =
     refused_now p q key value command full m update is r

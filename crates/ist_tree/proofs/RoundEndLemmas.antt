@@ -11,7 +11,7 @@ use Rattle.ist_tree.specs.Calls.{AddsCall}
 use Rattle.ist_tree.specs.DueRows.{none_came}
 use Rattle.ist_tree.specs.Faces.{PassFace, changes_seen}
 use Rattle.ist_tree.specs.Rounds.{HasLetGo, HasNoEffect}
-use Rattle.ist_tree.specs.Updates.{HasAnswered, HasMetAt, HasMissedAt, HasRun, HasUpdated, HasWorked, IsBetweenRounds, IsTurnedAway, OnlyFinds}
+use Rattle.ist_tree.specs.Updates.{HasAnswered, HasMetAt, HasMissedAt, HasRunRounds, HasUpdated, HasWorked, IsBetweenRounds, IsTurnedAway, OnlyFinds}
 use Rattle.ist_tree.proofs.FewChangesLemmas.{round_smaller}
 use Rattle.ist_tree.proofs.LookedLemmas.{idle_keeps}
 use Rattle.ist_tree.proofs.RoundLemmas.{adds_from, counted_from, due_from, idle_from, keeps_from, let_go_from, let_go_none, nowhere_from, refused_from, seen_from, starts_from}
@@ -25,7 +25,7 @@ rounds_begin p lawful =
 -- a round began at the second pass, and its update ended at the third
 module _ (p m n : PassFace) (r : IsBetweenRounds p m) (w : HasWorked m n) where
   -- what holds however the update ended
-  pub run_taken : HasRun p n
+  pub run_taken : HasRunRounds p n
   run_taken =
       record {
         seen = seen_from p m r.let_go n w.seen;
@@ -70,7 +70,7 @@ module _ (p m n : PassFace) (r : IsBetweenRounds p m) (w : HasWorked m n) where
     idle = idle_from p n so_far q f.idle
 
     -- what holds however the find ended
-    pub run_found : HasRun p q
+    pub run_found : HasRunRounds p q
     run_found =
         record {
           seen = idle.seen;

@@ -12,7 +12,7 @@ use Rattle.laws_histories.proofs.ChangeLemmas.{changes_rise}
 use Rattle.ist_rule.proofs.LaterLemmas.{goes_on_more}
 use Rattle.ist_tree.specs.Calls.{AddsCall, HasSeenMore}
 use Rattle.ist_updates.specs.Counting.{CountedNowhere}
-use Rattle.ist_tree.specs.DueRows.{CameDue, CountsNowhere, HasCounted, IsTopmostDue, LeavesNoneDue, StartsOnlyDue, is_closed, none_came, was_refused}
+use Rattle.ist_tree.specs.DueRows.{CameDue, CountsNowhere, HasCountedInCall, IsTopmostDue, LeavesNoneDue, StartsOnlyDue, is_closed, none_came, was_refused}
 use Rattle.ist_tree.specs.Faces.{PassFace}
 use Rattle.ist_tree.specs.Refusals.{IsRefused, KeepsRowRefusal}
 use Rattle.ist_tree.specs.Rounds.{HasLetGo, HasNoEffect}
@@ -49,7 +49,7 @@ module _ (p : PassFace) (seen : Log) (loaded searches : ℕ) (g : GoesOn p.seen 
             record { tree = l.tree; seen = goes_on_more l.seen g; stamp = l.stamp } h;
       }
 
-  counted_since : (command : Command) → HasCounted m q command → HasCounted p q command
+  counted_since : (command : Command) → HasCountedInCall m q command → HasCountedInCall p q command
   counted_since command c =
       record {
         base = c.base;
@@ -168,9 +168,9 @@ module _ (p m : PassFace) (h : HasLetGo p m) where
         (back (λ (x : PassFace). AddsCall x q command reply) a)
 
     -- what the second part counted is counted since the first part
-    pub counted_from : (command : Command) → HasCounted m q command → HasCounted p q command
+    pub counted_from : (command : Command) → HasCountedInCall m q command → HasCountedInCall p q command
     counted_from command c =
-        counted_since p m.seen m.loaded m.searches g q command (back (λ (x : PassFace). HasCounted x q command) c)
+        counted_since p m.seen m.loaded m.searches g q command (back (λ (x : PassFace). HasCountedInCall x q command) c)
 
     -- if the second part leaves no row due, none is left due since the first part
     pub due_from : Lawful m.tree.start m.tree.words m.seen → GoesOn m.seen q.seen

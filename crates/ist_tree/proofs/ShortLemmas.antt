@@ -20,7 +20,7 @@ use Rattle.ist_core.proofs.SpendingLemmas.{words_are_spent}
 use Rattle.ist_rule.specs.declared.view.View.{View}
 use Rattle.ist_rule.specs.Learning.{now}
 use Rattle.ist_rule.specs.Rule.{IsSound}
-use Rattle.ist_rebuild.specs.Going.{Begins, Serves}
+use Rattle.ist_rebuild.specs.Going.{Begins, ServesRebuild}
 use Rattle.ist_rows.specs.Rows.{RanShort}
 use Rattle.ist_rebuild.specs.Helping.{IsHelpRefused}
 use Rattle.ist_rebuild.specs.Starting.{IsStartRefused, IsStartedAt, StoodInstead}
@@ -49,12 +49,12 @@ start_refused s v target words full w r =
 
 -- helping the rebuild that was started was refused
 pub own_refused : (s : Snapshot) (v w : View) (rebuild parent index target words : ℕ) (full : Full)
-    → IsStartedAt (now v) rebuild parent index target → WentOn Serves v w
+    → IsStartedAt (now v) rebuild parent index target → WentOn ServesRebuild v w
     → IsHelpRefused v rebuild words full w → IsDueRefused s w target words full
 own_refused s v w rebuild parent index target words full at went r =
-    let grow = went_grow Serves v w went in
+    let grow = went_grow ServesRebuild v w went in
     record {
-      short = short_now Serves v words full w r.short;
+      short = short_now ServesRebuild v words full w r.short;
       asked = for_own rebuild (started_grows (now v) (now w) grow rebuild at.started)
           (target_grows (now v) (now w) grow rebuild target
           record { row = at.row; published = at.published; target_is = at.target_is })
@@ -64,13 +64,13 @@ own_refused s v w rebuild parent index target words full at went r =
 -- helping another rebuild, which stood in the slot, was refused
 pub other_refused : (v w : View) → IsSound v → (parent index target word rebuild words : ℕ)
     (full : Full) → StoodInstead v parent index target word → ref_of word ≡ Some (RebuildAt rebuild)
-    → WentOn Serves v w → IsHelpRefused v rebuild words full w
+    → WentOn ServesRebuild v w → IsHelpRefused v rebuild words full w
     → IsDueRefused (now v) w target words full
 other_refused v w s parent index target word rebuild words full stood is went r =
     record {
-      short = short_now Serves v words full w r.short;
+      short = short_now ServesRebuild v words full w r.short;
       asked = for_other rebuild
-          (started_grows (now v) (now w) (went_grow Serves v w went) rebuild
+          (started_grows (now v) (now w) (went_grow ServesRebuild v w went) rebuild
           (other_started v s parent index target word rebuild stood is))
           (λ replaced.
           read_unreplaced v.start v.words s.lawful.opens v.log s.lawful.enabled rebuild named.row

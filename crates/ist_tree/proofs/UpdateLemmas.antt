@@ -33,7 +33,7 @@ use Rattle.ist_rule.proofs.LaterLemmas.{between, goes_on_length, goes_on_more}
 use Rattle.ist_rows.specs.declared.callers.Caller.{Caller}
 use Rattle.ist_updates.specs.Counting.{CameToLimit, IsCounted}
 use Rattle.ist_tree.specs.Calls.{AddsCall}
-use Rattle.ist_tree.specs.DueRows.{CameDue, HasCounted, IsClosedAt, IsTopmostDue, LeavesNoneDue, first_refusal, is_closed, none_came, was_refused}
+use Rattle.ist_tree.specs.DueRows.{CameDue, HasCountedInCall, IsClosedAt, IsTopmostDue, LeavesNoneDue, first_refusal, is_closed, none_came, was_refused}
 use Rattle.ist_tree.specs.Faces.{PassFace}
 use Rattle.ist_tree.specs.Insides.{face_as, pass_face}
 use Rattle.ist_tree.specs.Refusals.{IsRowRefused}
@@ -75,7 +75,7 @@ module _ (who began new : Caller) (token : TokenFace) (command : Command)
 
   -- what the work counted is counted in the call
   pub has_counted : IsCounted b.start b.words b.log w.log began.number command
-      → HasCounted before behind command
+      → HasCountedInCall before behind command
   has_counted c =
       counted_on v.start v.words v.log b.log w.log x.log (way.v_to_b who began new token command it)
       (way.w_to_x who began new token command it) (way.lawful_x who began new token command it)

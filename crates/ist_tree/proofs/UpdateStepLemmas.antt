@@ -21,7 +21,7 @@ use Rattle.ist_rule.proofs.WentOnLemmas.{later_by-goes_on}
 use Rattle.ist_rows.specs.declared.callers.Caller.{Caller}
 use Rattle.ist_updates.specs.Asking.{MayEnd}
 use Rattle.ist_tree.specs.Calls.{AddsCall, HasSeenMore}
-use Rattle.ist_tree.specs.DueRows.{HasCounted, LeavesNoneDue, StartsOnlyDue}
+use Rattle.ist_tree.specs.DueRows.{HasCountedInCall, LeavesNoneDue, StartsOnlyDue}
 use Rattle.ist_tree.specs.Faces.{PassFace}
 use Rattle.ist_tree.specs.Insides.{IsPass, IsPassWith, face_as, pass_face}
 use Rattle.ist_tree.specs.Refusals.{IsRowRefused, KeepsRowRefusal}
@@ -112,7 +112,7 @@ pub record UpdateEnds (old : PassFace) (new : Caller) (token : TokenFace) (q : O
   pub added : AddsCall old (face_as token new.number q) command reply
   -- a command that took effect is counted at each row on the chain of its change
   pub counted : makes_entry command reply ≡ true
-      → HasCounted old (face_as token new.number q) command
+      → HasCountedInCall old (face_as token new.number q) command
   pub due : LeavesNoneDue old (face_as token new.number q)
   pub refused : KeepsRowRefusal old (face_as token new.number q)
 

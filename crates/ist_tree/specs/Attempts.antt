@@ -36,7 +36,7 @@ pub record HelpsOther (old new : Caller) (due : Due) (words word : ℕ)
 
 -- the caller tried once to rebuild the row: if it says that this was the last attempt, the row or
 -- its parent isn't open, and otherwise the table came further
-pub record Tries (old new : Caller) (due : Due) (words : ℕ) (tried : Result Bool Full)
+pub record TriesOnce (old new : Caller) (due : Due) (words : ℕ) (tried : Result Bool Full)
     : Type 0 where
   pub on : GoesFor old new due.target
   pub last : IfOk tried (λ last. IsLastFor last (now new.token.view) due.parent due.target)

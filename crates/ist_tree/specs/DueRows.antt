@@ -25,8 +25,8 @@ use Rattle.ist_tree.specs.Refusals.{IsRowRefused}
 
 -- in the call the pass has put or removed as the command says, and counted that at each row on the
 -- chain of its change
-abbrev pub HasCounted : PassFace → PassFace → Command → Type 0
-HasCounted p q command = IsCounted p.tree.start p.tree.words p.seen q.seen p.number command
+abbrev pub HasCountedInCall : PassFace → PassFace → Command → Type 0
+HasCountedInCall p q command = IsCounted p.tree.start p.tree.words p.seen q.seen p.number command
 
 -- the pass counted at no node in the call
 abbrev pub CountsNowhere : PassFace → PassFace → Type 0

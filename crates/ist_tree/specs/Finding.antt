@@ -10,7 +10,7 @@ use Rattle.ist_find.specs.Searches.{HasFewLoads, HasFound, HasSearched}
 
 -- a get of the key began after the first view; its search ended by the second view at this slot,
 -- with a value that the map had for the key at some position since the get began
-pub record Finds (v w : View) (key : ℕ) (found : Found) : Type 0 where
+pub record FindsInCall (v w : View) (key : ℕ) (found : Found) : Type 0 where
   pub sound : IsSound v
   pub began : View
   pub begun : Turned v (beginning v (Some (Get key))) began

@@ -58,7 +58,7 @@ pub record WasTop (v : View) (log : Log) (target : ℕ) : Type 0 where
   pub child : IsChild (state_of v.start v.words at) anchor 0 target
 
 -- an inner row is the anchor's child, and a rebuild of it may be started
-pub record IsTopRow (v : View) (target : ℕ) : Type 0 where
+pub record IsAnchorsRow (v : View) (target : ℕ) : Type 0 where
   pub top : WasTop v v.log target
   pub may_start : MayStart v anchor 0 target
   pub held : HeldInnerRow v.start v.words v.log v.log
@@ -104,10 +104,10 @@ MayHaveMet old new (Some site) = HasMet old new site
 MayHaveMet old new None = GoesIdle old new
 
 -- the caller has started this rebuild of the target, or none
-abbrev pub HasBegun : Caller → Caller → ℕ → Option ℕ → Type 0
-HasBegun old new target (Some rebuild) = StaysReady Rebuilds old new
+abbrev pub HasStarted : Caller → Caller → ℕ → Option ℕ → Type 0
+HasStarted old new target (Some rebuild) = StaysReady Rebuilds old new
     × IsRebuildOf (now new.token.view) rebuild target × KeepsDoneBut old new (Some rebuild)
-HasBegun old new target None = GoesIdle old new
+HasStarted old new target None = GoesIdle old new
 
 -- ---- what it results in
 

@@ -31,8 +31,8 @@ pub data IsStill (t : Snapshot) : Ref → ℕ → Type 0 where
   all_keys : (base keys : ℕ) → IsFinishedWith t base keys → IsStill t (InnerAt base) keys
 
 -- the tree is frozen in the log
-abbrev pub IsFrozen : List Pair → ℕ → Log → Frozen → Type 0
-IsFrozen pairs words log frozen =
+abbrev pub IsFrozenIn : List Pair → ℕ → Log → Frozen → Type 0
+IsFrozenIn pairs words log frozen =
     IsStill (state_of pairs words log) (ref_meant frozen.root) frozen.keys
 
 -- these are the pairs of the frozen tree in this log: the pairs of the leaves below its root
@@ -48,15 +48,15 @@ pub record HasFrozenPairs (pairs : List Pair) (words : ℕ) (log : Log) (frozen 
 abbrev pub FrozenTreesStay : Type 0
 FrozenTreesStay =
     (pairs : List Pair) (words : ℕ) (earlier log : Log) → Lawful pairs words log
-    → GoesOn earlier log → (frozen : Frozen) → IsFrozen pairs words earlier frozen
-    → IsFrozen pairs words log frozen
+    → GoesOn earlier log → (frozen : Frozen) → IsFrozenIn pairs words earlier frozen
+    → IsFrozenIn pairs words log frozen
 
 -- a frozen tree keeps its pairs in each lawful log that goes on
 abbrev pub FrozenPairsStay : Type 0
 FrozenPairsStay =
     (pairs : List Pair) (words : ℕ) (earlier log : Log) → Lawful pairs words log
     → GoesOn earlier log → (frozen : Frozen) (found : List Pair)
-    → IsFrozen pairs words earlier frozen → HasFrozenPairs pairs words earlier frozen found
+    → IsFrozenIn pairs words earlier frozen → HasFrozenPairs pairs words earlier frozen found
     → HasFrozenPairs pairs words log frozen found
 
 -- the frozen tree has a list of pairs, one for each of its keys, strictly increasing by key
@@ -70,7 +70,7 @@ pub record HasItsPairs (pairs : List Pair) (words : ℕ) (log : Log) (frozen : F
 abbrev pub FrozenTreesHavePairs : Type 0
 FrozenTreesHavePairs =
     (pairs : List Pair) (words : ℕ) (log : Log) → Lawful pairs words log → (frozen : Frozen)
-    → IsFrozen pairs words log frozen → HasItsPairs pairs words log frozen
+    → IsFrozenIn pairs words log frozen → HasItsPairs pairs words log frozen
 
 -- a frozen tree has at most one list of pairs
 abbrev pub FrozenPairsAreOne : Type 0
@@ -85,14 +85,14 @@ FrozenPairsAreOne =
 -- fewer than the earlier log has
 pub record WasFrozen (pairs : List Pair) (words : ℕ) (earlier log : Log) (frozen : Frozen)
     : Type 0 where
-  pub frozen_is : IsFrozen pairs words log frozen
+  pub frozen_is : IsFrozenIn pairs words log frozen
   pub found : List Pair
   pub has : HasFrozenPairs pairs words log frozen found
   pub were : WereThePairs pairs words earlier log found
 
 -- the tree is frozen in what the pass has seen
 abbrev pub IsFrozenFor : PassFace → Frozen → Type 0
-IsFrozenFor p frozen = IsFrozen p.tree.start p.tree.words p.seen frozen
+IsFrozenFor p frozen = IsFrozenIn p.tree.start p.tree.words p.seen frozen
 
 -- the tree was frozen in the call: its pairs are the map's pairs after some number of changes, no
 -- fewer than the pass had seen before, and no more than it has seen then

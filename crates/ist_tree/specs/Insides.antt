@@ -22,7 +22,7 @@ use Rattle.ist_rows.specs.declared.callers.Caller.{Caller}
 use Rattle.ist_rows.specs.Rows.{IsCaller}
 use Rattle.ist_rows.specs.Building.{HasRefused}
 use Rattle.ist_tree.specs.Faces.{TreeFace, PassFace, MakerFace}
-use Rattle.ist_tree.specs.Refusals.{WasRefused}
+use Rattle.ist_tree.specs.Refusals.{PassWasRefused}
 
 -- the tree on whose table the token steps
 abbrev pub tree_of : TokenFace → TreeFace
@@ -130,4 +130,4 @@ refusal_in said = refusal said.0 said.1
 -- the port's pass is of its tree, and its last refusal is one of this pass
 pub record IsPort (tree : TreeFace) (pass : PassFace) (refused : Option Refused) : Type 0 where
   pub same_tree : pass.tree ≡ tree
-  pub cause : IfSome refused (WasRefused pass)
+  pub cause : IfSome refused (PassWasRefused pass)

@@ -159,7 +159,7 @@ MayBeAsked p asked =
 
 -- a put or a remove of the pass was refused with these numbers, after a log that the pass has seen:
 -- it began when the pass had seen what `began` says, and ended when it had seen what `ended` says
-pub record WasRefused (p : PassFace) (said : Refused) : Type 0 where
+pub record PassWasRefused (p : PassFace) (said : Refused) : Type 0 where
   pub update : (key : ℕ) → said.command ≢ Get key
   pub at : Log
   pub until : GoesOn at p.seen

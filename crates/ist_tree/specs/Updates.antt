@@ -8,7 +8,7 @@ use Rattle.ist_core.specs.Lawful.{Lawful}
 use Rattle.ist_core.specs.Standing.{makes_entry}
 use Rattle.ist_updates.specs.declared.updates.When.{When}
 use Rattle.ist_tree.specs.Calls.{AddsCall, BeginsFewWalks, HasSeenMore}
-use Rattle.ist_tree.specs.DueRows.{CountsNowhere, HasCounted, LeavesNoneDue, StartsOnlyDue}
+use Rattle.ist_tree.specs.DueRows.{CountsNowhere, HasCountedInCall, LeavesNoneDue, StartsOnlyDue}
 use Rattle.ist_tree.specs.Faces.{HasItsCalls, PassFace}
 use Rattle.ist_tree.specs.Refusals.{HasStartsDone, IsRefused, KeepsRowRefusal}
 use Rattle.ist_tree.specs.Rounds.{BeginsFewRounds, HadMissed, HadValue, HasLetGo, HasNoEffect, PaysForWalks}
@@ -28,7 +28,7 @@ pub record HasWorked (p q : PassFace) : Type 0 where
 -- counted; and it left no row due
 pub record HasUpdated (p q : PassFace) (command : Command) (reply : Option ℕ) : Type 0 where
   pub added : AddsCall p q command reply
-  pub counted : makes_entry command reply ≡ true → HasCounted p q command
+  pub counted : makes_entry command reply ≡ true → HasCountedInCall p q command
   pub due : LeavesNoneDue p q
 
 -- the update was refused: the pass made no call, counted nowhere and met no refusal of a rebuild
@@ -67,7 +67,7 @@ pub record IsBetweenRounds (p q : PassFace) : Type 0 where
   pub paid : PaysForWalks p q
 
 -- however the rounds end, the same holds as of one update, but for the number of walks
-pub record HasRun (p q : PassFace) : Type 0 where
+pub record HasRunRounds (p q : PassFace) : Type 0 where
   pub seen : HasSeenMore p q
   pub starts : StartsOnlyDue p q
   pub few_walks : BeginsFewRounds p q
@@ -80,6 +80,6 @@ pub record HasAnswered (p q : PassFace) (key : ℕ) (command : Command) (expecte
     : Type 0 where
   pub took : reply ≡ expected → AddsCall p q command reply
   pub got : reply ≢ expected → AddsCall p q (Get key) reply
-  pub counted : reply ≡ expected → makes_entry command reply ≡ true → HasCounted p q command
+  pub counted : reply ≡ expected → makes_entry command reply ≡ true → HasCountedInCall p q command
   pub due : LeavesNoneDue p q
   pub idle : reply ≢ expected → CountsNowhere p q

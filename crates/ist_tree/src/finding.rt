@@ -1,7 +1,7 @@
 //! The first half of a find: its call begins, and its key is searched for.
 ghost use Rattle.std.specs.Prelude.{◌≡◌};
 ghost use Rattle.ist_rule.specs.Conditions.{CanBegin};
-ghost use Rattle.ist_tree.specs.Finding.{Finds};
+ghost use Rattle.ist_tree.specs.Finding.{FindsInCall};
 
 use ist_core::Command;
 use ist_find::{Found, find_from_anchor};
@@ -12,7 +12,7 @@ pub(crate) fn begin_find(table: &TreeTable, token: &mut TreeToken, key: u64) -> 
     requires same_table { token.old.table ≡ table.now.table }
     requires may_begin { CanBegin token.old.view }
     ensures same_table { token.new.table ≡ token.old.table }
-    ensures found { Finds token.old.view token.new.view key result }
+    ensures found { FindsInCall token.old.view token.new.view key result }
 {
     know(token);
     begin_call(table, token, Some(Command::Get { key }));

@@ -10,7 +10,7 @@ ghost use Rattle.ist_layout.specs.Meanings.{ref_meant};
 ghost use Rattle.ist_rule.specs.Faces.{word_count_of};
 ghost use Rattle.ist_rule.specs.Learning.{now, GoesOnTo, Turned, beginning};
 ghost use Rattle.ist_rule.specs.Rule.{IsSound};
-ghost use Rattle.ist_tree.specs.FreezeSteps.{IsRebuildOf, IsTopRebuild, IsTopRow, HasBegun, HasMet, MayHaveMet, IsFreezeStopped};
+ghost use Rattle.ist_tree.specs.FreezeSteps.{IsRebuildOf, IsTopRebuild, IsAnchorsRow, HasStarted, HasMet, MayHaveMet, IsFreezeStopped};
 ghost use Rattle.ist_tree.specs.FreezeSteps.{GoesIdle, FreezesTarget, Freezes, IsLeafNumber, IsPairOf};
 ghost use Rattle.ist_tree.specs.FreezeCalls.{FreezesAll, StopsFreeze};
 ghost use Rattle.ist_tree.specs.Calls.{HasSeenMore};
@@ -72,9 +72,9 @@ pub(crate) fn anchor_word(table: &TreeTable, token: &mut TreeToken) -> u64
 fn begin_rebuild(table: &TreeTable, who: &mut Caller, target: u32) -> Result<Option<u32>, Full>
     requires same_table { who.old.token.table ≡ table.now.table }
     requires ready { IsReady who.old }
-    requires row { IsTopRow who.old.token.view target }
+    requires row { IsAnchorsRow who.old.token.view target }
     ensures same_table { who.new.token.table ≡ table.now.table }
-    ensures begun { IfOk result (HasBegun who.old who.new target) }
+    ensures begun { IfOk result (HasStarted who.old who.new target) }
     ensures further { result ≡ Ok None → (word : ℕ) → ref_of word ≡ Some (InnerAt target)
         → SlotHolds (now who.old.token.view) anchor 0 word
         → CameFurther who.old.token.view who.new.token.view }
@@ -92,7 +92,7 @@ fn begin_rebuild(table: &TreeTable, who: &mut Caller, target: u32) -> Result<Opt
 fn met_row(table: &TreeTable, who: &mut Caller, target: u32) -> Result<Option<Site>, Full>
     requires same_table { who.old.token.table ≡ table.now.table }
     requires ready { IsReady who.old }
-    requires row { IsTopRow who.old.token.view target }
+    requires row { IsAnchorsRow who.old.token.view target }
     ensures same_table { who.new.token.table ≡ table.now.table }
     ensures met { IfOk result (MayHaveMet who.old who.new) }
     ensures further { result ≡ Ok None → (word : ℕ) → ref_of word ≡ Some (InnerAt target)

@@ -3,7 +3,7 @@ ghost use Rattle.std.specs.Prelude.{◌≡◌, ℕ, ◌+◌, ◌<◌, ◌++◌, 
 ghost use Rattle.ist_core.specs.Replies.{refusal, told};
 ghost use Rattle.ist_tree.specs.Calls.{HasSeenMore, AddsCall};
 ghost use Rattle.ist_tree.specs.Faces.{TreeFace};
-ghost use Rattle.ist_tree.specs.Refusals.{IsRefusedCall, WasRefused};
+ghost use Rattle.ist_tree.specs.Refusals.{IsRefusedCall, PassWasRefused};
 
 use crate::passes::Pass;
 use crate::trees::Tree;
@@ -16,7 +16,7 @@ fn answer(tree: &Tree, pass: &mut Pass, command: Command) -> Result<Reply, Full>
     requires same_tree { pass.old.tree ≡ tree.now }
     ensures seen { HasSeenMore pass.old pass.new }
     ensures added { IfOk result (λ reply. AddsCall pass.old pass.new command reply) }
-    ensures full { IfErr result (λ full. WasRefused pass.new (refusal command full)) }
+    ensures full { IfErr result (λ full. PassWasRefused pass.new (refusal command full)) }
     ensures cause { IfErr result (IsRefusedCall pass.old pass.new command) }
     ensures small { IfErr result (λ full. full.words < full.next + full.asked) }
     ensures calls { OnErr result (pass.new.calls ≡ pass.old.calls) }
@@ -76,7 +76,7 @@ impl<'a> TreePort<'a> {
 
     /// For proofs only: why the port's last refusal came, if it keeps one.
     pub fn know(&self)
-        ensures cause { IfSome self.now.refused (WasRefused self.now.pass) }
+        ensures cause { IfSome self.now.refused (PassWasRefused self.now.pass) }
     {
         let _ = &self.tree;
     }

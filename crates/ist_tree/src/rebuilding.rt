@@ -8,7 +8,7 @@ ghost use Rattle.ist_rule.specs.Learning.{now};
 ghost use Rattle.ist_rows.specs.Going.{IsReady};
 ghost use Rattle.ist_rebuild.specs.declared.answers.Started.TheVariants.{Yes, Other, Marked};
 ghost use Rattle.ist_rebuild.specs.Starting.{IsStartedAt, LeavesDone, MayStart, StoodInstead};
-ghost use Rattle.ist_tree.specs.Attempts.{GoesFor, HelpsOther, HelpsOwn, RebuildsRow, Tries};
+ghost use Rattle.ist_tree.specs.Attempts.{GoesFor, HelpsOther, HelpsOwn, RebuildsRow, TriesOnce};
 ghost use Rattle.ist_tree.specs.Working.{IsDueRefused, instead_of};
 
 use ist_core::Full;
@@ -111,7 +111,7 @@ fn try_due(table: &TreeTable, who: &mut Caller, due: Due) -> Result<bool, Full>
     requires ready { IsReady who.old }
     requires may_start { MayStart who.old.token.view due.parent due.index due.target }
     ensures same_table { who.new.token.table ≡ table.now.table }
-    ensures tried { Tries who.old who.new due (word_count_of table.now) result }
+    ensures tried { TriesOnce who.old who.new due (word_count_of table.now) result }
 {
     match start_due(table, who, due)? {
         Started::Yes { rebuild } => {

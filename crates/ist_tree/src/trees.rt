@@ -13,7 +13,7 @@ ghost use Rattle.ist_tree.specs.Faces.{noted, calls_in, HasItsCalls};
 ghost use Rattle.ist_tree.specs.Calls.{HasSeenMore, HasLearnt, AddsCall, BeginsFewWalks};
 ghost use Rattle.ist_tree.specs.Calls.{WeavesWith, HasLoadedFew};
 ghost use Rattle.ist_tree.specs.Closing.{ClosesWith};
-ghost use Rattle.ist_tree.specs.DueRows.{CountsNowhere, HasCounted, LeavesNoneDue, StartsOnlyDue};
+ghost use Rattle.ist_tree.specs.DueRows.{CountsNowhere, HasCountedInCall, LeavesNoneDue, StartsOnlyDue};
 ghost use Rattle.ist_tree.specs.Opening.{IsNewTree, IsFaultOf};
 ghost use Rattle.ist_tree.specs.Refusals.{HasStartsDone, IsRefused, KeepsRowRefusal};
 ghost use Rattle.ist_tree.specs.Rounds.{BeginsFewRounds};
@@ -253,7 +253,7 @@ impl Tree {
         requires same_tree { pass.old.tree ≡ self.now }
         ensures seen { HasSeenMore pass.old pass.new }
         ensures added { IfOk result (λ reply. AddsCall pass.old pass.new (Put key value) reply) }
-        ensures counted { OnOk result (HasCounted pass.old pass.new (Put key value)) }
+        ensures counted { OnOk result (HasCountedInCall pass.old pass.new (Put key value)) }
         ensures due { OnOk result (LeavesNoneDue pass.old pass.new) }
         ensures starts { StartsOnlyDue pass.old pass.new }
         ensures few_walks { BeginsFewWalks pass.old pass.new }
@@ -275,7 +275,7 @@ impl Tree {
         ensures seen { HasSeenMore pass.old pass.new }
         ensures added { IfOk result (λ reply. AddsCall pass.old pass.new (Remove key) reply) }
         ensures counted { IfOk result (λ reply. makes_entry (Remove key) reply ≡ true
-            → HasCounted pass.old pass.new (Remove key)) }
+            → HasCountedInCall pass.old pass.new (Remove key)) }
         ensures due { OnOk result (LeavesNoneDue pass.old pass.new) }
         ensures starts { StartsOnlyDue pass.old pass.new }
         ensures few_walks { BeginsFewWalks pass.old pass.new }
@@ -314,7 +314,7 @@ impl Tree {
         ensures got { IfOk result (λ reply. reply ≢ expected
             → AddsCall pass.old pass.new (Get key) reply) }
         ensures counted { IfOk result (λ reply. reply ≡ expected
-            → HasCounted pass.old pass.new (Put key value)) }
+            → HasCountedInCall pass.old pass.new (Put key value)) }
         ensures due { OnOk result (LeavesNoneDue pass.old pass.new) }
         ensures starts { StartsOnlyDue pass.old pass.new }
         ensures few_walks { BeginsFewRounds pass.old pass.new }
@@ -341,7 +341,7 @@ impl Tree {
         ensures got { IfOk result (λ reply. reply ≢ Some expected
             → AddsCall pass.old pass.new (Get key) reply) }
         ensures counted { IfOk result (λ reply. reply ≡ Some expected
-            → HasCounted pass.old pass.new (Remove key)) }
+            → HasCountedInCall pass.old pass.new (Remove key)) }
         ensures due { OnOk result (LeavesNoneDue pass.old pass.new) }
         ensures starts { StartsOnlyDue pass.old pass.new }
         ensures few_walks { BeginsFewRounds pass.old pass.new }

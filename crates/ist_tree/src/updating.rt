@@ -8,12 +8,12 @@ ghost use Rattle.ist_rule.specs.Rule.{IsSound};
 ghost use Rattle.ist_updates.specs.Asking.{command_for, IsAsked};
 ghost use Rattle.ist_updates.specs.Meeting.{IsMetBy, WasMissed};
 ghost use Rattle.ist_tree.specs.Calls.{HasSeenMore, AddsCall, BeginsFewWalks};
-ghost use Rattle.ist_tree.specs.DueRows.{CountsNowhere, HasCounted, LeavesNoneDue, StartsOnlyDue};
+ghost use Rattle.ist_tree.specs.DueRows.{CountsNowhere, HasCountedInCall, LeavesNoneDue, StartsOnlyDue};
 ghost use Rattle.ist_tree.specs.Faces.{HasItsCalls};
 ghost use Rattle.ist_tree.specs.Insides.{IsPass};
 ghost use Rattle.ist_tree.specs.Refusals.{HasStartsDone, IsRefused, KeepsRowRefusal};
 ghost use Rattle.ist_tree.specs.Rounds.{BeginsFewRounds};
-ghost use Rattle.ist_tree.specs.Updates.{HasAnswered, HasMetAt, HasMissedAt, HasRun, HasUpdated, HasWorked};
+ghost use Rattle.ist_tree.specs.Updates.{HasAnswered, HasMetAt, HasMissedAt, HasRunRounds, HasUpdated, HasWorked};
 ghost use Rattle.ist_tree.specs.Updates.{IsTurnedAway, OnlyFinds};
 ghost use Rattle.ist_tree.specs.Working.{CarriesOut, IsLetGo, IsTurnedDown, StartsDue};
 
@@ -106,7 +106,7 @@ pub(crate) fn update(
     ensures added { IfOk result (λ reply.
         AddsCall pass.old pass.new (command_for key value) reply) }
     ensures counted { IfOk result (λ reply. makes_entry (command_for key value) reply ≡ true
-        → HasCounted pass.old pass.new (command_for key value)) }
+        → HasCountedInCall pass.old pass.new (command_for key value)) }
     ensures due { OnOk result (LeavesNoneDue pass.old pass.new) }
     ensures starts { StartsOnlyDue pass.old pass.new }
     ensures few_walks { BeginsFewWalks pass.old pass.new }
@@ -201,7 +201,7 @@ fn run_rounds(
     expected: Reply,
 ) -> Result<Reply, Full>
     requires same_tree { pass.old.tree ≡ tree.now }
-    ensures run { HasRun pass.old pass.new }
+    ensures run { HasRunRounds pass.old pass.new }
     ensures answered { IfOk result
         (HasAnswered pass.old pass.new key (command_for key value) expected) }
     ensures turned_away { IfErr result (IsTurnedAway pass.old pass.new key value) }
@@ -234,7 +234,7 @@ pub(crate) fn update_if(
         → AddsCall pass.old pass.new (Get key) reply) }
     ensures counted { IfOk result (λ reply. reply ≡ expected
         → makes_entry (command_for key value) reply ≡ true
-        → HasCounted pass.old pass.new (command_for key value)) }
+        → HasCountedInCall pass.old pass.new (command_for key value)) }
     ensures due { OnOk result (LeavesNoneDue pass.old pass.new) }
     ensures starts { StartsOnlyDue pass.old pass.new }
     ensures few_walks { BeginsFewRounds pass.old pass.new }

@@ -27,7 +27,7 @@ use Rattle.ist_rows.proofs.CallerLawLemmas.{resolved_went}
 use Rattle.laws_histories.specs.Calls.{HasCalls, MadeNoEntry}
 use Rattle.laws_calls.specs.Accepting.{InstallsNoYes}
 use Rattle.laws_calls.proofs.InstalledLemmas.{installed_no_entry}
-use Rattle.ist_rebuild.specs.Going.{Serves}
+use Rattle.ist_rebuild.specs.Going.{ServesRebuild}
 use Rattle.ist_rows.specs.Going.{IsQuiet, HasGone}
 use Rattle.ist_updates.specs.Asking.{IsAsked}
 use Rattle.ist_updates.proofs.PublishLemmas.{installed_row}
@@ -85,7 +85,7 @@ no_yes_by t number earlier _ (one_more {log = log} event l (inr is)) =
 module _ (pairs : List Pair) (words : ℕ) (last : Log) (h : EachEnabled (start pairs words) last)
     (number : ℕ) where
   -- it installs finishes, which are no updates
-  finish_no_yes : (log : Log) (event : Event) → GoesOn (event ∷ log) last → Serves event
+  finish_no_yes : (log : Log) (event : Event) → GoesOn (event ∷ log) last → ServesRebuild event
       → InstallsNoYes (state_of pairs words last) number event
   finish_no_yes log (Install by base rows) until is = λ same_caller change there update.
       let enabled = enabled_before (start pairs words) (Install by base rows ∷ log) last until h in
@@ -117,7 +117,7 @@ module _ (pairs : List Pair) (words : ℕ) (last : Log) (h : EachEnabled (start 
 
   -- a caller that only helped a rebuild installed no update that was decided yes
   pub served_no_yes : (earlier log : Log) → GoesOn log last
-      → LaterBy (CallerOf number) Serves earlier log
+      → LaterBy (CallerOf number) ServesRebuild earlier log
       → GoesOnBy (InstallsNoYes (state_of pairs words last) number) earlier log
   served_no_yes earlier _ until no_more = no_more
   served_no_yes earlier _ until (one_more {log = log} event l (inl other)) =
@@ -176,15 +176,15 @@ module _ (P : Event → Type 0) (old new : Caller) (command : Command) (a : IsAs
 
 -- a caller that helped a rebuild is still asked
 pub asked_served : (old new : Caller) (command : Command) → IsAsked old command
-    → HasGone Serves old new → IsResolved new.token.view new.number → IsAsked new command
+    → HasGone ServesRebuild old new → IsResolved new.token.view new.number → IsAsked new command
 asked_served old new command a h resolved =
     let v = old.token.view in
     let w = new.token.view in
-    let lawful = went_lawful Serves v w h.went in
-    asked_still Serves old new command a h (subst (IsResolved w) h.number resolved)
+    let lawful = went_lawful ServesRebuild v w h.went in
+    asked_still ServesRebuild old new command a h (subst (IsResolved w) h.number resolved)
     (installed_no_entry v.start v.words lawful.opens v.log w.log lawful.enabled old.number
     (served_no_yes v.start v.words w.log lawful.enabled old.number v.log w.log same_log
-    (subst (λ who. LaterBy who Serves v.log w.log) a.caller.mine h.went.later))
+    (subst (λ who. LaterBy who ServesRebuild v.log w.log) a.caller.mine h.went.later))
     a.resolved)
 
 -- who is asked is in a call, and has resolved its changes

@@ -10,11 +10,11 @@ use Rattle.ist_rows.specs.declared.callers.Caller.{Caller}
 use Rattle.ist_rows.specs.Going.{HasGone}
 use Rattle.ist_rows.proofs.GoneLemmas.{loads_gone, gone_all, gone_more}
 use Rattle.ist_updates.specs.declared.plans.Aim.{Aim}
-use Rattle.ist_updates.specs.declared.plans.Plan.{Plan}
+use Rattle.ist_updates.specs.declared.plans.PlannedChange.{PlannedChange}
 use Rattle.ist_updates.specs.declared.plans.Way.{Way}
 use Rattle.ist_updates.specs.Answering.{HasCarried, HasChanged}
 use Rattle.ist_updates.specs.Asking.{IsAsked}
-use Rattle.ist_updates.specs.Changing.{Prepares, IsWay, IsWayRefused, command_by}
+use Rattle.ist_updates.specs.Changing.{Prepares, MayReplace, IsWayRefused, command_by}
 use Rattle.ist_updates.specs.Trying.{Tries}
 use Rattle.ist_updates.proofs.AskedLemmas.{asked_gone, asked_quiet}
 use Rattle.ist_updates.proofs.BehindLemmas.{behind_loads, behind_went}
@@ -64,8 +64,8 @@ module _ (old : Caller) (aim : Aim) (x : Way) (a : IsAsked old (command_by aim.k
       }
 
   -- a prepared change that was carried out
-  pub carried_changed : (words : ℕ) (mid new : Caller) (plan : Plan) (taken : Bool)
-      → IsPrepared old mid aim x plan → IsWay old.token.view aim.key aim.word x
+  pub carried_changed : (words : ℕ) (mid new : Caller) (plan : PlannedChange) (taken : Bool)
+      → IsPrepared old mid aim x plan → MayReplace old.token.view aim.key aim.word x
       → HasCarried mid plan taken new → HasChanged old aim x words (Ok taken) new
   carried_changed words mid new plan taken p room h =
       record {
@@ -98,7 +98,7 @@ module _ (old : Caller) (aim : Aim) (x : Way) (a : IsAsked old (command_by aim.k
     loads_still = still_asked mid loaded
 
     -- and the slot holds what the change may replace
-    pub loads_room : IsWay old.token.view aim.key aim.word x → IsWay token.view aim.key aim.word x
+    pub loads_room : MayReplace old.token.view aim.key aim.word x → MayReplace token.view aim.key aim.word x
     loads_room =
         way_on old.token.view token.view (goes_on_grow old.token.view token.view g) aim.key aim.word x
 
@@ -121,7 +121,7 @@ module _ (old : Caller) (aim : Aim) (x : Way) (a : IsAsked old (command_by aim.k
 
     -- a change after them is the change with them
     pub loads_changed : (words : ℕ) (r : Result Bool Full) (new : Caller)
-        → IsWay old.token.view aim.key aim.word x → HasChanged mid aim x words r new
+        → MayReplace old.token.view aim.key aim.word x → HasChanged mid aim x words r new
         → HasChanged old aim x words r new
     loads_changed words r new room h =
         record {

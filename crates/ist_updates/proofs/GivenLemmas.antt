@@ -11,12 +11,12 @@ use Rattle.ist_rows.specs.CallerLaws.{without_rows, IsWithout}
 use Rattle.ist_rows.specs.Rows.{IsCaller, spares_of}
 use Rattle.ist_rows.proofs.CallerLawLemmas.{HasLogged, logged_made, caller_made, refused_made}
 use Rattle.ist_dcss.specs.Installing.{rows_of, IsInstalled}
-use Rattle.ist_updates.specs.declared.plans.Plan.{Plan}
+use Rattle.ist_updates.specs.declared.plans.PlannedChange.{PlannedChange}
 use Rattle.ist_updates.specs.Changing.{HasRows, filling_of, kinds_of}
 use Rattle.ist_rows.specs.Going.{HasGone}
 use Rattle.ist_rows.proofs.GoneLemmas.{loads_gone}
 
-module _ (old new : Caller) (plan : Plan) (c : IsCaller old) (r : HasRefused old)
+module _ (old new : Caller) (plan : PlannedChange) (c : IsCaller old) (r : HasRefused old)
     (has : HasRows old plan)
     (i : IsInstalled old.token.view plan.base (filling_of plan) new.token.view)
     (number : new.number ≡ old.number)

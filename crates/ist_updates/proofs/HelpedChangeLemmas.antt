@@ -39,7 +39,7 @@ use Rattle.ist_dcss.proofs.ResolvedLemmas.{resolved_helped}
 use Rattle.laws_calls.specs.Accepting.{InstallsNoYes}
 use Rattle.laws_calls.proofs.InstalledLemmas.{installed_no_entry}
 use Rattle.ist_rows.specs.Going.{IsQuiet, HasGone}
-use Rattle.ist_updates.specs.declared.plans.Plan.{Plan}
+use Rattle.ist_updates.specs.declared.plans.PlannedChange.{PlannedChange}
 use Rattle.ist_updates.specs.Asking.{IsAsked}
 use Rattle.ist_updates.specs.Changing.{HasRows, filling_of}
 use Rattle.ist_updates.specs.Trying.{Tries, HasTakenEffect}
@@ -71,7 +71,7 @@ module _ (old new : Caller) (caller : IsCaller new) (number : new.number ≡ old
       asked_gone (λ e. ⊥) old new command a (missed_gone (λ e. ⊥)) (λ e none. absurd none)
 
 -- it is in its call, and has resolved its changes
-pub missed_quiet : (old new : Caller) (plan : Plan) → IsCaller old
+pub missed_quiet : (old new : Caller) (plan : PlannedChange) → IsCaller old
     → IsInstallable old.token.view plan.base (filling_of plan) → new.number ≡ old.number
     → GoesOnTo old.token.view new.token.view → IsQuiet new
 missed_quiet old new plan c m number g =
@@ -91,7 +91,7 @@ missed_quiet old new plan c m number g =
 -- ---- an installed change
 
 -- its row was published as it was filled
-pub published_row : (v : View) (plan : Plan) (x : View)
+pub published_row : (v : View) (plan : PlannedChange) (x : View)
     → IsInstalled v plan.base (filling_of plan) x
     → (now x).pieces plan.base ≡ Some (Change plan.row)
 published_row v plan x i =
@@ -110,7 +110,7 @@ published_row v plan x i =
     one_change a b e = cc
 
 -- its caller may help it
-pub carried_help : (old mid : Caller) (plan : Plan) → IsCaller mid
+pub carried_help : (old mid : Caller) (plan : PlannedChange) → IsCaller mid
     → IsInstalled old.token.view plan.base (filling_of plan) mid.token.view
     → MayHelp mid.token.view plan.base
 carried_help old mid plan c i =
@@ -121,7 +121,7 @@ carried_help old mid plan c i =
       installed = published_row old.token.view plan mid.token.view i;
     }
 
-module _ (old mid : Caller) (token : TokenFace) (plan : Plan) (c : IsCaller old)
+module _ (old mid : Caller) (token : TokenFace) (plan : PlannedChange) (c : IsCaller old)
     (s : IsSound old.token.view) (rows : HasRows old plan) (update : IsUpdate plan.row.kind)
     (m : IsInstallable old.token.view plan.base (filling_of plan)) (caller : IsCaller mid)
     (refused : HasRefused mid) (number : mid.number ≡ old.number)

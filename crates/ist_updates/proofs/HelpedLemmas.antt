@@ -16,7 +16,7 @@ use Rattle.ist_rule.specs.Rule.{IsSound}
 use Rattle.ist_rule.proofs.WentOnLemmas.{went_more, went_grow, looked_went}
 use Rattle.laws_calls.proofs.ReadLemmas.{read_started}
 use Rattle.laws_links.proofs.RebuiltLemmas as rebuilt
-use Rattle.ist_rebuild.specs.Going.{Serves}
+use Rattle.ist_rebuild.specs.Going.{ServesRebuild}
 use Rattle.ist_rebuild.specs.Helping.{IsHelpRefused}
 use Rattle.ist_rows.specs.declared.callers.Caller.{Caller}
 use Rattle.ist_updates.specs.Answering.{IsTryRefused}
@@ -93,14 +93,14 @@ module _ (v : View) (s : IsSound v) (key node index word rebuild : ℕ)
       → IsHelpRefused v rebuild words full w → (first : View) → BeganSince first v
       → IsUpdateRefused first key value words full w
   help_refused value words full w r first began =
-      let went = went_more Serves v r.short.before w r.short.seen
-      (looked_went Serves r.short.before _ _ w r.short.looked) in
+      let went = went_more ServesRebuild v r.short.before w r.short.seen
+      (looked_went ServesRebuild r.short.before _ _ w r.short.looked) in
       record {
         short = short_behind Updates first v words full w began.went
-            (short_all Serves Updates (λ e h. tries_updates e (serves_tries e h)) v words full w
+            (short_all ServesRebuild Updates (λ e h. tries_updates e (serves_tries e h)) v words full w
             r.short);
         asked = for_rebuild rebuild
-            (started_on (now v) (now w) (went_grow Serves v w went) rebuild slot_started)
+            (started_on (now v) (now w) (went_grow ServesRebuild v w went) rebuild slot_started)
             (λ replaced. slot_unreplaced (replaced_on (now first) (now v)
             (went_grow Updates first v began.went) rebuild replaced)) r.asked;
       }

@@ -10,7 +10,7 @@ use Rattle.ist_rows.specs.Building.{HasRefused}
 use Rattle.ist_rows.specs.Rows.{IsCaller}
 use Rattle.ist_dcss.specs.Helping.{IsDecided, IsOut, Serves}
 use Rattle.ist_dcss.specs.Installing.{IsInstallable, IsInstalled}
-use Rattle.ist_updates.specs.declared.plans.Plan.{Plan}
+use Rattle.ist_updates.specs.declared.plans.PlannedChange.{PlannedChange}
 use Rattle.ist_updates.specs.Answering.{HasCarried}
 use Rattle.ist_updates.specs.Changing.{HasRows, filling_of}
 use Rattle.ist_updates.specs.Further.{HoldsElse}
@@ -20,7 +20,7 @@ use Rattle.ist_updates.proofs.HelpedChangeLemmas.{missed_gone, missed_quiet, mis
 use Rattle.ist_updates.proofs.FurtherLemmas.{installed_further, other_further}
 
 -- the slot held another word
-pub missed_carried : (old new : Caller) (plan : Plan) → IsCaller old
+pub missed_carried : (old new : Caller) (plan : PlannedChange) → IsCaller old
     → IsInstallable old.token.view plan.base (filling_of plan) → IsCaller new
     → new.number ≡ old.number → HasRefused new → GoesOnTo old.token.view new.token.view
     → HoldsElse (now new.token.view) plan.row → HasCarried old plan false new
@@ -41,7 +41,7 @@ missed_carried old new plan c m caller number refused g other =
     no e = cc
 
 -- the change was installed and helped
-module _ (old mid : Caller) (token : TokenFace) (plan : Plan) (c : IsCaller old)
+module _ (old mid : Caller) (token : TokenFace) (plan : PlannedChange) (c : IsCaller old)
     (s : IsSound old.token.view) (rows : HasRows old plan) (update : IsUpdate plan.row.kind)
     (m : IsInstallable old.token.view plan.base (filling_of plan)) (caller : IsCaller mid)
     (refused : HasRefused mid) (number : mid.number ≡ old.number)

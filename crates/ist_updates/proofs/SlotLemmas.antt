@@ -38,10 +38,10 @@ use Rattle.laws_calls.proofs.OwnLemmas.{change_since}
 use Rattle.ist_updates.specs.declared.plans.Aim.{Aim}
 use Rattle.ist_updates.specs.declared.plans.Fresh.{Fresh}
 use Rattle.ist_updates.specs.declared.plans.Fresh.TheVariants.{Nothing, Leaf, Pair}
-use Rattle.ist_updates.specs.declared.plans.Plan.{Plan}
+use Rattle.ist_updates.specs.declared.plans.PlannedChange.{PlannedChange}
 use Rattle.ist_updates.specs.declared.plans.Way.{Way}
 use Rattle.ist_updates.specs.Asking.{IsAsked}
-use Rattle.ist_updates.specs.Changing.{WasAtSlot, Prepares, HasRows, IsPlanFor, IsPlanned, IsWay, command_by, filling_of, fresh_rows}
+use Rattle.ist_updates.specs.Changing.{WasAtSlot, Prepares, HasRows, IsPlanFor, IsPlanned, MayReplace, command_by, filling_of, fresh_rows}
 use Rattle.ist_rows.specs.Going.{HasGone}
 use Rattle.ist_rows.specs.Filling.{with_own}
 use Rattle.ist_updates.specs.Trying.{HasTakenEffect}
@@ -135,7 +135,7 @@ rows_held who c base row (Pair pair leaf other other_key) h = (
   ),
 )
 
-module _ (old mid new : Caller) (aim : Aim) (x : Way) (plan : Plan)
+module _ (old mid new : Caller) (aim : Aim) (x : Way) (plan : PlannedChange)
     (a : IsAsked old (command_by aim.key x)) (at : WasAtSlot old.token.view aim)
     (h : HasGone Prepares old mid) (planned : IsPlanned mid aim x plan)
     (f : HasGone Prepares mid new) (same : new ≡ with_own mid new.token.view.own)
@@ -204,7 +204,7 @@ module _ (old mid new : Caller) (aim : Aim) (x : Way) (plan : Plan)
 -- ---- both together
 
 -- the caller has prepared the plan: it may be installed
-pub record IsPrepared (old new : Caller) (aim : Aim) (x : Way) (plan : Plan) : Type 0 where
+pub record IsPrepared (old new : Caller) (aim : Aim) (x : Way) (plan : PlannedChange) : Type 0 where
   pub gone : HasGone Prepares old new
   pub asked : IsAsked new (command_by aim.key x)
   pub rows : HasRows new plan
@@ -212,7 +212,7 @@ pub record IsPrepared (old new : Caller) (aim : Aim) (x : Way) (plan : Plan) : T
   pub is_for : IsPlanFor new.number aim x plan
 
 -- a planned change whose rows are stored is prepared
-pub prepared : (old mid new : Caller) (aim : Aim) (x : Way) (plan : Plan)
+pub prepared : (old mid new : Caller) (aim : Aim) (x : Way) (plan : PlannedChange)
     → IsAsked old (command_by aim.key x) → WasAtSlot old.token.view aim
     → IsUnrefused (now old.token.view) old.number aim.node → HasGone Prepares old mid
     → IsPlanned mid aim x plan → IsCaller new → IsSound new.token.view
@@ -232,9 +232,9 @@ prepared old mid new aim x plan a at unrefused h planned c s same stored =
     }
 
 -- if it took effect since the rows were prepared, it took effect since the first view
-pub prepared_taken : (old new : Caller) (aim : Aim) (x : Way) (plan : Plan)
+pub prepared_taken : (old new : Caller) (aim : Aim) (x : Way) (plan : PlannedChange)
     → IsAsked old (command_by aim.key x) → IsPrepared old new aim x plan
-    → IsWay old.token.view aim.key aim.word x → (w : View)
+    → MayReplace old.token.view aim.key aim.word x → (w : View)
     → HasTakenEffect new.token.view w new.number (command_by aim.key x) plan.row.node
     (reply_of (now new.token.view).pieces plan.row)
     → HasTakenEffect old.token.view w old.number (command_by aim.key x) aim.node
@@ -252,7 +252,7 @@ prepared_taken old new aim x plan a p room w t =
 -- if it took effect since a load, it took effect since the view before the load
 pub loads_taken : (old : Caller) (token : TokenFace) (key word : ℕ) (x : Way)
     → GoesOnTo old.token.view token.view → IsAsked old (command_by key x)
-    → IsWay old.token.view key word x → (w : View) (node : ℕ)
+    → MayReplace old.token.view key word x → (w : View) (node : ℕ)
     → HasTakenEffect token.view w old.number (command_by key x) node
     (value_at (now token.view).pieces (ref_of word) key)
     → HasTakenEffect old.token.view w old.number (command_by key x) node

@@ -19,7 +19,7 @@ use Rattle.ist_rule.specs.Learning.{now}
 use Rattle.ist_updates.specs.declared.plans.Fresh.TheVariants.{Leaf}
 use Rattle.ist_updates.specs.declared.plans.Way.{Way}
 use Rattle.ist_updates.specs.declared.plans.Way.TheVariants as way
-use Rattle.ist_updates.specs.Changing.{IsWay}
+use Rattle.ist_updates.specs.Changing.{MayReplace}
 
 -- ---- what stays
 
@@ -90,7 +90,7 @@ room_on t u g key word (same_key leaf e l) = same_key leaf e (leaf_on t u g leaf
 
 -- what leaves room leaves it still
 pub way_on : (v w : View) → AllGrow (now v).pieces (now w).pieces → (key word : ℕ) (x : Way)
-    → IsWay v key word x → IsWay w key word x
+    → MayReplace v key word x → MayReplace w key word x
 way_on v w g key word (way.Leaf value) h = room_on (now v) (now w) g key word h
 way_on v w g key word (way.Pair value other other_key) h = (
   h.0,
@@ -100,7 +100,7 @@ way_on v w g key word (way.Pair value other other_key) h = (
 way_on v w g key word way.Clear h = (h.0, h.1, leaf_on (now v) (now w) g h.0 key h.2)
 
 -- the slot holds nothing or a leaf
-pub way_stands : (v : View) (key word : ℕ) (x : Way) → IsWay v key word x → StandsFor (now v) word
+pub way_stands : (v : View) (key word : ℕ) (x : Way) → MayReplace v key word x → StandsFor (now v) word
 way_stands v key word (way.Leaf value) h = room_stands (now v) key word h
 way_stands v key word (way.Pair value other other_key) h =
     leaf_there_is other h.1.row h.0 h.1.published
@@ -108,7 +108,7 @@ way_stands v key word way.Clear h = leaf_there_is h.0 h.2.row h.1 h.2.published
 
 -- the reply to the change is what the word of the slot gives the key
 pub planned_reply : (v w : View) → AllGrow (now v).pieces (now w).pieces → (key word : ℕ) (x : Way)
-    → IsWay v key word x → (row : ChangeRow) → row.from ≡ word → row.key ≡ key
+    → MayReplace v key word x → (row : ChangeRow) → row.from ≡ word → row.key ≡ key
     → value_at (now v).pieces (ref_of word) key ≡ reply_of (now w).pieces row
 planned_reply v w g key word x h row from key_is =
     reply_stays (now v) (now w) g key word (way_stands v key word x h)

@@ -6,7 +6,7 @@ use Rattle.ist_core.specs.declared.events.Event.TheVariants.{Enter, Reserve, Ins
 use Rattle.ist_core.specs.Statuses.{start_kind, finish_kind}
 use Rattle.ist_rows.specs.CallerLaws.{KeepsRows, InstallsNone}
 use Rattle.ist_dcss.specs.Helping.{Serves as Helps}
-use Rattle.ist_rebuild.specs.Going.{Serves}
+use Rattle.ist_rebuild.specs.Going.{ServesRebuild}
 use Rattle.ist_updates.specs.Asking.{Updates}
 use Rattle.ist_updates.specs.Changing.{Prepares}
 use Rattle.ist_updates.specs.Trying.{Tries}
@@ -120,7 +120,7 @@ tries_updates (Place c o i w rows) is = is
 tries_updates (Lose c bases) is = is
 
 -- a step of help of a rebuild is one of a try
-pub serves_tries : (event : Event) → Serves event → Tries event
+pub serves_tries : (event : Event) → ServesRebuild event → Tries event
 serves_tries (Install c b rows) is =
     λ change e start. differ (sym (is change e) ∙ start)
   where

@@ -10,7 +10,7 @@ use Rattle.ist_rows.specs.declared.callers.Caller.{Caller}
 use Rattle.ist_rows.specs.Going.{StaysReady}
 use Rattle.laws_coming.specs.Further.{CameFurther}
 use Rattle.ist_updates.specs.declared.plans.Aim.{Aim}
-use Rattle.ist_updates.specs.declared.plans.Plan.{Plan}
+use Rattle.ist_updates.specs.declared.plans.PlannedChange.{PlannedChange}
 use Rattle.ist_updates.specs.declared.plans.Way.{Way}
 use Rattle.ist_updates.specs.declared.updates.Tried.{Tried}
 use Rattle.ist_updates.specs.declared.updates.Tried.TheVariants.{Took, Nothing, Again, Unmet}
@@ -24,7 +24,7 @@ use Rattle.ist_updates.specs.Trying.{Tries, BeganSince, HasFoundNone, HasTakenEf
 
 -- what each result of carrying out a plan means: its command took effect, or the caller is still
 -- asked and the table came further
-pub record HasCarried (old : Caller) (plan : Plan) (taken : Bool) (new : Caller) : Type 0 where
+pub record HasCarried (old : Caller) (plan : PlannedChange) (taken : Bool) (new : Caller) : Type 0 where
   pub on : StaysReady Tries old new
   pub took : taken ≡ true → (command : Command) → command_of plan.row ≡ Some command
       → HasTakenEffect old.token.view new.token.view old.number command plan.row.node

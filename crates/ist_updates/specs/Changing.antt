@@ -30,7 +30,7 @@ use Rattle.ist_updates.specs.Trying.{IsAtSlot}
 use Rattle.ist_updates.specs.declared.plans.Aim.{Aim}
 use Rattle.ist_updates.specs.declared.plans.Fresh.{Fresh}
 use Rattle.ist_updates.specs.declared.plans.Fresh.TheVariants.{Nothing, Leaf, Pair}
-use Rattle.ist_updates.specs.declared.plans.Plan.{Plan}
+use Rattle.ist_updates.specs.declared.plans.PlannedChange.{PlannedChange}
 use Rattle.ist_updates.specs.declared.plans.Way.{Way}
 use Rattle.ist_updates.specs.declared.plans.Way.TheVariants as way
 
@@ -60,11 +60,11 @@ command_by key (way.Pair value other other_key) = Put key value
 command_by key way.Clear = Remove key
 
 -- the slot holds what such a change may replace
-abbrev pub IsWay : View → ℕ → ℕ → Way → Type 0
-IsWay v key word (way.Leaf value) = HasRoomFor (now v) key word
-IsWay v key word (way.Pair value other other_key) =
+abbrev pub MayReplace : View → ℕ → ℕ → Way → Type 0
+MayReplace v key word (way.Leaf value) = HasRoomFor (now v) key word
+MayReplace v key word (way.Pair value other other_key) =
     (ref_of word ≡ Some (LeafAt other)) × IsLeafOf (now v) other other_key × (other_key ≢ key)
-IsWay v key word way.Clear =
+MayReplace v key word way.Clear =
     (leaf : ℕ) × (ref_of word ≡ Some (LeafAt leaf)) × IsLeafOf (now v) leaf key
 
 -- such a change may ask for this number of words
@@ -102,7 +102,7 @@ fresh_rows row (Pair base leaf other other_key) =
     row_at base (pair_row row.key leaf other_key other) ∷ row_at leaf (new_leaf row) ∷ []
 
 -- the change together with these rows
-abbrev pub filling_of : Plan → Filling
+abbrev pub filling_of : PlannedChange → Filling
 filling_of plan = record { change = plan.row; fresh = fresh_rows plan.row plan.fresh }
 
 -- the kinds of these rows
@@ -112,7 +112,7 @@ kinds_of (Leaf base) = kind.Leaf ∷ []
 kinds_of (Pair base leaf other other_key) = kind.Pair ∷ kind.Leaf ∷ []
 
 -- the caller has the row of the change and those that are published with it
-abbrev pub HasRows : Caller → Plan → Type 0
+abbrev pub HasRows : Caller → PlannedChange → Type 0
 HasRows who plan =
     AreBasesOf (kind.Change ∷ kinds_of plan.fresh) (spares_of who)
     (bases_of (rows_of (filling_of plan) plan.base))
@@ -123,7 +123,7 @@ AreGood (Pair base leaf other other_key) = IsGoodBase leaf × IsGoodBase other
 AreGood _ = Unit {0}
 
 -- the plan is for this slot, and its change carries out this command for the caller of this number
-pub record IsPlanFor (number : ℕ) (aim : Aim) (w : Way) (plan : Plan) : Type 0 where
+pub record IsPlanFor (number : ℕ) (aim : Aim) (w : Way) (plan : PlannedChange) : Type 0 where
   pub node : plan.row.node ≡ aim.node
   pub index : plan.row.index ≡ aim.index
   pub from : plan.row.from ≡ aim.word
@@ -134,7 +134,7 @@ pub record IsPlanFor (number : ℕ) (aim : Aim) (w : Way) (plan : Plan) : Type 0
   pub command : command_of plan.row ≡ Some (command_by aim.key w)
 
 -- the caller holds the rows of such a plan, and the change fits its kind in its log
-pub record IsPlanned (who : Caller) (aim : Aim) (w : Way) (plan : Plan) : Type 0 where
+pub record IsPlanned (who : Caller) (aim : Aim) (w : Way) (plan : PlannedChange) : Type 0 where
   pub rows : HasRows who plan
   pub good : AreGood plan.fresh
   pub is_for : IsPlanFor who.number aim w plan

@@ -21,13 +21,13 @@ ghost use Rattle.ist_rows.specs.Going.{IsQuiet, HasGone};
 ghost use Rattle.ist_updates.specs.Answering.{HasCarried, HasChanged};
 ghost use Rattle.ist_updates.specs.Asking.{IsAsked};
 ghost use Rattle.ist_updates.specs.Changing.{WasAtSlot, Prepares, HasRows};
-ghost use Rattle.ist_updates.specs.Changing.{IsWay, IsWayRefused, IsPlanned, row_for};
+ghost use Rattle.ist_updates.specs.Changing.{MayReplace, IsWayRefused, IsPlanned, row_for};
 ghost use Rattle.ist_updates.specs.Changing.{command_by, filling_of, kinds_of};
 ghost use Rattle.ist_updates.specs.declared.plans.Way.TheVariants as way;
 ghost use Rattle.ist_updates.specs.Trying.{Tries, HasTakenEffect};
 
 use crate::filling::fill_rows;
-use crate::plans::{Aim, Fresh, Plan, Way};
+use crate::plans::{Aim, Fresh, PlannedChange, Way};
 use ist_core::{ChangeRow, Full};
 use ist_dcss::{Decision, Installed, help, install, is_open};
 use ist_layout::{EMPTY_WORD, PUT_KIND, REMOVE_KIND, Ref, UNDECIDED};
@@ -130,12 +130,17 @@ fn change_for(aim: Aim, kind: u64, value: u64, to: u64, owner: u32) -> ChangeRow
 }
 
 // A plan to put a leaf into a slot that is empty or holds a leaf of the key.
-fn plan_leaf(table: &TreeTable, who: &mut Caller, aim: Aim, value: u64) -> Result<Plan, Full>
+fn plan_leaf(
+    table: &TreeTable,
+    who: &mut Caller,
+    aim: Aim,
+    value: u64,
+) -> Result<PlannedChange, Full>
     requires same_table { who.old.token.table ≡ table.now.table }
     requires caller { IsCaller who.old }
     requires refused { HasRefused who.old }
     requires at_slot { WasAtSlot who.old.token.view aim }
-    requires room { IsWay who.old.token.view aim.key aim.word (way.Leaf value) }
+    requires room { MayReplace who.old.token.view aim.key aim.word (way.Leaf value) }
     ensures same_table { who.new.token.table ≡ table.now.table }
     ensures gone { HasGone Prepares who.old who.new }
     ensures planned { IfOk result (λ plan. IsPlanned who.new aim (way.Leaf value) plan) }
@@ -149,7 +154,7 @@ fn plan_leaf(table: &TreeTable, who: &mut Caller, aim: Aim, value: u64) -> Resul
     let to = Ref::Leaf { base: leaf }.to_word();
     let row = change_for(aim, PUT_KIND, value, to, who.number);
     let fresh = Fresh::Leaf { base: leaf };
-    Ok(Plan { base, row, fresh })
+    Ok(PlannedChange { base, row, fresh })
 }
 
 // A plan to replace a leaf of another key by a pair row.
@@ -160,12 +165,12 @@ fn plan_pair(
     value: u64,
     other: u32,
     other_key: u64,
-) -> Result<Plan, Full>
+) -> Result<PlannedChange, Full>
     requires same_table { who.old.token.table ≡ table.now.table }
     requires caller { IsCaller who.old }
     requires refused { HasRefused who.old }
     requires at_slot { WasAtSlot who.old.token.view aim }
-    requires room { IsWay who.old.token.view aim.key aim.word (way.Pair value other other_key) }
+    requires room { MayReplace who.old.token.view aim.key aim.word (way.Pair value other other_key) }
     ensures same_table { who.new.token.table ≡ table.now.table }
     ensures gone { HasGone Prepares who.old who.new }
     ensures planned { IfOk result (λ plan.
@@ -187,16 +192,16 @@ fn plan_pair(
         other,
         other_key,
     };
-    Ok(Plan { base, row, fresh })
+    Ok(PlannedChange { base, row, fresh })
 }
 
 // A plan to remove the leaf of the key.
-fn plan_clear(table: &TreeTable, who: &mut Caller, aim: Aim) -> Result<Plan, Full>
+fn plan_clear(table: &TreeTable, who: &mut Caller, aim: Aim) -> Result<PlannedChange, Full>
     requires same_table { who.old.token.table ≡ table.now.table }
     requires caller { IsCaller who.old }
     requires refused { HasRefused who.old }
     requires at_slot { WasAtSlot who.old.token.view aim }
-    requires room { IsWay who.old.token.view aim.key aim.word way.Clear }
+    requires room { MayReplace who.old.token.view aim.key aim.word way.Clear }
     ensures same_table { who.new.token.table ≡ table.now.table }
     ensures gone { HasGone Prepares who.old who.new }
     ensures planned { IfOk result (λ plan. IsPlanned who.new aim way.Clear plan) }
@@ -208,16 +213,16 @@ fn plan_clear(table: &TreeTable, who: &mut Caller, aim: Aim) -> Result<Plan, Ful
     know(&who.token);
     let row = change_for(aim, REMOVE_KIND, 0, EMPTY_WORD, who.number);
     let fresh = Fresh::Nothing;
-    Ok(Plan { base, row, fresh })
+    Ok(PlannedChange { base, row, fresh })
 }
 
 // Reserves the rows that the change needs, and plans how they will be filled.
-fn plan_for(table: &TreeTable, who: &mut Caller, aim: Aim, way: Way) -> Result<Plan, Full>
+fn plan_for(table: &TreeTable, who: &mut Caller, aim: Aim, way: Way) -> Result<PlannedChange, Full>
     requires same_table { who.old.token.table ≡ table.now.table }
     requires caller { IsCaller who.old }
     requires refused { HasRefused who.old }
     requires at_slot { WasAtSlot who.old.token.view aim }
-    requires room { IsWay who.old.token.view aim.key aim.word way }
+    requires room { MayReplace who.old.token.view aim.key aim.word way }
     ensures same_table { who.new.token.table ≡ table.now.table }
     ensures gone { HasGone Prepares who.old who.new }
     ensures planned { IfOk result (λ plan. IsPlanned who.new aim way plan) }
@@ -260,7 +265,7 @@ fn give_away(who: &mut Caller, fresh: Fresh)
 }
 
 // Installs the change of the plan. If this succeeds, the caller no longer holds the rows.
-fn install_plan(table: &TreeTable, who: &mut Caller, plan: Plan) -> bool
+fn install_plan(table: &TreeTable, who: &mut Caller, plan: PlannedChange) -> bool
     ghost filling: { Filling }
     requires same_table { who.old.token.table ≡ table.now.table }
     requires caller { IsCaller who.old }
@@ -289,7 +294,7 @@ fn install_plan(table: &TreeTable, who: &mut Caller, plan: Plan) -> bool
 }
 
 // Installs the change of the plan and helps it. Returns whether it took effect.
-fn carry_out(table: &TreeTable, who: &mut Caller, plan: Plan) -> bool
+fn carry_out(table: &TreeTable, who: &mut Caller, plan: PlannedChange) -> bool
     requires same_table { who.old.token.table ≡ table.now.table }
     requires caller { IsCaller who.old }
     requires refused { HasRefused who.old }
@@ -323,7 +328,7 @@ pub(crate) fn change_slot(
     requires same_table { who.old.token.table ≡ table.now.table }
     requires asked { IsAsked who.old (command_by aim.key way) }
     requires at_slot { WasAtSlot who.old.token.view aim }
-    requires room { IsWay who.old.token.view aim.key aim.word way }
+    requires room { MayReplace who.old.token.view aim.key aim.word way }
     ensures same_table { who.new.token.table ≡ table.now.table }
     ensures changed { HasChanged who.old aim way (word_count_of table.now) result who.new }
 {
@@ -340,7 +345,7 @@ fn change_open(table: &TreeTable, who: &mut Caller, aim: Aim, way: Way) -> Resul
     requires same_table { who.old.token.table ≡ table.now.table }
     requires asked { IsAsked who.old (command_by aim.key way) }
     requires at_slot { WasAtSlot who.old.token.view aim }
-    requires room { IsWay who.old.token.view aim.key aim.word way }
+    requires room { MayReplace who.old.token.view aim.key aim.word way }
     requires unrefused { IsUnrefused (now who.old.token.view) who.old.number aim.node }
     ensures same_table { who.new.token.table ≡ table.now.table }
     ensures changed { HasChanged who.old aim way (word_count_of table.now) result who.new }

@@ -12,7 +12,7 @@ ghost use Rattle.ist_dcss.specs.Installing.{rows_of};
 ghost use Rattle.ist_updates.specs.Changing.{HasRows, AreGood, filling_of, fresh_rows, kinds_of};
 ghost use Rattle.ist_updates.specs.Filling.{KeepsOthers};
 
-use crate::plans::{Fresh, Plan};
+use crate::plans::{Fresh, PlannedChange};
 use ist_core::ChangeRow;
 use ist_layout::{OPEN_WORD, Ref};
 use ist_rows::{Caller, Kind, fill_row};
@@ -132,7 +132,7 @@ fn fill_fresh(table: &TreeTable, who: &mut Caller, row: ChangeRow, fresh: Fresh)
 }
 
 /// Fills every word of every row of the plan, which the caller holds.
-pub(crate) fn fill_rows(table: &TreeTable, who: &mut Caller, plan: Plan)
+pub(crate) fn fill_rows(table: &TreeTable, who: &mut Caller, plan: PlannedChange)
     requires same_table { who.old.token.table ≡ table.now.table }
     requires caller { IsCaller who.old }
     requires rows { HasRows who.old plan }

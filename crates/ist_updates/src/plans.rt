@@ -46,7 +46,7 @@ pub(crate) enum Fresh {
 
 /// The change with which its row at the base will be filled, and the rows that are published with it.
 #[derive(Clone, Copy, Drop)]
-pub(crate) struct Plan {
+pub(crate) struct PlannedChange {
     pub base: u32,
     pub row: ChangeRow,
     pub fresh: Fresh,

@@ -14,13 +14,13 @@ pub record HasNumbers (t : Snapshot) (next callers anchor : ℕ) : Type 0 where
   pub anchor_is : anchor ≡ t.anchor
 
 -- the events of the log are lawful, and the state after them has these numbers
-pub record EndsWith (log : Log) (next callers anchor : ℕ) : Type 0 where
+pub record HasNumbersAfter (log : Log) (next callers anchor : ℕ) : Type 0 where
   pub lawful : Lawful log.pairs.items log.words (reverse log.events.items)
   pub numbers : HasNumbers (state_of log.pairs.items log.words (reverse log.events.items)) next callers anchor
 
 -- what is said of the log is true
 abbrev pub IsTrueOf : Log → Verdict → Type 0
-IsTrueOf log (AllLawful next callers anchor) = EndsWith log next callers anchor
+IsTrueOf log (AllLawful next callers anchor) = HasNumbersAfter log next callers anchor
 IsTrueOf log (Unlawful at condition) =
     IsFirstUnlawful log.pairs.items log.words log.events.items at
     × FailsAt log.pairs.items log.words log.events.items at condition

@@ -12,7 +12,7 @@ use Rattle.tele_audit.specs.declared.flaws.Flaw.TheVariants.{Magic, Short, Size,
 use Rattle.tele_audit.specs.Dumps.{magic}
 use Rattle.tele_audit.specs.Flaws.{number_of, count_told, used_told, dump_length, is_out, head_flaw, length_flaw}
 use Rattle.tele_audit.specs.Flaws.{anchor_flaw, flaw_or, flaw_before_rows, IsFirstFlaw}
-use Rattle.tele_audit.specs.Taking.{Takes, AreEnough, Extends}
+use Rattle.tele_audit.specs.Taking.{TakesBytes, AreEnough, Extends}
 use Rattle.tele_audit.proofs.DumpLemmas.{count_front, used_front, good_head, good_length}
 
 -- ---- flaws before the rows
@@ -143,7 +143,7 @@ all_taken rest taken bytes now is same end =
 
 -- a fact on the bytes taken first, followed by those left then, is a fact on all bytes
 pub from_taken : (P : List ℕ → Type 0) (start mid : Option (List ℕ)) (taken : List ℕ)
-    → Takes start mid [] taken → IfSome mid (λ left. P (taken ++ left)) → IfSome start P
+    → TakesBytes start mid [] taken → IfSome mid (λ left. P (taken ++ left)) → IfSome start P
 from_taken P None mid taken h k = tt
 from_taken P (Some bytes) mid taken h k =
     let here : P (taken ++ h.0) = subst (λ o. IfSome o (λ left. P (taken ++ left))) h.1 k in
@@ -151,7 +151,7 @@ from_taken P (Some bytes) mid taken h k =
 
 -- a flaw of the head of what was taken is the first flaw
 pub head_flaw_of_all : (start now : Option (List ℕ)) (taken : List ℕ) (flaw : Flaw)
-    → Takes start now [] taken → IfSome start (λ _. AreEnough now 24 taken)
+    → TakesBytes start now [] taken → IfSome start (λ _. AreEnough now 24 taken)
     → head_flaw taken ≡ Some flaw → IfSome start (λ bytes. IsFirstFlaw bytes flaw)
 head_flaw_of_all None now taken flaw h enough e = tt
 head_flaw_of_all (Some bytes) now taken flaw h enough e =
@@ -164,7 +164,7 @@ head_flaw_of_all (Some bytes) now taken flaw h enough e =
 
 -- a flaw of the length of what was taken is the first flaw
 pub length_flaw_of_all : (mid now : Option (List ℕ)) (taken more : List ℕ) (flaw : Flaw)
-    → Takes mid now taken more
+    → TakesBytes mid now taken more
     → IfSome mid (λ _. AreEnough now (dump_length (used_told more) + 1) more)
     → head_flaw more ≡ None → length_flaw more ≡ Some flaw
     → IfSome mid (λ left. IsFirstFlaw (taken ++ left) flaw)
@@ -184,7 +184,7 @@ length_flaw_of_all (Some left) now taken more flaw k enough head e =
 
 -- bytes of the right length are all bytes
 pub all_of_length : (mid now : Option (List ℕ)) (taken more : List ℕ)
-    → Takes mid now taken more
+    → TakesBytes mid now taken more
     → IfSome mid (λ _. AreEnough now (dump_length (used_told more) + 1) more)
     → length_flaw more ≡ None
     → IfSome mid (λ left. (more ≡ taken ++ left) × (now ≡ Some []))
@@ -226,7 +226,7 @@ module _ (taken more : List ℕ) (extends : Extends taken more) (head : head_fla
 pub record Reaches (mid now : Option (List ℕ)) (taken more first second : List ℕ) (used : ℕ)
     (found : Option Flaw) : Type 0 where
   pub head : head_flaw taken ≡ None
-  pub takes : Takes mid now taken more
+  pub takes : TakesBytes mid now taken more
   pub extends : Extends taken more
   pub enough : IfSome mid (λ _. AreEnough now (16 + 8 * used + 1) more)
   pub first_is : first ≡ taken

@@ -37,7 +37,7 @@ use Rattle.tele_audit.specs.declared.jobs.Question.TheVariants.{Between}
 use Rattle.tele_audit.specs.declared.outcomes.TheConstants.{DONE}
 use Rattle.tele_audit.specs.Dumps.{DumpContent, IsLawfulDump}
 use Rattle.tele_audit.specs.Packing.{Left, Holds, Refuses, behind_lines, left_by, IsNewTable}
-use Rattle.tele_audit.specs.Runs.{IsPacked, IsDue}
+use Rattle.tele_audit.specs.Runs.{IsPacked, IsOwed}
 use Rattle.tele_audit.proofs.LawLemmas.{one_told, no_flaw}
 
 -- ---- lines
@@ -198,7 +198,7 @@ lawful_new law m words table =
 -- ---- the laws
 
 -- what was packed
-due_packed : (bytes dump : List ℕ) → IsDue Pack bytes dump DONE → IsPacked bytes dump DONE
+due_packed : (bytes dump : List ℕ) → IsOwed Pack bytes dump DONE → IsPacked bytes dump DONE
 due_packed bytes dump due = elim due [
   | inl packed ↦ packed
   | inr bad ↦ absurd (omega (arith, bad.status_is))
@@ -209,7 +209,7 @@ same_left m n left e f = cc (e, f)
 
 -- the dump holds the pairs of the map
 pub packed_told : StandingWordsAreLawful → (bytes dump : List ℕ) (m : Map) → left_by bytes ≡ Holds m
-    → IsDue Pack bytes dump DONE
+    → IsOwed Pack bytes dump DONE
     → (told : DumpContent) × IsLawfulDump dump told × (told.pairs ≡ pairs_of m)
 packed_told law bytes dump m is due =
     let packed = due_packed bytes dump due in
@@ -233,7 +233,7 @@ packed_told law bytes dump m is due =
 -- and a list has an interval of them
 pub packed_listed : StandingWordsAreLawful → LawfulWordsBreakNowhere → PairsAreOne
     → (bytes dump text : List ℕ) (m : Map) (first last status : ℕ) → left_by bytes ≡ Holds m
-    → IsDue Pack bytes dump DONE → IsDue (Tell (Between first last)) dump text status
+    → IsOwed Pack bytes dump DONE → IsOwed (Tell (Between first last)) dump text status
     → (status ≡ DONE) × (text ≡ flat_map (pair_text One) (listed first last m))
 packed_listed law nowhere one bytes dump text m first last status is due answer =
     let told = packed_told law bytes dump m is due in

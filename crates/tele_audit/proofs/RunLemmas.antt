@@ -15,25 +15,25 @@ use Rattle.tele_audit.specs.declared.outcomes.TheConstants.{FLAWED}
 use Rattle.tele_audit.specs.Dumps.{DumpContent, IsLawfulDump, dump_of}
 use Rattle.tele_audit.specs.Flaws.{IsFirstFlaw}
 use Rattle.tele_audit.specs.Packing.{Holds, Refuses, left_by, IsNewTable}
-use Rattle.tele_audit.specs.Runs.{IsDue, Writes, WritesPart, said, flaw_text}
+use Rattle.tele_audit.specs.Runs.{IsOwed, Writes, WritesPart, said, flaw_text}
 
 -- a text that is due was written, or a part of it
 module _ (job : Job) (before now : Option (List ℕ)) (text : List ℕ) (status : ℕ) where
   -- a due text that was appended was written whole
-  pub writes_if : (left : Option (List ℕ)) → IfSome left (λ bytes. IsDue job bytes text status)
+  pub writes_if : (left : Option (List ℕ)) → IfSome left (λ bytes. IsOwed job bytes text status)
       → Appends before now text → IfSome left (λ bytes. Writes job bytes before now status)
   writes_if None due writes = tt
   writes_if (Some bytes) due writes = record { text = text; due = due; writes = writes }
 
   -- a prefix of a due text was written in part
-  pub part_if : (left : Option (List ℕ)) → IfSome left (λ bytes. IsDue job bytes text status)
+  pub part_if : (left : Option (List ℕ)) → IfSome left (λ bytes. IsOwed job bytes text status)
       → AppendsPart before now text → IfSome left (λ bytes. WritesPart job bytes before now)
   part_if None due part = tt
   part_if (Some bytes) due part =
       inr (record { text = text; status = status; due = due; writes = part })
 
   -- on success the status is the due one
-  pub done_text : (left : Option (List ℕ)) → IfSome left (λ bytes. IsDue job bytes text status)
+  pub done_text : (left : Option (List ℕ)) → IfSome left (λ bytes. IsOwed job bytes text status)
       → (r : Result ℕ Halt) → IfOk r (λ s. s ≡ status) → OnOk r (Appends before now text)
       → IfOk r (λ s. IfSome left (λ bytes. Writes job bytes before now s))
   done_text left due (Err halt) same writes = tt
@@ -46,7 +46,7 @@ module _ (job : Job) (before now : Option (List ℕ)) (text : List ℕ) (status 
 -- the dump of a new table of the map that the lines leave is due
 pub packed_due : (left : Option (List ℕ)) (m : Map) (words : List ℕ)
     → IfSome left (λ bytes. left_by bytes ≡ Holds m) → IsNewTable m words
-    → IfSome left (λ bytes. IsDue Pack bytes (dump_of words) DONE)
+    → IfSome left (λ bytes. IsOwed Pack bytes (dump_of words) DONE)
 packed_due None m words is table = tt
 packed_due (Some bytes) m words is table =
     inl (record {
@@ -61,7 +61,7 @@ packed_due (Some bytes) m words is table =
 -- for a bad line, the line that names it is due
 pub bad_due : (left : Option (List ℕ)) (number : ℕ) (cause : Cause)
     → IfSome left (λ bytes. left_by bytes ≡ Refuses number cause)
-    → IfSome left (λ bytes. IsDue Pack bytes (bad_text number cause) BAD_LINE)
+    → IfSome left (λ bytes. IsOwed Pack bytes (bad_text number cause) BAD_LINE)
 bad_due None number cause is = tt
 bad_due (Some bytes) number cause is =
     inr (record {
@@ -89,7 +89,7 @@ module _ (before now : Option (List ℕ)) (n m : ℕ) (c d : Cause) (line : n �
 -- for a lawful dump, the text for the question is due
 pub answer_due : (left : Option (List ℕ)) (question : Question) (told : DumpContent)
     → IfSome left (λ bytes. IsLawfulDump bytes told)
-    → IfSome left (λ bytes. IsDue (Tell question) bytes (said question told) DONE)
+    → IfSome left (λ bytes. IsOwed (Tell question) bytes (said question told) DONE)
 answer_due None question told lawful = tt
 answer_due (Some bytes) question told lawful =
     inl (record { told = told; lawful = lawful; text_is = refl; status_is = refl })
@@ -107,14 +107,14 @@ module _ (before now : Option (List ℕ)) (f h : Flaw) (same : f ≡ h) where
 -- for a flawed dump, the line that names its first flaw is due
 pub flaw_due : (left : Option (List ℕ)) (question : Question) (flaw : Flaw)
     → IfSome left (λ bytes. IsFirstFlaw bytes flaw)
-    → IfSome left (λ bytes. IsDue (Tell question) bytes (flaw_text flaw) FLAWED)
+    → IfSome left (λ bytes. IsOwed (Tell question) bytes (flaw_text flaw) FLAWED)
 flaw_due None question flaw first = tt
 flaw_due (Some bytes) question flaw first =
     inr (record { flaw = flaw; first = first; text_is = refl; status_is = refl })
 
 -- for wrong arguments, the usage line is due
 pub usage_due : (left : Option (List ℕ))
-    → IfSome left (λ bytes. IsDue Refuse bytes usage_text USAGE)
+    → IfSome left (λ bytes. IsOwed Refuse bytes usage_text USAGE)
 usage_due None = tt
 usage_due (Some bytes) = (refl, refl)
 

@@ -14,7 +14,7 @@ use Rattle.tele_audit.specs.declared.outcomes.TheConstants.{DONE}
 use Rattle.tele_audit.specs.Dumps.{DumpContent, IsLawfulDump, dump_of}
 use Rattle.tele_audit.specs.Flaws.{IsFirstFlaw}
 use Rattle.tele_audit.specs.Packing.{Holds, left_by}
-use Rattle.tele_audit.specs.Runs.{IsDue}
+use Rattle.tele_audit.specs.Runs.{IsOwed}
 
 -- a dump of lawful words has no flaw
 abbrev pub LawfulDumpsHaveNoFlaw : Type 0
@@ -46,12 +46,12 @@ DumpsTellTheList =
 -- lines leave
 abbrev pub PackedDumpsTellTheMap : Type 0
 PackedDumpsTellTheMap =
-    (bytes dump : List ℕ) (m : Map) → left_by bytes ≡ Holds m → IsDue Pack bytes dump DONE
+    (bytes dump : List ℕ) (m : Map) → left_by bytes ≡ Holds m → IsOwed Pack bytes dump DONE
     → (told : DumpContent) × IsLawfulDump dump told × (told.pairs ≡ pairs_of m)
 
 -- what `list` writes for the output of `pack` is the interval of the map that the lines leave
 abbrev pub PackedLinesAreListed : Type 0
 PackedLinesAreListed =
     (bytes dump text : List ℕ) (m : Map) (first last status : ℕ) → left_by bytes ≡ Holds m
-    → IsDue Pack bytes dump DONE → IsDue (Tell (Between first last)) dump text status
+    → IsOwed Pack bytes dump DONE → IsOwed (Tell (Between first last)) dump text status
     → (status ≡ DONE) × (text ≡ flat_map (pair_text One) (listed first last m))

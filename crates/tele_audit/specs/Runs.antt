@@ -79,24 +79,24 @@ pub record IsFlawed (bytes text : List ℕ) (status : ℕ) : Type 0 where
   pub status_is : status ≡ FLAWED
 
 -- what a command owes for these bytes: the text and the status
-abbrev pub IsDue : Job → List ℕ → List ℕ → ℕ → Type 0
-IsDue Refuse bytes text status = (text ≡ usage_text) × (status ≡ USAGE)
-IsDue Pack bytes text status = IsPacked bytes text status ⊎ IsBadLine bytes text status
-IsDue (Tell question) bytes text status =
+abbrev pub IsOwed : Job → List ℕ → List ℕ → ℕ → Type 0
+IsOwed Refuse bytes text status = (text ≡ usage_text) × (status ≡ USAGE)
+IsOwed Pack bytes text status = IsPacked bytes text status ⊎ IsBadLine bytes text status
+IsOwed (Tell question) bytes text status =
     IsAnswered question bytes text status ⊎ IsFlawed bytes text status
 
 -- a due text was written whole, and the status is the one due with it
 pub record Writes (job : Job) (bytes : List ℕ) (before now : Option (List ℕ)) (status : ℕ)
     : Type 0 where
   pub text : List ℕ
-  pub due : IsDue job bytes text status
+  pub due : IsOwed job bytes text status
   pub writes : Appends before now text
 
 -- a prefix of a due text was written
 pub record WritesSome (job : Job) (bytes : List ℕ) (before now : Option (List ℕ)) : Type 0 where
   pub text : List ℕ
   pub status : ℕ
-  pub due : IsDue job bytes text status
+  pub due : IsOwed job bytes text status
   pub writes : AppendsPart before now text
 
 -- nothing was written, or a prefix of a due text
@@ -106,16 +106,16 @@ WritesPart job bytes before now = (now ≡ before) ⊎ WritesSome job bytes befo
 -- ---- statuses
 
 -- the text was written whole
-abbrev pub IsWhole : Job → ℕ → Type 0
-IsWhole Refuse status = status ≡ USAGE
-IsWhole Pack status = (status ≡ DONE) ⊎ (status ≡ BAD_LINE)
-IsWhole (Tell question) status = (status ≡ DONE) ⊎ (status ≡ FLAWED)
+abbrev pub IsWrittenWhole : Job → ℕ → Type 0
+IsWrittenWhole Refuse status = status ≡ USAGE
+IsWrittenWhole Pack status = (status ≡ DONE) ⊎ (status ≡ BAD_LINE)
+IsWrittenWhole (Tell question) status = (status ≡ DONE) ⊎ (status ≡ FLAWED)
 
 -- the sink failed, or memory ran out
-abbrev pub IsCutShort : ℕ → Type 0
-IsCutShort status = (status ≡ WRITE_FAILED) ⊎ (status ≡ NO_MEMORY)
+abbrev pub EndsEarly : ℕ → Type 0
+EndsEarly status = (status ≡ WRITE_FAILED) ⊎ (status ≡ NO_MEMORY)
 
 -- the statuses that a run may return, by its job
-abbrev pub IsStatus : Job → ℕ → Type 0
-IsStatus Refuse status = IsWhole Refuse status ⊎ IsCutShort status
-IsStatus job status = IsWhole job status ⊎ ((status ≡ READ_FAILED) ⊎ IsCutShort status)
+abbrev pub IsRunStatus : Job → ℕ → Type 0
+IsRunStatus Refuse status = IsWrittenWhole Refuse status ⊎ EndsEarly status
+IsRunStatus job status = IsWrittenWhole job status ⊎ ((status ≡ READ_FAILED) ⊎ EndsEarly status)

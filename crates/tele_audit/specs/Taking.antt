@@ -12,10 +12,10 @@ Extends old new = (more : List ℕ) × (new ≡ old ++ more)
 
 -- the bytes that were taken, followed by those that are left, are the same as before, if the
 -- source's bytes are known
-abbrev pub Takes : Option (List ℕ) → Option (List ℕ) → List ℕ → List ℕ → Type 0
-Takes (Some left) now old new =
+abbrev pub TakesBytes : Option (List ℕ) → Option (List ℕ) → List ℕ → List ℕ → Type 0
+TakesBytes (Some left) now old new =
     (rest : List ℕ) × (now ≡ Some rest) × (new ++ rest ≡ old ++ left)
-Takes None now old new = Unit {0}
+TakesBytes None now old new = Unit {0}
 
 -- this many bytes were taken, or all that the source had
 abbrev pub AreEnough : Option (List ℕ) → ℕ → List ℕ → Type 0

@@ -8,7 +8,7 @@ ghost use Rattle.tele_lines.specs.Answer.{Read, Good};
 ghost use Rattle.tele_audit.specs.declared.jobs.Job.TheVariants as job;
 ghost use Rattle.tele_audit.specs.Dumps.{AreLawfulWords, dump_of};
 ghost use Rattle.tele_audit.specs.Packing.{Holds, Refuses, behind_lines, left_by, IsNewTable};
-ghost use Rattle.tele_audit.specs.Runs.{Writes, WritesPart, IsWhole};
+ghost use Rattle.tele_audit.specs.Runs.{Writes, WritesPart, IsWrittenWhole};
 
 use crate::dumps::write_dump;
 use crate::outcomes::{BAD_LINE, DONE, Halt, halted};
@@ -123,7 +123,7 @@ pub(crate) fn pack<S: Source, O: Sink>(
         Writes job.Pack bytes (O.written out.old) (O.written out.new) status)) }
     ensures part { OnErr result (IfSome (S.left source.old) (λ bytes.
         WritesPart job.Pack bytes (O.written out.old) (O.written out.new))) }
-    ensures statuses { IfOk result (IsWhole job.Pack) }
+    ensures statuses { IfOk result (IsWrittenWhole job.Pack) }
     ensures whole { result ≡ Ok DONE →
         IfSome (S.left source.old) (λ _. S.left source.new ≡ Some []) }
     ensures read_failed { result ≡ Err Halt.Read →

@@ -3,7 +3,7 @@ ghost use Rattle.std.specs.Prelude.{◌≡◌, ◌≤◌, ◌⊎◌, [], Some, O
 ghost use Rattle.tele_io.specs.Bytes.{HaveRisen, Appends, AppendsPart};
 ghost use Rattle.tele_lines.specs.Answer.{usage_text};
 ghost use Rattle.tele_audit.specs.Jobs.{job_of};
-ghost use Rattle.tele_audit.specs.Runs.{Writes, WritesPart, IsWhole, IsCutShort, IsStatus};
+ghost use Rattle.tele_audit.specs.Runs.{Writes, WritesPart, IsWrittenWhole, EndsEarly, IsRunStatus};
 
 use crate::audits::audit;
 use crate::flaws::AuditFault;
@@ -38,7 +38,7 @@ pub fn audit_run<S: Source, O: Sink>(
 ) -> u8
     // What was written is what the command owes for all bytes that the source had, with this
     // status.
-    ensures text { IsWhole (job_of (map string_bytes words.now)) result →
+    ensures text { IsWrittenWhole (job_of (map string_bytes words.now)) result →
         IfSome (S.left source.old) (λ bytes. Writes (job_of (map string_bytes words.now)) bytes
         (O.written out.old) (O.written out.new) result) }
     ensures whole { result ≡ DONE →
@@ -50,14 +50,14 @@ pub fn audit_run<S: Source, O: Sink>(
     ensures unread { job_of (map string_bytes words.now) ≡ Job.Refuse → source.new ≡ source.old }
 
     // If the run was cut short, a prefix of what is due was written.
-    ensures part { IsCutShort result → IfSome (S.left source.old) (λ bytes.
+    ensures part { EndsEarly result → IfSome (S.left source.old) (λ bytes.
         WritesPart (job_of (map string_bytes words.now)) bytes
         (O.written out.old) (O.written out.new)) }
-    ensures usage_part { job_of (map string_bytes words.now) ≡ Job.Refuse → IsCutShort result →
+    ensures usage_part { job_of (map string_bytes words.now) ≡ Job.Refuse → EndsEarly result →
         AppendsPart (O.written out.old) (O.written out.new) usage_text }
 
     // Each status has its cause.
-    ensures statuses { IsStatus (job_of (map string_bytes words.now)) result }
+    ensures statuses { IsRunStatus (job_of (map string_bytes words.now)) result }
     ensures read_failed { result ≡ READ_FAILED →
         HaveRisen (S.faults source.old) (S.faults source.new) }
     ensures unwritten { result ≡ READ_FAILED → out.new ≡ out.old }
@@ -67,7 +67,7 @@ pub fn audit_run<S: Source, O: Sink>(
     // Without a fault the whole text is written, unless memory runs out.
     ensures complete { ¬ HaveRisen (S.faults source.old) (S.faults source.new) →
         ¬ HaveRisen (O.faults out.old) (O.faults out.new) →
-        IsWhole (job_of (map string_bytes words.now)) result ⊎ (result ≡ NO_MEMORY) }
+        IsWrittenWhole (job_of (map string_bytes words.now)) result ⊎ (result ≡ NO_MEMORY) }
 
     ensures source_counted { S.faults source.old ≤ S.faults source.new }
     ensures sink_counted { O.faults out.old ≤ O.faults out.new }
@@ -96,7 +96,7 @@ fn work<S: Source, O: Sink>(
     ensures usage_part { job ≡ Job.Refuse → OnErr result
         (AppendsPart (O.written out.old) (O.written out.new) usage_text) }
     ensures unread { job ≡ Job.Refuse → source.new ≡ source.old }
-    ensures statuses { IfOk result (IsWhole job) }
+    ensures statuses { IfOk result (IsWrittenWhole job) }
     ensures reads { job ≡ Job.Refuse → result ≡ Err Halt.Read → ⊥ }
     ensures whole { result ≡ Ok DONE →
         IfSome (S.left source.old) (λ _. S.left source.new ≡ Some []) }
@@ -142,7 +142,7 @@ fn tell<S: Source, O: Sink>(
         Writes (Job.Tell question) bytes (O.written out.old) (O.written out.new) status)) }
     ensures part { OnErr result (IfSome (S.left source.old) (λ bytes.
         WritesPart (Job.Tell question) bytes (O.written out.old) (O.written out.new))) }
-    ensures statuses { IfOk result (IsWhole (Job.Tell question)) }
+    ensures statuses { IfOk result (IsWrittenWhole (Job.Tell question)) }
     ensures whole { result ≡ Ok DONE →
         IfSome (S.left source.old) (λ _. S.left source.new ≡ Some []) }
     ensures read_failed { result ≡ Err Halt.Read →

@@ -2,7 +2,7 @@
 ghost use Rattle.std.specs.Prelude.{◌≡◌, ◌≤◌, ◌^◌, Err, OnOk, IfSome};
 ghost use Rattle.tele_io.specs.Bytes.{HaveRisen};
 ghost use Rattle.tele_audit.specs.declared.flaws.Flaw.{Flaw};
-ghost use Rattle.tele_audit.specs.Taking.{Takes, AreEnough, Extends};
+ghost use Rattle.tele_audit.specs.Taking.{TakesBytes, AreEnough, Extends};
 
 use crate::flaws::AuditFault;
 use tele_io::{Failed, Source};
@@ -18,7 +18,7 @@ pub(crate) fn take_bytes<S: Source>(
     count: u64,
 ) -> Result<(), AuditFault>
     ensures takes { OnOk result
-        (Takes (S.left source.old) (S.left source.new) taken.old.items taken.new.items) }
+        (TakesBytes (S.left source.old) (S.left source.new) taken.old.items taken.new.items) }
     ensures enough { OnOk result (IfSome (S.left source.old)
         (λ _. AreEnough (S.left source.new) count taken.new.items)) }
     ensures extends { OnOk result (Extends taken.old.items taken.new.items) }

@@ -12,7 +12,7 @@ use Rattle.tele_generations.specs.Generations.{IsGenerations}
 use Rattle.tele_generations.specs.Generations.IsGenerations.{whole, ran_full}
 use Rattle.tele_generations.specs.Shelves.{IsShelved}
 use Rattle.tele_generations.specs.Rounds.{FirstHas, RanInGenerations}
-use Rattle.tele_generations.specs.Ways.{MayFollow, LeadOn, BeginsWith, HasTables}
+use Rattle.tele_generations.specs.Ways.{MayFollow, LeadOn, HasFirstWords, HasTables}
 
 -- the last of the tables decides which may follow
 follow_last : (tables : List (List ℕ)) (table next : List ℕ) → MayFollow (tables ++ table ∷ []) next
@@ -58,14 +58,14 @@ shelved_more (Some before) given (Some middle) closed (Some after) one two =
 
 -- the first of the tables, with one more after them
 begins_more : (first words next : ℕ) (tables : List (List ℕ)) (table : List ℕ)
-    → BeginsWith first tables words → length table ≡ words
-    → BeginsWith first (tables ++ table ∷ []) next
+    → HasFirstWords first tables words → length table ≡ words
+    → HasFirstWords first (tables ++ table ∷ []) next
 begins_more first words next [] table begins sized = sized ∙ begins
 begins_more first words next (x ∷ tables) table begins sized = begins
 
 -- the first of the tables, with the last one after them
 begins_last : (first words : ℕ) (tables : List (List ℕ)) (table : List ℕ)
-    → BeginsWith first tables words → length table ≡ words
+    → HasFirstWords first tables words → length table ≡ words
     → FirstHas first (tables ++ table ∷ [])
 begins_last first words [] table begins sized = sized ∙ begins
 begins_last first words (x ∷ tables) table begins sized = begins

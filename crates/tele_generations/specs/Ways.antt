@@ -45,9 +45,9 @@ LeadOn workers pairs tasks tables fulls now left =
 
 -- the first of the tables so far has `first` words; before the first table, the next one will have
 -- them
-abbrev pub BeginsWith : ℕ → List (List ℕ) → ℕ → Type 0
-BeginsWith first [] words = words ≡ first
-BeginsWith first (table ∷ tables) words = length table ≡ first
+abbrev pub HasFirstWords : ℕ → List (List ℕ) → ℕ → Type 0
+HasFirstWords first [] words = words ≡ first
+HasFirstWords first (table ∷ tables) words = length table ≡ first
 
 -- the tables so far: they are on the shelf, they lead on to what is left, and the next one may
 -- follow
@@ -58,7 +58,7 @@ pub record HasTables (workers first : ℕ) (pairs : List Pair) (tasks : List Tas
   pub shelved : IsShelved before given after
   pub lead : LeadOn workers pairs tasks given fulls now left
   pub may_follow : (next : List ℕ) → length next ≡ words → MayFollow given next
-  pub begins : BeginsWith first given words
+  pub begins : HasFirstWords first given words
 
 -- the round is under way, by some workers: what was answered, what is left and from which pairs, and
 -- how many words the next table has

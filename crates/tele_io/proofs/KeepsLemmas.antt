@@ -1,7 +1,7 @@
 -- The known bytes of a stream after two steps, the first of which kept them. Serves `read_on` and
 -- `write_on`, and whoever passes on what was written.
 use Rattle.std.proofs.Common.{ℕ, List, [], take, Option, Some, None, subst}
-use Rattle.tele_io.specs.Bytes.{Keeps, Gives, Appends, AppendsPart}
+use Rattle.tele_io.specs.Bytes.{Keeps, GivesBytes, Appends, AppendsPart}
 use Rattle.tele_io.proofs.AppendsLemmas.{Appends-nothing, AppendsPart-nothing}
 
 -- what was kept twice was kept
@@ -12,10 +12,10 @@ keeps_keeps (Some bytes) middle now kept more = subst (λ m. Keeps m now) kept m
 
 -- a read after a step that kept the bytes gives what a read from the start gives
 pub keeps_gives : (before middle now : Option (List ℕ)) (n : ℕ) (buffer : List ℕ)
-    → Keeps before middle → Gives middle now n buffer → Gives before now n buffer
+    → Keeps before middle → GivesBytes middle now n buffer → GivesBytes before now n buffer
 keeps_gives None middle now n buffer kept given = tt
 keeps_gives (Some bytes) middle now n buffer kept given =
-    subst (λ m. Gives m now n buffer) kept given
+    subst (λ m. GivesBytes m now n buffer) kept given
 
 -- a write after a step that kept the bytes appends to what was there at the start
 pub keeps_appends : (before middle now : Option (List ℕ)) (bytes : List ℕ)

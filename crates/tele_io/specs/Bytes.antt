@@ -24,9 +24,9 @@ pub record GivesFirst (bytes : List ℕ) (now : Option (List ℕ)) (n : ℕ) (bu
   pub at_end : n ≡ 0 → bytes ≡ []
 
 -- a read gave n bytes; which ones is known if the source's bytes are known
-abbrev pub Gives : Option (List ℕ) → Option (List ℕ) → ℕ → List ℕ → Type 0
-Gives (Some bytes) now n buffer = GivesFirst bytes now n buffer
-Gives None now n buffer = Unit {0}
+abbrev pub GivesBytes : Option (List ℕ) → Option (List ℕ) → ℕ → List ℕ → Type 0
+GivesBytes (Some bytes) now n buffer = GivesFirst bytes now n buffer
+GivesBytes None now n buffer = Unit {0}
 
 -- a write appended these bytes to the sink's known bytes
 abbrev pub Appends : Option (List ℕ) → Option (List ℕ) → List ℕ → Type 0

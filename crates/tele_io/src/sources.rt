@@ -1,6 +1,6 @@
 //! Sources of bytes.
 ghost use Rattle.std.specs.Prelude.{ℕ, ◌<◌, ◌≤◌, List, length, Option, IfOk, OnErr};
-ghost use Rattle.tele_io.specs.Bytes.{HaveRisen, Gives, Keeps};
+ghost use Rattle.tele_io.specs.Bytes.{HaveRisen, GivesBytes, Keeps};
 
 /// A read that gave nothing, since what the source reads from failed.
 #[derive(Clone, Copy, Debug, PartialEq, Eq, Drop)]
@@ -21,7 +21,7 @@ pub trait Source {
         requires { 0 < length buf.old }
 
         ensures within { IfOk result (λ n. n ≤ length buf.new) }
-        ensures given { IfOk result (λ n. Gives (left self.old) (left self.new) n buf.new) }
+        ensures given { IfOk result (λ n. GivesBytes (left self.old) (left self.new) n buf.new) }
 
         ensures failed { OnErr result (HaveRisen (faults self.old) (faults self.new)) }
         ensures kept { OnErr result (Keeps (left self.old) (left self.new)) }

@@ -1,6 +1,6 @@
 //! A source over a reader of std, and a sink over a writer of std.
 ghost use Rattle.std.specs.Prelude.{◌≡◌, ◌<◌, ◌≤◌, [], length, take, is_err, if◌then◌else◌, IsOk, IfOk, OnErr, IfErr};
-ghost use Rattle.tele_io.specs.Bytes.{HaveRisen, Gives, Appends, Keeps, raised};
+ghost use Rattle.tele_io.specs.Bytes.{HaveRisen, GivesBytes, Appends, Keeps, raised};
 ghost use Rattle.tele_io.specs.Streams.{reader_of, read_faults, writer_of, write_faults};
 
 use super::sinks::{Sink, SinkFault};
@@ -38,7 +38,7 @@ impl<R: Read> Source for ReadSource<R> {
 
         ensures within { IfOk result (λ n. n ≤ length buf.new) }
         ensures given { IfOk result (λ n.
-            Gives (R.remaining (reader_of self.old)) (R.remaining (reader_of self.new)) n buf.new) }
+            GivesBytes (R.remaining (reader_of self.old)) (R.remaining (reader_of self.new)) n buf.new) }
 
         ensures failed { OnErr result (HaveRisen (read_faults self.old) (read_faults self.new)) }
         ensures kept { OnErr result
@@ -63,7 +63,7 @@ fn read_on<R: Read>(reader: &mut R, buf: &mut [u8]) -> Result<usize, Failed>
 
     ensures within { IfOk result (λ n. n ≤ length buf.new) }
     ensures given { IfOk result
-        (λ n. Gives (R.remaining reader.old) (R.remaining reader.new) n buf.new) }
+        (λ n. GivesBytes (R.remaining reader.old) (R.remaining reader.new) n buf.new) }
 
     ensures kept { OnErr result (Keeps (R.remaining reader.old) (R.remaining reader.new)) }
 {

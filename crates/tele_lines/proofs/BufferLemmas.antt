@@ -3,7 +3,7 @@ use Rattle.std.proofs.Common.{◌≡◌, ℕ, ◌+◌, ◌-◌, ◌≤◌, List,
 use Rattle.std.specs.Prelude.{slice_range, Option, Some, None}
 use Rattle.std.proofs.Math.Seq.{take-add}
 use Rattle.std.proofs.lemmas.List.{drop-drop, drop-take, take-append-drop, length-drop, length-take, length-take-le}
-use Rattle.tele_io.specs.Bytes.{Gives}
+use Rattle.tele_io.specs.Bytes.{GivesBytes}
 use Rattle.tele_lines.specs.Buffers.{Fills}
 
 -- letting the first go is beginning later
@@ -17,7 +17,7 @@ slice_range-later bytes start count end h =
 
 -- bytes that were read after the first k are the next ones
 pub fills_behind : (bytes : List ℕ) (k n : ℕ) (left now : Option (List ℕ)) → k + n ≤ length bytes
-    → Gives left now n (drop k bytes)
+    → GivesBytes left now n (drop k bytes)
     → Fills left now (take k bytes) (take (k + n) bytes) n
 fills_behind bytes k n (Some given) now h g = record {
   longer = omega (arith, length-take-le (k + n) bytes h, length-take-le k bytes (omega arith));
@@ -38,7 +38,7 @@ fills_behind bytes k n None now h g = record {
 
 -- the same, as the buffer sees its bytes
 pub filled : (bytes old : List ℕ) (k n : ℕ) (left now : Option (List ℕ)) → take k bytes ≡ old
-    → k + n ≤ length bytes → Gives left now n (drop k bytes)
+    → k + n ≤ length bytes → GivesBytes left now n (drop k bytes)
     → Fills left now old (slice_range bytes 0 (k + n)) n
 filled bytes old k n left now is h g =
     let front = fills_behind bytes k n left now h g in

@@ -1,6 +1,6 @@
 //! The bytes between a source and the lines that are cut from them.
 ghost use Rattle.std.specs.Prelude.{◌≡◌, ◌+◌, ◌-◌, ◌<◌, ◌≤◌, [], length, take, drop, slice_range, IfOk, OnErr, OnOk};
-ghost use Rattle.tele_io.specs.Bytes.{HaveRisen, Gives, Keeps};
+ghost use Rattle.tele_io.specs.Bytes.{HaveRisen, GivesBytes, Keeps};
 ghost use Rattle.tele_lines.specs.Buffers.{Fills};
 
 use std::marker::Model;
@@ -44,7 +44,7 @@ fn read_behind<S: Source>(bytes: &mut [u8], end: usize, source: &mut S) -> Resul
     ensures front { take end bytes.new ≡ take end bytes.old }
     ensures within { IfOk result (λ n. end + n ≤ length bytes.new) }
     ensures given { IfOk result
-        (λ n. Gives (S.left source.old) (S.left source.new) n (drop end bytes.new)) }
+        (λ n. GivesBytes (S.left source.old) (S.left source.new) n (drop end bytes.new)) }
 
     ensures failed { OnErr result (HaveRisen (S.faults source.old) (S.faults source.new)) }
     ensures kept { OnErr result (Keeps (S.left source.old) (S.left source.new)) }

@@ -11,7 +11,7 @@ use Rattle.std.proofs.lemmas.List.Concat.{flat_map-append}
 use Rattle.crossbeam_deque.proofs.Lists.{at_set, at_snoc, set_here, set_else, at_longer}
 use Rattle.crossbeam_deque.specs.Tasks.{Pushes, Takes, Finds, Forks, Merges, Learns}
 use Rattle.tele_steal.specs.declared.tallies.Tally.{Tally}
-use Rattle.tele_steal.specs.Tallies.{of_owner, of_worker, of_none, taken_by, busy_of, IdleTookNothing, IsOwners, BalancesAt, Balances, HasTaken, HasDrawn}
+use Rattle.tele_steal.specs.Tallies.{of_owner, of_worker, of_none, taken_by, busy_of, IdleTookNothing, IsOwners, BalancesAt, Balances, HasTakenLanes, HasDrawn}
 use Rattle.tele_steal.proofs.ShuffleLemmas.{joins_first, joins_second, joins_third, third_to_second, moves}
 use Rattle.tele_steal.proofs.ViewLemmas.{seat_within, sum_by-seat, flat_map-seat, others, seat_last, flat_map-none, no_elements}
 
@@ -155,7 +155,7 @@ module _ {X : Type 0} (Fits : X → Type 0) where
 
   -- a worker takes some
   pub takes : (port : ℕ) (v : Tally X) → v ≡ of_worker v.taken
-      → Takes (Balances Fits) port v 1 (HasTaken Fits v)
+      → Takes (Balances Fits) port v 1 (HasTakenLanes Fits v)
   takes port v is xs items views _ _ b at =
       let w : Tally X = of_worker (v.taken ++ xs) in
       let o = b.kept in

@@ -64,7 +64,7 @@ module _ {X : Type 0} where
       pub kept : BalancesAt port own items views
 
     -- a worker took these
-    pub record HasTaken (v : Tally X) (xs : List X) (w : Tally X) : Type 0 where
+    pub record HasTakenLanes (v : Tally X) (xs : List X) (w : Tally X) : Type 0 where
       pub tally : w ≡ of_worker (v.taken ++ xs)
       pub few : length w.taken ≤ 64
       pub fit : All Fits xs

@@ -82,9 +82,9 @@ pub(crate) struct Take<L> {
 impl<P: Port, L: Lesson<Lane<P>, Tally<Lane<P>>>> Outcome<Lane<P>, Tally<Lane<P>>> for Take<L> {
     ghost use Rattle.std.specs.Prelude.{[]};
     ghost use Rattle.tele_steal.specs.Runs.{IsNewLane};
-    ghost use Rattle.tele_steal.specs.Tallies.{HasTaken};
+    ghost use Rattle.tele_steal.specs.Tallies.{HasTakenLanes};
 
-    ghost then = { HasTaken (IsNewLane P.calls P.refused) };
+    ghost then = { HasTakenLanes (IsNewLane P.calls P.refused) };
 
     ghost empty = { λ v. L.fact v [] };
 }

@@ -4,7 +4,7 @@ ghost use mathlib.Core.Option.{some};
 ghost use lib.ListN.{get_elem?};
 ghost use Rattle.crossbeam_deque.specs.Handles.{view, IsPassOf, SamePass, stealer_deque, stealer_flavor};
 ghost use Rattle.tele_steal.specs.Runs.{IsNewLane, IsRunLane, ticket};
-ghost use Rattle.tele_steal.specs.Tallies.{Balances, HasTaken, of_worker, taken_by};
+ghost use Rattle.tele_steal.specs.Tallies.{Balances, HasTakenLanes, of_worker, taken_by};
 ghost use Rattle.tele_steal.specs.declared.tallies.Tally.{Tally};
 ghost use Rattle.tele_lanes.specs.declared.lanes.Lane.{Lane};
 
@@ -48,7 +48,7 @@ pub(crate) fn steal_lane<R: Wait, P: Port, L: Lesson<Lane<P>, Tally<Lane<P>>>>(
         → get_elem? views port ≡ some v → L.fact v [] }
     ensures table { IsPassOf (stealer_deque thief.now) pass.new }
     ensures taken { IfSome result (λ l.
-        HasTaken (IsNewLane P.calls P.refused) (view pass.old) (l ∷ []) (view pass.new)) }
+        HasTakenLanes (IsNewLane P.calls P.refused) (view pass.old) (l ∷ []) (view pass.new)) }
     ensures same { IfNone result (view pass.new ≡ view pass.old) }
     ensures over { IfNone result (L.fact (view pass.new) []) }
 {

@@ -23,7 +23,7 @@ use Rattle.tele_generations.specs.Runs.{HasRun}
 use Rattle.tele_generations.proofs.StandLemmas.{own_entry, other_entry}
 use Rattle.tele_generations.proofs.LaneLemmas.{run_asked}
 use Rattle.tele_generations.specs.Generations.{puts_done, all_done}
-use Rattle.tele_trees.specs.Ends.{TreeLane, run_of, HasEnded}
+use Rattle.tele_trees.specs.Ends.{TreeLane, run_of, LaneHasEnded}
 
 -- ---- counting
 
@@ -184,27 +184,27 @@ puts_rise old more new e =
 -- ---- by lanes
 
 -- a lane that was run, as its run
-pub has_run : (e : TreeLane) → HasEnded e → HasRun (run_of e)
+pub has_run : (e : TreeLane) → LaneHasEnded e → HasRun (run_of e)
 has_run e h = record { calls = h.calls; answers = h.answers; replies = h.replies }
 
 -- calls with a put are answered tasks with one
-called_done : (ends : List TreeLane) → All HasEnded ends
+called_done : (ends : List TreeLane) → All LaneHasEnded ends
     → called_puts (map (λ e. e.port.pass.calls) ends)
     ≡ put_count (commands_of (all_done (map run_of ends)))
 called_done [] h = refl
 called_done (e ∷ ends) h =
-    let rest = called_done ends (All-tail HasEnded e ends h) in
+    let rest = called_done ends (All-tail LaneHasEnded e ends h) in
     let done : List Task = take (length e.answers.list) e.tasks in
     let asked : map (λ c. c.command) e.port.pass.calls ≡ commands_of done
     = sym (map-map (λ t. t.command) told_by_call e.port.pass.calls)
-    ∙ run_asked (run_of e) (has_run e (All-head HasEnded e ends h)) in
+    ∙ run_asked (run_of e) (has_run e (All-head LaneHasEnded e ends h)) in
     let both = ap put_count (map-append (λ (t : Task). t.command) done (all_done (map run_of ends)))
     ∙ put_count-append (commands_of done) (commands_of (all_done (map run_of ends))) in
     let mine = ap put_count asked in
     omega arith
 
 -- the puts called are the answered puts
-pub called_puts-done : (ends : List TreeLane) → All HasEnded ends
+pub called_puts-done : (ends : List TreeLane) → All LaneHasEnded ends
     → called_puts (map (λ e. e.port.pass.calls) ends) ≡ puts_done (map run_of ends)
 called_puts-done ends h =
     called_done ends h ∙ put_count-is (commands_of (all_done (map run_of ends)))

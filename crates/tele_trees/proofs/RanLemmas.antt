@@ -26,7 +26,7 @@ use Rattle.laws_histories.proofs.ChangeLemmas.{changes_on, on_trans}
 use Rattle.ist_tree.specs.Faces.{TreeFace, MakerFace, calls_in}
 use Rattle.ist_tree.specs.Opening.{IsNewTree}
 use Rattle.ist_tree.specs.Closing.{ClosesWith, calls_taken, told_to, calls_from}
-use Rattle.ist_tree.specs.Refusals.{WasRefused, MayBeAsked}
+use Rattle.ist_tree.specs.Refusals.{PassWasRefused, MayBeAsked}
 use Rattle.ist_tree.proofs.NumberLemmas.{calls_in_order}
 use Rattle.tele_lanes.specs.declared.task_lists.Task.{Task}
 use Rattle.tele_lanes.specs.declared.answer_lists.Answer.{Answer}
@@ -36,7 +36,7 @@ use Rattle.tele_generations.specs.Runs.{LaneRun, HasRun, LanesRan, AreWhole, tol
 use Rattle.tele_generations.specs.Generations.{RanFull, MayAsk, may_want_words}
 use Rattle.tele_generations.specs.Generations.{puts_done}
 use Rattle.tele_generations.specs.Tables.{RanOnTable, EndedWith}
-use Rattle.tele_trees.specs.Ends.{TreeLane, run_of, HasEnded, CameTo}
+use Rattle.tele_trees.specs.Ends.{TreeLane, run_of, LaneHasEnded, CameTo}
 use Rattle.tele_trees.proofs.PutLemmas.{puts_few, puts_rise, has_run, called_puts, called_puts-done}
 use Rattle.tele_trees.proofs.LogLemmas.{spent_rise, word_there}
 use Rattle.tele_trees.proofs.RefusalLemmas.{none_stopped, one_stopped, refused_with, task_there}
@@ -48,7 +48,7 @@ wants_words (Remove key) other = refl
 wants_words (Get key) other = absurd (other key refl)
 
 -- a lane that didn't stop answered all
-whole_of : (e : TreeLane) → HasEnded e → e.stopped ≡ None → length (run_of e).told ≡ length e.tasks
+whole_of : (e : TreeLane) → LaneHasEnded e → e.stopped ≡ None → length (run_of e).told ≡ length e.tasks
 whole_of e h none = subst (λ o. IfNone o (length (run_of e).told ≡ length e.tasks)) none h.whole
 
 -- the image of an element is one of the images
@@ -156,9 +156,9 @@ module _ (workers words : ℕ) (pairs : List Pair) (tasks : List Task) (tree : T
     its_start = ap (λ t. t.start) its_tree
 
     -- why it was refused
-    cause : WasRefused e.port.pass r
-    cause = subst (λ o. IfSome o (WasRefused e.port.pass)) was
-        (All-contains (λ (x : TreeLane). IfSome x.port.refused (WasRefused x.port.pass)) came.ends e
+    cause : PassWasRefused e.port.pass r
+    cause = subst (λ o. IfSome o (PassWasRefused e.port.pass)) was
+        (All-contains (λ (x : TreeLane). IfSome x.port.refused (PassWasRefused x.port.pass)) came.ends e
         came.causes is_end)
 
     -- what its pass had seen is a prefix of the log
@@ -200,7 +200,7 @@ module _ (workers words : ℕ) (pairs : List Pair) (tasks : List Task) (tree : T
     -- the table ran full before its next task
     ran_full : RanFull pairs table runs r.full
     ran_full =
-        let ended = All-contains HasEnded came.ends e came.ran is_end in
+        let ended = All-contains LaneHasEnded came.ends e came.ran is_end in
         let refused = subst (λ o. IfSome o (λ x. slice_get (commands_of e.tasks)
         (length (run_of e).told) ≡ Some x.command)) was ended.refused in
         let answered : length (run_of e).told ≡ length e.answers.list
@@ -229,7 +229,7 @@ module _ (workers words : ℕ) (pairs : List Pair) (tasks : List Task) (tree : T
   ended None is = ended_whole (sym is)
   ended (Some numbers) is =
       let it = one_stopped came.ends numbers (sym is) in
-      let stop = All-contains HasEnded came.ends it.0 came.ran it.1 in
+      let stop = All-contains LaneHasEnded came.ends it.0 came.ran it.1 in
       let r = refused_with it.0.port.refused numbers (sym stop.stopped ∙ it.2) in
       subst (RanFull pairs table runs) r.2 (ran_full it.0 it.1 r.0 r.1)
 

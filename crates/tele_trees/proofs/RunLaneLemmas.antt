@@ -8,7 +8,7 @@ use Rattle.std.specs.List.Sorted.{IsStrictlyIncreasing}
 use Rattle.ist_core.specs.declared.ports.Full.{Full}
 use Rattle.ist_core.specs.Logs.{GoesOn}
 use Rattle.ist_tree.specs.Faces.{TreeFace, MakerFace, calls_in}
-use Rattle.ist_tree.specs.Refusals.{WasRefused}
+use Rattle.ist_tree.specs.Refusals.{PassWasRefused}
 use Rattle.tele_lanes.specs.declared.task_lists.Task.{Task}
 use Rattle.tele_lanes.specs.declared.answer_lists.Answer.{Answer}
 use Rattle.tele_lanes.specs.Lines.{task_lines}
@@ -16,7 +16,7 @@ use Rattle.tele_lanes.specs.Lanes.{HaveOwnLines, InLineOrder, TasksInLineOrder, 
 use Rattle.tele_lanes.specs.Lanes.{first_refusal, all_lane_tasks}
 use Rattle.tele_lanes.proofs.ClimbLemmas.{HaveOwnLines-all_lane_tasks}
 use Rattle.tele_lanes.proofs.SplitLemmas.{length-all_lane_tasks}
-use Rattle.tele_trees.specs.Ends.{TreeLane, HasEnded, AreMade, CameTo}
+use Rattle.tele_trees.specs.Ends.{TreeLane, LaneHasEnded, AreMade, CameTo}
 use Rattle.tele_trees.proofs.LaneLemmas.{all_same}
 
 -- the tree and the number of a lane's pass
@@ -44,11 +44,11 @@ module _ (tree : TreeFace) (first made last : MakerFace) (count : ℕ) (tasks : 
   its_tree = all_same (λ (t : TreeFace × ℕ). t.0 ≡ tree) tie_of lanes fresh ties m.trees
 
   -- how the tasks ran
-  pub came_to : (slice : List TreeLane) → slice ≡ lanes → All HasEnded lanes → first.tree ≡ tree
+  pub came_to : (slice : List TreeLane) → slice ≡ lanes → All LaneHasEnded lanes → first.tree ≡ tree
       → first.taken ≡ [] → last.tree ≡ made.tree → last.made ≡ made.made
       → last.taken ≡ map (λ (l : TreeLane). calls_in l.port.pass) lanes ++ made.taken
       → All (λ (l : TreeLane). GoesOn l.port.pass.seen last.seen) lanes
-      → All (λ (l : TreeLane). IfSome l.port.refused (WasRefused l.port.pass)) lanes
+      → All (λ (l : TreeLane). IfSome l.port.refused (PassWasRefused l.port.pass)) lanes
       → (answers : List Answer) (left : List Task) (full : Option Full)
       → InLineOrder (map (λ (l : TreeLane). l.answers.list) slice) answers
       → TasksInLineOrder (map (λ (l : TreeLane). unanswered l.tasks l.answers.list) slice) left

@@ -8,7 +8,7 @@ use Rattle.ist_core.specs.Resting.{told_by_call}
 use Rattle.ist_tree.specs.declared.ports.TreePort.{TreePort}
 use Rattle.ist_tree.specs.declared.trees.Tree.{Tree}
 use Rattle.ist_tree.specs.Faces.{TreeFace, PortFace, MakerFace, calls_in}
-use Rattle.ist_tree.specs.Refusals.{WasRefused}
+use Rattle.ist_tree.specs.Refusals.{PassWasRefused}
 use Rattle.tele_lanes.specs.declared.lanes.Lane.{Lane}
 use Rattle.tele_lanes.specs.declared.task_lists.Task.{Task}
 use Rattle.tele_lanes.specs.declared.answer_lists.Answer.{Answer}
@@ -31,8 +31,8 @@ IsNew lane = IsNewLane told_to_port (λ port. port.refused) lane
 
 -- the lane was run: it answered either all of its tasks, or the tasks before the one that its port
 -- refused
-abbrev pub HasEnded : TreeLane → Type 0
-HasEnded lane = IsRunLane told_to_port (λ port. port.refused) lane
+abbrev pub LaneHasEnded : TreeLane → Type 0
+LaneHasEnded lane = IsRunLane told_to_port (λ port. port.refused) lane
 
 -- the lane as one that ran: its port was told what the calls of its pass say
 abbrev pub run_of : TreeLane → LaneRun
@@ -59,14 +59,14 @@ pub record CameTo (tree : TreeFace) (maker : MakerFace) (workers : ℕ) (tasks :
     (answers : List Answer) (left : List Task) (full : Option Full) : Type 0 where
   pub ends : List TreeLane
   pub lanes : map (λ e. e.tasks) ends ≡ all_lane_tasks workers tasks
-  pub ran : All HasEnded ends
+  pub ran : All LaneHasEnded ends
   pub trees : All (λ e. e.port.pass.tree ≡ tree) ends
   pub numbers : map (λ e. e.port.pass.number) ends ≡ range_with_len 0 workers
   pub same_tree : maker.tree ≡ tree
   pub made : maker.made ≡ workers
   pub taken : maker.taken ≡ map (λ e. calls_in e.port.pass) ends
   pub seen : All (λ e. GoesOn e.port.pass.seen maker.seen) ends
-  pub causes : All (λ e. IfSome e.port.refused (WasRefused e.port.pass)) ends
+  pub causes : All (λ e. IfSome e.port.refused (PassWasRefused e.port.pass)) ends
   pub answered : InLineOrder (map (λ e. e.answers.list) ends) answers
   pub left_are : TasksInLineOrder (map (λ e. unanswered e.tasks e.answers.list) ends) left
   pub full_is : full ≡ first_refusal (map (λ e. e.stopped) ends)

@@ -85,11 +85,11 @@ pub(crate) struct OfLane;
 
 impl<'a> Holds<Lane<TreePort<'a>>> for OfLane {
     ghost use Rattle.std.specs.Prelude.{IfSome};
-    ghost use Rattle.ist_tree.specs.Refusals.{WasRefused};
+    ghost use Rattle.ist_tree.specs.Refusals.{PassWasRefused};
 
     ghost pass = { λ l. l.port.pass };
 
-    ghost known = { λ l. IfSome l.port.refused (WasRefused l.port.pass) };
+    ghost known = { λ l. IfSome l.port.refused (PassWasRefused l.port.pass) };
 
     fn into_pass(holder: Lane<TreePort<'a>>) -> Pass {
         let Lane { port, .. } = holder;

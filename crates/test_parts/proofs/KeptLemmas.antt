@@ -19,7 +19,7 @@ use Rattle.ist_rule.proofs.WentOnLemmas.{later_by-goes_on, went_now, went_all, l
 use Rattle.ist_rows.specs.CallerLaws.{KeepsRows}
 use Rattle.ist_rows.proofs.CallerLawLemmas.{row_went}
 use Rattle.ist_dcss.proofs.HelperLemmas.{serves_keep}
-use Rattle.test_parts.specs.Racing.{HasPrepared, IsUnderway, HasBothLeaves}
+use Rattle.test_parts.specs.Racing.{HasPrepared, IsStartedAtFour, HasBothLeaves}
 
 -- ---- the rows of the race
 
@@ -45,7 +45,7 @@ filled_went v w g own number base f =
     held = row_went v w g row f.mine f.held
 
 -- a started rebuild stays one
-pub underway_grows : (t u : Snapshot) → AllGrow t.pieces u.pieces → IsUnderway t → IsUnderway u
+pub underway_grows : (t u : Snapshot) → AllGrow t.pieces u.pieces → IsStartedAtFour t → IsStartedAtFour u
 underway_grows t u g h =
     record {
       target = target_grows t u g 15 4 h.target;
@@ -53,7 +53,7 @@ underway_grows t u g h =
     }
 
 -- a started rebuild stays started
-pub underway_went : (v w : View) → WentOn KeepsRows v w → IsUnderway (now v) → IsUnderway (now w)
+pub underway_went : (v w : View) → WentOn KeepsRows v w → IsStartedAtFour (now v) → IsStartedAtFour (now w)
 underway_went v w g h = underway_grows (now v) (now w) (went_grow KeepsRows v w g) h
 
 -- a finished row stays one

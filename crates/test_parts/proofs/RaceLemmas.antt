@@ -36,7 +36,7 @@ use Rattle.ist_rows.specs.CallerLaws.{KeepsRows}
 use Rattle.ist_rows.specs.declared.callers.Caller.{Caller}
 use Rattle.ist_rows.specs.Filling.{filled_with, storing_all}
 use Rattle.ist_rows.proofs.FillingLemmas.{stored_at}
-use Rattle.test_parts.specs.Racing.{root_rows, root_word, racing, HasPrepared, IsUnderway, HasBothLeaves, HasPairRoot}
+use Rattle.test_parts.specs.Racing.{root_rows, root_word, racing, HasPrepared, IsStartedAtFour, HasBothLeaves, HasPairRoot}
 use Rattle.test_parts.proofs.KeptLemmas.{underway_went}
 use Rattle.test_parts.proofs.LeafLemmas.{good}
 
@@ -131,7 +131,7 @@ two_is_few : 2 < share_from
 two_is_few = let is = share_from_is in omega arith
 
 -- a filled row is a root for the rebuild, whose target is finished over the two leaves
-pub root_built : (v : View) (number base : ℕ) → HasPrepared v number base → IsUnderway (now v)
+pub root_built : (v : View) (number base : ℕ) → HasPrepared v number base → IsStartedAtFour (now v)
     → IsFinishedWith (now v) 4 2 → HasBothLeaves (now v)
     → IsRootBuilt (now v) number 15 (root_word base) (root_rows base)
 root_built v number base f u done b =
@@ -157,7 +157,7 @@ root_built v number base f u done b =
     }
 
 -- a load of the root word that gives Unset has seen it
-pub unset_seen : (v : View) (word : ℕ) (w : View) (caller : ℕ) → IsUnderway (now v)
+pub unset_seen : (v : View) (word : ℕ) (w : View) (caller : ℕ) → IsStartedAtFour (now v)
     → Looked v 18 word w → word ≡ 7 → WasUnset w caller 18
 unset_seen v word w caller u l is =
     let target = (underway_went v w (looked_went KeepsRows v 18 word w l) u).target in
@@ -170,13 +170,13 @@ unset_seen v word w caller u l is =
     }
 
 -- the row at 4 may be marked
-pub may_mark : (v : View) (number base : ℕ) → HasPrepared v number base → IsUnderway (now v)
+pub may_mark : (v : View) (number base : ℕ) → HasPrepared v number base → IsStartedAtFour (now v)
     → MayMark v 4
 may_mark v number base f u =
     record { number = number; mine = f.mine; called = as_target 15 u.target u.started }
 
 -- so it is built
-pub has_built : (v : View) (number base : ℕ) → HasPrepared v number base → IsUnderway (now v)
+pub has_built : (v : View) (number base : ℕ) → HasPrepared v number base → IsStartedAtFour (now v)
     → IsFinishedWith (now v) 4 2 → HasBothLeaves (now v) → WasUnset v number 18
     → HasPairRoot v number base
 has_built v number base f u done b was =

@@ -15,7 +15,7 @@ use Rattle.ist_dcss.specs.Helping.{MayHelp, IsDecided}
 use Rattle.ist_dcss.proofs.FieldLemmas.{looked_row, row_low}
 use Rattle.ist_rule.proofs.WentOnLemmas.{looked_went, went_grow}
 use Rattle.ist_rows.specs.CallerLaws.{KeepsRows}
-use Rattle.test_parts.specs.Racing.{IsUnderway}
+use Rattle.test_parts.specs.Racing.{IsStartedAtFour}
 use Rattle.test_parts.proofs.NewStartLemmas.{good}
 
 -- its places lie in the table
@@ -34,7 +34,7 @@ row_on v place word w l row e =
 pub start_seen : (v : View) → IsDecided v 20 true
     → (kind : ℕ) (w : View) → Looked v 21 kind w → kind ≡ 3
     → (to : ℕ) (x : View) → Looked w 25 to x → to ≡ 124
-    → (target : ℕ) (y : View) → Looked x 15 target y → target ≡ 4 → IsUnderway (now y)
+    → (target : ℕ) (y : View) → Looked x 15 target y → target ≡ 4 → IsStartedAtFour (now y)
 start_seen v d kind w l kind_is to x m to_is target y n target_is =
     record {
       target = record {

@@ -48,7 +48,7 @@ pub record HasPrepared (v : View) (number base : ℕ) : Type 0 where
   pub stored : StoredAll v (root_rows base)
 
 -- the rebuild of the row at 4 is started
-pub record IsUnderway (t : Snapshot) : Type 0 where
+pub record IsStartedAtFour (t : Snapshot) : Type 0 where
   pub target : HasTarget t 15 4
   pub started : IsStarted t 15
 

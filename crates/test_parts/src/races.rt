@@ -10,7 +10,7 @@ ghost use Rattle.ist_dcss.specs.Helping.{MayHelp};
 ghost use Rattle.laws_coming.specs.Builds.{WasUnset};
 ghost use Rattle.ist_rule.specs.Going.{WentOn};
 ghost use Rattle.ist_rows.specs.CallerLaws.{KeepsRows};
-ghost use Rattle.test_parts.specs.Racing.{root_rows, root_word, HasBothLeaves, HasPairRoot, HasPrepared, IsUnderway};
+ghost use Rattle.test_parts.specs.Racing.{root_rows, root_word, HasBothLeaves, HasPairRoot, HasPrepared, IsStartedAtFour};
 
 use crate::beginnings::{begin_start, reserve_start};
 use crate::samples::word_at;
@@ -67,7 +67,7 @@ pub(crate) fn follow(table: &TreeTable, token: &mut TreeToken) -> bool
     ensures same_table { token.new.table ≡ table.now.table }
     ensures went { WentOn KeepsRows token.old.view token.new.view }
     ensures own { token.new.view.own ≡ token.old.view.own }
-    ensures underway { result ≡ true → IsUnderway (now token.new.view) }
+    ensures underway { result ≡ true → IsStartedAtFour (now token.new.view) }
 {
     know(token);
     let decision = help(table, token, 20);
@@ -109,7 +109,7 @@ fn find_both(table: &TreeTable, token: &mut TreeToken) -> bool
 // Returns whether the rebuild at 15 has no root.
 fn find_no_root(table: &TreeTable, token: &mut TreeToken, number: u32) -> bool
     requires same_table { token.old.table ≡ table.now.table }
-    requires underway { IsUnderway (now token.old.view) }
+    requires underway { IsStartedAtFour (now token.old.view) }
     ensures same_table { token.new.table ≡ table.now.table }
     ensures went { WentOn KeepsRows token.old.view token.new.view }
     ensures own { token.new.view.own ≡ token.old.view.own }

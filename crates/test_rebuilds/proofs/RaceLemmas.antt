@@ -47,7 +47,7 @@ use Rattle.ist_build.proofs.HeldMoreLemmas.{stored_rows}
 use Rattle.ist_build.proofs.LayingLemmas.{rows_free}
 use Rattle.ist_build.proofs.RootReadyLemmas.{root_topped, topped_base, IsTopped}
 use Rattle.test_rebuilds.specs.Races.{HasLaid, HoldsRoot, row_named, racing}
-use Rattle.test_rebuilds.specs.Steps.{IsMarked}
+use Rattle.test_rebuilds.specs.Steps.{HasMarkedTarget}
 
 -- ---- what is built
 
@@ -60,7 +60,7 @@ unfolding shape shape_within degree square_root root_up_to part_len part_lens
 shape_two = refl
 
 -- both leaves may be built over
-pub may_build : (t : Snapshot) (rebuild target keys : ℕ) → keys ≡ 2 → IsMarked t rebuild target keys
+pub may_build : (t : Snapshot) (rebuild target keys : ℕ) → keys ≡ 2 → HasMarkedTarget t rebuild target keys
     → MayBuild t target 0 2
 may_build t rebuild target keys two m =
     record {
@@ -83,7 +83,7 @@ one_base (row ∷ other ∷ rows) base rest e f = absurd (let n = ap length e in
 
 -- what was built over both leaves is a root for the rebuild
 module _ (old new : Caller) (rebuild target keys word : ℕ) (ref : Ref) (two : keys ≡ 2)
-    (s : IsSound old.token.view) (m : IsMarked (now old.token.view) rebuild target keys)
+    (s : IsSound old.token.view) (m : HasMarkedTarget (now old.token.view) rebuild target keys)
     (mine : old.token.view.who ≡ CallerOf old.number) (number : new.number ≡ old.number)
     (went : WentOn Builds old.token.view new.token.view)
     (laid : (all : List PlacedLeaf)

@@ -6,11 +6,11 @@ use Rattle.ist_core.specs.Rebuilding.{IsFinishedWith, IsStarted}
 use Rattle.laws_links.proofs.FinishedLemmas.{target_grows}
 use Rattle.laws_links.proofs.FormLemmas.{finished_with_grows}
 use Rattle.test_rebuilds.specs.Races.{HasLaid}
-use Rattle.test_rebuilds.specs.Steps.{IsMarked}
+use Rattle.test_rebuilds.specs.Steps.{HasMarkedTarget}
 use Rattle.ist_dcss.proofs.FieldLemmas.{row_low}
 use Rattle.ist_mark.specs.Marking.{Marks}
 use Rattle.ist_rows.specs.Going.{IsReady}
-use Rattle.ist_rebuild.specs.Going.{Serves}
+use Rattle.ist_rebuild.specs.Going.{ServesRebuild}
 use Rattle.ist_rebuild.proofs.HelpedLemmas.{started_went}
 use Rattle.ist_rebuild.proofs.BuiltOutLemmas.{has_marked}
 use Rattle.ist_rule.specs.declared.view.View.{View}
@@ -25,11 +25,11 @@ use Rattle.ist_rows.specs.declared.callers.Caller.{Caller}
 pub is_marked : (who : Caller) (mid token : TokenFace) (rebuild target keys : ℕ) → IsReady who
     → IsStarted (now who.token.view) rebuild → GoesOnTo who.token.view mid.view
     → HasTarget (now mid.view) rebuild target → WentOn (Marks token.view target) mid.view token.view
-    → IsFinishedWith (now token.view) target keys → IsMarked (now token.view) rebuild target keys
+    → IsFinishedWith (now token.view) target keys → HasMarkedTarget (now token.view) rebuild target keys
 is_marked who mid token rebuild target keys ready started seen h marks finished =
     let m = has_marked who mid token rebuild target keys ready started seen h marks finished in
     record {
-      started = started_went Serves who.token.view token.view m.helped.on.gone.went rebuild started;
+      started = started_went ServesRebuild who.token.view token.view m.helped.on.gone.went rebuild started;
       target_is = target_grows (now mid.view) (now token.view)
           (went_grow (Marks token.view target) mid.view token.view marks) rebuild target h;
       finished = finished;
@@ -37,7 +37,7 @@ is_marked who mid token rebuild target keys ready started seen h marks finished 
 
 -- and stays so after loads
 pub marked_loads : (v w : View) → GoesOnTo v w → (rebuild target keys : ℕ)
-    → IsMarked (now v) rebuild target keys → IsMarked (now w) rebuild target keys
+    → HasMarkedTarget (now v) rebuild target keys → HasMarkedTarget (now w) rebuild target keys
 marked_loads v w g rebuild target keys m =
     let went = goes_on_went (λ event. ⊥) v w g in
     let grow = went_grow (λ event. ⊥) v w went in

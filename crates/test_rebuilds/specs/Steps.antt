@@ -11,7 +11,7 @@ use Rattle.ist_rows.specs.Rows.{IsCaller}
 use Rattle.ist_updates.specs.declared.updates.Due.{Due}
 
 -- the rebuild is started, and this is its target, which is finished with `keys` keys
-pub record IsMarked (t : Snapshot) (rebuild target keys : ℕ) : Type 0 where
+pub record HasMarkedTarget (t : Snapshot) (rebuild target keys : ℕ) : Type 0 where
   pub started : IsStarted t rebuild
   pub target_is : HasTarget t rebuild target
   pub finished : IsFinishedWith t target keys

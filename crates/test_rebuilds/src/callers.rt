@@ -5,7 +5,7 @@ ghost use Rattle.ist_core.specs.Enabled.{caller_limit};
 ghost use Rattle.ist_core.specs.Rebuilding.{IsStarted};
 ghost use Rattle.ist_core.specs.RowLayout.{anchor};
 ghost use Rattle.ist_core.specs.Slots.{SlotHolds};
-ghost use Rattle.test_rebuilds.specs.Steps.{IsMarked};
+ghost use Rattle.test_rebuilds.specs.Steps.{HasMarkedTarget};
 ghost use Rattle.ist_rebuild.specs.declared.answers.Started.TheVariants.{Yes};
 ghost use Rattle.ist_rows.specs.Going.{IsReady};
 ghost use Rattle.ist_rebuild.specs.Starting.{MayStart};
@@ -110,7 +110,7 @@ pub(crate) fn mark(table: &TreeTable, who: &mut Caller, rebuild: u32) -> Marked
     requires started { IsStarted (now who.old.token.view) rebuild }
     ensures same_table { who.new.token.table ≡ table.now.table }
     ensures ready { IsReady who.new }
-    ensures marked { IsMarked (now who.new.token.view) rebuild result.target result.keys }
+    ensures marked { HasMarkedTarget (now who.new.token.view) rebuild result.target result.keys }
     ensures started { IsStarted (now who.new.token.view) rebuild }
     ensures buildable { IsBuildable (now who.new.token.view) rebuild }
 {

@@ -1,6 +1,6 @@
 //! Leaves of a finished row by their numbers, and the ideal subtree over all of them.
 ghost use Rattle.std.specs.Prelude.{◌≡◌, ◌≤◌, ◌<◌, IsTrue};
-ghost use Rattle.test_rebuilds.specs.Steps.{IsMarked};
+ghost use Rattle.test_rebuilds.specs.Steps.{HasMarkedTarget};
 ghost use Rattle.ist_core.specs.Shapes.{share_from};
 ghost use Rattle.ist_rows.specs.Going.{IsReady};
 ghost use Rattle.ist_rule.specs.Learning.{now};
@@ -31,11 +31,11 @@ fn base_of(reference: Ref) -> u32 {
 fn leaf_base(table: &TreeTable, who: &mut Caller, rebuild: u32, marked: Marked, i: u64) -> u32
     requires same_table { who.old.token.table ≡ table.now.table }
     requires ready { IsReady who.old }
-    requires marked { IsMarked (now who.old.token.view) rebuild marked.target marked.keys }
+    requires marked { HasMarkedTarget (now who.old.token.view) rebuild marked.target marked.keys }
     requires within { i < marked.keys }
     ensures same_table { who.new.token.table ≡ table.now.table }
     ensures ready { IsReady who.new }
-    ensures marked { IsMarked (now who.new.token.view) rebuild marked.target marked.keys }
+    ensures marked { HasMarkedTarget (now who.new.token.view) rebuild marked.target marked.keys }
 {
     know(&who.token);
     let leaf = leaf_at(table, &mut who.token, marked.target, i);
@@ -54,11 +54,11 @@ pub(crate) fn are_pairs(
     requires maker_table { maker.old.table ≡ table.now.table }
     requires same_table { who.old.token.table ≡ table.now.table }
     requires ready { IsReady who.old }
-    requires marked { IsMarked (now who.old.token.view) rebuild marked.target marked.keys }
+    requires marked { HasMarkedTarget (now who.old.token.view) rebuild marked.target marked.keys }
     ensures maker_table { maker.new.table ≡ table.now.table }
     ensures same_table { who.new.token.table ≡ table.now.table }
     ensures ready { IsReady who.new }
-    ensures marked { IsMarked (now who.new.token.view) rebuild marked.target marked.keys }
+    ensures marked { HasMarkedTarget (now who.new.token.view) rebuild marked.target marked.keys }
 {
     let mut right = pairs.len() as u64 == marked.keys;
     for i in 0..marked.keys {
@@ -79,7 +79,7 @@ pub(crate) fn part(
 ) -> Result<Ref, Full>
     requires same_table { who.old.token.table ≡ table.now.table }
     requires ready { IsReady who.old }
-    requires marked { IsMarked (now who.old.token.view) rebuild marked.target marked.keys }
+    requires marked { HasMarkedTarget (now who.old.token.view) rebuild marked.target marked.keys }
     requires few { marked.keys < share_from }
     ensures same_table { who.new.token.table ≡ table.now.table }
 {

@@ -1,6 +1,6 @@
 //! How many words are loaded on the way to a leaf of a large finished row.
 ghost use Rattle.std.specs.Prelude.{◌≡◌, ◌<◌};
-ghost use Rattle.test_rebuilds.specs.Steps.{IsMarked};
+ghost use Rattle.test_rebuilds.specs.Steps.{HasMarkedTarget};
 ghost use Rattle.ist_rows.specs.Going.{IsReady};
 ghost use Rattle.ist_rule.specs.Learning.{now};
 
@@ -18,11 +18,11 @@ use std::test::Fail;
 fn loads_to(table: &TreeTable, who: &mut Caller, rebuild: u32, marked: Marked, i: u64) -> u64
     requires same_table { who.old.token.table ≡ table.now.table }
     requires ready { IsReady who.old }
-    requires marked { IsMarked (now who.old.token.view) rebuild marked.target marked.keys }
+    requires marked { HasMarkedTarget (now who.old.token.view) rebuild marked.target marked.keys }
     requires within { i < marked.keys }
     ensures same_table { who.new.token.table ≡ table.now.table }
     ensures ready { IsReady who.new }
-    ensures marked { IsMarked (now who.new.token.view) rebuild marked.target marked.keys }
+    ensures marked { HasMarkedTarget (now who.new.token.view) rebuild marked.target marked.keys }
 {
     know(&who.token);
     leaf_and_loads(table, &mut who.token, marked.target, i).1
@@ -39,7 +39,7 @@ fn first_other(
 ) -> Option<u64>
     requires same_table { who.old.token.table ≡ table.now.table }
     requires ready { IsReady who.old }
-    requires marked { IsMarked (now who.old.token.view) rebuild marked.target marked.keys }
+    requires marked { HasMarkedTarget (now who.old.token.view) rebuild marked.target marked.keys }
 {
     for (i, loads) in cases {
         if *i >= marked.keys {

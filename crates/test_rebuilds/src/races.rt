@@ -2,7 +2,7 @@
 //! the other caller loses its row.
 ghost use Rattle.std.specs.Prelude.{◌≡◌, ◌+◌, IfSome};
 ghost use Rattle.test_rebuilds.specs.Races.{racing, HoldsRoot};
-ghost use Rattle.test_rebuilds.specs.Steps.{IsMarked};
+ghost use Rattle.test_rebuilds.specs.Steps.{HasMarkedTarget};
 ghost use Rattle.ist_core.specs.Rebuilding.{IsStarted};
 ghost use Rattle.ist_core.specs.References.{unset_word};
 ghost use Rattle.ist_core.specs.RowLayout.{rebuild_root_offset};
@@ -26,7 +26,7 @@ use std::test::Fail;
 fn build(table: &TreeTable, who: &mut Caller, rebuild: u32, marked: Marked) -> Option<u64>
     requires same_table { who.old.token.table ≡ table.now.table }
     requires ready { IsReady who.old }
-    requires marked { IsMarked (now who.old.token.view) rebuild marked.target marked.keys }
+    requires marked { HasMarkedTarget (now who.old.token.view) rebuild marked.target marked.keys }
     ensures same_table { who.new.token.table ≡ table.now.table }
     ensures built { IfSome result (HoldsRoot who.new.token.view who.new.number rebuild) }
 {

@@ -1,6 +1,6 @@
 use Rattle.std.proofs.Common.{length, rules, refl, sym, subst}
 use Rattle.ist_rule.specs.Faces.{word_count_of}
-use Rattle.ist_build.specs.Laying.{IsDue}
+use Rattle.ist_build.specs.Laying.{AreNextRows}
 use Rattle.ist_build.proofs.BuiltLemmas.{loads_built, built_grow}
 use Rattle.ist_build.proofs.KeyLemmas.{keys_on}
 use Rattle.ist_build.proofs.ShareLemmas.{due_on}
@@ -54,7 +54,7 @@ returns-in-Some-clause-taken c =
 
 pub build-requires-in-None-clause-due : goal.build-requires-in-None-clause-due
 build-requires-in-None-clause-due c two =
-    subst (λ x. IsDue x (length c.args.leaves.now)) (sym c.in-None.ensures.same)
+    subst (λ x. AreNextRows x (length c.args.leaves.now)) (sym c.in-None.ensures.same)
     (due_on c.args.who.now c.reserve_shape.new.who.token (length c.args.leaves.now) c.requires.caller
     (c.in-None.ensures.none refl) (c.requires.due two))
 

@@ -1,6 +1,6 @@
 -- The handle holds the next tree's owner, or the closed tree.
 use Rattle.std.proofs.Common.{sym, subst}
-use Rattle.ist_c.specs.Closing.{Opens, opens_owner, opens_none}
+use Rattle.ist_c.specs.Closing.{OpensInHandle, opens_owner, opens_none}
 use Rattle.ist_handles.specs.declared.held.Held.TheVariants as of
 use Rattle.ist_c.proofs.close_calls.open_next.Goals as goal
 
@@ -10,6 +10,6 @@ returns-in-Ok c = record { opens = opens_owner c.in-Ok.owner c.in-Ok.ensures.new
 pub returns-in-Err : goal.returns-in-Err
 returns-in-Err c =
     record {
-      opens = subst (Opens c.args.closed c.args.words (of.Closed c.args.closed)) (sym c.status_for.ensures.value)
+      opens = subst (OpensInHandle c.args.closed c.args.words (of.Closed c.args.closed)) (sym c.status_for.ensures.value)
           (opens_none c.in-Err.fault c.requires.within c.in-Err.ensures.fault);
     }

@@ -1,7 +1,7 @@
 use Rattle.std.proofs.Common.{◌∷◌, [], subst}
 use Rattle.ist_core.specs.Logs.{state}
 use Rattle.ist_check.specs.Conditions.{says_of_change}
-use Rattle.ist_check.specs.Failing.{Tells}
+use Rattle.ist_check.specs.Failing.{TellsCondition}
 use Rattle.ist_check.proofs.TellLemmas.{next, tells}
 use Rattle.ist_check.proofs.installs.install_fails.Goals as goal
 
@@ -10,7 +10,7 @@ returns c =
     record {
       exact = λ first log h k w r s stay.
           let change = c.first_change-change.result in
-          subst (λ o. Tells (says_of_change first log c.args.caller c.args.base c.args.rows.now o)
+          subst (λ o. TellsCondition (says_of_change first log c.args.caller c.args.base c.args.rows.now o)
           c.first_failing.result) c.first_change-change.ensures.value (tells
           (c.test_of.result ∷ c.test_of-2.result ∷ c.test_of-3.result ∷ c.test_of-4.result
           ∷ c.test_of-5.result ∷ c.test_of-6.result ∷ c.test_of-7.result ∷ c.test_of-8.result

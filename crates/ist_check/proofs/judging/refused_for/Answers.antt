@@ -3,7 +3,7 @@ use Rattle.std.proofs.lemmas.Result.{IfOk-weaker}
 use Rattle.ist_core.specs.StartLayout.{start}
 use Rattle.ist_check.specs.Conditions.{says_of}
 use Rattle.ist_check.specs.declared.conditions.Condition.{Condition}
-use Rattle.ist_check.specs.Failing.{Stated, Tells}
+use Rattle.ist_check.specs.Failing.{Stated, TellsCondition}
 use Rattle.ist_check.proofs.ReasonLemmas.{all_hold}
 use Rattle.ist_check.proofs.judging.refused_for.Goals as goal
 
@@ -11,8 +11,8 @@ clash : false ≡ true → ⊥
 clash e = cc
 
 -- what is known of an event that may not come, if a condition is named
-told : {P : Type 0} (found : Option Condition) (says : List Stated) → ¬ P → Tells says found
-    → IfSome found (λ condition. ¬ P × Tells says (Some condition))
+told : {P : Type 0} (found : Option Condition) (says : List Stated) → ¬ P → TellsCondition says found
+    → IfSome found (λ condition. ¬ P × TellsCondition says (Some condition))
 told None says refused tells = tt
 told (Some condition) says refused tells = (refused, tells)
 
@@ -30,7 +30,7 @@ returns c =
       may = IfOk-weaker c.fails.result _ _
           (λ found f pairs words log knows none.
           all_hold (start pairs words) log c.args.event.now
-          (subst (Tells (says_of (start pairs words) log c.args.event.now)) none
+          (subst (TellsCondition (says_of (start pairs words) log c.args.event.now)) none
           (f pairs words log knows))) c.fails.ensures.exact;
       refused = IfOk-weaker c.fails.result _ _
           (λ found f pairs words log knows.

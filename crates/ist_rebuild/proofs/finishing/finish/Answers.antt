@@ -1,5 +1,5 @@
 use Rattle.std.proofs.Common.{Ok, ap, ◌∙◌}
-use Rattle.ist_rebuild.specs.Going.{Serves}
+use Rattle.ist_rebuild.specs.Going.{ServesRebuild}
 use Rattle.ist_rebuild.proofs.HelpedLemmas.{helped_same, helped_more}
 use Rattle.laws_coming.proofs.FurtherLemmas.{fewer_left}
 use Rattle.ist_rebuild.proofs.RefusalLemmas.{passed_on, refused_more}
@@ -13,7 +13,7 @@ turns-init c = (c.requires.same_table, helped_same _ c.requires.ready c.know.ens
 -- the plan is still a plan
 pub try_finish-requires-clause-plan : goal.try_finish-requires-clause-plan
 try_finish-requires-clause-plan c =
-    plan_went Serves _ _ c.turns.invariant.1.on.gone.went c.args.plan c.requires.plan
+    plan_went ServesRebuild _ _ c.turns.invariant.1.on.gone.went c.args.plan c.requires.plan
 
 -- each turn only made steps of help
 pub turns-preserved : goal.turns-preserved

@@ -1,7 +1,7 @@
 use Rattle.std.proofs.Common.{◌≡◌, None, Ok, Option, Result, rules}
 use Rattle.ist_core.specs.declared.ports.Full.{Full}
 use Rattle.ist_rebuild.specs.declared.answers.Helped.{Helped}
-use Rattle.ist_rebuild.specs.Going.{Serves}
+use Rattle.ist_rebuild.specs.Going.{ServesRebuild}
 use Rattle.ist_rebuild.proofs.HelpedLemmas.{helped_more, loads_helped}
 use Rattle.laws_coming.proofs.FurtherLemmas.{no_less}
 use Rattle.ist_rebuild.proofs.RefusalLemmas.{passed_on, refused_more}
@@ -18,7 +18,7 @@ is_open-requires-clause-node c =
 pub settle-requires-clause-ready : goal.settle-requires-clause-ready
 settle-requires-clause-ready c =
     still_ready
-    (loads_ready Serves c.args.who.now c.is_open.new.token c.requires.ready c.is_open.ensures.seen)
+    (loads_ready ServesRebuild c.args.who.now c.is_open.new.token c.requires.ready c.is_open.ensures.seen)
 
 pub settle-requires-clause-plan : goal.settle-requires-clause-plan
 settle-requires-clause-plan c =
@@ -34,7 +34,7 @@ returns-then-not-is_open-clause-helped c =
 pub prepare-requires-clause-ready : goal.prepare-requires-clause-ready
 prepare-requires-clause-ready c =
     still_ready
-    (loads_ready Serves c.args.who.now c.is_open.new.token c.requires.ready c.is_open.ensures.seen)
+    (loads_ready ServesRebuild c.args.who.now c.is_open.new.token c.requires.ready c.is_open.ensures.seen)
 
 pub prepare-requires-clause-plan : goal.prepare-requires-clause-plan
 prepare-requires-clause-plan c =
@@ -61,13 +61,13 @@ returns-in_err-change-clause-full c =
 -- the plan is still a plan
 pub carry-tried-requires-clause-plan : goal.carry-tried-requires-clause-plan
 carry-tried-requires-clause-plan c =
-    plan_went Serves _ _ c.prepare.ensures.helped.on.gone.went c.args.plan
+    plan_went ServesRebuild _ _ c.prepare.ensures.helped.on.gone.went c.args.plan
     (plan_on _ _ c.is_open.ensures.seen c.args.plan c.requires.plan)
 
 pub conclude-requires-clause-plan : goal.conclude-requires-clause-plan
 conclude-requires-clause-plan c =
-    plan_went Serves _ _ c.carry-tried.ensures.helped.on.gone.went c.args.plan
-    (plan_went Serves _ _ c.prepare.ensures.helped.on.gone.went c.args.plan
+    plan_went ServesRebuild _ _ c.carry-tried.ensures.helped.on.gone.went c.args.plan
+    (plan_went ServesRebuild _ _ c.prepare.ensures.helped.on.gone.went c.args.plan
     (plan_on _ _ c.is_open.ensures.seen c.args.plan c.requires.plan))
 
 -- the steps were steps of help
@@ -84,9 +84,9 @@ pub returns-clause-further : goal.returns-clause-further
 returns-clause-further c is =
     let first = loads_helped c.args.who.now c.is_open.new.token c.requires.ready
     c.is_open.ensures.seen in
-    no_less Serves _ _ _ first.on.gone.went
-    (no_less Serves _ _ _ c.prepare.ensures.helped.on.gone.went
-    (no_less Serves _ _ _ c.carry-tried.ensures.helped.on.gone.went
+    no_less ServesRebuild _ _ _ first.on.gone.went
+    (no_less ServesRebuild _ _ _ c.prepare.ensures.helped.on.gone.went
+    (no_less ServesRebuild _ _ _ c.carry-tried.ensures.helped.on.gone.went
     (c.conclude.ensures.further (none_of _ is))))
   where
     none_of : (o : Option Helped) → ◌≡◌ {A = Result (Option Helped) Full} (Ok o) (Ok None) → o ≡ None

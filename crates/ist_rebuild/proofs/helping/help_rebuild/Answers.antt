@@ -1,7 +1,7 @@
 use Rattle.std.proofs.Common.{subst}
 use Rattle.ist_rule.specs.Faces.{word_count_of}
 use Rattle.ist_build.proofs.ShareLemmas.{err_map}
-use Rattle.ist_rebuild.specs.Going.{Serves}
+use Rattle.ist_rebuild.specs.Going.{ServesRebuild}
 use Rattle.ist_rebuild.specs.Helping.{IsHelpRefused}
 use Rattle.ist_rebuild.proofs.HelpedLemmas.{helped_loads, helped_more, started_went}
 use Rattle.ist_rebuild.proofs.BuiltOutLemmas.{buildable_went}
@@ -24,7 +24,7 @@ returns-in_err-build_out-clause-full c =
 -- the rebuild is still started
 pub plan_of-plan-requires-clause-started : goal.plan_of-plan-requires-clause-started
 plan_of-plan-requires-clause-started c =
-    started_went Serves _ _
+    started_went ServesRebuild _ _
     (helped_more c.args.who.now c.mark_target.new.who c.build_out.new.who
     c.mark_target.ensures.helped c.build_out.ensures.helped).on.gone.went c.args.rebuild
     c.requires.started
@@ -57,14 +57,14 @@ returns-clause-full c =
 -- the target was finished by the first step, and stays so
 pub returns-in_err-build_out-clause-finished : goal.returns-in_err-build_out-clause-finished
 returns-in_err-build_out-clause-finished c =
-    buildable_went Serves _ _ c.build_out.ensures.helped.on.gone.went c.args.rebuild
+    buildable_went ServesRebuild _ _ c.build_out.ensures.helped.on.gone.went c.args.rebuild
     c.mark_target.ensures.buildable
 
 pub returns-clause-finished : goal.returns-clause-finished
 returns-clause-finished c =
     let built = helped_loads c.mark_target.new.who c.build_out.new.who c.plan_of-plan.new.token
     c.build_out.ensures.helped c.plan_of-plan.ensures.seen in
-    buildable_went Serves _ _
+    buildable_went ServesRebuild _ _
     (helped_more c.mark_target.new.who _ c.finish.new.who built
     c.finish.ensures.helped).on.gone.went
     c.args.rebuild c.mark_target.ensures.buildable

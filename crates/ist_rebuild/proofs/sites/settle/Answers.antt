@@ -2,7 +2,7 @@ use Rattle.std.proofs.Common.{refl, ◌∙◌}
 use Rattle.ist_dcss.proofs.CallingLemmas.{met_change}
 use Rattle.ist_dcss.specs.Helping.{Serves as HelpsWith}
 use Rattle.ist_rule.proofs.WentOnLemmas.{goes_on_went}
-use Rattle.ist_rebuild.specs.Going.{Serves}
+use Rattle.ist_rebuild.specs.Going.{ServesRebuild}
 use Rattle.ist_rebuild.proofs.HelpedLemmas.{helped_same, helped_more, loads_helped, help_helped}
 use Rattle.laws_coming.proofs.FurtherLemmas.{fewer_left, helped_further, no_less}
 use Rattle.ist_rebuild.proofs.SiteLemmas.{plan_went}
@@ -18,7 +18,7 @@ turns-init c =
 -- the plan is still a plan
 pub slot_word-word-requires-clause-plan : goal.slot_word-word-requires-clause-plan
 slot_word-word-requires-clause-plan c =
-    plan_went Serves _ _ c.turns.invariant.1.on.gone.went c.args.plan c.requires.plan
+    plan_went ServesRebuild _ _ c.turns.invariant.1.on.gone.went c.args.plan c.requires.plan
 
 -- the change that was met may be helped
 pub help-requires-clause-may_help : goal.help-requires-clause-may_help
@@ -46,7 +46,7 @@ turns-preserved c =
 pub turns-smaller : goal.turns-smaller
 turns-smaller c =
     fewer_left _ _ c.help.ensures.went.sound
-    (no_less Serves _ _ _ (goes_on_went Serves _ _ c.slot_word-word.ensures.seen)
+    (no_less ServesRebuild _ _ _ (goes_on_went ServesRebuild _ _ c.slot_word-word.ensures.seen)
     (helped_further (HelpsWith c.in-Change.change) _ _ c.slot_word-word.ensures.seen.sound
     c.help.ensures.went c.args.plan.parent c.args.plan.index _ c.in-Change.change
     c.slot_word-word.ensures.holds (c.in-Change.ensures.change _ refl) c.help.ensures.out.resolved))
@@ -64,10 +64,10 @@ returns-in-Itself-clause-left c _ =
     (loads_helped c.turns.who c.slot_word-word.new.token (still_ready c.turns.invariant.1.on)
     c.slot_word-word.ensures.seen) in
     tells_left _ l.on.gone.went.sound c.args.plan
-    (plan_went Serves _ _ l.on.gone.went c.args.plan c.requires.plan) _
+    (plan_went ServesRebuild _ _ l.on.gone.went c.args.plan c.requires.plan) _
     c.slot_word-word.ensures.holds
     (c.in-Itself.ensures.itself refl)
-    (closed_went Serves _ _ l.on.gone.went c.know.ensures.sound c.args.plan c.requires.plan
+    (closed_went ServesRebuild _ _ l.on.gone.went c.know.ensures.sound c.args.plan c.requires.plan
     c.requires.closed)
 
 -- the last turn loads another word, which is no change's
@@ -83,6 +83,6 @@ returns-in-Another-clause-replaced c _ =
     (loads_helped c.turns.who c.slot_word-word.new.token (still_ready c.turns.invariant.1.on)
     c.slot_word-word.ensures.seen) in
     tells_replaced _ l.on.gone.went.sound c.args.plan
-    (plan_went Serves _ _ l.on.gone.went c.args.plan c.requires.plan) _
+    (plan_went ServesRebuild _ _ l.on.gone.went c.args.plan c.requires.plan) _
     c.slot_word-word.ensures.holds
     (c.in-Another.ensures.no_change refl) (c.in-Another.ensures.another refl)

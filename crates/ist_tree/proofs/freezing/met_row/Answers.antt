@@ -1,5 +1,5 @@
 use Rattle.std.proofs.Common.{subst}
-use Rattle.ist_tree.specs.FreezeSteps.{HasBegun}
+use Rattle.ist_tree.specs.FreezeSteps.{HasStarted}
 use Rattle.ist_tree.proofs.FreezeLookLemmas.{begun_met}
 use Rattle.std.proofs.Common.{Ok, ap}
 use Rattle.ist_tree.proofs.freezing.met_row.Goals as goal
@@ -8,7 +8,7 @@ use Rattle.ist_tree.proofs.freezing.met_row.Goals as goal
 pub returns-in-Some-clause-met : goal.returns-in-Some-clause-met
 returns-in-Some-clause-met c =
     begun_met c.args.who.now c.begin_rebuild.new.who c.args.target c.in-Some.rebuild c.requires.row.top
-    (subst (HasBegun c.args.who.now c.begin_rebuild.new.who c.args.target) c.in-Some.is
+    (subst (HasStarted c.args.who.now c.begin_rebuild.new.who c.args.target) c.in-Some.is
     c.in_ok-rebuild.ensures.begun)
 
 pub returns-in-None-clause-further : goal.returns-in-None-clause-further

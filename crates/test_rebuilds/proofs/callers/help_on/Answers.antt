@@ -1,8 +1,8 @@
-use Rattle.ist_rebuild.specs.Going.{Serves}
+use Rattle.ist_rebuild.specs.Going.{ServesRebuild}
 use Rattle.ist_rebuild.proofs.HelpedLemmas.{started_went}
 use Rattle.test_rebuilds.proofs.callers.help_on.Goals as goal
 
 pub returns-clause-started : goal.returns-clause-started
 returns-clause-started c =
-    started_went Serves _ _ c.help_rebuild.ensures.helped.on.gone.went c.args.rebuild
+    started_went ServesRebuild _ _ c.help_rebuild.ensures.helped.on.gone.went c.args.rebuild
     c.requires.started

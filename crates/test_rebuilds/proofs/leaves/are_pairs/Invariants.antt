@@ -1,5 +1,5 @@
 use Rattle.std.proofs.Common.{◌≡◌}
-use Rattle.test_rebuilds.specs.Steps.{IsMarked}
+use Rattle.test_rebuilds.specs.Steps.{HasMarkedTarget}
 use Rattle.ist_rows.specs.Going.{IsReady}
 use Rattle.ist_rule.specs.Learning.{now}
 use Rattle.test_rebuilds.proofs.leaves.are_pairs.Given as goal
@@ -10,4 +10,4 @@ invariant-loop-i l =
     (l.maker.table ≡ l.table.table)
     × (l.who.token.table ≡ l.table.table)
     × IsReady l.who
-    × IsMarked (now l.who.token.view) l.rebuild l.marked.target l.marked.keys
+    × HasMarkedTarget (now l.who.token.view) l.rebuild l.marked.target l.marked.keys

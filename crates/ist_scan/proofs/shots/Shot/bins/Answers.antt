@@ -1,7 +1,7 @@
 use Rattle.std.proofs.Common.{◌∙◌, subst, sym, arith}
 use Rattle.std.proofs.lemmas.List.{length-set}
 use Rattle.ist_core.specs.Map.{pairs_of}
-use Rattle.ist_scan.specs.Shots.{HasPairs, map_seen}
+use Rattle.ist_scan.specs.Shots.{ArePairsOf, map_seen}
 use Rattle.ist_scan.specs.Totals.{total_of, pairs_in_bin}
 use Rattle.ist_scan.proofs.ShotLemmas.{looked_not, looked_more, of_pairs}
 use Rattle.ist_scan.proofs.TotalLemmas.{totals_more}
@@ -24,7 +24,7 @@ loop-j-preserved c =
       looked = looked_more pass c.loop-j.pass c.bin_at.new.pass i.looked c.bin_at.ensures.looked;
       long = length-set c.loop-j.out c.loop-j.j c.bin_at.result ∙ i.long;
       bins = λ pairs has.
-          let h = subst (λ s. HasPairs pass s pairs) (sym c.self.view_is) has in
+          let h = subst (λ s. ArePairsOf pass s pairs) (sym c.self.view_is) has in
           totals_more (λ k. total_of (pairs_in_bin pairs c.args.first c.args.width k)) c.loop-j.out c.loop-j.j
           c.bin_at.result (omega (arith, c.loop-j-test.true)) (c.bin_at.ensures.total pairs (i.looked.pairs shot pairs h))
           (i.bins pairs has);

@@ -2,7 +2,7 @@ use Rattle.std.proofs.Common.{List, ◌≡◌, ◌+◌, ap, ◌∙◌, subst, sy
 use Rattle.std.proofs.lemmas.Result.{IfOk-weaker}
 use Rattle.ist_core.specs.declared.pairs.Pair.{Pair}
 use Rattle.ist_core.specs.Map.{pairs_of, pairs_between}
-use Rattle.ist_scan.specs.Shots.{HasPairs, map_seen}
+use Rattle.ist_scan.specs.Shots.{ArePairsOf, map_seen}
 use Rattle.ist_scan.proofs.CutLemmas.{between_is, none_between}
 use Rattle.ist_scan.proofs.ShotLemmas.{looked_not, looked_more, of_pairs}
 use Rattle.ist_scan.proofs.shots.Shot.list.Goals as goal
@@ -25,7 +25,7 @@ returns-clause-looked c =
 pub returns-clause-by_pairs : goal.returns-clause-by_pairs
 returns-clause-by_pairs c =
     IfOk-weaker c.list_at.result _ _ (λ v list pairs k.
-    (let h = subst (λ s. HasPairs c.args.pass.now s pairs) (sym c.self.view_is) k in
+    (let h = subst (λ s. ArePairsOf c.args.pass.now s pairs) (sym c.self.view_is) k in
     list pairs (c.ends_of-ends.ensures.looked.pairs c.self.inside.frozen pairs h)
     ∙ sym (between_is pairs c.args.first c.args.last c.from.result (c.from-2.result + 1)
     c.ends_of-ends.result.low c.ends_of-ends.result.high c.from.ensures (ap (λ n. n + 1) c.from-2.ensures)

@@ -1,6 +1,6 @@
 use Rattle.std.proofs.Common.{◌≡◌, ◌+◌, ap, ◌∙◌, subst, sym}
 use Rattle.ist_core.specs.Map.{pairs_of}
-use Rattle.ist_scan.specs.Shots.{HasPairs, map_seen}
+use Rattle.ist_scan.specs.Shots.{ArePairsOf, map_seen}
 use Rattle.ist_scan.specs.Totals.{total_of}
 use Rattle.ist_scan.proofs.CutLemmas.{between_is, none_between}
 use Rattle.ist_scan.proofs.ShotLemmas.{looked_not, looked_more, of_pairs}
@@ -27,7 +27,7 @@ returns-clause-looked c =
 pub returns-clause-by_pairs : goal.returns-clause-by_pairs
 returns-clause-by_pairs c = λ pairs k.
     (let shot = c.self.inside.frozen in
-    let h = subst (λ s. HasPairs c.args.pass.now s pairs) (sym c.self.view_is) k in
+    let h = subst (λ s. ArePairsOf c.args.pass.now s pairs) (sym c.self.view_is) k in
     let cut = c.ends_of-ends.ensures.cut pairs h in
     let to : c.from-2.result + 1 ≡ c.args.last + 1 = ap (λ n. n + 1) c.from-2.ensures in
     c.total_at.ensures.total pairs (c.ends_of-ends.ensures.looked.pairs shot pairs h)

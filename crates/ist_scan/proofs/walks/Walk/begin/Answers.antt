@@ -1,6 +1,6 @@
 use Rattle.std.proofs.Common.{◌≡◌, ap, ◌∙◌, subst, sym, arith}
 use Rattle.ist_scan.specs.Cuts.{CutsAt}
-use Rattle.ist_scan.specs.Shots.{HasPairs}
+use Rattle.ist_scan.specs.Shots.{ArePairsOf}
 use Rattle.ist_scan.proofs.ShotLemmas.{looked_not, some_pairs}
 use Rattle.ist_scan.proofs.walks.Walk.begin.Goals as goal
 
@@ -23,7 +23,7 @@ returns-clause-way c =
     = ap (λ w. w.shot) c.self.view_is ∙ c.requires.its_shot in
     record {
       pairs = it.0;
-      has = subst (λ s. HasPairs c.count_below-cut.new.pass s it.0) (sym shot)
+      has = subst (λ s. ArePairsOf c.count_below-cut.new.pass s it.0) (sym shot)
           (c.count_below-cut.ensures.looked.pairs c.args.shot it.0 it.1);
       start = next;
       cut = subst (λ n. CutsAt it.0 n next) c.from.ensures (c.count_below-cut.ensures.cuts it.0 it.1);

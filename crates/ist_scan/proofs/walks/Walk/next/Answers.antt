@@ -1,6 +1,6 @@
 use Rattle.std.proofs.Common.{◌≡◌, slice_get, ap, ◌∙◌, subst, sym, arith}
 use Rattle.ist_core.specs.Map.{pairs_of}
-use Rattle.ist_scan.specs.Shots.{HasPairs, map_seen}
+use Rattle.ist_scan.specs.Shots.{ArePairsOf, map_seen}
 use Rattle.ist_scan.proofs.ShotLemmas.{looked_more, of_pairs}
 use Rattle.ist_scan.proofs.WalkLemmas.{pairs_now, comes, ends_above, ends_with_all}
 use Rattle.ist_scan.proofs.walks.Walk.next.Goals as goal
@@ -45,7 +45,7 @@ returns-then-pair-self-clause-by_pairs c = λ pairs k.
     ends_above c.begin.new.pass c.args.self.now w b.way b.one_walk b.given pairs h
     c.pair_at-pair.result
     (ap (slice_get pairs) (sym next) ∙ c.pair_at-pair.ensures.pair pairs
-    (subst (λ s. HasPairs c.begin.new.pass s pairs) (sym shot) h))
+    (subst (λ s. ArePairsOf c.begin.new.pass s pairs) (sym shot) h))
     (omega (arith, last, c.if-pair-self.true)))
 
 pub returns-then-pair-self-clause-pair : goal.returns-then-pair-self-clause-pair
@@ -74,7 +74,7 @@ returns-clause-by_pairs c = λ pairs k.
     comes c.begin.new.pass c.args.self.now w b.way b.one_walk b.given pairs h
     c.pair_at-pair.result
     (ap (slice_get pairs) (sym next) ∙ c.pair_at-pair.ensures.pair pairs
-    (subst (λ s. HasPairs c.begin.new.pass s pairs) (sym shot) h))
+    (subst (λ s. ArePairsOf c.begin.new.pass s pairs) (sym shot) h))
     (omega (arith, last, c.if-pair-self.false)))
 
 pub returns-clause-pair : goal.returns-clause-pair
