@@ -34,10 +34,7 @@ fn main(rt: HostRuntime) -> ExitCode {
 
 /// Does what the command-line arguments ask for, and returns the status.
 fn run(rt: &HostRuntime) -> io::Result<u8> {
-    let mut words = Vec::new(rt.alloc());
-    for word in env::args(rt)? {
-        words.push(word)?;
-    }
+    let words: Vec<String> = env::args(rt)?.collect(rt.alloc())?;
     match read_words(rt, words.as_slice())? {
         Job::Done { status } => Ok(status),
         Job::Check { path, progress } => {

@@ -1,7 +1,7 @@
 -- What the first bytes of a dump say, and dumps of lawful words. Serves `audits` and the laws.
 use Rattle.std.proofs.Common.{◌≡◌, ℕ, zero, suc, ◌-◌, ◌<◌, ◌≤◌, ◌^◌, ◌==◌, nat_eq, nat_lt}
 use Rattle.std.proofs.Common.{Bool, true, false, if◌then◌else◌, List, [], ◌∷◌, ◌++◌, length, take}
-use Rattle.std.proofs.Common.{drop, get_or, replicate, Some, None, refl, sym, ap, ◌∙◌, subst}
+use Rattle.std.proofs.Common.{drop, get_or, replicate, Some, None, refl, sym, ap, ◌∙◌}
 use Rattle.std.proofs.Common.{arith}
 use Rattle.std.specs.List.{starts_with, flat_map}
 use Rattle.std.specs.Cmp.Lexicographic.{same_text}
@@ -16,8 +16,9 @@ use Rattle.ist_rest.specs.WordLaws.{ZerosChangeNothing}
 use Rattle.ist_rest.specs.RestingWords.{HasGoodBounds, AreLawful, BreaksFirstAt}
 use Rattle.ist_rest.specs.Walks.{first_visit}
 use Rattle.tele_audit.specs.declared.flaws.Flaw.TheVariants.{Magic, Short, Size, Used, Long, Anchor}
-use Rattle.tele_audit.specs.Dumps.{magic, number_bytes, used_words, dump_of, IsLawfulDump}
-use Rattle.tele_audit.specs.Flaws.{number_of, numbers_in, count_told, used_told, dump_length}
+use Rattle.tele_audit.specs.Dumps.{magic, number_bytes, used_words, dump_of, DumpContent}
+use Rattle.tele_audit.specs.Dumps.{IsLawfulDump}
+use Rattle.tele_audit.specs.Flaws.{count_told, used_told, dump_length}
 use Rattle.tele_audit.specs.Flaws.{words_told, table_told, is_out, head_flaw, length_flaw}
 use Rattle.tele_audit.specs.Flaws.{anchor_flaw, flaw_or, flaw_before_rows, BreaksAtRow}
 use Rattle.tele_audit.specs.Taking.{AreBytes}
@@ -226,20 +227,16 @@ module _ (bytes : List ℕ) (head : IsGoodHead bytes)
     -- the report of bytes whose words are lawful
     pub told_lawfully : AreBytes bytes
         → ((place : ℕ) → word_at (words_told bytes) place < 2 ^ 64)
-        → (pairs : List Pair) → AreLawful (words_told bytes) pairs
-        → IsLawfulDump bytes record {
-          words = count_told bytes;
-          used = used_told bytes;
-          pairs = pairs;
-        }
-    told_lawfully are fit pairs lawful =
+        → (told : DumpContent) → told.words ≡ count_told bytes → told.used ≡ used_told bytes
+        → AreLawful (words_told bytes) told.pairs → IsLawfulDump bytes told
+    told_lawfully are fit told count used lawful =
         record {
           table = table_told bytes;
           fit = fit_zeros (words_told bytes) (count_told bytes - used_told bytes) fit;
-          lawful = behind.0 pairs lawful;
+          lawful = behind.0 told.pairs lawful;
           dumped = dumped_table are;
-          words = sym length_table;
-          used = sym first_table;
+          words = count ∙ sym length_table;
+          used = used ∙ sym first_table;
         }
 
     -- where the words of the table break
@@ -252,54 +249,3 @@ module _ (bytes : List ℕ) (head : IsGoodHead bytes)
           before = none_before bytes h l open_anchor;
           breaks = behind.1 place first;
         }
-
--- the words that are read from the bytes are those that they encode
-pub told_is : (bytes now : List ℕ) (used : ℕ) (words : List ℕ) → now ≡ bytes
-    → used ≡ number_of (drop 16 now) → words ≡ numbers_in used (drop 16 bytes)
-    → words ≡ words_told bytes
-told_is bytes now used words e f g =
-    g ∙ ap (λ n. numbers_in n (drop 16 bytes)) (f ∙ ap (λ xs. number_of (drop 16 xs)) e)
-
-module _ (bytes words : List ℕ) (head : head_flaw bytes ≡ None)
-    (whole : length_flaw bytes ≡ None) (is : words ≡ words_told bytes) where
-  good : IsGoodHead bytes
-  good = good_head bytes head
-
-  exact : length bytes ≡ dump_length (used_told bytes)
-  exact = good_length bytes whole
-
-  -- there are more than two words
-  pub read_long : 2 < length words
-  read_long =
-      let l = length_told bytes good exact in
-      let e = ap (λ (xs : List ℕ). length xs) is in
-      let u = good.used.0 in
-      omega arith
-
-  -- if the anchor is open, the words are in bounds
-  pub read_bounds : word_at words anchor_status_place ≡ 0 → HasGoodBounds words
-  read_bounds open_anchor =
-      subst HasGoodBounds (sym is)
-      (bounds_told bytes good exact (subst (λ xs. word_at xs anchor_status_place ≡ 0) is open_anchor))
-
-  -- if the words are lawful, the bytes are the dump of a lawful table with this report
-  pub read_lawfully : ZerosChangeNothing → AreBytes bytes
-      → ((place : ℕ) → word_at words place < 2 ^ 64)
-      → (count used : ℕ) (pairs : List Pair) → count ≡ count_told bytes → used ≡ used_told bytes
-      → AreLawful words pairs
-      → IsLawfulDump bytes record { words = count; used = used; pairs = pairs }
-  read_lawfully zeros are fit count used pairs c u lawful =
-      subst (λ n. IsLawfulDump bytes record { words = n; used = used; pairs = pairs }) (sym c)
-      (subst (λ n. IsLawfulDump bytes record { words = count_told bytes; used = n; pairs = pairs })
-      (sym u)
-      (told_lawfully bytes good exact zeros are
-      (subst (λ xs. (place : ℕ) → word_at xs place < 2 ^ 64) is fit) pairs
-      (subst (λ xs. AreLawful xs pairs) is lawful)))
-
-  -- if the walk first breaks at a place, the dump is flawed at that row
-  pub read_broken : ZerosChangeNothing → word_at words anchor_status_place ≡ 0 → (place : ℕ)
-      → BreaksFirstAt words [] (first_visit words ∷ []) place → BreaksAtRow bytes place
-  read_broken zeros open_anchor place first =
-      told_broken bytes good exact zeros
-      (subst (λ xs. word_at xs anchor_status_place ≡ 0) is open_anchor) head whole place
-      (subst (λ xs. BreaksFirstAt xs [] (first_visit xs ∷ []) place) is first)

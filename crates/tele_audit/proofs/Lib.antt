@@ -1,6 +1,7 @@
 pub mod NumberLemmas
 pub mod PairLemmas
 pub mod DumpLemmas
+pub mod ReadLemmas
 pub mod FrontLemmas
 pub mod PieceLemmas
 pub mod LawLemmas

@@ -69,12 +69,6 @@ module _ (m then_m : Map) (command : Command) (reply : Option ℕ)
       subst (λ n. fin.len n ≤ fin.len m + 1) (ap (λ (p : Map × Option ℕ). p.0) (sym done))
       (one_more m command)
 
--- no key is few
-pub none_few : (pairs : List Pair) (n : ℕ) → pairs ≡ [] → fin.len (map_of pairs) ≤ n
-none_few pairs n none =
-    subst (λ ps. fin.len (map_of ps) ≤ n) (sym none)
-    (let e : fin.len no_pairs ≡ 0 = fin.len-empty nat_cmp ℕ in omega (arith, e))
-
 -- some lines were taken into a map: what it and the lines that are unread leave is what all bytes do
 pub record IsUnderWay (bytes : List ℕ) (m : Map) (place : Place) (unread : Option (List ℕ))
     : Type 0 where
@@ -91,21 +85,41 @@ all_unread : (left : Option (List ℕ))
 all_unread None = tt
 all_unread (Some bytes) = record { rest = bytes; leaves = refl; same = refl }
 
--- a reading that has not begun is under way with the empty map
-pub way_first : (left : Option (List ℕ)) (kept : List ℕ) (ended : Bool) (place : Place) (m : Map)
-    → kept ≡ [] → ended ≡ false → place ≡ first_place → m ≡ no_pairs
-    → IfSome left (λ bytes. IsUnderWay bytes m place (unread_of kept ended left))
-way_first left kept ended place m none going first empty =
-    let P = λ (kept : List ℕ) (ended : Bool) (place : Place) (m : Map).
-    IfSome left (λ bytes. IsUnderWay bytes m place (unread_of kept ended left)) in
-    subst (λ n. P kept ended place n) (sym empty)
-    (subst (λ p. P kept ended p no_pairs) (sym first)
-    (subst (λ e. P kept e first_place no_pairs) (sym going)
-    (subst (λ k. P k false first_place no_pairs) (sym none) (all_unread left))))
+-- lines were gathered into a map, which has at most one key for each line
+pub record HasGathered (left : Option (List ℕ)) (m : Map) (place : Place)
+    (unread : Option (List ℕ)) : Type 0 where
+  pub way : IfSome left (λ bytes. IsUnderWay bytes m place unread)
+  pub few : fin.len m ≤ place.count
+  pub limit : place.limit ≡ line_limit
+  pub allowed : place.count ≤ line_limit
+
+-- before the first line nothing was gathered
+nothing_gathered : (left : Option (List ℕ))
+    → HasGathered left no_pairs first_place (unread_of [] false left)
+nothing_gathered left =
+    let e : fin.len no_pairs ≡ 0 = fin.len-empty nat_cmp ℕ in
+    record {
+      way = all_unread left;
+      few = omega (arith, e);
+      limit = refl;
+      allowed = omega arith;
+    }
+
+-- if all is unread, the empty map was gathered
+pub none_gathered : (left : Option (List ℕ)) (kept : List ℕ) (ended : Bool) (place : Place)
+    (pairs : List Pair) → kept ≡ [] → ended ≡ false → place ≡ first_place → pairs ≡ []
+    → HasGathered left (map_of pairs) place (unread_of kept ended left)
+none_gathered left kept ended place pairs none going first empty =
+    let P = λ (kept : List ℕ) (ended : Bool) (place : Place) (pairs : List Pair).
+    HasGathered left (map_of pairs) place (unread_of kept ended left) in
+    subst (λ ps. P kept ended place ps) (sym empty)
+    (subst (λ p. P kept ended p []) (sym first)
+    (subst (λ e. P kept e first_place []) (sym going)
+    (subst (λ k. P k false first_place []) (sym none) (nothing_gathered left))))
 
 module _ (m : Map) (old : Place) (unread : Option (List ℕ)) where
   -- one more line
-  pub way_on : (left later : Option (List ℕ)) (then_m : Map) (new : Place) (ended : Bool)
+  way_on : (left later : Option (List ℕ)) (then_m : Map) (new : Place) (ended : Bool)
       (number : ℕ) (version : Version) (item : Item)
       → IfSome left (λ bytes. IsUnderWay bytes m old unread)
       → IfSome unread
@@ -124,6 +138,24 @@ module _ (m : Map) (old : Place) (unread : Option (List ℕ)) where
         leaves = next.left;
         same = sym (taken number version (read_at new (lines_of next.rest)))
             ∙ ap (behind_lines m) (sym next.reads) ∙ way.same;
+      }
+
+  -- a line was taken into the map
+  pub line_gathered : (left later : Option (List ℕ)) (then_m : Map) (new : Place) (ended : Bool)
+      (number : ℕ) (version : Version) (item : Item) → HasGathered left m old unread
+      → IfSome unread
+      (λ bytes. GoesTo old new ended (Good number version item ∷ []) bytes later)
+      → (old.count < number) × (new.count ≡ number)
+      → new.count ≤ new.limit → new.limit ≡ old.limit
+      → ((number : ℕ) (version : Version) (lines : List Read)
+      → behind_lines m (Good number version item ∷ lines) ≡ behind_lines then_m lines)
+      → fin.len then_m ≤ fin.len m + 1 → HasGathered left then_m new later
+  line_gathered left later then_m new ended number version item before goes counts high limit taken
+      few = record {
+        way = way_on left later then_m new ended number version item before.way goes taken;
+        few = omega (arith, before.few, few, counts.0, counts.1);
+        limit = limit ∙ before.limit;
+        allowed = omega (arith, high, limit, before.limit);
       }
 
   -- a line is bad

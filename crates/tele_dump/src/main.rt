@@ -4,27 +4,20 @@
 //! read.
 #![tactic(auto)]
 
+use std::env;
 use std::process::ExitCode;
-use std::{env, io};
 use tele_audit::audit_run;
 use tele_io::{ReadSource, WriteSink};
 
 /// The status if the arguments can't be read. `audit_run` never returns it.
 const NO_ARGUMENTS: u8 = 1;
 
-/// Returns the command-line arguments, the program's name first.
-fn words(rt: &HostRuntime) -> io::Result<Vec<String>> {
-    let mut words = Vec::new(rt.alloc());
-    for word in env::args(rt)? {
-        words.push(word)?;
-    }
-    Ok(words)
-}
-
 fn main(rt: HostRuntime) -> ExitCode {
-    let words = match words(&rt) {
-        Ok(words) => words,
-        Err(_) => return ExitCode::from(NO_ARGUMENTS),
+    let Ok(args) = env::args(&rt) else {
+        return ExitCode::from(NO_ARGUMENTS);
+    };
+    let Ok(words) = args.collect::<Vec<String>>(rt.alloc()) else {
+        return ExitCode::from(NO_ARGUMENTS);
     };
     let mut source = ReadSource::new(rt.stdin());
     let mut out = WriteSink::new(rt.stdout());

@@ -19,6 +19,8 @@ use Rattle.ist_rule.proofs.WentOnLemmas.{later_by-goes_on, went_now, went_all, l
 use Rattle.ist_rows.specs.CallerLaws.{KeepsRows}
 use Rattle.ist_rows.proofs.CallerLawLemmas.{row_went}
 use Rattle.ist_dcss.proofs.HelperLemmas.{serves_keep}
+use Rattle.ist_mark.specs.Marking.{Marks}
+use Rattle.ist_mark.proofs.SubtreeLemmas.{marks_keep}
 use Rattle.test_parts.specs.Racing.{HasPrepared, IsStartedAtFour, HasBothLeaves}
 
 -- ---- the rows of the race
@@ -61,6 +63,11 @@ pub finished_went : (v w : View) → WentOn KeepsRows v w → IsFinishedWith (no
     → IsFinishedWith (now w) 4 2
 finished_went v w g h = finished_with_grows (now v) (now w) (went_grow KeepsRows v w g) 4 2 h
 
+-- also one whose keys were counted, and were two
+pub counted_went : (v w : View) → WentOn KeepsRows v w → (keys : ℕ) → keys ≡ 2
+    → IsFinishedWith (now v) 4 keys → IsFinishedWith (now w) 4 2
+counted_went v w g keys is h = finished_went v w g (subst (IsFinishedWith (now v) 4) is h)
+
 -- and so do the leaves below it
 pub leaves_went : (v w : View) → WentOn KeepsRows v w → IsFinishedWith (now v) 4 2
     → (leaves : List PlacedLeaf) → HasLeaves (now v).pieces (Some (InnerAt 4)) leaves
@@ -81,6 +88,31 @@ both_went v w g f b =
       reached = leaves_went v w g f _ b.reached;
       key = b.key;
     }
+
+-- ---- the way to a root
+
+-- the caller has filled its row as a root, and sees the rebuild of the row at 4 started
+pub record SeesStart (v : View) (number base : ℕ) : Type 0 where
+  pub filled : HasPrepared v number base
+  pub underway : IsStartedAtFour (now v)
+
+-- a caller whose steps led to a started rebuild sees it
+pub sees_start : (v w : View) (number base : ℕ) → WentOn KeepsRows v w → w.own ≡ v.own
+    → HasPrepared v number base → IsStartedAtFour (now w) → SeesStart w number base
+sees_start v w number base g own f is =
+    record { filled = filled_went v w g own number base f; underway = is }
+
+-- it sees it after further steps, too
+pub start_went : (v w : View) (number base : ℕ) → WentOn KeepsRows v w → w.own ≡ v.own
+    → SeesStart v number base → SeesStart w number base
+start_went v w number base g own s =
+    sees_start v w number base g own s.filled (underway_went v w g s.underway)
+
+-- and after marking the row at 4
+pub start_marked : (v w : View) (number base : ℕ) → WentOn (Marks w 4) v w → w.own ≡ v.own
+    → SeesStart v number base → SeesStart w number base
+start_marked v w number base g own s =
+    start_went v w number base (went_all (Marks w 4) KeepsRows (marks_keep w 4) v w g) own s
 
 -- ---- steps of marking
 

@@ -134,20 +134,6 @@ start_installable v s mine none stored change rebuild row w t =
     no_update (inl e) = omega arith
     no_update (inr e) = omega arith
 
--- the start may be installed too if the row was met before the call
-pub met_installable : (v : View) → v.who ≡ CallerOf 0 → v.pending ≡ None
-    → StoredAll v (rows_of sample_start 20) → HoldsRow (now v) 0 20 9 → HoldsRow (now v) 0 15 5
-    → (met : ℕ) → (u : View) → Looked v 3 met u → met ≡ word_of (InnerAt 4) → (w : View)
-    → Turned u (beginning u None) w → IsInstallable w 20 sample_start
-met_installable v mine none stored change rebuild met u l is w t =
-    start_installable u l.sound (ap (λ x. x.who) l.view ∙ mine)
-    (ap (λ x. x.pending) l.view ∙ none)
-    (subst (λ (x : View). StoredAll x (rows_of sample_start 20)) (sym l.view) stored)
-    (held_on v u (looked_goes_on v 3 met u l) record { caller = 0; base = 20; size = 9 } mine change)
-    (held_on v u (looked_goes_on v 3 met u l) record { caller = 0; base = 15; size = 5 } mine
-    rebuild)
-    (met_row v met u l is) w t
-
 -- what is known of a caller of number 0 that has filled its rebuild and its change, and is in no call
 pub record HasFilledStart (who : Caller) : Type 0 where
   pub mine : who.token.view.who ≡ CallerOf 0
@@ -192,13 +178,32 @@ begins_met who f place met u l =
       in_none = ap (λ x. x.pending) l.view ∙ f.none;
     }
 
+-- the start may be installed if the row was met before the call
+pub met_installable : (who : Caller) → HasFilledStart who → (met : ℕ) (u : View)
+    → Looked who.token.view 3 met u → met ≡ word_of (InnerAt 4) → (w : View)
+    → Turned u (beginning u None) w → IsInstallable w 20 sample_start
+met_installable who f met u l is w t =
+    start_installable u l.sound (ap (λ x. x.who) l.view ∙ f.mine)
+    (ap (λ x. x.pending) l.view ∙ f.none)
+    (subst (λ (x : View). StoredAll x (rows_of sample_start 20)) (sym l.view) f.stored)
+    (held 20 9 f.change) (held 15 5 f.rebuild) (met_row v met u l is) w t
+  where
+    v : View
+    v = who.token.view
+
+    held : (base size : ℕ) → HoldsRow (now v) 0 base size → HoldsRow (now u) 0 base size
+    held base size h =
+        held_on v u (looked_goes_on v 3 met u l)
+        record { caller = 0; base = base; size = size } f.mine h
+
 -- the caller that installed it may help it
-pub start_helps : (s u v w : View) (met : ℕ) → s.who ≡ CallerOf 0 → Looked s 3 met u
-    → Turned u (beginning u None) v → IsInstalled v 20 sample_start w → MayHelp w 20
-start_helps s u v w met mine l t i =
+pub start_helps : (who : Caller) → HasFilledStart who → (met : ℕ) (u v w : View)
+    → Looked who.token.view 3 met u → Turned u (beginning u None) v → IsInstalled v 20 sample_start w
+    → MayHelp w 20
+start_helps who f met u v w l t i =
     met_change w i.logged.sound 0
     (ap (λ x. x.who) i.logged.view ∙ goes_on_who i.seen ∙ ap (λ x. x.who) t.view
-    ∙ ap (λ x. x.who) l.view ∙ mine)
+    ∙ ap (λ x. x.who) l.view ∙ f.mine)
     2 0 (word_of (ChangeAt 20)) 20 i.in_slot
     (ref_of-word_of (ChangeAt 20) (good 20 (omega arith) (omega arith)))
 

@@ -24,6 +24,7 @@ use Rattle.ist_rule.specs.declared.view.View.{View}
 use Rattle.ist_core.specs.declared.events.Who.TheVariants.{Caller as CallerOf}
 use Rattle.ist_core.specs.Shown.{IsShown, shown_row}
 use Rattle.ist_rule.specs.Rule.{IsSound, own_at}
+use Rattle.ist_rule.specs.Going.{WentOn}
 use Rattle.ist_rule.specs.Learning.{now, Looked, ExchangedOrLost}
 use Rattle.ist_rule.specs.Conditions.{StoredAll, CanExchangeOrLose}
 use Rattle.ist_rule.specs.Watching.{number_of}
@@ -37,7 +38,7 @@ use Rattle.ist_rows.specs.declared.callers.Caller.{Caller}
 use Rattle.ist_rows.specs.Filling.{filled_with, storing_all}
 use Rattle.ist_rows.proofs.FillingLemmas.{stored_at}
 use Rattle.test_parts.specs.Racing.{root_rows, root_word, racing, HasPrepared, IsStartedAtFour, HasBothLeaves, HasPairRoot}
-use Rattle.test_parts.proofs.KeptLemmas.{underway_went}
+use Rattle.test_parts.proofs.KeptLemmas.{underway_went, finished_went, both_went, SeesStart, start_went}
 use Rattle.test_parts.proofs.LeafLemmas.{good}
 
 -- ---- the words of the row
@@ -170,20 +171,25 @@ unset_seen v word w caller u l is =
     }
 
 -- the row at 4 may be marked
-pub may_mark : (v : View) (number base : ℕ) → HasPrepared v number base → IsStartedAtFour (now v)
-    → MayMark v 4
-may_mark v number base f u =
-    record { number = number; mine = f.mine; called = as_target 15 u.target u.started }
-
--- so it is built
-pub has_built : (v : View) (number base : ℕ) → HasPrepared v number base → IsStartedAtFour (now v)
-    → IsFinishedWith (now v) 4 2 → HasBothLeaves (now v) → WasUnset v number 18
-    → HasPairRoot v number base
-has_built v number base f u done b was =
+pub may_mark : (v : View) (number base : ℕ) → SeesStart v number base → MayMark v 4
+may_mark v number base s =
     record {
-      mine = f.mine;
-      stored = f.stored;
-      built = root_built v number base f u done b;
+      number = number;
+      mine = s.filled.mine;
+      called = as_target 15 s.underway.target s.underway.started;
+    }
+
+-- so it is built, if the caller found the two leaves and then no root
+pub has_built : (v w : View) (number base : ℕ) → WentOn KeepsRows v w → w.own ≡ v.own
+    → SeesStart v number base → IsFinishedWith (now v) 4 2 → HasBothLeaves (now v)
+    → WasUnset w number 18 → HasPairRoot w number base
+has_built v w number base g own s done b was =
+    let seen = start_went v w number base g own s in
+    record {
+      mine = seen.filled.mine;
+      stored = seen.filled.stored;
+      built = root_built w number base seen.filled seen.underway (finished_went v w g done)
+          (both_went v w g done b);
       unset = was;
     }
 

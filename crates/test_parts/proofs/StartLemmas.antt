@@ -9,18 +9,26 @@ use Rattle.ist_core.proofs.NamingLemmas.{SideNames, IsRebuildFor}
 use Rattle.ist_core.proofs.OrderLemmas.{names}
 use Rattle.ist_core.proofs.ReferenceLemmas.{ref_of-word_of}
 use Rattle.ist_rule.specs.declared.view.View.{View}
+use Rattle.ist_rule.specs.Faces.{TokenFace, TableFace, word_count_of}
+use Rattle.ist_rule.specs.Going.{WentOn}
 use Rattle.ist_rule.specs.Rule.{IsSound}
 use Rattle.ist_rule.specs.Learning.{now, Looked}
-use Rattle.ist_dcss.specs.Helping.{MayHelp, IsDecided}
+use Rattle.ist_dcss.specs.Helping.{MayHelp, IsDecided, Serves}
 use Rattle.ist_dcss.proofs.FieldLemmas.{looked_row, row_low}
 use Rattle.ist_rule.proofs.WentOnLemmas.{looked_went, went_grow}
 use Rattle.ist_rows.specs.CallerLaws.{KeepsRows}
 use Rattle.test_parts.specs.Racing.{IsStartedAtFour}
+use Rattle.test_parts.proofs.KeptLemmas.{went_help}
 use Rattle.test_parts.proofs.NewStartLemmas.{good}
 
--- its places lie in the table
-pub change_low : (v : View) → IsSound v → MayHelp v 20 → 28 < v.words
-change_low v s m = (row_low v s 20 (Change m.row) m.installed 8 (omega arith)).0
+-- the places of a change that the token may help lie in its table
+pub change_low : (token : TokenFace) (table : TableFace) → token.table ≡ table.table
+    → IsSound token.view → token.view.words ≡ token.table.words → MayHelp token.view 20
+    → 28 < word_count_of table
+change_low token table same s known m =
+    let low = (row_low token.view s 20 (Change m.row) m.installed 8 (omega arith)).0 in
+    let words = ap (λ t. t.words) same in
+    omega arith
 
 -- the change after one more load
 row_on : (v : View) (place word : ℕ) (w : View) → Looked v place word w → (row : ChangeRow)
@@ -84,3 +92,19 @@ start_seen v d kind w l kind_is to x m to_is target y n target_is =
         subst (SideNames (now y).pieces third.0.node third.0.index) to_ref
         ((names y.start y.words n.sound.lawful.opens y.log n.sound.lawful.enabled).rows 20
         (Change third.0) third.1).1
+
+-- what a token knows that has helped the change at 20, with which it came from one view to the
+-- next, and has then loaded the change's kind and its word, and the target of the row at 15
+pub record HasFollowed (v w : View) (kind to target : ℕ) (x : View) : Type 0 where
+  pub went : WentOn KeepsRows v x
+  pub underway : IsDecided w 20 true → kind ≡ 3 → to ≡ 124 → target ≡ 4 → IsStartedAtFour (now x)
+
+-- a help and the three loads tell this
+pub has_followed : (v w a b x : View) (kind to target : ℕ) → WentOn (Serves 20) v w → Looked w 21 kind a
+    → Looked a 25 to b → Looked b 15 target x → HasFollowed v w kind to target x
+has_followed v w a b x kind to target g k l m =
+    record {
+      went = went_help v w a b x 20 21 kind 25 to 15 target g k l m;
+      underway = λ d kind_is to_is target_is.
+          start_seen w d kind a k kind_is to b l to_is target x m target_is;
+    }

@@ -9,9 +9,9 @@ fill_row-requires-clause-row c = c.requires.rows.0
 
 -- the caller holds the change as it held it
 pub fill_row-requires-2-clause-row : goal.fill_row-requires-2-clause-row
-fill_row-requires-2-clause-row c =
-    ap (λ (x : Caller). x.change) c.fill_row.ensures.stored ∙ c.requires.rows.1
+fill_row-requires-2-clause-row c = ap (λ (x : Caller). x.change) c.fill_row.ensures.stored ∙ c.requires.rows.1
 
+-- it has filled both rows
 filled : (c : After-fill_row-2) → HasFilledStart c.fill_row-2.new.who
 filled c =
     start_filled _ _ _ _ _ _ c.to_word-from.ensures.value c.to_word-to.ensures.value
@@ -22,24 +22,19 @@ filled c =
 pub begin_call-requires : goal.begin_call-requires
 begin_call-requires c = (
   c.load-met.ensures.same_table ∙ c.fill_row-2.ensures.same_table,
-  (
-    begins_met _ (filled (goal.at.begin_call-requires c).After-fill_row-2) _ _ _
-        c.load-met.ensures.looked,
-    refl,
-  ),
+  (begins_met _ (filled (goal.at.begin_call-requires c).After-fill_row-2) _ _ _ c.load-met.ensures.looked, refl),
 )
 
 -- the rows are filled, the row at 4 was met, and the call has begun
 pub install-requires : goal.install-requires
-install-requires c =
-    let f = filled (goal.at.install-requires c).After-fill_row-2 in (
-      c.begin_call.ensures.same_table ∙ c.load-met.ensures.same_table ∙ c.fill_row-2.ensures.same_table,
-      met_installable _ f.mine f.none f.stored f.change f.rebuild _ _ c.load-met.ensures.looked
-          (c.if-met-from.false ∙ c.to_word-from.ensures.value) _ c.begin_call.ensures.begun,
-    )
+install-requires c = (
+  c.begin_call.ensures.same_table ∙ c.load-met.ensures.same_table ∙ c.fill_row-2.ensures.same_table,
+  met_installable _ (filled (goal.at.install-requires c).After-fill_row-2) _ _ c.load-met.ensures.looked
+      (c.if-met-from.false ∙ c.to_word-from.ensures.value) _ c.begin_call.ensures.begun,
+)
 
 -- if it is installed, its caller may help it
 pub returns-clause-may_help : goal.returns-clause-may_help
 returns-clause-may_help c is =
-    start_helps _ _ _ _ _ (filled (goal.at.returns-clause-may_help c).After-fill_row-2).mine
+    start_helps _ (filled (goal.at.returns-clause-may_help c).After-fill_row-2) _ _ _ _
     c.load-met.ensures.looked c.begin_call.ensures.begun (c.install.ensures.yes is)
