@@ -13,7 +13,7 @@ use Rattle.ist_core.specs.Elements.{Among, Each}
 use Rattle.ist_core.specs.Snapshots.{without}
 use Rattle.ist_core.proofs.ElementLemmas.{each-among, among-filter}
 use Rattle.check_events.specs.declared.held.HeldTable.{HeldTable}
-use Rattle.check_events.specs.Holding.{by_base, listed, of_caller, BasesRise, TableHolds}
+use Rattle.check_events.specs.Holding.{by_base, listed_rows, of_caller, BasesRise, TableHolds}
 use Rattle.check_events.proofs.HeldLemmas.{tells, found_at, each_from, kept_yes, kept_no, kept_swap}
 
 -- ---- without one base
@@ -113,10 +113,10 @@ module _ (b : ℕ) where
 
 -- a caller's rows with one more
 pub listed_last : (held : List HeldRow) (row : HeldRow) (old new : BTreeMap ℕ (Vec HeldRow))
-    → ((caller : ℕ) → listed old caller ≡ of_caller caller held)
-    → listed new row.caller ≡ listed old row.caller ++ row ∷ []
-    → ((caller : ℕ) → caller ≢ row.caller → listed new caller ≡ listed old caller)
-    → (caller : ℕ) → listed new caller ≡ of_caller caller (held ++ row ∷ [])
+    → ((caller : ℕ) → listed_rows old caller ≡ of_caller caller held)
+    → listed_rows new row.caller ≡ listed_rows old row.caller ++ row ∷ []
+    → ((caller : ℕ) → caller ≢ row.caller → listed_rows new caller ≡ listed_rows old caller)
+    → (caller : ℕ) → listed_rows new caller ≡ of_caller caller (held ++ row ∷ [])
 listed_last held row old new known here others caller = at (eqb_tells row.caller caller)
   where
     both : of_caller caller (held ++ row ∷ [])
@@ -125,9 +125,9 @@ listed_last held row old new known here others caller = at (eqb_tells row.caller
 
     at : ((eqb row.caller caller ≡ true) × (row.caller ≡ caller))
         ⊎ ((eqb row.caller caller ≡ false) × (row.caller ≢ caller))
-        → listed new caller ≡ of_caller caller (held ++ row ∷ [])
+        → listed_rows new caller ≡ of_caller caller (held ++ row ∷ [])
     at (inl k) =
-        subst (λ c. listed new c ≡ listed old c ++ row ∷ []) k.1 here
+        subst (λ c. listed_rows new c ≡ listed_rows old c ++ row ∷ []) k.1 here
         ∙ ap (λ xs. xs ++ row ∷ []) (known caller)
         ∙ sym (both ∙ ap (λ xs. of_caller caller held ++ xs)
         (kept_yes (λ h. h.caller == caller) row [] k.0))
@@ -140,17 +140,17 @@ listed_last held row old new known here others caller = at (eqb_tells row.caller
 pub listed_without : (b : ℕ) (held : List HeldRow) (row : HeldRow) → BasesRise held
     → lookup (is_at (nat_cmp b)) (by_base held) ≡ Some row
     → (old new : BTreeMap ℕ (Vec HeldRow))
-    → ((caller : ℕ) → listed old caller ≡ of_caller caller held)
-    → listed new row.caller ≡ without (b ∷ []) (listed old row.caller)
-    → ((caller : ℕ) → caller ≢ row.caller → listed new caller ≡ listed old caller)
-    → (caller : ℕ) → listed new caller ≡ of_caller caller (without (b ∷ []) held)
+    → ((caller : ℕ) → listed_rows old caller ≡ of_caller caller held)
+    → listed_rows new row.caller ≡ without (b ∷ []) (listed_rows old row.caller)
+    → ((caller : ℕ) → caller ≢ row.caller → listed_rows new caller ≡ listed_rows old caller)
+    → (caller : ℕ) → listed_rows new caller ≡ of_caller caller (without (b ∷ []) held)
 listed_without b held row r found old new known here others caller = at (eqb_tells caller row.caller)
   where
     at : ((eqb caller row.caller ≡ true) × (caller ≡ row.caller))
         ⊎ ((eqb caller row.caller ≡ false) × (caller ≢ row.caller))
-        → listed new caller ≡ of_caller caller (without (b ∷ []) held)
+        → listed_rows new caller ≡ of_caller caller (without (b ∷ []) held)
     at (inl k) =
-        subst (λ c. listed new c ≡ without (b ∷ []) (listed old c)) (sym k.1) here
+        subst (λ c. listed_rows new c ≡ without (b ∷ []) (listed_rows old c)) (sym k.1) here
         ∙ ap (without (b ∷ [])) (known caller) ∙ sym (callers_rest b held caller)
     at (inr k) =
         others caller k.1 ∙ known caller ∙ sym (others_stay b held row r found caller k.1)

@@ -18,8 +18,8 @@ abbrev pub of_caller : ℕ → List HeldRow → List HeldRow
 of_caller caller held = filter (λ h. h.caller == caller) held
 
 -- the rows that are listed for the caller
-abbrev pub listed : BTreeMap ℕ (Vec HeldRow) → ℕ → List HeldRow
-listed of caller = unwrap_or (option_map (λ v. v.items) (tree.get nat_cmp of caller)) []
+abbrev pub listed_rows : BTreeMap ℕ (Vec HeldRow) → ℕ → List HeldRow
+listed_rows of caller = unwrap_or (option_map (λ v. v.items) (tree.get nat_cmp of caller)) []
 
 -- each row has a higher base than those before it
 abbrev pub BasesRise : List HeldRow → Type 0
@@ -34,4 +34,4 @@ LiesBelow table base = Each (λ e. e.0 < base) table.rows.entries
 pub record TableHolds (table : HeldTable) (held : List HeldRow) : Type 0 where
   pub rows : table.rows.entries ≡ by_base held
   pub rising : BasesRise held
-  pub callers : (caller : ℕ) → listed table.of caller ≡ of_caller caller held
+  pub callers : (caller : ℕ) → listed_rows table.of caller ≡ of_caller caller held

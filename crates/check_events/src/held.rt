@@ -5,7 +5,7 @@ ghost use Rattle.std.specs.BTreeMap as tree;
 ghost use Rattle.ist_core.specs.declared.lists.HeldRow.{HeldRow as AHeldRow};
 ghost use Rattle.ist_core.specs.Elements.{Among};
 ghost use Rattle.ist_core.specs.Snapshots.{without};
-ghost use Rattle.check_events.specs.Holding.{TableHolds, LiesBelow, listed};
+ghost use Rattle.check_events.specs.Holding.{TableHolds, LiesBelow, listed_rows};
 
 use ist_core::HeldRow;
 use std::alloc::{AllocError, Global};
@@ -71,7 +71,7 @@ fn is_same(one: &HeldRow, other: HeldRow) -> bool
 /// Returns the sizes of the rows that the caller holds, in the order of reserving.
 pub fn sizes_held(alloc: Global, table: &HeldTable, caller: u64) -> Result<Vec<u64>, AllocError>
     ensures value { IfOk result (λ sizes.
-        sizes.items ≡ map (λ h. h.size) (listed table.now.of caller)) }
+        sizes.items ≡ map (λ h. h.size) (listed_rows table.now.of caller)) }
 {
     match table.of.get(&caller) {
         None => Ok(Vec::new(alloc)),
@@ -92,9 +92,10 @@ pub fn hold(alloc: Global, table: &mut HeldTable, row: HeldRow) -> Result<(), Al
 
 /// Lists the row after the others of its caller.
 fn list(alloc: Global, of: &mut BTreeMap<u64, Vec<HeldRow>>, row: HeldRow) -> Result<(), AllocError>
-    ensures here { OnOk result (listed of.new row.caller ≡ listed of.old row.caller ++ row ∷ []) }
+    ensures here { OnOk result
+        (listed_rows of.new row.caller ≡ listed_rows of.old row.caller ++ row ∷ []) }
     ensures others { OnOk result ((caller : ℕ) → caller ≢ row.caller
-        → listed of.new caller ≡ listed of.old caller) }
+        → listed_rows of.new caller ≡ listed_rows of.old caller) }
 {
     match of.get_mut(&row.caller) {
         None => list_first(alloc, of, row),
@@ -112,9 +113,10 @@ fn list_first(
     row: HeldRow,
 ) -> Result<(), AllocError>
     requires first { tree.get nat_cmp of.old row.caller ≡ None }
-    ensures here { OnOk result (listed of.new row.caller ≡ listed of.old row.caller ++ row ∷ []) }
+    ensures here { OnOk result
+        (listed_rows of.new row.caller ≡ listed_rows of.old row.caller ++ row ∷ []) }
     ensures others { OnOk result ((caller : ℕ) → caller ≢ row.caller
-        → listed of.new caller ≡ listed of.old caller) }
+        → listed_rows of.new caller ≡ listed_rows of.old caller) }
 {
     let mut rows = Vec::new(alloc);
     rows.push(row)?;
@@ -144,8 +146,8 @@ fn let_go_one(table: &mut HeldTable, base: u64)
 
 /// Removes the caller's row at the base from its list.
 fn unlist(of: &mut BTreeMap<u64, Vec<HeldRow>>, caller: u64, base: u64)
-    ensures here { listed of.new caller ≡ without (base ∷ []) (listed of.old caller) }
-    ensures others { (c : ℕ) → c ≢ caller → listed of.new c ≡ listed of.old c }
+    ensures here { listed_rows of.new caller ≡ without (base ∷ []) (listed_rows of.old caller) }
+    ensures others { (c : ℕ) → c ≢ caller → listed_rows of.new c ≡ listed_rows of.old c }
 {
     match of.get_mut(&caller) {
         None => {}

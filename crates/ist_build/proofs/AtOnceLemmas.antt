@@ -18,7 +18,7 @@ use Rattle.ist_rows.proofs.BlockLemmas.{holds_them}
 use Rattle.ist_rows.proofs.ReserveLemmas.{next_low}
 use Rattle.ist_build.specs.Laying.{BuiltOn, ArePlaced, HaveLeaves, AreKeysOf, AreNextRows, IsLaid, IsShort, IsWritten, IsLaidBelow}
 use Rattle.ist_build.proofs.BuiltLemmas.{built_grow, built_more, built_next, loads_built, rewritten_built}
-use Rattle.ist_build.proofs.HalfBuiltLemmas.{published_on}
+use Rattle.ist_build.proofs.PartLeafLemmas.{published_on}
 use Rattle.ist_build.proofs.KeyLemmas.{keys_on}
 use Rattle.ist_build.proofs.LayingLemmas.{row_within}
 use Rattle.ist_build.proofs.RowOpenedLemmas.{at_rewritten}

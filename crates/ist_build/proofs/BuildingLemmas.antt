@@ -32,7 +32,7 @@ use Rattle.ist_build.specs.Laying.{BuiltOn, ArePlaced, HaveLeaves, IsLaid, AreNe
 use Rattle.ist_build.specs.Midway.{words_at, AreLaid, lens_from, IsOpened, IsMidway, IsTopRowRefused}
 use Rattle.ist_build.proofs.BuiltLemmas.{built_more, loads_built}
 use Rattle.ist_build.proofs.JoinedSubtreeLemmas.{laid_top}
-use Rattle.ist_build.proofs.HalfBuiltLemmas.{part_placed, length-share_of}
+use Rattle.ist_build.proofs.PartLeafLemmas.{part_placed, length-share_of}
 use Rattle.ist_build.proofs.PartsLemmas.{lens_first, lens_last, sizes_left}
 use Rattle.ist_rows.proofs.ShortLemmas.{short_from}
 use Rattle.ist_build.proofs.ShortLemmas.{short_for_more}

@@ -38,7 +38,7 @@ use Rattle.ist_rows.proofs.CallerLemmas.{spare_kind}
 use Rattle.ist_rows.proofs.CallerGoingLemmas.{base_same}
 use Rattle.ist_rows.proofs.HeldListLemmas.{held_by_later}
 use Rattle.ist_rule.proofs.WentOnLemmas.{later_by, later_by_more, later_by_all, later_by-goes_on}
-use Rattle.ist_build.specs.Naming.{is_from, row_stored, rows_from}
+use Rattle.ist_build.specs.Naming.{is_from, row_stored, held_rows_from}
 use Rattle.ist_build.specs.Laying.{IsReservation, BuiltOn, OwnsRows}
 use Rattle.ist_rows.proofs.HeldBehindLemmas.{filter_swap}
 use Rattle.ist_build.proofs.BuiltLemmas.{built_now, built_lawful}
@@ -198,7 +198,7 @@ module _ (who : Caller) (c : IsCaller who) (s : IsSound who.token.view) (w : Vie
 
   -- the rows that the caller holds from the first built one on are exactly those that were built
   pub rows_named : (base : ℕ) → (now v).next ≤ base
-      → ((b : ℕ) → Among b (bases_of rows) → base ≤ b) → rows_from w base ≡ rows
+      → ((b : ℕ) → Among b (bases_of rows) → base ≤ b) → held_rows_from w base ≡ rows
   rows_named base le first =
       ap (λ n. map (row_stored w) (filter (is_from base) (held_by (now w) n)))
       (ap number_of (ap (λ x. x.who) b.same ∙ c.mine))

@@ -18,7 +18,7 @@ use Rattle.ist_rows.specs.declared.callers.Caller.{Caller}
 use Rattle.ist_build.specs.Laying.{ArePlaced, HaveLeaves, IsLeaf, IsKeyOf, AreKeysOf}
 use Rattle.ist_build.specs.Midway.{IsMidway}
 use Rattle.ist_build.proofs.BuiltLemmas.{leaf_goes_on, built_grow, loads_built}
-use Rattle.ist_build.proofs.HalfBuiltLemmas.{part_placed}
+use Rattle.ist_build.proofs.PartLeafLemmas.{part_placed}
 
 -- keys stay as rows grow
 pub keys_on : (t u : Snapshot) → AllGrow t.pieces u.pieces → (bases keys : List ℕ)

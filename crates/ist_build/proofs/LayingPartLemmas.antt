@@ -21,7 +21,7 @@ use Rattle.laws_calls.proofs.PartLemmas.{keys_next}
 use Rattle.ist_rows.specs.Block.{HoldsBlock}
 use Rattle.ist_build.specs.Laying.{ArePlaced, HaveLeaves, AreKeysOf, IsWritten, IsLaidBelow}
 use Rattle.ist_build.specs.Midway.{words_at, lens_from, IsLaying, setting}
-use Rattle.ist_build.proofs.HalfBuiltLemmas.{each_take, each_drop, length-share_of, some_first}
+use Rattle.ist_build.proofs.PartLeafLemmas.{each_take, each_drop, length-share_of, some_first}
 use Rattle.ist_build.proofs.OwnWordLemmas.{words_at_same, words_at_more}
 use Rattle.ist_build.proofs.PartsLemmas.{sizes_next, sizes_left}
 use Rattle.ist_build.proofs.RowOpenedLemmas.{at_key, elsewhere, opened_on, setting_is}

@@ -6,6 +6,7 @@ pub mod LayingLemmas
 pub mod JoinedSubtreeLemmas
 pub mod PartsLemmas
 pub mod RowOpenedLemmas
+pub mod PartLeafLemmas
 pub mod HalfBuiltLemmas
 pub mod KeyLemmas
 pub mod BuildingLemmas

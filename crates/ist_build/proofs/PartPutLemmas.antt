@@ -29,7 +29,7 @@ use Rattle.laws_coming.specs.Builds.{IsPartBuilt, WasUnset}
 use Rattle.laws_coming.proofs.PartLemmas.{part_comes_or_loses}
 use Rattle.laws_coming.proofs.PlacedLemmas.{part_sizes}
 use Rattle.ist_build.specs.Laying.{IsLaid, IsShort}
-use Rattle.ist_build.specs.Naming.{placing, losing, rows_from}
+use Rattle.ist_build.specs.Naming.{placing, losing, held_rows_from}
 use Rattle.ist_build.specs.declared.shared.Shared.{Shared}
 use Rattle.ist_build.specs.Putting.{IsRowOfDegree, IsShared, IsStopped}
 use Rattle.ist_build.specs.Back.{IsBack, HasBuilt, IsSharedAs, IsPartMade, IsFilledAt}
@@ -40,7 +40,7 @@ use Rattle.ist_build.proofs.ShareLemmas.{short_more}
 use Rattle.ist_build.proofs.BuiltLemmas.{built_grow, loads_built}
 use Rattle.laws_calls.specs.Dividing.{share_of}
 use Rattle.laws_calls.proofs.PartLemmas.{part_is}
-use Rattle.ist_build.proofs.HalfBuiltLemmas.{length-share_of}
+use Rattle.ist_build.proofs.PartLeafLemmas.{length-share_of}
 use Rattle.ist_build.proofs.LayingLemmas.{rows_free}
 use Rattle.ist_core.specs.Parts.{parts}
 use Rattle.std.proofs.lemmas.Bool.Decides.{eqb_tells}
@@ -150,7 +150,7 @@ module _ (old mid : Caller) (s : Shared) (i word : ℕ) (m : IsPartMade old mid 
       (let len = long in omega arith)
       (root_whole h.ref (omega arith) h.ref_is (h.ideal s.root root_low))
 
-  named : rows_from w (word / tag_count) ≡ h.rows
+  named : held_rows_from w (word / tag_count) ≡ h.rows
   named =
       rows_of_topped old mid a.ready.caller a.sound a.number a.rows a.built word h.rows h.owns sizes topped
 

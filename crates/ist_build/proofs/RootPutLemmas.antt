@@ -22,7 +22,7 @@ use Rattle.ist_rows.specs.Building.{sizes_built}
 use Rattle.laws_coming.specs.Builds.{IsRootBuilt, WasUnset}
 use Rattle.laws_coming.proofs.RootLemmas.{root_comes_or_loses}
 use Rattle.ist_build.specs.Laying.{BuiltOn, OwnsRows, IsRootLaid, IsTarget}
-use Rattle.ist_build.specs.Naming.{rooting, losing, rows_from}
+use Rattle.ist_build.specs.Naming.{rooting, losing, held_rows_from}
 use Rattle.ist_build.specs.Back.{HasBuilt, IsRootMade, HasPutRoot}
 use Rattle.ist_build.proofs.HeldBeforeLemmas.{rows_named}
 use Rattle.laws_links.proofs.FinishedLeafLemmas.{finished_leaves}
@@ -38,7 +38,7 @@ pub rows_of_topped : (old mid : Caller) → IsCaller old → IsSound old.token.v
     → BuiltOn old.token.view mid.token.view → (word : ℕ) (rows : List Row)
     → OwnsRows mid.token.view mid.number (now old.token.view).next rows
     → sizes_built mid ≡ sizes_built old ++ sizes_of rows → IsTopped word (bases_of rows)
-    → rows_from mid.token.view (word / tag_count) ≡ rows
+    → held_rows_from mid.token.view (word / tag_count) ≡ rows
 rows_of_topped old mid c s number spares b word rows owns sizes topped =
     let base_is = topped_base word (bases_of rows) topped in
     rows_named old c s mid.token.view b (sizes_of rows)
@@ -71,7 +71,7 @@ module _ (old new : Caller) (c : IsCaller old) (s : IsSound old.token.view)
   sizes_old = ap₂ (λ n own. build_sizes (now new.token.view) n own) (sym number) (sym spares) ∙ h.sizes
 
   -- the rows that the exchange names are those that were built
-  pub root_named : rows_from new.token.view (word / tag_count) ≡ h.rows
+  pub root_named : held_rows_from new.token.view (word / tag_count) ≡ h.rows
   root_named =
       let base_is = topped_base word (bases_of h.rows) topped in
       rows_named old c s new.token.view b (sizes_of h.rows) sizes_old h.rows owns_old refl

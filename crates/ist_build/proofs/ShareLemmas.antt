@@ -26,7 +26,7 @@ use Rattle.ist_build.specs.Laying.{ArePlaced, IsLaid, AreNextRows, IsShort, Buil
 use Rattle.ist_build.specs.Reading.{HasRead, read_all}
 use Rattle.ist_build.proofs.BuiltLemmas.{loads_built, built_more}
 use Rattle.ist_build.proofs.JoinedSubtreeLemmas.{high_more}
-use Rattle.ist_build.proofs.HalfBuiltLemmas.{each_take, each_drop, published_on}
+use Rattle.ist_build.proofs.PartLeafLemmas.{each_take, each_drop, published_on}
 use Rattle.ist_build.proofs.ReadLemmas.{read_is}
 use Rattle.ist_build.proofs.ReadingLemmas.{leaves_number}
 use Rattle.ist_build.proofs.ShortLemmas.{short_for_more}

@@ -22,7 +22,8 @@ use Rattle.ist_build.proofs.BuiltLemmas.{built_held}
 use Rattle.ist_build.proofs.BuildingLemmas.{slice_part, part_leaves, length_own, part_due, part_short}
 use Rattle.ist_build.proofs.KeyLemmas.{part_keys, part_key}
 use Rattle.ist_build.proofs.LayingPartLemmas.{long_part, long_keys, held_part, leaves_part, keys_part, key_part, laying_part}
-use Rattle.ist_build.proofs.HalfBuiltLemmas.{length-share_of, midway_part}
+use Rattle.ist_build.proofs.HalfBuiltLemmas.{midway_part}
+use Rattle.ist_build.proofs.PartLeafLemmas.{length-share_of}
 
 -- ---- the slices
 

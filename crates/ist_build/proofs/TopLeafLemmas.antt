@@ -22,7 +22,7 @@ use Rattle.std.proofs.lemmas.List.{length-drop}
 use Rattle.ist_build.specs.Calls.{HasKeys}
 use Rattle.ist_build.specs.Laying.{IsLeaf}
 use Rattle.ist_build.proofs.BuiltLemmas.{leaf_goes_on}
-use Rattle.ist_build.proofs.HalfBuiltLemmas.{some_first, each_drop}
+use Rattle.ist_build.proofs.PartLeafLemmas.{some_first, each_drop}
 use Rattle.ist_build.proofs.ShareLemmas.{some_leaves}
 
 -- ---- one leaf

@@ -27,7 +27,7 @@ use Rattle.ist_build.specs.Midway.{words_at, IsOpened, IsTopMidway, setting}
 use Rattle.ist_build.proofs.BuiltLemmas.{rewritten_built}
 use Rattle.ist_build.proofs.BuildingLemmas.{held_good}
 use Rattle.ist_build.proofs.RowOpenedLemmas.{opened_on, at_slot, at_key, elsewhere, setting_is}
-use Rattle.ist_build.proofs.HalfBuiltLemmas.{some_first, length-share_of}
+use Rattle.ist_build.proofs.PartLeafLemmas.{some_first, length-share_of}
 use Rattle.ist_build.proofs.OwnWordLemmas.{length-words_at, get-words_at, words_at_same, words_at_more, row_of_words, words_of_row, inner_of_row}
 use Rattle.ist_build.proofs.ReadingLemmas.{leaves_number}
 use Rattle.ist_build.proofs.TopBegunLemmas.{leaves_on}

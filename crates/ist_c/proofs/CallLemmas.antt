@@ -11,7 +11,7 @@ use Rattle.ist_handles.specs.declared.results.Shortage.{Shortage}
 use Rattle.ist_handles.specs.declared.held.Held.{Held}
 use Rattle.ist_handles.specs.declared.held.Held.TheVariants as of
 use Rattle.ist_handles.specs.declared.passes.TreePass.{TreePass}
-use Rattle.ist_handles.specs.Results.{done, full, reply_of, full_of}
+use Rattle.ist_handles.specs.Results.{done, full, value_if, full_of}
 use Rattle.ist_c.specs.Calls.{HasNotCalled, FindsBy, UpdatesBy, pass_finds, pass_updates, pass_refused}
 
 -- ---- one call of a pass
@@ -20,7 +20,7 @@ use Rattle.ist_c.specs.Calls.{HasNotCalled, FindsBy, UpdatesBy, pass_finds, pass
 pub found : (held : Held) (p q : TreePass) (key : ℕ) (reply : Option ℕ) (said : CallResult)
     → held ≡ of.Pass p → arc_value q.tree ≡ arc_value p.tree → HasSeenMore p.pass q.pass
     → AddsCall p.pass q.pass (Get key) reply → said.status ≡ done
-    → reply_of said.some said.value ≡ reply → FindsBy held (of.Pass q) key said
+    → value_if said.some said.value ≡ reply → FindsBy held (of.Pass q) key said
 found held p q key reply said is tree seen added status says =
     subst (λ (h : Held). FindsBy h (of.Pass q) key said) (sym is)
     (pass_finds p q key said status (record {
@@ -35,7 +35,7 @@ pub updated : (held : Held) (p q : TreePass) (key : ℕ) (value : Option ℕ)
     → held ≡ of.Pass p → result ≡ Ok reply → arc_value q.tree ≡ arc_value p.tree
     → HasSeenMore p.pass q.pass
     → IfOk result (λ r. AddsCall p.pass q.pass (command_for key value) r) → said.status ≡ done
-    → reply_of said.some said.value ≡ reply
+    → value_if said.some said.value ≡ reply
     → UpdatesBy held (of.Pass q) key value said short short
 updated held p q key value result reply said short is ok tree seen added status says =
     let command = command_for key value in

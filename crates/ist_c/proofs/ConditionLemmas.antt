@@ -11,7 +11,7 @@ use Rattle.ist_handles.specs.declared.results.Shortage.{Shortage}
 use Rattle.ist_handles.specs.declared.held.Held.{Held}
 use Rattle.ist_handles.specs.declared.held.Held.TheVariants as of
 use Rattle.ist_handles.specs.declared.passes.TreePass.{TreePass}
-use Rattle.ist_handles.specs.Results.{done, full, reply_of, full_of}
+use Rattle.ist_handles.specs.Results.{done, full, value_if, full_of}
 use Rattle.ist_c.proofs.CallLemmas.{not_called}
 use Rattle.ist_c.specs.Conditions.{UpdatesIf, pass_updates_if, pass_refused_if}
 
@@ -28,13 +28,13 @@ pub updated_if : (held : Held) (p q : TreePass) (key : ℕ) (expected value : Op
     → HasSeenMore p.pass q.pass
     → IfOk result (λ r. r ≡ expected → AddsCall p.pass q.pass (command_for key value) r)
     → IfOk result (λ r. r ≢ expected → AddsCall p.pass q.pass (Get key) r)
-    → said.status ≡ done → reply_of said.some said.value ≡ reply
+    → said.status ≡ done → value_if said.some said.value ≡ reply
     → UpdatesIf held (of.Pass q) key expected value said short short
 updated_if held p q key expected value result reply said short is ok tree seen updated got status says =
     let R : Type 0 = Result (Option ℕ) Full in
     let one = subst (λ (r : R). IfOk r (λ r. r ≡ expected → AddsCall p.pass q.pass (command_for key value) r)) ok updated in
     let other = subst (λ (r : R). IfOk r (λ r. r ≢ expected → AddsCall p.pass q.pass (Get key) r)) ok got in
-    let both : Says p q key expected value (reply_of said.some said.value) =
+    let both : Says p q key expected value (value_if said.some said.value) =
     subst (λ (r : Option ℕ). Says p q key expected value r) (sym says) (one, other) in
     subst (λ (h : Held). UpdatesIf h (of.Pass q) key expected value said short short) (sym is)
     (pass_updates_if p q key expected value said short status (record {

@@ -6,7 +6,7 @@ use Rattle.ist_tree.specs.Opening.{IsNewTree, IsFaultOf}
 use Rattle.ist_tree.specs.declared.faults.OpenFault.{OpenFault}
 use Rattle.ist_tree.specs.declared.faults.OpenFault.TheVariants.{Small, Memory}
 use Rattle.ist_reopen.specs.Reopening.{as_reopen}
-use Rattle.ist_c.specs.Closing.{status_of}
+use Rattle.ist_c.specs.Closing.{fault_status}
 use Rattle.ist_c.specs.Keeping.{KeepsInHandle, keeps_it, keeps_none}
 use Rattle.ist_c.specs.Opening.{OpensNew, opens_new, opens_small, opens_memory}
 use Rattle.ist_handles.specs.declared.handles.Handle.{Handle}
@@ -23,7 +23,7 @@ opened_one words pairs owner _ _ _ new (keeps_none out) = opens_memory out
 
 -- it is as before if no tree was opened
 pub opened_none : (words : ℕ) (pairs : List Pair) (out : Handle) (fault : OpenFault)
-    → IsFaultOf words pairs fault → OpensNew words pairs out out (status_of (as_reopen fault))
+    → IsFaultOf words pairs fault → OpensNew words pairs out out (fault_status (as_reopen fault))
 opened_none words pairs out (Small needed given) is =
     opens_small out (subst (λ n. words < n) is.0 is.2)
 opened_none words pairs out Memory is = opens_memory out

@@ -14,7 +14,7 @@ use Rattle.ist_handles.specs.declared.held.Held.TheVariants as of
 use Rattle.ist_handles.specs.declared.owners.TreeOwner.{TreeOwner}
 use Rattle.ist_handles.specs.declared.passes.TreePass.{TreePass}
 use Rattle.ist_handles.specs.declared.passes.TreeNote.{TreeNote}
-use Rattle.ist_handles.specs.Results.{done, full, misuse, reply_of, full_of}
+use Rattle.ist_handles.specs.Results.{done, full, misuse, value_if, full_of}
 
 -- ---- one call of a pass
 
@@ -37,7 +37,7 @@ pub record HasNotCalled (p q : TreePass) (key : ℕ) (value : Option ℕ) (numbe
 -- something else is as before
 pub data FindsBy : Held → Held → ℕ → CallResult → Type 0 where
   pass_finds : (p q : TreePass) (key : ℕ) (said : CallResult) → said.status ≡ done
-      → HasCalled p q (Get key) (reply_of said.some said.value)
+      → HasCalled p q (Get key) (value_if said.some said.value)
       → FindsBy (of.Pass p) (of.Pass q) key said
   none_finds : (held : Held) (key : ℕ) (said : CallResult) → said.status ≡ misuse
       → FindsBy held held key said
@@ -47,7 +47,8 @@ pub data FindsBy : Held → Held → ℕ → CallResult → Type 0 where
 -- else is as before
 pub data UpdatesBy : Held → Held → ℕ → Option ℕ → CallResult → Shortage → Shortage → Type 0 where
   pass_updates : (p q : TreePass) (key : ℕ) (value : Option ℕ) (said : CallResult) (short : Shortage)
-      → said.status ≡ done → HasCalled p q (command_for key value) (reply_of said.some said.value)
+      → said.status ≡ done
+      → HasCalled p q (command_for key value) (value_if said.some said.value)
       → UpdatesBy (of.Pass p) (of.Pass q) key value said short short
   pass_refused : (p q : TreePass) (key : ℕ) (value : Option ℕ) (said : CallResult) (before short : Shortage)
       → said.status ≡ full → HasNotCalled p q key value (full_of short)

@@ -39,10 +39,10 @@ pub data Closes : Held → Held → ℕ → Type 0 where
 -- ---- reopening
 
 -- the status for a fault
-abbrev pub status_of : ReopenFault → ℕ
-status_of (Beyond words) = misuse
-status_of (Small needed words) = small
-status_of Memory = memory
+abbrev pub fault_status : ReopenFault → ℕ
+fault_status (Beyond words) = misuse
+fault_status (Small needed words) = small
+fault_status Memory = memory
 
 -- the handle holds the owner of a tree of the pairs that the closed words hold, or the closed tree still
 -- if none was opened, though no more words were asked for than a tree may have
@@ -52,7 +52,7 @@ pub data OpensInHandle (closed : ClosedTree) (words : ℕ) : Held → ℕ → Ty
       → OpensInHandle closed words (of.Owner new) done
   opens_none : (fault : ReopenFault) → words ≤ place_limit
       → IsReopenFaultOf closed.closed words fault
-      → OpensInHandle closed words (of.Closed closed) (status_of fault)
+      → OpensInHandle closed words (of.Closed closed) (fault_status fault)
 
 -- a handle of an owner holds the owner of a new tree, which begins with exactly the pairs that all calls
 -- of the old tree's passes left; or the closed tree if none was opened, though no more words were asked
@@ -65,7 +65,7 @@ pub data Reopens : Held → Held → ℕ → ℕ → Type 0 where
   owner_closed : (old : TreeOwner) (closed : ClosedTree) (words : ℕ) (fault : ReopenFault)
       → ClosesWith old.maker closed.closed → words ≤ place_limit
       → IsReopenFaultOf closed.closed words fault
-      → Reopens (of.Owner old) (of.Closed closed) words (status_of fault)
+      → Reopens (of.Owner old) (of.Closed closed) words (fault_status fault)
   owner_busy : (owner kept : TreeOwner) (words : ℕ) → kept.maker ≡ owner.maker
       → Reopens (of.Owner owner) (of.Owner kept) words busy
   closed_opens : (closed : ClosedTree) (new : TreeOwner) (words : ℕ)
@@ -73,5 +73,5 @@ pub data Reopens : Held → Held → ℕ → ℕ → Type 0 where
       → Reopens (of.Closed closed) (of.Owner new) words done
   closed_stays : (closed : ClosedTree) (words : ℕ) (fault : ReopenFault)
       → words ≤ place_limit → IsReopenFaultOf closed.closed words fault
-      → Reopens (of.Closed closed) (of.Closed closed) words (status_of fault)
+      → Reopens (of.Closed closed) (of.Closed closed) words (fault_status fault)
   none_reopens : (held : Held) (words : ℕ) → Reopens held held words misuse

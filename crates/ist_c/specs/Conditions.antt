@@ -10,7 +10,7 @@ use Rattle.ist_handles.specs.declared.held.Held.{Held}
 use Rattle.ist_handles.specs.declared.held.Held.TheVariants as of
 use Rattle.ist_handles.specs.declared.passes.TreePass.{TreePass}
 use Rattle.ist_c.specs.Calls.{HasNotCalled}
-use Rattle.ist_handles.specs.Results.{done, full, misuse, reply_of, full_of}
+use Rattle.ist_handles.specs.Results.{done, full, misuse, value_if, full_of}
 
 -- the pass is of the same tree, and made one call more, with this reply: if it is what was expected, an
 -- update of the key (a put of the value, or a remove if there is none), and else a get
@@ -27,7 +27,7 @@ pub data UpdatesIf : Held → Held → ℕ → Option ℕ → Option ℕ → Cal
     → Type 0 where
   pass_updates_if : (p q : TreePass) (key : ℕ) (expected value : Option ℕ) (said : CallResult)
       (short : Shortage) → said.status ≡ done
-      → HasCalledIf p q key expected value (reply_of said.some said.value)
+      → HasCalledIf p q key expected value (value_if said.some said.value)
       → UpdatesIf (of.Pass p) (of.Pass q) key expected value said short short
   pass_refused_if : (p q : TreePass) (key : ℕ) (expected value : Option ℕ) (said : CallResult)
       (before short : Shortage) → said.status ≡ full

@@ -2,7 +2,7 @@
 ghost use Rattle.std.specs.Prelude.{◌≡◌, ◌<◌, ◌≤◌, ◌^◌, true, false};
 ghost use Rattle.plain_map.specs.Rising.{IsRising};
 ghost use Rattle.ist_c.specs.Calls.{MayGiveBack};
-ghost use Rattle.ist_c.specs.Closing.{status_of};
+ghost use Rattle.ist_c.specs.Closing.{fault_status};
 ghost use Rattle.ist_handles.specs.Entries.{pairs_given};
 ghost use Rattle.ist_c.specs.Keeping.{KeepsInHandle};
 ghost use Rattle.ist_c.specs.Opening.{AreWordsFor, OpensNew};
@@ -44,7 +44,7 @@ pub extern "C" fn ist_words_for(pairs: u64) -> u64
 
 /// Returns the status for the fault.
 pub(crate) fn status_for(fault: ReopenFault) -> u32
-    ensures value { result ≡ status_of fault }
+    ensures value { result ≡ fault_status fault }
 {
     match fault {
         ReopenFault::Beyond { words: _ } => MISUSE,

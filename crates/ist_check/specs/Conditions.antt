@@ -22,7 +22,7 @@ use Rattle.check_events.specs.Mirroring.{RowHolds}
 use Rattle.check_events.specs.Remembering.{IsUncounted}
 use Rattle.ist_check.specs.declared.conditions.Condition.TheVariants as c
 use Rattle.ist_check.specs.Failing.{Stated, states}
-use Rattle.ist_check.specs.Published.{HasChangeRow, HasInner, HasRebuild, Any, first_change, IsWith, IsFinishedSo}
+use Rattle.ist_check.specs.Published.{HasChangeRow, HasInner, HasRebuild, Any, first_change_at, IsWith, IsFinishedSo}
 
 -- the conditions of an Enter
 abbrev pub enter_says : Snapshot → ℕ → List Stated
@@ -57,7 +57,8 @@ says_of_change first log caller base rows named =
 
 -- the conditions of an Install
 abbrev pub install_says : Snapshot → Log → ℕ → ℕ → List Row → List Stated
-install_says first log caller base rows = says_of_change first log caller base rows (first_change rows base)
+install_says first log caller base rows =
+    says_of_change first log caller base rows (first_change_at rows base)
 
 -- the conditions of an Okay
 abbrev pub okay_says : Snapshot → ℕ → ℕ → List Stated

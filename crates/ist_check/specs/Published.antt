@@ -31,9 +31,9 @@ abbrev pub Any : {A : Type 0} → A → Type 0
 Any x = Unit {0}
 
 -- the change that the first of the rows is, if that row is at the base
-abbrev pub first_change : List Row → ℕ → Option ChangeRow
-first_change [] base = None
-first_change (row ∷ fresh) base = if row.base == base then change_of row.words else None
+abbrev pub first_change_at : List Row → ℕ → Option ChangeRow
+first_change_at [] base = None
+first_change_at (row ∷ fresh) base = if row.base == base then change_of row.words else None
 
 -- there is a change, and it has P
 abbrev pub IsWith : (ChangeRow → Type 0) → Option ChangeRow → Type 0

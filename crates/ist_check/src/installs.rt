@@ -54,7 +54,7 @@ pub(crate) fn install_fails(
 
 /// Returns the change that the first of the rows is, if that row is at the base.
 fn first_change(rows: &[Row], base: u64) -> Option<ChangeRow>
-    ensures value { result ≡ published.first_change rows.now base }
+    ensures value { result ≡ published.first_change_at rows.now base }
 {
     match rows {
         [] => None,

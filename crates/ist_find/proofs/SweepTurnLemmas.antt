@@ -27,7 +27,7 @@ use Rattle.ist_rule.proofs.GoingOnLemmas.{goes_on_more}
 use Rattle.ist_find.specs.Searches.{IsRow, keys_at}
 use Rattle.ist_find.specs.Reads.{IsFoundAs}
 use Rattle.ist_find.specs.Spans.{IsEdge}
-use Rattle.ist_find.specs.Sweeps.{Swept, later_swept, row_swept, slot_swept, entering, starting, AllLed, HasSwept, one_of}
+use Rattle.ist_find.specs.Sweeps.{Swept, later_swept, row_swept, slot_swept, entering_loads, starting, AllLed, HasSwept, one_of}
 use Rattle.ist_find.specs.Turns.{HasReadSlot, LeadsBelow, HasReadEnd, HasSweptSlot, row_below, end_there, HasSweptTo}
 use Rattle.ist_find.proofs.LoadLemmas.{by_table, goes_log}
 use Rattle.ist_find.proofs.RowLemmas.{keys_are}
@@ -175,7 +175,7 @@ module _ (v u w : View) (node first low high last i count spent : ℕ) (ref : Re
               let cost = ap (λ ks. distance (guess_in ks low) (child_count ks low)) keys.2 in
               let begun : starting w base low
               ≡ distance (guess_in (keys_at w base) low) (child_count (keys_at w base) low) + 6 = refl in
-              let entered : entering keys.0.keys low
+              let entered : entering_loads keys.0.keys low
               ≡ distance (guess_in keys.0.keys low) (child_count keys.0.keys low) + 11 = refl in
               let limit = s.under in
               let few = s.few in
@@ -188,10 +188,10 @@ module _ (v u w : View) (node first low high last i count spent : ℕ) (ref : Re
                     (all k least most) back;
                 row = y.row;
                 under = y.under;
-                loads = s.loads + entering keys.0.keys low + y.loads;
+                loads = s.loads + entering_loads keys.0.keys low + y.loads;
                 few = omega arith;
                 swept = swept_more x.start x.words first node began saw.at low base
-                    (s.loads + entering keys.0.keys low) h.swept.found
+                    (s.loads + entering_loads keys.0.keys low) h.swept.found
                     (row_swept base keys.0 (later_swept before saw.since) there (omega arith))
                     (later_edge x.start x.words s.at saw.at saw.since was low first edge)
                     y.at (high + 1) y.row y.loads below.found enabled y.swept;

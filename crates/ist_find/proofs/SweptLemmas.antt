@@ -11,7 +11,7 @@ use Rattle.ist_core.proofs.FateLemmas.{enabled_before, grow_between}
 use Rattle.ist_core.proofs.GrowingLemmas.{inner_there}
 use Rattle.laws_histories.proofs.ChangeLemmas.{on_trans}
 use Rattle.ist_find.specs.Spans.{IsEdge}
-use Rattle.ist_find.specs.Sweeps.{Swept, none_swept, later_swept, row_swept, slot_swept, entering, one_of}
+use Rattle.ist_find.specs.Sweeps.{Swept, none_swept, later_swept, row_swept, slot_swept, entering_loads, one_of}
 
 -- an edge stays one when rows grow
 edge_grows : (t u : Snapshot) → AllGrow t.pieces u.pieces → (key : ℕ) → IsEdge t key → IsEdge u key
@@ -54,7 +54,7 @@ module _ (opened : List Pair) (words : ℕ) where
         later_swept
         (swept_more at behind row more found (enabled_before (start opened words) at later g h) s) g
     swept_more at to _ _ found h (row_swept {row = row} {loads = more} base r s p up) =
-        let same : loads + more + entering r.keys to ≡ loads + (more + entering r.keys to) = omega arith in
+        let same : loads + more + entering_loads r.keys to ≡ loads + (more + entering_loads r.keys to) = omega arith in
         subst (λ n. Swept opened words first above from at to base n (before ++ found)) same
         (row_swept base r (swept_more at to row more found h s) p up)
     swept_more _ _ _ _ _ h (slot_swept {at = at} {later = later} {low = to} {behind = behind} {row = row} {loads = more} {found = found} pair s begins r) =

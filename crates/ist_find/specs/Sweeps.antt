@@ -25,8 +25,8 @@ one_of None = []
 
 -- how many loads it takes at most to read the slot of an inner row, and to find its child for the
 -- key
-abbrev pub entering : List ℕ → ℕ → ℕ
-entering keys key = distance (guess_in keys key) (child_count keys key) + 11
+abbrev pub entering_loads : List ℕ → ℕ → ℕ
+entering_loads keys key = distance (guess_in keys key) (child_count keys key) + 11
 
 -- the keys of one slot, from the first up to its end, were read between these logs: each had what
 -- the pair gives it at a position of its own
@@ -52,7 +52,7 @@ pub data Swept (opened : List Pair) (words first above : ℕ) (from : Log)
   row_swept : {at : Log} {low row loads : ℕ} {found : List Pair} (base : ℕ) (r : InnerRow)
       → Swept opened words first above from at low row loads found
       → (state_of opened words at).pieces base ≡ Some (Inner r) → row < base
-      → Swept opened words first above from at low base (loads + entering r.keys low) found
+      → Swept opened words first above from at low base (loads + entering_loads r.keys low) found
   slot_swept : {at later : Log} {low behind row loads : ℕ} {found : List Pair} (pair : Option Pair)
       → Swept opened words first above from at low row loads found
       → (low ≡ first) ⊎ IsEdge (state_of opened words at) low

@@ -4,7 +4,7 @@ use Rattle.ist_core.specs.declared.pairs.Pair.{Pair}
 use Rattle.ist_handles.specs.declared.entries.Entry.{Entry}
 use Rattle.ist_handles.specs.declared.pieces.Piece.{Piece}
 use Rattle.ist_handles.specs.Results.{done, no_key}
-use Rattle.ist_handles.specs.Entries.{pair_of, entry_of, pairs_in, Wrote, wrote_pair, wrote_none, next_key}
+use Rattle.ist_handles.specs.Entries.{pair_of_entry, entry_of_pair, pairs_in, Wrote, wrote_pair, wrote_none, next_key}
 
 -- ---- one pair
 
@@ -28,42 +28,42 @@ piece_said Says piece next count room next_is count_is says =
     (subst (λ (n : ℕ). Says next (pairs_in n room)) (sym count_is) says)
 
 pushed : (room : List Entry) (count : ℕ) (entry : Entry) → count < length room
-    → pairs_in (suc count) (slice_set room count entry) ≡ pairs_in count room ++ pair_of entry ∷ []
+    → pairs_in (suc count) (slice_set room count entry) ≡ pairs_in count room ++ pair_of_entry entry ∷ []
 pushed [] count entry within = absurd (omega arith)
 pushed (e ∷ room) zero entry within = refl
 pushed (e ∷ room) (suc count) entry within =
-    ap (λ ps. pair_of e ∷ ps) (pushed room count entry (omega arith))
+    ap (λ ps. pair_of_entry e ∷ ps) (pushed room count entry (omega arith))
 
 -- one more entry has one more pair
 pub pairs_pushed : (room : List Entry) (count : ℕ) (entry : Entry) → count < length room
-    → pairs_in (count + 1) (slice_set room count entry) ≡ pairs_in count room ++ pair_of entry ∷ []
+    → pairs_in (count + 1) (slice_set room count entry) ≡ pairs_in count room ++ pair_of_entry entry ∷ []
 pairs_pushed room count entry within =
     let same : suc count ≡ count + 1 = omega arith in
-    subst (λ n. pairs_in n (slice_set room count entry) ≡ pairs_in count room ++ pair_of entry ∷ []) same
+    subst (λ n. pairs_in n (slice_set room count entry) ≡ pairs_in count room ++ pair_of_entry entry ∷ []) same
     (pushed room count entry within)
 
 -- ---- a list of pairs
 
 -- the room after the first pairs were written
 abbrev pub part : ℕ → List Pair → List Entry → List Entry
-part at pairs room = map entry_of (take at pairs) ++ drop at room
+part at pairs room = map entry_of_pair (take at pairs) ++ drop at room
 
 part_next : (pairs : List Pair) (room : List Entry) (at : ℕ) (other : Pair) → at < length pairs
     → at < length room
-    → slice_set (part at pairs room) at (entry_of (slice_index_or pairs at other)) ≡ part (suc at) pairs room
+    → slice_set (part at pairs room) at (entry_of_pair (slice_index_or pairs at other)) ≡ part (suc at) pairs room
 part_next [] room at other some within = absurd (omega arith)
 part_next (p ∷ pairs) [] at other some within = absurd (omega arith)
 part_next (p ∷ pairs) (e ∷ room) zero other some within = refl
 part_next (p ∷ pairs) (e ∷ room) (suc at) other some within =
-    ap (λ es. entry_of p ∷ es) (part_next pairs room at other (omega arith) (omega arith))
+    ap (λ es. entry_of_pair p ∷ es) (part_next pairs room at other (omega arith) (omega arith))
 
 -- one more pair is written after them
 pub part_more : (pairs : List Pair) (room now : List Entry) (at : ℕ) (other : Pair) → now ≡ part at pairs room
     → at < length pairs → at < length room
-    → slice_set now at (entry_of (slice_index_or pairs at other)) ≡ part (at + 1) pairs room
+    → slice_set now at (entry_of_pair (slice_index_or pairs at other)) ≡ part (at + 1) pairs room
 part_more pairs room now at other is some within =
     let same : suc at ≡ at + 1 = omega arith in
-    let entry : Entry = entry_of (slice_index_or pairs at other) in
+    let entry : Entry = entry_of_pair (slice_index_or pairs at other) in
     ap (λ es. slice_set es at entry) is
     ∙ subst (λ n. slice_set (part at pairs room) at entry ≡ part n pairs room) same
     (part_next pairs room at other some within)

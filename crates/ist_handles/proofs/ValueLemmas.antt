@@ -34,10 +34,12 @@ use Rattle.ist_handles.specs.contracts.held.Held as held
 use Rattle.ist_handles.specs.contracts.raw_boxes.RawBox as raw_box
 use Rattle.ist_handles.specs.contracts.opaques.Opaque as opaque
 
+-- two fields side by side
 abbrev pub both : Val → Val → Val
 both v w = vstruct (vcons v (vcons w vnil))
 
 module _ (R Z : RattleType) (L : Laws Z) (g : Ghosts Z.Denot) where
+  -- a raw box of this type, beside an allocator
   abbrev pub RawBox : RattleType
   RawBox = raw_box.the_row R Z g
 
@@ -68,21 +70,27 @@ module _ (R Z : RattleType) (L : Laws Z) (g : Ghosts Z.Denot) where
 
 -- ---- the opaque
 
+-- what a handle holds, as a type
 abbrev pub R : RattleType
 R = held.the_row
 
+-- the allocator of the heap, as a type
 abbrev pub Z : RattleType
 Z = heap.the_row
 
+-- a handle, as a type
 abbrev pub S : RattleType
 S = opaque.the_row
 
+-- the laws of that allocator
 abbrev pub LZ : Laws Z
 LZ = heap_laws.the_row_laws
 
+-- a raw box of what a handle holds
 abbrev pub RawHeld : RattleType
 RawHeld = RawBox R Z LZ ghosts
 
+-- the allocator with its laws
 abbrev pub heap_al : Al
 heap_al = record { row = Z; laws = LZ; g = ghosts; d = impl [] tnil dnil; drops = impl [] tnil dnil }
 

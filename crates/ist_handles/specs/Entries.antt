@@ -9,20 +9,20 @@ use Rattle.ist_handles.specs.declared.pieces.Piece.{Piece}
 use Rattle.ist_handles.specs.Results.{done, no_key}
 
 -- the pair that an entry has
-abbrev pub pair_of : Entry → Pair
-pair_of e = record { key = e.key; value = e.value }
+abbrev pub pair_of_entry : Entry → Pair
+pair_of_entry e = record { key = e.key; value = e.value }
 
 -- the pairs that the first entries have
 abbrev pub pairs_in : ℕ → List Entry → List Pair
-pairs_in count entries = map pair_of (take count entries)
+pairs_in count entries = map pair_of_entry (take count entries)
 
 -- the entry that has the pair
-abbrev pub entry_of : Pair → Entry
-entry_of p = record { key = p.key; value = p.value }
+abbrev pub entry_of_pair : Pair → Entry
+entry_of_pair p = record { key = p.key; value = p.value }
 
 -- the room after the pairs were written over its first entries, as many as there is room for
 abbrev pub written : List Pair → List Entry → List Entry
-written pairs room = map entry_of (take (length room) pairs) ++ drop (length pairs) room
+written pairs room = map entry_of_pair (take (length room) pairs) ++ drop (length pairs) room
 
 -- the puts of some entries
 abbrev pub puts_of : List Entry → List Command
@@ -35,7 +35,7 @@ pairs_given entries = pairs_of (replay no_pairs (puts_of entries))
 
 -- the entry has the pair, or is as before if there is none
 pub data Wrote : Option Pair → ℕ → Entry → Entry → Type 0 where
-  wrote_pair : (pair : Pair) (before after : Entry) → pair_of after ≡ pair
+  wrote_pair : (pair : Pair) (before after : Entry) → pair_of_entry after ≡ pair
       → Wrote (Some pair) done before after
   wrote_none : (entry : Entry) → Wrote None no_key entry entry
 

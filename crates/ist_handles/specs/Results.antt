@@ -32,9 +32,9 @@ abbrev pub no_key : ℕ
 no_key = 6
 
 -- the value, if there is one
-abbrev pub reply_of : Bool → ℕ → Option ℕ
-reply_of true value = Some value
-reply_of false value = None
+abbrev pub value_if : Bool → ℕ → Option ℕ
+value_if true value = Some value
+value_if false value = None
 
 -- the refusal with these numbers
 abbrev pub full_of : Shortage → Full

@@ -1,6 +1,6 @@
 //! What a caller in C gets from a call.
 ghost use Rattle.std.specs.Prelude.{◌≡◌};
-ghost use Rattle.ist_handles.specs.Results.{done, full, misuse, reply_of, full_of};
+ghost use Rattle.ist_handles.specs.Results.{done, full, misuse, value_if, full_of};
 
 use ist_core::{Full, Reply};
 
@@ -57,7 +57,7 @@ pub struct Stats {
 /// Returns the result of a call that was made, with this reply.
 pub fn replied(reply: Reply) -> CallResult
     ensures status { result.status ≡ done }
-    ensures reply { reply_of result.some result.value ≡ reply }
+    ensures reply { value_if result.some result.value ≡ reply }
 {
     match reply {
         Some(value) => CallResult {

@@ -20,11 +20,11 @@ pub struct Live {
 
 impl Model for Live {
     ghost use Rattle.std.specs.Prelude.{ℕ};
-    ghost use Rattle.ist_live.specs.Cursors.{place_of};
+    ghost use Rattle.ist_live.specs.Cursors.{cursor_place};
 
     ghost Value = { ℕ };
 
-    ghost view = { λ c. place_of c.above };
+    ghost view = { λ c. cursor_place c.above };
 }
 
 impl Live {

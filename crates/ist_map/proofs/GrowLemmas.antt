@@ -14,7 +14,7 @@ use Rattle.ist_tree.specs.Faces.{TreeFace, MakerFace}
 use Rattle.ist_tree.specs.Opening.{words_for}
 use Rattle.ist_reopen.specs.declared.faults.ReopenFault.{ReopenFault}
 use Rattle.ist_reopen.specs.declared.faults.ReopenFault.TheVariants.{Beyond, Small, Memory}
-use Rattle.ist_map.specs.Growing.{IsGrowFault, tree_words}
+use Rattle.ist_map.specs.Growing.{IsGrowFault, words_for_tree}
 use Rattle.ist_reopen.specs.Reopening.{OpensAfter, IsReopenFaultOf}
 use Rattle.ist_map.specs.Running.{HasRunTo, HasStopped, IsUnderway, OpensEnough}
 use Rattle.ist_map.proofs.RunLemmas.{run_none, run_on}
@@ -24,7 +24,7 @@ use Rattle.ist_map.proofs.RunLemmas.{run_none, run_on}
 -- otherwise it has as many as the pairs take, which the closed words hold
 pub words_needed : (closed : List ℕ) (asked needed : ℕ) (pairs start : List Pair)
     → HoldPairs closed pairs → HoldPairs closed start → needed ≡ words_for pairs → asked < needed
-    → needed ≡ tree_words asked start
+    → needed ≡ words_for_tree asked start
 words_needed closed asked needed pairs start held begun is low =
     let same : words_for pairs ≡ words_for start
     = ap words_for (same_pairs closed pairs start held begun) in

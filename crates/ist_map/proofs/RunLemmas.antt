@@ -19,7 +19,7 @@ use Rattle.ist_tree.specs.Closing.{ClosesWith, calls_taken, told_to}
 use Rattle.ist_reopen.specs.Generations.{Generation, generation_of, FollowOn, pairs_left, history}
 use Rattle.ist_reopen.specs.Interleaving.{calls_of, told_over}
 use Rattle.ist_map.specs.Hands.{HaveWorked}
-use Rattle.ist_map.specs.Growing.{HaveDoubled, tree_words, asked_after}
+use Rattle.ist_map.specs.Growing.{HaveDoubled, words_for_tree, asked_after}
 use Rattle.ist_map.specs.Running.{HasRunOn, HasRunTo, IsOneHistory}
 use Rattle.ist_reopen.proofs.GenerationLemmas.{closed_is, history_legal, history_leads}
 use Rattle.ist_reopen.proofs.PassLemmas.{made_over}
@@ -110,7 +110,7 @@ run_on first middle last asked next before between after a to =
 -- with this maker
 pub run_one : (first last : List ℕ) (asked words : ℕ) (before after : List (List Answered))
     (m : MakerFace) → HoldPairs first m.tree.start → length last ≡ words
-    → words ≡ tree_words asked m.tree.start → ClosesWith m last
+    → words ≡ words_for_tree asked m.tree.start → ClosesWith m last
     → HaveWorked before (calls_taken m) after
     → HasRunTo first last asked (2 * words) before after
 run_one first last asked words before after m holds long many c worked = record {

@@ -12,15 +12,15 @@ use Rattle.ist_reopen.specs.Generations.{Generation}
 
 -- how many words a tree of these pairs has if this many are asked for: as many, or as many as the
 -- pairs take if these are more
-abbrev pub tree_words : ℕ → List Pair → ℕ
-tree_words asked pairs = max asked (words_for pairs)
+abbrev pub words_for_tree : ℕ → List Pair → ℕ
+words_for_tree asked pairs = max asked (words_for pairs)
 
 -- `asked` words are asked for the first tree, and for each other one twice the words of the one
 -- before
 abbrev pub HaveDoubled : ℕ → List Generation → Type 0
 HaveDoubled asked [] = Unit {0}
 HaveDoubled asked (g ∷ more) =
-    (g.words ≡ tree_words asked g.start) × HaveDoubled (2 * g.words) more
+    (g.words ≡ words_for_tree asked g.start) × HaveDoubled (2 * g.words) more
 
 -- how many words are asked for after these trees: twice the words of the last one, or `asked` if
 -- there is none
@@ -41,4 +41,4 @@ IsGrowFault closed asked Memory = asked ≤ place_limit
 abbrev pub IsFirstFault : ℕ → List Pair → OpenFault → Type 0
 IsFirstFault asked pairs (opening.Small needed given) =
     (needed ≡ words_for pairs) × (given ≡ asked) × (asked < needed) × (place_limit < needed)
-IsFirstFault asked pairs opening.Memory = tree_words asked pairs ≤ place_limit
+IsFirstFault asked pairs opening.Memory = words_for_tree asked pairs ≤ place_limit

@@ -25,8 +25,8 @@ calls_by (Some pass) = calls_in pass
 calls_by None = record { number = 0; calls = [] }
 
 -- the number of the pass
-abbrev pub number_of : Option PassFace → ℕ
-number_of pass = (calls_by pass).number
+abbrev pub pass_number : Option PassFace → ℕ
+pass_number pass = (calls_by pass).number
 
 -- what each worker was told is what it had been told before, and then what its calls told it
 abbrev pub HaveWorked : List (List Answered) → List (List Call) → List (List Answered) → Type 0

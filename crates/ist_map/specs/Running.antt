@@ -10,7 +10,7 @@ use Rattle.ist_rest.specs.RestingWords.{HoldPairs}
 use Rattle.ist_tree.specs.Faces.{TreeFace, MakerFace}
 use Rattle.ist_reopen.specs.declared.faults.ReopenFault.{ReopenFault}
 use Rattle.ist_reopen.specs.Generations.{Generation, FollowOn, map_told}
-use Rattle.ist_map.specs.Growing.{tree_words, HaveDoubled, asked_after, IsGrowFault}
+use Rattle.ist_map.specs.Growing.{words_for_tree, HaveDoubled, asked_after, IsGrowFault}
 use Rattle.ist_reopen.specs.Interleaving.{IsMadeOf, told_over}
 use Rattle.ist_reopen.specs.Reopening.{OpensAfter}
 
@@ -62,7 +62,7 @@ pub record IsOneHistory (first last : List ℕ) (before after : List (List Answe
 pub record OpensEnough (closed : List ℕ) (asked : ℕ) (tree : TreeFace) (maker : MakerFace)
     : Type 0 where
   pub words : ℕ
-  pub words_is : words ≡ tree_words asked tree.start
+  pub words_is : words ≡ words_for_tree asked tree.start
   pub within : words ≤ place_limit
   pub opens : OpensAfter closed words tree maker
 

@@ -5,7 +5,7 @@ ghost use Rattle.std.specs.List.{list_any, range_with_len};
 ghost use Rattle.ist_core.specs.Enabled.{caller_limit};
 ghost use Rattle.ist_core.specs.Replies.{Answered};
 ghost use Rattle.ist_core.specs.Resting.{told_by_call};
-ghost use Rattle.ist_map.specs.Hands.{IsHired, IsOn, number_of, calls_by, HaveWorked};
+ghost use Rattle.ist_map.specs.Hands.{IsHired, IsOn, pass_number, calls_by, HaveWorked};
 
 use crate::handles::MapHandle;
 use ist_core::Full;
@@ -66,7 +66,7 @@ impl<W: Worker> Hand<W> {
         requires few { maker.old.made < caller_limit }
         ensures worker { self.new.worker ≡ self.old.worker }
         ensures hired { IsHired tree.now self.new.pass }
-        ensures number { number_of self.new.pass ≡ maker.old.made }
+        ensures number { pass_number self.new.pass ≡ maker.old.made }
         ensures same_tree { maker.new.tree ≡ maker.old.tree }
         ensures made { maker.new.made ≡ maker.old.made + 1 }
         ensures taken { maker.new.taken ≡ maker.old.taken }
@@ -78,7 +78,7 @@ impl<W: Worker> Hand<W> {
     fn work(&mut self, tree: &Tree)
         requires hired { IsHired tree.now self.old.pass }
         ensures on_tree { IsOn tree.now self.new.pass }
-        ensures number { number_of self.new.pass ≡ number_of self.old.pass }
+        ensures number { pass_number self.new.pass ≡ pass_number self.old.pass }
         ensures told { W.told self.new.worker
             ≡ W.told self.old.worker ++ map told_by_call (calls_by self.new.pass).calls }
         ensures done { self.new.refused ≡ None → W.is_done self.new.worker }
@@ -112,7 +112,7 @@ pub(crate) fn hire_all<W: Worker>(tree: &Tree, maker: &mut Maker, hands: &mut [H
     requires few { maker.old.made + length hands.old ≤ caller_limit }
     ensures told { map (λ h. W.told h.worker) hands.new ≡ map (λ h. W.told h.worker) hands.old }
     ensures hired { All (λ h. IsHired tree.now h.pass) hands.new }
-    ensures numbers { map (λ h. number_of h.pass) hands.new
+    ensures numbers { map (λ h. pass_number h.pass) hands.new
         ≡ range_with_len maker.old.made (length hands.old) }
     ensures same_tree { maker.new.tree ≡ maker.old.tree }
     ensures made { maker.new.made ≡ maker.old.made + length hands.old }
@@ -132,8 +132,8 @@ pub(crate) fn work_all<R: Threads + Sync, W: Worker + Send>(
 )
     requires hired { All (λ h. IsHired tree.now h.pass) hands.old }
     ensures on_tree { All (λ h. IsOn tree.now h.pass) hands.new }
-    ensures numbers { map (λ h. number_of h.pass) hands.new
-        ≡ map (λ h. number_of h.pass) hands.old }
+    ensures numbers { map (λ h. pass_number h.pass) hands.new
+        ≡ map (λ h. pass_number h.pass) hands.old }
     ensures told { HaveWorked (map (λ h. W.told h.worker) hands.old)
         (map (λ h. (calls_by h.pass).calls) hands.new) (map (λ h. W.told h.worker) hands.new) }
     ensures done { All (λ h. h.refused ≡ None → W.is_done h.worker) hands.new }

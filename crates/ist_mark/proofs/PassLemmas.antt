@@ -31,7 +31,7 @@ use Rattle.ist_rule.specs.declared.view.View.{View}
 use Rattle.ist_core.specs.Shown.{IsShown}
 use Rattle.ist_rule.specs.Rule.{IsSound}
 use Rattle.ist_rule.specs.Learning.{now, Looked, LoggedLoad, LoadedAs, as_event, as_load}
-use Rattle.ist_rule.specs.Watching.{number_of, is_marked, is_change, pass_of, CanLoadPass}
+use Rattle.ist_rule.specs.Watching.{number_of, is_marked, is_change_ref, pass_of, CanLoadPass}
 use Rattle.ist_rule.proofs.WatchLemmas.{both_true, if_some, no_change}
 use Rattle.ist_dcss.proofs.FieldLemmas.{row_low}
 use Rattle.ist_dcss.proofs.SlotPlaceLemmas.{slot_shown, no_anchor}
@@ -106,7 +106,7 @@ not_named true x e = absurd (cc)
 not_named false x e = refl
 
 -- a test of a word that is no change's
-plain_test : (o : Option Ref) → ((change : ℕ) → o ≢ Some (ChangeAt change)) → is_change o ≡ false
+plain_test : (o : Option Ref) → ((change : ℕ) → o ≢ Some (ChangeAt change)) → is_change_ref o ≡ false
 plain_test (Some (ChangeAt base)) plain = absurd (plain base refl)
 plain_test (Some Empty) plain = refl
 plain_test (Some Unset) plain = refl
@@ -138,12 +138,12 @@ module _ (v : View) (node degree i place word : ℕ) (m : MayPass v node degree)
   passed_now event l named =
       let u = state_of v.start v.words l.before in
       let test = is_marked (as_inner (u.pieces node))
-      && (not (is_change (ref_of word)) && not (word == unset_word)) in
+      && (not (is_change_ref (ref_of word)) && not (word == unset_word)) in
       let pass : Event = Pass (number_of v.who) node i word in
       let is = if_some test pass event named in
       let both = both_true (is_marked (as_inner (u.pieces node)))
-      (not (is_change (ref_of word)) && not (word == unset_word)) is.0 in
-      let plain = both_true (not (is_change (ref_of word))) (not (word == unset_word)) both.1 in
+      (not (is_change_ref (ref_of word)) && not (word == unset_word)) is.0 in
+      let plain = both_true (not (is_change_ref (ref_of word))) (not (word == unset_word)) both.1 in
       let logged : LoggedLoad v pass place word w =
       subst (λ (e : Event). LoggedLoad v e place word w) (sym is.1) l in
       record {
@@ -226,7 +226,7 @@ module _ (v : View) (node degree i place word : ℕ) (m : MayPass v node degree)
           ap (λ x. x.pieces node) (sym (went_now (Marks w node) v w went)) ∙ here.published in
           let test : is_marked (as_inner (u.pieces node)) ≡ true =
           ap (λ o. is_marked (as_inner o)) piece ∙ ap (λ n. n == marked_word) marked in
-          let c = unset_by_test (is_marked (as_inner (u.pieces node))) (is_change (ref_of word))
+          let c = unset_by_test (is_marked (as_inner (u.pieces node))) (is_change_ref (ref_of word))
           (word == unset_word)
           (not_named _ (Pass (number_of v.who) node i word) none) test
           (plain_test (ref_of word) plain) in

@@ -19,7 +19,7 @@ use Rattle.ist_rows.specs.declared.kinds.Kind.TheVariants.{Change}
 use Rattle.ist_rows.specs.Building.{HasRefused}
 use Rattle.ist_rows.specs.CallerLaws.{KeepsRows, InstallsNone}
 use Rattle.ist_rows.specs.Kinds.{kind_words}
-use Rattle.ist_rows.specs.Rows.{spares_of, with_row, IsCaller, Reserved, IsFreshRow, IsKindRefused}
+use Rattle.ist_rows.specs.Rows.{spares_of, with_spare, IsCaller, Reserved, IsFreshRow, IsKindRefused}
 use Rattle.ist_rows.specs.Filling.{with_own}
 use Rattle.ist_rows.proofs.CallerLawLemmas.{resolved_went}
 use Rattle.ist_rows.proofs.GoneLemmas.{kept_ready, loads_ready, own_ready, ready_all, ready_more, ready_same, still_ready}
@@ -133,7 +133,7 @@ pub record HasRow (old new : Caller) (answer : Result ℕ Full) : Type 0 where
 reserved_helped : (old new : Caller) (base : ℕ) → IsReady old → IsCaller new
     → new.number ≡ old.number → old.change ≡ None
     → Reserved old.token.view old.number base (kind_words Change) new.token.view
-    → spares_of new ≡ with_row Change base (spares_of old)
+    → spares_of new ≡ with_spare Change base (spares_of old)
     → HasHelped old new × WentOn Builds old.token.view new.token.view
 reserved_helped old new base ready c number none r rows =
     let v = old.token.view in

@@ -21,7 +21,7 @@ use Rattle.ist_rows.specs.declared.callers.Caller.{Caller}
 use Rattle.ist_rows.specs.declared.kinds.Kind.TheVariants.{Change}
 use Rattle.ist_rows.specs.Building.{AreStuck, HasRefused}
 use Rattle.ist_rows.specs.Kinds.{kind_words}
-use Rattle.ist_rows.specs.Rows.{Spares, spares_of, with_row, is_base, is_spare, held_by, build_sizes, IsCaller, Reserved}
+use Rattle.ist_rows.specs.Rows.{Spares, spares_of, with_spare, is_base, is_spare, held_by, build_sizes, IsCaller, Reserved}
 use Rattle.ist_rows.proofs.BuildingCallLemmas.{Took, took}
 use Rattle.ist_rows.proofs.BuildingLemmas.{all_stuck_on}
 use Rattle.ist_rows.proofs.CallerGoingLemmas.{base_same, or_any}
@@ -32,14 +32,14 @@ use Rattle.ist_rows.proofs.HeldListLemmas.{held_by_later}
 
 -- another row is as spare as it was
 spare_else : (own : Spares) (base x : ℕ) → own.change ≡ None → base ≢ x
-    → is_spare (with_row Change base own) x ≡ is_spare own x
+    → is_spare (with_spare Change base own) x ≡ is_spare own x
 spare_else own base x none ne =
     ap (λ a. is_base own.leaf x || (is_base own.pair x || (a || is_base own.rebuild x)))
     (⊎_elim (λ k. absurd (ne k.1)) (λ k. k.0) (eqb_tells base x)
     ∙ sym (ap (λ o. is_base o x) none))
 
 -- the new row is spare
-spare_here : (own : Spares) (base : ℕ) → is_spare (with_row Change base own) base ≡ true
+spare_here : (own : Spares) (base : ℕ) → is_spare (with_spare Change base own) base ≡ true
 spare_here own base =
     ap (λ a. is_base own.leaf base || (is_base own.pair base || (a || is_base own.rebuild base)))
     (base_same base)
@@ -60,7 +60,7 @@ filter_same p q (x ∷ xs) h =
 module _ (old new : Caller) (base : ℕ) (c : IsCaller old) (none : old.change ≡ None)
     (r : Reserved old.token.view old.number base (kind_words Change) new.token.view)
     (number_is : new.number ≡ old.number)
-    (rows_are : spares_of new ≡ with_row Change base (spares_of old)) where
+    (rows_are : spares_of new ≡ with_spare Change base (spares_of old)) where
   abbrev v : View
   v = old.token.view
 
@@ -101,15 +101,15 @@ module _ (old new : Caller) (base : ℕ) (c : IsCaller old) (none : old.change �
       let at_next = it.lawful.enabled.1.base_is in
       omega arith
 
-  sizes_now : build_sizes u number (with_row Change base own) ≡ build_sizes t number own
+  sizes_now : build_sizes u number (with_spare Change base own) ≡ build_sizes t number own
   sizes_now =
-      ap (λ held. map (λ h. h.size) (filter (λ h. not (is_spare (with_row Change base own) h.base))
+      ap (λ held. map (λ h. h.size) (filter (λ h. not (is_spare (with_spare Change base own) h.base))
       held)) held_now
       ∙ ap (map (λ (h : HeldRow). h.size))
-      (filter-append (λ (h : HeldRow). not (is_spare (with_row Change base own) h.base))
+      (filter-append (λ (h : HeldRow). not (is_spare (with_spare Change base own) h.base))
       (held_by t number) (new_row ∷ [])
       ∙ ap₂ (λ xs ys. xs ++ ys)
-      (filter_same (λ (h : HeldRow). not (is_spare (with_row Change base own) h.base))
+      (filter_same (λ (h : HeldRow). not (is_spare (with_spare Change base own) h.base))
       (λ h. not (is_spare own h.base)) (held_by t number)
       (λ h i. ap not (spare_else own base h.base none (old_base h i))))
       (ap (λ b. if not b then new_row ∷ [] else []) (spare_here own base))
@@ -125,7 +125,7 @@ module _ (old new : Caller) (base : ℕ) (c : IsCaller old) (none : old.change �
       (all_stuck_on (now v) t
       (behind_between v.start v.words v.log it.before lawful_before (later-goes_on later)) _
       refused) in
-      let is : AreStuck u (build_sizes u number (with_row Change base own)) =
+      let is : AreStuck u (build_sizes u number (with_spare Change base own)) =
       subst (AreStuck u) (sym sizes_now)
       (all_stuck_on t u
       (behind_between v.start v.words it.before
@@ -134,6 +134,6 @@ module _ (old new : Caller) (base : ℕ) (c : IsCaller old) (none : old.change �
       subst (λ rows. AreStuck (now new.token.view) (build_sizes (now new.token.view) new.number rows))
       (sym rows_are)
       (subst (λ n. AreStuck (now new.token.view)
-      (build_sizes (now new.token.view) n (with_row Change base own))) (sym number_is)
-      (subst (λ x. AreStuck x (build_sizes x number (with_row Change base own))) (sym it.now_is)
+      (build_sizes (now new.token.view) n (with_spare Change base own))) (sym number_is)
+      (subst (λ x. AreStuck x (build_sizes x number (with_spare Change base own))) (sym it.now_is)
       is))

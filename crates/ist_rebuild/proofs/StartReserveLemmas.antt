@@ -27,7 +27,7 @@ use Rattle.ist_rows.specs.declared.kinds.Kind.{Kind}
 use Rattle.ist_rows.specs.Building.{AreStuck, HasRefused}
 use Rattle.ist_rows.specs.CallerLaws.{KeepsRows}
 use Rattle.ist_rows.specs.Kinds.{kind_words}
-use Rattle.ist_rows.specs.Rows.{Spares, spares_of, row_of, with_row, is_spare, held_by, build_sizes, IsCaller, Reserved, IsFull, IsFreshRow, IsKindRefused}
+use Rattle.ist_rows.specs.Rows.{Spares, spares_of, row_of, with_spare, is_spare, held_by, build_sizes, IsCaller, Reserved, IsFull, IsFreshRow, IsKindRefused}
 use Rattle.ist_rows.proofs.BuildingCallLemmas.{Took, took}
 use Rattle.ist_rows.proofs.BuildingLemmas.{all_stuck_on}
 use Rattle.ist_rows.proofs.CallerGoingLemmas.{spare_else, spare_here}
@@ -44,10 +44,10 @@ use Rattle.ist_rows.proofs.ShortLemmas.{short_from}
 -- the rows of builds are the same, if one more spare row is held
 builds_beside : (own : Spares) (kind : Kind) (row : HeldRow) (held : List HeldRow)
     → row_of kind own ≡ None → ((h : HeldRow) → Among h held → row.base ≢ h.base)
-    → filter (λ h. not (is_spare (with_row kind row.base own) h.base)) (held ++ row ∷ [])
+    → filter (λ h. not (is_spare (with_spare kind row.base own) h.base)) (held ++ row ∷ [])
     ≡ filter (λ h. not (is_spare own h.base)) held
 builds_beside own kind row [] none apart =
-    filter_at (λ (h : HeldRow). not (is_spare (with_row kind row.base own) h.base)) row [] false
+    filter_at (λ (h : HeldRow). not (is_spare (with_spare kind row.base own) h.base)) row [] false
     (ap not (spare_here own kind row.base))
 builds_beside own kind row (h ∷ held) none apart =
     ap₂ (λ v ys. if not v then h ∷ ys else ys)
@@ -70,15 +70,15 @@ refused_as a b now_is number_is rows_are r =
 refused_beside : (old new : Caller) (kind : Kind) (base : ℕ) → IsCaller old
     → row_of kind (spares_of old) ≡ None
     → Reserved old.token.view old.number base (kind_words kind) new.token.view
-    → new.number ≡ old.number → spares_of new ≡ with_row kind base (spares_of old)
+    → new.number ≡ old.number → spares_of new ≡ with_spare kind base (spares_of old)
     → HasRefused old → HasRefused new
 refused_beside old new kind base c none r number_is rows_are h =
     subst (λ own. AreStuck (now new.token.view) (build_sizes (now new.token.view) new.number own))
     (sym rows_are)
     (subst (λ n. AreStuck (now new.token.view)
-    (build_sizes (now new.token.view) n (with_row kind base own)))
+    (build_sizes (now new.token.view) n (with_spare kind base own)))
     (sym number_is)
-    (subst (λ x. AreStuck x (build_sizes x old.number (with_row kind base own)))
+    (subst (λ x. AreStuck x (build_sizes x old.number (with_spare kind base own)))
     (sym it.now_is) behind))
   where
     own : Spares
@@ -118,17 +118,17 @@ refused_beside old new kind base c none r number_is rows_are h =
         let at_next = it.lawful.enabled.1.base_is in
         omega arith
 
-    sizes : build_sizes u old.number (with_row kind base own) ≡ build_sizes t old.number own
+    sizes : build_sizes u old.number (with_spare kind base own) ≡ build_sizes t old.number own
     sizes =
         let row : HeldRow = record { caller = old.number; base = base; size = kind_words kind } in
         ap (λ held. map (λ (h : HeldRow). h.size)
-        (filter (λ h. not (is_spare (with_row kind base own) h.base)) held))
+        (filter (λ h. not (is_spare (with_spare kind base own) h.base)) held))
         (held_by_own v.start v.words it.before old.number
         (Reserve old.number base (kind_words kind)) refl)
         ∙ ap (map (λ (h : HeldRow). h.size))
         (builds_beside own kind row (held_by t old.number) none apart)
 
-    behind : AreStuck u (build_sizes u old.number (with_row kind base own))
+    behind : AreStuck u (build_sizes u old.number (with_spare kind base own))
     behind =
         subst (AreStuck u) (sym sizes)
         (all_stuck_on t u

@@ -10,7 +10,7 @@ use Rattle.ist_rule.proofs.WentOnLemmas.{goes_on_went, went_more}
 use Rattle.ist_rows.specs.declared.callers.Caller.{Caller}
 use Rattle.ist_rows.specs.declared.kinds.Kind.{Kind}
 use Rattle.ist_rows.specs.Going.{IsQuiet}
-use Rattle.ist_rows.specs.Rows.{Spares, spares_of, row_of, with_row, IsCaller, IsFreshRow, IsKindRefused}
+use Rattle.ist_rows.specs.Rows.{Spares, spares_of, row_of, with_spare, IsCaller, IsFreshRow, IsKindRefused}
 use Rattle.ist_rows.proofs.CallerGoingLemmas.{caller_goes_on}
 use Rattle.ist_rebuild.specs.Going.{KeepsFresh}
 use Rattle.ist_rebuild.specs.StartSteps.{HasReserved, filled_start}
@@ -49,7 +49,7 @@ module _ (words : ℕ) (kind : Kind) (old new : Caller) (answer : Result ℕ Ful
     (taken : IsFreshRow kind old new answer)
     (full : IfErr answer (λ f. IsKindRefused words kind old new f))
     (other : (base : ℕ) (own : Spares)
-    → ((with_row kind base own).leaf ≡ own.leaf) × ((with_row kind base own).pair ≡ own.pair)) where
+    → ((with_spare kind base own).leaf ≡ own.leaf) × ((with_spare kind base own).pair ≡ own.pair)) where
   -- a reserving of another kind leaves the leaf and the pair row
   row_fresh : KeepsFresh old new
   row_fresh = at (row_of kind (spares_of old)) refl held answer taken full

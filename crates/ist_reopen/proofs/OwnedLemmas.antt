@@ -9,10 +9,11 @@ use Rattle.ist_core.specs.Changes.{Entry}
 use Rattle.ist_core.specs.Histories.{Reading, comes_first, put_in, in_order, at_position, told_by_entry, told_by_reading, woven_from}
 use Rattle.ist_reopen.specs.Interleaving.{Owned, told_to_pass}
 
--- an entry and a reading with their owners
+-- an entry with its owner
 abbrev pub own_entry : Entry → Owned
 own_entry e = record { owner = e.owner; told = told_by_entry e }
 
+-- a reading with its owner
 abbrev pub own_reading : Reading → Owned
 own_reading x = record { owner = x.number; told = told_by_reading x }
 

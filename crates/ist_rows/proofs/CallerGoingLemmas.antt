@@ -34,7 +34,7 @@ use Rattle.ist_rows.specs.declared.callers.Caller.{Caller}
 use Rattle.ist_rows.specs.declared.kinds.Kind.{Kind}
 use Rattle.ist_rows.specs.declared.kinds.Kind.TheVariants.{Leaf, Pair as PairKind, Change, Rebuild}
 use Rattle.ist_rows.specs.Kinds.{kind_words}
-use Rattle.ist_rows.specs.Rows.{Spares, spares_of, row_of, with_row, is_base, is_spare, held_by, build_sizes, IsCaller, Reserved, IsFull, HoldsPlace}
+use Rattle.ist_rows.specs.Rows.{Spares, spares_of, row_of, with_spare, is_base, is_spare, held_by, build_sizes, IsCaller, Reserved, IsFull, HoldsPlace}
 use Rattle.ist_rows.proofs.BuildLemmas.{ComesBehind, builds_on}
 use Rattle.ist_rows.proofs.CallerLemmas.{IsCallerIn, caller_later}
 
@@ -74,7 +74,7 @@ or_any false = refl
 
 -- another row is as spare as it was
 pub spare_else : (own : Spares) (kind : Kind) (base x : ℕ) → row_of kind own ≡ None → base ≢ x
-    → is_spare (with_row kind base own) x ≡ is_spare own x
+    → is_spare (with_spare kind base own) x ≡ is_spare own x
 spare_else own Leaf base x none ne =
     ap (λ a. a || (is_base own.pair x || (is_base own.change x || is_base own.rebuild x)))
     (base_differs base x ne ∙ sym (ap (λ o. is_base o x) none))
@@ -89,7 +89,7 @@ spare_else own Rebuild base x none ne =
     (base_differs base x ne ∙ sym (ap (λ o. is_base o x) none))
 
 -- the new row is spare
-pub spare_here : (own : Spares) (kind : Kind) (base : ℕ) → is_spare (with_row kind base own) base ≡ true
+pub spare_here : (own : Spares) (kind : Kind) (base : ℕ) → is_spare (with_spare kind base own) base ≡ true
 spare_here own Leaf base = ap (λ a. a ||
     (is_base own.pair base || (is_base own.change base || is_base own.rebuild base)))
     (base_same base)
@@ -119,7 +119,7 @@ filter_same p q (x ∷ xs) h =
 
 -- the row of a kind, if one of a kind is taken
 row_taken : (own : Spares) (kind other : Kind) (base b : ℕ)
-    → row_of other (with_row kind base own) ≡ Some b
+    → row_of other (with_spare kind base own) ≡ Some b
     → ((kind ≡ other) × (base ≡ b)) ⊎ (row_of other own ≡ Some b)
 row_taken own Leaf Leaf base b e = inl (refl, cc)
 row_taken own PairKind PairKind base b e = inl (refl, cc)
@@ -165,15 +165,15 @@ module _ (pairs : List Pair) (words : ℕ) (log : Log) (number : ℕ) (own : Spa
       let at_next = enabled.1.base_is in
       omega arith
 
-  sizes_now : build_sizes u number (with_row kind base own) ≡ build_sizes t number own
+  sizes_now : build_sizes u number (with_spare kind base own) ≡ build_sizes t number own
   sizes_now =
-      ap (λ held. map (λ h. h.size) (filter (λ h. not (is_spare (with_row kind base own) h.base))
+      ap (λ held. map (λ h. h.size) (filter (λ h. not (is_spare (with_spare kind base own) h.base))
       held)) held_now
       ∙ ap (map (λ (h : HeldRow). h.size))
-      (filter-append (λ (h : HeldRow). not (is_spare (with_row kind base own) h.base))
+      (filter-append (λ (h : HeldRow). not (is_spare (with_spare kind base own) h.base))
       (held_by t number) (new_row ∷ [])
       ∙ ap₂ (λ xs ys. xs ++ ys)
-      (filter_same (λ (h : HeldRow). not (is_spare (with_row kind base own) h.base))
+      (filter_same (λ (h : HeldRow). not (is_spare (with_spare kind base own) h.base))
       (λ h. not (is_spare own h.base)) (held_by t number)
       (λ h i. ap not (spare_else own kind base h.base none (old_base h i))))
       (ap (λ b. if not b then new_row ∷ [] else []) (spare_here own kind base))
@@ -188,7 +188,7 @@ module _ (pairs : List Pair) (words : ℕ) (log : Log) (number : ℕ) (own : Spa
   }
 
   -- a caller that reserved a row is a caller with that row
-  pub taken_caller : IsCallerIn u number (with_row kind base own)
+  pub taken_caller : IsCallerIn u number (with_spare kind base own)
   taken_caller =
       record {
         rows = λ other b e.
@@ -203,7 +203,7 @@ module _ (pairs : List Pair) (words : ℕ) (log : Log) (number : ℕ) (own : Spa
                   kind_words other;
             } t.held (new_row ∷ []) (c.rows other b k))
             (row_taken own kind other base b e);
-        builds = builds_on t u behind (build_sizes u number (with_row kind base own))
+        builds = builds_on t u behind (build_sizes u number (with_spare kind base own))
             (subst (AreBuilds t) (sym sizes_now) c.builds);
       }
 
@@ -211,7 +211,7 @@ module _ (pairs : List Pair) (words : ℕ) (log : Log) (number : ℕ) (own : Spa
 pub caller_reserved : (old new : Caller) (kind : Kind) (base : ℕ) → IsCaller old
     → row_of kind (spares_of old) ≡ None
     → Reserved old.token.view old.number base (kind_words kind) new.token.view
-    → new.number ≡ old.number → spares_of new ≡ with_row kind base (spares_of old) → IsCaller new
+    → new.number ≡ old.number → spares_of new ≡ with_spare kind base (spares_of old) → IsCaller new
 caller_reserved old new kind base c none r number rows =
     let v = old.token.view in
     let w = new.token.view in
@@ -241,8 +241,8 @@ caller_reserved old new kind base c none r number rows =
     ap₂ (λ p n. state_of p n w.log) start_is words_is ∙ ap (state_of v.start v.words)
     log_is in
     let there = subst (λ own. IsCallerIn (now w) new.number own) (sym rows)
-    (subst (λ n. IsCallerIn (now w) n (with_row kind base (spares_of old))) (sym number)
-    (subst (λ t. IsCallerIn t old.number (with_row kind base (spares_of old))) (sym now_is) it)) in
+    (subst (λ n. IsCallerIn (now w) n (with_spare kind base (spares_of old))) (sym number)
+    (subst (λ t. IsCallerIn t old.number (with_spare kind base (spares_of old))) (sym now_is) it)) in
     record {
       mine = who_is ∙ c.mine ∙ ap CallerOf (sym number);
       rows = there.rows;

@@ -38,11 +38,11 @@ row_of Change spares = spares.change
 row_of Rebuild spares = spares.rebuild
 
 -- the rows with one of this kind
-abbrev pub with_row : Kind → ℕ → Spares → Spares
-with_row Leaf base spares = record spares { leaf = Some base }
-with_row Pair base spares = record spares { pair = Some base }
-with_row Change base spares = record spares { change = Some base }
-with_row Rebuild base spares = record spares { rebuild = Some base }
+abbrev pub with_spare : Kind → ℕ → Spares → Spares
+with_spare Leaf base spares = record spares { leaf = Some base }
+with_spare Pair base spares = record spares { pair = Some base }
+with_spare Change base spares = record spares { change = Some base }
+with_spare Rebuild base spares = record spares { rebuild = Some base }
 
 -- ---- rows that a caller holds
 
@@ -111,7 +111,7 @@ abbrev pub IsFreshRow : Kind → Caller → Caller → Result ℕ Full → Type 
 IsFreshRow kind old new answer =
     row_of kind (spares_of old) ≡ None → IfOk answer (λ base.
     Reserved old.token.view old.number base (kind_words kind) new.token.view
-    × (spares_of new ≡ with_row kind base (spares_of old)))
+    × (spares_of new ≡ with_spare kind base (spares_of old)))
 
 -- nothing was reserved, because no words are left
 pub record IsKindRefused (words : ℕ) (kind : Kind) (old new : Caller) (full : Full) : Type 0 where

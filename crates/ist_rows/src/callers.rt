@@ -1,6 +1,6 @@
 //! A caller, and the rows that it holds in addition to its builds.
 ghost use Rattle.std.specs.Prelude.{◌≡◌};
-ghost use Rattle.ist_rows.specs.Rows.{spares_of, row_of, with_row};
+ghost use Rattle.ist_rows.specs.Rows.{spares_of, row_of, with_spare};
 
 use crate::kinds::Kind;
 use ist_rule::TreeToken;
@@ -33,7 +33,7 @@ impl Caller {
 
     // Notes that the caller holds this row of this kind.
     pub(crate) fn hold(&mut self, kind: Kind, base: u32)
-        ensures value { spares_of self.new ≡ with_row kind base (spares_of self.old) }
+        ensures value { spares_of self.new ≡ with_spare kind base (spares_of self.old) }
         ensures same { (self.new.token ≡ self.old.token) × (self.new.number ≡ self.old.number) }
     {
         match kind {

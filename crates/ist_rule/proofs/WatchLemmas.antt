@@ -22,7 +22,7 @@ use Rattle.ist_core.proofs.StartLemmas.{sound_start}
 use Rattle.ist_core.proofs.GrowingLemmas.{inner_there}
 use Rattle.ist_core.proofs.StepLemmas.{grow_step}
 use Rattle.ist_core.specs.Shown.{IsShown, shown_next, shown_callers, shown_status, shown_slot, shown_row, shown_free}
-use Rattle.ist_rule.specs.Watching.{IsNode, is_anchor, is_inner, is_change}
+use Rattle.ist_rule.specs.Watching.{IsNode, is_anchor, is_inner, is_change_ref}
 use Rattle.ist_rule.proofs.HeldLemmas.{start_no_change}
 use Rattle.ist_rule.proofs.ChangeLemmas.{ChangeComes, stood, is_installed, change_comes}
 
@@ -136,8 +136,8 @@ not_true m n e = ⊎_elim (λ k. absurd (clash (sym e ∙ ap not k.0))) (λ k. k
     clash f = cc
 
 -- a word that is tested to be no change's is no change's
-pub no_change : (o : Option Ref) → not (is_change o) ≡ true → (base : ℕ) → o ≢ Some (ChangeAt base)
-no_change o e base is = clash (sym e ∙ ap (λ x. not (is_change x)) is)
+pub no_change : (o : Option Ref) → not (is_change_ref o) ≡ true → (base : ℕ) → o ≢ Some (ChangeAt base)
+no_change o e base is = clash (sym e ∙ ap (λ x. not (is_change_ref x)) is)
   where
     clash : true ≡ not true → ⊥
     clash f = cc

@@ -31,7 +31,7 @@ use Rattle.ist_core.proofs.PrefixLemmas.{goes_on_by}
 use Rattle.ist_rule.specs.Rule.{IsSound}
 use Rattle.ist_rule.specs.Learning.{now}
 use Rattle.ist_rule.specs.Conditions.{MayCome, CanMake, LeavesAt, CanLoadAs}
-use Rattle.ist_rule.specs.Watching.{IsNode, is_anchor, is_inner, number_of, waits, okay_of, CanLoadOkay, is_marked, is_change, pass_of, CanLoadPass, past_of, CanLoadPast}
+use Rattle.ist_rule.specs.Watching.{IsNode, is_anchor, is_inner, number_of, waits, okay_of, CanLoadOkay, is_marked, is_change_ref, pass_of, CanLoadPass, past_of, CanLoadPast}
 use Rattle.ist_rule.proofs.GoingOnLemmas.{callers_later}
 use Rattle.ist_rule.proofs.HeldLemmas.{held_later}
 use Rattle.ist_rule.proofs.WatchLemmas.{some_one, shown_in_row, change_node, both_true, if_some, not_true, no_change, status_place_inner, status_place_anchor, place_inner}
@@ -200,11 +200,11 @@ can_load_pass v node i place s can =
         let same = shown_in_row v.start v.words log m.lawful.enabled node (Inner r)
         (4 + length r.keys + i) it.3.0 it.1 it.3.2 place word shown it.3.3 in
         let tests = if_some (is_marked (as_inner (t.pieces node))
-        && (not (is_change (ref_of word)) && not (word == unset_word)))
+        && (not (is_change_ref (ref_of word)) && not (word == unset_word)))
         (Pass (number_of v.who) node i word) event named in
         let both = both_true (is_marked (as_inner (t.pieces node)))
-        (not (is_change (ref_of word)) && not (word == unset_word)) tests.0 in
-        let rest = both_true (not (is_change (ref_of word))) (not (word == unset_word)) both.1 in
+        (not (is_change_ref (ref_of word)) && not (word == unset_word)) tests.0 in
+        let rest = both_true (not (is_change_ref (ref_of word))) (not (word == unset_word)) both.1 in
         let marked = eqb-true r.status marked_word
         (sym (ap (λ o. is_marked (as_inner o)) it.1) ∙ both.0) in
         let number = ap number_of can.mine in

@@ -62,15 +62,15 @@ is_marked (Some row) = row.status == marked_word
 is_marked None = false
 
 -- is this a change?
-abbrev pub is_change : Option Ref → Bool
-is_change (Some (ChangeAt base)) = true
-is_change _ = false
+abbrev pub is_change_ref : Option Ref → Bool
+is_change_ref (Some (ChangeAt base)) = true
+is_change_ref _ = false
 
 -- the load of a slot is a Pass if the node is marked and the word is neither a change nor Unset
 abbrev pub pass_of : View → ℕ → ℕ → Naming
 pass_of v node i log word =
     if is_marked (as_inner ((state_of v.start v.words log).pieces node))
-    && (not (is_change (ref_of word)) && not (word == unset_word))
+    && (not (is_change_ref (ref_of word)) && not (word == unset_word))
     then Some (Pass (number_of v.who) node i word) else None
 
 -- a load that may be the Pass of the slot

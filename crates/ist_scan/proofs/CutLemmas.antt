@@ -3,7 +3,7 @@ use Rattle.std.proofs.Common.{◌≡◌, ℕ, ◌+◌, ◌-◌, ◌<◌, ◌≤�
 use Rattle.std.proofs.lemmas.Bool.Decides.{nat_tests}
 use Rattle.ist_core.specs.declared.pairs.Pair.{Pair}
 use Rattle.ist_core.specs.Map.{pairs_between}
-use Rattle.ist_scan.specs.Cuts.{CutsAt, IsCut, part_of}
+use Rattle.ist_scan.specs.Cuts.{CutsAt, IsCut, slice_of}
 
 -- the cut of the pairs after the first
 cut_behind : (x : Pair) (pairs : List Pair) (key count : ℕ) → CutsAt (x ∷ pairs) key (suc count)
@@ -101,7 +101,7 @@ cut_is (x ∷ pairs) from to (suc low) (suc high) some c d =
 -- the pairs of an interval that was cut, by its last key
 pub between_is : (pairs : List Pair) (first last from to low high : ℕ) → from ≡ first
     → to ≡ last + 1 → IsCut pairs from to low high
-    → pairs_between first last pairs ≡ part_of pairs low high
+    → pairs_between first last pairs ≡ slice_of pairs low high
 between_is pairs first last from to low high begins ends c =
     let same : to - 1 ≡ last = omega arith in
     ap (λ n. pairs_between n last pairs) (sym begins)

@@ -4,7 +4,7 @@ use Rattle.std.proofs.lemmas.Bool.{cases_lt}
 use Rattle.std.proofs.lemmas.List.Sums.{sum_by_push}
 use Rattle.ist_core.proofs.PieceLemmas.{slice_get-drop}
 use Rattle.ist_core.specs.declared.pairs.Pair.{Pair}
-use Rattle.ist_scan.specs.Cuts.{part_of}
+use Rattle.ist_scan.specs.Cuts.{slice_of}
 use Rattle.std.proofs.lemmas.List.{length-append}
 use Rattle.ist_scan.specs.declared.totals.Total.{Total}
 use Rattle.ist_scan.specs.Totals.{least_with, greatest_with, least_of, greatest_of, total_of}
@@ -41,7 +41,7 @@ take_more (y ∷ pairs) (suc count) x at = ap (λ l. y ∷ l) (take_more pairs c
 
 -- the part with one pair more
 pub part_more : (pairs : List Pair) (low i : ℕ) (x : Pair) → low ≤ i → slice_get pairs i ≡ Some x
-    → part_of pairs low (i + 1) ≡ part_of pairs low i ++ x ∷ []
+    → slice_of pairs low (i + 1) ≡ slice_of pairs low i ++ x ∷ []
 part_more pairs low i x order at =
     let here : low + (i - low) ≡ i = omega arith in
     let one : i + 1 - low ≡ suc (i - low) = omega arith in
@@ -50,7 +50,7 @@ part_more pairs low i x order at =
     (slice_get-drop low pairs (i - low) ∙ ap (slice_get pairs) here ∙ at)
 
 -- no pair is in an empty part
-pub part_none : (pairs : List Pair) (i : ℕ) → part_of pairs i i ≡ []
+pub part_none : (pairs : List Pair) (i : ℕ) → slice_of pairs i i ≡ []
 part_none pairs i = ap (λ n. take n (drop i pairs)) (let e : i - i ≡ 0 = omega arith in e)
 
 -- a total with one pair more
@@ -71,11 +71,11 @@ total_more old new pairs x same keys sum least greatest =
 
 -- the total of a part with one pair more
 pub part_total_more : (pairs : List Pair) (low i : ℕ) (x : Pair) (old new : Total) → low ≤ i
-    → slice_get pairs i ≡ Some x → old ≡ total_of (part_of pairs low i) → new.keys ≡ old.keys + 1
+    → slice_get pairs i ≡ Some x → old ≡ total_of (slice_of pairs low i) → new.keys ≡ old.keys + 1
     → new.sum ≡ old.sum + x.value → new.least ≡ least_with x.value old.least
-    → new.greatest ≡ greatest_with x.value old.greatest → new ≡ total_of (part_of pairs low (i + 1))
+    → new.greatest ≡ greatest_with x.value old.greatest → new ≡ total_of (slice_of pairs low (i + 1))
 part_total_more pairs low i x old new order at same keys sum least greatest =
-    total_more old new (part_of pairs low i) x same keys sum least greatest
+    total_more old new (slice_of pairs low i) x same keys sum least greatest
     ∙ ap total_of (sym (part_more pairs low i x order at))
 
 -- ---- a list of totals, one of which is written

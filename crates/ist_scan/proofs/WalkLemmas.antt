@@ -10,7 +10,7 @@ use Rattle.ist_core.specs.declared.pairs.Pair.{Pair}
 use Rattle.ist_core.specs.Map.{pairs_between}
 use Rattle.ist_tree.specs.declared.freezing.Frozen.{Frozen}
 use Rattle.ist_tree.specs.Faces.{PassFace}
-use Rattle.ist_scan.specs.Cuts.{CutsAt, IsCut, part_of}
+use Rattle.ist_scan.specs.Cuts.{CutsAt, IsCut, slice_of}
 use Rattle.ist_scan.specs.Shots.{HasOnlyLooked, ArePairsOf}
 use Rattle.ist_scan.specs.Walks.{WalkFace, AreOneWalk, WalkHasBegun, WalksStay}
 use Rattle.ist_scan.proofs.CutLemmas.{cut_is, between_is, none_between}
@@ -96,16 +96,16 @@ cut_of pairs rising first last start order c =
 
 -- a pair of a part, by its number there
 pub get_part : (pairs : List Pair) (low high given : ℕ) → given < high - low
-    → slice_get (part_of pairs low high) given ≡ slice_get pairs (low + given)
+    → slice_get (slice_of pairs low high) given ≡ slice_get pairs (low + given)
 get_part pairs low high given less =
     slice_get-take (high - low) (drop low pairs) given less ∙ slice_get-drop low pairs given
 
 -- there is no pair after the end of a part
 pub none_behind : (pairs : List Pair) (low high given : ℕ) → high - low ≤ given
-    → slice_get (part_of pairs low high) given ≡ None
+    → slice_get (slice_of pairs low high) given ≡ None
 none_behind pairs low high given more =
     let long = length-take (high - low) (drop low pairs) in
-    slice_get_past (part_of pairs low high) given (omega (arith, long))
+    slice_get_past (slice_of pairs low high) given (omega (arith, long))
 
 module _ (pairs : List Pair) (rising : IsStrictlyIncreasing (map (λ p. p.key) pairs))
     (first last start given : ℕ) (c : CutsAt pairs first start) where

@@ -4,8 +4,8 @@ use Rattle.ist_core.specs.declared.pairs.Pair.{Pair}
 use Rattle.ist_core.specs.Map.{pairs_between}
 
 -- the pairs from number `low` on, up to the one before `high`
-abbrev pub part_of : List Pair → ℕ → ℕ → List Pair
-part_of pairs low high = take (high - low) (drop low pairs)
+abbrev pub slice_of : List Pair → ℕ → ℕ → List Pair
+slice_of pairs low high = take (high - low) (drop low pairs)
 
 -- the first `count` of the pairs have keys below this one, and the others don't
 pub record CutsAt (pairs : List Pair) (key count : ℕ) : Type 0 where
@@ -18,7 +18,7 @@ pub record CutsAt (pairs : List Pair) (key count : ℕ) : Type 0 where
 pub record IsCut (pairs : List Pair) (from to low high : ℕ) : Type 0 where
   pub order : low ≤ high
   pub within : high ≤ length pairs
-  pub between : pairs_between from (to - 1) pairs ≡ part_of pairs low high
+  pub between : pairs_between from (to - 1) pairs ≡ slice_of pairs low high
 
 -- a search for the place of a key is between two numbers: the pairs below the first have lower
 -- keys, and the pairs from the second on don't

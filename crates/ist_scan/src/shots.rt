@@ -7,7 +7,7 @@ ghost use Rattle.ist_core.specs.Map.{listed, pairs_between};
 ghost use Rattle.ist_tree.specs.Calls.{HasSeenMore};
 ghost use Rattle.ist_tree.specs.Freezing.{IsFrozenFor, IsFreezeRefused, HasStartedNone};
 ghost use Rattle.ist_tree.specs.Refusals.{KeepsRefusal};
-ghost use Rattle.ist_scan.specs.Cuts.{part_of};
+ghost use Rattle.ist_scan.specs.Cuts.{slice_of};
 ghost use Rattle.ist_scan.specs.Shots.{ArePairsOf, IsOf, HasTakenShot, HasOnlyLooked, map_seen};
 ghost use Rattle.ist_scan.specs.Totals.{total_of, in_bin, pairs_in_bin};
 
@@ -46,7 +46,7 @@ fn total_at(tree: &Tree, pass: &mut Pass, shot: Frozen, ends: Ends) -> Total
     requires within { ends.high ≤ shot.keys }
     ensures looked { HasOnlyLooked pass.old pass.new }
     ensures total { (pairs : List Pair) → ArePairsOf pass.old shot pairs
-        → result ≡ total_of (part_of pairs ends.low ends.high) }
+        → result ≡ total_of (slice_of pairs ends.low ends.high) }
 {
     let mut total = Total::of_none();
     for i in ends.low..ends.high {
@@ -70,7 +70,7 @@ fn list_at(
     requires within { ends.high ≤ shot.keys }
     ensures looked { HasOnlyLooked pass.old pass.new }
     ensures list { IfOk result (λ v. (pairs : List Pair) → ArePairsOf pass.old shot pairs
-        → v.items ≡ part_of pairs ends.low ends.high) }
+        → v.items ≡ slice_of pairs ends.low ends.high) }
 {
     let mut list = Vec::new(alloc);
     for i in ends.low..ends.high {

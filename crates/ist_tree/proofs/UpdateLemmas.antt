@@ -33,7 +33,7 @@ use Rattle.ist_rule.proofs.LaterLemmas.{between, goes_on_length, goes_on_more}
 use Rattle.ist_rows.specs.declared.callers.Caller.{Caller}
 use Rattle.ist_updates.specs.Counting.{CameToLimit, IsCounted}
 use Rattle.ist_tree.specs.Calls.{AddsCall}
-use Rattle.ist_tree.specs.DueRows.{CameDue, HasCountedInCall, IsClosedAt, IsTopmostDue, LeavesNoneDue, first_refusal, is_closed, none_came, was_refused}
+use Rattle.ist_tree.specs.DueRows.{CameDue, HasCountedInCall, IsClosedAt, IsTopmostDue, LeavesNoneDue, kept_refusal, is_closed, none_came, was_refused}
 use Rattle.ist_tree.specs.Faces.{PassFace}
 use Rattle.ist_tree.specs.Insides.{face_as, pass_face}
 use Rattle.ist_tree.specs.Refusals.{IsRowRefused}
@@ -209,7 +209,7 @@ module _ (who began new : Caller) (token : TokenFace) (command : Command)
       was_refused row full (topmost row (top_here row t).came (top_here row t).top)
       (row_refused words full same row t d) (is ∙ first r)
     where
-      first : (o : Option Full) → option_or o (Some full) ≡ first_refusal o full
+      first : (o : Option Full) → option_or o (Some full) ≡ kept_refusal o full
       first None = refl
       first (Some f) = refl
   leaves_none_due words _ same is (working.is_shut row t) =

@@ -51,9 +51,9 @@ pub record IsClosedAt (p : PassFace) (row : ℕ) : Type 0 where
       (¬ (IsOpen t row)) ⊎ ¬ (IsOpen t parent)
 
 -- the refusal that a pass keeps after it met this one: the first of all that it met
-abbrev pub first_refusal : Option Full → Full → Option Full
-first_refusal (Some first) full = Some first
-first_refusal None full = Some full
+abbrev pub kept_refusal : Option Full → Full → Option Full
+kept_refusal (Some first) full = Some first
+kept_refusal None full = Some full
 
 -- no row reached its limit by the counts of the call; or the topmost that did, or its parent, isn't
 -- open; or too few words were left to rebuild it, and the pass keeps this refusal
@@ -61,7 +61,7 @@ pub data LeavesNoneDue (p q : PassFace) : Type 0 where
   none_came : ((row : ℕ) → ¬ (CameDue p q row)) → LeavesNoneDue p q
   is_closed : (row : ℕ) → IsTopmostDue p q row → IsClosedAt q row → LeavesNoneDue p q
   was_refused : (row : ℕ) (full : Full) → IsTopmostDue p q row → IsRowRefused p q row full
-      → q.refused ≡ first_refusal p.refused full → LeavesNoneDue p q
+      → q.refused ≡ kept_refusal p.refused full → LeavesNoneDue p q
 
 -- ---- which rebuilds it started
 

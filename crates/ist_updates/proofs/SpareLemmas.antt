@@ -15,7 +15,7 @@ use Rattle.ist_core.proofs.SoundLemmas.{sound}
 use Rattle.ist_core.proofs.StartLemmas.{sound_start}
 use Rattle.ist_rows.specs.declared.kinds.Kind.{Kind}
 use Rattle.ist_rows.specs.Kinds.{kind_words}
-use Rattle.ist_rows.specs.Rows.{Spares, row_of, with_row, is_spare, held_by, build_sizes}
+use Rattle.ist_rows.specs.Rows.{Spares, row_of, with_spare, is_spare, held_by, build_sizes}
 use Rattle.ist_rows.proofs.CallerGoingLemmas.{filter_same, spare_else, spare_here}
 use Rattle.ist_rows.proofs.HeldBehindLemmas.{held_by_own}
 
@@ -44,15 +44,15 @@ module _ (pairs : List Pair) (words : ℕ) (log : Log) (number : ℕ) (own : Spa
       omega arith
 
   -- a row that the caller took as a spare leaves the sizes of its builds unchanged
-  pub sizes_taken : build_sizes u number (with_row kind base own) ≡ build_sizes t number own
+  pub sizes_taken : build_sizes u number (with_spare kind base own) ≡ build_sizes t number own
   sizes_taken =
-      ap (λ held. map (λ h. h.size) (filter (λ h. not (is_spare (with_row kind base own) h.base))
+      ap (λ held. map (λ h. h.size) (filter (λ h. not (is_spare (with_spare kind base own) h.base))
       held)) (held_by_own pairs words log number (Reserve number base (kind_words kind)) refl)
       ∙ ap (map (λ (h : HeldRow). h.size))
-      (filter-append (λ (h : HeldRow). not (is_spare (with_row kind base own) h.base))
+      (filter-append (λ (h : HeldRow). not (is_spare (with_spare kind base own) h.base))
       (held_by t number) (new_row ∷ [])
       ∙ ap₂ (λ xs ys. xs ++ ys)
-      (filter_same (λ (h : HeldRow). not (is_spare (with_row kind base own) h.base))
+      (filter_same (λ (h : HeldRow). not (is_spare (with_spare kind base own) h.base))
       (λ h. not (is_spare own h.base)) (held_by t number)
       (λ h i. ap not (spare_else own kind base h.base none (old_base h i))))
       (ap (λ b. if not b then new_row ∷ [] else []) (spare_here own kind base))

@@ -19,7 +19,7 @@ use Rattle.ist_rows.specs.declared.kinds.Kind.{Kind}
 use Rattle.ist_rows.specs.declared.kinds.Kind.TheVariants.{Leaf, Pair as PairKind, Change, Rebuild}
 use Rattle.ist_rows.specs.Building.{AreStuck, HasRefused, sizes_built}
 use Rattle.ist_rows.specs.Kinds.{kind_words}
-use Rattle.ist_rows.specs.Rows.{Spares, spares_of, row_of, with_row, is_spare, build_sizes, IsCaller, Reserved, RanShort, IsFreshRow, IsKindRefused}
+use Rattle.ist_rows.specs.Rows.{Spares, spares_of, row_of, with_spare, is_spare, build_sizes, IsCaller, Reserved, RanShort, IsFreshRow, IsKindRefused}
 use Rattle.ist_rows.proofs.BuildingLemmas.{all_stuck_on}
 use Rattle.ist_rows.proofs.HeldBehindLemmas.{behind_between}
 use Rattle.ist_rows.proofs.HeldListLemmas.{held_by_later}
@@ -62,24 +62,24 @@ module _ (old new : Caller) (kind : Kind) (base : ℕ) (c : IsCaller old)
 
   -- its builds were refused still
   pub refused_reserved : HasRefused old → new.number ≡ old.number
-      → spares_of new ≡ with_row kind base (spares_of old) → HasRefused new
+      → spares_of new ≡ with_spare kind base (spares_of old) → HasRefused new
   refused_reserved refused number rows =
       let t = state_of v.start v.words (event ∷ r.reserved.before) in
       let comes = behind_between v.start v.words v.log (event ∷ r.reserved.before) lawful
       (one_event event (later-goes_on later)) in
-      let sizes : build_sizes t old.number (with_row kind base (spares_of old)) ≡ sizes_built old =
+      let sizes : build_sizes t old.number (with_spare kind base (spares_of old)) ≡ sizes_built old =
       sizes_taken v.start v.words r.reserved.before old.number (spares_of old) kind base
       lawful.enabled none
       ∙ ap (λ held. map (λ (h : HeldRow). h.size)
       (filter (λ h. not (is_spare (spares_of old) h.base)) held))
       (held_by_later v.start v.words old.number v.log r.reserved.before lawful.enabled.0 later) in
-      let there : AreStuck t (build_sizes t old.number (with_row kind base (spares_of old))) =
+      let there : AreStuck t (build_sizes t old.number (with_spare kind base (spares_of old))) =
       subst (AreStuck t) (sym sizes) (all_stuck_on (now v) t comes (sizes_built old) refused) in
       subst (λ own. AreStuck (now new.token.view) (build_sizes (now new.token.view) new.number own))
       (sym rows)
       (subst (λ n. AreStuck (now new.token.view)
-      (build_sizes (now new.token.view) n (with_row kind base (spares_of old)))) (sym number)
-      (subst (λ x. AreStuck x (build_sizes x old.number (with_row kind base (spares_of old))))
+      (build_sizes (now new.token.view) n (with_spare kind base (spares_of old)))) (sym number)
+      (subst (λ x. AreStuck x (build_sizes x old.number (with_spare kind base (spares_of old))))
       (sym now_is) there))
 
   -- it went on by the reserving
@@ -113,7 +113,7 @@ pub record HasTaken (old new : Caller) (kind : Kind) (words : ℕ) (answer : Res
     : Type 0 where
   pub gone : HasGone Prepares old new
   pub held : IfOk answer (λ base. row_of kind (spares_of new) ≡ Some base)
-  pub rows : IfOk answer (λ base. spares_of new ≡ with_row kind base (spares_of old))
+  pub rows : IfOk answer (λ base. spares_of new ≡ with_spare kind base (spares_of old))
   pub high : IfOk answer (λ base. (row_of kind (spares_of old) ≡ Some base)
       ⊎ ((now old.token.view).next ≤ base))
   pub full : IfErr answer (λ full. (full.asked ≡ kind_words kind)
@@ -121,13 +121,13 @@ pub record HasTaken (old new : Caller) (kind : Kind) (words : ℕ) (answer : Res
 
 -- a row that was there is the row of its kind
 with_same : (own : Spares) (kind : Kind) (base : ℕ) → row_of kind own ≡ Some base
-    → own ≡ with_row kind base own
+    → own ≡ with_spare kind base own
 with_same own Leaf base e = ap {B = Spares} (λ o. record own { leaf = o }) e
 with_same own PairKind base e = ap {B = Spares} (λ o. record own { pair = o }) e
 with_same own Change base e = ap {B = Spares} (λ o. record own { change = o }) e
 with_same own Rebuild base e = ap {B = Spares} (λ o. record own { rebuild = o }) e
 
-row_with : (own : Spares) (kind : Kind) (base : ℕ) → row_of kind (with_row kind base own) ≡ Some base
+row_with : (own : Spares) (kind : Kind) (base : ℕ) → row_of kind (with_spare kind base own) ≡ Some base
 row_with own Leaf base = refl
 row_with own PairKind base = refl
 row_with own Change base = refl

@@ -15,7 +15,7 @@ ghost use Rattle.ist_rows.specs.Building.{HasRefused};
 ghost use Rattle.ist_rows.specs.CallerLaws.{without_rows};
 ghost use Rattle.ist_rows.specs.declared.kinds.Kind.TheVariants as kind;
 ghost use Rattle.ist_rows.specs.Kinds.{kind_words};
-ghost use Rattle.ist_rows.specs.Rows.{IsCaller, spares_of, row_of, with_row, RanShort};
+ghost use Rattle.ist_rows.specs.Rows.{IsCaller, spares_of, row_of, with_spare, RanShort};
 ghost use Rattle.ist_dcss.specs.Installing.{Filling, IsInstallable, IsInstalled};
 ghost use Rattle.ist_rows.specs.Going.{IsQuiet, HasGone};
 ghost use Rattle.ist_updates.specs.Answering.{HasCarried, HasChanged};
@@ -45,7 +45,7 @@ fn take(table: &TreeTable, who: &mut Caller, kind: Kind) -> Result<u32, Full>
     ensures gone { HasGone Prepares who.old who.new }
     ensures held { IfOk result (λ base. row_of kind (spares_of who.new) ≡ Some base) }
     ensures rows { IfOk result (λ base.
-        spares_of who.new ≡ with_row kind base (spares_of who.old)) }
+        spares_of who.new ≡ with_spare kind base (spares_of who.old)) }
     ensures high { IfOk result (λ base. (row_of kind (spares_of who.old) ≡ Some base)
         ⊎ ((now who.old.token.view).next ≤ base)) }
     ensures full { let v = who.old.token.view in IfErr result (λ full. (full.asked ≡ kind_words kind)

@@ -21,5 +21,5 @@ if_all true tables = Some tables
 if_all false tables = None
 
 -- what a shelf reports: the tables that it was given, if it keeps them all
-abbrev pub told_by : {C : Type 0} → Kept C → Option (List C)
-told_by shelf = if_all shelf.has_all (tables_in shelf)
+abbrev pub shelf_report : {C : Type 0} → Kept C → Option (List C)
+shelf_report shelf = if_all shelf.has_all (tables_in shelf)

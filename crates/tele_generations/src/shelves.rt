@@ -1,6 +1,6 @@
 //! Where the tables go that a round no longer needs.
 ghost use Rattle.std.specs.Prelude.{◌≡◌, [], ◌∷◌, ◌++◌, ◌<◌, ◌≤◌, List, Option, Some, None, length, slice_get, option_copied};
-ghost use Rattle.tele_generations.specs.Shelves.{IsShelved, tables_in, told_by};
+ghost use Rattle.tele_generations.specs.Shelves.{IsShelved, tables_in, shelf_report};
 
 use crate::kept::{Kept, ROOM};
 use arrayvec::ArrayVec;
@@ -28,7 +28,7 @@ impl<C: Drop> Shelf<C> for NoShelf {
 impl<C: Drop> Kept<C> {
     /// Makes an empty shelf.
     pub fn new() -> Kept<C>
-        ensures told { told_by result ≡ Some [] }
+        ensures told { shelf_report result ≡ Some [] }
         ensures empty { tables_in result ≡ [] }
     {
         Kept {
@@ -52,15 +52,15 @@ impl<C: Drop> Kept<C> {
 }
 
 impl<C: Drop> Shelf<C> for Kept<C> {
-    ghost kept = { told_by };
+    ghost kept = { shelf_report };
 
     fn keep(&mut self, closed: C)
-        ensures kept { IsShelved (told_by self.old) (closed ∷ []) (told_by self.new) }
+        ensures kept { IsShelved (shelf_report self.old) (closed ∷ []) (shelf_report self.new) }
         ensures taken { length (tables_in self.old) < ROOM →
             tables_in self.new ≡ tables_in self.old ++ closed ∷ [] }
         ensures told { length (tables_in self.old) < ROOM →
-            told_by self.old ≡ Some (tables_in self.old) →
-            told_by self.new ≡ Some (tables_in self.new) }
+            shelf_report self.old ≡ Some (tables_in self.old) →
+            shelf_report self.new ≡ Some (tables_in self.new) }
         ensures let_go { ROOM ≤ length (tables_in self.old) →
             tables_in self.new ≡ tables_in self.old }
     {

@@ -8,7 +8,7 @@ use Rattle.tele_lines.specs.declared.items.Version.TheVariants.{One}
 use Rattle.tele_lines.specs.Answer.{Read}
 use Rattle.tele_lines.specs.Rounds.{round_limit}
 use Rattle.tele_jobs.specs.Made.{next_number, made_command, made_commands}
-use Rattle.tele_jobs.specs.Rounds.{Team, task_rounds, numbered, made_rounds}
+use Rattle.tele_jobs.specs.Rounds.{Team, task_rounds, numbered_lines, made_rounds}
 use Rattle.tele_jobs.specs.Open.{Open, FollowsRounds, RunsOn, IsOpenBefore, with_task, asked, fresh_round, round_for}
 use Rattle.tele_jobs.proofs.CutLemmas.{task_rounds-full, task_rounds-open}
 use Rattle.tele_jobs.proofs.MadeLemmas.{next_made}
@@ -18,7 +18,7 @@ use Rattle.tele_jobs.proofs.TakeLemmas.{asked-more}
 
 -- the lines that are still to be made, numbered on
 abbrev pub rest_lines : ℕ → ℕ → ℕ → List Read
-rest_lines count line number = numbered (line + 1) (made_commands (count - line) number)
+rest_lines count line number = numbered_lines (line + 1) (made_commands (count - line) number)
 
 -- at a moment between two made lines: the rounds that were run, with the rounds of the open lines
 -- and of the lines left, are the rounds of all lines
@@ -39,8 +39,8 @@ asked_next : (count line number : ℕ) (old new : List Task) (task : Task) → l
     ≡ asked One new ++ rest_lines count (line + 1) (next_number number)
 asked_next count line number old new task lt at command more =
     let rest = made_commands (count - (line + 1)) (next_number number) in
-    let lines = numbered (line + 1 + 1) rest in
-    ap (λ cs. asked One old ++ numbered (line + 1) cs)
+    let lines = numbered_lines (line + 1 + 1) rest in
+    ap (λ cs. asked One old ++ numbered_lines (line + 1) cs)
     (next_made count line number lt ∙ ap (λ c. c ∷ rest) (sym command))
     ∙ ap (λ n. asked One old
     ++ (asked One (record { line = n; command = task.command } ∷ []) ++ lines)) (sym at)
@@ -81,7 +81,7 @@ module _ (team : Team) (most count seed : ℕ)
           most_is = refl;
         };
         due = let e : count ≡ count - 0 = omega arith in
-            ap (λ n. task_rounds (numbered 1 (made_commands n seed))) e;
+            ap (λ n. task_rounds (numbered_lines 1 (made_commands n seed))) e;
         few = omega arith;
         lines = open_first team most (fresh_round team most) refl;
       }))
@@ -144,7 +144,7 @@ module _ (team : Team) (most count seed : ℕ)
       let nothing : made_commands (count - line) number ≡ [] =
       let e : count - line ≡ 0 = omega arith in ap (λ n. made_commands n number) e in
       let due : made_rounds count seed ≡ h.ran ++ round_for old.tasks =
-      h.due ∙ ap (λ cs. h.ran ++ task_rounds (asked One old.tasks ++ numbered (line + 1) cs)) nothing
+      h.due ∙ ap (λ cs. h.ran ++ task_rounds (asked One old.tasks ++ numbered_lines (line + 1) cs)) nothing
       ∙ ap (λ rs. h.ran ++ rs) (task_rounds-open One old.tasks h.few) in
       subst (λ rs. FollowsRounds team most rs before later new) (sym due)
       (ran team most h.ran before h.has)

@@ -4,7 +4,7 @@ use Rattle.tele_io.specs.Bytes.{Appends, AppendsPart}
 use Rattle.tele_lines.specs.Lines.{newline, whole_lines}
 use Rattle.tele_lines.specs.Buffers.{piece_limit}
 use Rattle.tele_lines.specs.Answer.{answer, input_lines, status_of}
-use Rattle.tele_lines.specs.Rounds.{done}
+use Rattle.tele_lines.specs.Rounds.{whole_rounds_text}
 use Rattle.tele_jobs.specs.declared.jobs.Job.{Job}
 use Rattle.tele_jobs.specs.declared.jobs.Job.TheVariants.{Refuse, Make, Read}
 use Rattle.tele_jobs.specs.declared.outcomes.TheConstants.{ANSWERED, USAGE, BAD_LINE, READ_FAILED, WRITE_FAILED, NO_MEMORY}
@@ -36,7 +36,7 @@ pub record Stops (bytes : List ℕ) (left before written : Option (List ℕ)) : 
   pub rest : List ℕ
   pub same : bytes ≡ taken ++ rest
   pub leaves : left ≡ Some rest
-  pub writes : Appends before written (done taken)
+  pub writes : Appends before written (whole_rounds_text taken)
   pub good : status_of (input_lines (whole_lines taken)) ≡ ANSWERED
 
 -- what a run has read of its source: of the bytes, those before the rest were taken, the last of them

@@ -37,10 +37,10 @@ abbrev pub task_rounds : List Read → List (List Task)
 task_rounds lines = filter has_some (map tasks_in (rounds lines))
 
 -- commands as point lines, numbered from this number on
-abbrev pub numbered : ℕ → List Command → List Read
-numbered number [] = []
-numbered number (command ∷ commands) =
-    Good number One (Point command) ∷ numbered (number + 1) commands
+abbrev pub numbered_lines : ℕ → List Command → List Read
+numbered_lines number [] = []
+numbered_lines number (command ∷ commands) =
+    Good number One (Point command) ∷ numbered_lines (number + 1) commands
 
 -- the rounds of an input
 abbrev pub input_rounds : List ℕ → List (List Task)
@@ -48,7 +48,7 @@ input_rounds bytes = task_rounds (input_lines (lines_of bytes))
 
 -- the rounds of `count` lines made from a seed
 abbrev pub made_rounds : ℕ → ℕ → List (List Task)
-made_rounds count seed = task_rounds (numbered 1 (made_commands count seed))
+made_rounds count seed = task_rounds (numbered_lines 1 (made_commands count seed))
 
 -- the map after some rounds that begin with the map `m`
 abbrev pub map_after_rounds : Map → List (List Task) → Map

@@ -20,9 +20,9 @@ pub record Standing : Type 0 where
   pub kept : Option (List (List ℕ))
 
 -- where a run with these stands
-abbrev pub standing : Lines → Open → Option (List ℕ) → Option (List ℕ) → Option (List (List ℕ))
-    → Standing
-standing lines open_round left written kept =
+abbrev pub run_standing : Lines → Open → Option (List ℕ) → Option (List ℕ)
+    → Option (List (List ℕ)) → Standing
+run_standing lines open_round left written kept =
     record { lines = lines; round = open_round; left = left; written = written; kept = kept }
 
 -- the moment of a run that stands there

@@ -48,6 +48,7 @@ pub fn without_table(status: u8) -> Outcome
 /// Returns the status to end with if the sink failed or memory ran out.
 pub fn refused(fault: SinkFault) -> u8
     ensures failed { result ≡ WRITE_FAILED → fault ≡ SinkFault.Failed }
+    ensures memory { result ≡ NO_MEMORY → fault ≡ SinkFault.Memory }
     ensures other { IsCutShort result }
 {
     match fault {

@@ -48,5 +48,5 @@ abbrev pub in_whole_rounds : List Read → List Read
 in_whole_rounds lines = flat_map (λ round. round) (filter is_whole (rounds lines))
 
 -- the text of the whole rounds, of those lines of some bytes that a newline ends
-abbrev pub done : List ℕ → List ℕ
-done bytes = text_of no_pairs (in_whole_rounds (input_lines (whole_lines bytes)))
+abbrev pub whole_rounds_text : List ℕ → List ℕ
+whole_rounds_text bytes = text_of no_pairs (in_whole_rounds (input_lines (whole_lines bytes)))

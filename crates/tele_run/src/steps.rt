@@ -10,7 +10,7 @@ ghost use Rattle.tele_lines.specs.Answer.{Good, Bad, text_of};
 ghost use Rattle.tele_lines.specs.Progress.{place_of, limit_of, count_of, stop_of, mode_of, kept_of, has_ended, TellsEnd, TakesAsNeeded};
 ghost use Rattle.tele_jobs.specs.Open.{IsOpenBefore, RunsOn, asked, map_in, round_for};
 ghost use Rattle.tele_jobs.specs.Due.{Takes, TakesRounds};
-ghost use Rattle.tele_jobs.specs.Steps.{StepsOn, EndsRun, standing};
+ghost use Rattle.tele_jobs.specs.Steps.{StepsOn, EndsRun, run_standing};
 
 use crate::rounds::{Round, close};
 use ist_rest::Closed;
@@ -45,12 +45,12 @@ pub(crate) fn step<R: Threads + Wait + Sync, G: Gate + Sync, H: Shelf<Closed>, S
     requires allowed { count_of lines.old ≤ line_limit }
 
     ensures goes_on { IfNone result (StepsOn
-        (standing lines.old round.old (S.left source.old) (O.written out.old) (H.kept shelf.old))
-        (standing lines.new round.new (S.left source.new) (O.written out.new) (H.kept shelf.new))
+        (run_standing lines.old round.old (S.left source.old) (O.written out.old) (H.kept shelf.old))
+        (run_standing lines.new round.new (S.left source.new) (O.written out.new) (H.kept shelf.new))
         (O.held out.new)) }
     ensures ends { IfSome result (EndsRun
-        (standing lines.old round.old (S.left source.old) (O.written out.old) (H.kept shelf.old))
-        (standing lines.new round.new (S.left source.new) (O.written out.new) (H.kept shelf.new))
+        (run_standing lines.old round.old (S.left source.old) (O.written out.old) (H.kept shelf.old))
+        (run_standing lines.new round.new (S.left source.new) (O.written out.new) (H.kept shelf.new))
         (O.held out.new)) }
 
     ensures read_failed { result ≡ Some READ_FAILED →

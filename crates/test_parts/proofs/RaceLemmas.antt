@@ -37,7 +37,7 @@ use Rattle.ist_rows.specs.CallerLaws.{KeepsRows}
 use Rattle.ist_rows.specs.declared.callers.Caller.{Caller}
 use Rattle.ist_rows.specs.Filling.{filled_with, storing_all}
 use Rattle.ist_rows.proofs.FillingLemmas.{stored_at}
-use Rattle.test_parts.specs.Racing.{root_rows, root_word, racing, HasPrepared, IsStartedAtFour, HasBothLeaves, HasPairRoot}
+use Rattle.test_parts.specs.Racing.{root_rows_at, root_word, racing, HasPrepared, IsStartedAtFour, HasBothLeaves, HasPairRoot}
 use Rattle.test_parts.proofs.KeptLemmas.{underway_went, finished_went, both_went, SeesStart, start_went}
 use Rattle.test_parts.proofs.LeafLemmas.{good}
 
@@ -47,12 +47,12 @@ use Rattle.test_parts.proofs.LeafLemmas.{good}
 pub pair_stored : (old who : Caller) (base low high : ℕ) → low ≡ word_of (LeafAt 11)
     → high ≡ word_of (LeafAt 13)
     → who ≡ filled_with old base (0 ∷ 0 ∷ 2 ∷ 2 ∷ 9 ∷ low ∷ high ∷ [])
-    → StoredAll who.token.view (root_rows base)
+    → StoredAll who.token.view (root_rows_at base)
 pair_stored old who base low high low_is high_is is =
     let words : List ℕ = 0 ∷ 0 ∷ 2 ∷ 2 ∷ 9 ∷ low ∷ high ∷ [] in
     let same : words ≡ 0 ∷ 0 ∷ 2 ∷ 2 ∷ 9 ∷ 89 ∷ 105 ∷ [] =
     ap₂ (λ a b. 0 ∷ 0 ∷ 2 ∷ 2 ∷ 9 ∷ a ∷ b ∷ []) low_is high_is in
-    subst (λ (x : Caller). StoredAll x.token.view (root_rows base)) (sym is) (
+    subst (λ (x : Caller). StoredAll x.token.view (root_rows_at base)) (sym is) (
       λ k less. subst (λ (ws : List ℕ). slice_get ws k
           ≡ Some (own_at (storing_all old.token.view.own base words) (base + k))) same
           (stored_at old.token.view.own base words k less),
@@ -90,19 +90,19 @@ leaves_of b = record { base = 11; row = b.low } ∷ record { base = 13; row = b.
 
 module _ (t : Snapshot) (base : ℕ) (above : 28 < base) (low : base < 43) (b : HasBothLeaves t) where
   abbrev ps : Pieces
-  ps = with_inners t.pieces (root_rows base)
+  ps = with_inners t.pieces (root_rows_at base)
 
   stands : (t.pieces 11 ≡ Some (Leaf b.low)) × ((t.pieces 13 ≡ Some (Leaf b.high)) × Unit {0})
   stands = leaves_stand t.pieces (Some (InnerAt 4)) (leaves_of b) b.reached
 
   first_part : IsIdeal ps (LeafAt 11) (record { base = 11; row = b.low } ∷ []) base []
   first_part =
-      of_one refl (with_inners-other t.pieces (root_rows base) 11
+      of_one refl (with_inners-other t.pieces (root_rows_at base) 11
       (λ i. ⊎_elim (λ e. omega arith) (λ none. none) i) ∙ stands.0)
 
   second_part : IsIdeal ps (LeafAt 13) (record { base = 13; row = b.high } ∷ []) base []
   second_part =
-      of_one refl (with_inners-other t.pieces (root_rows base) 13
+      of_one refl (with_inners-other t.pieces (root_rows_at base) 13
       (λ i. ⊎_elim (λ e. omega arith) (λ none. none) i) ∙ stands.1.0)
 
   root_top : IsTop ps base the_row (leaves_of b) 4
@@ -134,7 +134,7 @@ two_is_few = let is = share_from_is in omega arith
 -- a filled row is a root for the rebuild, whose target is finished over the two leaves
 pub root_built : (v : View) (number base : ℕ) → HasPrepared v number base → IsStartedAtFour (now v)
     → IsFinishedWith (now v) 4 2 → HasBothLeaves (now v)
-    → IsRootBuilt (now v) number 15 (root_word base) (root_rows base)
+    → IsRootBuilt (now v) number 15 (root_word base) (root_rows_at base)
 root_built v number base f u done b =
     let target = u.target.target_is in
     let above = f.above in
@@ -150,7 +150,7 @@ root_built v number base f u done b =
           b.reached;
       root = root_whole (InnerAt base) two_is_few
           (ref_of-word_of (InnerAt base) (good base (omega arith) (omega arith)))
-          (subst (λ n. IsIdeal (with_inners (now v).pieces (root_rows base)) (InnerAt base)
+          (subst (λ n. IsIdeal (with_inners (now v).pieces (root_rows_at base)) (InnerAt base)
           (leaves_of b) n (base ∷ [])) (sym target)
           (root_ideal (now v) base f.above f.low b));
       once = ((λ k. k), tt);
@@ -198,10 +198,10 @@ has_built v w number base g own s done b was =
 -- the events are the caller's
 race_named : (v : View) (number base : ℕ) → v.who ≡ CallerOf number
     → racing v (root_word base)
-    ≡ (Root number 15 (root_word base) (root_rows base), Lose number (base ∷ []))
+    ≡ (Root number 15 (root_word base) (root_rows_at base), Lose number (base ∷ []))
 race_named v number base mine =
     let at : (base * 8 + 2) / 8 ≡ base = omega arith in
-    ap₂ {C = Event × Event} (λ n b. (Root n 15 (root_word base) (root_rows b), Lose n (b ∷ [])))
+    ap₂ {C = Event × Event} (λ n b. (Root n 15 (root_word base) (root_rows_at b), Lose n (b ∷ [])))
     (ap number_of mine) at
 
 -- an exchange of the root word may be them
@@ -211,17 +211,17 @@ may_race v s number base h word is =
     subst (λ w. CanExchangeOrLose v 18 7 w (racing v w).0 (racing v w).1) (sym is)
     (subst (λ (x : Event × Event). CanExchangeOrLose v 18 7 (root_word base) x.0 x.1)
     (sym (race_named v number base h.mine))
-    (root_comes_or_loses v s number 15 (root_word base) (root_rows base) h.mine h.stored h.built
+    (root_comes_or_loses v s number 15 (root_word base) (root_rows_at base) h.mine h.stored h.built
     some h.unset))
   where
-    some : root_rows base ≢ []
+    some : root_rows_at base ≢ []
     some e = absurd (cc)
 
 -- and it was one of them
 pub raced : (v : View) (number base : ℕ) → HasPairRoot v number base → (word : ℕ)
     → word ≡ root_word base → (found : ℕ) (w : View)
     → ExchangedOrLost v (racing v word).0 (racing v word).1 18 7 found w
-    → ExchangedOrLost v (Root number 15 (root_word base) (root_rows base)) (Lose number (base ∷ []))
+    → ExchangedOrLost v (Root number 15 (root_word base) (root_rows_at base)) (Lose number (base ∷ []))
     18 7 found w
 raced v number base h word is found w e =
     subst (λ (x : Event × Event). ExchangedOrLost v x.0 x.1 18 7 found w)
@@ -235,7 +235,7 @@ left_out number base held i =
 
 -- after either the caller no longer holds the row
 pub holds_none : (v : View) (number base found : ℕ) (w : View)
-    → ExchangedOrLost v (Root number 15 (root_word base) (root_rows base)) (Lose number (base ∷ []))
+    → ExchangedOrLost v (Root number 15 (root_word base) (root_rows_at base)) (Lose number (base ∷ []))
     18 7 found w
     → ¬ (HoldsRow (now w) number base 7)
 holds_none v number base found w e i =

@@ -25,8 +25,8 @@ pub record HoldsStart (who : OneCaller) : Type 0 where
   pub in_none : who.token.view.pending ≡ None
 
 -- the rows of a root over the two leaves: one row at the base
-abbrev pub root_rows : ℕ → List Row
-root_rows base =
+abbrev pub root_rows_at : ℕ → List Row
+root_rows_at base =
     record { base = base; words = 0 ∷ 0 ∷ 2 ∷ 2 ∷ 9 ∷ 89 ∷ 105 ∷ [] } ∷ []
 
 -- the word of that root
@@ -36,7 +36,8 @@ root_word base = base * 8 + 2
 -- the Root and the Lose event of an exchange that would set the root word to this word
 abbrev pub racing : View → ℕ → Event × Event
 racing v word =
-    (Root (number_of v.who) 15 word (root_rows (word / 8)), Lose (number_of v.who) (word / 8 ∷ []))
+    let number = number_of v.who in
+    (Root number 15 word (root_rows_at (word / 8)), Lose number (word / 8 ∷ []))
 
 -- the token belongs to the caller with this number, which holds the row at the base and has filled it
 -- as a root
@@ -45,7 +46,7 @@ pub record HasPrepared (v : View) (number base : ℕ) : Type 0 where
   pub above : 28 < base
   pub low : base < 43
   pub held : HoldsRow (now v) number base 7
-  pub stored : StoredAll v (root_rows base)
+  pub stored : StoredAll v (root_rows_at base)
 
 -- the rebuild of the row at 4 is started
 pub record IsStartedAtFour (t : Snapshot) : Type 0 where
@@ -63,6 +64,6 @@ pub record HasBothLeaves (t : Snapshot) : Type 0 where
 -- the caller has built a root, and has seen that the rebuild had none
 pub record HasPairRoot (v : View) (number base : ℕ) : Type 0 where
   pub mine : v.who ≡ Caller number
-  pub stored : StoredAll v (root_rows base)
-  pub built : IsRootBuilt (now v) number 15 (root_word base) (root_rows base)
+  pub stored : StoredAll v (root_rows_at base)
+  pub built : IsRootBuilt (now v) number 15 (root_word base) (root_rows_at base)
   pub unset : WasUnset v number 18

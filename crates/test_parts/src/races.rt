@@ -10,7 +10,7 @@ ghost use Rattle.ist_dcss.specs.Helping.{MayHelp};
 ghost use Rattle.laws_coming.specs.Builds.{WasUnset};
 ghost use Rattle.ist_rule.specs.Going.{WentOn};
 ghost use Rattle.ist_rows.specs.CallerLaws.{KeepsRows};
-ghost use Rattle.test_parts.specs.Racing.{root_rows, root_word, HasBothLeaves, HasPairRoot, HasPrepared, IsStartedAtFour};
+ghost use Rattle.test_parts.specs.Racing.{root_rows_at, root_word, HasBothLeaves, HasPairRoot, HasPrepared, IsStartedAtFour};
 
 use crate::beginnings::{begin_start, reserve_start};
 use crate::samples::word_at;
@@ -156,7 +156,7 @@ fn root_or_lose(table: &TreeTable, token: &mut TreeToken, number: u32, base: u32
     requires same_table { token.old.table ≡ table.now.table }
     requires built { HasPairRoot token.old.view number base }
     ensures same_table { token.new.table ≡ table.now.table }
-    ensures rooted_or_lost { let root = Root number 15 (root_word base) (root_rows base) in
+    ensures rooted_or_lost { let root = Root number 15 (root_word base) (root_rows_at base) in
         ExchangedOrLost token.old.view root (Lose number (base ∷ [])) 18 7 result token.new.view }
     ensures holds_none { ¬ (HoldsRow (now token.new.view) number base 7) }
 {

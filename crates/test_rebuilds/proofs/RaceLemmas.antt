@@ -46,7 +46,7 @@ use Rattle.ist_build.specs.Calls.{Builds, IsPartLaid, MayBuild, share_whole}
 use Rattle.ist_build.proofs.HeldMoreLemmas.{stored_rows}
 use Rattle.ist_build.proofs.LayingLemmas.{rows_free}
 use Rattle.ist_build.proofs.RootReadyLemmas.{root_topped, topped_base, IsTopped}
-use Rattle.test_rebuilds.specs.Races.{HasLaid, HoldsRoot, row_named, racing}
+use Rattle.test_rebuilds.specs.Races.{HasLaid, HoldsRoot, row_named, racing_at}
 use Rattle.test_rebuilds.specs.Steps.{HasMarkedTarget}
 
 -- ---- what is built
@@ -269,9 +269,9 @@ named v number word mine s (row ∷ other ∷ rows) bases sizes stored held =
 -- the exchange may be the Root, or the Lose
 pub may_race : (v : View) (number rebuild place word unset : ℕ) → IsSound v
     → place ≡ rebuild + rebuild_root_offset → unset ≡ unset_word → HoldsRoot v number rebuild word
-    → CanExchangeOrLose v place unset word (racing v place word).0 (racing v place word).1
+    → CanExchangeOrLose v place unset word (racing_at v place word).0 (racing_at v place word).1
 may_race v number rebuild place word unset s at is h =
-    subst (λ (e : Event). CanExchangeOrLose v place unset word e (racing v place word).1) (sym root_is)
+    subst (λ (e : Event). CanExchangeOrLose v place unset word e (racing_at v place word).1) (sym root_is)
     (subst (λ (e : Event). CanExchangeOrLose v place unset word (Root number rebuild word h.laid.rows) e)
     (sym lose_is)
     (subst (λ q. CanExchangeOrLose v q unset word (Root number rebuild word h.laid.rows)
@@ -281,7 +281,7 @@ may_race v number rebuild place word unset s at is h =
     (root_comes_or_loses v s number rebuild word h.laid.rows h.laid.mine h.laid.stored h.laid.built some
     h.unset))))
   where
-    root_is : (racing v place word).0 ≡ Root number rebuild word h.laid.rows
+    root_is : (racing_at v place word).0 ≡ Root number rebuild word h.laid.rows
     root_is =
         ap₂ {C = Event} (λ n rows. Root n (place - rebuild_root_offset) word rows)
         (ap number_of h.laid.mine)
@@ -290,7 +290,7 @@ may_race v number rebuild place word unset s at is h =
         ∙ ap (λ o. Root number o word h.laid.rows)
         (let q : place - rebuild_root_offset ≡ rebuild = omega arith in q)
 
-    lose_is : (racing v place word).1 ≡ Lose number (bases_of h.laid.rows)
+    lose_is : (racing_at v place word).1 ≡ Lose number (bases_of h.laid.rows)
     lose_is = ap₂ {C = Event} Lose (ap number_of h.laid.mine) (sym h.laid.bases)
 
     some : h.laid.rows ≢ []

@@ -20,8 +20,8 @@ row_named v word =
     row_stored v record { caller = number_of v.who; base = word / tag_count; size = pair_words } ∷ []
 
 -- the Root and the Lose event of an exchange that would set the root word at the place to this word
-abbrev pub racing : View → ℕ → ℕ → Event × Event
-racing v place word =
+abbrev pub racing_at : View → ℕ → ℕ → Event × Event
+racing_at v place word =
     let number = number_of v.who in
     (Root number (place - rebuild_root_offset) word (row_named v word), Lose number (word / tag_count ∷ []))
 

@@ -10,7 +10,7 @@ ghost use Rattle.ist_dcss.specs.Installing.{rows_of, Filling};
 ghost use Rattle.ist_find.specs.Searches.{SeesLeaf};
 ghost use Rattle.ist_rows.specs.declared.callers.Caller.{Caller};
 ghost use Rattle.ist_rows.specs.Building.{HasRefused};
-ghost use Rattle.ist_rows.specs.Rows.{IsCaller, row_of, spares_of, with_row};
+ghost use Rattle.ist_rows.specs.Rows.{IsCaller, row_of, spares_of, with_spare};
 ghost use Rattle.ist_rule.specs.Conditions.{StoredAll};
 ghost use Rattle.ist_rule.specs.Learning.{now, GoesOnTo};
 ghost use Rattle.ist_tree.specs.Insides.{IsPass};
@@ -120,7 +120,7 @@ fn take(table: &TreeTable, who: &mut Caller, kind: Kind) -> Result<u32, Full>
     ensures gone { HasGone Prepares who.old who.new }
     ensures held { IfOk result (λ base. row_of kind (spares_of who.new) ≡ Some base) }
     ensures rows { IfOk result (λ base.
-        spares_of who.new ≡ with_row kind base (spares_of who.old)) }
+        spares_of who.new ≡ with_spare kind base (spares_of who.old)) }
 {
     know(&who.token);
     let taken = reserve(table, who, kind);

@@ -1,7 +1,7 @@
 //! Two callers that build a root for one rebuild, one after another: the first one's is set, and
 //! the other caller loses its row.
 ghost use Rattle.std.specs.Prelude.{◌≡◌, ◌+◌, IfSome};
-ghost use Rattle.test_rebuilds.specs.Races.{racing, HoldsRoot};
+ghost use Rattle.test_rebuilds.specs.Races.{racing_at, HoldsRoot};
 ghost use Rattle.test_rebuilds.specs.Steps.{HasMarkedTarget};
 ghost use Rattle.ist_core.specs.Rebuilding.{IsStarted};
 ghost use Rattle.ist_core.specs.References.{unset_word};
@@ -58,7 +58,7 @@ fn root_or_lose(table: &TreeTable, who: &mut Caller, rebuild: u32, word: u64) ->
     ensures same_table { who.new.token.table ≡ table.now.table }
     ensures rooted_or_lost { let v = who.old.token.view in
         let place = rebuild + rebuild_root_offset in
-        let events = racing v place word in
+        let events = racing_at v place word in
         ExchangedOrLost v events.0 events.1 place unset_word result who.new.token.view }
 {
     know(&who.token);

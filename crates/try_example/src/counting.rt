@@ -1,6 +1,6 @@
 //! A counter that two threads raise by conditional puts.
 ghost use Rattle.std.specs.Prelude.{◌≡◌, IfOk, IfSome};
-ghost use Rattle.try_example.specs.Raises.{HasRaised, number_in};
+ghost use Rattle.try_example.specs.Raises.{HasRaised, counter_number};
 
 use crate::exchange::Fault;
 use ist_core::{Full, Reply};
@@ -16,7 +16,7 @@ const TRIES: u64 = 1_000_000;
 
 // The number of a counter: one that was never raised has none, which counts as 0.
 fn number_of(counter: Reply) -> u64
-    ensures value { result ≡ number_in counter }
+    ensures value { result ≡ counter_number counter }
 {
     match counter {
         Some(number) => number,

@@ -1,6 +1,6 @@
 -- The handle holds the owner of a new tree, or is as before.
 use Rattle.std.proofs.Common.{arith, inl, inr, sym, ap, subst, ◌∙◌}
-use Rattle.ist_c.specs.Closing.{status_of}
+use Rattle.ist_c.specs.Closing.{fault_status}
 use Rattle.ist_c.specs.Opening.{OpensNew, opens_misuse}
 use Rattle.ist_c.proofs.OpenLemmas.{opened_one, opened_none}
 use Rattle.ist_c.proofs.tree_calls.open_owner.Goals as goal
@@ -30,6 +30,6 @@ pub returns-in-Err : goal.returns-in-Err
 returns-in-Err c =
     record {
       opens = subst (OpensNew c.args.words c.args.pairs.now c.args.out.now c.args.out.now)
-          (sym (c.status_for.ensures.value ∙ ap status_of c.from.ensures))
+          (sym (c.status_for.ensures.value ∙ ap fault_status c.from.ensures))
           (opened_none c.args.words c.args.pairs.now c.args.out.now c.in-Err.fault c.in-Err.ensures.fault);
     }

@@ -2,17 +2,17 @@
 use Rattle.std.proofs.Common.{◌≡◌, ◌++◌, map, slice_index_or, rules, sym, ap, ◌∙◌}
 use Rattle.ist_core.specs.Resting.{told_by_call}
 use Rattle.ist_core.proofs.ElementLemmas.{map_same}
-use Rattle.ist_map.specs.Hands.{number_of, calls_by}
+use Rattle.ist_map.specs.Hands.{pass_number, calls_by}
 use Rattle.ist_map.proofs.HandLemmas.{have_worked}
 use Rattle.ist_map.proofs.hands.work_all.Goals as goal
 
 -- the passes keep their numbers
 pub returns-clause-numbers : goal.returns-clause-numbers
-returns-clause-numbers g c = map_same (λ h. number_of h.pass) _ _ c.for_each_mut.auto.s (λ k d h.
+returns-clause-numbers g c = map_same (λ h. pass_number h.pass) _ _ c.for_each_mut.auto.s (λ k d h.
     let ran = (c.for_each_mut.ensures k d h).1 in
-    let kept : number_of ran.after_call.now.pass ≡ number_of ran.argument.now.pass = search rules in
-    ap (λ h. number_of h.pass) (sym ran.left) ∙ kept
-    ∙ ap (λ h. number_of h.pass) ran.argument_is)
+    let kept : pass_number ran.after_call.now.pass ≡ pass_number ran.argument.now.pass = search rules in
+    ap (λ h. pass_number h.pass) (sym ran.left) ∙ kept
+    ∙ ap (λ h. pass_number h.pass) ran.argument_is)
 
 -- each was told what its calls told it
 pub returns-clause-told : goal.returns-clause-told

@@ -1,5 +1,5 @@
 use Rattle.std.proofs.Common.{◌≡◌, ◌++◌, ◌∷◌, [], ap, ◌∙◌, sym, arith}
-use Rattle.ist_scan.specs.Cuts.{part_of}
+use Rattle.ist_scan.specs.Cuts.{slice_of}
 use Rattle.ist_scan.proofs.ShotLemmas.{looked_not, looked_more}
 use Rattle.ist_scan.proofs.TotalLemmas.{part_none, part_more}
 use Rattle.ist_scan.proofs.shots.list_at.Goals as goal
@@ -37,4 +37,4 @@ returns-clause-list c = λ pairs h.
     let end = c.loop-i.auto.i-end in
     let test = c.loop-i-test.false in
     let same : c.loop-i.i ≡ c.args.ends.high = omega (arith, order, test, end order) in
-    i.list pairs h ∙ ap (part_of pairs c.args.ends.low) same)
+    i.list pairs h ∙ ap (slice_of pairs c.args.ends.low) same)

@@ -1,5 +1,5 @@
 use Rattle.std.proofs.Common.{◌≡◌, ap, ◌∙◌, sym, arith}
-use Rattle.ist_scan.specs.Cuts.{part_of}
+use Rattle.ist_scan.specs.Cuts.{slice_of}
 use Rattle.ist_scan.specs.Totals.{total_of}
 use Rattle.ist_scan.proofs.ShotLemmas.{looked_not, looked_more}
 use Rattle.ist_scan.proofs.TotalLemmas.{part_none, part_total_more}
@@ -37,4 +37,4 @@ returns-clause-total c = λ pairs h.
     let order = c.requires.order in
     let same : c.loop-i.i ≡ c.args.ends.high
     = omega (arith, order, c.loop-i-test.false, c.loop-i.auto.i-end order) in
-    i.total pairs h ∙ ap (λ n. total_of (part_of pairs c.args.ends.low n)) same)
+    i.total pairs h ∙ ap (λ n. total_of (slice_of pairs c.args.ends.low n)) same)

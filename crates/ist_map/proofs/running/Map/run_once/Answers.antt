@@ -2,7 +2,7 @@ use Rattle.std.proofs.Common.{◌≡◌, ◌∙◌, ◌++◌, map, length, sym, 
 use Rattle.std.specs.List.{range_with_len}
 use Rattle.ist_rest.specs.RestingWords.{HoldPairs}
 use Rattle.ist_tree.specs.Faces.{TreeFace}
-use Rattle.ist_map.specs.Growing.{tree_words}
+use Rattle.ist_map.specs.Growing.{words_for_tree}
 use Rattle.ist_map.specs.Hands.{calls_by}
 use Rattle.ist_map.proofs.HandLemmas.{all_worked}
 use Rattle.ist_map.proofs.RunLemmas.{run_one}
@@ -25,7 +25,7 @@ returns-clause-ran g c =
     opened.opens.holds)
     (c.close.ensures.words ∙ sym c.words.ensures.value)
     (c.words.ensures.value ∙ new.words_is ∙ opened.words_is
-    ∙ ap (λ (t : TreeFace). tree_words c.args.self.now.words t.start) (sym same_tree))
+    ∙ ap (λ (t : TreeFace). words_for_tree c.args.self.now.words t.start) (sym same_tree))
     c.close.ensures.stands
     (all_worked (λ h. g.W.Worker.told h.worker) (λ h. calls_by h.pass) c.args.hands.now
     c.hire_all.new.hands c.work_all.new.hands c.dismiss_all.new.hands c.dismiss_all.new.maker
