@@ -58,4 +58,13 @@ says 'a map in another order' 1 "$good" '' '| `high` | high |
 says 'a crate that is drawn below what it uses' 1 "$good" '' '' '    low
     high'
 
+mkdir "$all/crates/high/specs/inner"
+printf -- '-- it goes\nabbrev pub Goes : Type 0\n' >"$all/crates/high/specs/inner/Going.antt"
+says 'two definitions with names of their own' 0 "$good" ''
+printf -- '-- it stays otherwise\npub record Stays : Type 0 where\n' >>"$all/crates/high/specs/inner/Going.antt"
+says 'two definitions of one name' 1 "$good" ''
+printf -- '-- it goes\nabbrev pub Goes : Type 0\n' >"$all/crates/high/specs/inner/Going.antt"
+printf -- '-- it goes on\nrecord Goes : Type 0 where\n' >>"$all/crates/low/proofs/StayLemmas.antt"
+says 'a record of lemmas with the name of a definition' 1 "$good" ''
+
 finish

@@ -1,5 +1,5 @@
 #!/usr/bin/env python3
-"""Checks what the documents cite: clauses, lemmas, definitions, files, and the map of crates.
+"""Checks what the documents cite: clauses, lemmas, definitions, files, and the map of crates; and the names of definitions.
 
     python3 tools/citations.py [TOP]
 
@@ -12,6 +12,7 @@
   through the code is in that file.
 - The index of docs/DECISIONS.md has its titles.
 - docs/ARCHITECTURE.md has one row for each crate, in the order of crates.txt, and draws what a put line passes above what it uses.
+- A definition of specs/ has a name that no other file of specs/ and no record of a file of lemmas has.
 
 Each fault is a line. The last line is 'N citations, M faults', and the status is 0 where there is none.
 """
@@ -25,6 +26,9 @@ ITEM = re.compile(r"^\s*(?:pub(?:\([^)]*\))? )?(?:ghost )?(?:const )?(?:unsafe )
 CITING = ("clause", "law", "decision", "stays enabled", "comes", "made by")
 # some names in a file, which may be named without its folders and its ending
 LEMMA = re.compile(r"((?:`[^`\s]+`(?:, | and )?)+) in `(?:[^`]*/)?(\w+)(?:\.(antt|rt))?`")
+# what a file of definitions defines, and what a file of lemmas defines with a capital
+DEFINED = re.compile(r"(?m)^(?:abbrev pub|unfoldable pub|pub record|pub data|pub(?! (?:mod|use|record|data))) ([A-Za-z_][\w-]*)")
+RECORD = re.compile(r"(?m)^ *(?:abbrev pub|abbrev|pub record|record|pub data|data) ([A-Z][\w-]*)")
 CLAUSE = re.compile(r"^\s*(?:ensures|requires) (\w+) \{")
 
 
@@ -202,6 +206,19 @@ class Citations:
         if sorted(rows) == sorted(self.listed):
             self.is_good(name, rows == [*self.listed], "the map has another order than crates.txt")
 
+    def names(self):
+        """A definition has a name of its own, which no record of a file of lemmas takes."""
+        homes, taken = {}, {}
+        for path in sorted(self.top.glob("crates/*/specs/**/*.antt")):
+            for it in {*DEFINED.findall(path.read_text())}:
+                homes.setdefault(it, []).append(path.relative_to(self.top))
+        for path in sorted(self.top.glob("crates/*/proofs/*Lemmas.antt")):
+            for it in {*RECORD.findall(path.read_text())} & {*homes}:
+                taken.setdefault(it, []).append(path.relative_to(self.top))
+        for it, paths in homes.items():
+            for other in [*paths[1:], *taken.get(it, [])]:
+                self.fault(other, f"{it} is defined in {paths[0]} too")
+
 
 def main():
     top = Path(sys.argv[1] if len(sys.argv) > 1 else Path(__file__).resolve().parent.parent)
@@ -211,6 +228,7 @@ def main():
     found.map_of_crates()
     found.drawing()
     found.index()
+    found.names()
     print(*found.faults, sep="\n", end="\n" if found.faults else "")
     print(f"{found.number} citations, {len(found.faults)} faults")
     return 1 if found.faults else 0

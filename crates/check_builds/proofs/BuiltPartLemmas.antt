@@ -20,7 +20,7 @@ pub all_parts : (leaves : List PlacedLeaf)
 unfolding part_lens
 all_parts leaves = refl
 
-record IsPart (word : ℕ) (words : List ℕ) (part : List PlacedLeaf) (others : List (List PlacedLeaf))
+record IsBuiltPart (word : ℕ) (words : List ℕ) (part : List PlacedLeaf) (others : List (List PlacedLeaf))
     (above : ℕ) (rows : List Row) : Type 0 where
   here : List Row
   rest : List Row
@@ -31,7 +31,7 @@ record IsPart (word : ℕ) (words : List ℕ) (part : List PlacedLeaf) (others :
 -- what subtrees over parts are, by the first slot and the first part
 abbrev AllInverted : List ℕ → List (List PlacedLeaf) → ℕ → List Row → Type 0
 AllInverted [] [] above rows = rows ≡ []
-AllInverted (word ∷ words) (part ∷ others) above rows = IsPart word words part others above rows
+AllInverted (word ∷ words) (part ∷ others) above rows = IsBuiltPart word words part others above rows
 AllInverted _ _ above rows = ⊥
 
 all_inverted : (words : List ℕ) (ps : List (List PlacedLeaf)) (above : ℕ) (rows : List Row)
@@ -72,7 +72,7 @@ module _ (n j left : ℕ) (slots : List ℕ) (leaves : List PlacedLeaf) (above :
           above rs
 
       inverted : (used : List Row) → AllBuild used
-          → IsPart (get_or slots 0 0) (behind slots) (take end leaves)
+          → IsBuiltPart (get_or slots 0 0) (behind slots) (take end leaves)
           (cut (part_lens_from n (j + 1) (left - 1)) (from leaves end)) above used
       inverted used b =
           all_inverted (get_or slots 0 0 ∷ behind slots)
@@ -95,7 +95,7 @@ module _ (n j left : ℕ) (slots : List ℕ) (leaves : List PlacedLeaf) (above :
           (Some k)) where
         -- the rows after the rows of the first part
         split : (used rest : List Row) → rows ≡ used ++ rest
-            → (it : IsPart (get_or slots 0 0) (behind slots) (take end leaves)
+            → (it : IsBuiltPart (get_or slots 0 0) (behind slots) (take end leaves)
             (cut (part_lens_from n (j + 1) (left - 1)) (from leaves end)) above used)
             → (length it.here ≡ k) × (from rows k ≡ it.rest ++ rest)
         split used rest is it =

@@ -18,7 +18,7 @@ use Rattle.check_builds.specs.Standing.{HeldAreFree}
 use Rattle.check_builds.specs.Reading.{Gathers}
 use Rattle.check_builds.specs.Publishing.{MayPublish, HasRootOf}
 use Rattle.check_builds.specs.Built.{IsRootOf, whole, top_alone}
-use Rattle.check_builds.proofs.PublishLemmas.{Stands, LeafStands, leaf_kept, held_is_free}
+use Rattle.check_builds.proofs.PublishLemmas.{StandsAsSaid, LeafStands, leaf_kept, held_is_free}
 use Rattle.check_builds.proofs.PublishLemmas.{rows_stand, leaves_stand, builds_ideal}
 use Rattle.check_builds.proofs.PublishLemmas.{ideal_builds}
 
@@ -30,7 +30,7 @@ each_mapped P Q (x ∷ xs) f h = (f x h.0, each_mapped P Q xs f h.1)
 -- ---- roots
 
 module _ (qs : Pieces) (word k : ℕ) (leaves : List PlacedLeaf) (target : ℕ) (rows : List Row)
-    (stand : Each (Stands qs) rows) where
+    (stand : Each (StandsAsSaid qs) rows) where
   root_by_rows : IsRoot qs word k leaves target (bases_of rows) → IsRootOf word k leaves target rows
   root_by_rows (root_whole ref few e ideal) = whole few record {
     ref = ref;
@@ -40,7 +40,7 @@ module _ (qs : Pieces) (word k : ℕ) (leaves : List PlacedLeaf) (target : ℕ) 
   }
   root_by_rows (root_top base row many e top unset one) = alone rows one stand
     where
-      alone : (rs : List Row) → bases_of rs ≡ base ∷ [] → Each (Stands qs) rs → IsRootOf word k
+      alone : (rs : List Row) → bases_of rs ≡ base ∷ [] → Each (StandsAsSaid qs) rs → IsRootOf word k
           leaves target rs
       alone [] one stands = absurd (cc)
       alone (x ∷ y ∷ rs) one stands = absurd (cc)
@@ -71,7 +71,7 @@ module _ (qs : Pieces) (word k : ℕ) (leaves : List PlacedLeaf) (target : ℕ) 
   root_by_bases there (whole few b) = root_whole b.ref few b.names (builds_ideal qs b.ref leaves
       target rows b.builds stand there)
   root_by_bases there (top_alone many t) =
-      let stands = subst (λ rs. Each (Stands qs) rs) t.rows_are stand in
+      let stands = subst (λ rs. Each (StandsAsSaid qs) rs) t.rows_are stand in
       let top = t.top.is_top in
       root_top t.row.base t.top.top many t.names
       record {
@@ -89,7 +89,7 @@ module _ (qs : Pieces) (word k : ℕ) (leaves : List PlacedLeaf) (target : ℕ) 
 module _ (t : Snapshot) (caller : ℕ) (rows : List Row) (publish : MayPublish t caller rows)
     (free : HeldAreFree t) where
   -- each of the rows is published as its words say
-  pub rows_there : Each (Stands (with_inners t.pieces rows)) rows
+  pub rows_there : Each (StandsAsSaid (with_inners t.pieces rows)) rows
   rows_there = rows_stand t.pieces rows publish.once (held_is_free t caller rows publish.held free)
 
   -- the leaves below a reference are still published

@@ -169,14 +169,14 @@ module _ (ps : Pieces) where
   -- ---- a search, step by step
 
   -- what was found so far, and what is left, of the leaves with P
-  abbrev pub IsLeft : (List PlacedLeaf → Type 0) → List PlacedLeaf → List PlacedLeaf → List ℕ → Type 0
-  IsLeft P old new words =
+  abbrev pub IsFoundAndLeft : (List PlacedLeaf → Type 0) → List PlacedLeaf → List PlacedLeaf → List ℕ → Type 0
+  IsFoundAndLeft P old new words =
       (found : List PlacedLeaf) × (new ≡ old ++ found) × LeavesLeft ps P found words
 
   -- what is left stays right when more leaves are gathered
   pub left_more : (P : List PlacedLeaf → Type 0) (old mid new : List PlacedLeaf)
-      (words left : List ℕ) → IsLeft P old mid words → GathersOn ps words mid true left new
-      → IsLeft P old new left
+      (words left : List ℕ) → IsFoundAndLeft P old mid words → GathersOn ps words mid true left new
+      → IsFoundAndLeft P old new left
   left_more P old mid new words left a b = (
     a.0 ++ b.0,
     b.1 ∙ ap (λ zs. zs ++ b.0) a.1 ∙ append_assoc old a.0 b.0,
@@ -191,21 +191,21 @@ module _ (ps : Pieces) where
 
   -- with no words left all leaves were found
   pub none_left : (P : List PlacedLeaf → Type 0) (old new : List PlacedLeaf) (words : List ℕ)
-      → words ≡ [] → IsLeft P old new words → Gathers P old true new
+      → words ≡ [] → IsFoundAndLeft P old new words → Gathers P old true new
   none_left P old new words e a =
       let whole = a.2.all [] (subst (λ ws. SlotsHaveLeaves ps ws []) (sym e) no_slot) in
       (a.0, a.1, subst P (append-nil a.0) whole)
 
   -- if the words have no leaves, no list has P
   pub left_lacks : (P : List PlacedLeaf → Type 0) (old mid new : List PlacedLeaf)
-      (words left : List ℕ) → IsLeft P old mid words → GathersOn ps words mid false left new
+      (words left : List ℕ) → IsFoundAndLeft P old mid words → GathersOn ps words mid false left new
       → (leaves : List PlacedLeaf) → ¬ (P leaves)
   left_lacks P old mid new words left a b leaves p = let it = a.2.no_other leaves p in b it.0 it.2
 
   -- at first nothing was found, and the slots of the row are left
   pub begun : (base : ℕ) (none waiting : List ℕ) (out : List PlacedLeaf) → none ≡ []
       → PutsSlots ps base none true waiting
-      → IsLeft (λ ls. HasLeaves ps (Some (InnerAt base)) ls) out out (reverse waiting)
+      → IsFoundAndLeft (λ ls. HasLeaves ps (Some (InnerAt base)) ls) out out (reverse waiting)
   begun base none waiting out empty puts =
       let turned : reverse waiting ≡ puts.0.slots =
       ap reverse (puts.2 ∙ ap (λ ws. ws ++ reverse puts.0.slots) empty)

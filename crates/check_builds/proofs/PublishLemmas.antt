@@ -57,8 +57,8 @@ use Rattle.check_builds.specs.Built.{
 -- ---- rows that are published
 
 -- the row is published as its words say
-abbrev pub Stands : Pieces → Row → Type 0
-Stands qs row = qs row.base ≡ inner_of row.words
+abbrev pub StandsAsSaid : Pieces → Row → Type 0
+StandsAsSaid qs row = qs row.base ≡ inner_of row.words
 
 -- the leaf is published
 abbrev pub LeafStands : Pieces → PlacedLeaf → Type 0
@@ -88,7 +88,7 @@ leaf_kept t caller rows held free leaf e =
 -- each row of them is published
 pub rows_stand : (ps : Pieces) (rows : List Row) → Distinct (bases_of rows)
     → ((base : ℕ) → Among base (bases_of rows) → ps base ≡ None)
-    → Each (Stands (with_inners ps rows)) rows
+    → Each (StandsAsSaid (with_inners ps rows)) rows
 rows_stand ps [] once free = tt
 rows_stand ps (row ∷ rows) once free = (
   here (inner_of row.words) refl,
@@ -103,9 +103,9 @@ rows_stand ps (row ∷ rows) once free = (
     here None e = subst (λ x. with_row (with_inners ps rows) row.base x row.base ≡ x) (sym e)
         (with_inners-other ps rows row.base once.0 ∙ free row.base (inl refl))
 
-    there : (more : List Row) → Each (Stands (with_inners ps rows)) more
+    there : (more : List Row) → Each (StandsAsSaid (with_inners ps rows)) more
         → ((base : ℕ) → Among base (bases_of more) → Among base (bases_of rows))
-        → Each (Stands (with_row (with_inners ps rows) row.base (inner_of row.words))) more
+        → Each (StandsAsSaid (with_row (with_inners ps rows) row.base (inner_of row.words))) more
     there [] h k = tt
     there (x ∷ xs) h k = (
       with_row-other (with_inners ps rows) row.base x.base (inner_of row.words)
@@ -160,7 +160,7 @@ module _ (qs : Pieces) where
   mutual
     -- rows that are built and published are an ideal subtree
     pub builds_ideal : (ref : Ref) (leaves : List PlacedLeaf) (above : ℕ) (rows : List Row)
-        → BuildsRef ref leaves above rows → Each (Stands qs) rows → Each (LeafStands qs) leaves
+        → BuildsRef ref leaves above rows → Each (StandsAsSaid qs) rows → Each (LeafStands qs) leaves
         → IsIdeal qs ref leaves above (bases_of rows)
     builds_ideal _ _ _ _ builds_none stand there = of_none
     builds_ideal _ _ _ _ (builds_one {base = base} {leaf = leaf} same) stand there = of_one same
@@ -181,13 +181,13 @@ module _ (qs : Pieces) where
         (each_of_cut key_of_leaf (LeafStands qs) (part_lens (length leaves)) leaves there))
 
     all_ideal : (words : List ℕ) (ps : List (List PlacedLeaf)) (above : ℕ) (rows : List Row)
-        → BuildsAll words ps above rows → Each (Stands qs) rows
+        → BuildsAll words ps above rows → Each (StandsAsSaid qs) rows
         → Each (λ part. Each (LeafStands qs) part) ps
         → AreIdeal qs words ps above (bases_of rows)
     all_ideal _ _ _ _ builds_end stand there = no_part
     all_ideal _ _ above _ (builds_part {word = word} {words = words} {part = part} {behind = behind}
         {here = here} {rest = rest} ref e first more) stand there =
-        let both = each-append (Stands qs) here rest stand in
+        let both = each-append (StandsAsSaid qs) here rest stand in
         subst (λ bs. AreIdeal qs (word ∷ words) (part ∷ behind) above bs)
         (sym (bases-append here rest))
         (one_part ref e (builds_ideal ref part above here first both.0 there.0)
@@ -197,7 +197,7 @@ module _ (qs : Pieces) where
     -- an ideal subtree of published rows is built by them
     pub ideal_builds : (ref : Ref) (leaves : List PlacedLeaf) (above : ℕ) (bases : List ℕ)
         → IsIdeal qs ref leaves above bases → (rows : List Row) → bases ≡ bases_of rows
-        → Each (Stands qs) rows
+        → Each (StandsAsSaid qs) rows
         → BuildsRef ref leaves above rows
     ideal_builds _ _ above _ of_none [] e stand = builds_none
     ideal_builds _ _ above _ of_none (row ∷ rows) e stand = absurd (cc)
@@ -225,14 +225,14 @@ module _ (qs : Pieces) where
 
     all_builds : (words : List ℕ) (ps : List (List PlacedLeaf)) (above : ℕ) (bases : List ℕ)
         → AreIdeal qs words ps above bases → (rows : List Row) → bases ≡ bases_of rows
-        → Each (Stands qs) rows
+        → Each (StandsAsSaid qs) rows
         → BuildsAll words ps above rows
     all_builds _ _ above _ no_part [] e stand = builds_end
     all_builds _ _ above _ no_part (row ∷ rows) e stand = absurd (cc)
     all_builds _ _ above _ (one_part {word = word} {words = words} {here = here} {rest = rest}
         {part = part} {behind = behind} ref f first more) rows e stand =
         let it = split_bases here rest rows e in
-        let both = each-append (Stands qs) it.0 it.1 (subst (λ rs. Each (Stands qs) rs) it.2 stand)
+        let both = each-append (StandsAsSaid qs) it.0 it.1 (subst (λ rs. Each (StandsAsSaid qs) rs) it.2 stand)
         in
         subst (λ rs. BuildsAll (word ∷ words) (part ∷ behind) above rs) (sym it.2)
         (builds_part ref f (ideal_builds ref part above here first it.0 it.3 both.0)

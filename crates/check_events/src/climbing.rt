@@ -14,7 +14,8 @@ use crate::pasts::Past;
 use crate::replicas::Replica;
 use ist_layout::ANCHOR;
 
-/// Returns whether the node is linked or was.
+/// Returns whether the node is linked or was: the anchor always, and each other node whose slot is
+/// remembered.
 pub fn was_linked(past: &Past, node: u64) -> bool
     ensures exact { (first : Snapshot) (log : Log) → KnowsSlots past.now.slots first log
         → (IsTrue result ↔ WasLinked first log node) }

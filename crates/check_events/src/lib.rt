@@ -22,6 +22,7 @@ mod pasts;
 mod replicas;
 mod rows;
 
+pub use climbing::was_linked;
 pub use counting::can_count;
 pub use deciding::{can_decide, can_okay, can_resolve};
 pub use entering::{can_enter, can_reserve};

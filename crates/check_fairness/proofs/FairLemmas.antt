@@ -36,20 +36,20 @@ module _ (P : List ℕ → Type 0) (room : ℕ) where
 
   -- sizes without spare rows can be read as the rest of the list that was begun, and then further
   -- ones
-  pub data Reads : List ℕ → Bool → List ℕ → Type 0 where
-    reads_none : {rest : List ℕ} {free : Bool} → Reads rest free []
-    reads_on : {rest xs : List ℕ} {free : Bool} {x : ℕ} → Reads rest (is_full room rest) xs
-        → Reads (x ∷ rest) free (x ∷ xs)
+  pub data ReadsOn : List ℕ → Bool → List ℕ → Type 0 where
+    reads_none : {rest : List ℕ} {free : Bool} → ReadsOn rest free []
+    reads_on : {rest xs : List ℕ} {free : Bool} {x : ℕ} → ReadsOn rest (is_full room rest) xs
+        → ReadsOn (x ∷ rest) free (x ∷ xs)
     reads_first : {old xs : List ℕ} {x : ℕ} (rest : List ℕ) → P (x ∷ rest)
-        → Reads rest (is_full room rest) xs
-        → Reads old true (x ∷ xs)
+        → ReadsOn rest (is_full room rest) xs
+        → ReadsOn old true (x ∷ xs)
 
   -- what a search finds
   record Found (may : Spare) (rest : List ℕ) (free : Bool) (xs : List ℕ) : Type 0 where
     building : List ℕ
     spare : List ℕ
     merge : IsMerge xs building spare
-    reads : Reads rest free building
+    reads : ReadsOn rest free building
     few : Each (IsSpare may) spare
     one_each : Distinct spare
 
@@ -100,7 +100,7 @@ module _ (P : List ℕ → Type 0) (room : ℕ) where
       }
 
   finds : (may : Spare) (rest : List ℕ) (free : Bool) (xs building spare : List ℕ)
-      → IsMerge xs building spare → Reads rest free building → Each (IsSpare may) spare
+      → IsMerge xs building spare → ReadsOn rest free building → Each (IsSpare may) spare
       → Distinct spare
       → Goes P room may rest free xs
   finds may rest free _ _ _ at_end r few one = all_read
@@ -116,37 +116,37 @@ module _ (P : List ℕ → Type 0) (room : ℕ) where
 
   -- ---- builds, one after another
 
-  reads_anywhere : (old xs : List ℕ) → Reads [] true xs → Reads old true xs
+  reads_anywhere : (old xs : List ℕ) → ReadsOn [] true xs → ReadsOn old true xs
   reads_anywhere old _ reads_none = reads_none
   reads_anywhere old _ (reads_first rest p r) = reads_first rest p r
 
-  reads_prefix : (xs rest ys : List ℕ) (free : Bool) → Reads rest (is_full room rest) ys
-      → Reads (xs ++ rest) (is_full room (xs ++ rest)) (xs ++ ys)
+  reads_prefix : (xs rest ys : List ℕ) (free : Bool) → ReadsOn rest (is_full room rest) ys
+      → ReadsOn (xs ++ rest) (is_full room (xs ++ rest)) (xs ++ ys)
   reads_prefix [] rest ys free r = r
   reads_prefix (x ∷ xs) rest ys free r = reads_on (reads_prefix xs rest ys free r)
 
   module _ (t : Snapshot) (w : t.words ≡ t.next + room) (p : (l : List ℕ) → IsBuilding t l ↔ P l)
     where
-      builds_read : (xs : List ℕ) → AreBuilds t xs → Reads [] true xs
+      builds_read : (xs : List ℕ) → AreBuilds t xs → ReadsOn [] true xs
       builds_read _ no_build = reads_none
       builds_read _ (last_build {sizes = xs} rest b) = all xs b
         where
-          all : (ys : List ℕ) → IsBuilding t (ys ++ rest) → Reads [] true ys
+          all : (ys : List ℕ) → IsBuilding t (ys ++ rest) → ReadsOn [] true ys
           all [] i = reads_none
           all (y ∷ ys) i =
               reads_first (ys ++ rest) ((p (y ∷ (ys ++ rest))).0 i)
-              (subst (λ zs. Reads (ys ++ rest) (is_full room (ys ++ rest)) zs) (append-nil ys)
+              (subst (λ zs. ReadsOn (ys ++ rest) (is_full room (ys ++ rest)) zs) (append-nil ys)
               (reads_prefix ys rest [] true reads_none))
       builds_read _ (stuck_build {sizes = xs} {more = ys} s r) = stuck xs s (builds_read ys r)
         where
-          stuck : (xs : List ℕ) → IsStuck t xs → Reads [] true ys → Reads [] true (xs ++ ys)
+          stuck : (xs : List ℕ) → IsStuck t xs → ReadsOn [] true ys → ReadsOn [] true (xs ++ ys)
           stuck [] i h = h
           stuck (z ∷ zs) i h =
               reads_first (zs ++ i.next_size ∷ i.rest) ((p (z ∷ (zs ++ i.next_size ∷ i.rest))).0
               i.building) (reads_prefix zs (i.next_size ∷ i.rest) ys true
               (at (nat_lt room i.next_size) (let f = i.no_room in grind (arith, nat_tests))))
             where
-              at : (b : Bool) → b ≡ true → Reads (i.next_size ∷ i.rest) b ys
+              at : (b : Bool) → b ≡ true → ReadsOn (i.next_size ∷ i.rest) b ys
               at true e = reads_anywhere (i.next_size ∷ i.rest) ys h
               at false e = cc
 
@@ -162,7 +162,7 @@ module _ (P : List ℕ → Type 0) (room : ℕ) where
       }
 
       read_behind : (xs done rest : List ℕ) (free : Bool) → is_full room rest ≡ free
-          → IsBuilding t (done ++ rest) → Reads rest free xs
+          → IsBuilding t (done ++ rest) → ReadsOn rest free xs
           → AreBuilds t (done ++ xs)
       read_behind _ done rest free e i reads_none = subst (AreBuilds t) (sym (append-nil done))
           (last_build rest i)
@@ -174,7 +174,7 @@ module _ (P : List ℕ → Type 0) (room : ℕ) where
           stuck_build (cut done old e i) (read_behind xs (x ∷ []) rest (is_full room rest) refl
           ((p (x ∷ rest)).1 q) r)
 
-      read_builds : (xs : List ℕ) → Reads [] true xs → AreBuilds t xs
+      read_builds : (xs : List ℕ) → ReadsOn [] true xs → AreBuilds t xs
       read_builds _ reads_none = no_build
       read_builds _ (reads_first {xs = xs} {x = x} rest q r) = read_behind xs (x ∷ []) rest
           (is_full room rest) refl ((p (x ∷ rest)).1 q) r

@@ -4,9 +4,9 @@ use Rattle.std.proofs.Common.{◌∷◌, Option, Some, refl, sym, ap, subst, inl
 use Rattle.ist_core.specs.declared.lists.Row.{Row}
 use Rattle.ist_core.specs.declared.states.ChangeRow.{ChangeRow}
 use Rattle.ist_core.specs.declared.events.Event.{Event}
-use Rattle.ist_core.specs.declared.events.Event.TheVariants.{Enter, Reserve, Install, Okay, Decide}
-use Rattle.ist_core.specs.declared.events.Event.TheVariants.{Resolve, Count, Mark, Pass, Finish}
-use Rattle.ist_core.specs.declared.events.Event.TheVariants.{Root, Draw, Place, Lose}
+use Rattle.ist_core.specs.declared.events.Event.TheVariants.{Install, Decide}
+use Rattle.ist_core.specs.declared.events.Event.TheVariants.{Resolve, Count, Mark, Finish}
+use Rattle.ist_core.specs.declared.events.Event.TheVariants.{Root, Draw, Place}
 use Rattle.ist_core.specs.References.{ChangeAt, word_of}
 use Rattle.ist_core.specs.Statuses.{undecided, marked_word, finished_word}
 use Rattle.ist_core.specs.Elements.{Among, Each}
@@ -24,7 +24,7 @@ use Rattle.ist_core.proofs.ElementLemmas.{each-among}
 use Rattle.ist_core.proofs.RowLemmas.{changed_at-some}
 use Rattle.ist_core.proofs.MoveLemmas.{HeldLieApart}
 use Rattle.ist_core.proofs.InstallLemmas.{with_installed}
-use Rattle.ist_core.proofs.AddingLemmas.{IsInstalled, adds_install, adds-with_inners}
+use Rattle.ist_core.proofs.AddingLemmas.{IsInstalledWith, adds_install, adds-with_inners}
 use Rattle.ist_core.proofs.GrowingLemmas.{change_there}
 use Rattle.ist_core.proofs.StepLemmas.{rows_resolved, rows_placed, holds_installed, known}
 use Rattle.ist_core.proofs.StepLemmas.{grow_step}
@@ -45,7 +45,7 @@ pair_fresh key base other_key other =
 
 installed_fresh : (first : Snapshot) (log : Log) (at : ℕ) (change : ChangeRow) (fresh : List Row)
     (fits : FitsKind first log change fresh) (base : ℕ) (p : Piece) → change.decision ≡ undecided
-    → IsInstalled first log at change fresh fits base p → decision_in p ≡ undecided
+    → IsInstalledWith first log at change fresh fits base p → decision_in p ≡ undecided
 installed_fresh first log at change fresh fits base p unset (inl h) = ap decision_in h.1 ∙ unset
 installed_fresh first log at change fresh (a_put f) base p unset (inr h) = ap decision_in h.1
 installed_fresh first log at change fresh (a_pair f) base p unset (inr (inl h)) = ap decision_in h.1
@@ -63,34 +63,34 @@ tree_fresh ps rows base p all i e = let it = each-among (IsTreeRow ps) base rows
 -- ---- what each write does to a change
 
 -- a change after the write is one before it
-abbrev Keeps : (Piece → Piece) → Type 0
-Keeps f = (p : Piece) (r : ChangeRow) → f p ≡ Change r → p ≡ Change r
+abbrev KeepsEachChange : (Piece → Piece) → Type 0
+KeepsEachChange f = (p : Piece) (r : ChangeRow) → f p ≡ Change r → p ≡ Change r
 
-slot_keeps : (i word : ℕ) → Keeps (with_slot i word)
+slot_keeps : (i word : ℕ) → KeepsEachChange (with_slot i word)
 slot_keeps i word (Inner r) s e = absurd (cc)
 slot_keeps i word (Leaf r) s e = e
 slot_keeps i word (Change r) s e = e
 slot_keeps i word (Rebuild r) s e = e
 
-status_keeps : (status : ℕ) → Keeps (with_status status)
+status_keeps : (status : ℕ) → KeepsEachChange (with_status status)
 status_keeps status (Inner r) s e = absurd (cc)
 status_keeps status (Leaf r) s e = e
 status_keeps status (Change r) s e = e
 status_keeps status (Rebuild r) s e = e
 
-root_keeps : (word : ℕ) → Keeps (with_root word)
+root_keeps : (word : ℕ) → KeepsEachChange (with_root word)
 root_keeps word (Inner r) s e = e
 root_keeps word (Leaf r) s e = e
 root_keeps word (Change r) s e = e
 root_keeps word (Rebuild r) s e = absurd (cc)
 
-counted_keeps : Keeps counted
+counted_keeps : KeepsEachChange counted
 counted_keeps (Inner r) s e = absurd (cc)
 counted_keeps (Leaf r) s e = e
 counted_keeps (Change r) s e = e
 counted_keeps (Rebuild r) s e = e
 
-drawn_keeps : Keeps drawn
+drawn_keeps : KeepsEachChange drawn
 drawn_keeps (Inner r) s e = e
 drawn_keeps (Leaf r) s e = e
 drawn_keeps (Change r) s e = e
@@ -103,7 +103,7 @@ abbrev DecidedCame : Pieces → Pieces → Type 0
 DecidedCame ps qs = (base : ℕ) (r : ChangeRow) → qs base ≡ Some (Change r) → r.decision ≢ undecided
     → ps base ≡ Some (Change r)
 
-came_changed : (ps xs qs : Pieces) (at : ℕ) (f : Piece → Piece) → qs ≡ changed_at xs at f → Keeps f
+came_changed : (ps xs qs : Pieces) (at : ℕ) (f : Piece → Piece) → qs ≡ changed_at xs at f → KeepsEachChange f
     → DecidedCame ps xs → DecidedCame ps qs
 came_changed ps xs qs at f pieces keeps old base r e d =
     let it = changed_at-some xs at base f (Change r) (subst (λ ys. ys base ≡ Some (Change r)) pieces
@@ -171,11 +171,7 @@ came_step first log (Mark caller at) h s other = came_changed (state first log).
 came_step first log (Finish caller at keys) h s other = came_changed (state first log).pieces
     (state first log).pieces _ at (with_status (finished_word keys)) refl
     (status_keeps (finished_word keys)) (λ b r e d. e)
-came_step first log (Enter caller) h s other = λ b r e d. e
-came_step first log (Reserve caller base size) h s other = λ b r e d. e
-came_step first log (Okay caller base) h s other = λ b r e d. e
-came_step first log (Pass caller at i word) h s other = λ b r e d. e
-came_step first log (Lose caller bases) h s other = λ b r e d. e
+came_step first log _ h s other = λ b r e d. e
 
 -- a change after a Decide was the same before, or is the decided one
 pub came_decided : (first : Snapshot) (log : Log) (caller base : ℕ) (said : Bool)

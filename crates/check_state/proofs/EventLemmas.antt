@@ -58,15 +58,7 @@ takes_none (Install c x rows) reserve install root place lose = absurd (install 
 takes_none (Root c r w rows) reserve install root place lose = absurd (root c r w rows refl)
 takes_none (Place c r i w rows) reserve install root place lose = absurd (place c r i w rows refl)
 takes_none (Lose c bases) reserve install root place lose = absurd (lose c bases refl)
-takes_none (Enter c) reserve install root place lose = tt
-takes_none (Okay c x) reserve install root place lose = tt
-takes_none (Decide c x said) reserve install root place lose = tt
-takes_none (Resolve c x) reserve install root place lose = tt
-takes_none (Count c n) reserve install root place lose = tt
-takes_none (Mark c n) reserve install root place lose = tt
-takes_none (Pass c n i w) reserve install root place lose = tt
-takes_none (Finish c n k) reserve install root place lose = tt
-takes_none (Draw c r i) reserve install root place lose = tt
+takes_none _ reserve install root place lose = tt
 
 -- of those that take no rows, an Okay and a Pass write nothing
 module _ (r : Replica) (t : Snapshot) where
@@ -91,11 +83,7 @@ module _ (r : Replica) (t : Snapshot) where
       absurd (draw c b i refl)
   nothing_written (Okay c x) enter decide resolve count mark finish draw none h = h
   nothing_written (Pass c n i w) enter decide resolve count mark finish draw none h = h
-  nothing_written (Reserve c b n) enter decide resolve count mark finish draw none h = absurd none
-  nothing_written (Install c x rows) enter decide resolve count mark finish draw none h = absurd none
-  nothing_written (Root c b w rows) enter decide resolve count mark finish draw none h = absurd none
-  nothing_written (Place c b i w rows) enter decide resolve count mark finish draw none h = absurd none
-  nothing_written (Lose c bases) enter decide resolve count mark finish draw none h = absurd none
+  nothing_written _ enter decide resolve count mark finish draw none h = absurd none
 
 -- an Install holds as much as before, until its rows are taken away
 pub held_installed : (t : Snapshot) (base : ℕ) (rows : List Row) → (installed t base rows).held

@@ -65,7 +65,7 @@ use Rattle.laws_links.proofs.FormLemmas.{
 use Rattle.laws_links.proofs.FormedLemmas.{changes_are_formed}
 use Rattle.laws_links.proofs.InductionLemmas.{grow_behind}
 use Rattle.laws_links.proofs.ReadEventLemmas.{decide_reads}
-use Rattle.laws_links.proofs.ReadLemmas.{Fills, ReadsAs, Turns, filled_by, reads_once, turned_by}
+use Rattle.laws_links.proofs.ReadLemmas.{FillsSlot, ReadsAs, Turns, filled_by, reads_once, turned_by}
 use Rattle.laws_links.proofs.ReadStepLemmas.{
   Stood,
   Turning,
@@ -108,7 +108,7 @@ module _ (pairs : List Pair) (words : ℕ) (opens : CanOpen pairs words) where
   -- no part is put into a slot of a linked node: each is set
   unfilled : (log : Log) (event : Event) → EachEnabled (start pairs words) (event ∷ log)
       → (node i : ℕ)
-      → Linked (behind log) node → ¬ (Fills (start pairs words) log node i Unset event)
+      → Linked (behind log) node → ¬ (FillsSlot (start pairs words) log node i Unset event)
   unfilled log _ h node i l (filled_by can here at is) =
       let t = behind log in
       let slot = in_row can.root_row can.root_published can.free in

@@ -5,9 +5,8 @@ use Rattle.std.proofs.Common.{ap, sym, subst, inl, inr, ⊎_elim, refl}
 use Rattle.std.specs.BTreeSet.{BTreeSet}
 use Rattle.ist_core.specs.declared.pairs.Pair.{Pair}
 use Rattle.ist_core.specs.declared.events.Event.{Event}
-use Rattle.ist_core.specs.declared.events.Event.TheVariants.{Enter, Reserve, Install, Okay, Decide}
-use Rattle.ist_core.specs.declared.events.Event.TheVariants.{Resolve, Count, Mark, Pass, Finish}
-use Rattle.ist_core.specs.declared.events.Event.TheVariants.{Root, Draw, Place, Lose}
+use Rattle.ist_core.specs.declared.events.Event.TheVariants.{Decide}
+use Rattle.ist_core.specs.declared.events.Event.TheVariants.{Finish}
 use Rattle.ist_core.specs.Snapshots.{Snapshot}
 use Rattle.ist_core.specs.Logs.{Log}
 use Rattle.ist_core.specs.Lawful.{Lawful, state_of}
@@ -21,27 +20,15 @@ use Rattle.check_fairness.proofs.TargetLemmas.{lists_stay}
 use Rattle.check_state.specs.Remembered.{StartsFinished}
 use Rattle.check_state.specs.Calls.{StartCalls}
 use Rattle.check_state.proofs.EventLemmas.{at_event}
-use Rattle.check_state.proofs.FinishingLemmas.{Finishes}
+use Rattle.check_state.proofs.FinishingLemmas.{FinishesNode}
 use Rattle.check_state.proofs.TargetedLemmas.{targets_kept, targets_refused, targets_more}
 use Rattle.check_state.proofs.TargetedLemmas.{keys_kept, keys_refused, keys_started, keys_finished}
 
 -- an event that isn't a Finish finishes nothing
 unfinished : (event : Event) → ((c n k : ℕ) → event ≢ Finish c n k) → (node k : ℕ)
-    → ¬ (Finishes node k event)
+    → ¬ (FinishesNode node k event)
 unfinished (Finish c n j) none node k now = none c n j refl
-unfinished (Enter c) none node k now = now
-unfinished (Reserve c b n) none node k now = now
-unfinished (Install c x rows) none node k now = now
-unfinished (Okay c x) none node k now = now
-unfinished (Decide c x said) none node k now = now
-unfinished (Resolve c x) none node k now = now
-unfinished (Count c n) none node k now = now
-unfinished (Mark c n) none node k now = now
-unfinished (Pass c n i w) none node k now = now
-unfinished (Root c r w rows) none node k now = now
-unfinished (Draw c r i) none node k now = now
-unfinished (Place c r i w rows) none node k now = now
-unfinished (Lose c bases) none node k now = now
+unfinished _ none node k now = now
 
 -- if one number has P, it is the one that is gained
 pub gains_one : (t u : Snapshot) (P : ℕ → Type 0) (keys : ℕ) → FindsOne P (Some keys)

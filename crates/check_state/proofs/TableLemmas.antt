@@ -162,20 +162,8 @@ most_later log caller rebuild part before h =
 -- an event that is no draw draws nothing
 no_draw : (event : Event) → ((c o p : ℕ) → event ≢ Draw c o p) → (caller rebuild part : ℕ)
     → ¬ (Draws caller rebuild part event)
-no_draw (Enter c) other caller rebuild part happens = happens
-no_draw (Reserve c b z) other caller rebuild part happens = happens
-no_draw (Install c d r) other caller rebuild part happens = happens
-no_draw (Okay c d) other caller rebuild part happens = happens
-no_draw (Decide c d x) other caller rebuild part happens = happens
-no_draw (Resolve c d) other caller rebuild part happens = happens
-no_draw (Count c n) other caller rebuild part happens = happens
-no_draw (Mark c n) other caller rebuild part happens = happens
-no_draw (Pass c n i w) other caller rebuild part happens = happens
-no_draw (Finish c n k) other caller rebuild part happens = happens
-no_draw (Root c o w r) other caller rebuild part happens = happens
 no_draw (Draw c o p) other caller rebuild part happens = absurd (other c o p refl)
-no_draw (Place c o i w r) other caller rebuild part happens = happens
-no_draw (Lose c b) other caller rebuild part happens = happens
+no_draw _ other caller rebuild part happens = happens
 
 -- after another event the map of draws stays right
 pub draws_kept : (m : BTreeMap ℕ ℕ) (log : Log) (event : Event) → ((c o p : ℕ) → event ≢ Draw c o p)
@@ -198,20 +186,8 @@ draws_kept m log event other known caller rebuild fits fits_too = at
 -- an event that is no pass passes nothing
 pub no_pass : (event : Event) → ((c n i w : ℕ) → event ≢ Pass c n i w) → (node index word : ℕ)
     → ¬ (Passes node index word event)
-no_pass (Enter c) other node index word happens = happens
-no_pass (Reserve c b z) other node index word happens = happens
-no_pass (Install c d r) other node index word happens = happens
-no_pass (Okay c d) other node index word happens = happens
-no_pass (Decide c d x) other node index word happens = happens
-no_pass (Resolve c d) other node index word happens = happens
-no_pass (Count c n) other node index word happens = happens
-no_pass (Mark c n) other node index word happens = happens
 no_pass (Pass c n i w) other node index word happens = absurd (other c n i w refl)
-no_pass (Finish c n k) other node index word happens = happens
-no_pass (Root c o w r) other node index word happens = happens
-no_pass (Draw c o p) other node index word happens = happens
-no_pass (Place c o i w r) other node index word happens = happens
-no_pass (Lose c b) other node index word happens = happens
+no_pass _ other node index word happens = happens
 
 -- after another event the map of passes stays right
 pub passes_kept : (m : BTreeMap ℕ ℕ) (log : Log) (event : Event)

@@ -21,7 +21,7 @@ use Rattle.check_state.specs.Calls.{StartCalls}
 use Rattle.check_state.proofs.StartedLemmas.{is_sound, rows_grow, start_stays, started_before}
 use Rattle.check_state.proofs.StartedLemmas.{started_newly, start_begun}
 use Rattle.check_state.proofs.CallLemmas.{target_stays, started_of}
-use Rattle.check_state.proofs.FinishingLemmas.{Finishes, finished_before, finished_now}
+use Rattle.check_state.proofs.FinishingLemmas.{FinishesNode, finished_before, finished_now}
 
 module _ (pairs : List Pair) (words : ℕ) where
   -- the state after the log
@@ -68,7 +68,7 @@ module _ (pairs : List Pair) (words : ℕ) where
 
     -- a row that is finished was so, or is so by the event
     row_before : (node k : ℕ) → IsFinishedWith (table (event ∷ log)) node k
-        → IsFinishedWith (table log) node k ⊎ Finishes node k event
+        → IsFinishedWith (table log) node k ⊎ FinishesNode node k event
     row_before node k f =
         finished_before (start pairs words) log node k event law.enabled.1
         (is_sound pairs words log law.enabled.0) f
@@ -85,7 +85,7 @@ module _ (pairs : List Pair) (words : ℕ) where
 
     -- and if the event also finishes no row, their numbers of keys stay
     no_keys : ((rebuild : ℕ) → IsStarted (table (event ∷ log)) rebuild → IsStarted (table log) rebuild)
-        → ((node k : ℕ) → ¬ (Finishes node k event))
+        → ((node k : ℕ) → ¬ (FinishesNode node k event))
         → GainsKeys (table log) (table (event ∷ log)) (λ k. ⊥)
     no_keys before none k = (
       (λ it.
@@ -111,7 +111,7 @@ module _ (pairs : List Pair) (words : ℕ) where
 
     -- an event that neither decides nor finishes gains no number of keys
     pub keys_kept : (event : Event) → ((c b : ℕ) (x : Bool) → event ≢ Decide c b x)
-        → ((node k : ℕ) → ¬ (Finishes node k event)) → Lawful pairs words (event ∷ log)
+        → ((node k : ℕ) → ¬ (FinishesNode node k event)) → Lawful pairs words (event ∷ log)
         → GainsKeys (table log) (table (event ∷ log)) (λ k. ⊥)
     keys_kept event no_decide none law =
         no_keys log event law (started_before pairs words log event no_decide law) none

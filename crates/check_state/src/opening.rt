@@ -14,7 +14,8 @@ ghost use Rattle.check_state.specs.Laying.{Publishes};
 use crate::publishing::{put_inner, put_leaf};
 use check_events::{Replica, no_rows};
 use ist_core::{InnerRow, LeafRow, Pair, Words};
-use ist_layout::{FIRST_ROW, Ref, inner_words};
+use ist_image::tree_word;
+use ist_layout::{FIRST_ROW, inner_words};
 use ist_math::{degree, ideal_words, part};
 use std::alloc::{AllocError, Global};
 use std::collections::BTreeMap;
@@ -34,7 +35,7 @@ pub fn open_replica(alloc: Global, pairs: &[Pair], words: u64) -> Result<Replica
         words,
         next: first + ideal_words(count),
         callers: 0,
-        anchor: word_at(first, count),
+        anchor: tree_word(first, count),
         leaves: BTreeMap::new(alloc),
         inners: BTreeMap::new(alloc),
         changes: BTreeMap::new(alloc),
@@ -152,24 +153,8 @@ fn slots_of(alloc: Global, base: u64, count: u64) -> Result<Words, AllocError>
     let mut slots = Vec::new(alloc);
     for j in 0..children {
         let len = part(count, j).len;
-        slots.push(word_at(at, len))?;
+        slots.push(tree_word(at, len))?;
         at += ideal_words(len);
     }
     Ok(Words::from_vec(slots))
-}
-
-/// Returns the word for the tree of `count` pairs at the base.
-fn word_at(base: u64, count: u64) -> u64
-    requires behind_fixed { 4 ≤ base }
-    requires below_limit { base < 2 ^ 28 }
-    ensures value { (pairs : List APair) → length pairs ≡ count
-        → result ≡ the_word (tree_at base pairs) }
-{
-    let base = base as u32;
-    let found = match count {
-        0 => Ref::Empty,
-        1 => Ref::Leaf { base },
-        _ => Ref::Inner { base },
-    };
-    found.to_word()
 }

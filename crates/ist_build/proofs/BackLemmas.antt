@@ -1,5 +1,5 @@
 -- A caller after the step that puts in place, or loses, what it built. Serves `root` and `filling`.
-use Rattle.std.proofs.Common.{◌≡◌, ℕ, List, ◌++◌, refl, sym, ap, ap₂, ◌∙◌, subst}
+use Rattle.std.proofs.Common.{◌≡◌, ℕ, List, ◌∷◌, ◌++◌, refl, sym, ap, ap₂, ◌∙◌, subst}
 use Rattle.ist_core.specs.declared.events.Event.{Event}
 use Rattle.ist_core.specs.declared.lists.Row.{Row}
 use Rattle.ist_core.specs.After.{after}
@@ -18,9 +18,11 @@ use Rattle.ist_rows.proofs.BuildingLemmas.{all_stuck_on}
 use Rattle.ist_rows.proofs.BuildLemmas.{ComesBehind}
 use Rattle.ist_build.proofs.LaidOnLemmas.{logged_laid, logged_load_laid}
 use Rattle.ist_core.specs.Lawful.{Lawful}
+use Rattle.ist_core.specs.Logs.{Log}
 use Rattle.ist_rule.proofs.WentOnLemmas.{goes_on_now}
 use Rattle.ist_build.specs.Laying.{BuiltOn, OwnsRows}
 use Rattle.ist_build.specs.Calls.{Builds}
+use Rattle.ist_build.specs.Putting.{PutOn}
 use Rattle.ist_build.specs.Back.{IsFreeToBuild, IsBack, HasBuilt}
 use Rattle.ist_build.proofs.HeldBeforeLemmas.{refused_back, caller_back}
 use Rattle.ist_build.proofs.BuiltLemmas.{built_same}
@@ -49,48 +51,40 @@ module _ (old mid : Caller) (h : HasBuilt old mid) (rows : List Row)
   sizes_old = ap₂ (λ n own. build_sizes (now w) n own) (sym h.number) (sym h.rows) ∙ sizes
 
   -- the caller is back once the event is the last of its log
-  pub back_logged : Logged w event token.view → IsBack old last
-  back_logged l =
+  back_by : (before : Log) → Later w.who w.log before → token.view.log ≡ event ∷ before
+      → token.view.start ≡ w.start → token.view.words ≡ w.words → token.view.who ≡ w.who
+      → IsSound token.view → PutOn w token.view → IsBack old last
+  back_by before later log_is start_is words_is who_is sound put =
       let b = h.built in
-      let start_is = ap (λ x. x.start) l.view ∙ ap (λ x. x.start) b.same in
-      let words_is = ap (λ x. x.words) l.view ∙ ap (λ x. x.words) b.same in
-      let who_is = ap (λ x. x.who) l.view ∙ ap (λ x. x.who) b.same in
+      let start_old = start_is ∙ ap (λ x. x.start) b.same in
+      let words_old = words_is ∙ ap (λ x. x.words) b.same in
+      let who_old = who_is ∙ ap (λ x. x.who) b.same in
       record {
         ready = record {
           caller = caller_back old h.ready.caller h.sound w b (sizes_of rows) sizes_old rows owns_old refl
-              last event l.before l.later (ap (λ x. x.log) l.view) start_is words_is who_is l.sound
-              h.number h.rows drops;
+              last event before later log_is start_old words_old who_old sound h.number h.rows drops;
           refused = refused_back old h.ready.caller h.sound w b (sizes_of rows) sizes_old rows owns_old
-              refl last event l.before l.later (ap (λ x. x.log) l.view) start_is words_is who_is
-              l.sound h.number h.rows drops h.ready.refused;
+              refl last event before later log_is start_old words_old who_old sound h.number h.rows
+              drops h.ready.refused;
         };
         number = h.number;
         rows = h.rows;
-        put = put_more v w token.view (built_put v w b)
-            (logged_laid Builds w event token.view l is (made w.made));
+        put = put_more v w token.view (built_put v w b) put;
       }
 
-  -- and so it is if that event was made with a load
+  -- if it made the event
+  pub back_logged : Logged w event token.view → IsBack old last
+  back_logged l =
+      back_by l.before l.later (ap (λ x. x.log) l.view) (ap (λ x. x.start) l.view)
+      (ap (λ x. x.words) l.view) (ap (λ x. x.who) l.view) l.sound
+      (logged_laid Builds w event token.view l is (made w.made))
+
+  -- and if that event was made with a load
   pub back_lost : (place word : ℕ) → LoggedLoad w event place word token.view → IsBack old last
   back_lost place word l =
-      let b = h.built in
-      let start_is = ap (λ x. x.start) l.view ∙ ap (λ x. x.start) b.same in
-      let words_is = ap (λ x. x.words) l.view ∙ ap (λ x. x.words) b.same in
-      let who_is = ap (λ x. x.who) l.view ∙ ap (λ x. x.who) b.same in
-      record {
-        ready = record {
-          caller = caller_back old h.ready.caller h.sound w b (sizes_of rows) sizes_old rows owns_old refl
-              last event l.before l.later (ap (λ x. x.log) l.view) start_is words_is who_is l.sound
-              h.number h.rows drops;
-          refused = refused_back old h.ready.caller h.sound w b (sizes_of rows) sizes_old rows owns_old
-              refl last event l.before l.later (ap (λ x. x.log) l.view) start_is words_is who_is
-              l.sound h.number h.rows drops h.ready.refused;
-        };
-        number = h.number;
-        rows = h.rows;
-        put = put_more v w token.view (built_put v w b)
-            (logged_load_laid Builds w event place word token.view l is (made w.made));
-      }
+      back_by l.before l.later (ap (λ x. x.log) l.view) (ap (λ x. x.start) l.view)
+      (ap (λ x. x.words) l.view) (ap (λ x. x.who) l.view) l.sound
+      (logged_load_laid Builds w event place word token.view l is (made w.made))
 
 -- the same holds after loads
 pub back_loads : (who : Caller) (token : TokenFace) → IsFreeToBuild who → GoesOnTo who.token.view token.view

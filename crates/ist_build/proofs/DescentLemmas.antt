@@ -55,24 +55,24 @@ not_behind leaves i skip enough h =
     omega arith
 
 -- what is left to skip after what hangs below a slot
-abbrev pub LeavesOut : ℕ → Below → ℕ → Type 0
-LeavesOut skip Nothing to = to ≡ skip
-LeavesOut skip (Leaf base) to = (0 < skip) × (to ≡ skip - 1)
-LeavesOut skip (Row base keys) to = (keys ≤ skip) × (to ≡ skip - keys)
+abbrev pub LeavesToSkip : ℕ → Below → ℕ → Type 0
+LeavesToSkip skip Nothing to = to ≡ skip
+LeavesToSkip skip (Leaf base) to = (0 < skip) × (to ≡ skip - 1)
+LeavesToSkip skip (Row base keys) to = (keys ≤ skip) × (to ≡ skip - keys)
 
 -- an empty slot leaves the number to skip as it is
-pub past_nothing : {skip to : ℕ} {below : Below} → below ≡ Nothing → to ≡ skip → LeavesOut skip below to
-past_nothing {skip} {to} is e = subst (λ b. LeavesOut skip b to) (sym is) e
+pub past_nothing : {skip to : ℕ} {below : Below} → below ≡ Nothing → to ≡ skip → LeavesToSkip skip below to
+past_nothing {skip} {to} is e = subst (λ b. LeavesToSkip skip b to) (sym is) e
 
 -- a leaf that is skipped takes one from the number to skip
 pub past_leaf : {skip to : ℕ} {below : Below} (base : ℕ) → below ≡ Leaf base → 0 < skip
-    → to ≡ skip - 1 → LeavesOut skip below to
-past_leaf {skip} {to} base is some e = subst (λ b. LeavesOut skip b to) (sym is) (some, e)
+    → to ≡ skip - 1 → LeavesToSkip skip below to
+past_leaf {skip} {to} base is some e = subst (λ b. LeavesToSkip skip b to) (sym is) (some, e)
 
 -- a row that is skipped takes its keys from the number to skip
 pub past_row : {skip to : ℕ} {below : Below} (base keys : ℕ) → below ≡ Row base keys → keys ≤ skip
-    → to ≡ skip - keys → LeavesOut skip below to
-past_row {skip} {to} base keys is out e = subst (λ b. LeavesOut skip b to) (sym is) (out, e)
+    → to ≡ skip - keys → LeavesToSkip skip below to
+past_row {skip} {to} base keys is out e = subst (λ b. LeavesToSkip skip b to) (sym is) (out, e)
 
 module _ (leaves : List PlacedLeaf) (v w : View) (node degree j : ℕ) (s : IsSound v)
     (g : GoesOnTo v w) (h : HasSlots v node degree) (less : j < degree) (i skip : ℕ)
@@ -107,7 +107,7 @@ module _ (leaves : List PlacedLeaf) (v w : View) (node degree j : ℕ) (s : IsSo
       refl
 
   -- what hangs below the slot is left out
-  pub past : (less_to_skip : ℕ) (below : Below) → IsUnder w node j below → LeavesOut skip below less_to_skip
+  pub past : (less_to_skip : ℕ) (below : Below) → IsUnder w node j below → LeavesToSkip skip below less_to_skip
       → IsReading leaves (0 ∷ []) (before_one i) w node (j + 1) (0 ∷ []) (before_one less_to_skip)
   past to below under out =
       reading_more leaves (0 ∷ []) (before_one i) v w node degree j (0 ∷ []) (before_one skip)
@@ -115,7 +115,7 @@ module _ (leaves : List PlacedLeaf) (v w : View) (node degree j : ℕ) (s : IsSo
       (λ word here slot has. one_slot below out under
       (λ ref reads. under_leaves v w s g node degree j h less ref reads word here slot has))
     where
-      one_slot : (below : Below) → LeavesOut skip below to → IsUnder w node j below
+      one_slot : (below : Below) → LeavesToSkip skip below to → IsUnder w node j below
           → {here : List PlacedLeaf}
           → ((ref : Ref) → SlotReads (now w) node j ref → HasLeaves (now w).pieces (Some ref) here)
           → HasRead (0 ∷ []) (before_one skip) here (0 ∷ []) (before_one to)

@@ -2,7 +2,6 @@
 use Rattle.std.proofs.Common.{le_refl, ◌≡◌, ◌≢◌, ℕ, ◌+◌, ◌/◌, ◌^◌, ◌<◌, ◌≤◌, slice_get, Some, None, refl, sym, ap, ◌∙◌, subst, arith}
 use Rattle.ist_core.specs.declared.ports.Full.{Full}
 use Rattle.ist_core.specs.declared.states.InnerRow.{InnerRow}
-use Rattle.ist_core.specs.declared.states.RebuildRow.{RebuildRow}
 use Rattle.ist_core.specs.Arithmetic.{degree}
 use Rattle.ist_core.specs.Growing.{AllGrow}
 use Rattle.ist_core.specs.Marking.{HasTarget}
@@ -27,11 +26,12 @@ use Rattle.ist_dcss.proofs.FieldLemmas.{looked_row}
 use Rattle.ist_dcss.proofs.SlotPlaceLemmas.{has_degree}
 use Rattle.laws_stability.proofs.SetLemmas.{set_by}
 use Rattle.laws_coming.proofs.BeatenLemmas.{finished_once}
+use Rattle.laws_calls.specs.Rooting.{HasRootForm, IsWholeRow}
+use Rattle.laws_calls.proofs.RootFormLemmas.{root_has_form}
 use Rattle.ist_build.specs.Calls.{IsTold, IsRooted, IsBuiltOut}
 use Rattle.ist_build.specs.Putting.{PutOn, IsShared, IsSlotSet, IsStopped}
 use Rattle.ist_build.proofs.BuiltLemmas.{built_grow, loads_built}
 use Rattle.ist_build.proofs.PutOnLemmas.{put_grow, put_more}
-use Rattle.ist_build.proofs.RootFormLemmas.{HasForm, IsRowSet, root_form}
 use Rattle.ist_build.proofs.RootReadyLemmas.{told_on, told_target}
 use Rattle.ist_build.proofs.ShortLemmas.{short_for_more}
 
@@ -43,22 +43,12 @@ rooted_on t u g rebuild h =
     record { row = it.0; published = it.1; set = λ e. h.set (sym (it.2.rooted h.set) ∙ e) }
 
 -- its form, by the number of keys
-record FormOf (v : View) (rebuild k : ℕ) (r : RebuildRow) : Type 0 where
-  form : HasForm (now v) r
-  same : form.k ≡ k
-
 form_of : (v : View) → IsSound v → (rebuild k : ℕ) → IsTold (now v) rebuild k
-    → (h : IsRooted (now v) rebuild) → FormOf v rebuild k h.row
+    → (h : IsRooted (now v) rebuild) → HasRootForm (now v) h.row.root k
 form_of v s rebuild k told h =
-    let f = root_form v.start v.words s.lawful.opens v.log s.lawful.enabled rebuild h.row
-    h.published
-    h.set in
     let row_is = same_rebuild ((now v).pieces rebuild) told.row h.row told.published h.published in
-    record {
-      form = f;
-      same = finished_once (now v) h.row.target f.k k f.finished
-          (subst (λ r. IsFinishedWith (now v) r.target k) row_is told.finished);
-    }
+    root_has_form v.start v.words s.lawful.opens v.log s.lawful.enabled rebuild k h.row h.published
+    h.set (subst (λ r. IsFinishedWith (now v) r.target k) row_is told.finished)
 
 same_row : (v : View) (base : ℕ) (r s : InnerRow) → (now v).pieces base ≡ Some (Inner r)
     → (now v).pieces base ≡ Some (Inner s) → r ≡ s
@@ -69,22 +59,21 @@ pub few_filled : (v : View) → IsSound v → (rebuild k : ℕ) → IsTold (now 
     → IsRooted (now v) rebuild → k < share_from → IsBuiltOut (now v) rebuild
 few_filled v s rebuild k told h few =
     let f = form_of v s rebuild k told h in
-    let same = f.same in
     record {
       row = h.row;
       published = h.published;
       built = record {
         set = h.set;
-        whole = λ base i word e holds. by base i word (f.form.few (omega arith) base e) holds;
+        whole = λ base i word e holds. by base i word (f.few few base e) holds;
       };
     }
   where
-    by : (base i word : ℕ) → IsRowSet (now v) base → SlotHolds (now v) base i word → word ≢
+    by : (base i word : ℕ) → IsWholeRow (now v) base → SlotHolds (now v) base i word → word ≢
         unset_word
     by base i word it (in_anchor a b e) =
         absurd (clash it (ap (now v).pieces a ∙ anchor_free v.start v.words v.log s.lawful.enabled))
       where
-        clash : (x : IsRowSet (now v) base) → (now v).pieces base ≡ None → ⊥
+        clash : (x : IsWholeRow (now v) base) → (now v).pieces base ≡ None → ⊥
         clash x e = let p = x.published in cc
     by base i word it (in_row r e got) =
         λ is. it.set i (ap (λ x. slice_get x.slots i) (same_row v base it.row r it.published e) ∙
@@ -145,9 +134,7 @@ names_root v w rebuild target k place word told g h many at l =
     let on = told_on (now v) (now w) grow rebuild k told in
     let root = rooted_on (now v) (now w) grow rebuild h in
     let t = told_target (now v) rebuild target k told g in
-    let f = form_of w l.sound rebuild k on root in
-    let same = f.same in
-    let top = f.form.many (omega arith) in
+    let top = (form_of w l.sound rebuild k on root).many many in
     let is = looked_row v place word w l rebuild (Rebuild root.row) 3 root.row.root root.published
     refl at in
     let read = word_of-ref_of root.row.root (InnerAt top.base) top.ref_is in
@@ -174,7 +161,7 @@ names_root v w rebuild target k place word told g h many at l =
             node = record {
               row = top.row;
               published = top.published;
-              degree_is = top.degree_is ∙ ap degree same;
+              degree_is = top.degree_is;
             };
           };
     }

@@ -1,6 +1,5 @@
 -- A half-built row, after each part. Serves `build`.
-use Rattle.std.proofs.Common.{◌≡◌, ◌≢◌, ℕ, zero, suc, ◌+◌, ◌-◌, ◌<◌, ◌≤◌, List, [], ◌∷◌, ◌++◌, length, drop, refl, sym, ap, ap₂, ◌∙◌, subst, append_assoc, arith}
-use Rattle.std.proofs.lemmas.List.{length-map}
+use Rattle.std.proofs.Common.{◌≡◌, ◌≢◌, ℕ, ◌+◌, ◌-◌, ◌<◌, ◌≤◌, List, [], ◌∷◌, ◌++◌, length, drop, sym, ap, ap₂, ◌∙◌, subst, append_assoc, arith}
 use Rattle.std.specs.List.{flat_map}
 use Rattle.ist_core.specs.Arithmetic.{degree, part_len}
 use Rattle.ist_core.specs.Elements.{Each}
@@ -20,15 +19,15 @@ use Rattle.ist_rows.specs.Rows.{spares_of, IsCaller, Reserved}
 use Rattle.ist_rows.specs.Building.{IsInBuild, HasTaken}
 use Rattle.ist_build.specs.Laying.{BuiltOn, ArePlaced, IsLaid}
 use Rattle.laws_calls.specs.Dividing.{lens_to, parts_to, share_of}
-use Rattle.laws_calls.proofs.PartLemmas.{parts_next, keys_next}
+use Rattle.laws_calls.proofs.PartLemmas.{parts_next}
 use Rattle.ist_build.specs.Midway.{words_at, AreLaid, lens_from, IsMidway, opening, setting}
 use Rattle.ist_build.proofs.BuiltLemmas.{built_more, built_next, built_held, built_grow, rewritten_built}
 use Rattle.ist_build.proofs.LayingLemmas.{row_within, rows_below, are_laid_on, same_rows}
 use Rattle.ist_build.proofs.JoinedSubtreeLemmas.{are_laid_more}
 use Rattle.ist_build.proofs.OwnWordLemmas.{words_at_same, words_at_more}
 use Rattle.ist_build.proofs.PartsLemmas.{sizes_next, sizes_left}
-use Rattle.ist_build.proofs.RowOpenedLemmas.{at_key, at_rewritten, at_slot, elsewhere, midway_first, opened_on, setting_is}
-use Rattle.ist_build.proofs.PartLeafLemmas.{part_placed, length-share_of, some_first}
+use Rattle.ist_build.proofs.RowOpenedLemmas.{at_rewritten, at_slot, elsewhere, midway_first, opened_on, setting_is}
+use Rattle.ist_build.proofs.PartLeafLemmas.{part_placed, keys_set}
 
 module _ (old who new : Caller) (leaves : List ℕ) (base d j key word : ℕ)
     (s : IsSound who.token.view) (m : IsMidway old leaves base d j who)
@@ -141,36 +140,11 @@ module _ (old who new : Caller) (leaves : List ℕ) (base d j key word : ℕ)
           base (words_at v.own (base + 3 + d) j ++ word ∷ [])
           (parts_to n j placed ++ share_of n j placed ∷ []) joined))
 
-      first_part : (leaf : PlacedLeaf) × (others : List PlacedLeaf)
-          × (share_of n j placed ≡ leaf ∷ others)
-      first_part =
-          let many = sym (length-map placed (λ (leaf : PlacedLeaf). leaf.base)) ∙ ap length a.bases_are in
-          let len = length-share_of n j placed many (let q : j < degree n = omega (arith, degree_is) in q) in
-          let one = some in
-          some_first (share_of n j placed) (omega arith)
-
       keys_more : words_at words (base + 4) (j + 1 - 1)
           ≡ first_keys (λ (leaf : PlacedLeaf). leaf.row.key) (drop 1 (parts_to n (j + 1) placed))
-      keys_more = at j refl
-        where
-          at : (i : ℕ) → i ≡ j → words_at words (base + 4) (i + 1 - 1)
-              ≡ first_keys (λ (leaf : PlacedLeaf). leaf.row.key) (drop 1 (parts_to n (i + 1) placed))
-          at zero e = refl
-          at (suc i) e =
-              let one : 1 ≤ j = omega arith in
-              let it = first_part in
-              let place : base + 4 + (j - 1) ≡ base + 3 + j = omega arith in
-              ap (words_at words (base + 4)) (let q : suc i + 1 - 1 ≡ j - 1 + 1 = omega arith in q)
-              ∙ words_at_more words (base + 4) (j - 1)
-              ∙ ap₂ (λ xs x. xs ++ x ∷ [])
-              (words_at_same words v.own (base + 4) (j - 1)
-              (λ p low high. stays p (omega arith) (λ f. omega arith) (λ g f. omega arith))
-              ∙ m.keys placed a)
-              (ap (own_at words) place ∙ at_key c base d j key word less one
-              ∙ key_is placed a it.0 it.1 it.2)
-              ∙ sym (keys_next n j placed it.0 it.1 one it.2)
-              ∙ ap (λ k. first_keys (λ (leaf : PlacedLeaf). leaf.row.key)
-              (drop 1 (parts_to n (k + 1) placed))) (sym e)
+      keys_more =
+          keys_set v.own c base d j key word less (now old.token.view) leaves placed a degree_is some
+          stays (m.keys placed a) (key_is placed a)
 
     due_more : (stuck done rest : List ℕ) → IsInBuild old stuck done (shape n ++ rest)
         → IsInBuild last stuck (done ++ inner_words d ∷ flat_map shape (lens_to n (j + 1)))

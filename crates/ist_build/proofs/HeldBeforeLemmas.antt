@@ -44,7 +44,7 @@ use Rattle.ist_rows.proofs.HeldBehindLemmas.{filter_swap}
 use Rattle.ist_build.proofs.BuiltLemmas.{built_now, built_lawful}
 use Rattle.ist_build.proofs.LaidOnLemmas.{next_between}
 use Rattle.ist_build.proofs.RisingListLemmas.{among_map, covers, keeps_all, keeps_none, of_map, one_rising}
-use Rattle.ist_build.proofs.HeldMoreLemmas.{Any, HoldsMore, cancel, holds_more, stored_rows}
+use Rattle.ist_build.proofs.HeldMoreLemmas.{AnyEvent, HoldsMore, cancel, holds_more, stored_rows}
 
 module _ (who : Caller) (c : IsCaller who) (s : IsSound who.token.view) (w : View)
     (b : BuiltOn who.token.view w) (sizes : List ℕ)
@@ -239,10 +239,10 @@ module _ (who : Caller) (c : IsCaller who) (s : IsSound who.token.view) (w : Vie
         ∙ ap (λ t. held_by t number) (sym (built_now v w b)))
         ∙ left
 
-    on : LaterBy v.who Any v.log (event ∷ before)
+    on : LaterBy v.who AnyEvent v.log (event ∷ before)
     on =
         one_more event (later_by_more (later_by_all (λ e i. tt) b.later)
-        (subst (λ k. LaterBy k Any w.log before) (ap (λ y. y.who) b.same) (later_by later))) (inr tt)
+        (subst (λ k. LaterBy k AnyEvent w.log before) (ap (λ y. y.who) b.same) (later_by later))) (inr tt)
 
     comes : ComesBehind (now v) (now x)
     comes =
@@ -250,7 +250,7 @@ module _ (who : Caller) (c : IsCaller who) (s : IsSound who.token.view) (w : Vie
         record {
           words = words_same v.start v.words lawful.opens (event ∷ before)
               ∙ sym (words_same v.start v.words lawful.opens v.log);
-          next = next_between v.start v.words v.who Any v.log (event ∷ before) lawful.enabled on;
+          next = next_between v.start v.words v.who AnyEvent v.log (event ∷ before) lawful.enabled on;
           grow = grow_between v.start v.words v.log (event ∷ before) lawful.enabled
               (later_by-goes_on on);
         }

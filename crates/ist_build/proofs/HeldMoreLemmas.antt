@@ -186,5 +186,5 @@ stored_rows w number s (row ∷ rows) (h ∷ fresh) e stored held all =
         (words_stored w.own row.base row.words stored.0)
 
 -- any event
-abbrev pub Any : Event → Type 0
-Any event = Unit {0}
+abbrev pub AnyEvent : Event → Type 0
+AnyEvent event = Unit {0}

@@ -1,11 +1,10 @@
 -- One more part of a row that is built only by stores. Serves `lay`.
-use Rattle.std.proofs.Common.{◌≡◌, ◌≢◌, ℕ, zero, suc, ◌+◌, ◌-◌, ◌<◌, ◌≤◌, List, [], ◌∷◌, ◌++◌, length, take, drop, slice_index_or, Some, refl, sym, ap, ap₂, ◌∙◌, subst, arith}
+use Rattle.std.proofs.Common.{◌≡◌, ◌≢◌, ℕ, ◌+◌, ◌-◌, ◌<◌, ◌≤◌, List, ◌∷◌, length, take, drop, slice_index_or, Some, refl, sym, ap, ◌∙◌, subst, arith}
 use Rattle.std.specs.List.{sum, flat_map}
-use Rattle.std.proofs.lemmas.List.{length-map, take-map, drop-map}
+use Rattle.std.proofs.lemmas.List.{take-map, drop-map}
 use Rattle.std.proofs.lemmas.List.Sums.{sum_by-append}
 use Rattle.ist_core.specs.Arithmetic.{degree, part_len, part_start}
 use Rattle.ist_core.specs.Leaves.{PlacedLeaf}
-use Rattle.ist_core.specs.Parts.{first_keys}
 use Rattle.ist_core.specs.Pieces.{Leaf}
 use Rattle.ist_core.specs.RowLayout.{inner_words, place_limit}
 use Rattle.ist_core.specs.Shapes.{shape}
@@ -16,15 +15,13 @@ use Rattle.ist_rule.specs.Rule.{IsSound, own_at}
 use Rattle.ist_rule.specs.Learning.{now}
 use Rattle.ist_rows.specs.declared.callers.Caller.{Caller}
 use Rattle.ist_rows.specs.Rows.{IsCaller}
-use Rattle.laws_calls.specs.Dividing.{lens_to, parts_to, share_of}
-use Rattle.laws_calls.proofs.PartLemmas.{keys_next}
+use Rattle.laws_calls.specs.Dividing.{lens_to, share_of}
 use Rattle.ist_rows.specs.Block.{HoldsBlock}
 use Rattle.ist_build.specs.Laying.{ArePlaced, HaveLeaves, AreKeysOf, IsWritten, IsLaidBelow}
-use Rattle.ist_build.specs.Midway.{words_at, lens_from, IsLaying, setting}
-use Rattle.ist_build.proofs.PartLeafLemmas.{each_take, each_drop, length-share_of, some_first}
-use Rattle.ist_build.proofs.OwnWordLemmas.{words_at_same, words_at_more}
+use Rattle.ist_build.specs.Midway.{lens_from, IsLaying, setting}
+use Rattle.ist_build.proofs.PartLeafLemmas.{each_take, each_drop, length-share_of, keys_set}
 use Rattle.ist_build.proofs.PartsLemmas.{sizes_next, sizes_left}
-use Rattle.ist_build.proofs.RowOpenedLemmas.{at_key, elsewhere, opened_on, setting_is}
+use Rattle.ist_build.proofs.RowOpenedLemmas.{elsewhere, opened_on, setting_is}
 use Rattle.ist_build.proofs.BlockLemmas.{holds_split, part_laid_too}
 use Rattle.ist_build.proofs.KeyLemmas.{keys_share, key_first}
 
@@ -169,39 +166,6 @@ module _ (old who : Caller) (leaves : List ℕ) (base d j next end key word : �
         ∙ sum_by-append (λ x. x) (flat_map shape (lens_to n j)) (shape (part_len n j)) in
         omega arith
 
-    keys_more : (placed : List PlacedLeaf) → ArePlaced (now old.token.view) leaves placed
-        → words_at words (base + 4) (j + 1 - 1)
-        ≡ first_keys (λ (leaf : PlacedLeaf). leaf.row.key) (drop 1 (parts_to n (j + 1) placed))
-    keys_more placed a = at j refl
-      where
-        first_part : (leaf : PlacedLeaf) × (others : List PlacedLeaf)
-            × (share_of n j placed ≡ leaf ∷ others)
-        first_part =
-            let many = sym (length-map placed (λ (leaf : PlacedLeaf). leaf.base)) ∙ ap length a.bases_are in
-            let len = length-share_of n j placed many (let q : j < degree n = omega (arith, d_is) in q) in
-            let one = some in
-            some_first (share_of n j placed) (omega arith)
-
-        at : (i : ℕ) → i ≡ j → words_at words (base + 4) (i + 1 - 1)
-            ≡ first_keys (λ (leaf : PlacedLeaf). leaf.row.key) (drop 1 (parts_to n (i + 1) placed))
-        at zero e = refl
-        at (suc i) e =
-            let one : 1 ≤ j = omega arith in
-            let it = first_part in
-            let inside = in_row in
-            let place : base + 4 + (j - 1) ≡ base + 3 + j = omega arith in
-            ap (words_at words (base + 4)) (let q : suc i + 1 - 1 ≡ j - 1 + 1 = omega arith in q)
-            ∙ words_at_more words (base + 4) (j - 1)
-            ∙ ap₂ (λ xs x. xs ++ x ∷ [])
-            (words_at_same words v.own (base + 4) (j - 1)
-            (λ p lo hi. stays p (omega arith) (λ f. omega arith) (λ g f. omega arith))
-            ∙ m.keys placed a)
-            (ap (own_at words) place ∙ at_key c base d j key word less one
-            ∙ key_is placed a it.0 it.1 it.2)
-            ∙ sym (keys_next n j placed it.0 it.1 one it.2)
-            ∙ ap (λ k. first_keys (λ (leaf : PlacedLeaf). leaf.row.key)
-            (drop 1 (parts_to n (k + 1) placed))) (sym e)
-
     -- when the part's word and key are stored, one part more of the row is built
     pub laying_set : IsCaller last → IsSound (record v { own = words })
         → IsLaying old leaves base d (j + 1) end last
@@ -234,7 +198,9 @@ module _ (old who : Caller) (leaves : List ℕ) (base d j next end key word : �
               (laid (share_of n j placed)
               (share_placed (now v) n j leaves placed
               (subst (λ t. ArePlaced t leaves placed) (sym same_now) a)));
-          keys = λ placed a. keys_more placed a;
+          keys = λ placed a.
+              keys_set v.own c base d j key word less (now old.token.view) leaves placed a d_is some
+              (λ p l. stays p (omega arith)) (m.keys placed a) (key_is placed a);
         }
 
 -- ---- in the form of the functions' clauses

@@ -37,7 +37,6 @@ pub mod RootReadyLemmas
 pub mod RootPutLemmas
 pub mod RootBuiltLemmas
 pub mod RootFewLemmas
-pub mod RootFormLemmas
 pub mod PartSlotLemmas
 pub mod PartPutLemmas
 pub mod FilledLemmas

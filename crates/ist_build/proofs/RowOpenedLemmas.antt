@@ -18,7 +18,8 @@ use Rattle.ist_rule.proofs.WentOnLemmas.{later_by}
 use Rattle.ist_rows.specs.declared.callers.Caller.{Caller}
 use Rattle.ist_rows.specs.Rows.{spares_of, IsCaller, Reserved, HoldsPlace}
 use Rattle.ist_rows.specs.Building.{IsInBuild, HasTaken}
-use Rattle.ist_rows.proofs.BuildingCallLemmas.{took, at_storing}
+use Rattle.ist_rows.proofs.BuildingCallLemmas.{at_storing}
+use Rattle.ist_rows.proofs.ReserveLemmas.{took}
 use Rattle.ist_build.specs.Laying.{IsReservation}
 use Rattle.laws_calls.specs.Dividing.{lens_to}
 use Rattle.ist_rule.proofs.StoreLemmas.{own_here, own_else}
@@ -37,7 +38,7 @@ holds_place who base d at held less = record { size = inner_words d; held = held
 -- ---- a fresh row
 
 -- where a row lies that was reserved: from the first free word on, and its words are 0
-pub record IsFreshRow (v : View) (number base size : ℕ) (w : View) : Type 0 where
+pub record LiesFresh (v : View) (number base size : ℕ) (w : View) : Type 0 where
   pub high : (now v).next ≤ base
   pub held : HoldsRow (now w) number base size
   -- the caller's own word at each place from the row's base on is 0
@@ -45,7 +46,7 @@ pub record IsFreshRow (v : View) (number base size : ℕ) (w : View) : Type 0 wh
 
 -- a reserved row is a fresh row
 pub fresh_row : (v : View) → IsSound v → (number base size : ℕ) (w : View)
-    → Reserved v number base size w → IsFreshRow v number base size w
+    → Reserved v number base size w → LiesFresh v number base size w
 fresh_row v s number base size w r =
     let it = took v number base size w r in
     let up = next_between v.start v.words v.who IsReservation v.log it.before it.lawful.enabled.0
@@ -87,7 +88,7 @@ module _ (old new : Caller) (leaves : List ℕ) (base : ℕ) (s : IsSound old.to
   abbrev who : Caller
   who = record new { token = record new.token { view = view } }
 
-  fresh : IsFreshRow old.token.view old.number base (inner_words d) new.token.view
+  fresh : LiesFresh old.token.view old.number base (inner_words d) new.token.view
   fresh = fresh_row old.token.view s old.number base (inner_words d) new.token.view r
 
   -- its first words are stored

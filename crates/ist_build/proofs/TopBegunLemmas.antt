@@ -28,7 +28,7 @@ use Rattle.ist_build.specs.Calls.{HasKeys}
 use Rattle.ist_build.specs.Laying.{BuiltOn, IsTarget}
 use Rattle.ist_build.specs.Midway.{words_at, IsOpened, IsTopMidway, opening}
 use Rattle.ist_build.proofs.BuiltLemmas.{built_more, built_held, built_grow, built_now, built_lawful, loads_built, reserved_built, rewritten_built}
-use Rattle.ist_build.proofs.RowOpenedLemmas.{IsFreshRow, fresh_row}
+use Rattle.ist_build.proofs.RowOpenedLemmas.{LiesFresh, fresh_row}
 
 -- ---- targets, after a build
 
@@ -105,7 +105,7 @@ module _ (old new : Caller) (target k d base : ℕ) (s : IsSound old.token.view)
   abbrev who : Caller
   who = record new { token = record new.token { view = view } }
 
-  fresh : IsFreshRow old.token.view old.number base (inner_words d) new.token.view
+  fresh : LiesFresh old.token.view old.number base (inner_words d) new.token.view
   fresh = fresh_row old.token.view s old.number base (inner_words d) new.token.view r
 
   opened : IsOpened view.own base d k

@@ -2,7 +2,7 @@
 -- `coming.rt` and `failing.rt`.
 use Rattle.std.proofs.Common.{◌≡◌, ◌≢◌, ◌↔◌, ℕ, IsTrue, Bool, List, Option, refl, subst}
 use Rattle.ist_core.specs.declared.events.Event.{Event}
-use Rattle.ist_core.specs.declared.events.Event.TheVariants.{Enter, Reserve, Install, Okay, Decide, Resolve, Count, Mark, Pass, Finish, Root, Draw, Place, Lose}
+use Rattle.ist_core.specs.declared.events.Event.TheVariants.{Enter, Reserve, Install, Okay, Decide, Resolve, Count, Mark, Pass, Finish}
 use Rattle.ist_core.specs.declared.lists.Row.{Row}
 use Rattle.ist_core.specs.declared.pairs.Pair.{Pair}
 use Rattle.ist_core.specs.StartLayout.{start}
@@ -50,7 +50,4 @@ of_build (Pass c n i w) enter reserve install okay decide resolve count mark pas
     absurd (pass c n i w refl)
 of_build (Finish c n k) enter reserve install okay decide resolve count mark pass finish =
     absurd (finish c n k refl)
-of_build (Root c b w rows) enter reserve install okay decide resolve count mark pass finish = tt
-of_build (Draw c b i) enter reserve install okay decide resolve count mark pass finish = tt
-of_build (Place c b i w rows) enter reserve install okay decide resolve count mark pass finish = tt
-of_build (Lose c bases) enter reserve install okay decide resolve count mark pass finish = tt
+of_build _ enter reserve install okay decide resolve count mark pass finish = tt

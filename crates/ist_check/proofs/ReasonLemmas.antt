@@ -2,7 +2,7 @@
 -- false. Serves `explaining.rt`.
 use Rattle.std.proofs.Common.{◌≡◌, ◌≢◌, ◌∙◌, ◌⊎◌, ◌+◌, ◌*◌, ℕ, Bool, true, false, List, Some, None, refl, sym, ap, ⊎_elim, arith}
 use Rattle.ist_core.specs.declared.events.Event.{Event}
-use Rattle.ist_core.specs.declared.events.Event.TheVariants.{Enter, Reserve, Install, Okay, Decide, Resolve, Count, Mark, Pass, Finish, Root, Draw, Place, Lose}
+use Rattle.ist_core.specs.declared.events.Event.TheVariants.{Enter, Install, Count, Pass, Root, Draw, Place, Lose}
 use Rattle.ist_core.specs.declared.pairs.Pair.{Pair}
 use Rattle.ist_core.specs.declared.states.InnerRow.{InnerRow}
 use Rattle.ist_core.specs.Enabled.{Enabled}
@@ -31,19 +31,14 @@ use Rattle.ist_check.specs.Verdicts.{IsCovered}
 pub all_hold : (first : Snapshot) (log : Log) (event : Event) → TellsCondition (says_of first log event) None
     → Enabled first log event
 all_hold first log (Enter caller) t = t.1.0
-all_hold first log (Reserve caller base size) t = t.1.1.1.0
 all_hold first log (Install caller change rows) t = t.1.1.1.1.1.1.1.1.0
-all_hold first log (Okay caller change) t = t.1.1.1.0
-all_hold first log (Decide caller change said) t = t.1.1.1.0
-all_hold first log (Resolve caller change) t = t.1.1.1.0
 all_hold first log (Count caller node) t = t.1.1.0
-all_hold first log (Mark caller node) t = t.1.1.1.0
 all_hold first log (Pass caller node i word) t = t.1.1.1.1.1.0
-all_hold first log (Finish caller node keys) t = t.1.1.1.0
 all_hold first log (Root caller rebuild word rows) t = t.1.1.1.1.1.1.0
 all_hold first log (Draw caller rebuild part) t = t.1.1.1.1.1.1.0
 all_hold first log (Place caller rebuild part word rows) t = t.1.1.1.1.1.0
 all_hold first log (Lose caller bases) t = t.1.0
+all_hold first log _ t = t.1.1.1.0
 
 -- ---- conditions that those before them cover
 

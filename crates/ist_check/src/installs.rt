@@ -17,9 +17,11 @@ ghost use Rattle.ist_check.specs.Conditions.{install_says};
 use crate::conditions::Condition;
 use crate::single::is_known;
 use crate::tested::{first_failing, test_of};
-use check_events::{Past, Replica, can_install, change_of_words, holds_rows, pair_key, slot_holds};
+use check_events::{
+    Past, Replica, can_install, change_of_words, holds_rows, pair_key, slot_holds, was_linked,
+};
 use ist_core::{ChangeRow, Row};
-use ist_layout::{ANCHOR, UNDECIDED};
+use ist_layout::UNDECIDED;
 
 /// Returns the first condition of an Install that fails, or `None`.
 pub(crate) fn install_fails(
@@ -114,17 +116,6 @@ fn is_linked(past: &Past, change: Option<ChangeRow>) -> bool
         None => false,
         Some(row) => was_linked(past, row.node),
     }
-}
-
-/// Returns whether the node is linked or was.
-fn was_linked(past: &Past, node: u64) -> bool
-    ensures exact { (first : Snapshot) (log : Log) → KnowsSlots past.now.slots first log
-        → (IsTrue result ↔ WasLinked first log node) }
-{
-    if node == u64::from(ANCHOR) {
-        return true;
-    }
-    past.slots.contains_key(&node)
 }
 
 /// Returns whether no change of the caller on the node was decided no.

@@ -1,20 +1,23 @@
 -- Events that publish rows: the rows before the event stay, and the other rows are new. Serves each
 -- law about rows.
-use Rattle.std.proofs.Common.{◌≡◌, ℕ, ◌⊎◌, List, ◌∷◌, length, Option, Some, None, ◌∙◌, subst, inl, inr, ⊎_elim}
+use Rattle.std.proofs.Common.{◌≡◌, ℕ, ◌⊎◌, List, ◌∷◌, length, Option, Some, None, true, false, if◌then◌else◌, nat_lt, ◌∙◌, refl, sym, subst, inl, inr, ⊎_elim}
 use Rattle.ist_core.specs.declared.lists.Row.{Row}
 use Rattle.ist_core.specs.declared.states.ChangeRow.{ChangeRow}
 use Rattle.ist_core.specs.Elements.{Among}
-use Rattle.ist_core.specs.Pieces.{Pieces, Piece, Change, row_at, with_inners}
+use Rattle.ist_core.specs.declared.states.LeafRow.{LeafRow}
+use Rattle.ist_core.specs.declared.states.RebuildRow.{RebuildRow}
+use Rattle.ist_core.specs.References.{unset_word}
+use Rattle.ist_core.specs.Pieces.{Pieces, Piece, Leaf, Change, Rebuild, row_at, with_inners}
 use Rattle.ist_core.specs.Snapshots.{Snapshot, bases_of, HoldsRow, HoldsRows}
 use Rattle.ist_core.specs.Logs.{Log, state}
 use Rattle.ist_core.specs.After.{with_fresh}
-use Rattle.ist_core.specs.Installing.{FitsKind}
+use Rattle.ist_core.specs.Installing.{FitsKind, pair_row, pair_over, a_put, a_pair, a_remove, a_start, a_finish}
 use Rattle.ist_core.proofs.ElementLemmas.{each-among}
 use Rattle.ist_core.proofs.RowLemmas.{with_row-some, with_inners-some, with_inners-other}
 use Rattle.ist_core.proofs.PublishingLemmas.{base_among, row_among}
 use Rattle.ist_core.proofs.InstallLemmas.{with_installed, publishes_install}
 use Rattle.ist_core.proofs.MoveLemmas.{HeldLieApart}
-use Rattle.ist_core.proofs.FreshLemmas.{IsFresh, fresh_from}
+use Rattle.ist_core.proofs.FreshLemmas.{IsPublishedWith, fresh_from}
 
 -- the second rows are the first, and some that are new
 pub record Adds (ps qs : Pieces) (Born : ℕ → Piece → Type 0) : Type 0 where
@@ -56,11 +59,37 @@ adds-with_inners t caller rows holds sound =
     }
 
 -- the row is the change's, or one that is published together with it
-abbrev pub IsInstalled : (first : Snapshot) (log : Log) (at : ℕ) (change : ChangeRow)
+abbrev pub IsInstalledWith : (first : Snapshot) (log : Log) (at : ℕ) (change : ChangeRow)
     (fresh : List Row)
     → FitsKind first log change fresh → ℕ → Piece → Type 0
-IsInstalled first log at change fresh fits base p = ((base ≡ at) × (p ≡ Change change)) ⊎ IsFresh
+IsInstalledWith first log at change fresh fits base p = ((base ≡ at) × (p ≡ Change change)) ⊎ IsPublishedWith
     first log change fresh fits base p
+
+-- what leaves, changes, pair rows and new rebuilds have, each row that an Install publishes has
+module _ (P : Piece → Type 0) (leaf : (r : LeafRow) → P (Leaf r))
+    (one_change : (r : ChangeRow) → P (Change r))
+    (pair : (key left right : ℕ) → P (pair_over key left right))
+    (rebuild : (r : RebuildRow) → r.root ≡ unset_word → r.draw ≡ 0 → P (Rebuild r)) where
+  pair_has : (key base other_key other : ℕ) → P (pair_row key base other_key other)
+  pair_has key base other_key other =
+      elim (nat_lt other_key key) as
+      (λ v. P (if v then pair_over key other base else pair_over other_key base other))
+      [ true ↦ pair key other base | false ↦ pair other_key base other ]
+
+  -- a row that an Install publishes
+  pub installed_has : (first : Snapshot) (log : Log) (at : ℕ) (change : ChangeRow)
+      (fresh : List Row) (fits : FitsKind first log change fresh) (base : ℕ) (p : Piece)
+      → IsInstalledWith first log at change fresh fits base p → P p
+  installed_has first log at change fresh fits base p (inl h) = subst P (sym h.1) (one_change change)
+  installed_has first log at change fresh (a_put f) base p (inr h) = subst P (sym h.1) (leaf _)
+  installed_has first log at change fresh (a_pair f) base p (inr (inl h)) =
+      subst P (sym h.1) (pair_has change.key f.leaf f.other_key f.other)
+  installed_has first log at change fresh (a_pair f) base p (inr (inr h)) =
+      subst P (sym h.1) (leaf _)
+  installed_has first log at change fresh (a_remove f) base p (inr h) = absurd h
+  installed_has first log at change fresh (a_start f) base p (inr h) =
+      subst P (sym h.1) (rebuild _ refl refl)
+  installed_has first log at change fresh (a_finish f) base p (inr h) = absurd h
 
 -- the rows of an Install
 pub adds_install : (first : Snapshot) (log : Log) (caller at : ℕ) (change : ChangeRow)
@@ -68,7 +97,7 @@ pub adds_install : (first : Snapshot) (log : Log) (caller at : ℕ) (change : Ch
     → HoldsRows (state first log) caller (row_at at (Change change) ∷ fresh)
     → HeldLieApart (state first log)
     → Adds (state first log).pieces (with_installed (state first log).pieces at change fresh)
-    (IsInstalled first log at change fresh fits)
+    (IsInstalledWith first log at change fresh fits)
 adds_install first log caller at change fresh fits holds sound =
     let t = state first log in
     record {

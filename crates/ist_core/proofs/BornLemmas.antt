@@ -3,7 +3,7 @@
 use Rattle.std.proofs.Common.{◌≡◌, ℕ, ◌⊎◌, List, ◌∷◌, Option, Some, refl, sym, ap, subst, inl, inr, ⊎_elim}
 use Rattle.ist_core.specs.declared.lists.Row.{Row}
 use Rattle.ist_core.specs.declared.events.Event.{Event}
-use Rattle.ist_core.specs.declared.events.Event.TheVariants.{Enter, Reserve, Install, Okay, Decide, Resolve, Count, Mark, Pass, Finish, Root, Draw, Place, Lose}
+use Rattle.ist_core.specs.declared.events.Event.TheVariants.{Install, Decide, Resolve, Count, Mark, Finish, Root, Draw, Place}
 use Rattle.ist_core.specs.References.{ChangeAt, word_of}
 use Rattle.ist_core.specs.Statuses.{marked_word, finished_word}
 use Rattle.ist_core.specs.Elements.{Among}
@@ -17,14 +17,14 @@ use Rattle.ist_core.specs.Growing.{Grows, AllGrow}
 use Rattle.ist_core.proofs.RowLemmas.{changed_at-some}
 use Rattle.ist_core.proofs.MoveLemmas.{HeldLieApart}
 use Rattle.ist_core.proofs.InstallLemmas.{with_installed}
-use Rattle.ist_core.proofs.AddingLemmas.{IsInstalled, adds_install, adds-with_inners}
+use Rattle.ist_core.proofs.AddingLemmas.{IsInstalledWith, adds_install, adds-with_inners}
 use Rattle.ist_core.proofs.GrowingLemmas.{grows_same, grows-with_slot, grows-with_root, all_grow-changed_at}
 use Rattle.ist_core.proofs.StepLemmas.{grow_step, rows_resolved, rows_placed, holds_installed, known}
 
 -- the row is published by the event
 pub data Born (first : Snapshot) (log : Log) (base : ℕ) (p : Piece) : Event → Type 0 where
   by_install : {caller change : ℕ} {rows : List Row} (h : CanInstall first log caller change rows)
-      → IsInstalled first log change h.change h.fresh h.fits base p
+      → IsInstalledWith first log change h.change h.fresh h.fits base p
       → Born first log base p (Install caller change rows)
   by_root : {caller rebuild word : ℕ} {rows : List Row} → Among base (bases_of rows)
       → with_inners (state first log).pieces rows base ≡ Some p
@@ -143,12 +143,4 @@ comes first log (Finish caller node keys) h s base q e = changed_comes first log
 comes first log (Draw caller rebuild part) h s base q e = changed_comes first log
     (Draw caller rebuild part) rebuild drawn (grow_step first log (Draw caller rebuild part) h s)
     refl base q e
-comes first log (Enter caller) h s base q e = same_comes first log (Enter caller) refl base q e
-comes first log (Reserve caller b size) h s base q e = same_comes first log (Reserve caller b size)
-    refl base q e
-comes first log (Okay caller change) h s base q e = same_comes first log (Okay caller change) refl
-    base q e
-comes first log (Pass caller node i word) h s base q e = same_comes first log
-    (Pass caller node i word) refl base q e
-comes first log (Lose caller bases) h s base q e = same_comes first log (Lose caller bases) refl
-    base q e
+comes first log event h s base q e = same_comes first log event refl base q e

@@ -1,6 +1,6 @@
 -- Callers are only added, and only by Enters. Serves each law about known callers.
 use Rattle.std.proofs.Common.{List, None, Option, Some, [], arith, inl, inr, refl, ℕ, ⊎_elim, ◌+◌, ◌<◌, ◌∷◌, ◌≡◌, ◌⊎◌}
-use Rattle.ist_core.specs.declared.events.Event.TheVariants.{Count, Decide, Draw, Enter, Finish, Install, Lose, Mark, Okay, Pass, Place, Reserve, Resolve, Root}
+use Rattle.ist_core.specs.declared.events.Event.TheVariants.{Enter, Install, Resolve}
 use Rattle.ist_core.specs.declared.events.Event.{Event}
 use Rattle.ist_core.specs.declared.events.Who.TheVariants.{Maker}
 use Rattle.ist_core.specs.declared.lists.Row.{Row}
@@ -39,17 +39,7 @@ callers_step first log (Install caller base rows) =
     inr (callers-installed (state first log) base rows)
 callers_step first log (Resolve caller base) =
     inr (callers-resolved (state first log) (as_change ((state first log).pieces base)))
-callers_step first log (Reserve caller base size) = inr refl
-callers_step first log (Okay caller base) = inr refl
-callers_step first log (Decide caller base said) = inr refl
-callers_step first log (Count caller node) = inr refl
-callers_step first log (Mark caller node) = inr refl
-callers_step first log (Pass caller node i word) = inr refl
-callers_step first log (Finish caller node keys) = inr refl
-callers_step first log (Root caller rebuild word rows) = inr refl
-callers_step first log (Draw caller rebuild part) = inr refl
-callers_step first log (Place caller rebuild i word rows) = inr refl
-callers_step first log (Lose caller bases) = inr refl
+callers_step first log _ = inr refl
 
 -- a known caller stays known over an event
 pub known_step : (first : Snapshot) (log : Log) (event : Event) (caller : ℕ)

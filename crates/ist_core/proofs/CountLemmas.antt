@@ -102,7 +102,6 @@ module _ (pairs : List Pair) (words : ℕ) (node : ℕ) where
   waiting_on log (Decide c base true) caller none i =
       among_right caller (owner_of ((state_of pairs words log).pieces base))
       (waiting (start pairs words) node log) i
-  waiting_on log (Decide c base false) caller none i = i
   waiting_on log (Count c at) caller none i = here (at == node) (eqb_tells at node)
     where
       here : (v : Bool)
@@ -117,18 +116,7 @@ module _ (pairs : List Pair) (words : ℕ) (node : ℕ) where
       here v (inr k) =
           subst (λ b. Among caller (if b then drop_all c (waiting (start pairs words) node log) else
           waiting (start pairs words) node log)) (sym k.0) i
-  waiting_on log (Enter c) caller none i = i
-  waiting_on log (Reserve c base size) caller none i = i
-  waiting_on log (Install c change rows) caller none i = i
-  waiting_on log (Okay c change) caller none i = i
-  waiting_on log (Resolve c change) caller none i = i
-  waiting_on log (Mark c at) caller none i = i
-  waiting_on log (Pass c at j word) caller none i = i
-  waiting_on log (Finish c at keys) caller none i = i
-  waiting_on log (Root c rebuild word rows) caller none i = i
-  waiting_on log (Draw c rebuild part) caller none i = i
-  waiting_on log (Place c rebuild j word rows) caller none i = i
-  waiting_on log (Lose c bases) caller none i = i
+  waiting_on log _ caller none i = i
 
   -- a caller whose last change wasn't counted here is waiting
   waits : (later : Log) (by base : ℕ) (earlier : Log) (caller : ℕ)

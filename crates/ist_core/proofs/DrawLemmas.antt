@@ -29,15 +29,15 @@ use Rattle.ist_core.proofs.DrawnLemmas.{past, drawn_at_most}
 -- ---- callers
 
 -- callers are only added, and no more than the limit
-record CallersGoOn (t u : Snapshot) : Type 0 where
+record CallersOnlyGrow (t u : Snapshot) : Type 0 where
   more : t.callers ≤ u.callers
   few : t.callers ≤ caller_limit → u.callers ≤ caller_limit
 
-callers_same : (t u : Snapshot) → u.callers ≡ t.callers → CallersGoOn t u
+callers_same : (t u : Snapshot) → u.callers ≡ t.callers → CallersOnlyGrow t u
 callers_same t u e = record { more = omega arith; few = λ h. subst (λ n. n ≤ caller_limit) (sym e) h }
 
 callers_go_on : (first : Snapshot) (log : Log) (event : Event) → Enabled first log event
-    → CallersGoOn (state first log) (state first (event ∷ log))
+    → CallersOnlyGrow (state first log) (state first (event ∷ log))
 callers_go_on first log (Enter caller) h = let is = h.number in let low = h.below_limit in record
     { more = omega arith; few = λ k. below (state first log).callers caller is low }
   where
@@ -50,17 +50,7 @@ callers_go_on first log (Install caller base rows) h = callers_same _ _
     (callers-installed (state first log) base rows)
 callers_go_on first log (Resolve caller base) h = callers_same _ _
     (callers-resolved (state first log) (as_change ((state first log).pieces base)))
-callers_go_on first log (Reserve caller base size) h = callers_same _ _ refl
-callers_go_on first log (Okay caller base) h = callers_same _ _ refl
-callers_go_on first log (Decide caller base said) h = callers_same _ _ refl
-callers_go_on first log (Count caller node) h = callers_same _ _ refl
-callers_go_on first log (Mark caller node) h = callers_same _ _ refl
-callers_go_on first log (Pass caller node i word) h = callers_same _ _ refl
-callers_go_on first log (Finish caller node keys) h = callers_same _ _ refl
-callers_go_on first log (Root caller rebuild word rows) h = callers_same _ _ refl
-callers_go_on first log (Draw caller rebuild part) h = callers_same _ _ refl
-callers_go_on first log (Place caller rebuild i word rows) h = callers_same _ _ refl
-callers_go_on first log (Lose caller bases) h = callers_same _ _ refl
+callers_go_on first log _ h = callers_same _ _ refl
 
 -- there are at most as many callers as the limit
 pub callers_low : (pairs : List Pair) (words : ℕ) (log : Log) → EachEnabled (start pairs words) log

@@ -14,15 +14,16 @@ use Rattle.ist_core.specs.After.{after, decision_word, side_of, resolved, placed
 use Rattle.ist_core.specs.Logs.{Log, state}
 use Rattle.ist_core.specs.Leaves.{PlacedLeaf}
 use Rattle.ist_core.specs.Installing.{CanInstall}
-use Rattle.ist_core.specs.Building.{CanRoot, CanPlace, IsRoot, root_whole, root_top}
+use Rattle.ist_core.specs.Building.{CanRoot, CanPlace, IsRoot}
 use Rattle.ist_core.specs.Enabled.{Enabled, CanReserve}
 use Rattle.ist_core.specs.Spending.{reserved_by}
 use Rattle.ist_core.proofs.ElementLemmas.{each-append}
 use Rattle.ist_core.proofs.SizeLemmas.{size_of-with_slot, size_of-with_status, size_of-with_decision, size_of-with_root, size_of-counted, size_of-drawn, fair_positive}
-use Rattle.ist_core.proofs.PublishingLemmas.{Stands, publishes-with_inners, ideal_stands}
+use Rattle.ist_core.proofs.PublishingLemmas.{LiesAt, publishes-with_inners, ideal_stands}
 use Rattle.ist_core.proofs.InstallLemmas.{with_installed, publishes_install}
 use Rattle.ist_core.proofs.MoveLemmas.{HeldLieApart, Moves, moves_same, moves_changed, moves_lost}
 use Rattle.ist_core.proofs.PublishMoveLemmas.{moves_published}
+use Rattle.ist_core.proofs.TopRowLemmas.{root_rows}
 
 -- a reserved row has a word
 pub reserve_positive : (t : Snapshot) (caller base size : ℕ) → CanReserve t caller base size
@@ -60,11 +61,9 @@ moves_resolved t event (Some change) =
 
 -- the rows of a root are published
 root_stands : (ps : Pieces) (word k : ℕ) (leaves : List PlacedLeaf) (target : ℕ) (rows : List ℕ)
-    → IsRoot ps word k leaves target rows → Each (λ base. Stands ps base) rows
-root_stands ps word k leaves target rows (root_whole ref few is ideal) = ideal_stands ps ref leaves
-    target rows ideal
-root_stands ps word k leaves target rows (root_top base row many is top unset one) = subst
-    (λ bases. Each (λ b. Stands ps b) bases) (sym one) ((Inner row, top.published), tt)
+    → IsRoot ps word k leaves target rows → Each (λ base. LiesAt ps base) rows
+root_stands ps =
+    root_rows ps (λ base. LiesAt ps base) (λ base r leaves above top. (Inner r, top.published))
 
 moves_root : (t : Snapshot) (caller rebuild word : ℕ) (rows : List Row)
     → CanRoot t caller rebuild word rows → HeldLieApart t

@@ -4,7 +4,7 @@ use Rattle.std.proofs.Common.{◌≡◌, ◌≢◌, ℕ, ◌<◌, List, [], ◌�
 use Rattle.ist_core.specs.declared.pairs.Pair.{Pair}
 use Rattle.ist_core.specs.declared.lists.HeldRow.{HeldRow}
 use Rattle.ist_core.specs.declared.events.Event.{Event}
-use Rattle.ist_core.specs.declared.events.Event.TheVariants.{Enter, Reserve, Install, Okay, Decide, Resolve, Count, Mark, Pass, Finish, Root, Draw, Place, Lose}
+use Rattle.ist_core.specs.declared.events.Event.TheVariants.{Reserve, Lose}
 use Rattle.ist_core.specs.Elements.{Among}
 use Rattle.ist_core.specs.Snapshots.{Snapshot, HoldsRow}
 use Rattle.ist_core.specs.StartLayout.{start}
@@ -23,7 +23,7 @@ use Rattle.ist_core.proofs.StepLemmas.{grow_step}
 use Rattle.ist_core.proofs.PlaceLemmas.{absent, no_piece}
 
 -- no row lies at the base, none is held there, and none will be reserved there
-record IsGone (t : Snapshot) (base : ℕ) : Type 0 where
+record IsGoneForGood (t : Snapshot) (base : ℕ) : Type 0 where
   unpublished : t.pieces base ≡ None
   unheld : (h : HeldRow) → Among h t.held → h.base ≢ base
   used : base < t.next
@@ -50,7 +50,7 @@ lost_held t log caller base bases h i = ⊎_elim pair build h.cause
 
 -- a row that is lost now is gone
 gone_now : (first : Snapshot) (log : Log) (event : Event) (base : ℕ) → Enabled first log event
-    → HeldLieApart (state first log) → Loses base event → IsGone (state first (event ∷ log)) base
+    → HeldLieApart (state first log) → Loses base event → IsGoneForGood (state first (event ∷ log)) base
 gone_now first log (Lose caller bases) base h s l =
     let it = lost_held (state first log) log caller base bases h l in
     let row : HeldRow = record { caller = caller; base = base; size = it.0 } in
@@ -60,23 +60,11 @@ gone_now first log (Lose caller bases) base h s l =
           (subst (λ b. Among b bases) (sym e) l);
       used = s.held_below row it.1;
     }
-gone_now first log (Enter c) base h s l = absurd l
-gone_now first log (Reserve c b z) base h s l = absurd l
-gone_now first log (Install c change rows) base h s l = absurd l
-gone_now first log (Okay c change) base h s l = absurd l
-gone_now first log (Decide c change said) base h s l = absurd l
-gone_now first log (Resolve c change) base h s l = absurd l
-gone_now first log (Count c node) base h s l = absurd l
-gone_now first log (Mark c node) base h s l = absurd l
-gone_now first log (Pass c node i word) base h s l = absurd l
-gone_now first log (Finish c node keys) base h s l = absurd l
-gone_now first log (Root c rebuild word rows) base h s l = absurd l
-gone_now first log (Draw c rebuild part) base h s l = absurd l
-gone_now first log (Place c rebuild i word rows) base h s l = absurd l
+gone_now first log _ base h s l = absurd l
 
 -- what is gone stays gone
-gone_moves : (t u : Snapshot) (event : Event) (base : ℕ) → Moves t u event → IsGone t base
-    → IsGone u base
+gone_moves : (t u : Snapshot) (event : Event) (base : ℕ) → Moves t u event → IsGoneForGood t base
+    → IsGoneForGood u base
 gone_moves t u event base m g =
     record {
       unpublished = absent (u.pieces base) (λ p e.
@@ -88,8 +76,8 @@ gone_moves t u event base m g =
 
 gone_reserve : (first : Snapshot) (log : Log) (event : Event) (r : IsReserve first log event)
     (base : ℕ)
-    → IsGone (state first log) base
-    → IsGone (after (state first log) (Reserve r.caller r.base r.size)) base
+    → IsGoneForGood (state first log) base
+    → IsGoneForGood (after (state first log) (Reserve r.caller r.base r.size)) base
 gone_reserve first log event r base g =
     let is = r.can.base_is in
     let low = g.used in
@@ -106,7 +94,7 @@ gone_reserve first log event r base g =
     }
 
 gone : (first : Snapshot) (log : Log) (base : ℕ) → HeldLieApart first → EachEnabled first log
-    → Happened (Loses base) log → IsGone (state first log) base
+    → Happened (Loses base) log → IsGoneForGood (state first log) base
 gone first [] base s h l = absurd l
 gone first (event ∷ log) base s h (inl now) = gone_now first log event base h.1
     (sound first log s h.0) now
@@ -114,7 +102,7 @@ gone first (event ∷ log) base s h (inr before) =
     let g = gone first log base s h.0 before in
     ⊎_elim
     (λ m. gone_moves (state first log) (state first (event ∷ log)) event base m g)
-    (λ r. subst (λ e. IsGone (after (state first log) e) base) (sym r.is)
+    (λ r. subst (λ e. IsGoneForGood (after (state first log) e) base) (sym r.is)
     (gone_reserve first log event r base g))
     (moves_or_reserves first log event h.1 (sound first log s h.0))
 

@@ -23,12 +23,12 @@ use Rattle.ist_core.specs.ExampleLogs.{start_pairs, rebuild_started, rebuild_roo
 use Rattle.ist_core.proofs.PieceLemmas.{among-pieces_of}
 use Rattle.ist_core.proofs.StartExampleLemmas.{two, start_is_lawful}
 use Rattle.ist_core.proofs.RebuildExampleLemmas.{the_start, the_finish, the_rebuild, the_row, low, high, both, rooted_log}
-use Rattle.ist_core.proofs.RefusalLemmas.{NotRefused, NoneRefused, none_refused-with_row, none_refused-changed_at, slot_keeps, status_keeps, yes_keeps, root_keeps}
+use Rattle.ist_core.proofs.RefusalLemmas.{NotRefused, NoneDecidedNo, none_refused-with_row, none_refused-changed_at, slot_keeps, status_keeps, yes_keeps, root_keeps}
 
 -- ---- no change was refused up to the start of the rebuild
 
 -- no change was decided no in the new table
-pub at_opening : NoneRefused two.pieces
+pub at_opening : NoneDecidedNo two.pieces
 unfolding NotRefused rows_within degree square_root root_up_to part_len part_lens ideal_words
     ideal_words_within
 at_opening base p e = by_row (among-pieces_of (rows_from first_row start_pairs) base p e)
@@ -40,7 +40,7 @@ at_opening base p e = by_row (among-pieces_of (rows_from first_row start_pairs) 
     by_row (inr (inr (inr e))) = absurd e
 
 -- no change was decided no when the rebuild is started
-pub none_refused_started : NoneRefused (state two rebuild_started).pieces
+pub none_refused_started : NoneDecidedNo (state two rebuild_started).pieces
 unfolding NotRefused
 none_refused_started =
     let installed = none_refused-with_row _ 20 (Change (the_start 0)) (λ e. omega arith)
@@ -54,7 +54,7 @@ none_refused_started =
 abbrev finish_held : Log
 finish_held = Reserve 0 36 9 ∷ rebuild_rooted
 
-none_refused : NoneRefused (state two finish_held).pieces
+none_refused : NoneDecidedNo (state two finish_held).pieces
 unfolding NotRefused
 none_refused =
     let marked = none_refused-changed_at _ 4 (with_status 1) (status_keeps 1) none_refused_started

@@ -1,17 +1,16 @@
 -- Each slot of a finished row was passed, and what it reads as stays. Serves the order law and each
 -- law on finished rows.
-use Rattle.std.proofs.Common.{◌≡◌, ◌≢◌, ℕ, zero, suc, ◌+◌, ◌⊎◌, List, [], ◌∷◌, length, slice_get, Option, Some, refl, sym, ap, ◌∙◌, subst, inl, inr, ⊎_elim, arith}
+use Rattle.std.proofs.Common.{◌≡◌, ◌≢◌, ℕ, zero, suc, ◌+◌, ◌⊎◌, List, [], ◌∷◌, length, slice_get, Option, Some, sym, ap, ◌∙◌, subst, inl, inr, ⊎_elim, arith}
 use Rattle.ist_core.specs.declared.pairs.Pair.{Pair}
 use Rattle.ist_core.specs.declared.states.InnerRow.{InnerRow}
 use Rattle.ist_core.specs.declared.events.Event.{Event}
-use Rattle.ist_core.specs.declared.events.Event.TheVariants.{Enter, Reserve, Install, Okay, Decide, Resolve, Count, Mark, Pass, Finish, Root, Draw, Place, Lose}
+use Rattle.ist_core.specs.declared.events.Event.TheVariants.{Count, Mark, Finish, Root, Draw}
 use Rattle.ist_core.specs.RowLayout.{first_row}
 use Rattle.ist_core.specs.References.{Ref, ref_of}
 use Rattle.ist_core.specs.Statuses.{marked_word, finished_word}
-use Rattle.ist_core.specs.Elements.{Each}
-use Rattle.ist_core.specs.Pieces.{Piece, Leaf, Inner, Change, Rebuild, with_inners, changed_at, with_status, with_root}
+use Rattle.ist_core.specs.Pieces.{Piece, Leaf, Inner, Change, Rebuild, changed_at, with_status}
 use Rattle.ist_core.specs.Snapshots.{Snapshot}
-use Rattle.ist_core.specs.StartLayout.{start, placed_parts, rows_within, rows_from}
+use Rattle.ist_core.specs.StartLayout.{start, rows_from}
 use Rattle.ist_core.specs.Logs.{Log, state, Happened, Passes}
 use Rattle.ist_core.specs.Rebuilding.{IsFinishedWith}
 use Rattle.ist_core.specs.Marking.{CountsFor, no_key, one_key, of_child, of_target, ArePassed, past_end, one_passed, CanFinish}
@@ -27,22 +26,26 @@ use Rattle.ist_core.proofs.StartLemmas.{sound_start}
 use Rattle.ist_core.proofs.GrowingLemmas.{inner_there, rebuild_there, get_alike}
 use Rattle.ist_core.proofs.StepLemmas.{grow_step}
 use Rattle.ist_core.proofs.SlotLemmas.{same_inner}
-use Rattle.ist_core.proofs.ShapedLemmas.{each-flat_map}
-use Rattle.ist_core.proofs.FieldLemmas.{Has, has_changed, has_rooted, has_step}
-use Rattle.ist_core.proofs.StatusFieldLemmas.{status_in, root_same, status_rare, finished_has, has_finished}
+use Rattle.ist_core.proofs.FieldLemmas.{Has, LeavesField, has_step}
+use Rattle.ist_core.proofs.StatusFieldLemmas.{status_in, root_same, count_same, draw_same, status_rare, start_untouched, finished_has, has_finished}
 use Rattle.ist_core.proofs.DrawLemmas.{finished_grows}
 
 -- ---- which event finishes a row
 
 -- the node may be finished
-abbrev pub MayFinish : Snapshot → Log → ℕ → Type 0
-MayFinish t log node = (caller : ℕ) × (keys : ℕ) × CanFinish t log caller node keys
+abbrev pub MayBeFinished : Snapshot → Log → ℕ → Type 0
+MayBeFinished t log node = (caller : ℕ) × (keys : ℕ) × CanFinish t log caller node keys
+
+-- the row was finished with k keys, or the event finishes it
+abbrev FinishedBy : Snapshot → ℕ → ℕ → Event → Type 0
+FinishedBy t node k event =
+    IsFinishedWith t node k ⊎ ((caller : ℕ) × (event ≡ Finish caller node k))
 
 -- a row that is finished after an event was finished before, or the event finishes it
-finished_was : (first : Snapshot) (log : Log) (event : Event) → Enabled first log event
+pub finished_by : (first : Snapshot) (log : Log) (event : Event) → Enabled first log event
     → HeldLieApart (state first log) → (node k : ℕ) → IsFinishedWith (state first (event ∷ log)) node k
-    → IsFinishedWith (state first log) node k ⊎ MayFinish (state first log) log node
-finished_was first log event h s node k f = at event h
+    → IsFinishedWith (state first log) node k ⊎ ((caller : ℕ) × (event ≡ Finish caller node k))
+finished_by first log event h s node k f = at event h
     (finished_has (state first (event ∷ log)) node k f)
   where
     t : Snapshot
@@ -51,64 +54,53 @@ finished_was first log event h s node k f = at event h
     some : finished_word k ≢ 0
     some e = omega arith
 
-    plain : (event : Event) → Has status_in 0 status_rare t.pieces node (finished_word k)
-        → IsFinishedWith t node k ⊎ MayFinish t log node
-    plain event has = inl (has_finished t node k has)
+    -- what leaves the status of rows finishes none
+    plain : (event : Event) → Enabled first log event → LeavesField status_in event
+        → Has status_in 0 status_rare (state first (event ∷ log)).pieces node (finished_word k)
+        → FinishedBy t node k event
+    plain event h same has = inl (has_finished t node k
+        (has_step status_in 0 status_rare first log event h s same node (finished_word k) some has))
+
+    -- a status that was written belongs to an inner row
+    word_is : (word : ℕ) (p : Piece) → status_in (with_status word p) ≡ finished_word k
+        → word ≡ finished_word k
+    word_is word (Inner r) e = e
+    word_is word (Leaf r) e = absurd (omega arith)
+    word_is word (Change r) e = absurd (omega arith)
+    word_is word (Rebuild r) e = absurd (omega arith)
 
     -- the status of this row is written, or it was finished
     written : (at word : ℕ)
         → Has status_in 0 status_rare (changed_at t.pieces at (with_status word)) node
         (finished_word k)
-        → IsFinishedWith t node k ⊎ ((at ≡ node) × (p : Piece) ×
-        (status_in (with_status word p) ≡ finished_word k))
+        → IsFinishedWith t node k ⊎ ((at ≡ node) × (word ≡ finished_word k))
     written at word has =
         let it = changed_at-some t.pieces at node (with_status word) has.0 has.1 in
         ⊎_elim (λ same. inl (has_finished t node k (it.0, it.1, sym (ap status_in same) ∙ has.2)))
-        (λ new. inr (sym new.0, it.0, sym (ap status_in new.1) ∙ has.2)) it.2
-
-    not_marked : (p : Piece) → status_in (with_status marked_word p) ≡ finished_word k → ⊥
-    not_marked (Inner r) e = omega arith
-    not_marked (Leaf r) e = omega arith
-    not_marked (Change r) e = omega arith
-    not_marked (Rebuild r) e = omega arith
+        (λ new. inr (sym new.0, word_is word it.0 (sym (ap status_in new.1) ∙ has.2))) it.2
 
     at : (event : Event) → Enabled first log event
         → Has status_in 0 status_rare (state first (event ∷ log)).pieces node (finished_word k)
-        → IsFinishedWith t node k ⊎ MayFinish t log node
-    at (Mark caller n) h has = ⊎_elim (λ old. inl old) (λ new. absurd (not_marked new.1 new.2))
-        (written n marked_word has)
+        → FinishedBy t node k event
+    at (Mark caller n) h has = ⊎_elim (λ old. inl old)
+        (λ new. let e = new.1 in absurd (omega arith)) (written n marked_word has)
     at (Finish caller n keys) h has = ⊎_elim (λ old. inl old)
-        (λ new. inr (caller, keys, subst (λ m. CanFinish t log caller m keys) new.0 h))
+        (λ new. let e = new.1 in let same : keys ≡ k = omega arith in
+        inr (caller, ap (λ m. Finish caller m keys) new.0 ∙ ap (λ m. Finish caller node m) same))
         (written n (finished_word keys) has)
+    at (Count caller n) h has = plain (Count caller n) h count_same has
     at (Root caller rebuild word rows) h has =
-        plain (Root caller rebuild word rows)
-        (has_rooted status_in 0 status_rare t caller rebuild word rows h s node
-        (finished_word k) some
-        (has_changed status_in 0 status_rare (with_inners t.pieces rows) rebuild (with_root word)
-        (root_same word) node (finished_word k) has))
-    at (Enter caller) h has = plain (Enter caller) has
-    at (Reserve caller base size) h has = plain (Reserve caller base size) has
-    at (Install caller change rows) h has = plain (Install caller change rows)
-        (has_step status_in 0 status_rare first log (Install caller change rows) h s tt node
-        (finished_word k) some has)
-    at (Okay caller change) h has = plain (Okay caller change) has
-    at (Decide caller change said) h has = plain (Decide caller change said)
-        (has_step status_in 0 status_rare first log (Decide caller change said) h s tt node
-        (finished_word k) some has)
-    at (Resolve caller change) h has = plain (Resolve caller change)
-        (has_step status_in 0 status_rare first log (Resolve caller change) h s tt node
-        (finished_word k) some has)
-    at (Count caller n) h has = plain (Count caller n)
-        (has_step status_in 0 status_rare first log (Count caller n) h s tt node (finished_word k)
-        some has)
-    at (Pass caller n i word) h has = plain (Pass caller n i word) has
-    at (Draw caller rebuild part) h has = plain (Draw caller rebuild part)
-        (has_step status_in 0 status_rare first log (Draw caller rebuild part) h s tt node
-        (finished_word k) some has)
-    at (Place caller rebuild i word rows) h has = plain (Place caller rebuild i word rows)
-        (has_step status_in 0 status_rare first log (Place caller rebuild i word rows) h s tt node
-        (finished_word k) some has)
-    at (Lose caller bases) h has = plain (Lose caller bases) has
+        plain (Root caller rebuild word rows) h (root_same word) has
+    at (Draw caller rebuild part) h has = plain (Draw caller rebuild part) h draw_same has
+    at event h has = plain event h tt has
+
+-- a row that is finished after an event was finished before, or may be finished
+finished_was : (first : Snapshot) (log : Log) (event : Event) → Enabled first log event
+    → HeldLieApart (state first log) → (node k : ℕ) → IsFinishedWith (state first (event ∷ log)) node k
+    → IsFinishedWith (state first log) node k ⊎ MayBeFinished (state first log) log node
+finished_was first log event h s node k f =
+    ⊎_elim (λ old. inl old) (λ by. inr (by.0, k, subst (Enabled first log) by.1 h))
+    (finished_by first log event h s node k f)
 
 -- ---- each slot was passed
 
@@ -132,7 +124,7 @@ passed_each t log node start _ _ (one_passed {rest = rest} {slots = slots} word 
     w is e = passed_each t log node (start + 1) slots rest more i at w (omega arith) e
 
 -- what a reference counts for stays the same
-counts_grows : (t u : Snapshot) → AllGrow t.pieces u.pieces → (ref : Option Ref) (k : ℕ)
+pub counts_grows : (t u : Snapshot) → AllGrow t.pieces u.pieces → (ref : Option Ref) (k : ℕ)
     → CountsFor t ref k → CountsFor u ref k
 counts_grows t u g _ _ no_key = no_key
 counts_grows t u g _ _ one_key = one_key
@@ -151,19 +143,6 @@ passed_grows t u event log node i g h = record {
   counts = counts_grows t u g
       (ref_of h.word) h.keys h.counts;
 }
-
--- no row of a new table is finished
-start_untouched : (fuel base : ℕ) (pairs : List Pair)
-    → Each (λ row. status_in row.1 ≡ 0) (rows_within fuel base pairs)
-unfolding rows_within
-start_untouched fuel base [] = tt
-start_untouched fuel base (pair ∷ []) = (refl, tt)
-start_untouched zero base (pair ∷ more ∷ pairs) = tt
-start_untouched (suc fuel) base (pair ∷ more ∷ pairs) = (
-  refl,
-  each-flat_map (λ row. status_in row.1 ≡ 0) (λ part. rows_within fuel part.0 part.1)
-      (placed_parts base (pair ∷ more ∷ pairs)) (λ part. start_untouched fuel part.0 part.1),
-)
 
 module _ (pairs : List Pair) (words : ℕ) (opens : CanOpen pairs words) where
   grows : (log : Log) (event : Event) → EachEnabled (start pairs words) (event ∷ log)

@@ -6,7 +6,7 @@ use Rattle.ist_core.specs.declared.lists.Row.{Row}
 use Rattle.ist_core.specs.declared.states.InnerRow.{InnerRow}
 use Rattle.ist_core.specs.declared.states.ChangeRow.{ChangeRow}
 use Rattle.ist_core.specs.declared.events.Event.{Event}
-use Rattle.ist_core.specs.declared.events.Event.TheVariants.{Enter, Reserve, Install, Okay, Decide, Resolve, Count, Mark, Pass, Finish, Root, Draw, Place, Lose}
+use Rattle.ist_core.specs.declared.events.Event.TheVariants.{Install, Okay, Decide, Resolve, Count, Mark, Pass, Finish, Place}
 use Rattle.ist_core.specs.RowLayout.{anchor}
 use Rattle.ist_core.specs.References.{ChangeAt, ref_of, word_of, unset_word}
 use Rattle.ist_core.specs.Statuses.{open_word, decided_yes, decided_no}
@@ -257,12 +257,9 @@ module _ (pairs : List Pair) (words : ℕ) (opens : CanOpen pairs words) (log : 
       at (Place caller rebuild j new rows) h = keeps_place caller rebuild j new rows h node i word set
       at (Decide caller base said) h = keeps_decide caller base said h node i word
       at (Okay caller base) h = keeps_okay caller base h node i word c.row c.published c.closed
-      at (Enter caller) h = keeps_quiet (start pairs words) log (Enter caller) h rows_sound tt tt (λ b n. n) node i word
-      at (Reserve caller base size) h = keeps_quiet (start pairs words) log (Reserve caller base size) h rows_sound tt tt (λ b n. n) node i word
       at (Count caller n) h = keeps_quiet (start pairs words) log (Count caller n) h rows_sound tt tt (λ b n. n) node i word
       at (Mark caller n) h = keeps_quiet (start pairs words) log (Mark caller n) h rows_sound tt tt (λ b n. n) node i word
       at (Pass caller n j w) h = keeps_quiet (start pairs words) log (Pass caller n j w) h rows_sound tt tt (λ b n. n) node i word
       at (Finish caller n keys) h = keeps_quiet (start pairs words) log (Finish caller n keys) h rows_sound tt tt (λ b n. n) node i word
-      at (Root caller rebuild w rows) h = keeps_quiet (start pairs words) log (Root caller rebuild w rows) h rows_sound tt tt (λ b n. n) node i word
-      at (Draw caller rebuild part) h = keeps_quiet (start pairs words) log (Draw caller rebuild part) h rows_sound tt tt (λ b n. n) node i word
-      at (Lose caller bases) h = keeps_quiet (start pairs words) log (Lose caller bases) h rows_sound tt tt (λ b n. n) node i word
+      at event h =
+          keeps_quiet (start pairs words) log event h rows_sound tt tt (λ b n. n) node i word

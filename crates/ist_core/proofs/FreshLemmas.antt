@@ -14,16 +14,16 @@ use Rattle.ist_core.proofs.MoveLemmas.{HeldLieApart}
 use Rattle.ist_core.proofs.InstallLemmas.{inner_of-pair_row, with_installed}
 
 -- the row is one that is published together with the change
-abbrev pub IsFresh : (first : Snapshot) (log : Log) (change : ChangeRow) (fresh : List Row)
+abbrev pub IsPublishedWith : (first : Snapshot) (log : Log) (change : ChangeRow) (fresh : List Row)
     → FitsKind first log change fresh → ℕ → Piece → Type 0
-IsFresh first log change fresh (a_put h) base p = (base ≡ h.leaf) × (p ≡ new_leaf change)
-IsFresh first log change fresh (a_pair h) base p =
+IsPublishedWith first log change fresh (a_put h) base p = (base ≡ h.leaf) × (p ≡ new_leaf change)
+IsPublishedWith first log change fresh (a_pair h) base p =
     ((base ≡ h.pair) × (p ≡ pair_row change.key h.leaf h.other_key h.other)) ⊎
     ((base ≡ h.leaf) × (p ≡ new_leaf change))
-IsFresh first log change fresh (a_remove h) base p = ⊥
-IsFresh first log change fresh (a_start h) base p = (base ≡ h.rebuild) ×
+IsPublishedWith first log change fresh (a_remove h) base p = ⊥
+IsPublishedWith first log change fresh (a_start h) base p = (base ≡ h.rebuild) ×
     (p ≡ new_rebuild change h.target)
-IsFresh first log change fresh (a_finish h) base p = ⊥
+IsPublishedWith first log change fresh (a_finish h) base p = ⊥
 
 -- a fresh row is read as a rebuild at a start, and as a leaf otherwise
 abbrev read_of : ℕ → List ℕ → Option Piece
@@ -42,7 +42,7 @@ one_row ps at base o new p read e =
 pub fresh_from : (ps : Pieces) (first : Snapshot) (log : Log) (change : ChangeRow)
     (fresh : List Row) (fits : FitsKind first log change fresh) (base : ℕ) (p : Piece)
     → with_fresh ps change fresh base ≡ Some p
-    → IsFresh first log change fresh fits base p ⊎ (ps base ≡ Some p)
+    → IsPublishedWith first log change fresh fits base p ⊎ (ps base ≡ Some p)
 fresh_from ps first log change fresh (a_put h) base p e =
     let read : read_of change.kind (words_of (new_leaf change)) ≡ Some (new_leaf change) = ap
     (λ k. read_of k (words_of (new_leaf change))) h.kind in
@@ -103,7 +103,7 @@ module _ (first : Snapshot) (log : Log) (caller at : ℕ) (change : ChangeRow) (
   pub fresh_stands : (ps : Pieces) (fits : FitsKind first log change fresh)
       → HoldsRows (state first log) caller (row_at at (Change change) ∷ fresh)
       → (base : ℕ) (p : Piece)
-      → IsFresh first log change fresh fits base p → with_installed ps at change fresh base ≡ Some p
+      → IsPublishedWith first log change fresh fits base p → with_installed ps at change fresh base ≡ Some p
   fresh_stands ps (a_put h) holds base p (here, is) =
       let held = subst (λ rows. HoldsRows (state first log) caller
       (row_at at (Change change) ∷ rows)) h.fresh_are holds in

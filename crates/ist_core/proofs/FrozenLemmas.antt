@@ -2,7 +2,7 @@
 use Rattle.std.proofs.Common.{◌≡◌, ◌≢◌, ℕ, List, [], ◌∷◌, Option, Some, None, refl, sym, ap, ◌∙◌, subst, inl, inr, arith}
 use Rattle.ist_core.specs.declared.pairs.Pair.{Pair}
 use Rattle.ist_core.specs.declared.events.Event.{Event}
-use Rattle.ist_core.specs.declared.events.Event.TheVariants.{Enter, Reserve, Install, Okay, Decide, Resolve, Count, Mark, Pass, Finish, Root, Draw, Place, Lose}
+use Rattle.ist_core.specs.declared.events.Event.TheVariants.{Pass}
 use Rattle.ist_core.specs.References.{Ref, Empty, Unset, LeafAt, InnerAt, ChangeAt, RebuildAt, ref_of, word_of, unset_word}
 use Rattle.ist_core.specs.Pieces.{Pieces}
 use Rattle.ist_core.specs.Snapshots.{Snapshot}
@@ -18,15 +18,16 @@ use Rattle.ist_core.proofs.SlotLemmas.{slot_once}
 use Rattle.ist_core.proofs.FreezingLemmas.{closed_step, change_read, side_not_yes}
 
 -- a word with which a slot may be passed
-record IsPlain (word : ℕ) : Type 0 where
-  set : word ≢ unset_word
-  no_change : (change : ℕ) → ref_of word ≢ Some (ChangeAt change)
+pub record MayBePassed (word : ℕ) : Type 0 where
+  pub set : word ≢ unset_word
+  pub no_change : (change : ℕ) → ref_of word ≢ Some (ChangeAt change)
 
--- an event that passes a slot is a Pass
-abbrev PassedBy : Snapshot → ℕ → ℕ → ℕ → Type 0
+-- a caller may pass the slot with this word
+abbrev pub PassedBy : Snapshot → ℕ → ℕ → ℕ → Type 0
 PassedBy t node i word = (caller : ℕ) × CanPass t caller node i word
 
-passed_now : (first : Snapshot) (log : Log) (event : Event) (node i word : ℕ)
+-- an event that passes a slot is a Pass
+pub passed_now : (first : Snapshot) (log : Log) (event : Event) (node i word : ℕ)
     → Enabled first log event → Passes node i word event → PassedBy (state first log) node i word
 passed_now first log (Pass caller n j w) node i word h is = (
   caller,
@@ -34,41 +35,17 @@ passed_now first log (Pass caller n j w) node i word h is = (
       (subst (λ x. CanPass (state first log) caller node x w) is.1
       (subst (λ x. CanPass (state first log) caller x j w) is.0 h)),
 )
-passed_now first log (Enter caller) node i word h is = absurd is
-passed_now first log (Reserve caller base size) node i word h is = absurd is
-passed_now first log (Install caller change rows) node i word h is = absurd is
-passed_now first log (Okay caller change) node i word h is = absurd is
-passed_now first log (Decide caller change said) node i word h is = absurd is
-passed_now first log (Resolve caller change) node i word h is = absurd is
-passed_now first log (Count caller n) node i word h is = absurd is
-passed_now first log (Mark caller n) node i word h is = absurd is
-passed_now first log (Finish caller n keys) node i word h is = absurd is
-passed_now first log (Root caller rebuild w rows) node i word h is = absurd is
-passed_now first log (Draw caller rebuild part) node i word h is = absurd is
-passed_now first log (Place caller rebuild j w rows) node i word h is = absurd is
-passed_now first log (Lose caller bases) node i word h is = absurd is
+passed_now first log _ node i word h is = absurd is
 
 -- a Pass writes nothing
 pass_same : (t : Snapshot) (log : Log) (event : Event) (first : Snapshot) (node i word : ℕ)
     → Passes node i word event → state first (event ∷ log) ≡ state first log
 pass_same t log (Pass caller n j w) first node i word is = refl
-pass_same t log (Enter caller) first node i word is = absurd is
-pass_same t log (Reserve caller base size) first node i word is = absurd is
-pass_same t log (Install caller change rows) first node i word is = absurd is
-pass_same t log (Okay caller change) first node i word is = absurd is
-pass_same t log (Decide caller change said) first node i word is = absurd is
-pass_same t log (Resolve caller change) first node i word is = absurd is
-pass_same t log (Count caller n) first node i word is = absurd is
-pass_same t log (Mark caller n) first node i word is = absurd is
-pass_same t log (Finish caller n keys) first node i word is = absurd is
-pass_same t log (Root caller rebuild w rows) first node i word is = absurd is
-pass_same t log (Draw caller rebuild part) first node i word is = absurd is
-pass_same t log (Place caller rebuild j w rows) first node i word is = absurd is
-pass_same t log (Lose caller bases) first node i word is = absurd is
+pass_same t log _ first node i word is = absurd is
 
 -- a passed word is neither a change nor Unset
-passed_plain : (first : Snapshot) (log : Log) (node i word : ℕ) → EachEnabled first log
-    → Happened (Passes node i word) log → IsPlain word
+pub passed_plain : (first : Snapshot) (log : Log) (node i word : ℕ) → EachEnabled first log
+    → Happened (Passes node i word) log → MayBePassed word
 passed_plain first [] node i word h p = absurd p
 passed_plain first (event ∷ log) node i word h (inl now) = let can =
     (passed_now first log event node i word h.1 now).1 in record
@@ -158,7 +135,7 @@ module _ (pairs : List Pair) (words : ℕ) (opens : CanOpen pairs words) where
       (ref_of v)
   frozen_reads log h node i v w p slot = at (closed log h node i v p).keeps
     where
-      plain : IsPlain v
+      plain : MayBePassed v
       plain = passed_plain (start pairs words) log node i v h p
 
       at : KeepsWord (state_of pairs words log) log node i v

@@ -11,9 +11,9 @@ use Rattle.ist_core.specs.Slots.{SlotHolds}
 use Rattle.ist_core.specs.Installing.{new_leaf, pair_row, pair_over, FitsKind, a_put, a_pair, a_remove, a_start, a_finish}
 use Rattle.ist_core.proofs.ReferenceLemmas.{ref_of-unset, ref_of-word_of}
 use Rattle.ist_core.proofs.MoveLemmas.{HeldLieApart}
-use Rattle.ist_core.proofs.FreshLemmas.{IsFresh}
-use Rattle.ist_core.proofs.AddingLemmas.{IsInstalled}
-use Rattle.ist_core.proofs.HomeLemmas.{slot_mentions, Came, SaysCame, WordCame, AreNew}
+use Rattle.ist_core.proofs.FreshLemmas.{IsPublishedWith}
+use Rattle.ist_core.proofs.AddingLemmas.{IsInstalledWith}
+use Rattle.ist_core.proofs.HomeLemmas.{slot_mentions, WasNamedOrIsNew, SaysCame, WordCame, AreNew}
 use Rattle.ist_core.proofs.HomeStepLemmas.{NoneNew, word_of_other, word_mentioned, word_new}
 
 -- the pair row of a put is named for the change's slot
@@ -99,17 +99,17 @@ module _ (first : Snapshot) (log : Log) (caller at : ℕ) (change : ChangeRow) (
 
   -- what all rows of an Install name
   pub installed_says : (fits : FitsKind first log change fresh)
-      → (leaf_good : (base : ℕ) → IsFresh first log change fresh fits base (new_leaf change) → IsGoodBase base)
+      → (leaf_good : (base : ℕ) → IsPublishedWith first log change fresh fits base (new_leaf change) → IsGoodBase base)
       → (other_good : (base : ℕ) → (r : Piece) → (state first log).pieces base ≡ Some r → IsGoodBase base)
       → (base : ℕ) (p : Piece)
-      → IsInstalled first log at change fresh fits base p
+      → IsInstalledWith first log at change fresh fits base p
       → SaysCame InnerAt (state first log) (NewPair first log change fresh fits) base p
   unfolding SaysCame WordCame
   installed_says fits leaf_good other_good base p (inl (here, new)) =
       subst (λ x. SaysCame InnerAt (state first log) (NewPair first log change fresh fits) base x) (sym new)
       (λ node i child says.
-      subst (λ n. Came InnerAt (state first log) (NewPair first log change fresh fits) n i child) (sym says.0)
-      (subst (λ j. Came InnerAt (state first log) (NewPair first log change fresh fits) change.node j child) (sym says.1)
+      subst (λ n. WasNamedOrIsNew InnerAt (state first log) (NewPair first log change fresh fits) n i child) (sym says.0)
+      (subst (λ j. WasNamedOrIsNew InnerAt (state first log) (NewPair first log change fresh fits) change.node j child) (sym says.1)
       (⊎_elim (λ e. from_came (NewPair first log change fresh fits) child e) (λ e. to_came fits child e) says.2)))
   installed_says (a_put h) leaf_good other_good base p (inr (here, new)) = subst
       (λ x. SaysCame InnerAt (state first log) NoneNew base x) (sym new)
@@ -127,8 +127,8 @@ module _ (first : Snapshot) (log : Log) (caller at : ℕ) (change : ChangeRow) (
       (λ node i child says.
       ⊎_elim
       (λ e.
-      subst (λ n. Came InnerAt (state first log) NoneNew n i child) (sym says.0)
-      (subst (λ j. Came InnerAt (state first log) NoneNew change.node j child) (sym says.1) (from_came NoneNew child (h.from ∙ ap (λ x. Some x) e))))
+      subst (λ n. WasNamedOrIsNew InnerAt (state first log) NoneNew n i child) (sym says.0)
+      (subst (λ j. WasNamedOrIsNew InnerAt (state first log) NoneNew change.node j child) (sym says.1) (from_came NoneNew child (h.from ∙ ap (λ x. Some x) e))))
       (λ e. absurd (clash child (sym ref_of-unset ∙ e)))
       says.2)
     where

@@ -77,17 +77,17 @@ mentioned_here t node i child o (inr h) = at h.1 (o.rows h.0 h.1 h.2) h.3
 -- ---- what an event names
 
 -- what is named was named before the event, or is new
-abbrev pub Came : (ℕ → Ref) → Snapshot → (ℕ → ℕ → ℕ → Type 0) → ℕ → ℕ → ℕ → Type 0
-Came of t New node i child = Mentions t node i (of child) ⊎ New node i child
+abbrev pub WasNamedOrIsNew : (ℕ → Ref) → Snapshot → (ℕ → ℕ → ℕ → Type 0) → ℕ → ℕ → ℕ → Type 0
+WasNamedOrIsNew of t New node i child = Mentions t node i (of child) ⊎ New node i child
 
 -- whatever the row names was named before the event, or is new
 unfoldable pub SaysCame : (ℕ → Ref) → Snapshot → (ℕ → ℕ → ℕ → Type 0) → ℕ → Piece → Type 0
-SaysCame of t New base p = (node i child : ℕ) → Says base p node i (of child) → Came of t New node i
+SaysCame of t New base p = (node i child : ℕ) → Says base p node i (of child) → WasNamedOrIsNew of t New node i
     child
 
 -- whatever the word names was named before the event, or is new
 unfoldable pub WordCame : (ℕ → Ref) → Snapshot → (ℕ → ℕ → ℕ → Type 0) → ℕ → ℕ → Option Ref → Type 0
-WordCame of t New node i ref = (child : ℕ) → ref ≡ Some (of child) → Came of t New node i child
+WordCame of t New node i ref = (child : ℕ) → ref ≡ Some (of child) → WasNamedOrIsNew of t New node i child
 
 -- whatever these rows name was named before the event, or is new
 unfoldable pub AllCame : (ℕ → Ref) → Snapshot → (ℕ → ℕ → ℕ → Type 0) → Pieces → Type 0
@@ -144,8 +144,8 @@ pub came-with_slot : (of : ℕ → Ref) (t : Snapshot) (New : ℕ → ℕ → �
 unfolding SaysCame WordCame
 came-with_slot of t New node i word (Inner r) came old n j child says =
     ⊎_elim
-    (λ w. subst (λ x. Came of t New x j child) (sym says.0)
-    (subst (λ x. Came of t New node x child) (sym w.0)
+    (λ w. subst (λ x. WasNamedOrIsNew of t New x j child) (sym says.0)
+    (subst (λ x. WasNamedOrIsNew of t New node x child) (sym w.0)
     (came child (ap ref_of (sym w.1) ∙ says.3))))
     (λ w. old n j child (says.0, says.1, w, says.3))
     (get-set_some r.slots i j word says.1 says.2)
@@ -162,8 +162,8 @@ unfolding SaysCame WordCame
 came-with_root of t New base word r came old node i child says =
     ⊎_elim
     (λ e. old node i child (says.0, says.1, inl e))
-    (λ e. subst (λ n. Came of t New n i child) (sym says.0)
-    (subst (λ j. Came of t New r.parent j child) (sym says.1) (came child e)))
+    (λ e. subst (λ n. WasNamedOrIsNew of t New n i child) (sym says.0)
+    (subst (λ j. WasNamedOrIsNew of t New r.parent j child) (sym says.1) (came child e)))
     says.2
 
 -- a status names nothing
@@ -217,12 +217,12 @@ one_home_from t u New home names new all word =
       one = λ n i k j child x y. both n i k j child (came n i child x) (came k j child y);
     }
   where
-    came : (node i child : ℕ) → Mentions u node i (InnerAt child) → Came InnerAt t New node i child
-    came node i child (inl h) = subst (λ n. Came InnerAt t New n i child) (sym h.0)
-        (subst (λ j. Came InnerAt t New anchor j child) (sym h.1) (word child h.2))
+    came : (node i child : ℕ) → Mentions u node i (InnerAt child) → WasNamedOrIsNew InnerAt t New node i child
+    came node i child (inl h) = subst (λ n. WasNamedOrIsNew InnerAt t New n i child) (sym h.0)
+        (subst (λ j. WasNamedOrIsNew InnerAt t New anchor j child) (sym h.1) (word child h.2))
     came node i child (inr h) = all h.0 h.1 h.2 node i child h.3
 
-    both : (n i k j child : ℕ) → Came InnerAt t New n i child → Came InnerAt t New k j child →
+    both : (n i k j child : ℕ) → WasNamedOrIsNew InnerAt t New n i child → WasNamedOrIsNew InnerAt t New k j child →
         (n ≡ k) × (i ≡ j)
     both n i k j child (inl x) (inl y) = home.one n i k j child x y
     both n i k j child (inl x) (inr y) = let p = mentioned_here t n i child names x in absurd
@@ -255,10 +255,10 @@ anchor_came of t u New node i word is zero_there came child e = at (node == anch
         → (((node == anchor) ≡ true) × (node ≡ anchor)) ⊎
         (((node == anchor) ≡ false) × (node ≢ anchor))
         → ref_of (if node == anchor then word else t.anchor) ≡ Some (of child)
-        → Came of t New anchor 0 child
+        → WasNamedOrIsNew of t New anchor 0 child
     at v (inl k) f =
-        subst (λ j. Came of t New anchor j child) (zero_there k.1)
-        (subst (λ n. Came of t New n i child) k.1
+        subst (λ j. WasNamedOrIsNew of t New anchor j child) (zero_there k.1)
+        (subst (λ n. WasNamedOrIsNew of t New n i child) k.1
         (came child (subst (λ b. ref_of (if b then word else t.anchor) ≡ Some (of child)) k.0
         f)))
     at v (inr k) f = inl (inl (

@@ -19,7 +19,7 @@ use Rattle.ist_core.proofs.SlotLemmas.{anchor_slot}
 use Rattle.ist_core.proofs.NamingLemmas.{WordsName}
 use Rattle.ist_core.proofs.TreeLemmas.{IsTreeRow, root_tree, tree_of_ideal, tree_rows}
 use Rattle.ist_core.proofs.BranchLemmas.{HangsIn, hangs_among, hangs_once}
-use Rattle.ist_core.proofs.HomeLemmas.{Says, Mentions, HasOneHome, Came, SaysCame, WordCame, AllCame, AreNew, came_old, came_added, came-changed_at, came-with_slot, came-with_root, one_home_from, anchor_came, anchor_old}
+use Rattle.ist_core.proofs.HomeLemmas.{Says, Mentions, HasOneHome, WasNamedOrIsNew, SaysCame, WordCame, AllCame, AreNew, came_old, came_added, came-changed_at, came-with_slot, came-with_root, one_home_from, anchor_came, anchor_old}
 
 -- nothing new
 abbrev pub NoneNew : ℕ → ℕ → ℕ → Type 0
@@ -106,7 +106,7 @@ tree_says : (t : Snapshot) (ps : Pieces) (parent at : ℕ) (ref : Ref) (rows : L
 unfolding SaysCame
 tree_says t ps parent at ref rows all base p i e =
     let it = each-among (IsTreeRow ps) base rows all i in
-    known (λ x. (node j child : ℕ) → Says base x node j (InnerAt child) → Came InnerAt t
+    known (λ x. (node j child : ℕ) → Says base x node j (InnerAt child) → WasNamedOrIsNew InnerAt t
     (HangsIn ps parent at ref rows) node j child) (ps base) p (Inner it.row) e it.published
     (λ node j child says.
     inr (inr record {

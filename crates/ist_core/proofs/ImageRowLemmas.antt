@@ -18,7 +18,7 @@ use Rattle.ist_core.specs.Rows.{Apart, IsWithin}
 use Rattle.ist_core.specs.Writing.{RowsStand}
 use Rattle.ist_core.proofs.ElementLemmas.{each-among}
 use Rattle.ist_core.proofs.RowLemmas.{with_inners-some}
-use Rattle.ist_core.proofs.AddingLemmas.{IsInstalled}
+use Rattle.ist_core.proofs.AddingLemmas.{IsInstalledWith}
 use Rattle.ist_core.proofs.PlaceLemmas.{claimed_within, claimed_apart, placed, next_behind_fixed}
 
 -- ---- rows that are published
@@ -60,7 +60,7 @@ inners_stand ps words rows all old base p e =
 -- a row of an Install is one of those that it publishes
 pub installed_row : (first : Snapshot) (log : Log) (at : ℕ) (change : ChangeRow) (fresh : List Row)
     (fits : FitsKind first log change fresh) (base : ℕ) (p : Piece)
-    → IsInstalled first log at change fresh fits base p
+    → IsInstalledWith first log at change fresh fits base p
     → Among (row_at base p) (row_at at (Change change) ∷ fresh)
 installed_row first log at change fresh fits base p (inl h) = inl (λ i. row_at (h.0 i) (h.1 i))
 installed_row first log at change fresh (a_put f) base p (inr h) = inr

@@ -11,7 +11,7 @@ use Rattle.ist_core.specs.After.{with_fresh}
 use Rattle.ist_core.specs.Installing.{new_leaf, new_rebuild, pair_row, pair_over, FitsKind, a_put, a_pair, a_remove, a_start, a_finish}
 use Rattle.ist_core.proofs.RowLemmas.{with_row-some, with_row-other}
 use Rattle.ist_core.proofs.SizeLemmas.{size_of-inner_of}
-use Rattle.ist_core.proofs.PublishingLemmas.{Stands, stands-with_row, stands_here, Publishes}
+use Rattle.ist_core.proofs.PublishingLemmas.{LiesAt, stands-with_row, stands_here, PublishesRows}
 
 -- a leaf has the number of words that it was read from
 size_of-leaf_of : (words : List ℕ) (p : Piece) → leaf_of words ≡ Some p → size_of p ≡ length words
@@ -95,39 +95,39 @@ inner_of-pair_row key base other_key other =
 -- each fresh row of a change is published with it
 fresh_named : (ps : Pieces) (first : Snapshot) (log : Log) (change : ChangeRow) (fresh : List Row)
     → FitsKind first log change fresh
-    → (row : Row) → Among row fresh → Stands (with_fresh ps change fresh) row.base
+    → (row : Row) → Among row fresh → LiesAt (with_fresh ps change fresh) row.base
 unfolding fresh_of
 fresh_named ps first log change fresh (a_put h) =
     let read = ap (λ k. if k == start_kind then rebuild_of (words_of (new_leaf change)) else leaf_of
     (words_of (new_leaf change))) h.kind in
-    subst (λ rows. (row : Row) → Among row rows → Stands (with_fresh ps change rows) row.base)
+    subst (λ rows. (row : Row) → Among row rows → LiesAt (with_fresh ps change rows) row.base)
     (sym h.fresh_are) (λ row i. one h.leaf read row i)
   where
     one : (leaf : ℕ) → fresh_of change (words_of (new_leaf change)) ≡ Some (new_leaf change)
         → (row : Row) → Among row (row_at leaf (new_leaf change) ∷ [])
-        → Stands (with_row ps leaf (fresh_of change (words_of (new_leaf change)))) row.base
+        → LiesAt (with_row ps leaf (fresh_of change (words_of (new_leaf change)))) row.base
     one leaf read row (inl e) =
-        subst (λ b. Stands (with_row ps leaf (fresh_of change (words_of (new_leaf change)))) b)
+        subst (λ b. LiesAt (with_row ps leaf (fresh_of change (words_of (new_leaf change)))) b)
         (sym (ap (λ r. r.base) e)) (stands_here ps leaf
         (fresh_of change (words_of (new_leaf change))) (new_leaf change) read)
     one leaf read row (inr i) = absurd i
 fresh_named ps first log change fresh (a_pair h) =
-    subst (λ rows. (row : Row) → Among row rows → Stands (with_fresh ps change rows) row.base)
+    subst (λ rows. (row : Row) → Among row rows → LiesAt (with_fresh ps change rows) row.base)
     (sym h.fresh_are)
     (λ row i. two (pair_row change.key h.leaf h.other_key h.other) h.pair h.leaf
     (inner_of-pair_row change.key h.leaf h.other_key h.other) row i)
   where
     two : (p : Piece) (pair leaf : ℕ) → inner_of (words_of p) ≡ Some p → (row : Row)
         → Among row (row_at pair p ∷ row_at leaf (new_leaf change) ∷ [])
-        → Stands (with_row (with_row ps leaf (Some (new_leaf change))) pair (inner_of (words_of p)))
+        → LiesAt (with_row (with_row ps leaf (Some (new_leaf change))) pair (inner_of (words_of p)))
         row.base
     two p pair leaf read row (inl e) =
-        subst (λ b. Stands (with_row (with_row ps leaf (Some (new_leaf change))) pair
+        subst (λ b. LiesAt (with_row (with_row ps leaf (Some (new_leaf change))) pair
         (inner_of (words_of p))) b) (sym (ap (λ r. r.base) e))
         (stands_here (with_row ps leaf (Some (new_leaf change))) pair (inner_of (words_of p)) p
         read)
     two p pair leaf read row (inr (inl e)) =
-        subst (λ b. Stands (with_row (with_row ps leaf (Some (new_leaf change))) pair
+        subst (λ b. LiesAt (with_row (with_row ps leaf (Some (new_leaf change))) pair
         (inner_of (words_of p))) b) (sym (ap (λ r. r.base) e))
         (stands-with_row (with_row ps leaf (Some (new_leaf change))) pair leaf
         (inner_of (words_of p)) (stands_here ps leaf (Some (new_leaf change)) (new_leaf change)
@@ -138,14 +138,14 @@ fresh_named ps first log change fresh (a_remove h) = λ row i. absurd
 fresh_named ps first log change fresh (a_start h) =
     let read = ap (λ k. if k == start_kind then rebuild_of (words_of (new_rebuild change h.target))
     else leaf_of (words_of (new_rebuild change h.target))) h.kind in
-    subst (λ rows. (row : Row) → Among row rows → Stands (with_fresh ps change rows) row.base)
+    subst (λ rows. (row : Row) → Among row rows → LiesAt (with_fresh ps change rows) row.base)
     (sym h.fresh_are) (λ row i. one (new_rebuild change h.target) h.rebuild read row i)
   where
     one : (p : Piece) (base : ℕ) → fresh_of change (words_of p) ≡ Some p → (row : Row)
         → Among row (row_at base p ∷ [])
-        → Stands (with_row ps base (fresh_of change (words_of p))) row.base
+        → LiesAt (with_row ps base (fresh_of change (words_of p))) row.base
     one p base read row (inl e) = subst
-        (λ b. Stands (with_row ps base (fresh_of change (words_of p))) b) (sym (ap (λ r. r.base) e))
+        (λ b. LiesAt (with_row ps base (fresh_of change (words_of p))) b) (sym (ap (λ r. r.base) e))
         (stands_here ps base (fresh_of change (words_of p)) p read)
     one p base read row (inr i) = absurd i
 fresh_named ps first log change fresh (a_finish h) = λ row i. absurd
@@ -160,7 +160,7 @@ with_installed ps base change fresh = with_row (with_fresh ps change fresh) base
 pub publishes_install : (ps : Pieces) (first : Snapshot) (log : Log) (base : ℕ) (change : ChangeRow)
     (fresh : List Row)
     → FitsKind first log change fresh
-    → Publishes ps (row_at base (Change change) ∷ fresh) (with_installed ps base change fresh)
+    → PublishesRows ps (row_at base (Change change) ∷ fresh) (with_installed ps base change fresh)
 publishes_install ps first log base change fresh fits =
     record {
       from = λ at q e.
@@ -179,8 +179,8 @@ publishes_install ps first log base change fresh fits =
     size {q = q} e = let is : Change change ≡ q = cc in subst (λ p. size_of p ≡ 9) is refl
 
     each : (row : Row) → Among row (row_at base (Change change) ∷ fresh)
-        → Stands (with_installed ps base change fresh) row.base
-    each row (inl e) = subst (λ b. Stands (with_installed ps base change fresh) b)
+        → LiesAt (with_installed ps base change fresh) row.base
+    each row (inl e) = subst (λ b. LiesAt (with_installed ps base change fresh) b)
         (sym (ap (λ r. r.base) e)) (stands_here (with_fresh ps change fresh) base
         (Some (Change change)) (Change change) refl)
     each row (inr i) = stands-with_row (with_fresh ps change fresh) base row.base

@@ -13,8 +13,8 @@ use Rattle.ist_core.specs.Growing.{AllGrow}
 use Rattle.ist_core.proofs.ReferenceLemmas.{ref_of-unset, ref_of-word_of, word_of-ref_of}
 use Rattle.ist_core.proofs.MoveLemmas.{HeldLieApart}
 use Rattle.ist_core.proofs.InstallLemmas.{with_installed}
-use Rattle.ist_core.proofs.FreshLemmas.{IsFresh, fresh_stands}
-use Rattle.ist_core.proofs.AddingLemmas.{IsInstalled}
+use Rattle.ist_core.proofs.FreshLemmas.{IsPublishedWith, fresh_stands}
+use Rattle.ist_core.proofs.AddingLemmas.{IsInstalledWith}
 use Rattle.ist_core.proofs.GrowingLemmas.{leaf_there}
 use Rattle.ist_core.proofs.NamingLemmas.{LeafHere, SideNames, SlotNames, RootNames, RowNames, WordsName, side_grows, inner_here_grows}
 
@@ -124,7 +124,7 @@ module _ (first : Snapshot) (log : Log) (caller at : ℕ) (change : ChangeRow) (
 
   -- a fresh row is published
   stands : (fits : FitsKind first log change fresh) (base : ℕ) (p : Piece)
-      → IsFresh first log change fresh fits base p → qs base ≡ Some p
+      → IsPublishedWith first log change fresh fits base p → qs base ≡ Some p
   stands fits base p f = ap (λ ps. ps base) is ∙ fresh_stands first log caller at change fresh sound
       (state first log).pieces fits holds base p f
 
@@ -170,7 +170,7 @@ module _ (first : Snapshot) (log : Log) (caller at : ℕ) (change : ChangeRow) (
   -- what the fresh rows name. A pair row names the leaf that is in the slot and the new one
   fresh_names : (fits : FitsKind first log change fresh)
       → ((base : ℕ) (p : Piece) → qs base ≡ Some p → IsGoodBase base) → (base : ℕ) (p : Piece)
-      → IsFresh first log change fresh fits base p → RowNames qs base p
+      → IsPublishedWith first log change fresh fits base p → RowNames qs base p
   fresh_names (a_put h) good base p (here, new) = subst (λ x. RowNames qs base x) (sym new) tt
   fresh_names (a_pair h) good base p (inl (here, new)) =
       let leaf = stands (a_pair h) h.leaf (new_leaf change) (inr (refl, refl)) in
@@ -196,7 +196,7 @@ module _ (first : Snapshot) (log : Log) (caller at : ℕ) (change : ChangeRow) (
   -- what all rows of the Install name
   pub installed_names : (fits : FitsKind first log change fresh)
       → ((base : ℕ) (p : Piece) → qs base ≡ Some p → IsGoodBase base) → (base : ℕ) (p : Piece)
-      → IsInstalled first log at change fresh fits base p → RowNames qs base p
+      → IsInstalledWith first log at change fresh fits base p → RowNames qs base p
   installed_names fits good base p (inl (here, new)) =
       subst (λ x. RowNames qs base x) (sym new) (
         side_grows (state first log).pieces qs grows change.node change.index (ref_of change.from)

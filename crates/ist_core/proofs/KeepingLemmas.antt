@@ -25,17 +25,17 @@ use Rattle.ist_core.proofs.DrawLemmas.{finished_grows}
 use Rattle.ist_core.proofs.FinishedLemmas.{finished_passed}
 
 -- a node that is finished with some number of keys
-abbrev pub IsFinished : Snapshot → ℕ → Type 0
-IsFinished t node = (k : ℕ) × IsFinishedWith t node k
+abbrev pub IsFinishedNode : Snapshot → ℕ → Type 0
+IsFinishedNode t node = (k : ℕ) × IsFinishedWith t node k
 
 -- an inner row that the reference names is done
-abbrev pub IsClosed : (ℕ → Type 0) → Option Ref → Type 0
-IsClosed Done ref = (child : ℕ) → ref ≡ Some (InnerAt child) → Done child
+abbrev pub NamesDoneRow : (ℕ → Type 0) → Option Ref → Type 0
+NamesDoneRow Done ref = (child : ℕ) → ref ≡ Some (InnerAt child) → Done child
 
 -- the words read alike, and what they read as is closed
 abbrev pub ReadAlike : Pieces → Pieces → (ℕ → Type 0) → List ℕ → List ℕ → Type 0
 ReadAlike ps qs Done [] [] = Unit {0}
-ReadAlike ps qs Done (w ∷ ws) (v ∷ vs) = (logical ps w ≡ logical qs v) × IsClosed Done
+ReadAlike ps qs Done (w ∷ ws) (v ∷ vs) = (logical ps w ≡ logical qs v) × NamesDoneRow Done
     (logical ps w) × ReadAlike ps qs Done ws vs
 ReadAlike ps qs Done _ _ = ⊥
 
@@ -52,7 +52,7 @@ module _ (ps qs : Pieces) (Done : ℕ → Type 0)
   mutual
     -- the leaves below a reference stay if the inner row that it names, if any, is done
     pub leaves_stay : (ref : Option Ref) (leaves : List PlacedLeaf) → HasLeaves ps ref leaves
-        → IsClosed Done ref → HasLeaves qs ref leaves
+        → NamesDoneRow Done ref → HasLeaves qs ref leaves
     leaves_stay _ _ none_here closed = none_here
     leaves_stay _ _ (leaf_here {base = base} r e) closed = leaf_here r (leaf base r e)
     leaves_stay _ leaves (row_here {base = base} r e below) closed =
@@ -74,7 +74,7 @@ module _ (ps qs : Pieces) (Done : ℕ → Type 0)
 -- words of two lists of one length that read alike place by place
 alike_from : (ps qs : Pieces) (Done : ℕ → Type 0) (ws vs : List ℕ) → length vs ≡ length ws
     → ((i w v : ℕ) → slice_get ws i ≡ Some w → slice_get vs i ≡ Some v →
-    (logical ps w ≡ logical qs v) × IsClosed Done (logical ps w))
+    (logical ps w ≡ logical qs v) × NamesDoneRow Done (logical ps w))
     → ReadAlike ps qs Done ws vs
 alike_from ps qs Done [] [] long each = tt
 alike_from ps qs Done [] (v ∷ vs) long each = absurd (omega arith)
@@ -87,7 +87,7 @@ alike_from ps qs Done (w ∷ ws) (v ∷ vs) long each =
 passed_reads : (t u : Snapshot) → AllGrow t.pieces u.pieces → (ref : Option Ref) (k : ℕ)
     → CountsFor t ref k
     → (past_rebuild t.pieces ref ≡ past_rebuild u.pieces ref)
-    × IsClosed (IsFinished t) (past_rebuild t.pieces ref)
+    × NamesDoneRow (IsFinishedNode t) (past_rebuild t.pieces ref)
 passed_reads t u g _ _ no_key = (refl, λ child e. absurd (cc))
 passed_reads t u g _ _ one_key = (refl, λ child e. absurd (cc))
 passed_reads t u g _ k (of_child {child = child} f) =
@@ -115,13 +115,13 @@ passed_reads t u g _ k (of_target {rebuild = rebuild} {target = target} has f) =
 module _ (pairs : List Pair) (words : ℕ) (opens : CanOpen pairs words) where
   -- an event leaves the leaves below a finished row
   pub leaves_kept : (log : Log) (event : Event) → EachEnabled (start pairs words) (event ∷ log)
-      → (node : ℕ) (leaves : List PlacedLeaf) → IsFinished (state_of pairs words log) node
+      → (node : ℕ) (leaves : List PlacedLeaf) → IsFinishedNode (state_of pairs words log) node
       → HasLeaves (state_of pairs words log).pieces (Some (InnerAt node)) leaves
       → HasLeaves (state_of pairs words (event ∷ log)).pieces (Some (InnerAt node)) leaves
   leaves_kept log event h node leaves done has =
-      leaves_stay t.pieces u.pieces (IsFinished t)
+      leaves_stay t.pieces u.pieces (IsFinishedNode t)
       (λ base r e. leaf_there t.pieces u.pieces g base r e) stands (Some (InnerAt node)) leaves
-      has (λ child e. subst (λ n. IsFinished t n) (same node child e) done)
+      has (λ child e. subst (λ n. IsFinishedNode t n) (same node child e) done)
     where
       t : Snapshot
       t = state_of pairs words log
@@ -136,14 +136,14 @@ module _ (pairs : List Pair) (words : ℕ) (opens : CanOpen pairs words) where
       same : (a b : ℕ) → Some (InnerAt a) ≡ Some (InnerAt b) → a ≡ b
       same a b e = cc
 
-      stands : (base : ℕ) (r : InnerRow) → IsFinished t base → t.pieces base ≡ Some (Inner r)
-          → StandsAlike t.pieces u.pieces (IsFinished t) base r
+      stands : (base : ℕ) (r : InnerRow) → IsFinishedNode t base → t.pieces base ≡ Some (Inner r)
+          → StandsAlike t.pieces u.pieces (IsFinishedNode t) base r
       stands base r f e =
           let it = inner_there t.pieces u.pieces g base r e in
           record {
             row = it.0;
             published = it.1;
-            slots = alike_from t.pieces u.pieces (IsFinished t) r.slots it.0.slots it.2.slots
+            slots = alike_from t.pieces u.pieces (IsFinishedNode t) r.slots it.0.slots it.2.slots
                 (λ i w v there now.
                 let p = finished_passed pairs words opens log h.0 base f.0 f.1 r e i w there in
                 let before = frozen_reads pairs words opens log h.0 base i p.word w p.passed
@@ -152,7 +152,7 @@ module _ (pairs : List Pair) (words : ℕ) (opens : CanOpen pairs words) where
                 (inr p.passed) (in_row it.0 it.1 now) in
                 let read = passed_reads t u g (ref_of p.word) p.keys p.counts in (
                   before ∙ read.0 ∙ sym behind,
-                  subst (λ ref. IsClosed (IsFinished t) ref)
+                  subst (λ ref. NamesDoneRow (IsFinishedNode t) ref)
                       (sym before) read.1,
                 ));
           }
@@ -160,7 +160,7 @@ module _ (pairs : List Pair) (words : ℕ) (opens : CanOpen pairs words) where
   -- the leaves below a finished row stay the same after all events of a longer log
   pub finished_leaves_stay : (earlier log : Log) → GoesOn earlier log
       → EachEnabled (start pairs words) log → (node : ℕ) (leaves : List PlacedLeaf)
-      → IsFinished (state_of pairs words earlier) node
+      → IsFinishedNode (state_of pairs words earlier) node
       → HasLeaves (state_of pairs words earlier).pieces (Some (InnerAt node)) leaves
       → HasLeaves (state_of pairs words log).pieces (Some (InnerAt node)) leaves
   finished_leaves_stay earlier _ same_log h node leaves done has = has

@@ -1,6 +1,6 @@
 -- The keys of each inner row are strictly increasing, and so are the keys of the leaves below each
 -- slot. Serves `laws.leaves_lie_by_key`.
-use Rattle.std.proofs.Common.{◌≡◌, ℕ, ◌+◌, ◌≤◌, ◌⊎◌, nat_lt, if◌then◌else◌, true, false, List, [], ◌∷◌, length, map, Some, refl, sym, ap, subst, inl, inr, arith}
+use Rattle.std.proofs.Common.{◌≡◌, ℕ, ◌+◌, ◌≤◌, ◌⊎◌, List, [], ◌∷◌, length, map, Some, refl, sym, ap, subst, inl, inr, arith}
 use Rattle.std.specs.List.Sorted.{IsStrictlyIncreasing}
 use Rattle.ist_core.specs.declared.pairs.Pair.{Pair}
 use Rattle.ist_core.specs.declared.lists.Row.{Row}
@@ -19,7 +19,7 @@ use Rattle.ist_core.specs.Leaves.{PlacedLeaf, pair_of, HasLeaves, HasContents}
 use Rattle.ist_core.specs.Logs.{Log}
 use Rattle.ist_core.specs.Slots.{SlotHolds, in_anchor, IsChildFor, logical}
 use Rattle.ist_core.specs.Links.{Linked, at_anchor, below, Leads, from_anchor, down}
-use Rattle.ist_core.specs.Installing.{pair_row, pair_over, FitsKind, a_put, a_pair, a_remove, a_start, a_finish}
+use Rattle.ist_core.specs.Installing.{FitsKind}
 use Rattle.ist_core.specs.Building.{IsRoot, root_whole, root_top}
 use Rattle.ist_core.specs.Growing.{Grows, leaf_stays, inner_grows, change_grows, rebuild_grows}
 use Rattle.ist_core.specs.Enabled.{Enabled}
@@ -29,7 +29,7 @@ use Rattle.ist_core.proofs.PieceLemmas.{among-pieces_of}
 use Rattle.ist_core.proofs.SoundLemmas.{sound}
 use Rattle.ist_core.proofs.StartLemmas.{sound_start}
 use Rattle.ist_core.proofs.StepLemmas.{known}
-use Rattle.ist_core.proofs.AddingLemmas.{IsInstalled}
+use Rattle.ist_core.proofs.AddingLemmas.{IsInstalledWith, installed_has}
 use Rattle.ist_core.proofs.PlaceLemmas.{anchor_free}
 use Rattle.ist_core.proofs.BornLemmas.{Born, by_install, by_root, by_place, Comes, from_old, from_born, comes}
 use Rattle.ist_core.proofs.StartTreeLemmas.{IsLeafRow, leaf_row, HangsAs, start_hangs}
@@ -38,7 +38,7 @@ use Rattle.ist_core.proofs.ParentLemmas.{one_home}
 use Rattle.ist_core.proofs.MentionLemmas.{child_mentioned}
 use Rattle.ist_core.proofs.LeadingLemmas.{LedTo, parent_of}
 use Rattle.ist_core.proofs.UnderLemmas.{leaf_mentioned, slot_reads_as, leaves_under}
-use Rattle.ist_core.proofs.RisingLemmas.{Rises, Rising, parts_rise, part_rises, first_keys_behind_rise}
+use Rattle.ist_core.proofs.RisingLemmas.{AreRisingKeys, Rising, parts_rise, part_rises, first_keys_behind_rise}
 use Rattle.ist_core.proofs.SplitLemmas.{key_of_leaf, ideal_splits, StandsRising, split_rises}
 use Rattle.ist_core.proofs.RootKeyLemmas.{roots_are_cut}
 use Rattle.ist_core.proofs.LeafLemmas.{same_leaves}
@@ -58,30 +58,15 @@ grows_rising _ _ (rebuild_grows g) h = tt
 
 -- ---- fresh rows
 
-pair_rising : (key base other_key other : ℕ) → HasRisingKeys (pair_row key base other_key other)
-pair_rising key base other_key other =
-    elim (nat_lt other_key key) as
-    (λ v. HasRisingKeys (if v then pair_over key other base else pair_over other_key base
-    other)) [ true ↦ (tt, tt) | false ↦ (tt, tt) ]
-
 installed_rising : (first : Snapshot) (log : Log) (at : ℕ) (change : ChangeRow) (fresh : List Row)
     (fits : FitsKind first log change fresh) (base : ℕ) (p : Piece)
-    → IsInstalled first log at change fresh fits base p → HasRisingKeys p
-installed_rising first log at change fresh fits base p (inl h) = subst HasRisingKeys (sym h.1) tt
-installed_rising first log at change fresh (a_put f) base p (inr h) = subst HasRisingKeys (sym h.1)
-    tt
-installed_rising first log at change fresh (a_pair f) base p (inr (inl h)) = subst HasRisingKeys
-    (sym h.1) (pair_rising change.key f.leaf f.other_key f.other)
-installed_rising first log at change fresh (a_pair f) base p (inr (inr h)) = subst HasRisingKeys
-    (sym h.1) tt
-installed_rising first log at change fresh (a_remove f) base p (inr h) = absurd h
-installed_rising first log at change fresh (a_start f) base p (inr h) = subst HasRisingKeys
-    (sym h.1) tt
-installed_rising first log at change fresh (a_finish f) base p (inr h) = absurd h
+    → IsInstalledWith first log at change fresh fits base p → HasRisingKeys p
+installed_rising = installed_has HasRisingKeys (λ r. tt) (λ r. tt) (λ key left right. (tt, tt))
+    (λ r rootless undrawn. tt)
 
 -- the rows of a root over leaves with strictly increasing keys
 root_rising : (ps : Pieces) (word k : ℕ) (leaves : List PlacedLeaf) (target : ℕ) (rows : List ℕ)
-    → Rises key_of_leaf leaves → IsRoot ps word k leaves target rows → Each (StandsRising ps) rows
+    → AreRisingKeys key_of_leaf leaves → IsRoot ps word k leaves target rows → Each (StandsRising ps) rows
 root_rising ps word k leaves target rows rise (root_whole ref few e ideal) = split_rises key_of_leaf
     ps ref leaves rows (ideal_splits ps ref leaves target rows ideal) rise
 root_rising ps word k leaves target rows rise (root_top base row many e top unset one) =
@@ -199,7 +184,7 @@ module _ (pairs : List Pair) (words : ℕ) (opens : CanOpen pairs words) where
       (leaves : List PlacedLeaf) → SlotHolds (state_of pairs words log) node i word
       → HasLeaves (state_of pairs words log).pieces (logical (state_of pairs words log).pieces word)
       leaves
-      → Rises key_of_leaf leaves
+      → AreRisingKeys key_of_leaf leaves
   leaves_rise log h node i word leaves slot has =
       let t = state_of pairs words log in
       let o = names pairs words opens log h in

@@ -26,7 +26,7 @@ use Rattle.ist_core.specs.Changes.{changes_of}
 use Rattle.ist_core.specs.ExampleLogs.{start_pairs, rebuild_started, late_reserved, late_rows, late_marked, late_resolved, late_counted, late_finished}
 use Rattle.ist_core.proofs.StartExampleLemmas.{two, start_is_lawful}
 use Rattle.ist_core.proofs.RebuildExampleLemmas.{the_start, the_rebuild, low, high, started}
-use Rattle.ist_core.proofs.RefusalLemmas.{NotRefused, NoneRefused}
+use Rattle.ist_core.proofs.RefusalLemmas.{NotRefused, NoneDecidedNo}
 use Rattle.ist_core.proofs.FinishExampleLemmas.{none_refused_started}
 
 -- the put, with a decision
@@ -97,7 +97,7 @@ target_hangs : IsChild (state two late_reserved) 2 0 4
 unfolding ref_of
 target_hangs = record { word = 124; holds = in_anchor refl refl refl; reads = refl }
 
-none_refused : NoneRefused (state two late_reserved).pieces
+none_refused : NoneDecidedNo (state two late_reserved).pieces
 none_refused = none_refused_started
 
 installed : CanInstall two late_reserved 1 31 late_rows

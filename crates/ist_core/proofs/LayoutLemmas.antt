@@ -19,24 +19,24 @@ use Rattle.ist_core.proofs.PartLemmas.{sum-part_lens, part_len-lt, part_len-pos}
 use Rattle.ist_core.proofs.WordLemmas.{ideal_words_none, ideal_words_one}
 
 -- the rows lie one after another, and fill the words from the first place to the second
-abbrev pub Fills : ℕ → List (ℕ × Piece) → ℕ → Type 0
-Fills from [] to = from ≡ to
-Fills from (row ∷ rows) to = (row.0 ≡ from) × Fills (from + size_of row.1) rows to
+abbrev pub FillWords : ℕ → List (ℕ × Piece) → ℕ → Type 0
+FillWords from [] to = from ≡ to
+FillWords from (row ∷ rows) to = (row.0 ≡ from) × FillWords (from + size_of row.1) rows to
 
 -- rows that fill two adjoining ranges fill both together
-fills_append : (from mid to : ℕ) (xs ys : List (ℕ × Piece)) → Fills from xs mid → Fills mid ys to
-    → Fills from (xs ++ ys) to
-fills_append from mid to [] ys h k = subst (λ n. Fills n ys to) (sym h) k
+fills_append : (from mid to : ℕ) (xs ys : List (ℕ × Piece)) → FillWords from xs mid → FillWords mid ys to
+    → FillWords from (xs ++ ys) to
+fills_append from mid to [] ys h k = subst (λ n. FillWords n ys to) (sym h) k
 fills_append from mid to (x ∷ xs) ys h k =
     (h.0, fills_append (from + size_of x.1) mid to xs ys h.1 k)
 
 -- rows don't end below their first place
-fills_le : (from to : ℕ) (xs : List (ℕ × Piece)) → Fills from xs to → from ≤ to
+fills_le : (from to : ℕ) (xs : List (ℕ × Piece)) → FillWords from xs to → from ≤ to
 fills_le from to [] h = omega arith
 fills_le from to (x ∷ xs) h = let rest = fills_le (from + size_of x.1) to xs h.1 in omega arith
 
 -- each of these rows lies between the two places
-pub fills_within : (from to : ℕ) (xs : List (ℕ × Piece)) (base : ℕ) (p : Piece) → Fills from xs to
+pub fills_within : (from to : ℕ) (xs : List (ℕ × Piece)) (base : ℕ) (p : Piece) → FillWords from xs to
     → Among (base, p) xs → (from ≤ base) × (base + size_of p ≤ to)
 fills_within from to [] base p h i = absurd i
 fills_within from to (x ∷ xs) base p h (inl e) =
@@ -52,7 +52,7 @@ fills_within from to (x ∷ xs) base p h (inr i) =
 
 -- two of these rows at different bases share no word
 pub fills_apart : (from to : ℕ) (xs : List (ℕ × Piece)) (base other : ℕ) (p q : Piece)
-    → Fills from xs to → Among (base, p) xs → Among (other, q) xs → base ≢ other
+    → FillWords from xs to → Among (base, p) xs → Among (other, q) xs → base ≢ other
     → (base + size_of p ≤ other) ⊎ (other + size_of q ≤ base)
 fills_apart from to [] base other p q h i j differ = absurd i
 fills_apart from to (x ∷ xs) base other p q h (inl e) (inl f) differ = absurd
@@ -176,9 +176,9 @@ size_of-top_row base pairs two =
 
 -- the trees of the parts fill their words if each tree does
 fills_parts : (fuel from : ℕ) (ns : List ℕ) (xs : List Pair) → sum ns ≤ length xs
-    → ((n base : ℕ) (part : List Pair) → Among n ns → length part ≡ n → Fills base
+    → ((n base : ℕ) (part : List Pair) → Among n ns → length part ≡ n → FillWords base
     (rows_within fuel base part) (base + ideal_words n))
-    → Fills from
+    → FillWords from
     (flat_map (λ part. rows_within fuel part.0 part.1) (zip (bases_from from ns) (cut ns xs)))
     (from + sum_by ideal_words ns)
 fills_parts fuel from [] xs fits each = omega arith
@@ -195,7 +195,7 @@ fills_parts fuel from (n ∷ ns) xs fits each =
     (zip (bases_from (from + ideal_words n) ns) (cut ns (drop n xs))) in
     fills_append from (from + ideal_words n) (from + sum_by ideal_words (n ∷ ns))
     (rows_within fuel from (take n xs)) more here
-    (subst (λ to. Fills (from + ideal_words n) more to) end rest)
+    (subst (λ to. FillWords (from + ideal_words n) more to) end rest)
 
 -- the length of a part is one of the lengths
 among_parts : (n x : ℕ) (js : List ℕ) → Among x (map (part_len n) js) → (j : ℕ) × (x ≡ part_len n j)
@@ -210,7 +210,7 @@ among_part_lens n x i = among_parts n x (range_with_len 0 (degree n)) i
 
 -- the rows of a tree fill its words
 pub fills_rows : (fuel base : ℕ) (pairs : List Pair) → length pairs ≤ fuel
-    → Fills base (rows_within fuel base pairs) (base + ideal_words (length pairs))
+    → FillWords base (rows_within fuel base pairs) (base + ideal_words (length pairs))
 unfolding rows_within
 fills_rows fuel base [] h = let none = ideal_words_none in omega arith
 fills_rows fuel base (pair ∷ []) h = let two = ideal_words_one in (refl, omega arith)
@@ -227,12 +227,12 @@ fills_rows (suc fuel) base (pair ∷ more ∷ pairs) h =
     let it = among_part_lens n m i in
     let less = part_len-lt n it.0 (omega arith) in
     let is = it.1 in
-    subst (λ k. Fills at (rows_within fuel at part) (at + ideal_words k)) e
+    subst (λ k. FillWords at (rows_within fuel at part) (at + ideal_words k)) e
     (fills_rows fuel at part (omega arith))) in
     let begin : from ≡ base + size_of (top_row base all) = omega arith in
     let end : from + sum_by ideal_words (part_lens n) ≡ base + ideal_words n = omega arith in
     let below = flat_map (λ part. rows_within fuel part.0 part.1) (placed_parts base all) in (
       refl,
-      subst (λ a. Fills a below (base + ideal_words n)) begin
-          (subst (λ b. Fills from below b) end parts_fill),
+      subst (λ a. FillWords a below (base + ideal_words n)) begin
+          (subst (λ b. FillWords from below b) end parts_fill),
     )

@@ -28,7 +28,7 @@ use Rattle.ist_core.proofs.TreeLemmas.{root_tree, tree_of_ideal, tree_rows}
 use Rattle.ist_core.proofs.LeafLemmas.{same_leaves}
 use Rattle.ist_core.proofs.HomeLemmas.{Mentions, HasOneHome, slot_mentions, SaysCame, AllCame, came_old, came_added, came-changed_at, came-with_slot, came-with_root, anchor_old}
 use Rattle.ist_core.proofs.HomeStepLemmas.{word_new}
-use Rattle.ist_core.proofs.RisingLemmas.{Rises, parts_rise, part_rises}
+use Rattle.ist_core.proofs.RisingLemmas.{AreRisingKeys, parts_rise, part_rises}
 use Rattle.ist_core.proofs.SplitLemmas.{key_of_leaf, ideal_splits}
 use Rattle.ist_core.proofs.LeadingLemmas.{LiesIn, LeafLies, LeavesLie}
 use Rattle.ist_core.proofs.UnderLemmas.{leaves_under, each_mapped}
@@ -42,7 +42,7 @@ pub target_lies : (t : Snapshot) (rebuild : ℕ) (row : RebuildRow) (leaves : Li
     → t.pieces rebuild ≡ Some (Rebuild row) → WordsName t → HasOneHome t
     → t.pieces anchor ≡ None → LeavesLie t
     → HasLeaves t.pieces (Some (InnerAt row.target)) leaves
-    → Each (λ leaf. LiesIn t (key_of_leaf leaf) row.parent row.index) leaves × Rises key_of_leaf
+    → Each (λ leaf. LiesIn t (key_of_leaf leaf) row.parent row.index) leaves × AreRisingKeys key_of_leaf
     leaves
 target_lies t rebuild row leaves there names home free lie reached =
     leaves_under t (Some (InnerAt row.target)) leaves names home free lie reached row.parent

@@ -14,9 +14,9 @@ use Rattle.ist_core.specs.Installing.{new_leaf, pair_row, pair_over, ComesByKey,
 use Rattle.ist_core.specs.Growing.{AllGrow}
 use Rattle.ist_core.proofs.ReferenceLemmas.{ref_of-unset, ref_of-word_of}
 use Rattle.ist_core.proofs.GrowingLemmas.{leaf_there, inner_there}
-use Rattle.ist_core.proofs.FreshLemmas.{IsFresh}
-use Rattle.ist_core.proofs.AddingLemmas.{IsInstalled}
-use Rattle.ist_core.proofs.HomeLemmas.{Says, Mentions, slot_mentions, Came, SaysCame, WordCame}
+use Rattle.ist_core.proofs.FreshLemmas.{IsPublishedWith}
+use Rattle.ist_core.proofs.AddingLemmas.{IsInstalledWith}
+use Rattle.ist_core.proofs.HomeLemmas.{Says, Mentions, slot_mentions, WasNamedOrIsNew, SaysCame, WordCame}
 use Rattle.ist_core.proofs.HomeStepLemmas.{word_of_other, word_mentioned, word_new}
 use Rattle.ist_core.proofs.RisingLemmas.{child_count-low, child_count-none}
 use Rattle.ist_core.proofs.LeadingLemmas.{to_child, LiesIn, LeafLies, LeavesLie}
@@ -101,7 +101,7 @@ module _ (u : Snapshot) (node i pair : ℕ) (named : Mentions u node i (InnerAt 
           → IsGoodBase left → IsGoodBase right → KeyIs u left left_key → KeyIs u right right_key
           → LiesIn u left_key node i → LiesIn u right_key node i
           → (n j leaf : ℕ) → Says pair (pair_over right_key left right) n j (LeafAt leaf)
-          → Came LeafAt t (LeafLies u) n j leaf
+          → WasNamedOrIsNew LeafAt t (LeafLies u) n j leaf
       over left_key left right_key right there less gl gr kl kr ll lr n j leaf says =
           let it = inner_there qs u.pieces grows pair (row_of right_key left right) there in
           inr (subst (λ b. LeafLies u b j leaf) (sym says.0)
@@ -112,12 +112,12 @@ module _ (u : Snapshot) (node i pair : ℕ) (named : Mentions u node i (InnerAt 
           ((nat_lt other_key key ≡ false) × (key < suc other_key))
           → qs pair ≡ Some (pair_row key base other_key other)
           → (n j leaf : ℕ) → Says pair (pair_row key base other_key other) n j (LeafAt leaf)
-          → Came LeafAt t (LeafLies u) n j leaf
+          → WasNamedOrIsNew LeafAt t (LeafLies u) n j leaf
       at (inl d) there =
           let is : pair_row key base other_key other ≡ pair_over key other base = ap
           (λ v. if v then pair_over key other base else pair_over other_key base other) d.0 in
           let less = d.1 in
-          subst (λ p. (n j leaf : ℕ) → Says pair p n j (LeafAt leaf) → Came LeafAt t (LeafLies u) n
+          subst (λ p. (n j leaf : ℕ) → Says pair p n j (LeafAt leaf) → WasNamedOrIsNew LeafAt t (LeafLies u) n
           j leaf) (sym is)
           (over other_key other key base (there ∙ ap (λ x. Some x) is) (omega arith) go gb ko kb lo
           lb)
@@ -125,7 +125,7 @@ module _ (u : Snapshot) (node i pair : ℕ) (named : Mentions u node i (InnerAt 
           let is : pair_row key base other_key other ≡ pair_over other_key base other = ap
           (λ v. if v then pair_over key other base else pair_over other_key base other) d.0 in
           let least = d.1 in
-          subst (λ p. (n j leaf : ℕ) → Says pair p n j (LeafAt leaf) → Came LeafAt t (LeafLies u) n
+          subst (λ p. (n j leaf : ℕ) → Says pair p n j (LeafAt leaf) → WasNamedOrIsNew LeafAt t (LeafLies u) n
           j leaf) (sym is)
           (over key base other_key other (there ∙ ap (λ x. Some x) is) (omega arith) gb go kb ko lb
           lo)
@@ -161,7 +161,7 @@ module _ (first : Snapshot) (log : Log) (at : ℕ) (change : ChangeRow) (fresh :
   module _ (led : ComesByKey first log change → LiesIn u change.key change.node change.index)
       (good : (base : ℕ) (p : Piece) → qs base ≡ Some p → IsGoodBase base) where
     to_came : (fits : FitsKind first log change fresh)
-        → ((base : ℕ) (p : Piece) → IsFresh first log change fresh fits base p → qs base ≡ Some p)
+        → ((base : ℕ) (p : Piece) → IsPublishedWith first log change fresh fits base p → qs base ≡ Some p)
         → WordCame LeafAt (state first log) (LeafLies u) change.node change.index (ref_of change.to)
     to_came (a_put h) stood =
         word_new LeafAt (state first log) (LeafLies u) change.node change.index (ref_of change.to)
@@ -209,16 +209,16 @@ module _ (first : Snapshot) (log : Log) (at : ℕ) (change : ChangeRow) (fresh :
 
     -- what all rows of an Install name
     pub installed_lies : (fits : FitsKind first log change fresh)
-        → ((base : ℕ) (p : Piece) → IsFresh first log change fresh fits base p → qs base ≡ Some p)
+        → ((base : ℕ) (p : Piece) → IsPublishedWith first log change fresh fits base p → qs base ≡ Some p)
         → ((base : ℕ) (p : Piece) → (state first log).pieces base ≡ Some p → qs base ≡ Some p)
-        → (base : ℕ) (p : Piece) → IsInstalled first log at change fresh fits base p
+        → (base : ℕ) (p : Piece) → IsInstalledWith first log at change fresh fits base p
         → SaysCame LeafAt (state first log) (LeafLies u) base p
     unfolding SaysCame WordCame
     installed_lies fits stood kept base p (inl (here, new)) =
         subst (λ x. SaysCame LeafAt (state first log) (LeafLies u) base x) (sym new)
         (λ node i leaf says.
-        subst (λ n. Came LeafAt (state first log) (LeafLies u) n i leaf) (sym says.0)
-        (subst (λ j. Came LeafAt (state first log) (LeafLies u) change.node j leaf) (sym says.1)
+        subst (λ n. WasNamedOrIsNew LeafAt (state first log) (LeafLies u) n i leaf) (sym says.0)
+        (subst (λ j. WasNamedOrIsNew LeafAt (state first log) (LeafLies u) change.node j leaf) (sym says.1)
         (⊎_elim (λ e. from_came leaf e) (λ e. to_came fits stood leaf e) says.2)))
     installed_lies (a_put h) stood kept base p (inr (here, new)) = subst
         (λ x. SaysCame LeafAt (state first log) (LeafLies u) base x) (sym new)

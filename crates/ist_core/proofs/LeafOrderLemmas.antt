@@ -25,7 +25,7 @@ use Rattle.ist_core.proofs.SoundLemmas.{sound}
 use Rattle.ist_core.proofs.StartLemmas.{sound_start}
 use Rattle.ist_core.proofs.InstallLemmas.{with_installed}
 use Rattle.ist_core.proofs.FreshLemmas.{fresh_stands}
-use Rattle.ist_core.proofs.AddingLemmas.{IsInstalled, adds_install}
+use Rattle.ist_core.proofs.AddingLemmas.{IsInstalledWith, adds_install}
 use Rattle.ist_core.proofs.GrowingLemmas.{all_grow-changed_at, grows-with_slot}
 use Rattle.ist_core.proofs.StepLemmas.{grow_step, holds_installed, known}
 use Rattle.ist_core.proofs.PlaceLemmas.{anchor_free}
@@ -39,7 +39,7 @@ use Rattle.ist_core.proofs.HomeLemmas.{Says, Mentions, came_old, came_added, cam
 use Rattle.ist_core.proofs.HomeStepLemmas.{word_of_other}
 use Rattle.ist_core.proofs.ParentLemmas.{one_home}
 use Rattle.ist_core.proofs.MentionLemmas.{mentions_step}
-use Rattle.ist_core.proofs.RisingLemmas.{Rises, Rising}
+use Rattle.ist_core.proofs.RisingLemmas.{AreRisingKeys, Rising}
 use Rattle.ist_core.proofs.LeadingLemmas.{to_anchor, LiesIn, LeafLies, LeavesLie, lies_step, was_led}
 use Rattle.ist_core.proofs.LyingLemmas.{RowLies, split_lies}
 use Rattle.ist_core.proofs.RootKeyLemmas.{roots_are_cut}
@@ -56,7 +56,7 @@ module _ {A : Type 0} (key : A → ℕ) where
   above_all low x (y ∷ ys) less h = let first = h.0 in (omega arith, above_all low x ys less h.1)
 
   -- in a list with strictly increasing keys, each key is below all later ones
-  pub rises_from_next : (xs : List A) → IsStrictlyIncreasing (map key xs) → Rises key xs
+  pub rises_from_next : (xs : List A) → IsStrictlyIncreasing (map key xs) → AreRisingKeys key xs
   rises_from_next [] h = tt
   rises_from_next (x ∷ []) h = (tt, tt)
   rises_from_next (x ∷ y ∷ ys) h =
@@ -78,7 +78,7 @@ next_from_rising (x ∷ y ∷ ys) h (suc k) short =
     (next_from_rising (y ∷ ys) h.1 k (omega arith))
 
 -- if elements have strictly increasing keys, each key is below the next
-pub next_from_rises : {A : Type 0} (key : A → ℕ) (xs : List A) → Rises key xs → IsStrictlyIncreasing
+pub next_from_rises : {A : Type 0} (key : A → ℕ) (xs : List A) → AreRisingKeys key xs → IsStrictlyIncreasing
     (map key xs)
 next_from_rises {A = A} key xs h = next_from_rising (map key xs) (keys xs h)
   where
@@ -86,7 +86,7 @@ next_from_rises {A = A} key xs h = next_from_rising (map key xs) (keys xs h)
     mapped low [] h = tt
     mapped low (y ∷ ys) h = (h.0, mapped low ys h.1)
 
-    keys : (ys : List A) → Rises key ys → Rising (map key ys)
+    keys : (ys : List A) → AreRisingKeys key ys → Rising (map key ys)
     keys [] h = tt
     keys (y ∷ ys) h = (mapped (key y) ys h.0, keys ys h.1)
 
@@ -94,7 +94,7 @@ module _ (pairs : List Pair) (words : ℕ) (opens : CanOpen pairs words) where
   -- ---- a new table
 
   -- the keys of the start pairs are strictly increasing
-  pub pairs_rise : Rises (λ pair. pair.key) pairs
+  pub pairs_rise : AreRisingKeys (λ pair. pair.key) pairs
   pairs_rise = rises_from_next (λ pair. pair.key) pairs opens.rising
 
   all_at_anchor : (xs : List Pair) → Each (λ x. LiesIn (start pairs words) x.key anchor 0) xs
@@ -181,7 +181,7 @@ module _ (pairs : List Pair) (words : ℕ) (opens : CanOpen pairs words) where
       subst (λ xs. LeavesLie (after t (Install caller base xs))) (sym h.rows_are)
       (lies_from t u growing onward (names pairs words opens log e) lie
       (came-changed_at LeafAt t New qs h.change.node (with_slot h.change.index word)
-      (came_added LeafAt t New t.pieces qs (IsInstalled first log base h.change h.fresh h.fits) adds
+      (came_added LeafAt t New t.pieces qs (IsInstalledWith first log base h.change h.fresh h.fits) adds
       (came_old LeafAt t New)
       (λ at p born _. installed_lies first log base h.change h.fresh u qs
       (all_grow-changed_at qs h.change.node (with_slot h.change.index word)

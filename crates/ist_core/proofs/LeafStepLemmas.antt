@@ -22,9 +22,9 @@ use Rattle.ist_core.proofs.StepLemmas.{rows_resolved, known}
 use Rattle.ist_core.proofs.SlotLemmas.{anchor_slot, same_inner}
 use Rattle.ist_core.proofs.NamingLemmas.{WordsName}
 use Rattle.ist_core.proofs.TreeLemmas.{IsTreeRow}
-use Rattle.ist_core.proofs.HomeLemmas.{Says, Mentions, Came, SaysCame, WordCame, AllCame, came_old, came-changed_at, came-with_slot, anchor_came, anchor_old}
+use Rattle.ist_core.proofs.HomeLemmas.{Says, Mentions, WasNamedOrIsNew, SaysCame, WordCame, AllCame, came_old, came-changed_at, came-with_slot, anchor_came, anchor_old}
 use Rattle.ist_core.proofs.HomeStepLemmas.{word_mentioned}
-use Rattle.ist_core.proofs.RisingLemmas.{Rises}
+use Rattle.ist_core.proofs.RisingLemmas.{AreRisingKeys}
 use Rattle.ist_core.proofs.SplitLemmas.{key_of_leaf, ideal_splits}
 use Rattle.ist_core.proofs.LeadingLemmas.{LiesIn, LeafLies, LeavesLie, mentioned_leaf}
 use Rattle.ist_core.proofs.LyingLemmas.{RowLies, split_lies}
@@ -44,16 +44,16 @@ unfolding AllCame SaysCame WordCame
 lies_from t u grows on names lie all word = record
     { each = λ node i leaf m. from node i leaf (came node i leaf m) }
   where
-    came : (node i leaf : ℕ) → Mentions u node i (LeafAt leaf) → Came LeafAt t (LeafLies u) node i
+    came : (node i leaf : ℕ) → Mentions u node i (LeafAt leaf) → WasNamedOrIsNew LeafAt t (LeafLies u) node i
         leaf
-    came node i leaf (inl h) = subst (λ n. Came LeafAt t (LeafLies u) n i leaf) (sym h.0)
-        (subst (λ j. Came LeafAt t (LeafLies u) anchor j leaf) (sym h.1) (word leaf h.2))
+    came node i leaf (inl h) = subst (λ n. WasNamedOrIsNew LeafAt t (LeafLies u) n i leaf) (sym h.0)
+        (subst (λ j. WasNamedOrIsNew LeafAt t (LeafLies u) anchor j leaf) (sym h.1) (word leaf h.2))
     came node i leaf (inr h) = all h.0 h.1 h.2 node i leaf h.3
 
     same_leaf : (o : Option Piece) (r s : LeafRow) → o ≡ Some (Leaf r) → o ≡ Some (Leaf s) → r ≡ s
     same_leaf o r s e f = cc
 
-    from : (node i leaf : ℕ) → Came LeafAt t (LeafLies u) node i leaf → LeafLies u node i leaf
+    from : (node i leaf : ℕ) → WasNamedOrIsNew LeafAt t (LeafLies u) node i leaf → LeafLies u node i leaf
     from node i leaf (inl m) r e =
         let old = mentioned_leaf t node i leaf names m in
         let same = same_leaf (u.pieces leaf) old.0 r
@@ -133,7 +133,7 @@ pub tree_says : (t u : Snapshot) (ps : Pieces) (rows : List ℕ) → Each (IsTre
 unfolding SaysCame
 tree_says t u ps rows all lie stand base p i e =
     let it = each-among (IsTreeRow ps) base rows all i in
-    known (λ x. (node j leaf : ℕ) → Says base x node j (LeafAt leaf) → Came LeafAt t (LeafLies u)
+    known (λ x. (node j leaf : ℕ) → Says base x node j (LeafAt leaf) → WasNamedOrIsNew LeafAt t (LeafLies u)
     node j leaf) (ps base) p (Inner it.row) e it.published
     (λ node j leaf says.
     inr (subst (λ n. LeafLies u n j leaf) (sym says.0)
@@ -158,7 +158,7 @@ pub root_lies : (u : Snapshot) (ps : Pieces) (word k : ℕ) (leaves : List Place
     → ((base : ℕ) (r : LeafRow) → ps base ≡ Some (Leaf r) → u.pieces base ≡ Some (Leaf r))
     → ((base : ℕ) (r : InnerRow) → Among base rows → ps base ≡ Some (Inner r) → u.pieces base ≡ Some
     (Inner r))
-    → Rises key_of_leaf leaves → (node i : ℕ)
+    → AreRisingKeys key_of_leaf leaves → (node i : ℕ)
     → ((ref : Ref) → ref_of word ≡ Some ref → Mentions u node i ref)
     → Each (λ leaf. LiesIn u (key_of_leaf leaf) node i) leaves
     → IsRoot ps word k leaves target rows

@@ -12,6 +12,7 @@ pub mod PieceLemmas
 pub mod SnapshotLemmas
 pub mod LeafLemmas
 pub mod SizeLemmas
+pub mod TopRowLemmas
 pub mod PublishingLemmas
 pub mod InstallLemmas
 pub mod MoveLemmas
@@ -62,6 +63,8 @@ pub mod ImageRowLemmas
 pub mod ImageEventLemmas
 pub mod ImageStepLemmas
 pub mod CountLemmas
+pub mod RowFieldLemmas
+pub mod RowNumberLemmas
 pub mod TallyLemmas
 pub mod YesLemmas
 pub mod DrawnLemmas

@@ -13,7 +13,7 @@ use Rattle.ist_core.specs.Slots.{in_row, of_row}
 use Rattle.ist_core.proofs.ElementLemmas.{each_append, each-among, among_left, among_right}
 use Rattle.ist_core.proofs.SlotLemmas.{same_inner}
 use Rattle.ist_core.proofs.HomeLemmas.{Mentions, slot_mentions}
-use Rattle.ist_core.proofs.RisingLemmas.{Rises, PartsRise, each_of_cut, part_of_each, parts_rise, child_of_part}
+use Rattle.ist_core.proofs.RisingLemmas.{AreRisingKeys, PartsRise, each_of_cut, part_of_each, parts_rise, child_of_part}
 use Rattle.ist_core.proofs.SplitLemmas.{Splits, split_none, split_leaf, split_row, SplitAll, no_split, one_split}
 use Rattle.ist_core.proofs.LeadingLemmas.{to_child, LiesIn, LeafLies}
 
@@ -31,8 +31,8 @@ module _ {A : Type 0} (key : A → ℕ) (ps : Pieces) (u : Snapshot)
     (leaf_stands : (base : ℕ) (r : LeafRow) → ps base ≡ Some (Leaf r) → u.pieces base ≡ Some
     (Leaf r)) where
   -- these rows are the same in the table as in the tree
-  abbrev pub RowsStand : List ℕ → Type 0
-  RowsStand rows = (base : ℕ) (r : InnerRow) → Among base rows → ps base ≡ Some (Inner r) → u.pieces
+  abbrev pub RowsLie : List ℕ → Type 0
+  RowsLie rows = (base : ℕ) (r : InnerRow) → Among base rows → ps base ≡ Some (Inner r) → u.pieces
       base ≡ Some (Inner r)
 
   -- all keys lead to the slot
@@ -52,7 +52,7 @@ module _ {A : Type 0} (key : A → ℕ) (ps : Pieces) (u : Snapshot)
   pub parts_lie : (xs : List A) (node i base : ℕ) (r : InnerRow) → u.pieces base ≡ Some (Inner r)
       → Mentions u node i (InnerAt base) → 2 ≤ length xs
       → r.keys ≡ first_keys key (drop 1 (parts xs))
-      → Rises key xs → AllLie xs node i → (j : ℕ) (part : List A) → slice_get (parts xs) j ≡ Some
+      → AreRisingKeys key xs → AllLie xs node i → (j : ℕ) (part : List A) → slice_get (parts xs) j ≡ Some
       part
       → AllLie part base j
   parts_lie xs node i base r e m two keys rise lie j part at =
@@ -75,7 +75,7 @@ module _ {A : Type 0} (key : A → ℕ) (ps : Pieces) (u : Snapshot)
     -- if the keys of a strictly increasing list lead to the slot that a tree over the list hangs
     -- in, they lead to the tree's leaves
     pub split_lies : (ref : Ref) (xs : List A) (rows : List ℕ) → Splits key ps ref xs rows
-        → RowsStand rows → Rises key xs → (node i : ℕ) → Mentions u node i ref
+        → RowsLie rows → AreRisingKeys key xs → (node i : ℕ) → Mentions u node i ref
         → AllLie xs node i → Each (RowLies u) rows × RefLies u node i ref
     split_lies _ _ _ split_none stand rise node i m lie = (tt, λ leaf e. absurd (cc))
     split_lies _ _ _ (split_leaf {base = base} {x = x} r e is) stand rise node i m lie = (
@@ -107,7 +107,7 @@ module _ {A : Type 0} (key : A → ℕ) (ps : Pieces) (u : Snapshot)
         )
 
     split_all_lies : (words : List ℕ) (behind : List (List A)) (rows : List ℕ)
-        → SplitAll key ps words behind rows → RowsStand rows → PartsRise key behind → (base j : ℕ)
+        → SplitAll key ps words behind rows → RowsLie rows → PartsRise key behind → (base j : ℕ)
         → ((k m word : ℕ) (ref : Ref) → m ≡ j + k → slice_get words k ≡ Some word → ref_of word ≡
         Some ref → Mentions u base m ref)
         → ((k m : ℕ) (part : List A) → m ≡ j + k → slice_get behind k ≡ Some part → AllLie part base

@@ -4,7 +4,7 @@ use Rattle.std.proofs.Common.{◌≡◌, ◌≢◌, ℕ, ◌⊎◌, ◌==◌, if
 use Rattle.ist_core.specs.declared.pairs.Pair.{Pair}
 use Rattle.ist_core.specs.declared.states.ChangeRow.{ChangeRow}
 use Rattle.ist_core.specs.declared.events.Event.{Event}
-use Rattle.ist_core.specs.declared.events.Event.TheVariants.{Enter, Reserve, Install, Okay, Decide, Resolve, Count, Mark, Pass, Finish, Root, Draw, Place, Lose}
+use Rattle.ist_core.specs.declared.events.Event.TheVariants.{Install, Resolve, Place}
 use Rattle.ist_core.specs.References.{Ref, Empty, Unset, LeafAt, InnerAt, ChangeAt, RebuildAt, ref_of}
 use Rattle.ist_core.specs.Statuses.{decided_yes}
 use Rattle.ist_core.specs.Pieces.{Piece, Leaf, Inner, Change, Rebuild}
@@ -88,28 +88,8 @@ module _ (pairs : List Pair) (words : ℕ) (opens : CanOpen pairs words) where
       (λ stays. slot_mentions (state_of pairs words (Place caller rebuild j new rows ∷ log)) node i
       word ref stays is)
       (writes.others node i word slot)
-  slot_step log (Enter caller) h node i word ref is no_change set slot = still log (Enter caller) h
-      tt node i word ref is slot
-  slot_step log (Reserve caller base size) h node i word ref is no_change set slot = still log
-      (Reserve caller base size) h tt node i word ref is slot
-  slot_step log (Okay caller base) h node i word ref is no_change set slot = still log
-      (Okay caller base) h tt node i word ref is slot
-  slot_step log (Decide caller base said) h node i word ref is no_change set slot = still log
-      (Decide caller base said) h tt node i word ref is slot
-  slot_step log (Count caller n) h node i word ref is no_change set slot = still log
-      (Count caller n) h tt node i word ref is slot
-  slot_step log (Mark caller n) h node i word ref is no_change set slot = still log (Mark caller n)
-      h tt node i word ref is slot
-  slot_step log (Pass caller n j w) h node i word ref is no_change set slot = still log
-      (Pass caller n j w) h tt node i word ref is slot
-  slot_step log (Finish caller n keys) h node i word ref is no_change set slot = still log
-      (Finish caller n keys) h tt node i word ref is slot
-  slot_step log (Root caller rebuild w rows) h node i word ref is no_change set slot = still log
-      (Root caller rebuild w rows) h tt node i word ref is slot
-  slot_step log (Draw caller rebuild part) h node i word ref is no_change set slot = still log
-      (Draw caller rebuild part) h tt node i word ref is slot
-  slot_step log (Lose caller bases) h node i word ref is no_change set slot = still log
-      (Lose caller bases) h tt node i word ref is slot
+  slot_step log event h node i word ref is no_change set slot =
+      still log event h tt node i word ref is slot
 
   -- what is named for a slot stays named for it
   pub mentions_step : (log : Log) (event : Event) → EachEnabled (start pairs words) (event ∷ log)

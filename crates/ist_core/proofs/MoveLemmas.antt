@@ -10,7 +10,7 @@ use Rattle.ist_core.specs.Snapshots.{Snapshot, without}
 use Rattle.ist_core.specs.Logs.{Loses}
 use Rattle.ist_core.proofs.ElementLemmas.{among-filter, among_filter}
 use Rattle.ist_core.proofs.RowLemmas.{changed_at-none, changed_at-some}
-use Rattle.ist_core.proofs.PublishingLemmas.{among_bases, tests_base, Stands}
+use Rattle.ist_core.proofs.PublishingLemmas.{among_bases, tests_base, LiesAt}
 
 -- rows lie below the first free word, and what is held is not published, and is held once
 pub record HeldLieApart (t : Snapshot) : Type 0 where
@@ -32,7 +32,7 @@ pub record Moves (t u : Snapshot) (event : Event) : Type 0 where
   pub next : u.next ≡ t.next
   -- a row that is published after the event was published before, or was held
   pub from : (base : ℕ) (p : Piece) → u.pieces base ≡ Some p
-      → Stands t.pieces base ⊎ ((h : HeldRow) × Among h t.held × (h.base ≡ base))
+      → LiesAt t.pieces base ⊎ ((h : HeldRow) × Among h t.held × (h.base ≡ base))
   -- a row that is held after the event was held before
   pub kept : (h : HeldRow) → Among h u.held → Among h t.held
   -- a row that is still held is still unpublished

@@ -22,7 +22,7 @@ use Rattle.ist_core.proofs.ElementLemmas.{each-among}
 use Rattle.ist_core.proofs.RowLemmas.{with_row-same}
 use Rattle.ist_core.proofs.MoveLemmas.{HeldLieApart}
 use Rattle.ist_core.proofs.InstallLemmas.{with_installed}
-use Rattle.ist_core.proofs.AddingLemmas.{IsInstalled, adds_install, adds-with_inners}
+use Rattle.ist_core.proofs.AddingLemmas.{IsInstalledWith, adds_install, adds-with_inners}
 use Rattle.ist_core.proofs.GrowingLemmas.{all_grow_added, all_grow-changed_at, grows-with_slot, grows-with_root}
 use Rattle.ist_core.proofs.StepLemmas.{grow_step, rows_resolved, rows_placed, holds_installed, known}
 use Rattle.ist_core.proofs.RoomLemmas.{ref_of-change}
@@ -131,7 +131,7 @@ names_install first log caller base rows h sound free good_here good o =
     subst (λ xs. WordsName (after t (Install caller base xs))) (sym h.rows_are)
     (names_written t (after t (Install caller base (row_at base (Change h.change) ∷ h.fresh))) qs
     h.change.node h.change.index word
-    (all_name_added t.pieces qs (IsInstalled first log base h.change h.fresh h.fits) grows adds
+    (all_name_added t.pieces qs (IsInstalledWith first log base h.change h.fresh h.fits) grows adds
     (all_name t o)
     (λ at p born _. installed_names first log caller base h.change h.fresh sound holds h.in_slot o
     slot qs refl grows h.fits good at p born))

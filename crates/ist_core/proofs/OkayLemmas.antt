@@ -2,7 +2,7 @@
 use Rattle.std.proofs.Common.{◌≡◌, ℕ, [], ◌∷◌, Some, subst, inl, inr}
 use Rattle.ist_core.specs.declared.states.ChangeRow.{ChangeRow}
 use Rattle.ist_core.specs.declared.events.Event.{Event}
-use Rattle.ist_core.specs.declared.events.Event.TheVariants.{Enter, Reserve, Install, Okay, Decide, Resolve, Count, Mark, Pass, Finish, Root, Draw, Place, Lose}
+use Rattle.ist_core.specs.declared.events.Event.TheVariants.{Okay}
 use Rattle.ist_core.specs.Pieces.{Change}
 use Rattle.ist_core.specs.Snapshots.{Snapshot}
 use Rattle.ist_core.specs.Logs.{Log, state, Happened, Okays}
@@ -26,19 +26,7 @@ okay_published first (event ∷ log) base s h (inl now) = at event h.1 now
       can.change,
       subst (λ b. (state first log).pieces b ≡ Some (Change can.change)) is can.pending.published,
     )
-    at (Enter caller) can is = absurd is
-    at (Reserve caller b size) can is = absurd is
-    at (Install caller change rows) can is = absurd is
-    at (Decide caller change said) can is = absurd is
-    at (Resolve caller change) can is = absurd is
-    at (Count caller node) can is = absurd is
-    at (Mark caller node) can is = absurd is
-    at (Pass caller node i word) can is = absurd is
-    at (Finish caller node keys) can is = absurd is
-    at (Root caller rebuild word rows) can is = absurd is
-    at (Draw caller rebuild part) can is = absurd is
-    at (Place caller rebuild i word rows) can is = absurd is
-    at (Lose caller bases) can is = absurd is
+    at _ can is = absurd is
 okay_published first (event ∷ log) base s h (inr before) =
     let it = okay_published first log base s h.0 before in
     let there = change_there (state first log).pieces (state first (event ∷ log)).pieces

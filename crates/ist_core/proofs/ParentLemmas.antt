@@ -21,7 +21,7 @@ use Rattle.ist_core.proofs.SoundLemmas.{sound}
 use Rattle.ist_core.proofs.StartLemmas.{sound_start}
 use Rattle.ist_core.proofs.InstallLemmas.{with_installed}
 use Rattle.ist_core.proofs.FreshLemmas.{fresh_stands}
-use Rattle.ist_core.proofs.AddingLemmas.{IsInstalled, adds_install}
+use Rattle.ist_core.proofs.AddingLemmas.{IsInstalledWith, adds_install}
 use Rattle.ist_core.proofs.StepLemmas.{holds_installed, known}
 use Rattle.ist_core.proofs.PlaceLemmas.{anchor_free}
 use Rattle.ist_core.proofs.RoomLemmas.{published_good, ref_of-change}
@@ -58,7 +58,7 @@ module _ (pairs : List Pair) (words : ℕ) (opens : CanOpen pairs words) where
       (one_home_from t u New home (names pairs words opens log e)
       (pair_new first log caller base h.change h.fresh s holds h.in_slot h.fits)
       (came-changed_at InnerAt t New qs h.change.node (with_slot h.change.index word)
-      (came_added InnerAt t New t.pieces qs (IsInstalled first log base h.change h.fresh h.fits)
+      (came_added InnerAt t New t.pieces qs (IsInstalledWith first log base h.change h.fresh h.fits)
       (adds_install first log caller base h.change h.fresh h.fits holds s)
       (came_old InnerAt t New)
       (λ at p born _. installed_says first log caller base h.change h.fresh s holds h.in_slot h.fits

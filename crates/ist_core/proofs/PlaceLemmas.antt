@@ -4,7 +4,7 @@ use Rattle.std.proofs.lemmas.Bool.Decides.{eqb_tells}
 use Rattle.ist_core.specs.declared.pairs.Pair.{Pair}
 use Rattle.ist_core.specs.declared.lists.HeldRow.{HeldRow}
 use Rattle.ist_core.specs.declared.events.Event.{Event}
-use Rattle.ist_core.specs.declared.events.Event.TheVariants.{Enter, Reserve, Install, Okay, Decide, Resolve, Count, Mark, Pass, Finish, Root, Draw, Place, Lose}
+use Rattle.ist_core.specs.declared.events.Event.TheVariants.{Reserve, Lose}
 use Rattle.ist_core.specs.RowLayout.{first_row, anchor}
 use Rattle.ist_core.specs.Shapes.{ideal_words}
 use Rattle.ist_core.specs.Elements.{Among}
@@ -92,19 +92,7 @@ module _ (pairs : List Pair) (words : ℕ) where
       let some = reserve_positive (state_of pairs words log) c b z h in
       let same = r.2 in
       (sym r.1 ∙ h.base_is, omega arith, (λ i. r.1 i + r.2 i))
-  reserve_place log (Enter c) caller base size h r = absurd r
-  reserve_place log (Install c change rows) caller base size h r = absurd r
-  reserve_place log (Okay c change) caller base size h r = absurd r
-  reserve_place log (Decide c change said) caller base size h r = absurd r
-  reserve_place log (Resolve c change) caller base size h r = absurd r
-  reserve_place log (Count c node) caller base size h r = absurd r
-  reserve_place log (Mark c node) caller base size h r = absurd r
-  reserve_place log (Pass c node i word) caller base size h r = absurd r
-  reserve_place log (Finish c node keys) caller base size h r = absurd r
-  reserve_place log (Root c rebuild word rows) caller base size h r = absurd r
-  reserve_place log (Draw c rebuild part) caller base size h r = absurd r
-  reserve_place log (Place c rebuild i word rows) caller base size h r = absurd r
-  reserve_place log (Lose c bases) caller base size h r = absurd r
+  reserve_place log _ caller base size h r = absurd r
 
   -- what was set aside lies within the table
   pub claimed_within : (log : Log) (base size : ℕ) → EachEnabled (start pairs words) log
@@ -194,19 +182,7 @@ module _ (pairs : List Pair) (words : ℕ) where
       → (state_of pairs words log).pieces base ≡ None
       → (state_of pairs words (event ∷ log)).pieces base ≡ None
   lost_free log (Lose caller bases) base l e = e
-  lost_free log (Enter c) base l e = absurd l
-  lost_free log (Reserve c b z) base l e = absurd l
-  lost_free log (Install c change rows) base l e = absurd l
-  lost_free log (Okay c change) base l e = absurd l
-  lost_free log (Decide c change said) base l e = absurd l
-  lost_free log (Resolve c change) base l e = absurd l
-  lost_free log (Count c node) base l e = absurd l
-  lost_free log (Mark c node) base l e = absurd l
-  lost_free log (Pass c node i word) base l e = absurd l
-  lost_free log (Finish c node keys) base l e = absurd l
-  lost_free log (Root c rebuild word rows) base l e = absurd l
-  lost_free log (Draw c rebuild part) base l e = absurd l
-  lost_free log (Place c rebuild i word rows) base l e = absurd l
+  lost_free log _ base l e = absurd l
 
   placed_moves : (log : Log) (event : Event) → HeldLieApart (state_of pairs words log)
       → HeldLieApart (state_of pairs words (event ∷ log)) → IsPlaced log (state_of pairs words log)

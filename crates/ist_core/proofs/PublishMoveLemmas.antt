@@ -8,7 +8,7 @@ use Rattle.ist_core.specs.Pieces.{Pieces, Piece, size_of, changed_at}
 use Rattle.ist_core.specs.Snapshots.{Snapshot, bases_of, without, HoldsRow, HoldsRows}
 use Rattle.ist_core.proofs.ElementLemmas.{each-among}
 use Rattle.ist_core.proofs.RowLemmas.{changed_at-none, changed_at-some}
-use Rattle.ist_core.proofs.PublishingLemmas.{row_among, Publishes}
+use Rattle.ist_core.proofs.PublishingLemmas.{row_among, PublishesRows}
 use Rattle.ist_core.proofs.MoveLemmas.{HeldLieApart, Moves, StandsWith, without-kept, without-fate, stays-changed_at}
 
 module _ (t : Snapshot) (caller : ℕ) (rows : List Row) (holds : HoldsRows t caller rows)
@@ -35,7 +35,7 @@ module _ (t : Snapshot) (caller : ℕ) (rows : List Row) (holds : HoldsRows t ca
       clash o a b = cc
 
   -- a row that is published has the size with which it was held
-  same_size : (qs : Pieces) → Publishes t.pieces rows qs → (h : HeldRow) → Among h t.held
+  same_size : (qs : Pieces) → PublishesRows t.pieces rows qs → (h : HeldRow) → Among h t.held
       → (p : Piece) → qs h.base ≡ Some p → Among h.base (bases_of rows) → size_of p ≡ h.size
   unfolding held_row
   same_size qs publishes h i p e k =
@@ -46,7 +46,7 @@ module _ (t : Snapshot) (caller : ℕ) (rows : List Row) (holds : HoldsRows t ca
 
   -- an event that publishes held rows and changes one row moves rows as it may
   pub moves_published : (u : Snapshot) (event : Event) (qs : Pieces) (at : ℕ) (f : Piece → Piece)
-      → ((p : Piece) → size_of (f p) ≡ size_of p) → Publishes t.pieces rows qs
+      → ((p : Piece) → size_of (f p) ≡ size_of p) → PublishesRows t.pieces rows qs
       → u.next ≡ t.next → u.held ≡ without (bases_of rows) t.held → u.pieces ≡ changed_at qs at f
       → Moves t u event
   unfolding held_row

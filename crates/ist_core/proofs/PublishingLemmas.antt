@@ -8,10 +8,11 @@ use Rattle.ist_core.specs.Elements.{Among, Each}
 use Rattle.ist_core.specs.Pieces.{Pieces, Piece, Inner, size_of, with_row, with_inners}
 use Rattle.ist_core.specs.Snapshots.{bases_of}
 use Rattle.ist_core.specs.Leaves.{PlacedLeaf}
-use Rattle.ist_core.specs.Ideals.{IsIdeal, AreIdeal, of_none, of_one, of_more, no_part, one_part}
-use Rattle.ist_core.proofs.ElementLemmas.{each_append, each-among}
+use Rattle.ist_core.specs.Ideals.{IsIdeal}
+use Rattle.ist_core.proofs.ElementLemmas.{each-among}
 use Rattle.ist_core.proofs.RowLemmas.{with_row-same, with_inners-some, with_inners-other}
 use Rattle.ist_core.proofs.SizeLemmas.{size_of-inner_of}
+use Rattle.ist_core.proofs.TopRowLemmas.{ideal_rows}
 
 -- ---- bases
 
@@ -49,28 +50,28 @@ base_among row (x ∷ rows) (inr i) = inr (base_among row rows i)
 -- ---- rows that are published
 
 -- there is a row at the base
-abbrev pub Stands : Pieces → ℕ → Type 0
-Stands ps base = (p : Piece) × (ps base ≡ Some p)
+abbrev pub LiesAt : Pieces → ℕ → Type 0
+LiesAt ps base = (p : Piece) × (ps base ≡ Some p)
 
 -- a row is still at its base after another one is put
-pub stands-with_row : (ps : Pieces) (base at : ℕ) (o : Option Piece) → Stands ps at
-    → Stands (with_row ps base o) at
+pub stands-with_row : (ps : Pieces) (base at : ℕ) (o : Option Piece) → LiesAt ps at
+    → LiesAt (with_row ps base o) at
 stands-with_row ps base at None h = h
 stands-with_row ps base at (Some p) h =
-    elim (at == base) as (λ v. Stands (λ b. if v then Some p else ps at) at)
+    elim (at == base) as (λ v. LiesAt (λ b. if v then Some p else ps at) at)
     [ true ↦ (p, refl) | false ↦ h ]
 
 -- a row that is put is at its base
 pub stands_here : (ps : Pieces) (base : ℕ) (o : Option Piece) (p : Piece) → o ≡ Some p
-    → Stands (with_row ps base o) base
-stands_here ps base o p e = subst (λ x. Stands (with_row ps base x) base) (sym e)
+    → LiesAt (with_row ps base o) base
+stands_here ps base o p e = subst (λ x. LiesAt (with_row ps base x) base) (sym e)
     (p, with_row-same ps base p)
 
 -- ---- publishing
 
 -- the rows are published: each row afterwards was there before or is one of them, and each of them
 -- is there
-pub record Publishes (ps : Pieces) (rows : List Row) (qs : Pieces) : Type 0 where
+pub record PublishesRows (ps : Pieces) (rows : List Row) (qs : Pieces) : Type 0 where
   -- a row that is there afterwards was there before, or is one of them, with its number of words
   pub from : (base : ℕ) (q : Piece) → qs base ≡ Some q
       → (ps base ≡ Some q) ⊎ ((row : Row) × Among row rows × (row.base ≡ base) ×
@@ -78,38 +79,25 @@ pub record Publishes (ps : Pieces) (rows : List Row) (qs : Pieces) : Type 0 wher
   -- nothing changes at other bases
   pub others : (base : ℕ) → ¬ (Among base (bases_of rows)) → qs base ≡ ps base
   -- each of them is there
-  pub named : (row : Row) → Among row rows → Stands qs row.base
+  pub named : (row : Row) → Among row rows → LiesAt qs row.base
 
 -- inner rows are published if each of them is found afterwards
 pub publishes-with_inners : (ps : Pieces) (rows : List Row)
-    → Each (λ base. Stands (with_inners ps rows) base) (bases_of rows)
-    → Publishes ps rows (with_inners ps rows)
+    → Each (λ base. LiesAt (with_inners ps rows) base) (bases_of rows)
+    → PublishesRows ps rows (with_inners ps rows)
 publishes-with_inners ps rows all =
     record {
       from = λ base q e.
           ⊎_elim (λ w. inr (w.0, w.1, w.2, size_of-inner_of w.0.words q w.3)) (λ there. inl there)
           (with_inners-some ps rows base q e);
       others = λ base out. with_inners-other ps rows base out;
-      named = λ row i. each-among (λ base. Stands (with_inners ps rows) base) row.base
+      named = λ row i. each-among (λ base. LiesAt (with_inners ps rows) base) row.base
           (bases_of rows) all (base_among row rows i);
     }
 
--- the inner rows of an ideal subtree are published
-mutual
-  -- there is a published row at each base of an ideal subtree's rows
-  pub ideal_stands : (ps : Pieces) (ref : Ref) (leaves : List PlacedLeaf) (above : ℕ)
-      (rows : List ℕ)
-      → IsIdeal ps ref leaves above rows → Each (λ base. Stands ps base) rows
-  ideal_stands ps _ _ _ _ of_none = tt
-  ideal_stands ps _ _ _ _ (of_one same e) = tt
-  ideal_stands ps _ _ _ _ (of_more {base = base} {rows = rows} r top below) =
-      ((Inner r, top.published), parts_stand ps r.slots _ base rows below)
-
-  parts_stand : (ps : Pieces) (words : List ℕ) (parts : List (List PlacedLeaf)) (above : ℕ)
-      (rows : List ℕ)
-      → AreIdeal ps words parts above rows → Each (λ base. Stands ps base) rows
-  parts_stand ps _ _ _ _ no_part = tt
-  parts_stand ps _ _ _ _ (one_part {word = word} {above = above} {words = words} {here = here}
-      {rest = rest} {part = part} {behind = behind} ref e first more) =
-      each_append (λ base. Stands ps base) here rest (ideal_stands ps ref part above here first)
-      (parts_stand ps words behind above rest more)
+-- there is a published row at each base of an ideal subtree's rows
+pub ideal_stands : (ps : Pieces) (ref : Ref) (leaves : List PlacedLeaf) (above : ℕ)
+    (rows : List ℕ)
+    → IsIdeal ps ref leaves above rows → Each (λ base. LiesAt ps base) rows
+ideal_stands ps =
+    ideal_rows ps (λ base. LiesAt ps base) (λ base r leaves above top. (Inner r, top.published))

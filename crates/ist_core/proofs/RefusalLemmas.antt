@@ -9,12 +9,12 @@ NotRefused (Change r) = r.decision ≢ decided_no
 NotRefused _ = Unit {0}
 
 -- no row is a change that was decided no
-abbrev pub NoneRefused : Pieces → Type 0
-NoneRefused ps = (base : ℕ) (p : Piece) → ps base ≡ Some p → NotRefused p
+abbrev pub NoneDecidedNo : Pieces → Type 0
+NoneDecidedNo ps = (base : ℕ) (p : Piece) → ps base ≡ Some p → NotRefused p
 
 -- putting a row that isn't a refused change adds no refusal
-pub none_refused-with_row : (ps : Pieces) (at : ℕ) (p : Piece) → NotRefused p → NoneRefused ps
-    → NoneRefused (with_row ps at (Some p))
+pub none_refused-with_row : (ps : Pieces) (at : ℕ) (p : Piece) → NotRefused p → NoneDecidedNo ps
+    → NoneDecidedNo (with_row ps at (Some p))
 none_refused-with_row ps at p h all base q e =
     elim (base == at) as (λ b. (if b then Some p else ps base) ≡ Some q → NotRefused q) [
       | true ↦ λ found. let same : p ≡ q = cc in subst NotRefused same h
@@ -28,8 +28,8 @@ mapped f (Some p) q e = (p, refl, (cc))
 
 -- a change of a row that refuses nothing adds no refusal
 pub none_refused-changed_at : (ps : Pieces) (at : ℕ) (f : Piece → Piece)
-    → ((p : Piece) → NotRefused p → NotRefused (f p)) → NoneRefused ps
-    → NoneRefused (changed_at ps at f)
+    → ((p : Piece) → NotRefused p → NotRefused (f p)) → NoneDecidedNo ps
+    → NoneDecidedNo (changed_at ps at f)
 none_refused-changed_at ps at f keeps all base q e =
     elim (base == at) as (λ b. (if b then option_map f (ps base) else ps base) ≡ Some q → NotRefused
     q) [

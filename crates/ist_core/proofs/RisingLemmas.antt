@@ -69,16 +69,16 @@ child_count_tells ks x y h =
 
 module _ {A : Type 0} (key : A → ℕ) where
   -- the keys are strictly increasing: each is below all later ones
-  abbrev pub Rises : List A → Type 0
-  Rises [] = Unit {0}
-  Rises (x ∷ xs) = Each (λ y. key x < key y) xs × Rises xs
+  abbrev pub AreRisingKeys : List A → Type 0
+  AreRisingKeys [] = Unit {0}
+  AreRisingKeys (x ∷ xs) = Each (λ y. key x < key y) xs × AreRisingKeys xs
 
   -- each key of the first list is below each of the second
   abbrev pub AllBelow : List A → List A → Type 0
   AllBelow xs ys = Each (λ x. Each (λ y. key x < key y) ys) xs
 
   -- two strictly increasing lists, the first below the second, are strictly increasing together
-  pub rises_append : (xs ys : List A) → Rises xs → Rises ys → AllBelow xs ys → Rises (xs ++ ys)
+  pub rises_append : (xs ys : List A) → AreRisingKeys xs → AreRisingKeys ys → AllBelow xs ys → AreRisingKeys (xs ++ ys)
   rises_append [] ys h k below = k
   rises_append (x ∷ xs) ys h k below =
       (each_append (λ y. key x < key y) xs ys h.0 below.0, rises_append xs ys h.1 k below.1)
@@ -93,17 +93,17 @@ module _ {A : Type 0} (key : A → ℕ) where
   each_drop P (suc n) [] h = tt
   each_drop P (suc n) (x ∷ xs) h = each_drop P n xs h.1
 
-  rises_take : (n : ℕ) (xs : List A) → Rises xs → Rises (take n xs)
+  rises_take : (n : ℕ) (xs : List A) → AreRisingKeys xs → AreRisingKeys (take n xs)
   rises_take zero xs h = tt
   rises_take (suc n) [] h = tt
   rises_take (suc n) (x ∷ xs) h = (each_take (λ y. key x < key y) n xs h.0, rises_take n xs h.1)
 
-  rises_drop : (n : ℕ) (xs : List A) → Rises xs → Rises (drop n xs)
+  rises_drop : (n : ℕ) (xs : List A) → AreRisingKeys xs → AreRisingKeys (drop n xs)
   rises_drop zero xs h = h
   rises_drop (suc n) [] h = tt
   rises_drop (suc n) (x ∷ xs) h = rises_drop n xs h.1
 
-  cut_below : (n : ℕ) (xs : List A) → Rises xs → AllBelow (take n xs) (drop n xs)
+  cut_below : (n : ℕ) (xs : List A) → AreRisingKeys xs → AllBelow (take n xs) (drop n xs)
   cut_below zero xs h = tt
   cut_below (suc n) [] h = tt
   cut_below (suc n) (x ∷ xs) h = (each_drop (λ y. key x < key y) n xs h.0, cut_below n xs h.1)
@@ -134,14 +134,14 @@ module _ {A : Type 0} (key : A → ℕ) where
   -- the keys of the parts are strictly increasing, and no part is empty
   abbrev pub PartsRise : List (List A) → Type 0
   PartsRise [] = Unit {0}
-  PartsRise (part ∷ ps) = (0 < length part) × Rises part × Each
+  PartsRise (part ∷ ps) = (0 < length part) × AreRisingKeys part × Each
       (λ x. EachOf (λ y. key x < key y) ps) part × PartsRise ps
 
   each_mapped : (P Q : A → Type 0) (xs : List A) → ((x : A) → P x → Q x) → Each P xs → Each Q xs
   each_mapped P Q [] f h = tt
   each_mapped P Q (x ∷ xs) f h = (f x h.0, each_mapped P Q xs f h.1)
 
-  cut_rises : (ns : List ℕ) (xs : List A) → AllSome ns → sum ns ≤ length xs → Rises xs
+  cut_rises : (ns : List ℕ) (xs : List A) → AllSome ns → sum ns ≤ length xs → AreRisingKeys xs
       → PartsRise (cut ns xs)
   cut_rises [] xs some fits h = tt
   cut_rises (n ∷ ns) xs some fits h =
@@ -158,15 +158,15 @@ module _ {A : Type 0} (key : A → ℕ) where
       )
 
   -- the parts of a strictly increasing list of at least two
-  pub parts_rise : (xs : List A) → 2 ≤ length xs → Rises xs → PartsRise (parts xs)
+  pub parts_rise : (xs : List A) → 2 ≤ length xs → AreRisingKeys xs → PartsRise (parts xs)
   parts_rise xs two h = cut_rises (part_lens (length xs)) xs (part_lens_some (length xs) two)
       (let whole = sum-part_lens (length xs) in omega arith) h
 
   -- the keys of each part are strictly increasing
   pub part_rises : (ps : List (List A)) (j : ℕ) (part : List A) → PartsRise ps
-      → slice_get ps j ≡ Some part → Rises part
+      → slice_get ps j ≡ Some part → AreRisingKeys part
   part_rises [] j part h e = absurd (cc)
-  part_rises (p ∷ ps) zero part h e = let same : p ≡ part = cc in subst (λ xs. Rises xs) same h.1
+  part_rises (p ∷ ps) zero part h e = let same : p ≡ part = cc in subst (λ xs. AreRisingKeys xs) same h.1
   part_rises (p ∷ ps) (suc j) part h e = part_rises ps j part h.3 e
 
   -- what is true of each key is true of the first keys
@@ -215,7 +215,7 @@ module _ {A : Type 0} (key : A → ℕ) where
 
 -- the numbers are strictly increasing: each is below all later ones
 abbrev pub Rising : List ℕ → Type 0
-Rising ks = Rises (λ k. k) ks
+Rising ks = AreRisingKeys (λ k. k) ks
 
 -- the first keys of parts are strictly increasing
 pub first_keys_rise : {A : Type 0} (key : A → ℕ) (ps : List (List A)) → PartsRise key ps

@@ -5,7 +5,7 @@ use Rattle.ist_core.specs.declared.pairs.Pair.{Pair}
 use Rattle.ist_core.specs.declared.lists.Row.{Row}
 use Rattle.ist_core.specs.declared.states.ChangeRow.{ChangeRow}
 use Rattle.ist_core.specs.declared.events.Event.{Event}
-use Rattle.ist_core.specs.declared.events.Event.TheVariants.{Enter, Reserve, Install, Okay, Decide, Resolve, Count, Mark, Pass, Finish, Root, Draw, Place, Lose}
+use Rattle.ist_core.specs.declared.events.Event.TheVariants.{Reserve, Install, Resolve}
 use Rattle.ist_core.specs.References.{ChangeAt, IsGoodBase, ref_of, word_of}
 use Rattle.ist_core.specs.Pieces.{Piece, as_change, change_of, size_of}
 use Rattle.ist_core.specs.Snapshots.{Snapshot, HoldsRow}
@@ -38,18 +38,7 @@ pub words-state : (first : Snapshot) (log : Log) (event : Event)
 words-state first log (Install caller change rows) = words-installed (state first log) change rows
 words-state first log (Resolve caller change) = words-resolved (state first log)
     (as_change ((state first log).pieces change))
-words-state first log (Enter caller) = refl
-words-state first log (Reserve caller base size) = refl
-words-state first log (Okay caller change) = refl
-words-state first log (Decide caller change said) = refl
-words-state first log (Count caller node) = refl
-words-state first log (Mark caller node) = refl
-words-state first log (Pass caller node i word) = refl
-words-state first log (Finish caller node keys) = refl
-words-state first log (Root caller rebuild word rows) = refl
-words-state first log (Draw caller rebuild part) = refl
-words-state first log (Place caller rebuild i word rows) = refl
-words-state first log (Lose caller bases) = refl
+words-state first log _ = refl
 
 -- an event that reserves takes at most the free words
 next_fits : (first : Snapshot) (log : Log) (event : Event) → Enabled first log event
@@ -57,21 +46,11 @@ next_fits : (first : Snapshot) (log : Log) (event : Event) → Enabled first log
     → (state first (event ∷ log)).next ≤ (state first log).words
 next_fits first log (Reserve caller base size) h le = let is = h.base_is in let room = h.room in
     omega arith
-next_fits first log (Enter caller) h le = le
 next_fits first log (Install caller change rows) h le = let same = next-state first log
     (Install caller change rows) h in omega arith
-next_fits first log (Okay caller change) h le = le
-next_fits first log (Decide caller change said) h le = le
 next_fits first log (Resolve caller change) h le = let same = next-state first log
     (Resolve caller change) h in omega arith
-next_fits first log (Count caller node) h le = le
-next_fits first log (Mark caller node) h le = le
-next_fits first log (Pass caller node i word) h le = le
-next_fits first log (Finish caller node keys) h le = le
-next_fits first log (Root caller rebuild word rows) h le = le
-next_fits first log (Draw caller rebuild part) h le = le
-next_fits first log (Place caller rebuild i word rows) h le = le
-next_fits first log (Lose caller bases) h le = le
+next_fits first log _ h le = le
 
 module _ (pairs : List Pair) (words : ℕ) (opens : CanOpen pairs words) where
   -- the table keeps its number of words

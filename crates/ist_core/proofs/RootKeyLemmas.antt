@@ -5,12 +5,12 @@ use Rattle.ist_core.specs.declared.lists.Row.{Row}
 use Rattle.ist_core.specs.declared.states.InnerRow.{InnerRow}
 use Rattle.ist_core.specs.declared.states.RebuildRow.{RebuildRow}
 use Rattle.ist_core.specs.declared.events.Event.{Event}
-use Rattle.ist_core.specs.declared.events.Event.TheVariants.{Enter, Reserve, Install, Okay, Decide, Resolve, Count, Mark, Pass, Finish, Root, Draw, Place, Lose}
+use Rattle.ist_core.specs.declared.events.Event.TheVariants.{Count, Mark, Finish, Root, Draw}
 use Rattle.ist_core.specs.RowLayout.{first_row}
 use Rattle.ist_core.specs.References.{Ref, Unset, InnerAt, ref_of, unset_word}
 use Rattle.ist_core.specs.Statuses.{marked_word, finished_word}
 use Rattle.ist_core.specs.Parts.{parts, first_keys}
-use Rattle.ist_core.specs.Pieces.{Pieces, Piece, Leaf, Inner, Change, Rebuild, with_inners, changed_at, with_status, with_root}
+use Rattle.ist_core.specs.Pieces.{Pieces, Piece, Leaf, Inner, Change, Rebuild, with_inners, changed_at, with_root}
 use Rattle.ist_core.specs.Snapshots.{Snapshot, bases_of}
 use Rattle.ist_core.specs.StartLayout.{start, rows_from}
 use Rattle.ist_core.specs.Logs.{Log}
@@ -33,17 +33,17 @@ use Rattle.ist_core.proofs.SlotLemmas.{same_inner}
 use Rattle.ist_core.proofs.NamingLemmas.{InnerHere, RootNames}
 use Rattle.ist_core.proofs.NamingStepLemmas.{changed_at-fixed}
 use Rattle.ist_core.proofs.OrderLemmas.{names}
-use Rattle.ist_core.proofs.FieldLemmas.{IsPlainEvent, Has, has_changed, has_rooted, has_step}
-use Rattle.ist_core.proofs.RootFieldLemmas.{root_in, status_same, root_rare, start_rootless}
+use Rattle.ist_core.proofs.FieldLemmas.{LeavesField, Has, has_rooted, has_step}
+use Rattle.ist_core.proofs.RootFieldLemmas.{root_in, status_same, count_same, draw_same, root_rare, start_rootless}
 use Rattle.ist_core.proofs.DrawLemmas.{finished_grows, same_rebuild}
 use Rattle.ist_core.proofs.SplitLemmas.{key_of_leaf}
-use Rattle.ist_core.proofs.KeepingLemmas.{IsFinished, leaves_kept}
+use Rattle.ist_core.proofs.KeepingLemmas.{IsFinishedNode, leaves_kept}
 
 -- ---- the keys of a root
 
 -- the target is finished, and the keys of the row are the first keys of the parts of its leaves but the first
 pub record IsCutBy (t : Snapshot) (target : ℕ) (r : InnerRow) : Type 0 where
-  pub finished : IsFinished t target
+  pub finished : IsFinishedNode t target
   pub leaves : List PlacedLeaf
   pub reached : HasLeaves t.pieces (Some (InnerAt target)) leaves
   pub two : 2 ≤ length leaves
@@ -159,7 +159,7 @@ module _ (pairs : List Pair) (words : ℕ) (opens : CanOpen pairs words) where
 
   -- roots are cut by key after an event that gives no root
   by_step : (log : Log) (event : Event) → (h : EachEnabled (start pairs words) (event ∷ log))
-      → IsPlainEvent event → RootsAreCut (state_of pairs words log)
+      → LeavesField root_in event → RootsAreCut (state_of pairs words log)
       → RootsAreCut (state_of pairs words (event ∷ log))
   by_step log event h plain cut base row root r there is published =
       old_root log event h cut base row root r there is published
@@ -169,16 +169,11 @@ module _ (pairs : List Pair) (words : ℕ) (opens : CanOpen pairs words) where
 
   cut_step : (log : Log) (event : Event) → EachEnabled (start pairs words) (event ∷ log)
       → RootsAreCut (state_of pairs words log) → RootsAreCut (state_of pairs words (event ∷ log))
-  cut_step log (Mark caller node) h cut base row root r there is published =
-      old_root log (Mark caller node) h cut base row root r there is published
-      (has_changed root_in unset_word root_rare (state_of pairs words log).pieces node
-      (with_status marked_word) (status_same marked_word) base row.root
-      (Rebuild row, there, refl))
-  cut_step log (Finish caller node keys) h cut base row root r there is published =
-      old_root log (Finish caller node keys) h cut base row root r there is published
-      (has_changed root_in unset_word root_rare (state_of pairs words log).pieces node
-      (with_status (finished_word keys)) (status_same (finished_word keys)) base row.root
-      (Rebuild row, there, refl))
+  cut_step log (Mark caller node) h cut base row root r there is published = by_step log
+      (Mark caller node) h (status_same marked_word) cut base row root r there is published
+  cut_step log (Finish caller node keys) h cut base row root r there is published = by_step log
+      (Finish caller node keys) h (status_same (finished_word keys)) cut base row root r there is
+      published
   cut_step log (Root caller rebuild word rows) h cut base row root r there is published =
       let t = state_of pairs words log in
       let qs = with_inners t.pieces rows in
@@ -199,25 +194,12 @@ module _ (pairs : List Pair) (words : ℕ) (opens : CanOpen pairs words) where
     where
       rebuild_is : (x y : RebuildRow) → Rebuild x ≡ Rebuild y → x ≡ y
       rebuild_is x y e = cc
-  cut_step log (Install caller change rows) h cut base row root r there is published = by_step log
-      (Install caller change rows) h tt cut base row root r there is published
-  cut_step log (Decide caller change said) h cut base row root r there is published = by_step log
-      (Decide caller change said) h tt cut base row root r there is published
-  cut_step log (Resolve caller change) h cut base row root r there is published = by_step log
-      (Resolve caller change) h tt cut base row root r there is published
-  cut_step log (Count caller node) h cut base row root r there is published = by_step log (Count caller node) h tt cut base row root r there is published
+  cut_step log (Count caller node) h cut base row root r there is published = by_step log
+      (Count caller node) h count_same cut base row root r there is published
   cut_step log (Draw caller rebuild part) h cut base row root r there is published = by_step log
-      (Draw caller rebuild part) h tt cut base row root r there is published
-  cut_step log (Place caller rebuild i word rows) h cut base row root r there is published = by_step
-      log (Place caller rebuild i word rows) h tt cut base row root r there is published
-  cut_step log (Enter caller) h cut base row root r there is published = by_step log (Enter caller) h tt cut base row root r there is published
-  cut_step log (Reserve caller b size) h cut base row root r there is published = by_step log
-      (Reserve caller b size) h tt cut base row root r there is published
-  cut_step log (Okay caller change) h cut base row root r there is published = by_step log
-      (Okay caller change) h tt cut base row root r there is published
-  cut_step log (Pass caller node i word) h cut base row root r there is published = by_step log
-      (Pass caller node i word) h tt cut base row root r there is published
-  cut_step log (Lose caller bases) h cut base row root r there is published = by_step log (Lose caller bases) h tt cut base row root r there is published
+      (Draw caller rebuild part) h draw_same cut base row root r there is published
+  cut_step log event h cut base row root r there is published =
+      by_step log event h tt cut base row root r there is published
 
   -- the keys of each root are the first keys of the parts of its target's leaves
   pub roots_are_cut : (log : Log) → EachEnabled (start pairs words) log

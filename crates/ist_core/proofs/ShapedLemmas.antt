@@ -1,9 +1,10 @@
 -- The conjunct `shaped`: an inner row has `degree` slots and one key less. Serves the image law.
-use Rattle.std.proofs.Common.{◌≡◌, ℕ, zero, suc, ◌+◌, nat_lt, if◌then◌else◌, true, false, List, [], ◌∷◌, length, replicate, Some, refl, sym, ap, ◌∙◌, subst, inl, inr, arith}
+use Rattle.std.proofs.Common.{◌≡◌, ◌≤◌, ℕ, zero, suc, ◌+◌, List, [], ◌∷◌, length, replicate, Some, refl, sym, ap, ◌∙◌, subst, arith}
 use Rattle.std.specs.List.{flat_map}
 use Rattle.ist_core.specs.declared.pairs.Pair.{Pair}
 use Rattle.ist_core.specs.declared.lists.Row.{Row}
 use Rattle.ist_core.specs.declared.states.InnerRow.{InnerRow}
+use Rattle.ist_core.specs.declared.states.LeafRow.{LeafRow}
 use Rattle.ist_core.specs.declared.states.ChangeRow.{ChangeRow}
 use Rattle.ist_core.specs.declared.events.Event.{Event}
 use Rattle.ist_core.specs.Arithmetic.{degree}
@@ -13,14 +14,14 @@ use Rattle.ist_core.specs.Statuses.{open_word}
 use Rattle.ist_core.specs.Elements.{Among, Each}
 use Rattle.ist_core.specs.Naming.{HasDegree}
 use Rattle.ist_core.specs.Parts.{parts}
-use Rattle.ist_core.specs.Pieces.{Pieces, Piece, Inner, with_inners}
+use Rattle.ist_core.specs.Pieces.{Pieces, Piece, Leaf, Inner, with_inners}
 use Rattle.ist_core.specs.Snapshots.{Snapshot, bases_of}
-use Rattle.ist_core.specs.StartLayout.{start, placed_parts, rows_within, rows_from}
+use Rattle.ist_core.specs.StartLayout.{top_row, start, placed_parts, rows_within, rows_from}
 use Rattle.ist_core.specs.Leaves.{PlacedLeaf}
 use Rattle.ist_core.specs.Ideals.{IsTop, IsIdeal, AreIdeal, of_none, of_one, of_more, no_part, one_part}
 use Rattle.ist_core.specs.Building.{IsRoot, root_whole, root_top}
 use Rattle.ist_core.specs.Logs.{Log, state}
-use Rattle.ist_core.specs.Installing.{pair_row, pair_over, FitsKind, a_put, a_pair, a_remove, a_start, a_finish}
+use Rattle.ist_core.specs.Installing.{FitsKind}
 use Rattle.ist_core.specs.Enabled.{Enabled}
 use Rattle.ist_core.specs.Lawful.{EachEnabled, state_of}
 use Rattle.ist_core.specs.Growing.{Grows, leaf_stays, inner_grows, change_grows, rebuild_grows}
@@ -30,7 +31,7 @@ use Rattle.ist_core.proofs.SoundLemmas.{sound}
 use Rattle.ist_core.proofs.StartLemmas.{sound_start}
 use Rattle.ist_core.proofs.LayoutLemmas.{keys_of_parts, length-parts, slots_of-top_row}
 use Rattle.ist_core.proofs.StepLemmas.{known}
-use Rattle.ist_core.proofs.AddingLemmas.{IsInstalled}
+use Rattle.ist_core.proofs.AddingLemmas.{IsInstalledWith, installed_has}
 use Rattle.ist_core.proofs.BornLemmas.{Born, by_install, by_root, by_place, Comes, from_old, from_born, comes}
 
 -- the row has slots and keys as its degree says, if it is an inner row
@@ -51,27 +52,11 @@ grows_shaped _ _ (rebuild_grows g) h = tt
 
 -- ---- fresh rows
 
--- a pair row has two slots and one key
-pair_shaped : (key base other_key other : ℕ) → IsShaped (pair_row key base other_key other)
-pair_shaped key base other_key other =
-    elim (nat_lt other_key key) as
-    (λ v. IsShaped (if v then pair_over key other base else pair_over other_key base other)) [
-      | true ↦ record { keys = refl; slots = refl }
-      | false ↦ record { keys = refl; slots = refl }
-    ]
-
 installed_shaped : (first : Snapshot) (log : Log) (at : ℕ) (change : ChangeRow) (fresh : List Row)
     (fits : FitsKind first log change fresh) (base : ℕ) (p : Piece)
-    → IsInstalled first log at change fresh fits base p → IsShaped p
-installed_shaped first log at change fresh fits base p (inl h) = subst IsShaped (sym h.1) tt
-installed_shaped first log at change fresh (a_put f) base p (inr h) = subst IsShaped (sym h.1) tt
-installed_shaped first log at change fresh (a_pair f) base p (inr (inl h)) = subst IsShaped
-    (sym h.1) (pair_shaped change.key f.leaf f.other_key f.other)
-installed_shaped first log at change fresh (a_pair f) base p (inr (inr h)) = subst IsShaped
-    (sym h.1) tt
-installed_shaped first log at change fresh (a_remove f) base p (inr h) = absurd h
-installed_shaped first log at change fresh (a_start f) base p (inr h) = subst IsShaped (sym h.1) tt
-installed_shaped first log at change fresh (a_finish f) base p (inr h) = absurd h
+    → IsInstalledWith first log at change fresh fits base p → IsShaped p
+installed_shaped = installed_has IsShaped (λ r. tt) (λ r. tt)
+    (λ key left right. record { keys = refl; slots = refl }) (λ r rootless undrawn. tt)
 
 -- there is an open inner row of this shape at the base
 pub record StandsShaped (ps : Pieces) (base : ℕ) : Type 0 where
@@ -175,22 +160,26 @@ module _ {A B : Type 0} where
   each-flat_map P f (x ∷ xs) all = each_append P (f x) (flat_map f xs) (all x)
       (each-flat_map P f xs all)
 
+-- what leaves and top rows have, each row of a new tree has
+pub rows_have : (P : Piece → Type 0) → ((r : LeafRow) → P (Leaf r))
+    → ((base : ℕ) (pairs : List Pair) → 2 ≤ length pairs → P (top_row base pairs))
+    → (fuel base : ℕ) (pairs : List Pair) → Each (λ row. P row.1) (rows_within fuel base pairs)
+unfolding rows_within
+rows_have P leaf top fuel base [] = tt
+rows_have P leaf top fuel base (pair ∷ []) = (leaf _, tt)
+rows_have P leaf top zero base (pair ∷ more ∷ pairs) = tt
+rows_have P leaf top (suc fuel) base (pair ∷ more ∷ pairs) =
+    let all = pair ∷ more ∷ pairs in (
+      top base all (omega arith),
+      each-flat_map (λ row. P row.1) (λ part. rows_within fuel part.0 part.1)
+          (placed_parts base all) (λ part. rows_have P leaf top fuel part.0 part.1),
+    )
+
 rows_shaped : (fuel base : ℕ) (pairs : List Pair)
     → Each (λ row. IsShaped row.1) (rows_within fuel base pairs)
-unfolding rows_within
-rows_shaped fuel base [] = tt
-rows_shaped fuel base (pair ∷ []) = (tt, tt)
-rows_shaped zero base (pair ∷ more ∷ pairs) = tt
-rows_shaped (suc fuel) base (pair ∷ more ∷ pairs) =
-    let all = pair ∷ more ∷ pairs in (
-      record {
-        keys = keys_of_parts (λ p. p.key) all (omega arith);
-        slots = slots_of-top_row base
-            all;
-      },
-      each-flat_map (λ row. IsShaped row.1) (λ part. rows_within fuel part.0 part.1)
-          (placed_parts base all) (λ part. rows_shaped fuel part.0 part.1),
-    )
+rows_shaped = rows_have IsShaped (λ r. tt)
+    (λ base all two.
+    record { keys = keys_of_parts (λ p. p.key) all (omega arith); slots = slots_of-top_row base all })
 
 -- each row after a log from a new table has its shape
 pub shaped : (pairs : List Pair) (words : ℕ) (log : Log) → EachEnabled (start pairs words) log

@@ -6,7 +6,7 @@ use Rattle.ist_core.specs.declared.lists.Row.{Row}
 use Rattle.ist_core.specs.declared.states.InnerRow.{InnerRow}
 use Rattle.ist_core.specs.declared.states.ChangeRow.{ChangeRow}
 use Rattle.ist_core.specs.declared.events.Event.{Event}
-use Rattle.ist_core.specs.declared.events.Event.TheVariants.{Enter, Reserve, Install, Okay, Decide, Resolve, Count, Mark, Pass, Finish, Root, Draw, Place, Lose}
+use Rattle.ist_core.specs.declared.events.Event.TheVariants.{Install, Decide, Resolve, Count, Mark, Finish, Root, Draw, Place}
 use Rattle.ist_core.specs.RowLayout.{anchor}
 use Rattle.ist_core.specs.References.{ChangeAt, word_of, unset_word}
 use Rattle.ist_core.specs.Statuses.{marked_word, finished_word}
@@ -181,11 +181,7 @@ slot_stays first log (Root caller rebuild word rows) h s none =
     slot_kept t (after t (Root caller rebuild word rows)) refl
     (λ base r e. inner_kept (with_inners t.pieces rows) rebuild (with_root word)
     (λ x. (x, refl, refl)) base r (keeps base (Inner r) e))
-slot_stays first log (Enter caller) h s none = slots_same _ _ refl refl
-slot_stays first log (Reserve caller base size) h s none = slots_same _ _ refl refl
-slot_stays first log (Okay caller change) h s none = slots_same _ _ refl refl
-slot_stays first log (Pass caller node i word) h s none = slots_same _ _ refl refl
-slot_stays first log (Lose caller bases) h s none = slots_same _ _ refl refl
+slot_stays first log _ h s none = slots_same _ _ refl refl
 
 -- ---- changes
 
@@ -230,8 +226,4 @@ change_stays first log (Place caller rebuild i word rows) h s none at r e =
     subst (λ ps. ps at ≡ Some (Change r)) (sym (rows_placed t caller rebuild i word rows h))
     (changed_at-fixed (with_inners t.pieces rows) h.root at (with_slot i word) (Change r)
     ((adds-with_inners t caller rows h.held s).keeps at (Change r) e) refl)
-change_stays first log (Enter caller) h s none at r e = e
-change_stays first log (Reserve caller base size) h s none at r e = e
-change_stays first log (Okay caller change) h s none at r e = e
-change_stays first log (Pass caller node i word) h s none at r e = e
-change_stays first log (Lose caller bases) h s none at r e = e
+change_stays first log _ h s none at r e = e

@@ -3,7 +3,7 @@
 use Rattle.std.proofs.Common.{◌≡◌, ℕ, ◌+◌, ◌<◌, ◌⊎◌, [], ◌∷◌, Option, Some, None, refl, sym, ap, ◌∙◌, subst, inl, inr, ⊎_elim, arith}
 use Rattle.ist_core.specs.declared.lists.HeldRow.{HeldRow}
 use Rattle.ist_core.specs.declared.events.Event.{Event}
-use Rattle.ist_core.specs.declared.events.Event.TheVariants.{Enter, Reserve, Install, Okay, Decide, Resolve, Count, Mark, Pass, Finish, Root, Draw, Place, Lose}
+use Rattle.ist_core.specs.declared.events.Event.TheVariants.{Reserve}
 use Rattle.ist_core.specs.Elements.{Among}
 use Rattle.ist_core.specs.Pieces.{Piece}
 use Rattle.ist_core.specs.Snapshots.{Snapshot, HoldsRow}
@@ -91,31 +91,7 @@ pub moves_or_reserves : (first : Snapshot) (log : Log) (event : Event) → Enabl
     → Moves (state first log) (state first (event ∷ log)) event ⊎ IsReserve first log event
 moves_or_reserves first log (Reserve caller base size) h s = inr record
     { caller = caller; base = base; size = size; is = refl; can = h }
-moves_or_reserves first log (Enter caller) h s = inl (moves first log (Enter caller) refl h s)
-moves_or_reserves first log (Install caller change rows) h s = inl
-    (moves first log (Install caller change rows) refl h s)
-moves_or_reserves first log (Okay caller change) h s = inl
-    (moves first log (Okay caller change) refl h s)
-moves_or_reserves first log (Decide caller change said) h s = inl
-    (moves first log (Decide caller change said) refl h s)
-moves_or_reserves first log (Resolve caller change) h s = inl
-    (moves first log (Resolve caller change) refl h s)
-moves_or_reserves first log (Count caller node) h s = inl
-    (moves first log (Count caller node) refl h s)
-moves_or_reserves first log (Mark caller node) h s = inl
-    (moves first log (Mark caller node) refl h s)
-moves_or_reserves first log (Pass caller node i word) h s = inl
-    (moves first log (Pass caller node i word) refl h s)
-moves_or_reserves first log (Finish caller node keys) h s = inl
-    (moves first log (Finish caller node keys) refl h s)
-moves_or_reserves first log (Root caller rebuild word rows) h s = inl
-    (moves first log (Root caller rebuild word rows) refl h s)
-moves_or_reserves first log (Draw caller rebuild part) h s = inl
-    (moves first log (Draw caller rebuild part) refl h s)
-moves_or_reserves first log (Place caller rebuild i word rows) h s = inl
-    (moves first log (Place caller rebuild i word rows) refl h s)
-moves_or_reserves first log (Lose caller bases) h s = inl
-    (moves first log (Lose caller bases) refl h s)
+moves_or_reserves first log event h s = inl (moves first log event refl h s)
 
 -- after an enabled event held rows still lie apart
 sound_step : (first : Snapshot) (log : Log) (event : Event) → Enabled first log event
@@ -178,19 +154,7 @@ held_now t (Reserve c b z) caller base size h =
     (record { caller = c; base = b; size = z } ∷ []) (inl refl) in
     subst (λ x. Among x (after t (Reserve c b z)).held)
     (λ i. record { caller = h.0 i; base = h.1 i; size = h.2 i }) it
-held_now t (Enter caller) c b z h = absurd h
-held_now t (Install caller change rows) c b z h = absurd h
-held_now t (Okay caller change) c b z h = absurd h
-held_now t (Decide caller change said) c b z h = absurd h
-held_now t (Resolve caller change) c b z h = absurd h
-held_now t (Count caller node) c b z h = absurd h
-held_now t (Mark caller node) c b z h = absurd h
-held_now t (Pass caller node i word) c b z h = absurd h
-held_now t (Finish caller node keys) c b z h = absurd h
-held_now t (Root caller rebuild word rows) c b z h = absurd h
-held_now t (Draw caller rebuild part) c b z h = absurd h
-held_now t (Place caller rebuild i word rows) c b z h = absurd h
-held_now t (Lose caller bases) c b z h = absurd h
+held_now t _ c b z h = absurd h
 
 -- each row that was reserved is known
 pub known : (first : Snapshot) (log : Log) (caller base size : ℕ) → HeldLieApart first

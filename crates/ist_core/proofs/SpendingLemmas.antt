@@ -4,7 +4,7 @@ use Rattle.ist_core.specs.declared.pairs.Pair.{Pair}
 use Rattle.ist_core.specs.declared.lists.Row.{Row}
 use Rattle.ist_core.specs.declared.states.ChangeRow.{ChangeRow}
 use Rattle.ist_core.specs.declared.events.Event.{Event}
-use Rattle.ist_core.specs.declared.events.Event.TheVariants.{Enter, Reserve, Install, Okay, Decide, Resolve, Count, Mark, Pass, Finish, Root, Draw, Place, Lose}
+use Rattle.ist_core.specs.declared.events.Event.TheVariants.{Reserve, Install, Resolve}
 use Rattle.ist_core.specs.Pieces.{as_change, change_of}
 use Rattle.ist_core.specs.Snapshots.{Snapshot}
 use Rattle.ist_core.specs.StartLayout.{start}
@@ -30,22 +30,12 @@ next-resolved t (Some change) = refl
 -- an enabled event takes what it reserves from the free words
 pub next-state : (first : Snapshot) (log : Log) (event : Event) → Enabled first log event
     → (state first (event ∷ log)).next ≡ (state first log).next + reserved_by event
-next-state first log (Enter caller) h = omega arith
 next-state first log (Reserve caller base size) h = ap (λ n. n + size) h.base_is
 next-state first log (Install caller change rows) h = let same = next-installed (state first log)
     change rows in omega (arith, same)
-next-state first log (Okay caller change) h = omega arith
-next-state first log (Decide caller change said) h = omega arith
 next-state first log (Resolve caller change) h = let same = next-resolved (state first log)
     (as_change ((state first log).pieces change)) in omega (arith, same)
-next-state first log (Count caller node) h = omega arith
-next-state first log (Mark caller node) h = omega arith
-next-state first log (Pass caller node i word) h = omega arith
-next-state first log (Finish caller node keys) h = omega arith
-next-state first log (Root caller rebuild word rows) h = omega arith
-next-state first log (Draw caller rebuild part) h = omega arith
-next-state first log (Place caller rebuild part word rows) h = omega arith
-next-state first log (Lose caller bases) h = omega arith
+next-state first log _ h = omega arith
 
 spent-state : (pairs : List Pair) (words : ℕ) (log : Log) → EachEnabled (start pairs words) log
     → (state_of pairs words log).next ≡ spent pairs log

@@ -11,7 +11,7 @@ use Rattle.ist_core.specs.Pieces.{Pieces, Leaf, Inner}
 use Rattle.ist_core.specs.Leaves.{PlacedLeaf}
 use Rattle.ist_core.specs.Ideals.{IsIdeal, AreIdeal, of_none, of_one, of_more, no_part, one_part}
 use Rattle.ist_core.proofs.ElementLemmas.{each_append}
-use Rattle.ist_core.proofs.RisingLemmas.{Rises, Rising, PartsRise, parts_rise, first_keys_behind_rise}
+use Rattle.ist_core.proofs.RisingLemmas.{AreRisingKeys, Rising, PartsRise, parts_rise, first_keys_behind_rise}
 
 -- the key of a leaf
 abbrev pub key_of_leaf : PlacedLeaf → ℕ
@@ -71,7 +71,7 @@ module _ {A : Type 0} (key : A → ℕ) (ps : Pieces) where
   mutual
     -- over a strictly increasing list the keys of each row are strictly increasing
     pub split_rises : (ref : Ref) (xs : List A) (rows : List ℕ) → Splits key ps ref xs rows
-        → Rises key xs → Each (StandsRising ps) rows
+        → AreRisingKeys key xs → Each (StandsRising ps) rows
     split_rises _ _ _ split_none rise = tt
     split_rises _ _ _ (split_leaf r e is) rise = tt
     split_rises _ xs _ (split_row {rows = rows} r e two keys below) rise = (

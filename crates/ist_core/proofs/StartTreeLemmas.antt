@@ -23,14 +23,14 @@ use Rattle.ist_core.proofs.WordLemmas.{ideal_words_one}
 use Rattle.ist_core.proofs.PieceLemmas.{among-pieces_of}
 use Rattle.ist_core.proofs.StepLemmas.{known}
 use Rattle.ist_core.proofs.PlaceLemmas.{size_positive}
-use Rattle.ist_core.proofs.LayoutLemmas.{Fills, fills_within, fills_rows, among_part_lens}
+use Rattle.ist_core.proofs.LayoutLemmas.{FillWords, fills_within, fills_rows, among_part_lens}
 use Rattle.ist_core.proofs.SplitLemmas.{Splits, split_none, split_leaf, split_row, SplitAll, no_split, one_split}
 use Rattle.ist_core.proofs.NamingLemmas.{RowNames, SlotNames, WordsName}
 use Rattle.ist_core.proofs.TreeLemmas.{IsTree, AreTrees, tree_none, tree_leaf, tree_row, no_tree, one_tree, IsTreeRow, tree_rows, tree_slot}
 
 -- rows that lie one after another are each found at their bases
 pub pieces_of-among : (from to : ℕ) (rows : List (ℕ × Piece)) (base : ℕ) (p : Piece)
-    → Fills from rows to → Among (base, p) rows → pieces_of rows base ≡ Some p
+    → FillWords from rows to → Among (base, p) rows → pieces_of rows base ≡ Some p
 pieces_of-among from to [] base p h i = absurd i
 pieces_of-among from to (row ∷ rows) base p h (inl e) =
     let here : base ≡ row.0 = ap (λ x. x.0) e in

@@ -18,7 +18,7 @@ chosen a b c d keys =
     cond a (Some Open) (cond b (Some Marked) (cond (c && d) (Some (Finished keys)) None))
 
 -- the results of the four tests of a word
-record Tests (word : ℕ) (a b c d : Bool) : Type 0 where
+record HasTests (word : ℕ) (a b c d : Bool) : Type 0 where
   open_test : (word == 0) ≡ a
   marked_test : (word == 1) ≡ b
   finished_test : (word % 4 == 3) ≡ c
@@ -26,7 +26,7 @@ record Tests (word : ℕ) (a b c d : Bool) : Type 0 where
 
 -- these are the results of the tests
 tests : (word : ℕ)
-    → Tests word (word == 0) (word == 1) (word % 4 == 3) (nat_lt (word / 4) keys_limit)
+    → HasTests word (word == 0) (word == 1) (word % 4 == 3) (nat_lt (word / 4) keys_limit)
 tests word = record {
   open_test = refl;
   marked_test = refl;
@@ -53,7 +53,7 @@ unfolding status_of
 status_of-finished word h k =
     at (word == 0) (word == 1) (word % 4 == 3) (nat_lt (word / 4) keys_limit) (tests word)
   where
-    at : (a b c d : Bool) → Tests word a b c d
+    at : (a b c d : Bool) → HasTests word a b c d
         → chosen a b c d (word / 4) ≡ Some (Finished (word / 4))
     at true b c d t =
         let x : word ≡ 0 = grind (arith, nat_tests, t.open_test) in absurd (omega arith)
@@ -73,7 +73,7 @@ unfolding status_of
 status_of-none word h k l =
     at (word == 0) (word == 1) (word % 4 == 3) (nat_lt (word / 4) keys_limit) (tests word)
   where
-    at : (a b c d : Bool) → Tests word a b c d → chosen a b c d (word / 4) ≡ None
+    at : (a b c d : Bool) → HasTests word a b c d → chosen a b c d (word / 4) ≡ None
     at true b c d t = absurd (h (grind (arith, nat_tests, t.open_test)))
     at false true c d t = absurd (k (grind (arith, nat_tests, t.marked_test)))
     at false false true true t =
@@ -100,7 +100,7 @@ unfolding status_of
 status_word-status_of word s e =
     at (word == 0) (word == 1) (word % 4 == 3) (nat_lt (word / 4) keys_limit) (tests word) e
   where
-    at : (a b c d : Bool) → Tests word a b c d → chosen a b c d (word / 4) ≡ Some s
+    at : (a b c d : Bool) → HasTests word a b c d → chosen a b c d (word / 4) ≡ Some s
         → status_word s ≡ word
     at true b c d t e =
         let same : s ≡ Open = cc in

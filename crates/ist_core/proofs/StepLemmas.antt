@@ -2,7 +2,7 @@
 use Rattle.std.proofs.Common.{◌≡◌, ℕ, List, ◌∷◌, Option, Some, refl, sym, ap, ◌∙◌, subst}
 use Rattle.ist_core.specs.declared.lists.Row.{Row}
 use Rattle.ist_core.specs.declared.events.Event.{Event}
-use Rattle.ist_core.specs.declared.events.Event.TheVariants.{Enter, Reserve, Install, Okay, Decide, Resolve, Count, Mark, Pass, Finish, Root, Draw, Place, Lose}
+use Rattle.ist_core.specs.declared.events.Event.TheVariants.{Install, Decide, Resolve, Count, Mark, Finish, Root, Draw, Place}
 use Rattle.ist_core.specs.References.{ChangeAt, word_of}
 use Rattle.ist_core.specs.Statuses.{marked_word, finished_word}
 use Rattle.ist_core.specs.Pieces.{Piece, Inner, Change, Rebuild, row_at, as_change, as_rebuild, with_inners, changed_at, with_slot, with_status, counted, with_decision, with_root, drawn}
@@ -99,10 +99,7 @@ grow_place t caller rebuild i word rows h sound =
 pub grow_step : (first : Snapshot) (log : Log) (event : Event) → Enabled first log event
     → HeldLieApart (state first log)
     → AllGrow (state first log).pieces (state first (event ∷ log)).pieces
-grow_step first log (Enter caller) h s = all_grow_same _
-grow_step first log (Reserve caller base size) h s = all_grow_same _
 grow_step first log (Install caller change rows) h s = grow_install first log caller change rows h s
-grow_step first log (Okay caller change) h s = all_grow_same _
 grow_step first log (Decide caller base said) h s =
     all_grow-changed_at _ base (with_decision (decision_word said))
     (λ p e. known (λ x. Grows x (with_decision (decision_word said) x)) _ p (Change h.change) e
@@ -114,7 +111,6 @@ grow_step first log (Mark caller node) h s =
     all_grow-changed_at _ node (with_status marked_word)
     (λ p e. known (λ x. Grows x (with_status marked_word x)) _ p (Inner h.row) e h.published
     (grows-with_status h.row marked_word (is_marked h.row_open refl)))
-grow_step first log (Pass caller node i word) h s = all_grow_same _
 grow_step first log (Finish caller node keys) h s =
     all_grow-changed_at _ node (with_status (finished_word keys))
     (λ p e. known (λ x. Grows x (with_status (finished_word keys) x)) _ p (Inner h.row) e
@@ -125,4 +121,4 @@ grow_step first log (Draw caller rebuild part) h s = all_grow-changed_at _ rebui
     (λ p _. grows-drawn p)
 grow_step first log (Place caller rebuild i word rows) h s = grow_place (state first log) caller
     rebuild i word rows h s
-grow_step first log (Lose caller bases) h s = all_grow_same _
+grow_step first log _ h s = all_grow_same _

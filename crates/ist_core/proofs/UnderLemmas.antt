@@ -15,7 +15,7 @@ use Rattle.ist_core.proofs.ElementLemmas.{each_append}
 use Rattle.ist_core.proofs.NamingLemmas.{WordsName}
 use Rattle.ist_core.proofs.HomeLemmas.{Mentions, HasOneHome}
 use Rattle.ist_core.proofs.MentionLemmas.{past_change_mentioned, child_mentioned}
-use Rattle.ist_core.proofs.RisingLemmas.{child_count_tells, Rises, AllBelow, rises_append}
+use Rattle.ist_core.proofs.RisingLemmas.{child_count_tells, AreRisingKeys, AllBelow, rises_append}
 use Rattle.ist_core.proofs.SplitLemmas.{key_of_leaf}
 use Rattle.ist_core.proofs.LeadingLemmas.{LiesIn, LeavesLie, lies_above, child_is}
 
@@ -47,7 +47,7 @@ module _ (ps : Pieces) (In : ℕ → ℕ → Option Ref → Type 0) (Lies : ℕ 
     (says : SaysWhere ps In Lies) where
   -- the leaves lie in this slot, and their keys are strictly increasing
   abbrev AreIn : List PlacedLeaf → ℕ → ℕ → Type 0
-  AreIn leaves node i = Each (λ leaf. Lies (key_of_leaf leaf) node i) leaves × Rises key_of_leaf
+  AreIn leaves node i = Each (λ leaf. Lies (key_of_leaf leaf) node i) leaves × AreRisingKeys key_of_leaf
       leaves
 
   -- the leaf lies in slot j of the row, or in a later one
@@ -87,7 +87,7 @@ module _ (ps : Pieces) (In : ℕ → ℕ → Option Ref → Type 0) (Lies : ℕ 
     slots_in : (words : List ℕ) (leaves : List PlacedLeaf) → SlotsHaveLeaves ps words leaves
         → (base : ℕ) (r : InnerRow) → ps base ≡ Some (Inner r) → (j : ℕ)
         → ((k m word : ℕ) → m ≡ j + k → slice_get words k ≡ Some word → In base m (logical ps word))
-        → Each (IsFrom base j) leaves × Rises key_of_leaf leaves
+        → Each (IsFrom base j) leaves × AreRisingKeys key_of_leaf leaves
     slots_in _ _ no_slot base r e j reads = (tt, tt)
     slots_in _ _ (one_slot {word = word} {words = words} {here = here} {rest = rest} first more)
         base r e j reads =
@@ -156,7 +156,7 @@ slot_reads_as t node i word o slot =
 pub leaves_under : (t : Snapshot) (ref : Option Ref) (leaves : List PlacedLeaf) → WordsName t
     → HasOneHome t → t.pieces anchor ≡ None → LeavesLie t → HasLeaves t.pieces ref leaves
     → (node i : ℕ) → ReadsAs t node i ref
-    → Each (λ leaf. LiesIn t (key_of_leaf leaf) node i) leaves × Rises key_of_leaf leaves
+    → Each (λ leaf. LiesIn t (key_of_leaf leaf) node i) leaves × AreRisingKeys key_of_leaf leaves
 leaves_under t ref leaves names home free lie h node i reads =
     leaves_lie_in t.pieces (ReadsAs t) (LiesIn t)
     record {

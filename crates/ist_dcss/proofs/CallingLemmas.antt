@@ -27,7 +27,7 @@ use Rattle.ist_rule.specs.Conditions.{MayInstall}
 use Rattle.ist_rule.proofs.WatchLemmas.{change_node}
 use Rattle.ist_rule.proofs.CallLemmas.{between_later}
 use Rattle.ist_dcss.specs.Helping.{MayHelp, WasSeen}
-use Rattle.ist_dcss.proofs.OutcomeLemmas.{HasFate, IsShut, fate}
+use Rattle.ist_dcss.proofs.OutcomeLemmas.{HasFate, IsNotOpen, fate}
 use Rattle.ist_dcss.proofs.DecideLemmas.{open_before}
 
 -- what is true after a log was once true
@@ -46,7 +46,7 @@ open_unrefused v s number node is base r e own at refused =
         → (now v).pieces base ≡ Some (Change b) → a ≡ b
     same_row a b p q = cc
 
-    shut : WasSeen IsShut v.start v.words v.log base → ⊥
+    shut : WasSeen IsNotOpen v.start v.words v.log base → ⊥
     shut w =
         let before = enabled_before (start v.start v.words) w.prefix v.log w.goes_on
         s.lawful.enabled in

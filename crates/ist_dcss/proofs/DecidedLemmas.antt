@@ -14,9 +14,10 @@ use Rattle.ist_core.specs.Shown.{IsShown, shown_row}
 use Rattle.ist_rule.specs.Rule.{IsSound}
 use Rattle.ist_rule.specs.Learning.{now, Looked, Logged, Exchanged}
 use Rattle.ist_dcss.specs.Helping.{Serves, IsDecided, WasOpen, WasClosed}
-use Rattle.ist_dcss.specs.Naming.{standing}
+use Rattle.ist_dcss.specs.Naming.{standing, deciding}
 use Rattle.ist_rule.specs.Going.{WentOn}
-use Rattle.ist_rule.proofs.WentOnLemmas.{looked_went, logged_went, went_now}
+use Rattle.ist_rule.proofs.WentOnLemmas.{looked_went, logged_went, went_now, went_more}
+use Rattle.ist_dcss.proofs.DecideLemmas.{MayDecide, deciding_is}
 use Rattle.ist_dcss.proofs.HelperLemmas.{went_row}
 use Rattle.ist_dcss.proofs.OutcomeLemmas.{HasFate, fate, okay_seen}
 use Rattle.laws_links.proofs.ChangeLemmas.{yes_has_okay}
@@ -38,10 +39,6 @@ pub decide_tells : (v : View) (change number : ℕ) (said : Bool) (place stood :
 decide_tells v change number said place stood w row there at x =
     by_word (eqb_tells stood undecided)
   where
-    said_set : (b : Bool) → decision_word b ≢ undecided
-    said_set true e = let one : ◌≡◌ {A = ℕ} 1 0 = e in omega arith
-    said_set false e = let two : ◌≡◌ {A = ℕ} 2 0 = e in omega arith
-
     by_word : (((stood == undecided) ≡ true) × (stood ≡ undecided))
         ⊎ (((stood == undecided) ≡ false) × (stood ≢ undecided))
         → WentOn (Serves change) v w × ((r : ChangeRow) × ((now w).pieces change ≡ Some (Change r))
@@ -103,6 +100,24 @@ decided_as v s change row there set said is =
     at (inl e) = absurd (set e)
     at (inr (inl e)) = e ∙ ap (λ d. decision_word (d == decided_yes)) (sym e)
     at (inr (inr e)) = e.0 ∙ ap (λ d. decision_word (d == decided_yes)) (sym e.0)
+
+-- a helper that loaded the status and exchanged the decision served the change, which is decided as
+-- the test of the two words says
+pub helper_decided : (v : View) (change number : ℕ) (said : Bool) (u : View)
+    → MayDecide change number said v u → (place new stood : ℕ) (w : View) → place ≡ change
+    → new ≡ decision_word said → Exchanged u (deciding u place new) place undecided stood w
+    → (answer : Bool) → answer ≡ (standing new stood == decided_yes)
+    → WentOn (Serves change) v w × IsDecided w change answer
+helper_decided v change number said u m place new stood w at is x answer asked =
+    let tells = decide_tells u change number said place stood w m.row m.published (omega arith)
+    (subst (λ e. Exchanged u e place undecided stood w)
+    (deciding_is u number change place new said m.mine at is) x) in
+    let r = tells.1 in (
+      went_more (Serves change) v u w m.went tells.0,
+      decided_as w tells.0.sound change r.0 r.1 r.3 answer
+          (asked ∙ ap (λ n. standing n stood == decided_yes) is
+          ∙ ap (λ d. d == decided_yes) (sym r.2)),
+    )
 
 -- ---- what a help says
 

@@ -9,7 +9,7 @@ use Rattle.ist_core.specs.References.{ref_of, InnerAt}
 use Rattle.ist_core.specs.Pieces.{Inner, Rebuild}
 use Rattle.ist_core.specs.Snapshots.{Snapshot}
 use Rattle.ist_core.specs.StartLayout.{start}
-use Rattle.ist_core.specs.Growing.{AllGrow}
+use Rattle.ist_core.specs.Growing.{AllGrow, InnerGrows}
 use Rattle.ist_core.specs.Logs.{Log, GoesOn}
 use Rattle.ist_core.specs.Slots.{SlotHolds, in_anchor, in_row}
 use Rattle.ist_core.specs.Links.{Leads}
@@ -28,15 +28,12 @@ use Rattle.laws_links.proofs.FormLemmas.{leaf_of_grows, room_grows, started_grow
 use Rattle.ist_dcss.proofs.SlotPlaceLemmas.{word_in}
 use Rattle.ist_dcss.proofs.SetSlotLemmas.{set_later}
 
-module _ (t u : Snapshot) (g : AllGrow t.pieces u.pieces) where
-  -- a row that is due is due
-  due_later : (node : ℕ) (r : InnerRow) → t.pieces node ≡ Some (Inner r) → IsDue r
-      → (s : InnerRow) × (u.pieces node ≡ Some (Inner s)) × IsDue s
-  due_later node r e due =
-      let on = inner_there t.pieces u.pieces g node r e in
-      let more = on.2.count in
-      let same : limit on.0.size ≡ limit r.size = ap limit on.2.size in
-      (on.0, on.1, omega arith)
+-- a row that is due is due as it grows
+due_later : (old new : InnerRow) → InnerGrows old new → IsDue old → IsDue new
+due_later old new g due =
+    let more = g.count in
+    let same : limit new.size ≡ limit old.size = ap limit g.size in
+    omega arith
 
 module _ (pairs : List Pair) (words : ℕ) (opens : CanOpen pairs words) (old log : Log)
     (enabled : EachEnabled (start pairs words) log) (on : GoesOn old log) where
@@ -134,23 +131,6 @@ module _ (pairs : List Pair) (words : ℕ) (opens : CanOpen pairs words) (old lo
         fresh_are = h.fresh_are;
       }
   fits_later change fresh (a_start h) =
-      ⊎_elim
-      (λ due.
-      let it = due_later t u grow h.target h.row h.published due in
-      a_start record {
-        kind = h.kind;
-        key = h.key;
-        value = h.value;
-        target = h.target;
-        row = it.0;
-        from = h.from;
-        published = it.1;
-        due = inl it.2;
-        rebuild = h.rebuild;
-        to = h.to;
-        fresh_are = h.fresh_are;
-      })
-      (λ anchor.
       let it = inner_there t.pieces u.pieces grow h.target h.row h.published in
       a_start record {
         kind = h.kind;
@@ -160,12 +140,11 @@ module _ (pairs : List Pair) (words : ℕ) (opens : CanOpen pairs words) (old lo
         row = it.0;
         from = h.from;
         published = it.1;
-        due = inr anchor;
+        due = ⊎_elim (λ due. inl (due_later h.row it.0 it.2 due)) (λ anchor. inr anchor) h.due;
         rebuild = h.rebuild;
         to = h.to;
         fresh_are = h.fresh_are;
-      })
-      h.due
+      }
   fits_later change fresh (a_finish h) =
       let it = rebuild_there t.pieces u.pieces grow h.rebuild h.row h.published in
       let root : it.0.root ≡ h.row.root = it.2.rooted h.built.set in

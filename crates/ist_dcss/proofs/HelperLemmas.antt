@@ -2,7 +2,7 @@
 -- `helping`.
 use Rattle.std.proofs.Common.{◌≡◌, ℕ, Some}
 use Rattle.ist_core.specs.declared.events.Event.{Event}
-use Rattle.ist_core.specs.declared.events.Event.TheVariants.{Enter, Reserve, Install, Okay, Decide, Resolve, Count, Mark, Pass, Finish, Root, Draw, Place, Lose}
+use Rattle.ist_core.specs.declared.events.Event.TheVariants.{Reserve, Install, Root, Place, Lose}
 use Rattle.ist_core.specs.declared.states.ChangeRow.{ChangeRow}
 use Rattle.ist_core.specs.Pieces.{Change}
 use Rattle.ist_core.specs.Growing.{ChangeGrows}
@@ -23,17 +23,9 @@ went_row P change v w h row e =
 
 -- no step of help changes what its caller holds
 pub serves_keep : (change : ℕ) (event : Event) → Serves change event → KeepsRows event
-serves_keep change (Okay caller other) is = tt
-serves_keep change (Decide caller other said) is = tt
-serves_keep change (Resolve caller other) is = tt
-serves_keep change (Enter caller) is = tt
-serves_keep change (Count caller node) is = tt
-serves_keep change (Mark caller node) is = tt
-serves_keep change (Pass caller node i word) is = tt
-serves_keep change (Finish caller node keys) is = tt
-serves_keep change (Draw caller rebuild part) is = tt
 serves_keep change (Reserve caller base size) is = absurd is
 serves_keep change (Install caller base rows) is = absurd is
 serves_keep change (Root caller rebuild word rows) is = absurd is
 serves_keep change (Place caller rebuild i word rows) is = absurd is
 serves_keep change (Lose caller bases) is = absurd is
+serves_keep change _ is = tt

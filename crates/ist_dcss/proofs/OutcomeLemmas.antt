@@ -3,7 +3,7 @@ use Rattle.std.proofs.Common.{◌≡◌, ℕ, ◌⊎◌, Bool, true, false, List
 use Rattle.ist_core.specs.declared.pairs.Pair.{Pair}
 use Rattle.ist_core.specs.declared.states.ChangeRow.{ChangeRow}
 use Rattle.ist_core.specs.declared.events.Event.{Event}
-use Rattle.ist_core.specs.declared.events.Event.TheVariants.{Enter, Reserve, Install, Okay, Decide, Resolve, Count, Mark, Pass, Finish, Root, Draw, Place, Lose}
+use Rattle.ist_core.specs.declared.events.Event.TheVariants.{Okay, Decide}
 use Rattle.ist_core.specs.Statuses.{undecided, decided_yes, decided_no}
 use Rattle.ist_core.specs.Pieces.{Change}
 use Rattle.ist_core.specs.Snapshots.{Snapshot}
@@ -32,14 +32,14 @@ seen_on P pairs words log event change s =
     }
 
 -- the node is not open
-abbrev pub IsShut : Snapshot → ℕ → Type 0
-IsShut t node = ¬ (IsOpen t node)
+abbrev pub IsNotOpen : Snapshot → ℕ → Type 0
+IsNotOpen t node = ¬ (IsOpen t node)
 
 -- a change is undecided, or decided yes, or decided no and its node was seen not to be open
 abbrev pub HasFate : List Pair → ℕ → Log → ℕ → ChangeRow → Type 0
 HasFate pairs words log base x =
     (x.decision ≡ undecided) ⊎ ((x.decision ≡ decided_yes) ⊎ ((x.decision ≡ decided_no)
-    × WasSeen IsShut pairs words log base))
+    × WasSeen IsNotOpen pairs words log base))
 
 module _ (pairs : List Pair) (words : ℕ) where
   fate_kept : (log : Log) (event : Event) (base : ℕ) (x : ChangeRow)
@@ -47,7 +47,7 @@ module _ (pairs : List Pair) (words : ℕ) where
   fate_kept log event base x (inl e) = inl e
   fate_kept log event base x (inr (inl e)) = inr (inl e)
   fate_kept log event base x (inr (inr k)) =
-      inr (inr (k.0, seen_on IsShut pairs words log event base k.1))
+      inr (inr (k.0, seen_on IsNotOpen pairs words log event base k.1))
 
   fate_decided : (log : Log) (caller base : ℕ) (said : Bool)
       → (h : CanDecide (state_of pairs words log) log caller base said)
@@ -89,19 +89,7 @@ module _ (pairs : List Pair) (words : ℕ) where
             h.pending.published;
         node = h.node_open;
       }
-  okay_now log (Enter caller) base h is = absurd is
-  okay_now log (Reserve caller b size) base h is = absurd is
-  okay_now log (Install caller change rows) base h is = absurd is
-  okay_now log (Decide caller change said) base h is = absurd is
-  okay_now log (Resolve caller change) base h is = absurd is
-  okay_now log (Count caller node) base h is = absurd is
-  okay_now log (Mark caller node) base h is = absurd is
-  okay_now log (Pass caller node i word) base h is = absurd is
-  okay_now log (Finish caller node keys) base h is = absurd is
-  okay_now log (Root caller rebuild word rows) base h is = absurd is
-  okay_now log (Draw caller rebuild part) base h is = absurd is
-  okay_now log (Place caller rebuild i word rows) base h is = absurd is
-  okay_now log (Lose caller bases) base h is = absurd is
+  okay_now log _ base h is = absurd is
 
   -- a change that has an Okay was seen with its node open
   pub okay_seen : (log : Log) → EachEnabled (start pairs words) log → (base : ℕ)

@@ -3,7 +3,7 @@ use Rattle.std.proofs.Common.{◌≡◌, ◌≢◌, ℕ, ◌+◌, ◌*◌, ◌/�
 use Rattle.std.proofs.lemmas.Bool.Decides.{eqb_tells}
 use Rattle.ist_core.specs.declared.states.ChangeRow.{ChangeRow}
 use Rattle.ist_core.specs.declared.events.Event.{Event}
-use Rattle.ist_core.specs.declared.events.Event.TheVariants.{Enter, Reserve, Install, Okay, Decide, Resolve, Count, Mark, Pass, Finish, Root, Draw, Place, Lose}
+use Rattle.ist_core.specs.declared.events.Event.TheVariants.{Resolve}
 use Rattle.ist_core.specs.References.{ChangeAt, word_of, tag_count}
 use Rattle.ist_core.specs.Statuses.{undecided, decided_yes}
 use Rattle.ist_core.specs.Pieces.{Change, as_change}
@@ -39,19 +39,7 @@ use Rattle.ist_dcss.proofs.DecideLemmas.{row_behind, number_low}
 resolves_now : (base : ℕ) (event : Event) → Resolves base event ⊎ ¬ (Resolves base event)
 resolves_now base (Resolve caller change) =
     ⊎_elim (λ k. inl k.1) (λ k. inr k.1) (eqb_tells change base)
-resolves_now base (Enter caller) = inr (λ e. e)
-resolves_now base (Reserve caller b size) = inr (λ e. e)
-resolves_now base (Install caller change rows) = inr (λ e. e)
-resolves_now base (Okay caller change) = inr (λ e. e)
-resolves_now base (Decide caller change said) = inr (λ e. e)
-resolves_now base (Count caller node) = inr (λ e. e)
-resolves_now base (Mark caller node) = inr (λ e. e)
-resolves_now base (Pass caller node i word) = inr (λ e. e)
-resolves_now base (Finish caller node keys) = inr (λ e. e)
-resolves_now base (Root caller rebuild word rows) = inr (λ e. e)
-resolves_now base (Draw caller rebuild part) = inr (λ e. e)
-resolves_now base (Place caller rebuild i word rows) = inr (λ e. e)
-resolves_now base (Lose caller bases) = inr (λ e. e)
+resolves_now base _ = inr (λ e. e)
 
 -- the change was resolved or wasn't
 resolved_or_not : (base : ℕ) (log : Log) → Happened (Resolves base) log

@@ -18,7 +18,6 @@ use Rattle.ist_rule.specs.declared.view.View.{View}
 use Rattle.ist_core.specs.declared.events.Who.TheVariants.{Caller}
 use Rattle.ist_rule.specs.Conditions.{IsResolved}
 use Rattle.ist_rule.specs.Going.{WentOn}
-use Rattle.ist_rule.specs.Learning.{now, Logged}
 use Rattle.ist_rule.proofs.CallLemmas.{installs_not, resolved_later}
 use Rattle.ist_rule.proofs.ChangeLemmas.{ChangeComes, stood, is_installed, change_comes, grows_same_change}
 use Rattle.ist_rule.proofs.GoingOnLemmas.{goes_on_who}

@@ -4,7 +4,7 @@ use Rattle.ist_core.specs.declared.pairs.Pair.{Pair}
 use Rattle.ist_core.specs.declared.lists.Row.{Row}
 use Rattle.ist_core.specs.declared.states.ChangeRow.{ChangeRow}
 use Rattle.ist_core.specs.declared.events.Event.{Event}
-use Rattle.ist_core.specs.declared.events.Event.TheVariants.{Enter, Reserve, Install, Okay, Decide, Resolve, Count, Mark, Pass, Finish, Root, Draw, Place, Lose}
+use Rattle.ist_core.specs.declared.events.Event.TheVariants.{Install, Resolve, Place}
 use Rattle.ist_core.specs.References.{Ref, Unset, ChangeAt, ref_of, word_of, unset_word}
 use Rattle.ist_core.specs.Statuses.{decided_yes}
 use Rattle.ist_core.specs.Pieces.{Change}
@@ -125,17 +125,7 @@ module _ (pairs : List Pair) (words : ℕ) where
       (place_writes (state_of pairs words log) caller rebuild j word rows h.1
       (sound_behind pairs words log h.0) (anchor_free pairs words log h.0))
       (inl refl)
-  set_on log (Enter caller) h = quiet log (Enter caller) h tt
-  set_on log (Reserve caller base size) h = quiet log (Reserve caller base size) h tt
-  set_on log (Okay caller change) h = quiet log (Okay caller change) h tt
-  set_on log (Decide caller change said) h = quiet log (Decide caller change said) h tt
-  set_on log (Count caller node) h = quiet log (Count caller node) h tt
-  set_on log (Mark caller node) h = quiet log (Mark caller node) h tt
-  set_on log (Pass caller node j word) h = quiet log (Pass caller node j word) h tt
-  set_on log (Finish caller node keys) h = quiet log (Finish caller node keys) h tt
-  set_on log (Root caller rebuild word rows) h = quiet log (Root caller rebuild word rows) h tt
-  set_on log (Draw caller rebuild part) h = quiet log (Draw caller rebuild part) h tt
-  set_on log (Lose caller bases) h = quiet log (Lose caller bases) h tt
+  set_on log event h = quiet log event h tt
 
   -- a slot that isn't Unset isn't Unset in a longer log
   pub set_later : (old log : Log) → GoesOn old log → EachEnabled (start pairs words) log

@@ -1,13 +1,13 @@
 -- Looks at the keys of a row: one after the other, and by a gallop. Serves `keys`.
 use Rattle.std.proofs.Common.{◌≡◌, ◌∙◌, ℕ, suc, ◌+◌, ◌-◌, ◌*◌, ◌<◌, ◌≤◌, nat_le, nat_lt, cond, Bool, true, false, List, length, get_or, take, refl, sym, ap, arith}
 use Rattle.std.proofs.lemmas.Bool.Decides.{nat_tests}
-use Rattle.std.proofs.lemmas.List.Sums.{count_by_more_yes, count_by_more_no, count_by-le-length}
+use Rattle.std.proofs.lemmas.List.Sums.{count_by_more_yes, count_by_more_no}
 use Rattle.ist_core.specs.Arithmetic.{child_count}
 use Rattle.ist_math.specs.declared.gallops.Gallop.{Gallop}
 use Rattle.ist_math.specs.Guess.{guess_in, distance}
 use Rattle.ist_math.specs.Gallops.{Gallops}
 use Rattle.ist_math.proofs.GallopLemmas.{end-near, end-far}
-use Rattle.ist_math.proofs.ChildLemmas.{HasGalloped, galloped_on, galloped_to, looks_fit, child_is_first, child_is_last}
+use Rattle.ist_math.proofs.ChildLemmas.{HasGalloped, galloped_on, galloped_to, looks_fit, child_is_first, child_is_last, child_most}
 use Rattle.ist_rule.specs.declared.view.View.{View}
 use Rattle.ist_rule.specs.Rule.{IsSound}
 use Rattle.ist_rule.specs.Learning.{GoesOnTo}
@@ -24,13 +24,13 @@ pub record HasLoaded (v w : View) (node loads : ℕ) : Type 0 where
   pub count : w.loaded ≡ v.loaded + loads
 
 -- this many of the keys before `at` are at most the key
-pub record HasCounted (v w : View) (node at key found : ℕ) : Type 0 where
+pub record HasCountedKeys (v w : View) (node at key found : ℕ) : Type 0 where
   pub loaded : HasLoaded v w node at
   pub within : found ≤ at
   pub found_is : child_count (take at (keys_at v node)) key ≡ found
 
 -- a gallop among the keys made this many looks, and no other load
-pub record HasRun (v w : View) (node from key : ℕ) (g : Gallop) (looks : ℕ) : Type 0 where
+pub record HasRunGallop (v w : View) (node from key : ℕ) (g : Gallop) (looks : ℕ) : Type 0 where
   pub loaded : HasLoaded v w node looks
   pub galloped : HasGalloped (keys_at v node) key from g looks
 
@@ -55,19 +55,19 @@ one_loaded v w u node loads h g count =
 
 -- no key was counted yet
 pub none_counted : (v : View) → IsSound v → (node : ℕ) → IsRow v node → (key : ℕ)
-    → HasCounted v v node 0 key 0
+    → HasCountedKeys v v node 0 key 0
 none_counted v s node r key =
     record { loaded = none_loaded v s node r; within = omega arith; found_is = refl }
 
 -- one more was, which is at most the key, or isn't
-module _ (v w u : View) (node at key found word : ℕ) (h : HasCounted v w node at key found)
+module _ (v w u : View) (node at key found word : ℕ) (h : HasCountedKeys v w node at key found)
     (g : GoesOnTo w u) (count : u.loaded ≡ w.loaded + 1) (less : at < length (keys_at v node))
     (is : word ≡ get_or (keys_at w node) at 0) where
   here : word ≡ get_or (keys_at v node) at 0
   here = is ∙ ap (λ ks. get_or ks at 0) h.loaded.keys
 
   -- a key that is at most the searched one is counted
-  pub counted_yes : word ≤ key → HasCounted v u node (at + 1) key (found + 1)
+  pub counted_yes : word ≤ key → HasCountedKeys v u node (at + 1) key (found + 1)
   counted_yes low =
       let same = here in
       let so_far = h.found_is in
@@ -81,7 +81,7 @@ module _ (v w u : View) (node at key found word : ℕ) (h : HasCounted v w node 
       }
 
   -- a key above the searched one isn't counted
-  pub counted_no : key < word → HasCounted v u node (at + 1) key found
+  pub counted_no : key < word → HasCountedKeys v u node (at + 1) key found
   counted_no high =
       let same = here in
       let so_far = h.found_is in
@@ -136,7 +136,7 @@ pub run_begins : (v w : View) → IsSound v → (node from key : ℕ) (g : Gallo
     → key < get_or (keys_at v node) (length (keys_at v node) - 1) 0
     → g.low ≡ cond (nat_lt key word) 0 from
     → g.high ≡ cond (nat_lt key word) from (length (keys_at v node) - 1) → Gallops g from 1
-    → HasRun v w node from key g 1
+    → HasRunGallop v w node from key g 1
 run_begins v w s node from key g word r go count is less first last low high gallops =
     let keys = keys_at v node in
     record {
@@ -148,11 +148,11 @@ run_begins v w s node from key g word r go count is less first last low high gal
 
 -- a look of it is one more load
 pub run_on : (v w u : View) (node from key : ℕ) (g next : Gallop) (looks at word : ℕ)
-    → HasRun v w node from key g looks → GoesOnTo w u → u.loaded ≡ w.loaded + 1
+    → HasRunGallop v w node from key g looks → GoesOnTo w u → u.loaded ≡ w.loaded + 1
     → word ≡ get_or (keys_at w node) at 0 → g.low < at → at < g.high
     → next.low ≡ cond (nat_lt key word) g.low at → next.high ≡ cond (nat_lt key word) at g.high
     → ((guess looks : ℕ) → Gallops g guess looks → Gallops next guess (suc looks))
-    → HasRun v u node from key next (looks + 1)
+    → HasRunGallop v u node from key next (looks + 1)
 run_on v w u node from key g next looks at word h go count is up down low high goes =
     let keys = keys_at v node in
     let here : word ≡ get_or keys at 0 = is ∙ ap (λ ks. get_or ks at 0) h.loaded.keys in
@@ -166,13 +166,13 @@ run_on v w u node from key g next looks at word h go count is up down low high g
 
 -- a gallop makes few looks
 pub run_fits : (v w : View) (node from key count : ℕ) (g : Gallop) (looks : ℕ)
-    → HasRun v w node from key g looks → count ≡ length (keys_at v node) → from < count → looks ≤ 2 * count + 3
+    → HasRunGallop v w node from key g looks → count ≡ length (keys_at v node) → from < count → looks ≤ 2 * count + 3
 run_fits v w node from key count g looks h long less =
     let fit = looks_fit (keys_at v node) key from g looks h.galloped (omega arith) in omega arith
 
 -- at its end the child is found
 pub run_ends : (v w : View) → IsSound v → (node from key count : ℕ) (g : Gallop) (looks : ℕ) → IsRow v node
-    → HasRun v w node from key g looks → g.low + 1 ≡ g.high → count ≡ length (keys_at v node) → from < count
+    → HasRunGallop v w node from key g looks → g.low + 1 ≡ g.high → count ≡ length (keys_at v node) → from < count
     → FindsChild v w node key count from 0 g.high looks
 run_ends v w s node from key count g looks r h end long less =
     let fit = run_fits v w node from key count g looks h long less in
@@ -244,7 +244,7 @@ pub few_counted : (v w : View) (node key count child : ℕ) → GoesOnTo v w →
     → count ≤ 4 → count ≡ length (keys_at v node) → child ≡ child_count (keys_at v node) key
     → FindsChild v w node key count (guess_in (keys_at v node) key) 2 child count
 few_counted v w node key count child g counted four long is =
-    let most = count_by-le-length (λ k. nat_le k key) (keys_at v node) in
+    let most = child_most (keys_at v node) key in
     record {
       seen = g;
       counted = counted;

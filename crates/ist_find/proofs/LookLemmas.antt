@@ -34,6 +34,7 @@ use Rattle.laws_histories.proofs.NeededLemmas.{all_needed}
 use Rattle.ist_rule.specs.Watching.{IsNode, is_anchor, is_inner}
 use Rattle.ist_find.specs.Searches.{Names, HasCome}
 use Rattle.ist_find.specs.Reads.{IsPlain, IsFoundAs, IsReached, TellsSide, TellsTarget, HasLooked}
+use Rattle.ist_find.specs.Sweeps.{LookedSince}
 use Rattle.ist_find.proofs.LoadLemmas.{by_table, goes_log, goes_length, shown_load}
 use Rattle.ist_find.proofs.ReadLemmas.{slot_named, no_change_told, no_rebuild_told}
 
@@ -103,18 +104,15 @@ come_later v w g key node rows h =
     }
 
 -- the child, the side and the target together are a look at the slot
-pub look_told : (v u t w : View) (key node i word side : ℕ) (ref : Ref) (rows : List ℕ)
-    → HasCome v key node rows → GoesOnTo v u → IsChildFor (now u) node key i → SlotHolds (now u) node i word
-    → TellsSide u t word side → TellsTarget t w side ref → HasLooked w key node i rows ref
-look_told v u t w key node i word side ref rows h a index holds told target =
+pub look_since : (v u t w : View) (key least node i word side : ℕ) (ref : Ref) → GoesOnTo v u
+    → least ≤ length v.log → IsChildFor (now u) node key i → SlotHolds (now u) node i word
+    → TellsSide u t word side → TellsTarget t w side ref → LookedSince w key least node i ref
+look_since v u t w key least node i word side ref a low index holds told target =
     let b = goes_on_more u t w told.seen target.seen in
-    let g = goes_on_more v u w a b in
     let place = place_of_slot (state_of w.start w.words u.log) node i in
     record {
-      least = h.last;
       last = told.has.last;
       until = le_trans told.has.until (goes_length t w target.seen);
-      comes = comes_later v w g key h.last node rows h.comes;
       look = record {
         slot = record { place = place; word = word; length = length u.log };
         index = i;
@@ -123,9 +121,9 @@ look_told v u t w key node i word side ref rows h a index holds told target =
             (by_table u w b (λ p n. IsChildFor (state_of p n u.log) node key i) index);
         is_load = slot_later w.start w.words u.log w.log (goes_log u w b)
             (enabled_before (start w.start w.words) u.log w.log (goes_log u w b)
-            target.seen.sound.lawful.enabled) node i word h.last
+            target.seen.sound.lawful.enabled) node i word least
             (by_table u w b (λ p n. SlotHolds (state_of p n u.log) node i word) holds)
-            (le_trans h.until (goes_length v u a));
+            (le_trans low (goes_length v u a));
         side = side;
         side_is = side_on w.start w.words t.log w.log (goes_log t w target.seen)
             record { place = place; word = word; length = length u.log } side told.has.last
@@ -135,6 +133,22 @@ look_told v u t w key node i word side ref rows h a index holds told target =
         ref_is = target.has told.has.last told.has.until;
       };
       index_is = refl;
+    }
+
+-- and of a search that had come to the node, by these rows
+pub look_told : (v u t w : View) (key node i word side : ℕ) (ref : Ref) (rows : List ℕ)
+    → HasCome v key node rows → GoesOnTo v u → IsChildFor (now u) node key i → SlotHolds (now u) node i word
+    → TellsSide u t word side → TellsTarget t w side ref → HasLooked w key node i rows ref
+look_told v u t w key node i word side ref rows h a index holds told target =
+    let g = goes_on_more v u w a (goes_on_more u t w told.seen target.seen) in
+    let since = look_since v u t w key h.last node i word side ref a h.until index holds told target in
+    record {
+      least = h.last;
+      last = since.last;
+      until = since.until;
+      comes = comes_later v w g key h.last node rows h.comes;
+      look = since.look;
+      index_is = since.index_is;
     }
 
 -- a search never reads a slot as a part that isn't built yet

@@ -8,6 +8,7 @@ use Rattle.ist_core.specs.RowLayout.{anchor}
 use Rattle.ist_core.specs.References.{Ref}
 use Rattle.ist_core.specs.Slots.{IsChildFor, of_anchor}
 use Rattle.ist_math.specs.Guess.{guess_in, distance}
+use Rattle.ist_math.proofs.ChildLemmas.{key_after_child}
 use Rattle.ist_rule.specs.declared.view.View.{View}
 use Rattle.ist_rule.specs.Rule.{IsSound}
 use Rattle.ist_rule.specs.Learning.{now, GoesOnTo}
@@ -19,7 +20,7 @@ use Rattle.ist_find.specs.Sweeps.{LookedSince, starting}
 use Rattle.ist_find.specs.Turns.{IsSlotForKey, SlotEnds, HasReadSlot}
 use Rattle.ist_find.proofs.LoadLemmas.{goes_length}
 use Rattle.ist_find.proofs.RowLemmas.{row_on, keys_on, keys_rise, count_on, child_is}
-use Rattle.ist_find.proofs.SpanLemmas.{anchor_child, node_row, row_child, node_later, child_on, child_below}
+use Rattle.ist_find.proofs.SpanLemmas.{anchor_child, node_row, row_child, node_later, child_on}
 use Rattle.ist_find.proofs.SlotEndLemmas.{no_keys, node_keys_on, slot_shared, slot_more, slot_next}
 
 -- ---- the slot of a key
@@ -96,7 +97,7 @@ keys_end v s node key end last i count other a some top under edge most =
     let rises = keys_rise v s node row in
     let is = row_child v node key i other a.child in
     record {
-      some = most key some (child_below keys rises key i is);
+      some = most key some (key_after_child keys rises key i is);
       top = top;
       share = λ k low high. child_is v node row k i
           (sym (slot_shared keys rises key i end last is under k low high));

@@ -2,13 +2,12 @@
 -- Serves `spans`.
 use Rattle.std.proofs.Common.{◌≡◌, ℕ, ◌-◌, ◌<◌, ◌≤◌, length, get_or, sym, ap, subst, arith}
 use Rattle.ist_core.specs.Arithmetic.{child_count}
-use Rattle.ist_math.proofs.ChildLemmas.{child_count_is}
+use Rattle.ist_math.proofs.ChildLemmas.{child_count_is, child_most, key_before_child, key_after_child}
 use Rattle.ist_rule.specs.declared.view.View.{View}
 use Rattle.ist_rule.specs.Rule.{IsSound}
 use Rattle.ist_rule.specs.Learning.{GoesOnTo}
 use Rattle.ist_find.specs.Searches.{IsRow, keys_at}
 use Rattle.ist_find.proofs.RowLemmas.{keys_on, keys_rise}
-use Rattle.ist_find.proofs.SpanLemmas.{child_most, child_above, child_below}
 
 module _ (v : View) (s : IsSound v) (node key i : ℕ) (r : IsRow v node)
     (is : i ≡ child_count (keys_at v node) key) where
@@ -23,13 +22,13 @@ module _ (v : View) (s : IsSound v) (node key i : ℕ) (r : IsRow v node)
   pub below_next : (w : View) → GoesOnTo v w → i < length (keys_at w node) → key < get_or (keys_at w node) i 0
   below_next w g =
       subst (λ ks. i < length ks → key < get_or ks i 0) (sym (keys_on v w g node r))
-      (child_below (keys_at v node) (keys_rise v s node r) key i is)
+      (key_after_child (keys_at v node) (keys_rise v s node r) key i is)
 
   -- the key before it isn't
   pub above_last : (w : View) → GoesOnTo v w → 0 < i → get_or (keys_at w node) (i - 1) 0 ≤ key
   above_last w g =
       subst (λ ks. 0 < i → get_or ks (i - 1) 0 ≤ key) (sym (keys_on v w g node r))
-      (child_above (keys_at v node) (keys_rise v s node r) key i is)
+      (key_before_child (keys_at v node) (keys_rise v s node r) key i is)
 
   -- and all keys between these two have this child
   pub between_share : (u w : View) → GoesOnTo v u → GoesOnTo v w → (low high : ℕ)

@@ -7,7 +7,7 @@ use Rattle.ist_core.specs.RowLayout.{anchor}
 use Rattle.ist_core.specs.Pieces.{as_inner}
 use Rattle.ist_core.specs.Slots.{IsChildFor, of_anchor, of_row}
 use Rattle.ist_core.proofs.PlaceLemmas.{anchor_free}
-use Rattle.ist_math.proofs.ChildLemmas.{child_count_is}
+use Rattle.ist_math.proofs.ChildLemmas.{child_count_is, child_most, key_before_child}
 use Rattle.ist_rule.specs.declared.view.View.{View}
 use Rattle.ist_core.specs.References.{InnerAt}
 use Rattle.ist_layout.specs.declared.references.Ref as coded
@@ -18,7 +18,6 @@ use Rattle.ist_rule.specs.Watching.{IsNode, is_anchor, is_inner}
 use Rattle.ist_rule.specs.Rule.{IsSound}
 use Rattle.ist_find.specs.Searches.{keys_in, keys_at}
 use Rattle.ist_find.proofs.RowLemmas.{keys_are, keys_on}
-use Rattle.ist_find.proofs.SpanLemmas.{child_most, child_above}
 
 -- the anchor has no keys
 pub no_keys : (v : View) → IsSound v → (node : ℕ) → node ≡ anchor → keys_at v node ≡ []
@@ -59,7 +58,7 @@ module _ (keys : List ℕ) (rises : IsStrictlyIncreasing keys) (from i to last :
   pub slot_shared : (k : ℕ) → from ≤ k → k ≤ to → child_count keys k ≡ i
   slot_shared k low high =
       child_count_is keys k i rises within (λ less. let u = under less in omega arith)
-      (λ some. let a = child_above keys rises from i is some in omega arith)
+      (λ some. let a = key_before_child keys rises from i is some in omega arith)
 
   -- and the key after it has the next one
   module _ (most : (k : ℕ) → k ≤ last → (i < length keys → k < get_or keys i 0) → k ≤ to)

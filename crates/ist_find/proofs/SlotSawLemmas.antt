@@ -11,9 +11,8 @@ use Rattle.ist_core.specs.References.{Ref, Empty, Unset, LeafAt, InnerAt, Change
 use Rattle.ist_core.specs.Pieces.{Inner}
 use Rattle.ist_core.specs.StartLayout.{start}
 use Rattle.ist_core.specs.Logs.{Log, GoesOn}
-use Rattle.ist_core.specs.Slots.{SlotHolds, IsChildFor}
+use Rattle.ist_core.specs.Slots.{IsChildFor}
 use Rattle.ist_core.specs.Links.{IsChild, Leads, down}
-use Rattle.ist_core.specs.Writing.{place_of_slot}
 use Rattle.ist_core.specs.Lawful.{EachEnabled, state_of}
 use Rattle.ist_core.proofs.FateLemmas.{enabled_before, grow_between}
 use Rattle.ist_core.proofs.GrowingLemmas.{inner_there}
@@ -21,10 +20,9 @@ use Rattle.ist_core.proofs.OrderLemmas.{names, child_above}
 use Rattle.ist_core.proofs.PlaceLemmas.{anchor_free}
 use Rattle.laws_links.proofs.ContentLemmas.{linked_set}
 use Rattle.laws_histories.specs.Loads.{log_at}
-use Rattle.laws_histories.specs.Searching.{ReadsSide}
 use Rattle.laws_histories.specs.Telling.{map_now}
 use Rattle.laws_histories.proofs.ChangeLemmas.{on_trans}
-use Rattle.laws_histories.proofs.LoadOnLemmas.{at_on, at_prefix, side_on, at_same}
+use Rattle.laws_histories.proofs.LoadOnLemmas.{at_on, at_same}
 use Rattle.laws_histories.proofs.ReadLemmas.{ReadsAs}
 use Rattle.laws_histories.proofs.SearchLemmas.{leads_linked, leads_there, there_on}
 use Rattle.ist_rule.specs.declared.view.View.{View}
@@ -32,12 +30,10 @@ use Rattle.ist_rule.specs.Learning.{now, GoesOnTo}
 use Rattle.ist_rule.specs.Rule.{IsSound}
 use Rattle.ist_rule.specs.Watching.{IsNode, is_anchor, is_inner}
 use Rattle.ist_find.specs.Searches.{keys_at}
-use Rattle.ist_find.specs.Reads.{IsFoundAs, IsEnd, TellsSide, TellsTarget, TellsValue}
+use Rattle.ist_find.specs.Reads.{IsFoundAs, IsEnd, TellsValue}
 use Rattle.ist_find.specs.Spans.{pair_value, IsEdge}
 use Rattle.ist_find.specs.Sweeps.{SlotWasRead, AllLed, WereLed, LookedSince}
-use Rattle.ist_rule.proofs.GoingOnLemmas.{goes_on_more}
-use Rattle.ist_find.proofs.LookLemmas.{slot_later}
-use Rattle.ist_find.proofs.LoadLemmas.{by_table, goes_log, goes_length}
+use Rattle.ist_find.proofs.LoadLemmas.{by_table, goes_log}
 use Rattle.ist_find.proofs.RowLemmas.{keys_are}
 use Rattle.ist_find.proofs.SlotEndLemmas.{no_keys}
 use Rattle.ist_find.proofs.SpanLemmas.{child_on}
@@ -226,38 +222,3 @@ edge_then v s at g one node key led among =
     })
     (leads_there v.start v.words s.lawful.opens one at
     (enabled_before (start v.start v.words) at v.log g s.lawful.enabled) node led)
-
--- ---- the look, by its loads
-
--- the side and the target of a slot's word are together a look at the slot
-pub since_told : (v u t w : View) (key least node i word side : ℕ) (ref : Ref) → GoesOnTo v u
-    → least ≤ length v.log → IsChildFor (now v) node key i → SlotHolds (now u) node i word
-    → TellsSide u t word side → TellsTarget t w side ref → LookedSince w key least node i ref
-since_told v u t w key least node i word side ref a low child holds told target =
-    let b = goes_on_more u t w told.seen target.seen in
-    let place = place_of_slot (state_of w.start w.words u.log) node i in
-    let index = child_on v u a node key i child in
-    record {
-      last = told.has.last;
-      until = le_trans told.has.until (goes_length t w target.seen);
-      look = record {
-        slot = record { place = place; word = word; length = length u.log };
-        index = i;
-        index_is = subst (λ l. IsChildFor (state_of w.start w.words l) node key i)
-            (sym (at_prefix u.log w.log (goes_log u w b)))
-            (by_table u w b (λ p n. IsChildFor (state_of p n u.log) node key i) index);
-        is_load = slot_later w.start w.words u.log w.log (goes_log u w b)
-            (enabled_before (start w.start w.words) u.log w.log (goes_log u w b)
-            target.seen.sound.lawful.enabled) node i word least
-            (by_table u w b (λ p n. SlotHolds (state_of p n u.log) node i word) holds)
-            (le_trans low (goes_length v u a));
-        side = side;
-        side_is = side_on w.start w.words t.log w.log (goes_log t w target.seen)
-            record { place = place; word = word; length = length u.log } side told.has.last
-            (by_table t w target.seen (λ p n. ReadsSide p n t.log
-            record { place = place; word = word; length = length u.log } side told.has.last)
-            (told.has.side_is place));
-        ref_is = target.has told.has.last told.has.until;
-      };
-      index_is = refl;
-    }

@@ -1,28 +1,25 @@
 -- One search for all keys that have the same children: what holds for each of them. Serves `spans`.
-use Rattle.std.proofs.Common.{◌≡◌, ◌≢◌, ℕ, ◌+◌, ◌-◌, ◌<◌, ◌≤◌, ◌⊎◌, ◌==◌, if◌then◌else◌, nat_le, true, false, List, [], ◌∷◌, ◌++◌, length, get_or, Option, Some, None, sym, ap, ◌∙◌, subst, inl, inr, arith, length-append}
+use Rattle.std.proofs.Common.{◌≡◌, ◌≢◌, ℕ, ◌+◌, ◌<◌, ◌≤◌, ◌⊎◌, ◌==◌, if◌then◌else◌, true, false, List, [], ◌∷◌, ◌++◌, length, Option, Some, None, refl, sym, ap, ◌∙◌, subst, inl, inr, arith, length-append}
 use Rattle.std.proofs.Math.Nat.{le_trans}
-use Rattle.std.proofs.lemmas.Bool.Decides.{leb_tells, eqb_tells}
-use Rattle.std.proofs.lemmas.List.Sums.{count_by-le-length}
-use Rattle.std.specs.List.Sorted.{IsStrictlyIncreasing}
+use Rattle.std.proofs.lemmas.Bool.Decides.{eqb_tells}
 use Rattle.ist_core.specs.declared.pairs.Pair.{Pair}
 use Rattle.ist_core.specs.Arithmetic.{child_count}
 use Rattle.ist_core.specs.RowLayout.{anchor, leaf_key_offset, leaf_value_offset}
 use Rattle.ist_core.specs.References.{Ref, Empty, Unset, LeafAt, InnerAt, ChangeAt, RebuildAt}
-use Rattle.ist_core.specs.Pieces.{Inner}
+use Rattle.ist_core.specs.Pieces.{Inner, Leaf}
 use Rattle.ist_core.specs.Slots.{IsChildFor, of_anchor, of_row}
-use Rattle.ist_core.proofs.RisingLemmas.{child_count_tells}
 use Rattle.ist_core.proofs.ShownLemmas.{fixed_row}
-use Rattle.ist_core.proofs.GrowingLemmas.{child_remains}
-use Rattle.ist_math.proofs.ChildLemmas.{child_count_is}
+use Rattle.ist_core.proofs.GrowingLemmas.{child_remains, leaf_there}
 use Rattle.ist_rule.specs.declared.view.View.{View}
 use Rattle.ist_rule.specs.Rule.{IsSound}
 use Rattle.ist_rule.specs.Learning.{now, GoesOnTo, Looked, Turned, searching}
 use Rattle.ist_rule.specs.Watching.{IsNode, is_anchor, is_inner}
 use Rattle.ist_rule.proofs.GoingOnLemmas.{goes_on_more, looked_goes_on}
 use Rattle.laws_histories.specs.Searching.{LooksAt, HasPosition, of_other}
-use Rattle.ist_find.specs.Searches.{IsRow, keys_at, row_cost}
+use Rattle.ist_dcss.proofs.FieldLemmas.{looked_row, row_low}
+use Rattle.ist_find.specs.Searches.{IsRow, SeesLeaf, keys_at, row_cost}
 use Rattle.ist_find.specs.Reads.{HasLooked, IsFoundAs, TellsValue, loaded_in}
-use Rattle.ist_find.specs.Spans.{pair_value, AllCome, AllLooked, LooksFewOver, HasFewSpanLoads}
+use Rattle.ist_find.specs.Spans.{pair_value, IsPairOf, AllCome, AllLooked, LooksFewOver, HasFewSpanLoads}
 use Rattle.ist_find.proofs.LoadLemmas.{by_table, goes_log, goes_length, looked_load, load_later}
 use Rattle.laws_calls.proofs.WalkLemmas.{met_chain}
 use Rattle.ist_rule.proofs.WentOnLemmas.{goes_on_grow}
@@ -33,47 +30,6 @@ use Rattle.ist_find.proofs.RowLemmas.{row_on, keys_are, keys_on}
 use Rattle.ist_find.proofs.SearchLemmas.{look_later, has_found, found_position}
 
 -- ---- which keys have a child
-
--- the child of a key is no more than there are keys
-pub child_most : (keys : List ℕ) (x : ℕ) → child_count keys x ≤ length keys
-child_most keys x = count_by-le-length (λ key. nat_le key x) keys
-
--- the keys on both its sides determine it
-module _ (keys : List ℕ) (rises : IsStrictlyIncreasing keys) (x i : ℕ) (is : i ≡ child_count keys x)
-  where
-    within : i ≤ length keys
-    within = subst (λ n. n ≤ length keys) (sym is) (child_most keys x)
-
-    -- the key before the child, if there is one, is at most x
-    pub child_above : 0 < i → get_or keys (i - 1) 0 ≤ x
-    child_above some = at (leb_tells (get_or keys (i - 1) 0) x)
-      where
-        at : ((nat_le (get_or keys (i - 1) 0) x ≡ true) × (get_or keys (i - 1) 0 ≤ x)) ⊎
-            ((nat_le (get_or keys (i - 1) 0) x ≡ false) × (x < get_or keys (i - 1) 0))
-            → get_or keys (i - 1) 0 ≤ x
-        at (inl a) = a.1
-        at (inr a) =
-            let less = a.1 in
-            let low = within in
-            let y = get_or keys (i - 1) 0 - 1 in
-            let before : child_count keys y ≡ i - 1 = child_count_is keys y (i - 1) rises
-            (omega arith) (λ l. omega arith)
-            (λ more. let r = rises (i - 1 - 1) (omega arith) in let n : i - 1 - 1 + 1 ≡ i - 1 =
-            omega arith in
-            let r : get_or keys (i - 1 - 1) 0 < get_or keys (i - 1) 0 =
-            subst (λ m. get_or keys (i - 1 - 1) 0 < get_or keys m 0) n r in omega arith) in
-            let tells = child_count_tells keys y x (omega arith) in
-            omega arith
-
-    -- the key after the child, if there is one, is above x
-    pub child_below : i < length keys → x < get_or keys i 0
-    child_below more =
-        let k = get_or keys i 0 in
-        let behind : child_count keys k ≡ i + 1 = child_count_is keys k (i + 1) rises
-        (omega arith) (λ l. rises i l)
-        (λ some. let n : i + 1 - 1 ≡ i = omega arith in subst (λ m. get_or keys m 0 ≤ k) (sym n)
-        (omega arith)) in
-        child_count_tells keys x k (omega arith)
 
 -- a key has the child of another key if the row's keys say so later
 pub child_shared : (u w : View) → IsSound u → GoesOnTo u w → (node key k i : ℕ)
@@ -137,6 +93,27 @@ pair_told v u w base key value p q first at second there k = choose (eqb_tells k
               (looked_load v p key u first (base + leaf_key_offset) at least
               (le_trans low (goes_length v u g)))) a.1;
         }
+
+-- its words lie within the table
+pub leaf_low : (v : View) → IsSound v → (base k : ℕ) → SeesLeaf v base → k < 2 → base + k < v.words
+leaf_low v s base k r less = (row_low v s base (Leaf r.row) r.published k less).0
+
+-- its words are its pair
+pub leaf_pair_is : (v u w : View) (base key value p q : ℕ) → SeesLeaf v base → Looked v p key u
+    → p ≡ base + 0 → Looked u q value w → q ≡ base + 1
+    → IsPairOf (now v) base record { key = key; value = value }
+leaf_pair_is v u w base key value p q r first at second there =
+    let g = looked_goes_on v p key u first in
+    let h = looked_goes_on u q value w second in
+    let row = r.row in
+    let in_u = leaf_there (now v).pieces (now u).pieces (goes_on_grow v u g) base row r.published in
+    let in_w = leaf_there (now u).pieces (now w).pieces (goes_on_grow u w h) base row in_u in
+    record {
+      row = row;
+      published = r.published;
+      key_is = looked_row v p key u first base (Leaf row) 0 row.key in_u refl at;
+      value_is = looked_row u q value w second base (Leaf row) 1 row.value in_w refl there;
+    }
 
 -- ---- the end
 

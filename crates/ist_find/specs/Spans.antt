@@ -2,8 +2,9 @@
 use Rattle.std.specs.Prelude.{◌≡◌, ℕ, ◌+◌, ◌*◌, ◌^◌, ◌<◌, ◌≤◌, ◌==◌, if◌then◌else◌, List, length, Option, Some, None}
 use Rattle.ist_core.specs.declared.pairs.Pair.{Pair}
 use Rattle.ist_core.specs.declared.states.InnerRow.{InnerRow}
+use Rattle.ist_core.specs.declared.states.LeafRow.{LeafRow}
 use Rattle.ist_core.specs.Elements.{Among}
-use Rattle.ist_core.specs.Pieces.{Inner}
+use Rattle.ist_core.specs.Pieces.{Inner, Leaf}
 use Rattle.ist_core.specs.References.{Ref}
 use Rattle.ist_core.specs.Snapshots.{Snapshot}
 use Rattle.ist_rule.specs.declared.view.View.{View}
@@ -15,6 +16,13 @@ use Rattle.ist_find.specs.Reads.{HasLooked}
 abbrev pub pair_value : Option Pair → ℕ → Option ℕ
 pair_value (Some pair) key = if pair.key == key then Some pair.value else None
 pair_value None key = None
+
+-- the leaf with this base has this pair
+pub record IsPairOf (t : Snapshot) (base : ℕ) (pair : Pair) : Type 0 where
+  pub row : LeafRow
+  pub published : t.pieces base ≡ Some (Leaf row)
+  pub key_is : pair.key ≡ row.key
+  pub value_is : pair.value ≡ row.value
 
 -- the caller's search for each key between these has come to the node
 abbrev pub AllCome : View → ℕ → ℕ → ℕ → Type 0

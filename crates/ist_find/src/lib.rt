@@ -17,6 +17,6 @@ mod walking;
 pub use answers::{Child, Counted, Found, Span};
 pub use children::child_at;
 pub use finding::{find_and_loads, find_from_anchor};
-pub use spans::find_span;
+pub use spans::{find_span, leaf_pair};
 pub use sweeping::sweep;
 pub use walking::step_down;

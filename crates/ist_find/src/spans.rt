@@ -13,7 +13,7 @@ ghost use Rattle.laws_histories.specs.Searching.{HasPosition};
 ghost use Rattle.ist_find.specs.Searches.{IsRow, SeesLeaf, HasSearched, keys_at};
 ghost use Rattle.ist_find.specs.Reads.{IsEnd, TellsValue};
 ghost use Rattle.ist_find.specs.Looks.{LooksForAll};
-ghost use Rattle.ist_find.specs.Spans.{pair_value, AllCome, EndAtEdges, HasFewSpanLoads};
+ghost use Rattle.ist_find.specs.Spans.{pair_value, IsPairOf, AllCome, EndAtEdges, HasFewSpanLoads};
 
 use crate::answers::{Ends, Shared, Span};
 use crate::children::read_child;
@@ -178,12 +178,15 @@ fn look_for_all(table: &TreeTable, token: &mut TreeToken, node: u32, key: u64, e
     }
 }
 
-// The pair of the leaf. It gives its key a value, and gives no other key one.
-fn leaf_pair(table: &TreeTable, token: &mut TreeToken, base: u32) -> Pair
+/// Returns the pair of a leaf, by a load of its key and one of its value. The pair gives its key a value,
+/// and gives no other key one.
+#[inline(always)]
+pub fn leaf_pair(table: &TreeTable, token: &mut TreeToken, base: u32) -> Pair
     requires same_table { token.old.table ≡ table.now.table }
     requires leaf { SeesLeaf token.old.view base }
     ensures same_table { token.new.table ≡ token.old.table }
     ensures seen { GoesOnTo token.old.view token.new.view }
+    ensures pair { IsPairOf (now token.old.view) base result }
     ensures loads { token.new.view.loaded ≡ token.old.view.loaded + 2 }
     ensures values { (k : ℕ) → TellsValue token.old.view token.new.view k (LeafAt base)
         (pair_value (Some result) k) }

@@ -13,7 +13,7 @@ use Rattle.ist_core.specs.Pieces.{Piece, words_of, size_of}
 use Rattle.ist_core.specs.StartLayout.{start, tree_at, rows_from}
 use Rattle.ist_core.specs.Images.{IsImage, StandsAt}
 use Rattle.ist_core.specs.Lawful.{CanOpen}
-use Rattle.ist_core.proofs.LayoutLemmas.{Fills, fills_rows}
+use Rattle.ist_core.proofs.LayoutLemmas.{FillWords, fills_rows}
 use Rattle.ist_core.proofs.PieceLemmas.{among-pieces_of, slice_get-drop}
 use Rattle.ist_image.specs.Zeros.{ZerosFrom}
 use Rattle.ist_image.specs.Placing.{row_words, tree_words, image_words}
@@ -35,7 +35,7 @@ get_behind (x ∷ xs) ys k =
 
 -- rows that lie one after another are in the words at their bases
 rows_stand : (front rest : List ℕ) (to : ℕ) (rows : List (ℕ × Piece)) (base : ℕ) (p : Piece)
-    → Fills (length front) rows to → Among (base, p) rows
+    → FillWords (length front) rows to → Among (base, p) rows
     → StandsAt (front ++ (row_words rows ++ rest)) base p
 rows_stand front rest to [] base p fills i k h = absurd i
 rows_stand front rest to (row ∷ rows) base p fills (inl e) k h =
@@ -56,7 +56,7 @@ rows_stand front rest to (row ∷ rows) base p fills (inr i) k h =
     (append_assoc front first (row_words rows ++ rest)
     ∙ ap (λ ws. front ++ ws) (sym (append_assoc first (row_words rows) rest)))
     (rows_stand (front ++ first) rest to rows base p
-    (subst (λ from. Fills from rows to) long fills.1) i)
+    (subst (λ from. FillWords from rows to) long fills.1) i)
     k h
 
 -- the fixed words, and the words of the tree after them

@@ -14,7 +14,7 @@ use Rattle.ist_core.specs.Pieces.{Piece, words_of, size_of}
 use Rattle.ist_core.specs.StartLayout.{tree_at, placed_parts, top_row, rows_within, rows_from}
 use Rattle.ist_core.proofs.PartLemmas.{part_end-le}
 use Rattle.ist_core.proofs.WordLemmas.{ideal_words_one}
-use Rattle.ist_core.proofs.LayoutLemmas.{Fills, fills_rows, keys_of_parts, slots_of-top_row}
+use Rattle.ist_core.proofs.LayoutLemmas.{FillWords, fills_rows, keys_of_parts, slots_of-top_row}
 use Rattle.ist_image.specs.Placing.{part_of, part_base, slot_base, slots_behind, rows_behind, row_words, tree_words, row_head}
 use Rattle.ist_image.proofs.PlacingLemmas.{
   placed_by_index,
@@ -92,7 +92,7 @@ row_words-append (x ∷ xs) ys =
     ∙ sym (append_assoc (words_of x.1) (row_words xs) (row_words ys))
 
 -- rows that fill the words from one place to another have all these words
-length-row_words : (from to : ℕ) (rows : List (ℕ × Piece)) → Fills from rows to
+length-row_words : (from to : ℕ) (rows : List (ℕ × Piece)) → FillWords from rows to
     → from + length (row_words rows) ≡ to
 length-row_words from to [] h = omega arith
 length-row_words from to (row ∷ rows) h =

@@ -8,7 +8,7 @@ ghost use Rattle.ist_core.specs.Lawful.{CanOpen};
 ghost use Rattle.ist_image.specs.Zeros.{ZerosFrom};
 
 use crate::laying::put_tree;
-use crate::rows::word_at;
+use crate::rows::tree_word;
 use ist_core::Pair;
 use ist_layout::{ANCHOR_SLOT_PLACE, ANCHOR_STATUS_PLACE, CALLERS_PLACE, FIRST_ROW, NEXT_PLACE};
 use ist_math::ideal_words;
@@ -157,6 +157,6 @@ fn put_image(words: &mut [u64], size: u64, pairs: &[Pair])
     words[NEXT_PLACE as usize] = needed_words(count);
     words[CALLERS_PLACE as usize] = 0;
     words[ANCHOR_STATUS_PLACE as usize] = OPEN_WORD;
-    words[ANCHOR_SLOT_PLACE as usize] = word_at(first, count);
+    words[ANCHOR_SLOT_PLACE as usize] = tree_word(first, count);
     put_tree(words, first, pairs);
 }

@@ -10,3 +10,4 @@ mod laying;
 mod rows;
 
 pub use images::{Image, lay_image, needed_words};
+pub use rows::tree_word;

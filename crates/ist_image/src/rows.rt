@@ -62,11 +62,12 @@ pub(crate) fn put_slot(words: &mut [u64], base: u64, cut: &Cut, j: u64, at: u64,
         ≡ set words.old (base + 3 + cut.now.children + j) (the_word (tree_at at pairs)) }
 {
     let slots = base + 3 + cut.children;
-    words[(slots + j) as usize] = word_at(at, count);
+    words[(slots + j) as usize] = tree_word(at, count);
 }
 
-/// Returns the word for the tree of `count` pairs at the base.
-pub(crate) fn word_at(base: u64, count: u64) -> u64
+/// Returns the word for the ideal tree of `count` pairs whose rows begin at `base`: the empty word for no
+/// pair, a leaf for one, and an inner row for several.
+pub fn tree_word(base: u64, count: u64) -> u64
     requires behind_fixed { 4 ≤ base }
     requires below_limit { base < 2 ^ 28 }
     ensures value { (pairs : List APair) → length pairs ≡ count

@@ -11,7 +11,7 @@ use Rattle.ist_tree.specs.Faces.{PassFace}
 use Rattle.ist_find.specs.Sweeps.{one_of}
 use Rattle.ist_live.specs.Reading.{HasOnlyRead, Had, ReadsUp}
 use Rattle.ist_live.specs.Lists.{value_among, AreLive}
-use Rattle.ist_live.proofs.SlotLemmas.{HasReadSlot, SweepsUp, none_up, later_up, slot_up, slots_of}
+use Rattle.ist_live.proofs.SlotLemmas.{HasReadKeysOfSlot, SweepsUp, none_up, later_up, slot_up, slots_of}
 use Rattle.ist_live.proofs.ReadLemmas.{read_not, read_more, had_before, had_after}
 
 -- a pair of another key gives the key nothing
@@ -114,7 +114,7 @@ module _ (p m q : PassFace) (first from behind : ℕ) (pairs : List Pair)
   before : HasOnlyRead m q → (k : ℕ) → first ≤ k → k < from → Had p q k (value_among pairs k)
   before r k low high = had_after p m q r k (value_among pairs k) (h.values k low high)
 
-  listed_on : (pair : Option Pair) → HasReadSlot m q from behind pair
+  listed_on : (pair : Option Pair) → HasReadKeysOfSlot m q from behind pair
       → Listed p q first behind (pairs ++ one_of pair)
   listed_on None s =
       let above = h.above in

@@ -9,7 +9,7 @@ use Rattle.ist_live.specs.Reading.{HasOnlyRead, Had, ReadsUp}
 
 -- between these moments the keys of one slot were read, from the first up to its end: each had what the
 -- pair gives it at a position of its own
-pub record HasReadSlot (p q : PassFace) (first behind : ℕ) (pair : Option Pair) : Type 0 where
+pub record HasReadKeysOfSlot (p q : PassFace) (first behind : ℕ) (pair : Option Pair) : Type 0 where
   pub read : HasOnlyRead p q
   pub some : first < behind
   pub within : IfSome pair (λ x. (first ≤ x.key) × (x.key < behind))
@@ -23,7 +23,7 @@ pub data SweepsUp (p : PassFace) (first : ℕ) : PassFace → ℕ → List Pair 
   later_up : {m q : PassFace} {from : ℕ} {pairs : List Pair}
       → SweepsUp p first m from pairs → HasOnlyRead m q → SweepsUp p first q from pairs
   slot_up : {m q : PassFace} {from behind : ℕ} {pairs : List Pair} (pair : Option Pair)
-      → SweepsUp p first m from pairs → HasReadSlot m q from behind pair
+      → SweepsUp p first m from pairs → HasReadKeysOfSlot m q from behind pair
       → SweepsUp p first q behind (pairs ++ one_of pair)
 
 -- what was read span after span was read slot after slot

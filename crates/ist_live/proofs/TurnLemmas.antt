@@ -7,7 +7,7 @@ use Rattle.ist_tree.specs.Faces.{PassFace}
 use Rattle.ist_find.specs.Sweeps.{one_of}
 use Rattle.ist_live.specs.Reading.{HasOnlyRead, Had}
 use Rattle.ist_live.specs.Lists.{HadInTurn}
-use Rattle.ist_live.proofs.SlotLemmas.{HasReadSlot, SweepsUp, none_up, later_up, slot_up}
+use Rattle.ist_live.proofs.SlotLemmas.{HasReadKeysOfSlot, SweepsUp, none_up, later_up, slot_up}
 use Rattle.ist_live.proofs.ReadLemmas.{read_more, had_before, had_after}
 use Rattle.ist_live.proofs.ListLemmas.{all_swept}
 use Rattle.ist_live.proofs.EndLemmas.{own_key}
@@ -21,7 +21,7 @@ one_same None x y a b = absurd a
 
 -- which was in the map at a position of its search
 span_had : (m q : PassFace) (from behind : ℕ) (pair : Option Pair)
-    → HasReadSlot m q from behind pair → (x : Pair) → Among x (one_of pair)
+    → HasReadKeysOfSlot m q from behind pair → (x : Pair) → Among x (one_of pair)
     → (from ≤ x.key) × Had m q x.key (Some x.value)
 span_had m q from behind (Some y) s x (inl e) =
     subst (λ z. (from ≤ z.key) × Had m q z.key (Some z.value)) (sym e)

@@ -29,11 +29,11 @@ get_same m (Get other) key e = refl
 
 module _ (key owner : ℕ) where
   -- a call that may change the key is its owner's
-  abbrev pub IsFair : Owned → Type 0
-  IsFair x = x.owner ≢ owner → key_of x.told.command ≡ key → x.told.command ≡ Get key
+  abbrev pub IsOwnersCall : Owned → Type 0
+  IsOwnersCall x = x.owner ≢ owner → key_of x.told.command ≡ key → x.told.command ≡ Get key
 
   -- a call of another leaves the value
-  left_by_other : (m : Map) (x : Owned) → (x.owner == owner) ≡ false → IsFair x
+  left_by_other : (m : Map) (x : Owned) → (x.owner == owner) ≡ false → IsOwnersCall x
       → fin.get (map_after m x.told.command) key ≡ fin.get m key
   left_by_other m x other fair = ⊎_elim
       (λ same. ap (λ c. fin.get (map_after m c) key) (fair (grind (arith, nat_tests)) same.1))
@@ -42,7 +42,7 @@ module _ (key owner : ℕ) where
 
   -- the owner reads back, if each call of another leaves the key
   pub read_back : (m : Map) (owned : List Owned) → IsLegal m (map (λ x. x.told) owned)
-      → Each IsFair owned
+      → Each IsOwnersCall owned
       → ReadBack (fin.get m key) (filter (is_about key) (told_to_pass owner owned))
   read_back m [] legal fair = tt
   read_back m (x ∷ owned) legal fair =
@@ -105,7 +105,7 @@ owner_reads m lists history legal made key owner gets_only =
     subst (λ ts. ReadBack (fin.get m key) (filter (is_about key) ts)) (made.each owner)
     (read_back key owner m made.owned
     (subst (IsLegal m) (sym made.told_are) legal)
-    (each_among (IsFair key owner) made.owned (λ x i ne.
+    (each_among (IsOwnersCall key owner) made.owned (λ x i ne.
     of_each (λ it. key_of it.command ≡ key → it.command ≡ Get key) x.told (lists x.owner)
     (gets_only x.owner ne)
     (subst (λ ts. Among x.told ts) (made.each x.owner) (told_among x made.owned i)))))

@@ -1,16 +1,15 @@
 -- What a caller knows of nodes stays true in later views. Serves each function.
-use Rattle.std.proofs.Common.{◌≡◌, ℕ, Option, Some, ◌∙◌}
+use Rattle.std.proofs.Common.{◌≡◌, ℕ, Some, ◌∙◌}
 use Rattle.ist_core.specs.declared.events.Event.{Event}
 use Rattle.ist_core.specs.declared.states.InnerRow.{InnerRow}
-use Rattle.ist_core.specs.References.{Ref, ref_of}
+use Rattle.ist_core.specs.References.{ref_of}
 use Rattle.ist_core.specs.Pieces.{Inner}
-use Rattle.ist_core.specs.Snapshots.{Snapshot}
-use Rattle.ist_core.specs.Growing.{AllGrow, InnerGrows}
+use Rattle.ist_core.specs.Growing.{InnerGrows}
 use Rattle.ist_core.specs.Logs.{Happened, Passes}
-use Rattle.ist_core.specs.Marking.{IsCalled, as_target, as_child, behind_rebuild, CountsFor, no_key, one_key, of_child, of_target}
+use Rattle.ist_core.specs.Marking.{IsCalled, as_target, as_child, behind_rebuild}
 use Rattle.ist_core.proofs.GrowingLemmas.{inner_there}
 use Rattle.laws_links.proofs.FinishedLemmas.{target_grows}
-use Rattle.laws_links.proofs.FormLemmas.{finished_with_grows, started_grows}
+use Rattle.laws_links.proofs.FormLemmas.{started_grows}
 use Rattle.ist_rule.specs.declared.view.View.{View}
 use Rattle.ist_rule.specs.Learning.{now}
 use Rattle.laws_stability.proofs.LaterLemmas.{happened_later}
@@ -18,17 +17,8 @@ use Rattle.ist_rule.specs.Going.{WentOn}
 use Rattle.ist_rule.proofs.WentOnLemmas.{later_by-goes_on, went_grow, went_who}
 use Rattle.ist_mark.specs.Marking.{MayMark}
 use Rattle.ist_mark.specs.Passing.{IsClosed, MayPass, AreCounted, no_slot_yet, one_slot_more}
+use Rattle.ist_core.proofs.FinishedLemmas.{counts_grows}
 use Rattle.ist_mark.proofs.NodeLemmas.{closed_stays}
-
--- a word keeps counting for the same number of keys
-pub counts_later : (t u : Snapshot) → AllGrow t.pieces u.pieces → (o : Option Ref) (k : ℕ)
-    → CountsFor t o k → CountsFor u o k
-counts_later t u g _ _ no_key = no_key
-counts_later t u g _ _ one_key = one_key
-counts_later t u g _ _ (of_child {child = child} {k = k} f) =
-    of_child (finished_with_grows t u g child k f)
-counts_later t u g _ _ (of_target {rebuild = rebuild} {target = target} {k = k} h f) =
-    of_target (target_grows t u g rebuild target h) (finished_with_grows t u g target k f)
 
 module _ (P : Event → Type 0) (v w : View) (g : WentOn P v w) where
   -- what happened in the log happened
@@ -89,4 +79,4 @@ module _ (P : Event → Type 0) (v w : View) (g : WentOn P v w) where
   counted_went node _ _ no_slot_yet = no_slot_yet
   counted_went node _ _ (one_slot_more {i = i} {k = k} {here = here} word a p c) =
       one_slot_more word (counted_went node i k a) (happened_went (Passes node i word) p)
-      (counts_later (now v) (now w) (went_grow P v w g) (ref_of word) here c)
+      (counts_grows (now v) (now w) (went_grow P v w g) (ref_of word) here c)

@@ -1,7 +1,7 @@
 -- The rows of a subtree, and steps of marking it, as callers go on. Serves each function.
 use Rattle.std.proofs.Common.{◌≡◌, ℕ, refl, sym, ap, ◌∙◌, subst}
 use Rattle.ist_core.specs.declared.events.Event.{Event}
-use Rattle.ist_core.specs.declared.events.Event.TheVariants.{Enter, Reserve, Install, Okay, Decide, Resolve, Count, Mark, Pass, Finish, Root, Draw, Place, Lose}
+use Rattle.ist_core.specs.declared.events.Event.TheVariants.{Reserve, Install, Okay, Decide, Resolve, Mark, Pass, Finish, Root, Place, Lose}
 use Rattle.ist_core.specs.Logs.{Log, Passes}
 use Rattle.ist_core.specs.Snapshots.{Snapshot}
 use Rattle.laws_links.proofs.FinishedLemmas.{target_grows}
@@ -75,14 +75,7 @@ marks_later v w g node (Resolve caller base) is = on_later v w g node base is
 marks_later v w g node (Mark caller row) is = under_later v w g node row is
 marks_later v w g node (Pass caller row i word) is = under_later v w g node row is
 marks_later v w g node (Finish caller row keys) is = under_later v w g node row is
-marks_later v w g node (Enter caller) is = absurd is
-marks_later v w g node (Reserve caller base size) is = absurd is
-marks_later v w g node (Install caller base rows) is = absurd is
-marks_later v w g node (Count caller row) is = absurd is
-marks_later v w g node (Root caller rebuild word rows) is = absurd is
-marks_later v w g node (Draw caller rebuild part) is = absurd is
-marks_later v w g node (Place caller rebuild i word rows) is = absurd is
-marks_later v w g node (Lose caller bases) is = absurd is
+marks_later v w g node _ is = absurd is
 
 -- a step of marking what hangs below the node is a step of marking the node's subtree
 marks_lower : (v : View) (node child : ℕ) → LiesUnder (now v) v.log node child → (event : Event)
@@ -96,14 +89,7 @@ marks_lower v node child top (Pass caller row i word) is =
     under_lower (now v) v.log node child row top is
 marks_lower v node child top (Finish caller row keys) is =
     under_lower (now v) v.log node child row top is
-marks_lower v node child top (Enter caller) is = absurd is
-marks_lower v node child top (Reserve caller base size) is = absurd is
-marks_lower v node child top (Install caller base rows) is = absurd is
-marks_lower v node child top (Count caller row) is = absurd is
-marks_lower v node child top (Root caller rebuild word rows) is = absurd is
-marks_lower v node child top (Draw caller rebuild part) is = absurd is
-marks_lower v node child top (Place caller rebuild i word rows) is = absurd is
-marks_lower v node child top (Lose caller bases) is = absurd is
+marks_lower v node child top _ is = absurd is
 
 -- steps of help for a change on a slot of it are steps of marking it
 serves_marks : (v : View) (node base : ℕ) → IsOnSubtree v node base → (event : Event)
@@ -111,34 +97,16 @@ serves_marks : (v : View) (node base : ℕ) → IsOnSubtree v node base → (eve
 serves_marks v node base s (Okay caller other) is = subst (IsOnSubtree v node) (sym is) s
 serves_marks v node base s (Decide caller other said) is = subst (IsOnSubtree v node) (sym is) s
 serves_marks v node base s (Resolve caller other) is = subst (IsOnSubtree v node) (sym is) s
-serves_marks v node base s (Mark caller row) is = absurd is
-serves_marks v node base s (Pass caller row i word) is = absurd is
-serves_marks v node base s (Finish caller row keys) is = absurd is
-serves_marks v node base s (Enter caller) is = absurd is
-serves_marks v node base s (Reserve caller at size) is = absurd is
-serves_marks v node base s (Install caller at rows) is = absurd is
-serves_marks v node base s (Count caller row) is = absurd is
-serves_marks v node base s (Root caller rebuild word rows) is = absurd is
-serves_marks v node base s (Draw caller rebuild part) is = absurd is
-serves_marks v node base s (Place caller rebuild i word rows) is = absurd is
-serves_marks v node base s (Lose caller bases) is = absurd is
+serves_marks v node base s _ is = absurd is
 
 -- no step of marking changes what its caller holds
 pub marks_keep : (v : View) (node : ℕ) (event : Event) → Marks v node event → KeepsRows event
-marks_keep v node (Okay caller base) is = tt
-marks_keep v node (Decide caller base said) is = tt
-marks_keep v node (Resolve caller base) is = tt
-marks_keep v node (Mark caller row) is = tt
-marks_keep v node (Pass caller row i word) is = tt
-marks_keep v node (Finish caller row keys) is = tt
-marks_keep v node (Enter caller) is = tt
-marks_keep v node (Count caller row) is = tt
-marks_keep v node (Draw caller rebuild part) is = tt
 marks_keep v node (Reserve caller base size) is = absurd is
 marks_keep v node (Install caller base rows) is = absurd is
 marks_keep v node (Root caller rebuild word rows) is = absurd is
 marks_keep v node (Place caller rebuild i word rows) is = absurd is
 marks_keep v node (Lose caller bases) is = absurd is
+marks_keep v node _ is = tt
 
 -- ---- callers that mark
 

@@ -1,4 +1,5 @@
--- The child of a key, found at the place where the keys change from at most x to above x.
+-- The child of a key, found at the place where the keys change from at most x to above x, and the
+-- keys on both its sides.
 use Rattle.std.proofs.Common.{
   ◌≡◌,
   ℕ,
@@ -32,9 +33,10 @@ use Rattle.std.proofs.Common.{
 use Rattle.std.proofs.lemmas.Bool.{cases_lt}
 use Rattle.std.proofs.lemmas.Bool.Decides.{nat_tests}
 use Rattle.std.proofs.lemmas.List.{take_all}
-use Rattle.std.proofs.lemmas.List.Sums.{count_by_more_yes, count_by_more_no}
+use Rattle.std.proofs.lemmas.List.Sums.{count_by-le-length, count_by_more_yes, count_by_more_no}
 use Rattle.std.specs.List.Sorted.{IsStrictlyIncreasing}
 use Rattle.ist_core.specs.Arithmetic.{child_count}
+use Rattle.ist_core.proofs.RisingLemmas.{child_count_tells}
 use Rattle.ist_math.specs.declared.gallops.Gallop.{Gallop}
 use Rattle.ist_math.specs.Gallops.{Gallops}
 use Rattle.ist_math.proofs.GallopLemmas.{looks-near}
@@ -102,6 +104,43 @@ child_count_is keys x at rises within above below =
             let test : nat_le (get_or keys j 0) x ≡ false = grind (arith, nat_tests) in
             let no = count_by_more_no (λ key. nat_le key x) keys j 0 (omega arith) test in
             omega arith
+
+-- a child is at most the number of keys
+pub child_most : (keys : List ℕ) (x : ℕ) → child_count keys x ≤ length keys
+child_most keys x = count_by-le-length (λ key. nat_le key x) keys
+
+-- the keys on both sides of the child of x
+module _ (keys : List ℕ) (rises : IsStrictlyIncreasing keys) (x i : ℕ) (is : i ≡ child_count keys x)
+  where
+    -- otherwise a number from x on would have a child before it
+    none_above : 0 < i → x < get_or keys (i - 1) 0 → ⊥
+    none_above some less =
+        let most = child_most keys x in
+        let y = get_or keys (i - 1) 0 - 1 in
+        let before : child_count keys y ≡ i - 1 = child_count_is keys y (i - 1) rises
+        (omega arith) (λ l. omega arith)
+        (λ more. let r = rises (i - 1 - 1) (omega arith) in let n : i - 1 - 1 + 1 ≡ i - 1 =
+        omega arith in
+        let r : get_or keys (i - 1 - 1) 0 < get_or keys (i - 1) 0 =
+        subst (λ m. get_or keys (i - 1 - 1) 0 < get_or keys m 0) n r in omega arith) in
+        let tells = child_count_tells keys y x (omega arith) in
+        omega arith
+
+    -- the key before the child, if there is one, is at most x
+    pub key_before_child : 0 < i → get_or keys (i - 1) 0 ≤ x
+    key_before_child some =
+        ⊎_elim (λ less. absurd (none_above some less)) (λ low. low)
+        (cases_lt x (get_or keys (i - 1) 0))
+
+    -- the key after the child, if there is one, is above x
+    pub key_after_child : i < length keys → x < get_or keys i 0
+    key_after_child more =
+        let k = get_or keys i 0 in
+        let behind : child_count keys k ≡ i + 1 = child_count_is keys k (i + 1) rises
+        (omega arith) (λ l. rises i l)
+        (λ some. let n : i + 1 - 1 ≡ i = omega arith in subst (λ m. get_or keys m 0 ≤ k) (sym n)
+        (omega arith)) in
+        child_count_tells keys x k (omega arith)
 
 -- a gallop from a guess is between two keys, around the child
 pub record HasGalloped (keys : List ℕ) (x guess : ℕ) (g : Gallop) (looks : ℕ) : Type 0 where

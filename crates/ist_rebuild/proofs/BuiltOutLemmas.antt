@@ -68,7 +68,7 @@ target_went P v w g rebuild target h =
 -- ---- marking
 
 -- the caller has marked the rebuild's target, so that it may be built
-pub record HasMarked (who : Caller) (token : TokenFace) (rebuild : ℕ) : Type 0 where
+pub record HasMarkedForBuild (who : Caller) (token : TokenFace) (rebuild : ℕ) : Type 0 where
   pub helped : HasHelped who (record who { token = token })
   pub buildable : IsBuildable (now token.view) rebuild
 
@@ -76,7 +76,7 @@ pub record HasMarked (who : Caller) (token : TokenFace) (rebuild : ℕ) : Type 0
 pub has_marked : (who : Caller) (mid token : TokenFace) (rebuild target keys : ℕ) → IsReady who
     → IsStarted (now who.token.view) rebuild → GoesOnTo who.token.view mid.view
     → HasTarget (now mid.view) rebuild target → WentOn (Marks token.view target) mid.view token.view
-    → IsFinishedWith (now token.view) target keys → HasMarked who token rebuild
+    → IsFinishedWith (now token.view) target keys → HasMarkedForBuild who token rebuild
 has_marked who mid token rebuild target keys ready started seen h marks finished =
     let first = loads_helped who mid ready seen in
     let all = helped_more who (record who { token = mid }) (record who { token = token }) first

@@ -1,7 +1,6 @@
 -- A caller that helps a rebuild, after each kind of step that it makes. Serves each function.
 use Rattle.std.proofs.Common.{◌≡◌, ℕ, List, Option, Some, None, Result, Ok, IfSome, refl, sym, ap, ◌∙◌, subst}
 use Rattle.ist_core.specs.declared.events.Event.{Event}
-use Rattle.ist_core.specs.declared.events.Event.TheVariants.{Reserve}
 use Rattle.ist_core.specs.declared.ports.Full.{Full}
 use Rattle.ist_core.specs.Rebuilding.{IsStarted}
 use Rattle.laws_links.proofs.FormLemmas.{started_grows}
@@ -13,7 +12,7 @@ use Rattle.ist_rule.specs.Going.{WentOn}
 use Rattle.ist_rule.specs.Learning.{now, GoesOnTo}
 use Rattle.ist_rule.specs.Rule.{IsSound}
 use Rattle.ist_rule.proofs.GoingOnLemmas.{goes_on_more, looked_goes_on}
-use Rattle.ist_rule.proofs.WentOnLemmas.{goes_on_went, logged_went, went_all, went_grow, went_more, went_same}
+use Rattle.ist_rule.proofs.WentOnLemmas.{goes_on_went, went_all, went_grow, went_same}
 use Rattle.ist_rows.specs.declared.callers.Caller.{Caller}
 use Rattle.ist_rows.specs.declared.kinds.Kind.TheVariants.{Change}
 use Rattle.ist_rows.specs.Building.{HasRefused}
@@ -32,7 +31,8 @@ use Rattle.ist_rebuild.specs.Helping.{HasHelped}
 use Rattle.ist_rows.specs.Going.{IsReady}
 use Rattle.ist_rebuild.specs.Going.{ServesRebuild}
 use Rattle.ist_rebuild.proofs.EventLemmas.{change_serves, marks_serve, builds_serve, builds_install_none}
-use Rattle.ist_rebuild.proofs.ReservedLemmas.{refused_reserved}
+use Rattle.ist_rows.proofs.ReserveLemmas.{reserved_went}
+use Rattle.ist_rows.proofs.SpareTakenLemmas.{refused_beside}
 
 -- ---- together
 
@@ -138,12 +138,9 @@ reserved_helped : (old new : Caller) (base : ℕ) → IsReady old → IsCaller n
 reserved_helped old new base ready c number none r rows =
     let v = old.token.view in
     let w = new.token.view in
-    let went : WentOn Builds v w =
-    went_more Builds v r.before w (goes_on_went Builds v r.before r.seen)
-    (logged_went Builds r.before (Reserve old.number base (kind_words Change)) w r.reserved tt
-    refl) in (
+    let went = reserved_went Builds v old.number base (kind_words Change) w r tt in (
       builds_helped old new ready c
-          (refused_reserved old new base ready.caller none r number rows ready.refused) number
+          (refused_beside old new Change base ready.caller none r number rows ready.refused) number
           (ap (λ own. own.leaf) rows) (ap (λ own. own.pair) rows) went,
       went,
     )

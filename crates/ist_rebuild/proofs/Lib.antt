@@ -10,7 +10,6 @@ pub mod StartAnswerLemmas
 pub mod BegunLemmas
 pub mod EventLemmas
 pub mod OwnChangeLemmas
-pub mod ReservedLemmas
 pub mod HelpedLemmas
 pub mod StoredLemmas
 pub mod SiteLemmas

@@ -100,7 +100,7 @@ module _ (mid : Caller) (plan : PlannedFinish) (change : ℕ) (row : mid.change 
 -- ---- from the reserving on
 
 -- the caller has helped, and its change row is prepared
-pub record HasPrepared (old who : Caller) (plan : PlannedFinish) (change : ℕ) : Type 0 where
+pub record HasPreparedFinish (old who : Caller) (plan : PlannedFinish) (change : ℕ) : Type 0 where
   pub helped : HasHelped old who
   pub prepared : IsPrepared who plan change
 
@@ -109,7 +109,7 @@ pub has_prepared : (old mid who : Caller) (plan : PlannedFinish) (change : ℕ) 
     → IsSound old.token.view → IsPlan old.token.view plan
     → IsUnrefused (now old.token.view) old.number plan.parent → HasRow old mid (Ok change)
     → words ≡ words_of (Change (finish_row plan mid.number))
-    → who ≡ filled_with mid change words → IsSound who.token.view → HasPrepared old who plan change
+    → who ≡ filled_with mid change words → IsSound who.token.view → HasPreparedFinish old who plan change
 has_prepared old mid who plan change words ready s p unrefused row words_are stored sound =
     let t = took_row old mid change ready s row in
     let new = filled_with mid change words in
@@ -121,7 +121,7 @@ has_prepared old mid who plan change words ready s p unrefused row words_are sto
     let none = unrefused_went old.token.view mid.token.view old.number ready.caller.mine
     (went_all Builds InstallsNone builds_install_none old.token.view mid.token.view t.by)
     ready.quiet.resolved plan.parent unrefused in
-    subst (λ x. HasPrepared old x plan change) (sym stored) record {
+    subst (λ x. HasPreparedFinish old x plan change) (sym stored) record {
       helped = all;
       prepared = filled_prepared mid plan change t.row words words_are (still_ready filled.on) here
           (plan_went ServesRebuild old.token.view w all.on.gone.went plan p)

@@ -87,7 +87,7 @@ parent_small v s rebuild word h =
 -- ---- the plan of a finish
 
 -- the words that were loaded one after another
-pub record HasRead (v w : View) (rebuild parent index root : ℕ) : Type 0 where
+pub record HasReadSite (v w : View) (rebuild parent index root : ℕ) : Type 0 where
   pub a : View
   pub b : View
   pub to_parent : GoesOnTo v a
@@ -151,7 +151,7 @@ plan_on v w g plan p = plan_went (λ event. ⊥) v w (goes_on_went (λ event. �
 
 -- the words that were loaded make a plan
 pub planned : (v w : View) → IsSound v → (plan : PlannedFinish) → IsStarted (now v) plan.rebuild
-    → IsBuiltOut (now v) plan.rebuild → HasRead v w plan.rebuild plan.parent plan.index plan.root
+    → IsBuiltOut (now v) plan.rebuild → HasReadSite v w plan.rebuild plan.parent plan.index plan.root
     → IsPlan w plan
 planned v w s plan started b r =
     let first = started_rebuild v s plan.rebuild started in

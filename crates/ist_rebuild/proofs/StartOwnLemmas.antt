@@ -4,7 +4,7 @@ use Rattle.std.proofs.Common.{◌≡◌, ◌≢◌, ◌⊎◌, ℕ, ◌+◌, Lis
 use Rattle.std.proofs.lemmas.Bool.Decides.{eqb_tells}
 use Rattle.ist_build.specs.Laying.{IsReservation}
 use Rattle.ist_core.specs.declared.events.Event.{Event}
-use Rattle.ist_core.specs.declared.events.Event.TheVariants.{Enter, Reserve, Install, Okay, Decide, Resolve, Count, Mark, Pass, Finish, Root, Draw, Place, Lose}
+use Rattle.ist_core.specs.declared.events.Event.TheVariants.{Reserve, Install}
 use Rattle.ist_core.specs.declared.pairs.Pair.{Pair}
 use Rattle.ist_core.specs.declared.states.ChangeRow.{ChangeRow}
 use Rattle.ist_core.specs.Authors.{GoesOnBy, no_more, one_more, whose, LaterBy}
@@ -40,19 +40,7 @@ InstallsBut caller but _ = Unit {0}
 others_but : (caller but : ℕ) (event : Event) → whose event ≢ Caller caller
     → InstallsBut caller but event
 others_but caller but (Install by base rows) other = λ same. absurd (other (ap Caller same))
-others_but caller but (Enter by) other = tt
-others_but caller but (Reserve by base size) other = tt
-others_but caller but (Okay by base) other = tt
-others_but caller but (Decide by base said) other = tt
-others_but caller but (Resolve by base) other = tt
-others_but caller but (Count by node) other = tt
-others_but caller but (Mark by node) other = tt
-others_but caller but (Pass by node i word) other = tt
-others_but caller but (Finish by node keys) other = tt
-others_but caller but (Root by rebuild word rows) other = tt
-others_but caller but (Draw by rebuild part) other = tt
-others_but caller but (Place by rebuild i word rows) other = tt
-others_but caller but (Lose by bases) other = tt
+others_but caller but _ other = tt
 
 -- a reserving installs no change
 pub reserves_but : (caller but : ℕ) (event : Event) → IsReservation event → InstallsBut caller but event

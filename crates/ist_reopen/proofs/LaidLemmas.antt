@@ -17,7 +17,7 @@ use Rattle.ist_reopen.proofs.CountLemmas.{MadeAt, shift_made, changes_few}
 
 module _ (number : ℕ) where
   -- the calls are placed among the entries and readings from this position on
-  pub record IsLaid (first : ℕ) (entries : List Entry) (xs : List Reading) (calls : List Call)
+  pub record ArePlacedAmong (first : ℕ) (entries : List Entry) (xs : List Reading) (calls : List Call)
       : Type 0 where
     pub order : AllFollow calls
     pub low : Each (λ call. first ≤ call.position) calls
@@ -47,7 +47,7 @@ module _ (number : ℕ) where
 
   -- what the pass was told by the readings at the first position
   here_told : (first : ℕ) (entries : List Entry) (xs : List Reading) (calls : List Call)
-      → IsLaid first entries xs calls → (s : Splits number first calls)
+      → ArePlacedAmong first entries xs calls → (s : Splits number first calls)
       → told_to_pass number (map own_reading (at_position first xs)) ≡ map told_by_call s.here
   here_told first entries xs calls h s =
       told_at_position number first xs
@@ -99,7 +99,7 @@ module _ (number : ℕ) where
 
   -- later calls, if they and the later entries are known
   laid_later : (first : ℕ) (entry : Entry) (entries : List Entry) (xs : List Reading)
-      (here rest : List Call) → IsLaid first (entry ∷ entries) xs (here ++ rest)
+      (here rest : List Call) → ArePlacedAmong first (entry ∷ entries) xs (here ++ rest)
       → Each (λ call. (is_change call ≡ false) × (call.position ≡ first)) here
       → (calls : List Call) → AllFollow calls
       → Each (λ call. first + 1 ≤ call.position) calls
@@ -107,7 +107,7 @@ module _ (number : ℕ) where
       → Each (λ call. is_change call ≡ true → MadeAt number first (entry ∷ entries) call) calls
       → entries_by number entries ≡ map (entry_by number) (filter is_change calls)
       → ((position : ℕ) → reads_at number position rest ≡ reads_at number position calls)
-      → IsLaid (first + 1) entries xs calls
+      → ArePlacedAmong (first + 1) entries xs calls
   laid_later first entry entries xs here rest h reads calls order low high made exactly same = record {
     order = order;
     low = low;
@@ -122,10 +122,10 @@ module _ (number : ℕ) where
 
   -- what the pass was told after the readings at the first position
   behind_told : (first : ℕ) (entry : Entry) (entries : List Entry) (xs : List Reading)
-      (here rest : List Call) → IsLaid first (entry ∷ entries) xs (here ++ rest)
+      (here rest : List Call) → ArePlacedAmong first (entry ∷ entries) xs (here ++ rest)
       → Each (λ call. (is_change call ≡ false) × (call.position ≡ first)) here
       → Rest number first rest
-      → ((calls : List Call) → IsLaid (first + 1) entries xs calls
+      → ((calls : List Call) → ArePlacedAmong (first + 1) entries xs calls
       → told_to_pass number (owned_from (first + 1) entries xs) ≡ map told_by_call calls)
       → told_to_pass number (own_entry entry ∷ owned_from (first + 1) entries xs)
       ≡ map told_by_call rest
@@ -201,7 +201,7 @@ module _ (number : ℕ) where
 
   -- what the pass was told from a position on is its calls from there on
   pub laid : (first : ℕ) (entries : List Entry) (xs : List Reading) (calls : List Call)
-      → IsLaid first entries xs calls
+      → ArePlacedAmong first entries xs calls
       → told_to_pass number (owned_from first entries xs) ≡ map told_by_call calls
   laid first [] xs calls h =
       let s = splits number first calls h.order h.low in
@@ -220,7 +220,7 @@ module _ (number : ℕ) where
       ∙ ap (λ ts. ts ++ told_to_pass number tail) (here_told first (entry ∷ entries) xs calls h s)
       ∙ ap (λ ts. map told_by_call s.here ++ ts)
       (behind_told first entry entries xs s.here s.rest
-      (subst (IsLaid first (entry ∷ entries) xs) s.is h) s.reads s.behind
+      (subst (ArePlacedAmong first (entry ∷ entries) xs) s.is h) s.reads s.behind
       (λ cs k. laid (first + 1) entries xs cs k))
       ∙ sym (map-append told_by_call s.here s.rest)
       ∙ ap (map told_by_call) (sym s.is)

@@ -18,7 +18,7 @@ use Rattle.ist_reopen.specs.Interleaving.{IsMadeOf, calls_of, told_over, told_to
 use Rattle.ist_reopen.proofs.OwnedLemmas.{owned_from, told_owned, told_to-append, mine, StampsClimb, in_order_mine}
 use Rattle.ist_reopen.proofs.SplitLemmas.{read_by}
 use Rattle.ist_reopen.proofs.CountLemmas.{MadeAt}
-use Rattle.ist_reopen.proofs.LaidLemmas.{IsLaid, laid}
+use Rattle.ist_reopen.proofs.LaidLemmas.{ArePlacedAmong, laid}
 
 -- the calls that change nothing
 abbrev pub plain : List Call → List Call
@@ -182,7 +182,7 @@ stand_each g h number =
 
 -- so they are placed among the changes and the readings
 laid_all : (g : Generation) → IsGeneration g → (number : ℕ)
-    → IsLaid number 0 (changes_in g) (in_order (readings (numbered 0 g.calls))) (calls_of g number)
+    → ArePlacedAmong number 0 (changes_in g) (in_order (readings (numbered 0 g.calls))) (calls_of g number)
 laid_all g h number = record {
   order = stands.in_order;
   low = each_of (λ call. 0 ≤ call.position) calls (λ call i. omega arith);

@@ -3,7 +3,7 @@ use Rattle.std.proofs.Common.{◌≡◌, ℕ, ◌+◌, ◌<◌, ◌≤◌}
 use Rattle.std.proofs.Common.{Bool, false, List, [], ◌∷◌, ◌++◌, length, map}
 use Rattle.std.proofs.Common.{reverse, replicate, get_or, Some, None}
 use Rattle.std.proofs.Common.{refl, sym, ap, ◌∙◌, subst, arith}
-use Rattle.std.proofs.lemmas.List.{append_assoc, append-nil, reverse-append, reverse-reverse}
+use Rattle.std.proofs.lemmas.List.{append_assoc, append-nil}
 use Rattle.std.proofs.lemmas.List.{get_or-replicate, length-replicate}
 use Rattle.std.proofs.lemmas.List.Sums.{sum_by-append, sum_by-cons}
 use Rattle.std.specs.List.{sum_by}
@@ -25,21 +25,15 @@ use Rattle.ist_rest.specs.Auditing.{one_task, tasks_from}
 use Rattle.ist_rest.specs.Auditing.{tasks_below, PassesSlot, FailsSlot}
 use Rattle.ist_rest.specs.Auditing.{HasAudited, slot_of_task}
 use Rattle.ist_rest.specs.Steps.{work_of, work_left}
+use Rattle.ist_rest.proofs.ReverseLemmas.{turned, turned_back, sum_reverse}
 use Rattle.ist_rest.proofs.WorkLemmas.{row_falls, slot_work}
 use Rattle.ist_rest.proofs.WalkLemmas.{apart_both}
 use Rattle.ist_rest.proofs.TaskLemmas.{tasks_append, below_tasks}
 
 -- ---- how far the audit has come
 
-turned : (xs ys : List AuditTask) (x : AuditTask) → xs ≡ ys ++ x ∷ [] → reverse xs ≡ x ∷ reverse ys
-turned xs ys x e = ap reverse e ∙ reverse-append ys (x ∷ [])
-
-turned_back : (ys zs xs : List AuditTask) → xs ≡ ys ++ reverse zs → reverse xs ≡ zs ++ reverse ys
-turned_back ys zs xs e = ap reverse e ∙ reverse-append ys (reverse zs)
-    ∙ ap (λ ws. ws ++ reverse ys) (reverse-reverse zs)
-
 -- the first task is for the first slot
-record IsNext (visits : List Visit) (task : AuditTask) (tasks : List AuditTask) : Type 0 where
+record IsFirstTask (visits : List Visit) (task : AuditTask) (tasks : List AuditTask) : Type 0 where
   visit : Visit
   rest : List Visit
   visits_are : visits ≡ visit ∷ rest
@@ -47,7 +41,7 @@ record IsNext (visits : List Visit) (task : AuditTask) (tasks : List AuditTask) 
   more : AreTasksOf rest tasks
 
 next_task : (visits : List Visit) (ts : List AuditTask) → AreTasksOf visits ts
-    → (task : AuditTask) (tasks : List AuditTask) → ts ≡ task ∷ tasks → IsNext visits task tasks
+    → (task : AuditTask) (tasks : List AuditTask) → ts ≡ task ∷ tasks → IsFirstTask visits task tasks
 next_task _ _ no_task task tasks e = absurd (cc)
 next_task _ _ (one_task {visit = visit} {visits = vs} {task = t} {tasks = ts} one more) task tasks
     e =
@@ -202,18 +196,6 @@ slots_of_tasks base task keys i place (word ∷ words) =
     ap (λ (ss : List SlotLeft). record { word = word; node = base } ∷ ss)
     (slots_of_tasks base task keys (i + 1) (place + 1) words)
 
-sum_tasks_reverse : (f : AuditTask → ℕ) (xs : List AuditTask) → sum_by f (reverse xs) ≡ sum_by f xs
-sum_tasks_reverse f [] = refl
-sum_tasks_reverse f (x ∷ xs) =
-    let a = sum_by-append f (reverse xs) (x ∷ []) in
-    let b = sum_by-cons f x xs in
-    let c = sum_by-cons f x [] in
-    let d = sum_tasks_reverse f xs in
-    let e : reverse (x ∷ xs) ≡ reverse xs ++ x ∷ [] = reverse-append (x ∷ []) xs in
-    let g : sum_by f (reverse xs ++ x ∷ []) ≡ sum_by f (x ∷ xs) = let n : sum_by f [] ≡ 0 =
-    refl in omega arith in
-    ap (sum_by f) e ∙ g
-
 -- a sum over the slots of tasks
 sum_map : (g : SlotLeft → ℕ) (xs : List AuditTask) → sum_by g (map slot_of_task xs) ≡ sum_by
     (λ task. g (slot_of_task task)) xs
@@ -255,7 +237,7 @@ audit_less words bounds marks new left ys more found pairs task h e p =
     let f : AuditTask → ℕ = λ t. work_of words (slot_of_task t) in
     let bs = tasks_below words task p.ref in
     let a = sum_by-append f ys (reverse bs) in
-    let b = sum_tasks_reverse f bs in
+    let b = sum_reverse f bs in
     let c = sum_by-append f ys (task ∷ []) in
     let d = sum_by-cons f task [] in
     let n : sum_by f [] ≡ 0 = refl in

@@ -179,7 +179,7 @@ module _ (words : List ℕ) (first last : ℕ) where
       (one_slot visit w (gives_append slots rest more ys qs h))
 
   -- a walk from one slot
-  record IsOpened (visit : Visit) (pairs : List Pair) : Type 0 where
+  record IsWalkedFrom (visit : Visit) (pairs : List Pair) : Type 0 where
     good : IsGood words visit
     rows : List Span
     more : List Pair
@@ -188,12 +188,12 @@ module _ (words : List ℕ) (first last : ℕ) where
 
   opened : (zs : List Visit) (rows : List Span) (pairs : List Pair) → Walks words zs rows pairs
       → (visit : Visit) → zs ≡ visit ∷ []
-      → IsOpened visit pairs
+      → IsWalkedFrom visit pairs
   opened _ _ _ ends visit e = absurd (cc)
   opened _ _ _ (goes_on {visit = x} {visits = xs} {rows = rows} {pairs = pairs} at w) visit e =
       let same : x ≡ visit = cc in
       let none : xs ≡ [] = cc in
-      subst (λ v. IsOpened v (pairs_read words at.ref ++ pairs)) same
+      subst (λ v. IsWalkedFrom v (pairs_read words at.ref ++ pairs)) same
       record {
         good = at;
         rows = rows;

@@ -5,6 +5,7 @@ pub mod IntervalLemmas
 pub mod GiveLemmas
 pub mod WholeLemmas
 pub mod WorkLemmas
+pub mod ReverseLemmas
 pub mod ListingLemmas
 pub mod MarkLemmas
 pub mod TaskLemmas

@@ -3,7 +3,7 @@ use Rattle.std.proofs.Common.{◌≡◌, ℕ, suc, ◌+◌, ◌-◌, ◌<◌, �
 use Rattle.std.proofs.Common.{reverse, take, drop, slice_range, get_or, refl, sym, ap, ◌∙◌, subst}
 use Rattle.std.proofs.Common.{arith}
 use Rattle.std.proofs.lemmas.Bool.Decides.{leb_tells}
-use Rattle.std.proofs.lemmas.List.{append_assoc, append-nil, reverse-append, reverse-reverse}
+use Rattle.std.proofs.lemmas.List.{append_assoc, append-nil, reverse-append}
 use Rattle.std.proofs.lemmas.List.{drop_more}
 use Rattle.std.proofs.lemmas.List.Sums.{sum_by-append, sum_by-cons}
 use Rattle.std.specs.List.{sum_by}
@@ -20,28 +20,8 @@ use Rattle.ist_rest.specs.Steps.{pairs_at, work_of, work_left, IsGoodSlot}
 use Rattle.ist_rest.specs.Listing.{HasListed}
 use Rattle.ist_rest.proofs.GiveLemmas.{IsVisited, visited}
 use Rattle.ist_rest.proofs.IntervalLemmas.{no_pair}
+use Rattle.ist_rest.proofs.ReverseLemmas.{turned, turned_back, sum_reverse}
 use Rattle.ist_rest.proofs.WorkLemmas.{work_falls}
-
--- the last of some slots is the first of them in reverse
-turned : (xs ys : List SlotLeft) (x : SlotLeft) → xs ≡ ys ++ x ∷ [] → reverse xs ≡ x ∷ reverse ys
-turned xs ys x e = ap reverse e ∙ reverse-append ys (x ∷ [])
-
-turned_back : (ys zs xs : List SlotLeft) → xs ≡ ys ++ reverse zs → reverse xs ≡ zs ++ reverse ys
-turned_back ys zs xs e = ap reverse e ∙ reverse-append ys (reverse zs)
-    ∙ ap (λ ws. ws ++ reverse ys) (reverse-reverse zs)
-
--- a sum over a list in reverse
-sum_reverse : (f : SlotLeft → ℕ) (xs : List SlotLeft) → sum_by f (reverse xs) ≡ sum_by f xs
-sum_reverse f [] = refl
-sum_reverse f (x ∷ xs) =
-    let a = sum_by-append f (reverse xs) (x ∷ []) in
-    let b = sum_by-cons f x xs in
-    let c = sum_by-cons f x [] in
-    let d = sum_reverse f xs in
-    let e : reverse (x ∷ xs) ≡ reverse xs ++ x ∷ [] = reverse-append (x ∷ []) xs in
-    let g : sum_by f (reverse xs ++ x ∷ []) ≡ sum_by f (x ∷ xs) = let n : sum_by f [] ≡ 0 =
-    refl in omega arith in
-    ap (sum_by f) e ∙ g
 
 module _ (words : List ℕ) (first last : ℕ) where
   -- a listing begins at the anchor's slot

@@ -112,20 +112,20 @@ module _ {pairs : List Pair} {words : List ℕ} {log : Log} (s : IsStood pairs w
   -- ---- what a slot reads as
 
   -- the slot is one of the table, and a key that leads to it leads by its ways
-  pub record IsAt (visit : Visit) (i : ℕ) : Type 0 where
+  pub record IsVisitOfSlot (visit : Visit) (i : ℕ) : Type 0 where
     pub slot : SlotHolds t visit.node i visit.word
     -- a key that leads to this slot leads by each of the ways
     pub led : (key : ℕ) → LiesIn t key visit.node i → Each (LeadsBy key) visit.ways
 
   -- what is known of a reference in a slot
-  abbrev Told : Option Ref → Type 0
-  Told o = HasDecision words o × Each (IsWithinUsed words) (rows_on words o)
+  abbrev IsToldOf : Option Ref → Type 0
+  IsToldOf o = HasDecision words o × Each (IsWithinUsed words) (rows_on words o)
       × (past_rebuild_in words (past_change_in words o) ≡ past_rebuild t.pieces
       (past_change t.pieces o))
 
   -- a reference in a slot has a known decision, and its rows are within the used words
   pub told : (node i word : ℕ) (o : Option Ref) → SlotHolds t node i word → ref_of word ≡ o
-      → SlotNames t.pieces node i o → Told o
+      → SlotNames t.pieces node i o → IsToldOf o
   told node i word None slot e n = absurd n
   told node i word (Some Empty) slot e n = (tt, tt, refl)
   told node i word (Some Unset) slot e n = (tt, tt, refl)
@@ -145,7 +145,7 @@ module _ {pairs : List Pair} {words : List ℕ} {log : Log} (s : IsStood pairs w
   )
 
   -- a slot reads, by the words, as its logical reference
-  pub reading : (visit : Visit) (i : ℕ) (ref : Ref) → IsAt visit i
+  pub reading : (visit : Visit) (i : ℕ) (ref : Ref) → IsVisitOfSlot visit i
       → logical t.pieces visit.word ≡ Some ref → Reads words visit.word ref
   reading visit i ref at e =
       let it = told visit.node i visit.word (ref_of visit.word) at.slot refl
@@ -155,7 +155,7 @@ module _ {pairs : List Pair} {words : List ℕ} {log : Log} (s : IsStood pairs w
   -- ---- what it reads as is in good shape
 
   -- a published leaf that a slot reads as is in good shape
-  pub good_leaf : (visit : Visit) (i base : ℕ) (r : LeafRow) → IsAt visit i
+  pub good_leaf : (visit : Visit) (i base : ℕ) (r : LeafRow) → IsVisitOfSlot visit i
       → logical t.pieces visit.word ≡ Some (LeafAt base)
       → t.pieces base ≡ Some (Leaf r) → leaf_key words base ≡ r.key → IsGoodLeaf words visit base
   good_leaf visit i base r at e p k =
@@ -196,7 +196,7 @@ module _ {pairs : List Pair} {words : List ℕ} {log : Log} (s : IsStood pairs w
       (room base (Inner r) e)
 
   -- a published inner row that a slot reads as is in good shape
-  pub good_row : (visit : Visit) (i base : ℕ) (r : InnerRow) → IsAt visit i
+  pub good_row : (visit : Visit) (i base : ℕ) (r : InnerRow) → IsVisitOfSlot visit i
       → logical t.pieces visit.word ≡ Some (InnerAt base)
       → t.pieces base ≡ Some (Inner r) → IsGoodRow words visit.node base
   good_row visit i base r at e p =

@@ -25,9 +25,9 @@ use Rattle.laws_links.proofs.ResolvedLemmas.{resolved_gone}
 use Rattle.ist_rest.specs.WordRows.{rows_on, Span}
 use Rattle.ist_rest.specs.Walks.{Visit}
 use Rattle.ist_rest.specs.Walks.{Walks}
-use Rattle.ist_rest.proofs.UnderLemmas.{as_rebuild, up_here, IsUnder, row_under}
+use Rattle.ist_rest.proofs.UnderLemmas.{as_rebuild, up_here, IsReadUnder, row_under}
 use Rattle.ist_rest.proofs.UnderLemmas.{bases, AreRows, add_row}
-use Rattle.ist_rest.proofs.PublishedLemmas.{IsStood, all_names, free, IsAt}
+use Rattle.ist_rest.proofs.PublishedLemmas.{IsStood, all_names, free, IsVisitOfSlot}
 
 module _ {pairs : List Pair} {words : List ℕ} {log : Log} (s : IsStood pairs words log) where
   abbrev t : Snapshot
@@ -36,39 +36,39 @@ module _ {pairs : List Pair} {words : List ℕ} {log : Log} (s : IsStood pairs w
   -- ---- the walk
 
   -- a walk that finds these pairs, in rows that are published, none of them twice
-  pub record Finds (visits : List Visit) (found : List Pair) : Type 0 where
+  pub record WalkFinds (visits : List Visit) (found : List Pair) : Type 0 where
     pub rows : List Span
     pub walk : Walks words visits rows found
     pub are : AreRows t rows
 
   -- none of the rows is read below the slot
   abbrev pub AreElsewhere : List Span → ℕ → ℕ → Type 0
-  AreElsewhere rows n i = (b : ℕ) → Among b (bases rows) → IsUnder t n i b → ⊥
+  AreElsewhere rows n i = (b : ℕ) → Among b (bases rows) → IsReadUnder t n i b → ⊥
 
   -- none of the rows is read below a slot of the node from number j on
   abbrev pub AreBefore : List Span → ℕ → ℕ → Type 0
-  AreBefore rows n j = (b m : ℕ) → Among b (bases rows) → j ≤ m → IsUnder t n m b → ⊥
+  AreBefore rows n j = (b m : ℕ) → Among b (bases rows) → j ≤ m → IsReadUnder t n m b → ⊥
 
   -- a longer walk: what it reads beyond the shorter one is read below the slot
   pub record Longer (visits : List Visit) (found : List Pair) (old : List Span) (n i : ℕ) : Type 0
     where
-      pub finds : Finds visits found
+      pub finds : WalkFinds visits found
       -- each row that it reads is one of the old ones, or is read below the slot
-      pub from : (b : ℕ) → Among b (bases finds.rows) → Among b (bases old) ⊎ IsUnder t n i b
+      pub from : (b : ℕ) → Among b (bases finds.rows) → Among b (bases old) ⊎ IsReadUnder t n i b
 
   -- or below one of the slots of the node from number j on
   pub record LongerBy (visits : List Visit) (found : List Pair) (old : List Span) (n j : ℕ) : Type 0
     where
-      pub finds : Finds visits found
+      pub finds : WalkFinds visits found
       -- each row that it reads is one of the old ones, or is read below such a slot
       pub from : (b : ℕ) → Among b (bases finds.rows) → Among b (bases old) ⊎ ((m : ℕ) × (j ≤ m)
-          × IsUnder t n m b)
+          × IsReadUnder t n m b)
 
   -- the slots of a row are at their places
-  pub at_slot : (visit : Visit) (i base : ℕ) (r : InnerRow) → IsAt s visit i
+  pub at_slot : (visit : Visit) (i base : ℕ) (r : InnerRow) → IsVisitOfSlot s visit i
       → logical t.pieces visit.word ≡ Some (InnerAt base)
       → t.pieces base ≡ Some (Inner r) → (j place word : ℕ) → slice_get r.slots j ≡ Some word
-      → IsAt s record {
+      → IsVisitOfSlot s record {
         place = place;
         word = word;
         node = base;
@@ -84,7 +84,7 @@ module _ {pairs : List Pair} {words : List ℕ} {log : Log} (s : IsStood pairs w
         );
       }
     where
-      lifted : (visit : Visit) (i base : ℕ) → IsAt s visit i → logical t.pieces visit.word ≡ Some
+      lifted : (visit : Visit) (i base : ℕ) → IsVisitOfSlot s visit i → logical t.pieces visit.word ≡ Some
           (InnerAt base) → (j key : ℕ) → LiesIn t key base j → LiesIn t key visit.node i
       lifted visit i base at e j key lies =
           lies_above t (all_names s) (one_home pairs (length words) s.lawful.opens log
@@ -103,7 +103,7 @@ module _ {pairs : List Pair} {words : List ℕ} {log : Log} (s : IsStood pairs w
         → rows_on words (ref_of visit.word) ≡ record { base = b; size = rebuild_words } ∷ []
         → HasWay visit i
 
-  way_of : (visit : Visit) (i : ℕ) → IsAt s visit i → HasWay visit i
+  way_of : (visit : Visit) (i : ℕ) → IsVisitOfSlot s visit i → HasWay visit i
   way_of visit i at = by (ref_of visit.word) refl (slot_names t visit.node i visit.word
       (all_names s)
       at.slot)
@@ -126,10 +126,10 @@ module _ {pairs : List Pair} {words : List ℕ} {log : Log} (s : IsStood pairs w
   pub record Through (visit : Visit) (i : ℕ) (rows all : List Span) : Type 0 where
     pub are : AreRows t all
     -- each is one of the former ones, or is read below the slot
-    pub from : (b : ℕ) → Among b (bases all) → Among b (bases rows) ⊎ IsUnder t visit.node i b
+    pub from : (b : ℕ) → Among b (bases all) → Among b (bases rows) ⊎ IsReadUnder t visit.node i b
 
   -- the rows that a slot leads through, before rows without its rebuild, are published and distinct
-  pub led_through : (visit : Visit) (i : ℕ) (at : IsAt s visit i) (here rows : List Span)
+  pub led_through : (visit : Visit) (i : ℕ) (at : IsVisitOfSlot s visit i) (here rows : List Span)
       → AreRows t (here ++ rows)
       → ((b : ℕ) → IsRebuildFor t.pieces visit.node i b → Among b (bases (here ++ rows)) → ⊥)
       → Through visit i (here ++ rows) ((rows_on words (ref_of visit.word) ++ here) ++ rows)
@@ -146,6 +146,6 @@ module _ {pairs : List Pair} {words : List ℕ} {log : Log} (s : IsStood pairs w
             are = add_row t b rebuild_words (Rebuild h.row) (here ++ rows) h.published
                 (omega arith) (new b h) are;
             from = λ c a. ⊎_elim
-                (λ same. inr (subst (IsUnder t visit.node i) (sym same)
+                (λ same. inr (subst (IsReadUnder t visit.node i) (sym same)
                 (row_under (as_rebuild h) up_here))) (λ old. inl old) a;
           }

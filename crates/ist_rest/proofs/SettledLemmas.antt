@@ -44,8 +44,8 @@ module _ {pairs : List Pair} {words : List ℕ} {log : Log} (s : IsStood pairs w
   anchor_word = get_or_from_slice_get words anchor_slot_place t.anchor 0 s.image.anchor_slot
 
   -- the row is reached from the anchor
-  abbrev IsReached : ℕ → Type 0
-  IsReached node = (base : ℕ) × (reads_in words (word_at words anchor_slot_place) ≡ Some
+  abbrev IsReachedFromAnchor : ℕ → Type 0
+  IsReachedFromAnchor node = (base : ℕ) × (reads_in words (word_at words anchor_slot_place) ≡ Some
       (InnerAt base)) × ReachedFrom words base node
 
   at_index : (xs : List ℕ) (i word : ℕ) → slice_get xs i ≡ Some word → Among word xs
@@ -59,12 +59,12 @@ module _ {pairs : List Pair} {words : List ℕ} {log : Log} (s : IsStood pairs w
   index_at (x ∷ xs) word (inr a) = let it = index_at xs word a in (suc it.0, it.1)
 
   -- a linked row is reached
-  linked_reached : (node : ℕ) → Linked t node → (node ≡ anchor) ⊎ IsReached node
+  linked_reached : (node : ℕ) → Linked t node → (node ≡ anchor) ⊎ IsReachedFromAnchor node
   linked_reached _ at_anchor = inl refl
   linked_reached _ (below {node = node} {child = child} i l c) =
       inr (at c.holds (linked_reached node l))
     where
-      at : SlotHolds t node i c.word → (node ≡ anchor) ⊎ IsReached node → IsReached child
+      at : SlotHolds t node i c.word → (node ≡ anchor) ⊎ IsReachedFromAnchor node → IsReachedFromAnchor child
       at (in_anchor a z e) up =
           let first : SlotHolds t anchor 0 t.anchor = in_anchor refl refl refl in (
             child,

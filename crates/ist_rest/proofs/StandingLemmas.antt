@@ -32,14 +32,14 @@ use Rattle.ist_rest.specs.Walks.{Visit, IsGood}
 use Rattle.ist_rest.specs.Walks.{rows_read, pairs_read, visits_from, visits_below, Walks, ends}
 use Rattle.ist_rest.specs.Walks.{goes_on, first_visit, IsApartFrom, AreApart}
 use Rattle.ist_rest.specs.RestingWords.{HoldPairs, AreLawful}
-use Rattle.ist_rest.proofs.UnderLemmas.{HasHome, as_child, as_rebuild, up_here, IsUnder, row_under}
+use Rattle.ist_rest.proofs.UnderLemmas.{HasHome, as_child, as_rebuild, up_here, IsReadUnder, row_under}
 use Rattle.ist_rest.proofs.UnderLemmas.{leaf_under, rebuild_inner, no_home, one_under, not_below}
 use Rattle.ist_rest.proofs.UnderLemmas.{under_child, bases, AreRows, add_row}
 use Rattle.ist_rest.proofs.RowLemmas.{word_is, first_word}
-use Rattle.ist_rest.proofs.PublishedLemmas.{IsStood, all_names, free, good_bounds, IsAt, reading}
+use Rattle.ist_rest.proofs.PublishedLemmas.{IsStood, all_names, free, good_bounds, IsVisitOfSlot, reading}
 use Rattle.ist_rest.proofs.PublishedLemmas.{good_leaf, shape, keys_there, slots_there, degree_there}
 use Rattle.ist_rest.proofs.PublishedLemmas.{good_row}
-use Rattle.ist_rest.proofs.ReadOnceLemmas.{Finds, AreElsewhere, AreBefore, Longer, LongerBy}
+use Rattle.ist_rest.proofs.ReadOnceLemmas.{WalkFinds, AreElsewhere, AreBefore, Longer, LongerBy}
 use Rattle.ist_rest.proofs.ReadOnceLemmas.{at_slot, homes, led_through}
 
 module _ {pairs : List Pair} {words : List ℕ} {log : Log} (s : IsStood pairs words log) where
@@ -48,9 +48,9 @@ module _ {pairs : List Pair} {words : List ℕ} {log : Log} (s : IsStood pairs w
 
   mutual
     walk_ref : (ref : Option Ref) (leaves : List PlacedLeaf) → HasLeaves t.pieces ref leaves
-        → (visit : Visit) (i : ℕ) → IsAt s visit i
+        → (visit : Visit) (i : ℕ) → IsVisitOfSlot s visit i
         → logical t.pieces visit.word ≡ ref → (visits : List Visit) (more : List Pair)
-        (w : Finds s visits more)
+        (w : WalkFinds s visits more)
         → AreElsewhere s w.rows visit.node i
         → Longer s (visit ∷ visits) (map pair_of leaves ++ more) w.rows visit.node i
     walk_ref _ _ none_here visit i at e visits more w apart =
@@ -86,7 +86,7 @@ module _ {pairs : List Pair} {words : List ℕ} {log : Log} (s : IsStood pairs w
         e in
         let lies = (leaves_lie pairs (length words) s.lawful.opens log s.lawful.enabled).each
         visit.node i base mentions r p in
-        let under : IsUnder t visit.node i base = leaf_under r p lies in
+        let under : IsReadUnder t visit.node i base = leaf_under r p lies in
         let are = add_row t base leaf_words (Leaf r) w.rows p (omega arith)
         (λ a. apart base a under) w.are in
         let it = led_through s visit i at (record { base = base; size = leaf_words } ∷ []) w.rows
@@ -102,7 +102,7 @@ module _ {pairs : List Pair} {words : List ℕ} {log : Log} (s : IsStood pairs w
             are = it.are;
           };
           from = λ b a. ⊎_elim
-              (λ x. ⊎_elim (λ is. inr (subst (IsUnder t visit.node i) (sym is) under))
+              (λ x. ⊎_elim (λ is. inr (subst (IsReadUnder t visit.node i) (sym is) under))
               (λ old. inl old) x) (λ u. inr u) (it.from b a);
         }
     walk_ref _ leaves (row_here {base = base} r p slots) visit i at e visits more w apart =
@@ -119,7 +119,7 @@ module _ {pairs : List Pair} {words : List ℕ} {log : Log} (s : IsStood pairs w
         } in
         let mentions = (slot_reads_as t visit.node i visit.word (all_names s) at.slot).a_row base
         e in
-        let lift : (b m : ℕ) → IsUnder t base m b → IsUnder t visit.node i b =
+        let lift : (b m : ℕ) → IsReadUnder t base m b → IsReadUnder t visit.node i b =
         λ b m u. under_child t (all_names s) (homes s) (free s) visit.node i base m b child
         (λ key lies. lies_above t (all_names s) (homes s) (free s) visit.node i base m key mentions
         lies)
@@ -140,7 +140,7 @@ module _ {pairs : List Pair} {words : List ℕ} {log : Log} (s : IsStood pairs w
         (subst (λ ss. Walks words (visits_from base visit.ways r.keys 0
         (base + 3 + row_degree words base) ss ++ visits) f.rows (map pair_of leaves ++ more))
         (sym (slots_there s base r p)) f.walk) in
-        let under : IsUnder t visit.node i base = row_under (as_child child) up_here in
+        let under : IsReadUnder t visit.node i base = row_under (as_child child) up_here in
         let gone : (b : ℕ) → HasHome t visit.node i b → Among b (bases f.rows) → ⊥ =
         λ b h a. ⊎_elim (λ old. apart b old (row_under h up_here))
         (λ x. not_below t (all_names s) (homes s) (free s) visit.node i b base x.0 h higher x.2)
@@ -164,17 +164,17 @@ module _ {pairs : List Pair} {words : List ℕ} {log : Log} (s : IsStood pairs w
             are = on.are;
           };
           from = λ b a. ⊎_elim
-              (λ x. ⊎_elim (λ is. inr (subst (IsUnder t visit.node i) (sym is) under))
+              (λ x. ⊎_elim (λ is. inr (subst (IsReadUnder t visit.node i) (sym is) under))
               (λ old. ⊎_elim (λ y. inl y) (λ y. inr (lift b y.0 y.2)) (it.from b old)) x)
               (λ u. inr u) (on.from b a);
         }
 
     walk_slots : (ws : List ℕ) (leaves : List PlacedLeaf) → SlotsHaveLeaves t.pieces ws leaves
         → (visit : Visit) (i base : ℕ) (r : InnerRow)
-        → IsAt s visit i → logical t.pieces visit.word ≡ Some (InnerAt base) → t.pieces base ≡ Some
+        → IsVisitOfSlot s visit i → logical t.pieces visit.word ≡ Some (InnerAt base) → t.pieces base ≡ Some
         (Inner r) → (j place : ℕ)
         → ((k word : ℕ) → slice_get ws k ≡ Some word → slice_get r.slots (j + k) ≡ Some word)
-        → (visits : List Visit) (more : List Pair) (w : Finds s visits more)
+        → (visits : List Visit) (more : List Pair) (w : WalkFinds s visits more)
         → AreBefore s w.rows base j
         → LongerBy s (visits_from base visit.ways r.keys j place ws ++ visits)
         (map pair_of leaves ++ more) w.rows base j
@@ -261,7 +261,7 @@ module _ {pairs : List Pair} {words : List ℕ} {log : Log} (s : IsStood pairs w
   lawful_contents contents h =
       let a : word_at words anchor_slot_place ≡ t.anchor = get_or_from_slice_get words
       anchor_slot_place t.anchor 0 s.image.anchor_slot in
-      let at : IsAt s (first_visit words) 0 = record {
+      let at : IsVisitOfSlot s (first_visit words) 0 = record {
         slot = in_anchor refl refl (sym a);
         led =
             λ key lies. tt;

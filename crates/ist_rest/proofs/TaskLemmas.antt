@@ -5,11 +5,9 @@ use Rattle.std.proofs.Common.{get_or, Option, Some, None}
 use Rattle.std.proofs.Common.{refl, sym, subst, inl, inr, ⊎_elim, arith}
 use Rattle.std.proofs.lemmas.Bool.Decides.{leb_tells, eqb_tells, nat_tests}
 use Rattle.std.specs.List.Sorted.{IsStrictlyIncreasing}
-use Rattle.ist_core.specs.Arithmetic.{child_count}
 use Rattle.ist_core.specs.RowLayout.{next_place}
 use Rattle.ist_core.specs.References.{Ref, Empty, Unset, LeafAt, InnerAt, ChangeAt, RebuildAt}
-use Rattle.ist_core.proofs.RisingLemmas.{child_count_tells}
-use Rattle.ist_math.proofs.ChildLemmas.{child_count_is}
+use Rattle.ist_math.proofs.ChildLemmas.{child_count_is, key_before_child, key_after_child}
 use Rattle.ist_rest.specs.declared.tasks.AuditTask.{AuditTask}
 use Rattle.ist_rest.specs.WordRows.{word_at, row_degree, row_keys, row_slots}
 use Rattle.ist_rest.specs.Walks.{Visit, IsGoodAs}
@@ -29,47 +27,6 @@ ltb_tells a b = at (nat_lt a b) refl
     at false e = let more : b ≤ a = grind (arith, nat_tests) in inr (e, more)
 
 -- ---- keys
-
--- a child is determined by the keys on both its sides
-module _ (keys : List ℕ) (rises : IsStrictlyIncreasing keys) (x i : ℕ) (within : i ≤ length keys)
-  where
-    -- if x has child i, the key before that child is at most x, and the key after it is greater
-    pub count_told : child_count keys x ≡ i → (0 < i → get_or keys (i - 1) 0 ≤ x)
-        × (i < length keys → x < get_or keys i 0)
-    count_told e = (low, high)
-      where
-        low : 0 < i → get_or keys (i - 1) 0 ≤ x
-        low some = at (leb_tells (get_or keys (i - 1) 0) x)
-          where
-            at : ((nat_le (get_or keys (i - 1) 0) x ≡ true) × (get_or keys (i - 1) 0 ≤ x)) ⊎
-                ((nat_le (get_or keys (i - 1) 0) x ≡ false) × (x < get_or keys (i - 1) 0))
-                → get_or keys (i - 1) 0 ≤ x
-            at (inl a) = a.1
-            at (inr a) =
-                let less = a.1 in
-                let y = get_or keys (i - 1) 0 - 1 in
-                let before : child_count keys y ≡ i - 1 = child_count_is keys y (i - 1) rises
-                (omega arith) (λ l. omega arith)
-                (λ more. let r = rises (i - 1 - 1) (omega arith) in let n : i - 1 - 1 + 1 ≡ i - 1 =
-                omega arith in
-                let r : get_or keys (i - 1 - 1) 0 < get_or keys (i - 1) 0 =
-                subst (λ m. get_or keys (i - 1 - 1) 0 < get_or keys m 0) n r in omega arith) in
-                let tells = child_count_tells keys y x (omega arith) in
-                omega arith
-
-        high : i < length keys → x < get_or keys i 0
-        high more =
-            let k = get_or keys i 0 in
-            let behind : child_count keys k ≡ i + 1 = child_count_is keys k (i + 1) rises
-            (omega arith) (λ l. rises i l)
-            (λ some. let n : i + 1 - 1 ≡ i = omega arith in subst (λ m. get_or keys m 0 ≤ k) (sym n)
-            (omega arith)) in
-            child_count_tells keys x k (omega arith)
-
-    -- if the key before child i is at most x, and the key after it is greater, x has child i
-    pub count_by : (0 < i → get_or keys (i - 1) 0 ≤ x) → (i < length keys → x < get_or keys i 0)
-        → child_count keys x ≡ i
-    count_by low high = child_count_is keys x i rises within high low
 
 -- the lower bound of a child
 low_told : (low : ℕ) (keys : List ℕ) (i x : ℕ) → (low_of low keys i ≤ x) ↔
@@ -141,9 +98,11 @@ child_is_task visit task base keys i place word h rises within =
           let high = high_told task.high keys i key in
           let up = h.leads key in (
             (λ in_it. let a = low.0 in_it.0 in let b = high.0 in_it.1 in
-                (count_by keys rises key i within a.1 b.1, up.0 (a.0, b.0))),
-            (λ led. let it = count_told keys rises key i within led.0 in let y = up.1 led.1 in
-                (low.1 (y.0, it.0), high.1 (y.1, it.1))),
+                (child_count_is keys key i rises within b.1 a.1, up.0 (a.0, b.0))),
+            (λ led. let is = sym led.0 in let y = up.1 led.1 in (
+              low.1 (y.0, key_before_child keys rises key i is),
+              high.1 (y.1, key_after_child keys rises key i is),
+            )),
           );
     }
 

@@ -31,9 +31,9 @@ pub data Up (t : Snapshot) (n i : ℕ) : ℕ → ℕ → Type 0 where
   up_down : {m k c : ℕ} (j : ℕ) → Up t n i m k → IsChild t m k c → Up t n i c j
 
 -- the row is read below the slot
-pub data IsUnder (t : Snapshot) (n i b : ℕ) : Type 0 where
-  row_under : {m k : ℕ} → HasHome t m k b → Up t n i m k → IsUnder t n i b
-  leaf_under : (r : LeafRow) → t.pieces b ≡ Some (Leaf r) → LiesIn t r.key n i → IsUnder t n i b
+pub data IsReadUnder (t : Snapshot) (n i b : ℕ) : Type 0 where
+  row_under : {m k : ℕ} → HasHome t m k b → Up t n i m k → IsReadUnder t n i b
+  leaf_under : (r : LeafRow) → t.pieces b ≡ Some (Leaf r) → LiesIn t r.key n i → IsReadUnder t n i b
 
 leaf_inner : (o : Option Piece) (r : LeafRow) (s : InnerRow) → o ≡ Some (Leaf r)
     → o ≡ Some (Inner s) → ⊥
@@ -112,7 +112,7 @@ module _ (t : Snapshot) (o : WordsName t) (home : HasOneHome t) (free : t.pieces
         (same_inner (t.pieces n) r s e f) ∙ sym also
 
     -- a row is read below one slot of a node only
-    pub one_under : (n i j b : ℕ) → IsUnder t n i b → IsUnder t n j b → i ≡ j
+    pub one_under : (n i j b : ℕ) → IsReadUnder t n i b → IsReadUnder t n j b → i ≡ j
     one_under n i j b (row_under {m = m} {k = k} h u) (row_under {m = q} {k = l} g v) =
         let same = home_once m k q l b h g in one_up n i m k u n j q l v refl same.0 same.1
     one_under n i j b (row_under {m = m} {k = k} h u) (leaf_under r e lies) =
@@ -125,7 +125,7 @@ module _ (t : Snapshot) (o : WordsName t) (home : HasOneHome t) (free : t.pieces
         also.child_for)
 
     -- a row that hangs in a node isn't read below a greater one
-    pub not_below : (n i b base m : ℕ) → HasHome t n i b → n < base → IsUnder t base m b → ⊥
+    pub not_below : (n i b base m : ℕ) → HasHome t n i b → n < base → IsReadUnder t base m b → ⊥
     not_below n i b base m h less (row_under {m = q} {k = l} g u) =
         let same = home_once n i q l b h g in
         let e = same.0 in
@@ -139,7 +139,7 @@ module _ (t : Snapshot) (o : WordsName t) (home : HasOneHome t) (free : t.pieces
 
     -- what is read below a slot of a child is read below the slot in which the child hangs
     pub under_child : (n i c j b : ℕ) → IsChild t n i c
-        → ((key : ℕ) → LiesIn t key c j → LiesIn t key n i) → IsUnder t c j b → IsUnder t n i b
+        → ((key : ℕ) → LiesIn t key c j → LiesIn t key n i) → IsReadUnder t c j b → IsReadUnder t n i b
     under_child n i c j b child lift (row_under {m = m} {k = k} h u) =
         row_under h (up_from n i c child j m k u)
     under_child n i c j b child lift (leaf_under r e lies) = leaf_under r e (lift r.key lies)

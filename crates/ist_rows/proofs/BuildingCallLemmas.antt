@@ -1,9 +1,7 @@
 -- A caller whose reserving took the next row of its build, or was refused. Serves `reserve_inner`
 -- and the crates above.
-use Rattle.std.proofs.Common.{◌≡◌, ℕ, List, [], ◌∷◌, ◌++◌, Result, Ok, Err, IfOk, IfErr, sym, ap, ap₂, ◌∙◌, subst, arith}
+use Rattle.std.proofs.Common.{◌≡◌, ℕ, List, [], ◌∷◌, ◌++◌, Result, Ok, Err, IfOk, IfErr, sym, ap, ◌∙◌, subst, arith}
 use Rattle.ist_core.specs.declared.ports.Full.{Full}
-use Rattle.ist_core.specs.declared.events.Event.TheVariants.{Reserve}
-use Rattle.ist_core.specs.Logs.{Log}
 use Rattle.ist_core.specs.Lawful.{Lawful, state_of}
 use Rattle.ist_core.proofs.RoomLemmas.{words_same}
 use Rattle.ist_rule.specs.declared.view.View.{View}
@@ -11,45 +9,15 @@ use Rattle.ist_core.specs.declared.events.Who.TheVariants.{Caller as CallerOf}
 use Rattle.ist_core.specs.Authors.{Later}
 use Rattle.ist_rule.specs.Faces.{TokenFace}
 use Rattle.ist_rule.specs.Learning.{now, GoesOnTo, storing}
-use Rattle.ist_rule.proofs.LaterLemmas.{later_more}
-use Rattle.ist_rule.proofs.GoingOnLemmas.{goes_on_who, goes_on_more, looked_goes_on}
+use Rattle.ist_rule.proofs.GoingOnLemmas.{goes_on_more, looked_goes_on}
 use Rattle.ist_rule.proofs.WentOnLemmas.{goes_on_now}
 use Rattle.ist_rows.specs.declared.callers.Caller.{Caller}
 use Rattle.ist_rows.specs.Rows.{spares_of, IsCaller, Reserved, IsFull}
 use Rattle.ist_rows.specs.Building.{AreStuck, IsInBuild, IsNext, HasTaken, HasRefused}
 use Rattle.ist_rows.proofs.CallerLemmas.{IsCallerIn, caller_later}
 use Rattle.ist_rows.proofs.CallerGoingLemmas.{caller_refused}
-use Rattle.ist_rows.proofs.ReserveLemmas.{looked_next}
+use Rattle.ist_rows.proofs.ReserveLemmas.{Took, looked_next, took}
 use Rattle.ist_rows.proofs.BuildingLemmas.{IsInBuildIn, stuck_last, at_later, next_fair, taken_inner, taken_at}
-
--- the log after a reserving, as a list of enabled events, and the place of the caller before
-pub record Took (v : View) (number base size : ℕ) (w : View) : Type 0 where
-  pub before : Log
-  pub lawful : Lawful v.start v.words (Reserve number base size ∷ before)
-  pub later : Later v.who v.log before
-  pub now_is : now w ≡ state_of v.start v.words (Reserve number base size ∷ before)
-  pub who_is : w.who ≡ v.who
-
--- a token that reserved a row has such a log
-pub took : (v : View) (number base size : ℕ) (w : View) → Reserved v number base size w
-    → Took v number base size w
-took v number base size w r =
-    let l = r.reserved in
-    let event = Reserve number base size in
-    let start_is : w.start ≡ v.start = ap (λ x. x.start) l.view ∙ ap (λ x. x.start) r.seen.same in
-    let words_is : w.words ≡ v.words = ap (λ x. x.words) l.view ∙ ap (λ x. x.words) r.seen.same in
-    let log_is : w.log ≡ event ∷ l.before = ap (λ x. x.log) l.view in
-    record {
-      before = l.before;
-      lawful = subst (λ p. Lawful p v.words (event ∷ l.before)) start_is
-          (subst (λ n. Lawful w.start n (event ∷ l.before)) words_is
-          (subst (Lawful w.start w.words) log_is l.sound.lawful));
-      later = later_more r.seen.later (subst (λ x. Later x r.before.log l.before)
-          (goes_on_who r.seen) l.later);
-      now_is = ap₂ (λ p n. state_of p n w.log) start_is words_is ∙ ap (state_of v.start v.words)
-          log_is;
-      who_is = ap (λ x. x.who) l.view ∙ goes_on_who r.seen;
-    }
 
 -- a caller that took the next row of its build is a caller, and is at the row after it
 module _ (who : Caller) (token : TokenFace) (base size : ℕ) (c : IsCaller who)

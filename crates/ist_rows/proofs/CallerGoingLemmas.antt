@@ -26,7 +26,6 @@ use Rattle.ist_rule.specs.Rule.{IsSound}
 use Rattle.ist_rule.specs.Faces.{TokenFace}
 use Rattle.ist_rule.specs.Learning.{now, GoesOnTo}
 use Rattle.ist_rule.specs.Conditions.{IsOwn}
-use Rattle.ist_rule.proofs.LaterLemmas.{later_more}
 use Rattle.ist_rule.proofs.ShownLemmas.{held_loose}
 use Rattle.ist_rule.proofs.GoingOnLemmas.{goes_on_who, goes_on_more, looked_goes_on}
 use Rattle.ist_rule.proofs.WentOnLemmas.{goes_on_now}
@@ -37,6 +36,7 @@ use Rattle.ist_rows.specs.Kinds.{kind_words}
 use Rattle.ist_rows.specs.Rows.{Spares, spares_of, row_of, with_spare, is_base, is_spare, held_by, build_sizes, IsCaller, Reserved, IsFull, HoldsPlace}
 use Rattle.ist_rows.proofs.BuildLemmas.{ComesBehind, builds_on}
 use Rattle.ist_rows.proofs.CallerLemmas.{IsCallerIn, caller_later}
+use Rattle.ist_rows.proofs.ReserveLemmas.{took}
 
 -- ---- a caller's token goes on
 
@@ -125,24 +125,13 @@ row_taken own Leaf Leaf base b e = inl (refl, cc)
 row_taken own PairKind PairKind base b e = inl (refl, cc)
 row_taken own Change Change base b e = inl (refl, cc)
 row_taken own Rebuild Rebuild base b e = inl (refl, cc)
-row_taken own Leaf PairKind base b e = inr e
-row_taken own Leaf Change base b e = inr e
-row_taken own Leaf Rebuild base b e = inr e
-row_taken own PairKind Leaf base b e = inr e
-row_taken own PairKind Change base b e = inr e
-row_taken own PairKind Rebuild base b e = inr e
-row_taken own Change Leaf base b e = inr e
-row_taken own Change PairKind base b e = inr e
-row_taken own Change Rebuild base b e = inr e
-row_taken own Rebuild Leaf base b e = inr e
-row_taken own Rebuild PairKind base b e = inr e
-row_taken own Rebuild Change base b e = inr e
+row_taken own _ _ base b e = inr e
 
 -- a caller that reserved a row of a kind, in the state after it
 module _ (pairs : List Pair) (words : ℕ) (log : Log) (number : ℕ) (own : Spares) (kind : Kind)
     (base : ℕ)
     (enabled : EachEnabled (start pairs words) (Reserve number base (kind_words kind) ∷ log))
-    (none : row_of kind own ≡ None) (c : IsCallerIn (state_of pairs words log) number own) where
+    (none : row_of kind own ≡ None) where
   abbrev t : Snapshot
   t = state_of pairs words log
 
@@ -165,8 +154,9 @@ module _ (pairs : List Pair) (words : ℕ) (log : Log) (number : ℕ) (own : Spa
       let at_next = enabled.1.base_is in
       omega arith
 
-  sizes_now : build_sizes u number (with_spare kind base own) ≡ build_sizes t number own
-  sizes_now =
+  -- the row is a spare, so the sizes of its builds are as they were
+  pub sizes_taken : build_sizes u number (with_spare kind base own) ≡ build_sizes t number own
+  sizes_taken =
       ap (λ held. map (λ h. h.size) (filter (λ h. not (is_spare (with_spare kind base own) h.base))
       held)) held_now
       ∙ ap (map (λ (h : HeldRow). h.size))
@@ -188,8 +178,8 @@ module _ (pairs : List Pair) (words : ℕ) (log : Log) (number : ℕ) (own : Spa
   }
 
   -- a caller that reserved a row is a caller with that row
-  pub taken_caller : IsCallerIn u number (with_spare kind base own)
-  taken_caller =
+  pub taken_caller : IsCallerIn t number own → IsCallerIn u number (with_spare kind base own)
+  taken_caller c =
       record {
         rows = λ other b e.
             ⊎_elim
@@ -204,7 +194,7 @@ module _ (pairs : List Pair) (words : ℕ) (log : Log) (number : ℕ) (own : Spa
             } t.held (new_row ∷ []) (c.rows other b k))
             (row_taken own kind other base b e);
         builds = builds_on t u behind (build_sizes u number (with_spare kind base own))
-            (subst (AreBuilds t) (sym sizes_now) c.builds);
+            (subst (AreBuilds t) (sym sizes_taken) c.builds);
       }
 
 -- a caller that reserved a row is a caller with that row
@@ -215,39 +205,21 @@ pub caller_reserved : (old new : Caller) (kind : Kind) (base : ℕ) → IsCaller
 caller_reserved old new kind base c none r number rows =
     let v = old.token.view in
     let w = new.token.view in
-    let m = r.before in
-    let l = r.reserved in
-    let event = Reserve old.number base (kind_words kind) in
-    let start_is : w.start ≡ v.start = ap (λ x. x.start) l.view ∙ ap (λ x. x.start) r.seen.same in
-    let words_is : w.words ≡ v.words = ap (λ x. x.words) l.view ∙ ap (λ x. x.words) r.seen.same in
-    let who_is : w.who ≡ v.who = ap (λ x. x.who) l.view ∙ goes_on_who r.seen in
-    let log_is : w.log ≡ event ∷ l.before = ap (λ x. x.log) l.view in
-    let lawful : Lawful v.start v.words (event ∷ l.before) =
-    subst (λ p. Lawful p v.words (event ∷ l.before)) start_is
-    (subst (λ n. Lawful w.start n (event ∷ l.before)) words_is
-    (subst (Lawful w.start w.words) log_is l.sound.lawful)) in
-    let later : Later v.who v.log l.before =
-    later_more r.seen.later (subst (λ x. Later x m.log l.before) (goes_on_who r.seen)
-    l.later) in
-    let before = caller_later v.start v.words v.log l.before old.number (spares_of old) record {
-      opens = lawful.opens;
-      enabled =
-          lawful.enabled.0;
-    } (subst (λ x. Later x v.log l.before) c.mine later)
+    let it = took v old.number base (kind_words kind) w r in
+    let before = caller_later v.start v.words v.log it.before old.number (spares_of old)
+    record { opens = it.lawful.opens; enabled = it.lawful.enabled.0 }
+    (subst (λ x. Later x v.log it.before) c.mine it.later)
     record { rows = c.rows; builds = c.builds } in
-    let it = taken_caller v.start v.words l.before old.number (spares_of old) kind base
-    lawful.enabled none before in
-    let now_is : now w ≡ state_of v.start v.words (event ∷ l.before) =
-    ap₂ (λ p n. state_of p n w.log) start_is words_is ∙ ap (state_of v.start v.words)
-    log_is in
+    let taken = taken_caller v.start v.words it.before old.number (spares_of old) kind base
+    it.lawful.enabled none before in
     let there = subst (λ own. IsCallerIn (now w) new.number own) (sym rows)
     (subst (λ n. IsCallerIn (now w) n (with_spare kind base (spares_of old))) (sym number)
-    (subst (λ t. IsCallerIn t old.number (with_spare kind base (spares_of old))) (sym now_is) it)) in
+    (subst (λ t. IsCallerIn t old.number (with_spare kind base (spares_of old))) (sym it.now_is)
+    taken)) in
     record {
-      mine = who_is ∙ c.mine ∙ ap CallerOf (sym number);
+      mine = it.who_is ∙ c.mine ∙ ap CallerOf (sym number);
       rows = there.rows;
-      builds =
-          there.builds;
+      builds = there.builds;
     }
 
 -- a word of an own row lies within the table

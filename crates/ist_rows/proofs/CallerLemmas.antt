@@ -116,18 +116,7 @@ kind_of_words Leaf Leaf e = refl
 kind_of_words PairKind PairKind e = refl
 kind_of_words Change Change e = refl
 kind_of_words Rebuild Rebuild e = refl
-kind_of_words Leaf PairKind e = absurd (omega arith)
-kind_of_words Leaf Change e = absurd (omega arith)
-kind_of_words Leaf Rebuild e = absurd (omega arith)
-kind_of_words PairKind Leaf e = absurd (omega arith)
-kind_of_words PairKind Change e = absurd (omega arith)
-kind_of_words PairKind Rebuild e = absurd (omega arith)
-kind_of_words Change Leaf e = absurd (omega arith)
-kind_of_words Change PairKind e = absurd (omega arith)
-kind_of_words Change Rebuild e = absurd (omega arith)
-kind_of_words Rebuild Leaf e = absurd (omega arith)
-kind_of_words Rebuild PairKind e = absurd (omega arith)
-kind_of_words Rebuild Change e = absurd (omega arith)
+kind_of_words _ _ e = absurd (omega arith)
 
 -- the words of each kind are a spare size
 kind_spare : (kind : Kind) → Among (kind_words kind) spare_sizes

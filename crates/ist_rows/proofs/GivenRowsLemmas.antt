@@ -40,18 +40,7 @@ row_without Leaf Leaf own = inl (refl, refl)
 row_without PairKind PairKind own = inl (refl, refl)
 row_without Change Change own = inl (refl, refl)
 row_without Rebuild Rebuild own = inl (refl, refl)
-row_without Leaf PairKind own = inr refl
-row_without Leaf Change own = inr refl
-row_without Leaf Rebuild own = inr refl
-row_without PairKind Leaf own = inr refl
-row_without PairKind Change own = inr refl
-row_without PairKind Rebuild own = inr refl
-row_without Change Leaf own = inr refl
-row_without Change PairKind own = inr refl
-row_without Change Rebuild own = inr refl
-row_without Rebuild Leaf own = inr refl
-row_without Rebuild PairKind own = inr refl
-row_without Rebuild Change own = inr refl
+row_without _ _ own = inr refl
 
 none_here : (kind : Kind) (own : Spares) → row_of kind (without_row kind own) ≡ None
 none_here Leaf own = refl

@@ -1,7 +1,7 @@
 -- Callers whose tokens went on. Serves the functions of the crates above.
 use Rattle.std.proofs.Common.{◌≡◌, ◌≤◌, List, refl, sym, ap, ◌∙◌, subst, le_refl}
 use Rattle.ist_core.specs.declared.events.Event.{Event}
-use Rattle.ist_core.specs.declared.events.Event.TheVariants.{Enter, Reserve, Install, Okay, Decide, Resolve, Count, Mark, Pass, Finish, Root, Draw, Place, Lose}
+use Rattle.ist_core.specs.declared.events.Event.TheVariants.{Install}
 use Rattle.ist_core.specs.Authors.{no_more, LaterBy}
 use Rattle.ist_rule.specs.declared.view.OwnWord.{OwnWord}
 use Rattle.ist_rule.specs.declared.view.View.{View}
@@ -118,19 +118,7 @@ ready_all P Q all old new a = record { gone = gone_all P Q all old new a.gone; q
 -- an event that changes nothing of what its caller holds installs nothing
 pub keeping_installs_none : (event : Event) → KeepsRows event → InstallsNone event
 keeping_installs_none (Install caller base rows) is = absurd is
-keeping_installs_none (Enter caller) is = tt
-keeping_installs_none (Reserve caller base size) is = tt
-keeping_installs_none (Okay caller base) is = tt
-keeping_installs_none (Decide caller base said) is = tt
-keeping_installs_none (Resolve caller base) is = tt
-keeping_installs_none (Count caller node) is = tt
-keeping_installs_none (Mark caller node) is = tt
-keeping_installs_none (Pass caller node i word) is = tt
-keeping_installs_none (Finish caller node keys) is = tt
-keeping_installs_none (Root caller rebuild word rows) is = tt
-keeping_installs_none (Draw caller rebuild part) is = tt
-keeping_installs_none (Place caller rebuild i word rows) is = tt
-keeping_installs_none (Lose caller bases) is = tt
+keeping_installs_none _ is = tt
 
 -- a ready caller whose token went on by events that change nothing of what it holds stays ready
 pub kept_ready : (P : Event → Type 0) → ((event : Event) → P event → KeepsRows event)

@@ -5,7 +5,7 @@ use Rattle.std.specs.List.{list_any}
 use Rattle.std.proofs.lemmas.Bool.Decides.{eqb_tells}
 use Rattle.std.proofs.lemmas.List.Elements.{filter-append}
 use Rattle.ist_core.specs.declared.events.Event.{Event}
-use Rattle.ist_core.specs.declared.events.Event.TheVariants.{Enter, Reserve, Install, Okay, Decide, Resolve, Count, Mark, Pass, Finish, Root, Draw, Place, Lose}
+use Rattle.ist_core.specs.declared.events.Event.TheVariants.{Reserve, Install, Resolve, Root, Place, Lose}
 use Rattle.ist_core.specs.declared.lists.HeldRow.{HeldRow}
 use Rattle.ist_core.specs.declared.pairs.Pair.{Pair}
 use Rattle.ist_core.specs.After.{after}
@@ -64,19 +64,12 @@ filter_swap p q (x ∷ xs) = at (filter_swap p q xs) (p x) refl (q x) refl
 -- an event that keeps rows leaves all that is held
 held_kept : (t : Snapshot) (event : Event) → KeepsRows event → (after t event).held ≡ t.held
 held_kept t (Resolve caller change) is = held-resolved t (as_change (t.pieces change))
-held_kept t (Enter caller) is = refl
-held_kept t (Okay caller change) is = refl
-held_kept t (Decide caller change said) is = refl
-held_kept t (Count caller node) is = refl
-held_kept t (Mark caller node) is = refl
-held_kept t (Pass caller node i word) is = refl
-held_kept t (Finish caller node keys) is = refl
-held_kept t (Draw caller rebuild part) is = refl
 held_kept t (Reserve caller base size) is = absurd is
 held_kept t (Install caller change rows) is = absurd is
 held_kept t (Root caller rebuild word rows) is = absurd is
 held_kept t (Place caller rebuild i word rows) is = absurd is
 held_kept t (Lose caller bases) is = absurd is
+held_kept t _ is = refl
 
 -- an event of a caller changes what it holds just so
 pub held_by_own : (pairs : List Pair) (words : ℕ) (log : Log) (number : ℕ) (event : Event)
@@ -116,14 +109,7 @@ held_by_own pairs words log number event mine = at event mine
         ap (filter (λ (h : HeldRow). h.caller == number))
         (held-resolved (state_of pairs words log)
         (as_change ((state_of pairs words log).pieces change)))
-    at (Enter caller) is = refl
-    at (Okay caller change) is = refl
-    at (Decide caller change said) is = refl
-    at (Count caller node) is = refl
-    at (Mark caller node) is = refl
-    at (Pass caller node i word) is = refl
-    at (Finish caller node keys) is = refl
-    at (Draw caller rebuild part) is = refl
+    at _ is = refl
 
 -- an event that gives rows up takes just these away
 pub held_behind-given : (event : Event) (bases : List ℕ) (held : List HeldRow)
@@ -132,16 +118,7 @@ held_behind-given (Install caller change rows) bases held is = ap (λ b. without
 held_behind-given (Root caller rebuild word rows) bases held is = ap (λ b. without b held) is
 held_behind-given (Place caller rebuild i word rows) bases held is = ap (λ b. without b held) is
 held_behind-given (Lose caller lost) bases held is = ap (λ b. without b held) is
-held_behind-given (Reserve caller base size) bases held is = absurd is
-held_behind-given (Resolve caller change) bases held is = absurd is
-held_behind-given (Enter caller) bases held is = absurd is
-held_behind-given (Okay caller change) bases held is = absurd is
-held_behind-given (Decide caller change said) bases held is = absurd is
-held_behind-given (Count caller node) bases held is = absurd is
-held_behind-given (Mark caller node) bases held is = absurd is
-held_behind-given (Pass caller node i word) bases held is = absurd is
-held_behind-given (Finish caller node keys) bases held is = absurd is
-held_behind-given (Draw caller rebuild part) bases held is = absurd is
+held_behind-given _ bases held is = absurd is
 
 -- ---- many events
 

@@ -7,7 +7,7 @@ use Rattle.std.proofs.lemmas.List.{map-append}
 use Rattle.ist_core.specs.declared.pairs.Pair.{Pair}
 use Rattle.ist_core.specs.declared.lists.HeldRow.{HeldRow}
 use Rattle.ist_core.specs.declared.events.Event.{Event}
-use Rattle.ist_core.specs.declared.events.Event.TheVariants.{Enter, Reserve, Install, Okay, Decide, Resolve, Count, Mark, Pass, Finish, Root, Draw, Place, Lose}
+use Rattle.ist_core.specs.declared.events.Event.TheVariants.{Reserve, Install, Resolve, Root, Place, Lose}
 use Rattle.ist_core.specs.Elements.{Among, Distinct}
 use Rattle.ist_core.specs.Pieces.{as_change}
 use Rattle.ist_core.specs.Snapshots.{Snapshot, bases_of, without}
@@ -134,14 +134,7 @@ held_distinct pairs words (event ∷ log) enabled =
     at before (Resolve caller change) can =
         subst P (sym (held-resolved (state_of pairs words log)
         (as_change ((state_of pairs words log).pieces change)))) before
-    at before (Enter caller) can = before
-    at before (Okay caller change) can = before
-    at before (Decide caller change said) can = before
-    at before (Count caller node) can = before
-    at before (Mark caller node) can = before
-    at before (Pass caller node i word) can = before
-    at before (Finish caller node keys) can = before
-    at before (Draw caller rebuild part) can = before
+    at before _ can = before
 
 -- what others publish or lose is not a row of this caller
 others_without : (t : Snapshot) (number : ℕ) (bases : List ℕ)
@@ -224,14 +217,7 @@ held_by_step pairs words log event number enabled other = at event enabled.1 oth
         ap (filter (λ (h : HeldRow). h.caller == number))
         (held-resolved (state_of pairs words log)
         (as_change ((state_of pairs words log).pieces change)))
-    at (Enter caller) can differ = refl
-    at (Okay caller change) can differ = refl
-    at (Decide caller change said) can differ = refl
-    at (Count caller node) can differ = refl
-    at (Mark caller node) can differ = refl
-    at (Pass caller node i word) can differ = refl
-    at (Finish caller node keys) can differ = refl
-    at (Draw caller rebuild part) can differ = refl
+    at _ can differ = refl
 
 -- what a caller holds stays, along a log that goes on by others
 pub held_by_later : (pairs : List Pair) (words : ℕ) (number : ℕ) (old log : Log)

@@ -10,6 +10,7 @@ pub mod BlockLemmas
 pub mod TakingLemmas
 pub mod BuildingCallLemmas
 pub mod HeldBehindLemmas
+pub mod SpareTakenLemmas
 pub mod GivenRowsLemmas
 pub mod CallerLawLemmas
 pub mod DropLemmas

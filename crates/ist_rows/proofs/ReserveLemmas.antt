@@ -1,10 +1,13 @@
--- Reserving: when it may be made. Serves `take`.
-use Rattle.std.proofs.Common.{◌≡◌, ◌≢◌, ℕ, ◌+◌, ◌-◌, ◌<◌, ◌≤◌, [], ◌∷◌, ◌++◌, refl, sym, ap, ap₂, subst, arith}
+-- Reserving: when it may be made, and what it leaves. Serves `reserving`.
+use Rattle.std.proofs.Common.{◌≡◌, ◌≢◌, ℕ, ◌+◌, ◌-◌, ◌<◌, ◌≤◌, [], ◌∷◌, ◌++◌, refl, sym, ap, ap₂, ◌∙◌, subst, arith}
+use Rattle.ist_core.specs.declared.events.Event.{Event}
 use Rattle.ist_core.specs.declared.events.Event.TheVariants.{Reserve}
 use Rattle.ist_core.specs.RowLayout.{next_place, place_limit}
 use Rattle.ist_core.specs.Snapshots.{Snapshot, sizes_held}
 use Rattle.ist_core.specs.Fairness.{IsFair}
-use Rattle.ist_core.specs.Lawful.{state_of}
+use Rattle.ist_core.specs.Authors.{Later}
+use Rattle.ist_core.specs.Lawful.{Lawful, state_of}
+use Rattle.ist_core.specs.Logs.{Log}
 use Rattle.ist_core.proofs.RoomLemmas.{next_within, words_same}
 use Rattle.ist_rule.specs.declared.view.View.{View}
 use Rattle.ist_core.specs.declared.events.Who.TheVariants.{Caller}
@@ -12,14 +15,55 @@ use Rattle.ist_core.specs.Shown.{shown_next}
 use Rattle.ist_rule.specs.Rule.{IsSound}
 use Rattle.ist_rule.specs.Learning.{now, GoesOnTo, Looked}
 use Rattle.ist_rule.specs.Conditions.{CanExchange}
-use Rattle.ist_rule.proofs.GoingOnLemmas.{callers_later, goes_on_more, goes_on_same, looked_goes_on, may_come_before}
+use Rattle.ist_rule.specs.Going.{WentOn}
+use Rattle.ist_rule.proofs.GoingOnLemmas.{callers_later, goes_on_more, goes_on_same, goes_on_who, looked_goes_on, may_come_before}
 use Rattle.ist_rule.proofs.HeldBetweenLemmas.{next_between}
-use Rattle.ist_rule.proofs.LaterLemmas.{later-goes_on}
-use Rattle.ist_rule.proofs.WentOnLemmas.{goes_on_lawful, goes_on_now}
+use Rattle.ist_rule.proofs.LaterLemmas.{later-goes_on, later_more}
+use Rattle.ist_rule.proofs.WentOnLemmas.{goes_on_lawful, goes_on_now, goes_on_went, logged_went, went_more}
 use Rattle.ist_rule.specs.Watching.{number_of}
 use Rattle.ist_rows.specs.Fairly.{MayTake, reserving}
-use Rattle.ist_rows.specs.Rows.{HasReadNext}
+use Rattle.ist_rows.specs.Rows.{HasReadNext, Reserved}
 use Rattle.ist_rows.proofs.EnterLemmas.{shown_next_is}
+
+-- ---- what a reserving leaves
+
+-- the log after a reserving, as a list of enabled events, and the place of the caller before
+pub record Took (v : View) (number base size : ℕ) (w : View) : Type 0 where
+  pub before : Log
+  pub lawful : Lawful v.start v.words (Reserve number base size ∷ before)
+  pub later : Later v.who v.log before
+  pub now_is : now w ≡ state_of v.start v.words (Reserve number base size ∷ before)
+  pub who_is : w.who ≡ v.who
+
+-- a token that reserved a row has such a log
+pub took : (v : View) (number base size : ℕ) (w : View) → Reserved v number base size w
+    → Took v number base size w
+took v number base size w r =
+    let l = r.reserved in
+    let event = Reserve number base size in
+    let start_is : w.start ≡ v.start = ap (λ x. x.start) l.view ∙ ap (λ x. x.start) r.seen.same in
+    let words_is : w.words ≡ v.words = ap (λ x. x.words) l.view ∙ ap (λ x. x.words) r.seen.same in
+    let log_is : w.log ≡ event ∷ l.before = ap (λ x. x.log) l.view in
+    record {
+      before = l.before;
+      lawful = subst (λ p. Lawful p v.words (event ∷ l.before)) start_is
+          (subst (λ n. Lawful w.start n (event ∷ l.before)) words_is
+          (subst (Lawful w.start w.words) log_is l.sound.lawful));
+      later = later_more r.seen.later (subst (λ x. Later x r.before.log l.before)
+          (goes_on_who r.seen) l.later);
+      now_is = ap₂ (λ p n. state_of p n w.log) start_is words_is ∙ ap (state_of v.start v.words)
+          log_is;
+      who_is = ap (λ x. x.who) l.view ∙ goes_on_who r.seen;
+    }
+
+-- so it went on by the reserving, if P is true of that
+pub reserved_went : (P : Event → Type 0) (v : View) (number base size : ℕ) (w : View)
+    → Reserved v number base size w → P (Reserve number base size) → WentOn P v w
+reserved_went P v number base size w r is =
+    went_more P v r.before w (goes_on_went P v r.before r.seen)
+    (logged_went P r.before (Reserve number base size) w r.reserved is refl)
+
+-- ---- when a row may be reserved
 
 -- a caller may reserve what is fair and fits, whatever others do meanwhile
 pub can_reserve : (v : View) (number old size : ℕ) → IsSound v → v.who ≡ Caller number

@@ -83,27 +83,22 @@ module _ (pairs : List Pair) (words : ℕ) (number : ℕ) (calls : List Call) wh
       → (h : CanInstall (start pairs words) log number base rows)
       → MayBring pairs words log number calls command h.change) where
     -- what is undecided after the event was so, or is installed now, as it may be
-    abbrev Comes : ℕ → Type 0
-    Comes base =
-        (u : IsUndecided (state_of pairs words (event ∷ log)) number base)
-        → ((w : IsUndecided (state_of pairs words log) number base)
+    abbrev ComesAs : (base : ℕ) → IsUndecided (state_of pairs words (event ∷ log)) number base
+        → Type 0
+    ComesAs base u =
+        ((w : IsUndecided (state_of pairs words log) number base)
         × (command_of w.change ≡ command_of u.change))
         ⊎ ((m : ChangeRow) × MayBring pairs words log number calls command m × IsUpdate m.kind
         × (command_of m ≡ command_of u.change)
         × ((other : ℕ) → IsUndecided (state_of pairs words (event ∷ log)) number other
         → (base ≡ other) ⊎ IsUndecided (state_of pairs words log) number other))
 
-    comes_from : (base : ℕ) → Comes base
+    comes_from : (base : ℕ) (u : IsUndecided (state_of pairs words (event ∷ log)) number base)
+        → ComesAs base u
     comes_from base u = at (undecided_comes pairs words log event enabled number base u) refl
       where
         at : {e : Event} → UndecidedComes (start pairs words) log number base (command_of u.change)
-            e → event ≡ e
-            → ((w : IsUndecided (state_of pairs words log) number base)
-            × (command_of w.change ≡ command_of u.change))
-            ⊎ ((m : ChangeRow) × MayBring pairs words log number calls command m × IsUpdate m.kind
-            × (command_of m ≡ command_of u.change)
-            × ((other : ℕ) → IsUndecided (state_of pairs words (event ∷ log)) number other
-            → (base ≡ other) ⊎ IsUndecided (state_of pairs words log) number other))
+            e → event ≡ e → ComesAs base u
         at (was_undecided w same) is = inl (w, same)
         at (now_installed {rows = rows} h up same) is =
             inr (

@@ -15,7 +15,7 @@ use Rattle.ist_core.specs.Installing.{CanInstall, pair_over, pair_row, FitsKind,
 use Rattle.ist_core.specs.Enabled.{Enabled}
 use Rattle.ist_core.proofs.MoveLemmas.{HeldLieApart}
 use Rattle.ist_core.proofs.RowLemmas.{with_inners-some}
-use Rattle.ist_core.proofs.FreshLemmas.{IsFresh}
+use Rattle.ist_core.proofs.FreshLemmas.{IsPublishedWith}
 use Rattle.ist_core.proofs.BornLemmas.{Born, by_install, by_root, by_place, Comes, from_old, from_born, comes}
 
 -- words that are read as an inner row are no change
@@ -40,7 +40,7 @@ pair_no_change key base other_key other =
 -- a row that an Install publishes with the change's row is not a change
 fresh_no_change : (first : Snapshot) (log : Log) (change : ChangeRow) (fresh : List Row)
     (fits : FitsKind first log change fresh) (base : ℕ) (p : Piece)
-    → IsFresh first log change fresh fits base p → NoChange p
+    → IsPublishedWith first log change fresh fits base p → NoChange p
 fresh_no_change first log change fresh (a_put h) base p f = subst NoChange (sym f.1) tt
 fresh_no_change first log change fresh (a_pair h) base p (inl f) =
     subst NoChange (sym f.1) (pair_no_change change.key h.leaf h.other_key h.other)

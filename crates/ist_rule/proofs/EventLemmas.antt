@@ -17,39 +17,16 @@ use Rattle.ist_rule.specs.Learning.{made_behind}
 -- an Enter adds a caller, and no other event does
 pub callers-state : (first : Snapshot) (log : Log) (event : Event)
     → (state first (event ∷ log)).callers ≡ made_behind event (state first log).callers
-callers-state first log (Enter caller) = refl
-callers-state first log (Reserve caller base size) = refl
 callers-state first log (Install caller change rows) =
     callers-installed (state first log) change rows
-callers-state first log (Okay caller change) = refl
-callers-state first log (Decide caller change said) = refl
 callers-state first log (Resolve caller change) =
     callers-resolved (state first log) (as_change ((state first log).pieces change))
-callers-state first log (Count caller node) = refl
-callers-state first log (Mark caller node) = refl
-callers-state first log (Pass caller node i word) = refl
-callers-state first log (Finish caller node keys) = refl
-callers-state first log (Root caller rebuild word rows) = refl
-callers-state first log (Draw caller rebuild part) = refl
-callers-state first log (Place caller rebuild i word rows) = refl
-callers-state first log (Lose caller bases) = refl
+callers-state first log _ = refl
 
 -- the number of callers never falls
 pub made_behind-grows : (event : Event) (made : ℕ) → made ≤ made_behind event made
 made_behind-grows (Enter caller) made = omega arith
-made_behind-grows (Reserve caller base size) made = omega arith
-made_behind-grows (Install caller change rows) made = omega arith
-made_behind-grows (Okay caller change) made = omega arith
-made_behind-grows (Decide caller change said) made = omega arith
-made_behind-grows (Resolve caller change) made = omega arith
-made_behind-grows (Count caller node) made = omega arith
-made_behind-grows (Mark caller node) made = omega arith
-made_behind-grows (Pass caller node i word) made = omega arith
-made_behind-grows (Finish caller node keys) made = omega arith
-made_behind-grows (Root caller rebuild word rows) made = omega arith
-made_behind-grows (Draw caller rebuild part) made = omega arith
-made_behind-grows (Place caller rebuild i word rows) made = omega arith
-made_behind-grows (Lose caller bases) made = omega arith
+made_behind-grows _ made = omega arith
 
 -- an event is an Enter, which is the maker's, or is a caller's and adds no caller
 pub data Authored (event : Event) : Type 0 where
@@ -102,27 +79,17 @@ pub record Published (t : Snapshot) (event : Event) : Type 0 where
   pub held : HoldsRows t caller (published_by event)
 
 -- an event publishes no row, or its author holds the rows that it publishes
-pub data Publishes (t : Snapshot) (event : Event) : Type 0 where
-  publishes_none : published_by event ≡ [] → Publishes t event
-  publishes_held : Published t event → Publishes t event
+pub data PublishesHeld (t : Snapshot) (event : Event) : Type 0 where
+  publishes_none : published_by event ≡ [] → PublishesHeld t event
+  publishes_held : Published t event → PublishesHeld t event
 
 -- each enabled event publishes no row, or its author holds the rows that it publishes
 pub publishes : (first : Snapshot) (log : Log) (event : Event) → Enabled first log event
-    → Publishes (state first log) event
+    → PublishesHeld (state first log) event
 publishes first log (Install caller change rows) h =
     publishes_held record { caller = caller; author_is = refl; held = h.held }
 publishes first log (Root caller rebuild word rows) h =
     publishes_held record { caller = caller; author_is = refl; held = h.held }
 publishes first log (Place caller rebuild i word rows) h =
     publishes_held record { caller = caller; author_is = refl; held = h.held }
-publishes first log (Enter caller) h = publishes_none refl
-publishes first log (Reserve caller base size) h = publishes_none refl
-publishes first log (Okay caller change) h = publishes_none refl
-publishes first log (Decide caller change said) h = publishes_none refl
-publishes first log (Resolve caller change) h = publishes_none refl
-publishes first log (Count caller node) h = publishes_none refl
-publishes first log (Mark caller node) h = publishes_none refl
-publishes first log (Pass caller node i word) h = publishes_none refl
-publishes first log (Finish caller node keys) h = publishes_none refl
-publishes first log (Draw caller rebuild part) h = publishes_none refl
-publishes first log (Lose caller bases) h = publishes_none refl
+publishes first log _ h = publishes_none refl

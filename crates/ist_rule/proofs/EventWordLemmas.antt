@@ -4,7 +4,7 @@ use Rattle.std.proofs.Common.{◌≡◌, ◌≢◌, ℕ, ◌+◌, ◌≤◌, ◌
 use Rattle.ist_core.specs.declared.pairs.Pair.{Pair}
 use Rattle.ist_core.specs.declared.lists.Row.{Row}
 use Rattle.ist_core.specs.declared.events.Event.{Event}
-use Rattle.ist_core.specs.declared.events.Event.TheVariants.{Enter, Reserve, Install, Okay, Decide, Resolve, Count, Mark, Pass, Finish, Root, Draw, Place, Lose}
+use Rattle.ist_core.specs.declared.events.Event.TheVariants.{Lose}
 use Rattle.ist_core.specs.RowLayout.{next_place}
 use Rattle.ist_core.specs.Elements.{Among}
 use Rattle.ist_core.specs.Snapshots.{Snapshot, HoldsRows}
@@ -26,7 +26,7 @@ use Rattle.ist_core.specs.Authors.{whose}
 use Rattle.ist_rule.specs.Rule.{own_at, Owns}
 use Rattle.ist_rule.specs.Conditions.{StoredAll}
 use Rattle.ist_rule.proofs.ShownLemmas.{IsLoose, held_loose, touch_tight}
-use Rattle.ist_rule.proofs.EventLemmas.{Publishes, publishes_none, publishes_held, publishes}
+use Rattle.ist_rule.proofs.EventLemmas.{PublishesHeld, publishes_none, publishes_held, publishes}
 
 -- a word that no touch is at stays
 touched_other : (words : List ℕ) (o : Option Touch) (place : ℕ)
@@ -39,19 +39,7 @@ touched_other words (Some touch) place out =
 -- an event is a Lose, which touches no word, or isn't a Lose
 no_lose : (t : Snapshot) (event : Event) → (touch_of t event ≡ None) ⊎ IsNoLose event
 no_lose t (Lose caller bases) = inl refl
-no_lose t (Enter caller) = inr tt
-no_lose t (Reserve caller base size) = inr tt
-no_lose t (Install caller change rows) = inr tt
-no_lose t (Okay caller change) = inr tt
-no_lose t (Decide caller change said) = inr tt
-no_lose t (Resolve caller change) = inr tt
-no_lose t (Count caller node) = inr tt
-no_lose t (Mark caller node) = inr tt
-no_lose t (Pass caller node i word) = inr tt
-no_lose t (Finish caller node keys) = inr tt
-no_lose t (Root caller rebuild word rows) = inr tt
-no_lose t (Draw caller rebuild part) = inr tt
-no_lose t (Place caller rebuild i word rows) = inr tt
+no_lose t _ = inr tt
 
 module _ (pairs : List Pair) (words : ℕ) (opens : CanOpen pairs words) (log : Log) (event : Event)
     (enabled : EachEnabled (start pairs words) (event ∷ log))
@@ -145,7 +133,7 @@ module _ (pairs : List Pair) (words : ℕ) (opens : CanOpen pairs words) (log : 
       image_step pairs words opens log event enabled image is
       (at (publishes (start pairs words) log event enabled.1))
     where
-      at : Publishes before event → RowsStand image (published_by event)
+      at : PublishesHeld before event → RowsStand image (published_by event)
       at (publishes_none e) = subst (RowsStand image) (sym e) tt
       at (publishes_held p) = rows_stand v p.caller (sym mine ∙ p.author_is) owns
           (published_by event) p.held stored

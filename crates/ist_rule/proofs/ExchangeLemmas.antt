@@ -24,7 +24,7 @@ use Rattle.ist_rule.specs.Conditions.{MayCome, ComesAt, IsKnown, CanExchange, Ca
 use Rattle.ist_core.proofs.ShownLemmas.{image_shows}
 use Rattle.ist_rule.proofs.FrameLemmas.{Table}
 use Rattle.ist_rule.proofs.SoundViewLemmas.{as_view, as_table}
-use Rattle.ist_rule.proofs.LookLemmas.{Goes, sees}
+use Rattle.ist_rule.proofs.LookLemmas.{GoesAtStep, sees}
 use Rattle.ist_rule.proofs.LogLemmas.{logs}
 
 -- what the image shows at a place is the word there
@@ -87,7 +87,7 @@ exchange_moves k slots id me place old new event then live can told s r _ mine f
     let x : ℕ = slice_index s.words place in
     let v = me.0 in
     let f = r.seats id v mine live in
-    exchanged x old new (λ y. Goes k s place id me then y)
+    exchanged x old new (λ y. GoesAtStep k s place id me then y)
     (λ hit.
     let it = comes_here k s r v f event place old new
     (can.comes r.log (may_come k s r v f)
@@ -111,7 +111,7 @@ add_moves k slots id me place named then live can told s r _ mine fits =
     let shows = shown_there k s r v place f can.known in
     let it = comes_here k s r v f (named x) place x (x + 1)
     (can.comes r.log (may_come k s r v f) x shows) in
-    subst (λ y. Goes k s place id me then y)
+    subst (λ y. GoesAtStep k s place id me then y)
     (sym (mod-eq_of_lt (can.fits r.log (may_come k s r v f) x shows)))
     (logs k s r id me live mine (named x) (can.make x) it.0 place x (x + 1) it.1 then
     (λ l at_log. told x (logging v r.log (named x)) record {

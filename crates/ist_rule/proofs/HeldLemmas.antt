@@ -5,7 +5,7 @@ use Rattle.ist_core.specs.declared.lists.Row.{Row}
 use Rattle.ist_core.specs.declared.lists.HeldRow.{HeldRow}
 use Rattle.ist_core.specs.declared.states.ChangeRow.{ChangeRow}
 use Rattle.ist_core.specs.declared.events.Event.{Event}
-use Rattle.ist_core.specs.declared.events.Event.TheVariants.{Enter, Reserve, Install, Okay, Decide, Resolve, Count, Mark, Pass, Finish, Root, Draw, Place, Lose}
+use Rattle.ist_core.specs.declared.events.Event.TheVariants.{Reserve, Install, Resolve, Root, Place, Lose}
 use Rattle.ist_core.specs.Elements.{Among, Each}
 use Rattle.ist_core.specs.Pieces.{Change}
 use Rattle.ist_core.specs.Snapshots.{Snapshot, bases_of, HoldsRow, HoldsRows}
@@ -99,14 +99,7 @@ held_by_others first log (Reserve caller base size) can s h i other =
 held_by_others first log (Resolve caller change) can s h i other =
     subst (Among h) (sym (held-resolved (state first log)
     (as_change ((state first log).pieces change)))) i
-held_by_others first log (Enter caller) can s h i other = i
-held_by_others first log (Okay caller change) can s h i other = i
-held_by_others first log (Decide caller change said) can s h i other = i
-held_by_others first log (Count caller node) can s h i other = i
-held_by_others first log (Mark caller node) can s h i other = i
-held_by_others first log (Pass caller node slot word) can s h i other = i
-held_by_others first log (Finish caller node keys) can s h i other = i
-held_by_others first log (Draw caller rebuild part) can s h i other = i
+held_by_others first log _ can s h i other = i
 
 -- a held row stays along a log that goes on by others
 pub held_later : (pairs : List Pair) (words : ℕ) (h : HeldRow) (old log : Log)

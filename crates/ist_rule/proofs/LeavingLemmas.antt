@@ -23,7 +23,7 @@ use Rattle.ist_rule.specs.Learning.{logging_load, LoggedLoad, Naming, LoadedAs, 
 use Rattle.ist_rule.specs.Conditions.{CanMake, LeavesAt, CanLoadAs, CanExchangeOrLose}
 use Rattle.ist_rule.proofs.FrameLemmas.{Table}
 use Rattle.ist_rule.proofs.SoundViewLemmas.{as_table}
-use Rattle.ist_rule.proofs.LookLemmas.{Goes, sees}
+use Rattle.ist_rule.proofs.LookLemmas.{GoesAtStep, sees}
 use Rattle.ist_rule.proofs.LogLemmas.{sound_now, kept, logs}
 use Rattle.ist_rule.proofs.ExchangeLemmas.{shown_here, shown_there, comes_here, may_come}
 
@@ -84,7 +84,7 @@ module _ (k : About) (s : Table) (r : Kept k s) (id : ℕ) (me : Seated) (live :
   pub stays : (tells : ℕ → Seated → Type 0)
       → ((l : LoggedLoad me.0 event place (slice_index s.words place) u) → l.before ≡ r.log
       → tells (slice_index s.words place) (u, me.1))
-      → Goes k s place id me tells (slice_index s.words place)
+      → GoesAtStep k s place id me tells (slice_index s.words place)
   stays tells told = (
     u,
     keeps,
@@ -108,7 +108,7 @@ loads_as_moves k slots id me place named live can s r _ mine fits =
     tells = loads_as named (step slots place 0 0 maybe.none) me
 
     at : (o : Option Event) → named r.log (slice_index s.words place) ≡ o
-        → Goes k s place id me tells (slice_index s.words place)
+        → GoesAtStep k s place id me tells (slice_index s.words place)
     at (Some event) e =
         let f = r.seats id me.0 mine live in
         let it = can.comes r.log (may_come k s r me.0 f) (slice_index s.words place)
@@ -134,7 +134,7 @@ exchanges_or_loses_moves k slots id me place old new events live can s r _ mine 
     let shown = shown_there k s r v place f can.hit.known in
     let tells : ℕ → Seated → Type 0 =
     exchanges_or_loses events (step slots place old new maybe.none) me in
-    exchanged x old new (λ y. Goes k s place id me tells y)
+    exchanged x old new (λ y. GoesAtStep k s place id me tells y)
     (λ hit.
     let it = comes_here k s r v f events.0 place old new
     (can.hit.comes r.log (may_come k s r v f)

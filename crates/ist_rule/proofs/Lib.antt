@@ -8,6 +8,7 @@ pub mod UndecidedLemmas
 pub mod CallLemmas
 pub mod EventWordLemmas
 pub mod FitLemmas
+pub mod ViewPartLemmas
 pub mod FrameLemmas
 pub mod SoundViewLemmas
 pub mod LookLemmas

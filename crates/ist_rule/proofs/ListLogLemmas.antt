@@ -25,7 +25,7 @@ use Rattle.ist_rule.specs.Conditions.{CanMake}
 use Rattle.ist_rule.specs.Several.{with_events, logging_all, LoggedAll, ExchangedAll, ComeAt, CanExchangeAll}
 use Rattle.ist_rule.proofs.FrameLemmas.{Table}
 use Rattle.ist_rule.proofs.SoundViewLemmas.{as_table}
-use Rattle.ist_rule.proofs.LookLemmas.{Goes, sees}
+use Rattle.ist_rule.proofs.LookLemmas.{GoesAtStep, sees}
 use Rattle.ist_rule.proofs.LogLemmas.{sound_now, kept, kept_log}
 use Rattle.ist_rule.proofs.ExchangeLemmas.{shown_there, may_come}
 
@@ -115,7 +115,7 @@ logs_all : (k : About) (s : Table) (r : Kept k s) (id : ℕ) (me : Seated) → m
     → (tells : ℕ → Seated → Type 0)
     → (LoggedAll me.0 events (logging_all me.0 r.log events)
     → tells (slice_index s.words place) (logging_all me.0 r.log events, me.1))
-    → Goes k s place id me tells left
+    → GoesAtStep k s place id me tells left
 logs_all k s r id me live mine [] one make place found left come tells told =
     absurd (omega arith)
 logs_all k s r id me live mine (event ∷ more) one make place found left come tells told =
@@ -143,7 +143,7 @@ exchanges_all_moves k slots id me place old new events live can s r _ mine fits 
     let f = r.seats id v mine live in
     let tells : ℕ → Seated → Type 0 =
     exchanges_all events (step slots place old new maybe.none) me in
-    exchanged x old new (λ y. Goes k s place id me tells y)
+    exchanged x old new (λ y. GoesAtStep k s place id me tells y)
     (λ hit.
     let come = as_table k r.log s.words v f
     (λ p n. ComeAt p n r.log events place old new)

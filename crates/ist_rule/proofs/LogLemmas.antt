@@ -23,9 +23,10 @@ use Rattle.ist_rule.proofs.EventLemmas.{author_named}
 use Rattle.ist_core.proofs.PrefixLemmas.{goes_on_by}
 use Rattle.ist_rule.proofs.EventWordLemmas.{owns_behind, image_behind}
 use Rattle.ist_rule.proofs.FitLemmas.{well_made_on, true_of_others, true_of_own}
+use Rattle.ist_rule.proofs.ViewPartLemmas.{well_made_but, true_but}
 use Rattle.ist_rule.proofs.FrameLemmas.{Table, moved}
 use Rattle.ist_rule.proofs.SoundViewLemmas.{sound_of}
-use Rattle.ist_rule.proofs.LookLemmas.{Goes}
+use Rattle.ist_rule.proofs.LookLemmas.{GoesAtStep}
 
 -- an event of the seat, enabled after the longest log, and the words that its step leaves; the view
 -- counts this many loads
@@ -96,28 +97,9 @@ module _ (k : About) (s : Table) (r : Kept k s) (id : ℕ) (me : Seated) (live :
         words_is = f.words_is;
         later = no_more;
         owns = owns_now v f;
-        well_made = record {
-          stands = m.stands;
-          stamps = m.stamps;
-          recalls = m.recalls;
-          in_order = m.in_order;
-          since = m.since;
-          olds = m.olds;
-          taken_stand = m.taken_stand;
-          taken_seen = m.taken_seen;
-          taken_once = m.taken_once;
-          taken_given = m.taken_given;
-          maker_takes = m.maker_takes;
-          in_none = m.in_none;
-        };
-        is_true = record {
-          low = t.low;
-          made = t.made;
-          idle = t.idle;
-          fresh = t.fresh;
-          call = t.call;
-          taken = t.taken;
-        };
+        well_made = well_made_but k.start.value.items k.words m refl m.stands m.stamps m.recalls
+            m.in_order m.since m.taken_given m.in_none;
+        is_true = true_but k.start.value.items k.words log' t refl t.call;
       }
 
   -- the view after the event is sound
@@ -162,7 +144,7 @@ module _ (k : About) (s : Table) (r : Kept k s) (id : ℕ) (me : Seated) (live :
   pub logs : (tells : ℕ → Seated → Type 0)
       → ((l : Logged me.0 event (logging me.0 r.log event)) → l.before ≡ r.log
       → tells (slice_index s.words place) (logging me.0 r.log event, me.1))
-      → Goes k s place id me tells left
+      → GoesAtStep k s place id me tells left
   unfolding logged
   logs tells told = (
     logging me.0 r.log event,

@@ -14,7 +14,7 @@ use Rattle.ist_rule.specs.declared.view.View.{View}
 use Rattle.ist_core.specs.declared.loads.Load.{Load}
 use Rattle.ist_rule.specs.declared.view.About.{About}
 use Rattle.ist_core.specs.declared.events.Who.TheVariants.{Caller, Spent}
-use Rattle.ist_core.specs.Authors.{no_more, Later}
+use Rattle.ist_core.specs.Authors.{Later}
 use Rattle.ist_core.specs.Shown.{IsShown}
 use Rattle.ist_rule.specs.Rule.{own_at, Recalls, IsRetired, HasView, Fits, Kept, IsSound}
 use Rattle.ist_rule.specs.Playing.{Seated, looks}
@@ -22,13 +22,14 @@ use Rattle.ist_rule.specs.Learning.{seeing, Looked, Turned}
 use Rattle.ist_core.proofs.ShownLemmas.{image_shows}
 use Rattle.ist_core.proofs.PrefixLemmas.{goes_on_length, goes_on_by}
 use Rattle.ist_rule.proofs.FitLemmas.{each_map, well_made_on}
+use Rattle.ist_rule.proofs.ViewPartLemmas.{fits_loads}
 use Rattle.ist_rule.proofs.FrameLemmas.{Table, moved}
 use Rattle.ist_rule.proofs.SoundViewLemmas.{as_view, sound_of}
 
 -- what to show at a step that finds a word at the place and leaves y: a new view under the rule,
 -- and what it learns
-abbrev pub Goes : About → Table → ℕ → ℕ → Seated → (ℕ → Seated → Type 0) → ℕ → Type 0
-Goes k s place id me then y =
+abbrev pub GoesAtStep : About → Table → ℕ → ℕ → Seated → (ℕ → Seated → Type 0) → ℕ → Type 0
+GoesAtStep k s place id me then y =
     (w : View) × (a : Act (Unit {0})) × Valid s.homes me.1 a
     × Kept k (stepped s place y id me.1 w a)
     × then (slice_index s.words place) (w, carried_after me.1 a)
@@ -79,45 +80,9 @@ module _ (k : About) (s : Table) (r : Kept k s) (v : View) (f : Fits k r.log s.w
     fits_seeing =
         let m = well_made_on k.start.value.items k.words v r.log (goes_on_by f.later)
         f.well_made in
-        let t = f.is_true in
-        record {
-          start_is = f.start_is;
-          words_is = f.words_is;
-          later = no_more;
-          owns = f.owns;
-          well_made = record {
-            stands = m.stands;
-            stamps = m.stamps;
-            recalls = (
-              record {
-                prefix = r.log;
-                goes_on = same_log;
-                length_is = refl;
-                stood =
-                    stood;
-              },
-              m.recalls,
-            );
-            in_order = (m.since, lengths v.loads.list m.recalls, m.in_order);
-            since = m.since;
-            olds = m.olds;
-            taken_stand = m.taken_stand;
-            taken_seen = m.taken_seen;
-            taken_once = m.taken_once;
-            taken_given = m.taken_given;
-            maker_takes = m.maker_takes;
-            in_none = m.in_none;
-          };
-          is_true = record {
-            low = t.low;
-            made = t.made;
-            idle = t.idle;
-            fresh = t.fresh;
-            call =
-                t.call;
-            taken = t.taken;
-          };
-        }
+        fits_loads k r.log s.words v w.loads w.loaded v.searches f
+        (record { prefix = r.log; goes_on = same_log; length_is = refl; stood = stood }, m.recalls)
+        (m.since, lengths v.loads.list m.recalls, m.in_order) m.since
 
     -- what the load learns
     pub looked : v.who ≢ Spent → word < 2 ^ 64 → Looked v place word w
@@ -144,7 +109,7 @@ pub sees : (k : About) (s : Table) (r : Kept k s) (id : ℕ) (me : Seated) (plac
     → (Looked me.0 place (slice_index s.words place)
     (seeing me.0 r.log place (slice_index s.words place))
     → then (slice_index s.words place) (seeing me.0 r.log place (slice_index s.words place), me.1))
-    → Goes k s place id me then (slice_index s.words place)
+    → GoesAtStep k s place id me then (slice_index s.words place)
 sees k s r id me place then live mine fits told =
     let f = r.seats id me.0 mine live in (
       w k s r me.0 f place,

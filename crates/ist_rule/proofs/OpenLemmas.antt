@@ -15,6 +15,7 @@ use Rattle.ist_core.specs.declared.events.Who.TheVariants.{Maker, Spent}
 use Rattle.ist_core.specs.Authors.{no_more}
 use Rattle.ist_rule.specs.Rule.{KeepsCalls, its_own, noted, IsWellMade, IsTrueIn, IsRetired, Fits, Kept, opened_view, first_view}
 use Rattle.ist_rule.specs.Seating.{IsLast}
+use Rattle.ist_rule.proofs.ViewPartLemmas.{well_made_plain}
 use Rattle.ist_rule.proofs.WhoLemmas.{maker_caller}
 use Rattle.ist_rule.proofs.SoundViewLemmas.{as_view}
 
@@ -25,20 +26,8 @@ maker_keeps number _ noted e = absurd (cc)
 -- the first view by itself
 first_well_made : (pairs : List Pair) (words : ℕ) → IsWellMade pairs words (opened_view pairs words)
 first_well_made pairs words =
-    record {
-      stands = λ number keeps. absurd (maker_keeps number Maker keeps refl);
-      stamps = tt;
-      recalls = tt;
-      in_order = tt;
-      since = omega arith;
-      olds = tt;
-      taken_stand = tt;
-      taken_seen = tt;
-      taken_once = tt;
-      taken_given = tt;
-      maker_takes = λ _. refl;
-      in_none = λ _. refl;
-    }
+    well_made_plain pairs words (opened_view pairs words) Maker []
+    (λ number keeps. absurd (maker_keeps number Maker keeps refl)) tt
 
 -- the first view and the empty log
 first_true : (pairs : List Pair) (words : ℕ) → IsTrueIn pairs words [] (opened_view pairs words)

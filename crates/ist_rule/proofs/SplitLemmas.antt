@@ -7,6 +7,8 @@ use Rattle.atomic_table.proofs.Lists.{set_again, at_set}
 use Rattle.ist_core.specs.declared.pairs.Pair.{Pair}
 use Rattle.ist_core.specs.Elements.{Each}
 use Rattle.ist_core.specs.Logs.{Log, GoesOn, same_log, one_event}
+use Rattle.ist_core.specs.StartLayout.{start}
+use Rattle.ist_core.specs.Lawful.{EachEnabled}
 use Rattle.ist_rule.specs.declared.view.View.{View}
 use Rattle.ist_rule.specs.declared.view.Taken.{Taken}
 use Rattle.ist_rule.specs.declared.view.About.{About}
@@ -14,13 +16,14 @@ use Rattle.ist_core.specs.declared.events.Who.{Who}
 use Rattle.ist_core.specs.declared.events.Who.TheVariants.{Maker, Caller, Note, Spent}
 use Rattle.ist_core.proofs.PrefixLemmas.{goes_on_by}
 use Rattle.ist_rule.specs.Standings.{StandsInPrefix, CallStands}
-use Rattle.ist_rule.specs.Rule.{KeepsCalls, its_own, noted, IsNamed, IsWellMade, HasView, Fits, Kept}
+use Rattle.ist_rule.specs.Rule.{KeepsCalls, its_own, noted, IsNamed, IsWellMade, IsTrueIn, HasView, Fits, Kept}
 use Rattle.ist_rule.specs.Seating.{noted_by, plain}
 use Rattle.ist_rule.proofs.WhoLemmas.{caller_maker, same_number}
 use Rattle.ist_rule.proofs.LaterLemmas.{later_idle, later_any}
 use Rattle.ist_rule.proofs.EventLemmas.{author_no_note}
 use Rattle.ist_rule.proofs.HeldLemmas.{idle_holds, idle_between}
 use Rattle.ist_rule.proofs.FitLemmas.{each_map}
+use Rattle.ist_rule.proofs.ViewPartLemmas.{well_made_but, well_made_plain}
 use Rattle.ist_rule.proofs.FrameLemmas.{Table, moved, grown}
 
 -- a note isn't a caller
@@ -88,6 +91,73 @@ none_stands pairs words log number =
       };
     }
 
+-- what is said of a new seat and of the seat that it is split from, by any start and any log
+module _ (pairs : List Pair) (words : ℕ) (log : Log) (v : View) where
+  -- the note of a seat is well made
+  pub note_well_made : IsWellMade pairs words v
+      → IsWellMade pairs words (plain v (Note (noted_by v.who)) v.calls)
+  note_well_made m =
+      well_made_plain pairs words v (Note (noted_by v.who)) v.calls
+      (λ number keeps. m.stands number (keeps_note number v.who keeps)) m.stamps
+
+  -- a note is true of any log
+  pub note_true : (of : Option ℕ) → IsTrueIn pairs words log (plain v (Note of) v.calls)
+  note_true of =
+      record {
+        low = λ number is. absurd (note_caller of number is);
+        made = λ is. absurd (note_maker of is);
+        idle = λ is. absurd (note_maker of is);
+        fresh = λ place far. refl;
+        call = λ number is. absurd (note_caller of number is);
+        taken = tt;
+      }
+
+  -- the seat of a caller without calls is well made
+  pub born_well_made : IsWellMade pairs words (plain v (Caller v.given) [])
+  born_well_made =
+      well_made_plain pairs words v (Caller v.given) []
+      (λ number keeps. none_stands pairs words v.log number) tt
+
+  -- the seat of the caller that was entered last is true of the log, if the maker's is
+  pub born_true : EachEnabled (start pairs words) log → IsTrueIn pairs words log v → v.who ≡ Maker
+      → v.given < v.made → IsTrueIn pairs words log (plain v (Caller v.given) [])
+  born_true enabled t maker less =
+      let made = (t.made maker).0 in
+      let idle = t.idle maker v.given (le_refl v.given) in
+      record {
+        low = λ number is. let e = same_number v.given number is in omega arith;
+        made = λ is. absurd (caller_maker v.given is);
+        idle = λ is. absurd (caller_maker v.given is);
+        fresh = λ place far. refl;
+        call = λ number is. subst (λ n. CallStands pairs words log n [] None)
+            (same_number v.given number is) (idle_between pairs words log v.given enabled idle);
+        taken = tt;
+      }
+
+  -- the maker that gave a seat is well made
+  pub giving_well_made : IsWellMade pairs words v
+      → IsWellMade pairs words (record v { given = v.given + 1 })
+  giving_well_made m =
+      well_made_but pairs words m refl m.stands m.stamps m.recalls m.in_order m.since
+      (each_map (λ t. t.number < v.given) (λ t. t.number < v.given + 1) v.taken
+      (λ t _ le. omega arith) m.taken_given) m.in_none
+
+  -- the maker that gave a seat is true of the log
+  pub giving_true : IsTrueIn pairs words log v → v.who ≡ Maker → v.given < v.made
+      → IsTrueIn pairs words log (record v { given = v.given + 1 })
+  giving_true t maker less =
+      let made = t.made maker in
+      let count = made.0 in
+      let near = made.2 in
+      record {
+        low = t.low;
+        made = λ _. (count, omega arith, omega arith);
+        idle = λ is number above. t.idle is number (omega arith);
+        fresh = t.fresh;
+        call = t.call;
+        taken = t.taken;
+      }
+
 module _ (k : About) (s : Table) (r : Kept k s) (id : ℕ) (v : View) (live : v.who ≢ Spent)
     (mine : HasView s id v) where
   f : Fits k r.log s.words v
@@ -96,36 +166,14 @@ module _ (k : About) (s : Table) (r : Kept k s) (id : ℕ) (v : View) (live : v.
   -- the note of a seat
   fits_note : Fits k r.log s.words (plain v (Note (noted_by v.who)) v.calls)
   fits_note =
-      let m = f.well_made in
-      let t = f.is_true in
       let of = noted_by v.who in
       record {
         start_is = f.start_is;
         words_is = f.words_is;
         later = later_any (λ event. author_no_note event of) (goes_on_by f.later);
         owns = λ h i who. absurd (note_caller of h.caller who);
-        well_made = record {
-          stands = λ number keeps. m.stands number (keeps_note number v.who keeps);
-          stamps = m.stamps;
-          recalls = tt;
-          in_order = tt;
-          since = omega arith;
-          olds = tt;
-          taken_stand = tt;
-          taken_seen = tt;
-          taken_once = tt;
-          taken_given = tt;
-          maker_takes = λ _. refl;
-          in_none = λ _. refl;
-        };
-        is_true = record {
-          low = λ number is. absurd (note_caller of number is);
-          made = λ is. absurd (note_maker of is);
-          idle = λ is. absurd (note_maker of is);
-          fresh = λ place far. refl;
-          call = λ number is. absurd (note_caller of number is);
-          taken = tt;
-        };
+        well_made = note_well_made k.start.value.items k.words r.log v f.well_made;
+        is_true = note_true k.start.value.items k.words r.log v of;
       }
 
   -- a note's seat is split from the seat
@@ -151,79 +199,28 @@ module _ (k : About) (s : Table) (r : Kept k s) (id : ℕ) (v : View) (live : v.
   -- the seat of the caller that was entered last
   fits_born : v.who ≡ Maker → v.given < v.made → Fits k r.log s.words (plain v (Caller v.given) [])
   fits_born maker less =
-      let m = f.well_made in
-      let t = f.is_true in
-      let made = (t.made maker).0 in
-      let idle = t.idle maker v.given (le_refl v.given) in
+      let idle = f.is_true.idle maker v.given (le_refl v.given) in
       record {
         start_is = f.start_is;
         words_is = f.words_is;
         later = later_idle (goes_on_by f.later) idle;
         owns = λ h i who. absurd (idle_holds k.start.value.items k.words r.log v.given
             r.lawful.enabled idle h i (same_number h.caller v.given (sym who)));
-        well_made = record {
-          stands = λ number keeps. none_stands k.start.value.items k.words v.log number;
-          stamps = tt;
-          recalls = tt;
-          in_order = tt;
-          since = omega arith;
-          olds = tt;
-          taken_stand = tt;
-          taken_seen = tt;
-          taken_once = tt;
-          taken_given = tt;
-          maker_takes = λ _. refl;
-          in_none = λ _. refl;
-        };
-        is_true = record {
-          low = λ number is. let e = same_number v.given number is in omega arith;
-          made = λ is. absurd (caller_maker v.given is);
-          idle = λ is. absurd (caller_maker v.given is);
-          fresh = λ place far. refl;
-          call = λ number is. subst (λ n. CallStands k.start.value.items k.words r.log n [] None)
-              (same_number v.given number is)
-              (idle_between k.start.value.items k.words r.log v.given r.lawful.enabled idle);
-          taken = tt;
-        };
+        well_made = born_well_made k.start.value.items k.words r.log v;
+        is_true = born_true k.start.value.items k.words r.log v r.lawful.enabled f.is_true maker less;
       }
 
   -- the maker that gave a seat
   fits_giving : v.who ≡ Maker → v.given < v.made
       → Fits k r.log s.words (record v { given = v.given + 1 })
   fits_giving maker less =
-      let m = f.well_made in
-      let t = f.is_true in
-      let made = t.made maker in
-      let count = made.0 in
-      let near = made.2 in
       record {
         start_is = f.start_is;
         words_is = f.words_is;
         later = f.later;
         owns = f.owns;
-        well_made = record {
-          stands = m.stands;
-          stamps = m.stamps;
-          recalls = m.recalls;
-          in_order = m.in_order;
-          since = m.since;
-          olds = m.olds;
-          taken_stand = m.taken_stand;
-          taken_seen = m.taken_seen;
-          taken_once = m.taken_once;
-          taken_given = each_map (λ t. t.number < v.given) (λ t. t.number < v.given + 1) v.taken
-              (λ t _ le. omega arith) m.taken_given;
-          maker_takes = m.maker_takes;
-          in_none = m.in_none;
-        };
-        is_true = record {
-          low = t.low;
-          made = λ _. (count, omega arith, omega arith);
-          idle = λ is number above. t.idle is number (omega arith);
-          fresh = t.fresh;
-          call = t.call;
-          taken = t.taken;
-        };
+        well_made = giving_well_made k.start.value.items k.words r.log v f.well_made;
+        is_true = giving_true k.start.value.items k.words r.log v f.is_true maker less;
       }
 
 here_set : {A : Type 0} (l : List A) (i : ℕ) (a b : A) → get_elem? l i ≡ some a

@@ -1,19 +1,15 @@
 -- Splitting keeps the rule in both its cases, and both seats are sound. Serves the plays.
-use Rattle.std.proofs.Common.{◌≡◌, ◌≢◌, ℕ, ◌+◌, ◌<◌, ◌&&◌, nat_lt, Bool, true, false, if◌then◌else◌, [], ◌∷◌, ◌++◌, slice_set, None, refl, subst, le_refl, arith}
+use Rattle.std.proofs.Common.{◌≡◌, ◌≢◌, ℕ, ◌+◌, ◌<◌, ◌&&◌, nat_lt, Bool, true, false, if◌then◌else◌, [], ◌∷◌, ◌++◌, slice_set, refl, arith}
 use Rattle.std.proofs.lemmas.Bool.Decides.{nat_tests}
 use Rattle.atomic_table.specs.Table.{Splits}
 use Rattle.ist_rule.specs.declared.view.View.{View}
 use Rattle.ist_rule.specs.declared.view.About.{About}
 use Rattle.ist_core.specs.declared.events.Who.{Who}
 use Rattle.ist_core.specs.declared.events.Who.TheVariants.{Maker, Caller, Note, Spent}
-use Rattle.ist_rule.specs.Standings.{CallStands}
 use Rattle.ist_rule.specs.Rule.{IsSound, HasView, Kept}
 use Rattle.ist_rule.specs.Seating.{is_maker, awaits_seat, noted_by, plain, split_left, split_right}
-use Rattle.ist_rule.proofs.WhoLemmas.{caller_maker, same_number}
-use Rattle.ist_rule.proofs.HeldLemmas.{idle_between}
-use Rattle.ist_rule.proofs.FitLemmas.{each_map}
 use Rattle.ist_rule.proofs.FrameLemmas.{Table}
-use Rattle.ist_rule.proofs.SplitLemmas.{note_caller, note_maker, note_spent, caller_spent, keeps_note, none_stands, splits_note, splits_caller}
+use Rattle.ist_rule.proofs.SplitLemmas.{note_spent, caller_spent, note_well_made, note_true, born_well_made, born_true, giving_well_made, giving_true, splits_note, splits_caller}
 
 -- ---- both cases
 
@@ -58,38 +54,11 @@ left_cases : (v : View) → IsSound v → (b : Bool) → awaits_seat v ≡ b
 left_cases v s false is = s
 left_cases v s true is =
     let t = awaits_is v is in
-    let less = t.1 in
-    let m = s.well_made in
-    let h = s.is_true in
-    let made = h.made t.0 in
-    let count = made.0 in
-    let near = made.2 in
     record {
       lawful = s.lawful;
       live = s.live;
-      well_made = record {
-        stands = m.stands;
-        stamps = m.stamps;
-        recalls = m.recalls;
-        in_order = m.in_order;
-        since = m.since;
-        olds = m.olds;
-        taken_stand = m.taken_stand;
-        taken_seen = m.taken_seen;
-        taken_once = m.taken_once;
-        taken_given = each_map (λ t. t.number < v.given) (λ t. t.number < v.given + 1) v.taken
-            (λ t _ le. omega arith) m.taken_given;
-        maker_takes = m.maker_takes;
-        in_none = m.in_none;
-      };
-      is_true = record {
-        low = h.low;
-        made = λ _. (count, omega arith, omega arith);
-        idle = λ who number above. h.idle who number (omega arith);
-        fresh = h.fresh;
-        call = h.call;
-        taken = h.taken;
-      };
+      well_made = giving_well_made v.start v.words v.log v s.well_made;
+      is_true = giving_true v.start v.words v.log v s.is_true t.0 t.1;
     }
 
 -- the seat that another was split from is sound
@@ -103,62 +72,16 @@ right_cases v s false is =
     record {
       lawful = s.lawful;
       live = note_spent of;
-      well_made = record {
-        stands = λ number keeps. s.well_made.stands number (keeps_note number v.who keeps);
-        stamps = s.well_made.stamps;
-        recalls = tt;
-        in_order = tt;
-        since = omega arith;
-        olds = tt;
-        taken_stand = tt;
-        taken_seen = tt;
-        taken_once = tt;
-        taken_given = tt;
-        maker_takes = λ _. refl;
-        in_none = λ _. refl;
-      };
-      is_true = record {
-        low = λ number e. absurd (note_caller of number e);
-        made = λ e. absurd (note_maker of e);
-        idle = λ e. absurd (note_maker of e);
-        fresh = λ place far. refl;
-        call = λ number e. absurd (note_caller of number e);
-        taken = tt;
-      };
+      well_made = note_well_made v.start v.words v.log v s.well_made;
+      is_true = note_true v.start v.words v.log v of;
     }
 right_cases v s true is =
     let t = awaits_is v is in
-    let less = t.1 in
-    let h = s.is_true in
-    let made = (h.made t.0).0 in
-    let idle = h.idle t.0 v.given (le_refl v.given) in
     record {
       lawful = s.lawful;
       live = caller_spent v.given;
-      well_made = record {
-        stands = λ number keeps. none_stands v.start v.words v.log number;
-        stamps = tt;
-        recalls = tt;
-        in_order = tt;
-        since = omega arith;
-        olds = tt;
-        taken_stand = tt;
-        taken_seen = tt;
-        taken_once = tt;
-        taken_given = tt;
-        maker_takes = λ _. refl;
-        in_none = λ _. refl;
-      };
-      is_true = record {
-        low = λ number e. let same = same_number v.given number e in omega arith;
-        made = λ e. absurd (caller_maker v.given e);
-        idle = λ e. absurd (caller_maker v.given e);
-        fresh = λ place far. refl;
-        call = λ number e. subst (λ n. CallStands v.start v.words v.log n [] None)
-            (same_number v.given number e) (idle_between v.start v.words v.log v.given
-            s.lawful.enabled idle);
-        taken = tt;
-      };
+      well_made = born_well_made v.start v.words v.log v;
+      is_true = born_true v.start v.words v.log v s.lawful.enabled s.is_true t.0 t.1;
     }
 
 -- the seat that was split from it is sound

@@ -8,7 +8,7 @@ use Rattle.ist_core.specs.declared.commands.Command.TheVariants.{Put, Remove}
 use Rattle.ist_core.specs.declared.pairs.Pair.{Pair}
 use Rattle.ist_core.specs.declared.states.ChangeRow.{ChangeRow}
 use Rattle.ist_core.specs.declared.events.Event.{Event}
-use Rattle.ist_core.specs.declared.events.Event.TheVariants.{Enter, Reserve, Install, Okay, Decide, Resolve, Count, Mark, Pass, Finish, Root, Draw, Place, Lose}
+use Rattle.ist_core.specs.declared.events.Event.TheVariants.{Decide}
 use Rattle.ist_core.specs.Statuses.{put_kind, remove_kind}
 use Rattle.ist_core.specs.StartLayout.{start}
 use Rattle.ist_core.specs.Logs.{Log}
@@ -116,17 +116,4 @@ pub entries_move : (pairs : List Pair) (words : ℕ) (log : Log) (number : ℕ) 
     → EntriesMove pairs words log number event
 entries_move pairs words log number (Decide by base true) h =
     with_command pairs words log number by base h.change h.pending (command_of h.change) refl
-entries_move pairs words log number (Decide by base false) h = same_entries refl
-entries_move pairs words log number (Enter caller) h = same_entries refl
-entries_move pairs words log number (Reserve caller base size) h = same_entries refl
-entries_move pairs words log number (Install caller change rows) h = same_entries refl
-entries_move pairs words log number (Okay caller change) h = same_entries refl
-entries_move pairs words log number (Resolve caller change) h = same_entries refl
-entries_move pairs words log number (Count caller node) h = same_entries refl
-entries_move pairs words log number (Mark caller node) h = same_entries refl
-entries_move pairs words log number (Pass caller node i word) h = same_entries refl
-entries_move pairs words log number (Finish caller node keys) h = same_entries refl
-entries_move pairs words log number (Root caller rebuild word rows) h = same_entries refl
-entries_move pairs words log number (Draw caller rebuild part) h = same_entries refl
-entries_move pairs words log number (Place caller rebuild i word rows) h = same_entries refl
-entries_move pairs words log number (Lose caller bases) h = same_entries refl
+entries_move pairs words log number _ h = same_entries refl

@@ -18,12 +18,13 @@ use Rattle.ist_rule.specs.declared.view.OwnWord.{OwnWord}
 use Rattle.ist_rule.specs.declared.view.About.{About}
 use Rattle.ist_core.specs.declared.events.Who.TheVariants.{Caller, Spent}
 use Rattle.ist_core.specs.Authors.{Later}
-use Rattle.ist_rule.specs.Rule.{own_at, IsNamed, Owns, HasView, Fits, Kept, IsSound}
+use Rattle.ist_rule.specs.Rule.{own_at, IsNamed, IsWellMade, IsTrueIn, Owns, HasView, Fits, Kept, IsSound}
 use Rattle.ist_rule.specs.Playing.{Seated, stores}
 use Rattle.ist_rule.specs.Learning.{now, storing}
 use Rattle.ist_rule.specs.Conditions.{IsOwn}
 use Rattle.ist_rule.proofs.ShownLemmas.{IsLoose, held_loose, loose_set}
 use Rattle.ist_rule.proofs.HeldLemmas.{held_later}
+use Rattle.ist_rule.proofs.ViewPartLemmas.{well_made_but}
 use Rattle.ist_rule.proofs.FrameLemmas.{Table, moved}
 use Rattle.ist_rule.proofs.SoundViewLemmas.{as_table}
 
@@ -48,6 +49,28 @@ own_else own place word other ne = at (eqb_tells place other)
         → (if place == other then word else own_at own other) ≡ own_at own other
     at (inl k) = absurd (ne k.1)
     at (inr k) = ap (λ b. if b then word else own_at own other) k.0
+
+-- a view that stored a word is well made
+storing_well_made : (pairs : List Pair) (words : ℕ) (v : View) (place word : ℕ)
+    → IsWellMade pairs words v → IsWellMade pairs words (storing v place word)
+storing_well_made pairs words v place word m =
+    well_made_but pairs words m refl m.stands m.stamps m.recalls m.in_order m.since m.taken_given
+    m.in_none
+
+-- a view that stored a word where no change may write is true of the log
+storing_true : (pairs : List Pair) (words : ℕ) (log : Log) (v : View) (place word : ℕ)
+    → IsLoose (state_of pairs words log) place
+    → IsTrueIn pairs words log v → IsTrueIn pairs words log (storing v place word)
+storing_true pairs words log v place word loose t =
+    let below = loose.below in
+    record {
+      low = t.low;
+      made = t.made;
+      idle = t.idle;
+      fresh = λ q far. own_else v.own place word q (λ e. omega arith) ∙ t.fresh q far;
+      call = t.call;
+      taken = t.taken;
+    }
 
 -- two held rows that share a place are one
 one_held : (pairs : List Pair) (words : ℕ) (log : Log) → EachEnabled (start pairs words) log
@@ -123,36 +146,13 @@ module _ (k : About) (s : Table) (r : Kept k s) (id : ℕ) (v : View) (live : v.
 
   fits_storing : Fits k r.log (slice_set s.words place word) (storing v place word)
   fits_storing =
-      let m = f.well_made in
-      let t = f.is_true in
-      let below = loose.below in
       record {
         start_is = f.start_is;
         words_is = f.words_is;
         later = f.later;
         owns = owns_now;
-        well_made = record {
-          stands = m.stands;
-          stamps = m.stamps;
-          recalls = m.recalls;
-          in_order = m.in_order;
-          since = m.since;
-          olds = m.olds;
-          taken_stand = m.taken_stand;
-          taken_seen = m.taken_seen;
-          taken_once = m.taken_once;
-          taken_given = m.taken_given;
-          maker_takes = m.maker_takes;
-          in_none = m.in_none;
-        };
-        is_true = record {
-          low = t.low;
-          made = t.made;
-          idle = t.idle;
-          fresh = λ q far. own_else v.own place word q (λ e. omega arith) ∙ t.fresh q far;
-          call = t.call;
-          taken = t.taken;
-        };
+        well_made = storing_well_made k.start.value.items k.words v place word f.well_made;
+        is_true = storing_true k.start.value.items k.words r.log v place word loose f.is_true;
       }
 
   -- a store into an own row keeps the rule
@@ -185,36 +185,11 @@ stores_moves k slots id me place word live own s r _ mine _ = (
 pub storing_sound : (v : View) (place word : ℕ) → IsOwn v place → IsSound v
     → IsSound (storing v place word)
 storing_sound v place word own s =
-    let m = s.well_made in
-    let t = s.is_true in
-    let loose : IsLoose (now v) place =
-    subst (IsLoose (now v)) (sym own.at)
-    (held_loose v.start v.words v.log s.lawful.enabled own.row own.held own.offset
-    own.within) in
-    let below = loose.below in
     record {
       lawful = s.lawful;
       live = s.live;
-      well_made = record {
-        stands = m.stands;
-        stamps = m.stamps;
-        recalls = m.recalls;
-        in_order = m.in_order;
-        since = m.since;
-        olds = m.olds;
-        taken_stand = m.taken_stand;
-        taken_seen = m.taken_seen;
-        taken_once = m.taken_once;
-        taken_given = m.taken_given;
-        maker_takes = m.maker_takes;
-        in_none = m.in_none;
-      };
-      is_true = record {
-        low = t.low;
-        made = t.made;
-        idle = t.idle;
-        fresh = λ q far. own_else v.own place word q (λ e. omega arith) ∙ t.fresh q far;
-        call = t.call;
-        taken = t.taken;
-      };
+      well_made = storing_well_made v.start v.words v place word s.well_made;
+      is_true = storing_true v.start v.words v.log v place word
+          (subst (IsLoose (now v)) (sym own.at) (held_loose v.start v.words v.log s.lawful.enabled
+          own.row own.held own.offset own.within)) s.is_true;
     }

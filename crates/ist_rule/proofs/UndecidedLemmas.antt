@@ -5,7 +5,7 @@ use Rattle.ist_core.specs.declared.pairs.Pair.{Pair}
 use Rattle.ist_core.specs.declared.states.ChangeRow.{ChangeRow}
 use Rattle.ist_core.specs.declared.lists.Row.{Row}
 use Rattle.ist_core.specs.declared.events.Event.{Event}
-use Rattle.ist_core.specs.declared.events.Event.TheVariants.{Enter, Reserve, Install, Okay, Decide, Resolve, Count, Mark, Pass, Finish, Root, Draw, Place, Lose}
+use Rattle.ist_core.specs.declared.events.Event.TheVariants.{Install, Decide, Resolve}
 use Rattle.ist_core.specs.Statuses.{undecided}
 use Rattle.ist_core.specs.Pieces.{Piece, Change, with_decision}
 use Rattle.ist_core.specs.Snapshots.{Snapshot}
@@ -105,7 +105,7 @@ module _ (pairs : List Pair) (words : ℕ) (log : Log) (event : Event)
           word_decides false k = cc
 
 -- what was resolved is decided
-pub record IsDecided (t : Snapshot) (base : ℕ) : Type 0 where
+pub record WasDecided (t : Snapshot) (base : ℕ) : Type 0 where
   pub change : ChangeRow
   pub published : t.pieces base ≡ Some (Change change)
   pub decided : change.decision ≢ undecided
@@ -113,8 +113,8 @@ pub record IsDecided (t : Snapshot) (base : ℕ) : Type 0 where
 module _ (pairs : List Pair) (words : ℕ) where
   decided_on : (log : Log) (event : Event) → EachEnabled (start pairs words) (event ∷ log)
       → (base : ℕ)
-      → IsDecided (state_of pairs words log) base
-      → IsDecided (state_of pairs words (event ∷ log)) base
+      → WasDecided (state_of pairs words log) base
+      → WasDecided (state_of pairs words (event ∷ log)) base
   decided_on log event enabled base d =
       let grow = grow_step (start pairs words) log event enabled.1
       (sound (start pairs words) log (sound_start pairs words) enabled.0) in
@@ -129,32 +129,20 @@ module _ (pairs : List Pair) (words : ℕ) where
 
   resolved_now : (log : Log) (event : Event) → Enabled (start pairs words) log event → (base : ℕ)
       → Resolves base event
-      → IsDecided (state_of pairs words log) base
+      → WasDecided (state_of pairs words log) base
   resolved_now log (Resolve caller change) h base is =
-      subst (IsDecided (state_of pairs words log)) is record {
+      subst (WasDecided (state_of pairs words log)) is record {
         change = h.change;
         published =
             h.published;
         decided = h.decided;
       }
-  resolved_now log (Enter caller) h base is = absurd is
-  resolved_now log (Reserve caller b size) h base is = absurd is
-  resolved_now log (Install caller change rows) h base is = absurd is
-  resolved_now log (Okay caller change) h base is = absurd is
-  resolved_now log (Decide caller change said) h base is = absurd is
-  resolved_now log (Count caller node) h base is = absurd is
-  resolved_now log (Mark caller node) h base is = absurd is
-  resolved_now log (Pass caller node i word) h base is = absurd is
-  resolved_now log (Finish caller node keys) h base is = absurd is
-  resolved_now log (Root caller rebuild word rows) h base is = absurd is
-  resolved_now log (Draw caller rebuild part) h base is = absurd is
-  resolved_now log (Place caller rebuild i word rows) h base is = absurd is
-  resolved_now log (Lose caller bases) h base is = absurd is
+  resolved_now log _ h base is = absurd is
 
   -- a change that was resolved is decided
   pub resolved_decided : (log : Log) → EachEnabled (start pairs words) log → (base : ℕ)
       → Happened (Resolves base) log
-      → IsDecided (state_of pairs words log) base
+      → WasDecided (state_of pairs words log) base
   resolved_decided [] enabled base is = absurd is
   resolved_decided (event ∷ log) enabled base (inl is) =
       decided_on log event enabled base (resolved_now log event enabled.1 base is)

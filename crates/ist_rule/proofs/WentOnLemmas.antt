@@ -1,5 +1,5 @@
 -- Seats that went on by loads, by events of their own and by stores. Serves the crates above.
-use Rattle.std.proofs.Common.{◌≡◌, ℕ, ◌+◌, ◌∷◌, sym, ap, ap₂, ◌∙◌, subst, inl, inr, arith}
+use Rattle.std.proofs.Common.{◌≡◌, ℕ, ◌+◌, ◌≤◌, ◌∷◌, sym, ap, ap₂, ◌∙◌, subst, le_refl, inl, inr, arith}
 use Rattle.std.proofs.Math.Nat.{le_trans}
 use Rattle.ist_core.specs.declared.events.Event.{Event}
 use Rattle.ist_core.specs.Authors.{no_more, one_more, Later, LaterBy}
@@ -10,7 +10,7 @@ use Rattle.ist_core.proofs.FateLemmas.{grow_between}
 use Rattle.ist_rule.specs.declared.view.View.{View}
 use Rattle.ist_core.specs.declared.events.Who.{Who}
 use Rattle.ist_rule.specs.Rule.{IsSound}
-use Rattle.ist_rule.specs.Learning.{now, made_behind, logging, logging_load, GoesOnTo, Looked, Logged, LoggedLoad}
+use Rattle.ist_rule.specs.Learning.{now, made_behind, logging, GoesOnTo, Looked, Logged, LoggedLoad}
 use Rattle.ist_rule.specs.Going.{WentOn}
 use Rattle.ist_rule.proofs.GoingOnLemmas.{goes_on_same, looked_goes_on}
 use Rattle.ist_core.proofs.PrefixLemmas.{goes_on_by}
@@ -101,48 +101,37 @@ pub looked_went : (P : Event → Type 0) (v : View) (place word : ℕ) (w : View
     → WentOn P v w
 looked_went P v place word w l = goes_on_went P v w (looked_goes_on v place word w l)
 
--- a seat that made an event that P is true of went on
-pub logged_went : (P : Event → Type 0) (v : View) (event : Event) (w : View) → Logged v event w
-    → P event → made_behind event v.made ≡ v.made → WentOn P v w
-logged_went P v event w l is made =
-    let log_is : w.log ≡ event ∷ l.before = ap (λ x. x.log) l.view in
-    let same : logging v l.before event ≡ record v { log = event ∷ l.before } =
-    ap {B = View} (λ n. record v { log = event ∷ l.before; made = n }) made in
+-- a seat that made an event that P is true of went on, whatever it then counts
+event_went : (P : Event → Type 0) (v : View) (event : Event) (w : View) (before : Log) (count : ℕ)
+    → Later v.who v.log before → w ≡ record (logging v before event) { loaded = count } → IsSound w
+    → v.loaded ≤ count → P event → made_behind event v.made ≡ v.made → WentOn P v w
+event_went P v event w before count later view sound more is made =
     record {
-      later = subst (LaterBy v.who P v.log) (sym log_is)
-          (one_more event (later_by l.later) (inr is));
-      sound = l.sound;
+      later = subst (LaterBy v.who P v.log) (sym (ap (λ x. x.log) view))
+          (one_more event (later_by later) (inr is));
+      sound = sound;
       same = subst (λ (x : View). x ≡ record v {
         log = x.log;
         own = x.own;
         loads = x.loads;
         loaded = x.loaded;
-      }) (sym l.view) same;
-      loaded = let is = ap (λ x. x.loaded) l.view in omega arith;
+      }) (sym view)
+          (ap {B = View} (λ n. record v { log = event ∷ before; made = n; loaded = count }) made);
+      loaded = subst (λ n. v.loaded ≤ n) (sym (ap (λ x. x.loaded) view)) more;
     }
+
+-- a seat that made an event that P is true of went on
+pub logged_went : (P : Event → Type 0) (v : View) (event : Event) (w : View) → Logged v event w
+    → P event → made_behind event v.made ≡ v.made → WentOn P v w
+logged_went P v event w l =
+    event_went P v event w l.before v.loaded l.later l.view l.sound (le_refl v.loaded)
 
 -- a seat that made a load which is such an event went on
 pub logged_load_went : (P : Event → Type 0) (v : View) (event : Event) (place word : ℕ) (w : View)
     → LoggedLoad v event place word w → P event
     → made_behind event v.made ≡ v.made → WentOn P v w
-logged_load_went P v event place word w l is made =
-    let log_is : w.log ≡ event ∷ l.before = ap (λ x. x.log) l.view in
-    let same : logging_load v l.before event
-    ≡ record v { log = event ∷ l.before; loaded = v.loaded + 1 } =
-    ap {B = View}
-    (λ n. record v { log = event ∷ l.before; made = n; loaded = v.loaded + 1 }) made in
-    record {
-      later = subst (LaterBy v.who P v.log) (sym log_is)
-          (one_more event (later_by l.later) (inr is));
-      sound = l.sound;
-      same = subst (λ (x : View). x ≡ record v {
-        log = x.log;
-        own = x.own;
-        loads = x.loads;
-        loaded = x.loaded;
-      }) (sym l.view) same;
-      loaded = let is = ap (λ x. x.loaded) l.view in omega arith;
-    }
+logged_load_went P v event place word w l =
+    event_went P v event w l.before (v.loaded + 1) l.later l.view l.sound (omega arith)
 
 -- a seat that only made loads: the state that it has seen, its log, and what is published
 pub goes_on_now : (v w : View) → GoesOnTo v w → now w ≡ state_of v.start v.words w.log

@@ -45,7 +45,7 @@ module _ (number : ℕ) where
 
 -- a call whose work counted nowhere counted nowhere
 pub way_counted : (who began new : Caller) (token : TokenFace) (command : Command)
-    → way.IsWay who began new token command → (r q : Option Full)
+    → way.IsUpdateCall who began new token command → (r q : Option Full)
     → CountedNowhere began.token.view.log new.token.view.log began.number
     → CountsNowhere (pass_face who r) (face_as token new.number q)
 way_counted who began new token command it r q none =

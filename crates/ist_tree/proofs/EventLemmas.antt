@@ -2,7 +2,7 @@
 -- `update`.
 use Rattle.std.proofs.Common.{◌≡◌, ◌≢◌, ℕ, inl, inr, arith}
 use Rattle.ist_core.specs.declared.events.Event.{Event}
-use Rattle.ist_core.specs.declared.events.Event.TheVariants.{Count, Decide, Draw, Enter, Finish, Install, Lose, Mark, Okay, Pass, Place, Reserve, Resolve, Root}
+use Rattle.ist_core.specs.declared.events.Event.TheVariants.{Count, Decide, Enter, Install, Okay, Resolve}
 use Rattle.ist_core.specs.Rebuilding.{IsUpdate}
 use Rattle.ist_core.specs.Statuses.{start_kind, finish_kind}
 use Rattle.ist_dcss.specs.Helping as dcss
@@ -32,37 +32,17 @@ finish_no_start kind is e = omega arith
 pub begins_rebuild : (event : Event) → Begins event → Rebuilds event
 begins_rebuild (Install caller base rows) p =
     λ change is. start_no_update change.kind (p change is)
-begins_rebuild (Reserve caller base size) p = tt
-begins_rebuild (Okay caller base) p = tt
-begins_rebuild (Decide caller base said) p = tt
-begins_rebuild (Resolve caller base) p = tt
 begins_rebuild (Enter caller) p = p
 begins_rebuild (Count caller node) p = p
-begins_rebuild (Mark caller node) p = tt
-begins_rebuild (Pass caller node i word) p = tt
-begins_rebuild (Finish caller node keys) p = tt
-begins_rebuild (Root caller rebuild word rows) p = tt
-begins_rebuild (Draw caller rebuild part) p = tt
-begins_rebuild (Place caller rebuild i word rows) p = tt
-begins_rebuild (Lose caller bases) p = tt
+begins_rebuild _ p = tt
 
 -- a step of helping a rebuild is one of rebuilding
 pub serves_rebuild : (event : Event) → ServesRebuild event → Rebuilds event
 serves_rebuild (Install caller base rows) p =
     λ change is. finish_no_update change.kind (p change is)
-serves_rebuild (Reserve caller base size) p = tt
-serves_rebuild (Okay caller base) p = tt
-serves_rebuild (Decide caller base said) p = tt
-serves_rebuild (Resolve caller base) p = tt
 serves_rebuild (Enter caller) p = p
 serves_rebuild (Count caller node) p = p
-serves_rebuild (Mark caller node) p = tt
-serves_rebuild (Pass caller node i word) p = tt
-serves_rebuild (Finish caller node keys) p = tt
-serves_rebuild (Root caller rebuild word rows) p = tt
-serves_rebuild (Draw caller rebuild part) p = tt
-serves_rebuild (Place caller rebuild i word rows) p = tt
-serves_rebuild (Lose caller bases) p = tt
+serves_rebuild _ p = tt
 
 -- the event is a step of rebuilding that installs nothing and leaves the caller's rows
 pub record IsPlainHelp (event : Event) : Type 0 where
@@ -75,17 +55,7 @@ pub help_plain : (base : ℕ) (event : Event) → dcss.Serves base event → IsP
 help_plain base (Okay caller other) p = record { rebuilds = tt; keeps = tt; installs = tt }
 help_plain base (Decide caller other said) p = record { rebuilds = tt; keeps = tt; installs = tt }
 help_plain base (Resolve caller other) p = record { rebuilds = tt; keeps = tt; installs = tt }
-help_plain base (Install caller other rows) p = absurd p
-help_plain base (Reserve caller other size) p = absurd p
-help_plain base (Enter caller) p = absurd p
-help_plain base (Count caller node) p = absurd p
-help_plain base (Mark caller node) p = absurd p
-help_plain base (Pass caller node i word) p = absurd p
-help_plain base (Finish caller node keys) p = absurd p
-help_plain base (Root caller rebuild word rows) p = absurd p
-help_plain base (Draw caller rebuild part) p = absurd p
-help_plain base (Place caller rebuild i word rows) p = absurd p
-help_plain base (Lose caller bases) p = absurd p
+help_plain base _ p = absurd p
 
 -- ---- steps that start or count nothing
 
@@ -93,37 +63,13 @@ help_plain base (Lose caller bases) p = absurd p
 pub none_starts_none : (number : ℕ) (event : Event) → InstallsNone event
     → InstallsNoStart number event
 none_starts_none number (Install caller base rows) p = absurd p
-none_starts_none number (Reserve caller base size) p = tt
-none_starts_none number (Okay caller base) p = tt
-none_starts_none number (Decide caller base said) p = tt
-none_starts_none number (Resolve caller base) p = tt
-none_starts_none number (Enter caller) p = tt
-none_starts_none number (Count caller node) p = tt
-none_starts_none number (Mark caller node) p = tt
-none_starts_none number (Pass caller node i word) p = tt
-none_starts_none number (Finish caller node keys) p = tt
-none_starts_none number (Root caller rebuild word rows) p = tt
-none_starts_none number (Draw caller rebuild part) p = tt
-none_starts_none number (Place caller rebuild i word rows) p = tt
-none_starts_none number (Lose caller bases) p = tt
+none_starts_none number _ p = tt
 
 -- helping a rebuild starts none, so that no start is out of place
 pub serves_aims : (target : ℕ) (event : Event) → ServesRebuild event → StartsAt target event
 serves_aims target (Install caller base rows) p =
     λ change is start. absurd (finish_no_start change.kind (p change is) start)
-serves_aims target (Reserve caller base size) p = tt
-serves_aims target (Okay caller base) p = tt
-serves_aims target (Decide caller base said) p = tt
-serves_aims target (Resolve caller base) p = tt
-serves_aims target (Enter caller) p = tt
-serves_aims target (Count caller node) p = tt
-serves_aims target (Mark caller node) p = tt
-serves_aims target (Pass caller node i word) p = tt
-serves_aims target (Finish caller node keys) p = tt
-serves_aims target (Root caller rebuild word rows) p = tt
-serves_aims target (Draw caller rebuild part) p = tt
-serves_aims target (Place caller rebuild i word rows) p = tt
-serves_aims target (Lose caller bases) p = tt
+serves_aims target _ p = tt
 
 -- helping a change starts none, so that no start is out of place
 pub help_aims : (target base : ℕ) (event : Event) → dcss.Serves base event → StartsAt target event
@@ -136,88 +82,28 @@ help_aims target base _ p = absurd p
 pub serves_start_none : (number : ℕ) (event : Event) → ServesRebuild event → InstallsNoStart number event
 serves_start_none number (Install caller base rows) p =
     λ mine change is. finish_no_start change.kind (p change is)
-serves_start_none number (Reserve caller base size) p = tt
-serves_start_none number (Okay caller base) p = tt
-serves_start_none number (Decide caller base said) p = tt
-serves_start_none number (Resolve caller base) p = tt
-serves_start_none number (Enter caller) p = tt
-serves_start_none number (Count caller node) p = tt
-serves_start_none number (Mark caller node) p = tt
-serves_start_none number (Pass caller node i word) p = tt
-serves_start_none number (Finish caller node keys) p = tt
-serves_start_none number (Root caller rebuild word rows) p = tt
-serves_start_none number (Draw caller rebuild part) p = tt
-serves_start_none number (Place caller rebuild i word rows) p = tt
-serves_start_none number (Lose caller bases) p = tt
+serves_start_none number _ p = tt
 
 -- an update starts no rebuild
 pub updates_start_none : (number : ℕ) (event : Event) → Updates event
     → InstallsNoStart number event
 updates_start_none number (Install caller base rows) p = λ mine change is. p change is
-updates_start_none number (Reserve caller base size) p = tt
-updates_start_none number (Okay caller base) p = tt
-updates_start_none number (Decide caller base said) p = tt
-updates_start_none number (Resolve caller base) p = tt
-updates_start_none number (Enter caller) p = tt
-updates_start_none number (Count caller node) p = tt
-updates_start_none number (Mark caller node) p = tt
-updates_start_none number (Pass caller node i word) p = tt
-updates_start_none number (Finish caller node keys) p = tt
-updates_start_none number (Root caller rebuild word rows) p = tt
-updates_start_none number (Draw caller rebuild part) p = tt
-updates_start_none number (Place caller rebuild i word rows) p = tt
-updates_start_none number (Lose caller bases) p = tt
+updates_start_none number _ p = tt
 
 -- rebuilding counts nothing
 pub rebuilds_count_none : (number : ℕ) (event : Event) → Rebuilds event
     → CountsNothing number event
 rebuilds_count_none number (Count caller node) p other counts = p
-rebuilds_count_none number (Install caller base rows) p other counts = counts
-rebuilds_count_none number (Reserve caller base size) p other counts = counts
-rebuilds_count_none number (Okay caller base) p other counts = counts
-rebuilds_count_none number (Decide caller base said) p other counts = counts
-rebuilds_count_none number (Resolve caller base) p other counts = counts
-rebuilds_count_none number (Enter caller) p other counts = counts
-rebuilds_count_none number (Mark caller node) p other counts = counts
-rebuilds_count_none number (Pass caller node i word) p other counts = counts
-rebuilds_count_none number (Finish caller node keys) p other counts = counts
-rebuilds_count_none number (Root caller rebuild word rows) p other counts = counts
-rebuilds_count_none number (Draw caller rebuild part) p other counts = counts
-rebuilds_count_none number (Place caller rebuild i word rows) p other counts = counts
-rebuilds_count_none number (Lose caller bases) p other counts = counts
+rebuilds_count_none number _ p other counts = counts
 
 -- ---- steps of a call
 
 -- rebuilding is a step of a call
 pub rebuilds_work : (event : Event) → Rebuilds event → Works event
 rebuilds_work (Enter caller) p = p
-rebuilds_work (Count caller node) p = tt
-rebuilds_work (Install caller base rows) p = tt
-rebuilds_work (Reserve caller base size) p = tt
-rebuilds_work (Okay caller base) p = tt
-rebuilds_work (Decide caller base said) p = tt
-rebuilds_work (Resolve caller base) p = tt
-rebuilds_work (Mark caller node) p = tt
-rebuilds_work (Pass caller node i word) p = tt
-rebuilds_work (Finish caller node keys) p = tt
-rebuilds_work (Root caller rebuild word rows) p = tt
-rebuilds_work (Draw caller rebuild part) p = tt
-rebuilds_work (Place caller rebuild i word rows) p = tt
-rebuilds_work (Lose caller bases) p = tt
+rebuilds_work _ p = tt
 
 -- a step of an update is a step of a call
 pub updates_work : (event : Event) → Updates event → Works event
 updates_work (Enter caller) p = p
-updates_work (Count caller node) p = tt
-updates_work (Install caller base rows) p = tt
-updates_work (Reserve caller base size) p = tt
-updates_work (Okay caller base) p = tt
-updates_work (Decide caller base said) p = tt
-updates_work (Resolve caller base) p = tt
-updates_work (Mark caller node) p = tt
-updates_work (Pass caller node i word) p = tt
-updates_work (Finish caller node keys) p = tt
-updates_work (Root caller rebuild word rows) p = tt
-updates_work (Draw caller rebuild part) p = tt
-updates_work (Place caller rebuild i word rows) p = tt
-updates_work (Lose caller bases) p = tt
+updates_work _ p = tt

@@ -75,7 +75,7 @@ module _ (who : Caller) (token : TokenFace) (s : IsSound who.token.view) (p : Is
 -- ---- the way of a freeze
 
 -- the pass began a call, worked in it by steps of rebuilding, and gave it up
-pub record IsWay (who began new : Caller) (token : TokenFace) : Type 0 where
+pub record IsFreezeCall (who began new : Caller) (token : TokenFace) : Type 0 where
   pub sound : IsSound who.token.view
   pub pass : IsPass who
   pub began_number : began.number ≡ who.number
@@ -89,7 +89,7 @@ pub way_of : (who began new : Caller) (token : TokenFace) → IsSound who.token.
     → began.number ≡ who.number
     → Turned who.token.view (beginning who.token.view None) began.token.view → IsReady began
     → StaysReady Rebuilds began new → Turned new.token.view (giving_up new.token.view) token.view
-    → IsWay who began new token
+    → IsFreezeCall who began new token
 way_of who began new token s p number begun ready on given =
     record {
       sound = s;
@@ -125,7 +125,7 @@ may_give_up who began new s p number begun ready on =
           (sym on.gone.went.same) (none ∙ made));
     }
 
-module _ (who began new : Caller) (token : TokenFace) (it : IsWay who began new token) where
+module _ (who began new : Caller) (token : TokenFace) (it : IsFreezeCall who began new token) where
   -- the view before the call
   abbrev v : View
   v = who.token.view

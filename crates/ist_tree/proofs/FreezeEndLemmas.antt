@@ -1,5 +1,5 @@
 -- What a freeze returns, in the words of its pass. Serves `freeze`.
-use Rattle.std.proofs.Common.{◌≡◌, ℕ, ◌+◌, ◌<◌, ◌≤◌, ◌⊎◌, length, filter, Option, Some, None, IfSome, refl, sym, ap, ◌∙◌, subst, inl, inr, arith, length-append}
+use Rattle.std.proofs.Common.{◌≡◌, ℕ, ◌+◌, ◌<◌, ◌≤◌, ◌⊎◌, length, filter, Option, Some, None, IfSome, sym, ap, ◌∙◌, subst, inl, inr, arith, length-append}
 use Rattle.std.specs.Option.{option_or}
 use Rattle.std.proofs.lemmas.List.Elements.{filter-append}
 use Rattle.ist_core.specs.declared.ports.Full.{Full}
@@ -8,14 +8,14 @@ use Rattle.ist_core.specs.Lawful.{state_of}
 use Rattle.ist_core.specs.Growing.{AllGrow}
 use Rattle.ist_core.specs.Links.{IsChild}
 use Rattle.ist_core.specs.Marking.{HasTarget}
-use Rattle.ist_core.specs.Rebuilding.{IsFinishedWith, IsReplaced, IsStarted}
+use Rattle.ist_core.specs.Rebuilding.{IsFinishedWith, IsStarted}
 use Rattle.ist_core.specs.RowLayout.{anchor, change_words, rebuild_words}
 use Rattle.ist_core.specs.Snapshots.{Snapshot}
 use Rattle.ist_core.specs.Spending.{spent}
 use Rattle.ist_core.specs.StartLayout.{start}
 use Rattle.ist_core.proofs.FateLemmas.{grow_between}
 use Rattle.laws_links.proofs.FinishedLemmas.{target_grows}
-use Rattle.laws_links.proofs.FormLemmas.{replaced_grows, started_grows}
+use Rattle.laws_links.proofs.FormLemmas.{started_grows}
 use Rattle.laws_calls.specs.Finishing.{is_put, puts_in}
 use Rattle.laws_calls.proofs.NumberLemmas.{finished_few}
 use Rattle.laws_histories.proofs.ChangeLemmas.{changes_on}
@@ -27,21 +27,18 @@ use Rattle.ist_rule.specs.Learning.{now}
 use Rattle.ist_rule.proofs.LaterLemmas.{goes_on_more}
 use Rattle.ist_rows.specs.declared.callers.Caller.{Caller}
 use Rattle.ist_tree.specs.declared.freezing.Frozen.{Frozen}
-use Rattle.ist_tree.specs.declared.freezing.Outcome.{Outcome}
-use Rattle.ist_tree.specs.FreezeSteps.{Freezes, IsTopShort, IsFreezeStopped}
-use Rattle.ist_tree.specs.FreezeCalls.{FreezesAll, StopsFreeze}
-use Rattle.ist_tree.specs.Faces.{PassFace}
+use Rattle.ist_tree.specs.FreezeSteps.{IsTopShort}
 use Rattle.ist_tree.specs.Freezing.{HasFrozen, HeldInnerRow, IsFreezeRefused, IsFrozenIn, IsFrozenFor, WasFrozen}
-use Rattle.ist_tree.specs.Insides.{IsPassWith, face_as, pass_face}
+use Rattle.ist_tree.specs.Insides.{face_as, pass_face}
 use Rattle.ist_tree.specs.Refusals.{HadTooFew, IsForRebuild, IsTopRefused, KeepsRefusal, LeavesTooFew}
 use Rattle.ist_tree.proofs.AskedLemmas.{asked_grows, held_on}
 use Rattle.ist_tree.proofs.FreezingLemmas.{was_frozen_on}
-use Rattle.ist_tree.proofs.FreezeCallLemmas.{IsWay}
+use Rattle.ist_tree.proofs.FreezeCallLemmas.{IsFreezeCall}
 use Rattle.ist_tree.proofs.FreezeCallLemmas as way
 use Rattle.ist_tree.proofs.IdleCallerLemmas.{between_calls}
 use Rattle.ist_tree.proofs.StartLemmas.{starts_none_later, starts_none_more}
 
-module _ (who began new : Caller) (token : TokenFace) (it : IsWay who began new token) where
+module _ (who began new : Caller) (token : TokenFace) (it : IsFreezeCall who began new token) where
   -- the view before the call
   abbrev v : View
   v = who.token.view
@@ -158,7 +155,7 @@ module _ (who began new : Caller) (token : TokenFace) (it : IsWay who began new 
       }
 
   -- what is true of the state after the work, and of each that grows from it, is true after the call
-  in_last : (Q : Snapshot → Type 0)
+  pub in_last : (Q : Snapshot → Type 0)
       → ((t u : Snapshot) → AllGrow t.pieces u.pieces → Q t → Q u) → Q (now w)
       → Q (state_of x.start x.words x.log)
   in_last Q grows h =
@@ -219,80 +216,3 @@ module _ (who began new : Caller) (token : TokenFace) (it : IsWay who began new 
           inr (top_refused r (option_or r met) words full same
           (subst (IsTopShort b w words) (one other full e) c))
       from None None c full e = absurd (cc)
-
--- ---- all of this together
-
--- the freeze was answered
-pub record FreezeEnds (old : PassFace) (new : Caller) (token : TokenFace) (q : Option Full)
-    (frozen : Frozen) : Type 0 where
-  pub pass : IsPassWith (record new { token = token }) q
-  pub froze : FreezesAll old (face_as token new.number q) frozen
-
--- a freeze that succeeds ends so
-pub freeze_ends : (who began new : Caller) (token : TokenFace) (it : IsWay who began new token)
-    (r q : Option Full) → IsPassWith who r → (words : ℕ) → words ≡ who.token.view.words
-    → token.table ≡ who.token.table → (outcome : Outcome) → Freezes began new words outcome
-    → q ≡ option_or r outcome.refused → (old : PassFace) → pass_face who r ≡ old
-    → FreezeEnds old new token q outcome.frozen
-freeze_ends who began new token it r q all words same table outcome f is old view =
-    let had = has_frozen who began new token it r (option_or r outcome.refused) outcome.frozen
-    f.frozen in
-    let all_now = way.ended_pass_with who began new token it r (option_or r outcome.refused) all
-    (λ none. (both r outcome.refused none).0) (λ none. f.done (both r outcome.refused none).1) in
-    subst (λ (o : PassFace). FreezeEnds o new token q outcome.frozen) view
-    (subst (λ o. FreezeEnds (pass_face who r) new token o outcome.frozen) (sym is) record {
-      pass = all_now;
-      froze = record {
-        seen = way.has_seen_more who began new token it r (option_or r outcome.refused) table;
-        still = frozen_for who began new token it (option_or r outcome.refused) outcome.frozen
-            had.frozen_is;
-        pairs = had;
-        rebuilt = λ row e.
-            (let k = f.rebuilt row e in
-            record {
-              rebuild = k.rebuild;
-              started = in_last who began new token it (λ t. IsStarted t k.rebuild)
-                  (λ t u g. started_grows t u g k.rebuild) k.of.started;
-              target = in_last who began new token it (λ t. HasTarget t k.rebuild row)
-                  (λ t u g. target_grows t u g k.rebuild row) k.of.target_is;
-              replaced = λ none.
-                  in_last who began new token it (λ t. IsReplaced t k.rebuild)
-                  (λ t u g. replaced_grows t u g k.rebuild)
-                  (k.replaced (both r outcome.refused none).1);
-            });
-        calls = way.calls_are who began new token it;
-        refused = keeps_refusal who began new token it r outcome.refused words same f.refused;
-        done = λ none. (all_now.settled none).starts;
-      };
-    })
-  where
-    both : (a c : Option Full) → option_or a c ≡ None → (a ≡ None) × (c ≡ None)
-    both None c e = (refl, e)
-    both (Some full) c e = absurd (cc)
-
--- it was refused
-pub record StopEnds (old : PassFace) (new : Caller) (token : TokenFace) (r : Option Full) (full : Full)
-    : Type 0 where
-  pub pass : IsPassWith (record new { token = token }) r
-  pub stopped : StopsFreeze old (face_as token new.number r) full
-
--- a freeze that is refused ends so
-pub stop_ends : (who began new : Caller) (token : TokenFace) (it : IsWay who began new token)
-    (r : Option Full) → IsPassWith who r → (words : ℕ) → words ≡ who.token.view.words
-    → token.table ≡ who.token.table → (full : Full) → IsFreezeStopped began new words full
-    → (old : PassFace) → pass_face who r ≡ old → StopEnds old new token r full
-stop_ends who began new token it r all words same table full s old view =
-    let all_now = way.ended_pass_with who began new token it r r all (λ none. none)
-    (λ none. s.idle.done) in
-    subst (λ (o : PassFace). StopEnds o new token r full) view record {
-      pass = all_now;
-      stopped = record {
-        seen = way.has_seen_more who began new token it r r table;
-        cause = freeze_refused who began new token it r r words full same s.short s.asked s.held;
-        unstarted = has_started_none who began new token it s.idle.none;
-        calls = way.calls_are who began new token it;
-        unrefused = refl;
-        refused = record { stays = λ first e. e; cause = λ first e. inl e };
-        done = λ none. (all_now.settled none).starts;
-      };
-    }

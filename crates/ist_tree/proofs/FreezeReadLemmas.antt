@@ -1,5 +1,5 @@
 -- Which leaf of a frozen tree has a number, and which pair it has. Serves `frozen_pair`.
-use Rattle.std.proofs.Common.{◌≡◌, ◌≢◌, ℕ, ◌+◌, ◌<◌, List, [], ◌∷◌, map, slice_get, Option, Some, refl, sym, ap, ap₂, ◌∙◌, subst, zero, suc, arith}
+use Rattle.std.proofs.Common.{◌≡◌, ◌≢◌, ℕ, ◌<◌, List, [], ◌∷◌, map, slice_get, Option, Some, refl, sym, ap, ap₂, ◌∙◌, subst, zero, suc, arith}
 use Rattle.std.specs.Option.{option_map}
 use Rattle.std.specs.List.Sorted.{IsStrictlyIncreasing}
 use Rattle.std.proofs.lemmas.Option.{slice_get-map}
@@ -14,7 +14,6 @@ use Rattle.ist_core.specs.Snapshots.{Snapshot}
 use Rattle.ist_core.proofs.GrowingLemmas.{leaf_there}
 use Rattle.ist_core.proofs.LeafLemmas.{same_leaves}
 use Rattle.ist_build.specs.Calls.{IsLeafAmong}
-use Rattle.ist_dcss.proofs.FieldLemmas.{looked_row, row_low}
 use Rattle.ist_find.specs.Searches.{SeesLeaf}
 use Rattle.ist_find.proofs.ReadLemmas.{leaf_on}
 use Rattle.ist_layout.specs.Meanings.{ref_meant}
@@ -23,9 +22,8 @@ use Rattle.ist_layout.specs.declared.references.Ref.TheVariants.{Change, Empty, 
 use Rattle.laws_links.proofs.FewLeafLemmas.{leaves_stand}
 use Rattle.ist_rule.specs.declared.view.View.{View}
 use Rattle.ist_rule.specs.Faces.{TokenFace}
-use Rattle.ist_rule.specs.Learning.{GoesOnTo, Looked, now}
+use Rattle.ist_rule.specs.Learning.{GoesOnTo, now}
 use Rattle.ist_rule.specs.Rule.{IsSound}
-use Rattle.ist_rule.proofs.GoingOnLemmas.{looked_goes_on}
 use Rattle.ist_rule.proofs.LaterLemmas.{later-goes_on}
 use Rattle.ist_rule.proofs.WentOnLemmas.{goes_on_grow}
 use Rattle.ist_rows.specs.declared.callers.Caller.{Caller}
@@ -33,14 +31,11 @@ use Rattle.ist_tree.specs.declared.freezing.Frozen.{Frozen}
 use Rattle.ist_tree.specs.Calls.{HasSeenMore}
 use Rattle.ist_tree.specs.Faces.{PassFace}
 use Rattle.ist_tree.specs.Freezing.{IsFrozenFor, IsPairAt, IsStill, all_keys, no_key, one_key}
-use Rattle.ist_tree.specs.FreezeSteps.{IsLeafNumber, IsPairOf}
+use Rattle.ist_find.specs.Spans.{IsPairOf}
+use Rattle.ist_tree.specs.FreezeSteps.{IsLeafNumber}
 use Rattle.ist_tree.specs.Insides.{IsPassWith, face_as, pass_face}
 use Rattle.ist_tree.proofs.FreezingLemmas.{pairs_rise, still_leaves, still_stays}
 use Rattle.ist_tree.proofs.GoingLemmas.{IsLaterView, goes_later, pass_with_later}
-
--- the words of a leaf lie within the table
-pub leaf_low : (v : View) → IsSound v → (base k : ℕ) → SeesLeaf v base → k < 2 → base + k < v.words
-leaf_low v s base k r less = (row_low v s base (Leaf r.row) r.published k less).0
 
 -- ---- the leaf
 
@@ -121,23 +116,6 @@ number_seen v w ref i base n g =
     }
 
 -- ---- its pair
-
--- the words of a leaf were loaded
-pub pair_told : (v u w : View) (base key value p q : ℕ) → SeesLeaf v base → Looked v p key u
-    → p ≡ base + 0 → Looked u q value w → q ≡ base + 1
-    → IsPairOf (now v) base record { key = key; value = value }
-pair_told v u w base key value p q r first at second there =
-    let g = looked_goes_on v p key u first in
-    let h = looked_goes_on u q value w second in
-    let row = r.row in
-    let in_u = leaf_there (now v).pieces (now u).pieces (goes_on_grow v u g) base row r.published in
-    let in_w = leaf_there (now u).pieces (now w).pieces (goes_on_grow u w h) base row in_u in
-    record {
-      row = row;
-      published = r.published;
-      key_is = looked_row v p key u first base (Leaf row) 0 row.key in_u refl at;
-      value_is = looked_row u q value w second base (Leaf row) 1 row.value in_w refl there;
-    }
 
 same_row : (r s : LeafRow) → Some (Leaf r) ≡ Some (Leaf s) → r ≡ s
 same_row r s e = cc

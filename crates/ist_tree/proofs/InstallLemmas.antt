@@ -148,7 +148,7 @@ carried_starts old mid new due mine c number went made aims =
 -- ---- by passes
 
 module _ (who began new : Caller) (token : TokenFace) (command : Command)
-    (it : way.IsWay who began new token command) (r q : Option Full) where
+    (it : way.IsUpdateCall who began new token command) (r q : Option Full) where
   others_none : (event : Event) → whose event ≢ CallerOf who.number
       → InstallsNoStart who.number event
   others_none event other = others_start_nothing who.number event other

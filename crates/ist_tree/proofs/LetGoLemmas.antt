@@ -27,7 +27,7 @@ use Rattle.ist_tree.proofs.CountedLemmas.{way_counted}
 use Rattle.ist_tree.proofs.InstallLemmas.{way_starts}
 use Rattle.ist_tree.proofs.RefusalLemmas.{update_was_refused}
 use Rattle.ist_tree.proofs.UpdateLemmas.{came_nowhere}
-use Rattle.ist_tree.proofs.UpdateSeenLemmas.{IsWay, final_pass, seen_more, settled_then, v_to_b, w_start, w_to_x, w_words}
+use Rattle.ist_tree.proofs.UpdateSeenLemmas.{IsUpdateCall, final_pass, seen_more, settled_then, v_to_b, w_start, w_to_x, w_words}
 
 module _ (who began new : Caller) (token : TokenFace) (command : Command) (s : IsSound who.token.view)
     (r : Option Full) (p : IsPassWith who r)
@@ -36,7 +36,7 @@ module _ (who began new : Caller) (token : TokenFace) (command : Command) (s : I
     (table : token.table ≡ who.token.table) where
   module _ (d : IsLetGo began new)
       (given : Turned new.token.view (giving_up new.token.view) token.view) where
-    stops : IsWay who began new token command
+    stops : IsUpdateCall who began new token command
     stops =
         record {
           sound = s;

@@ -36,6 +36,7 @@ pub mod FreezeBelowLemmas
 pub mod FreezeLookLemmas
 pub mod FreezeCallLemmas
 pub mod FreezeEndLemmas
+pub mod FreezeResultLemmas
 pub mod FreezeReadLemmas
 pub mod FreezeMarkLemmas
 pub mod FurtherLemmas

@@ -38,7 +38,7 @@ use Rattle.laws_histories.proofs.PositionOnLemmas.{position_on}
 use Rattle.ist_tree.proofs.AskedLemmas.{asked_grows}
 use Rattle.ist_tree.proofs.GoingLemmas.{lawful_behind}
 use Rattle.ist_tree.proofs.ShortLemmas.{short_now}
-use Rattle.ist_tree.proofs.UpdateSeenLemmas.{IsWay, b_start, b_view, b_words, b_to_w, lawful_w, lawful_x, v_to_b, w_start, w_to_x, w_words, x_start, x_words}
+use Rattle.ist_tree.proofs.UpdateSeenLemmas.{IsUpdateCall, b_start, b_view, b_words, b_to_w, lawful_w, lawful_x, v_to_b, w_start, w_to_x, w_words, x_start, x_words}
 
 -- a longer log has no fewer puts
 pub puts_rise : (pairs : List Pair) (words : ℕ) (earlier log : Log) → GoesOn earlier log
@@ -52,7 +52,7 @@ puts_rise pairs words earlier log g =
     omega arith
 
 module _ (who began new : Caller) (token : TokenFace) (command : Command)
-    (it : IsWay who began new token command) (r q : Option Full) where
+    (it : IsUpdateCall who began new token command) (r q : Option Full) where
   -- the pass before the call
   abbrev before : PassFace
   before = pass_face who r

@@ -4,7 +4,7 @@ use Rattle.std.proofs.Common.{◌≡◌, ◌≢◌, ℕ, ◌⊎◌, List, [], �
 use Rattle.ist_core.specs.declared.calls.Call.{Call}
 use Rattle.ist_core.specs.declared.commands.Command.{Command}
 use Rattle.ist_core.specs.declared.events.Event.{Event}
-use Rattle.ist_core.specs.declared.events.Event.TheVariants.{Count, Decide, Draw, Enter, Finish, Install, Lose, Mark, Okay, Pass, Place, Reserve, Resolve, Root}
+use Rattle.ist_core.specs.declared.events.Event.TheVariants.{Install}
 use Rattle.ist_core.specs.declared.pairs.Pair.{Pair}
 use Rattle.ist_core.specs.declared.states.ChangeRow.{ChangeRow}
 use Rattle.ist_core.specs.Authors.{GoesOnBy, no_more, one_more, whose, LaterBy}
@@ -55,19 +55,7 @@ installs_no_update : (number : ℕ) (event : Event)
 installs_no_update number (Install by base rows) (inl other) =
     λ same. absurd (other (ap CallerOf same))
 installs_no_update number (Install by base rows) (inr p) = λ same. p
-installs_no_update number (Enter by) p = tt
-installs_no_update number (Reserve by base size) p = tt
-installs_no_update number (Okay by base) p = tt
-installs_no_update number (Decide by base said) p = tt
-installs_no_update number (Resolve by base) p = tt
-installs_no_update number (Count by node) p = tt
-installs_no_update number (Mark by node) p = tt
-installs_no_update number (Pass by node i word) p = tt
-installs_no_update number (Finish by node keys) p = tt
-installs_no_update number (Root by rebuild word rows) p = tt
-installs_no_update number (Draw by rebuild part) p = tt
-installs_no_update number (Place by rebuild i word rows) p = tt
-installs_no_update number (Lose by bases) p = tt
+installs_no_update number _ p = tt
 
 module _ (pairs : List Pair) (words : ℕ) where
   -- a put or remove of a caller that installs none stood there before

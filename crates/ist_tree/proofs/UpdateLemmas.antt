@@ -46,7 +46,7 @@ use Rattle.ist_tree.proofs.RefusalLemmas.{row_was_refused}
 use Rattle.ist_tree.proofs.UpdateSeenLemmas as way
 
 module _ (who began new : Caller) (token : TokenFace) (command : Command)
-    (it : way.IsWay who began new token command) (r q : Option Full) where
+    (it : way.IsUpdateCall who began new token command) (r q : Option Full) where
   -- the pass before the call
   abbrev before : PassFace
   before = pass_face who r

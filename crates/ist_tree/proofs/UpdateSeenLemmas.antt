@@ -30,7 +30,7 @@ use Rattle.ist_tree.proofs.GoingLemmas.{IsLaterView, caller_on, lawful_behind}
 use Rattle.ist_tree.proofs.SettlingLemmas.{settled_later}
 
 -- a pass began its call, worked, and ended it or gave it up
-pub record IsWay (who began new : Caller) (token : TokenFace) (command : Command) : Type 0 where
+pub record IsUpdateCall (who began new : Caller) (token : TokenFace) (command : Command) : Type 0 where
   pub sound : IsSound who.token.view
   pub pass : IsPass who
   pub begun : Turned who.token.view (beginning who.token.view (Some command)) began.token.view
@@ -44,7 +44,7 @@ pub record IsWay (who began new : Caller) (token : TokenFace) (command : Command
   pub table : token.table ≡ who.token.table
 
 module _ (who began new : Caller) (token : TokenFace) (command : Command)
-    (way : IsWay who began new token command) where
+    (way : IsUpdateCall who began new token command) where
   -- the view before the call
   abbrev v : View
   v = who.token.view

@@ -32,7 +32,7 @@ use Rattle.ist_tree.proofs.BeginningLemmas.{begun_calls}
 use Rattle.ist_tree.proofs.EndingLemmas.{can_end_so, ended_call, ending_in}
 use Rattle.ist_tree.proofs.RefusalLemmas.{keeps_first}
 use Rattle.ist_tree.proofs.UpdateLemmas.{adds_call, has_counted, leaves_none_due, row_refused, stamp_up}
-use Rattle.ist_tree.proofs.UpdateSeenLemmas.{IsWay, final_pass, seen_more, settled_then}
+use Rattle.ist_tree.proofs.UpdateSeenLemmas.{IsUpdateCall, final_pass, seen_more, settled_then}
 
 -- ---- the call that ends
 
@@ -130,7 +130,7 @@ module _ (who began new : Caller) (token : TokenFace) (command : Command) (s : I
       (c : CarriesOut began new words command reply met)
       (ended : Turned new.token.view (ending new.token.view (ended_call new.token.view reply)) token.view)
       (q : Option Full) (kept : q ≡ option_or r met) where
-    it : IsWay who began new token command
+    it : IsUpdateCall who began new token command
     it =
         record {
           sound = s;

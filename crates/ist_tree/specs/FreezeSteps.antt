@@ -1,16 +1,14 @@
 -- What the functions that freeze a tree promise each other: what is below the anchor, and what
 -- freezing it results in.
 use Rattle.std.specs.Prelude.{◌≡◌, ◌≢◌, ℕ, ◌⊎◌, List, slice_get, Option, Some, None, IfSome}
-use Rattle.ist_core.specs.declared.pairs.Pair.{Pair}
 use Rattle.ist_core.specs.declared.ports.Full.{Full}
-use Rattle.ist_core.specs.declared.states.LeafRow.{LeafRow}
 use Rattle.ist_core.specs.declared.states.RebuildRow.{RebuildRow}
 use Rattle.ist_core.specs.Lawful.{state_of}
 use Rattle.ist_core.specs.Leaves.{HasLeaves, PlacedLeaf}
 use Rattle.ist_core.specs.Links.{IsChild}
 use Rattle.ist_core.specs.Logs.{Log, GoesOn}
 use Rattle.ist_core.specs.Marking.{HasTarget}
-use Rattle.ist_core.specs.Pieces.{Leaf, Rebuild}
+use Rattle.ist_core.specs.Pieces.{Rebuild}
 use Rattle.ist_core.specs.Rebuilding.{IsFinishedWith, IsReplaced, IsStarted}
 use Rattle.ist_core.specs.References.{InnerAt, Ref}
 use Rattle.ist_core.specs.RowLayout.{anchor, change_words, rebuild_words}
@@ -168,10 +166,3 @@ pub record IsLeafNumber (t : Snapshot) (ref : Ref) (i base : ℕ) : Type 0 where
   pub leaf : PlacedLeaf
   pub there : slice_get leaves i ≡ Some leaf
   pub base_is : leaf.base ≡ base
-
--- the leaf with this base has this pair
-pub record IsPairOf (t : Snapshot) (base : ℕ) (pair : Pair) : Type 0 where
-  pub row : LeafRow
-  pub published : t.pieces base ≡ Some (Leaf row)
-  pub key_is : pair.key ≡ row.key
-  pub value_is : pair.value ≡ row.value

@@ -19,4 +19,3 @@ pub mod Finding
 pub mod Working
 pub mod Attempts
 pub mod FreezeSteps
-pub mod FreezeCalls

@@ -11,8 +11,7 @@ ghost use Rattle.ist_rule.specs.Faces.{word_count_of};
 ghost use Rattle.ist_rule.specs.Learning.{now, GoesOnTo, Turned, beginning};
 ghost use Rattle.ist_rule.specs.Rule.{IsSound};
 ghost use Rattle.ist_tree.specs.FreezeSteps.{IsRebuildOf, IsTopRebuild, IsAnchorsRow, HasStarted, HasMet, MayHaveMet, IsFreezeStopped};
-ghost use Rattle.ist_tree.specs.FreezeSteps.{GoesIdle, FreezesTarget, Freezes, IsLeafNumber, IsPairOf};
-ghost use Rattle.ist_tree.specs.FreezeCalls.{FreezesAll, StopsFreeze};
+ghost use Rattle.ist_tree.specs.FreezeSteps.{GoesIdle, FreezesTarget, Freezes, IsLeafNumber};
 ghost use Rattle.ist_tree.specs.Calls.{HasSeenMore};
 ghost use Rattle.ist_tree.specs.Freezing.{IsStill, IsFrozenFor, HasFrozen, IsPairAt};
 ghost use Rattle.ist_tree.specs.Freezing.{HasStartedNone, IsFreezeRefused, IsFrozenPair, LeavesRebuilt};
@@ -25,7 +24,8 @@ use crate::trees::Tree;
 use ist_build::leaf_and_loads;
 use ist_core::{Full, Pair};
 use ist_dcss::{help, target_of};
-use ist_layout::{ANCHOR, ANCHOR_SLOT_PLACE, LEAF_KEY_OFFSET, LEAF_VALUE_OFFSET, Ref};
+use ist_find::leaf_pair;
+use ist_layout::{ANCHOR, ANCHOR_SLOT_PLACE, Ref};
 use ist_mark::mark_and_count;
 use ist_rebuild::{Started, help_rebuild, start};
 use ist_rows::Caller;
@@ -275,22 +275,6 @@ fn frozen_leaf(table: &TreeTable, token: &mut TreeToken, frozen: Frozen, i: u64)
     }
 }
 
-// The pair of a leaf.
-fn pair_in(table: &TreeTable, token: &mut TreeToken, base: u32) -> Pair
-    requires same_table { token.old.table ≡ table.now.table }
-    requires leaf { SeesLeaf token.old.view base }
-    ensures same_table { token.new.table ≡ token.old.table }
-    ensures seen { GoesOnTo token.old.view token.new.view }
-    ensures pair { IsPairOf (now token.old.view) base result }
-    ensures counted { token.new.view.loaded ≡ token.old.view.loaded + 2 }
-{
-    know(token);
-    let key = load(table, token, u64::from(base) + LEAF_KEY_OFFSET);
-    know(token);
-    let value = load(table, token, u64::from(base) + LEAF_VALUE_OFFSET);
-    Pair { key, value }
-}
-
 // The pair number `i` of a frozen tree, and how many words were loaded for it.
 pub(crate) fn pair_and_loads(
     table: &TreeTable,
@@ -309,7 +293,7 @@ pub(crate) fn pair_and_loads(
     know(token);
     let leaf = frozen_leaf(table, token, frozen, i);
     know(token);
-    let pair = pair_in(table, token, leaf.0);
+    let pair = leaf_pair(table, token, leaf.0);
     (pair, leaf.1 + 2)
 }
 
@@ -338,18 +322,7 @@ impl Tree {
         ensures refused { KeepsRefusal pass.old pass.new }
         ensures done { HasStartsDone pass.new }
     {
-        match self.freeze_all(pass) {
-            Ok(frozen) => Ok(frozen),
-            Err(full) => Err(full),
-        }
-    }
-
-    // Freezes the whole tree in a call without a command, which is given up at its end.
-    fn freeze_all(&self, pass: &mut Pass) -> Result<Frozen, Full>
-        requires same_tree { pass.old.tree ≡ self.now }
-        ensures froze { IfOk result (FreezesAll pass.old pass.new) }
-        ensures stopped { IfErr result (StopsFreeze pass.old pass.new) }
-    {
+        // a call without a command, which is given up at its end
         begin(&self.table, &mut pass.caller);
         match freeze_below(&self.table, &mut pass.caller) {
             Ok(outcome) => {

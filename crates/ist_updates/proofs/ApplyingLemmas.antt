@@ -37,7 +37,7 @@ use Rattle.ist_updates.proofs.TriedWalkLemmas.{tries_update, went_table, tried_b
 -- ---- the begin
 
 -- the caller began a walk at the anchor, after walks of which none took effect
-pub record HasBegun (old who : Caller) (key : ℕ) (command : Command) : Type 0 where
+pub record HasBegunWalk (old who : Caller) (key : ℕ) (command : Command) : Type 0 where
   pub number : who.number ≡ old.number
   pub asked : IsAsked who command
   pub went : SearchedOn Tries old.token.view who.token.view
@@ -48,7 +48,7 @@ pub record HasBegun (old who : Caller) (key : ℕ) (command : Command) : Type 0 
 pub begun_walk : (old who : Caller) (token : TokenFace) (key : ℕ) (command : Command)
     → who.number ≡ old.number → IsAskedAgain old who command
     → Turned who.token.view (searching who.token.view) token.view
-    → HasBegun old (record who { token = token }) key command
+    → HasBegunWalk old (record who { token = token }) key command
 begun_walk old who token key command number s t =
     record {
       number = number;
@@ -61,7 +61,7 @@ begun_walk old who token key command number s t =
     }
 
 module _ (old who : Caller) (key : ℕ) (value : Option ℕ) (a : IsAsked old (command_for key value))
-    (b : HasBegun old who key (command_for key value)) where
+    (b : HasBegunWalk old who key (command_for key value)) where
   abbrev v : View
   v = who.token.view
 

@@ -2,7 +2,7 @@
 use Rattle.std.proofs.Common.{◌≡◌, ◌≢◌, ℕ, List, ◌∷◌, sym, ap, ◌∙◌, subst, inl, inr, arith}
 use Rattle.ist_core.specs.declared.commands.Command.{Command}
 use Rattle.ist_core.specs.declared.events.Event.{Event}
-use Rattle.ist_core.specs.declared.events.Event.TheVariants.{Enter, Reserve, Install, Okay, Decide, Resolve, Count, Mark, Pass, Finish, Root, Draw, Place, Lose}
+use Rattle.ist_core.specs.declared.events.Event.TheVariants.{Install}
 use Rattle.ist_core.specs.declared.pairs.Pair.{Pair}
 use Rattle.ist_core.specs.Authors.{GoesOnBy, no_more, one_more, whose, LaterBy}
 use Rattle.ist_core.specs.Lawful.{EachEnabled, state_of}
@@ -38,37 +38,13 @@ use Rattle.ist_updates.proofs.PublishLemmas.{installed_row}
 other_no_yes : (t : Snapshot) (number : ℕ) (event : Event) → whose event ≢ CallerOf number
     → InstallsNoYes t number event
 other_no_yes t number (Install by base rows) other = λ same. absurd (other (ap CallerOf same))
-other_no_yes t number (Enter c) other = tt
-other_no_yes t number (Reserve c b z) other = tt
-other_no_yes t number (Okay c b) other = tt
-other_no_yes t number (Decide c b d) other = tt
-other_no_yes t number (Resolve c b) other = tt
-other_no_yes t number (Count c n) other = tt
-other_no_yes t number (Mark c n) other = tt
-other_no_yes t number (Pass c n i w) other = tt
-other_no_yes t number (Finish c n k) other = tt
-other_no_yes t number (Root c o w rows) other = tt
-other_no_yes t number (Draw c o p) other = tt
-other_no_yes t number (Place c o i w rows) other = tt
-other_no_yes t number (Lose c bases) other = tt
+other_no_yes t number _ other = tt
 
 -- an event that installs nothing installs no yes
 pub none_no_yes : (t : Snapshot) (number : ℕ) (event : Event) → InstallsNone event
     → InstallsNoYes t number event
 none_no_yes t number (Install by base rows) none = absurd none
-none_no_yes t number (Enter c) none = tt
-none_no_yes t number (Reserve c b z) none = tt
-none_no_yes t number (Okay c b) none = tt
-none_no_yes t number (Decide c b d) none = tt
-none_no_yes t number (Resolve c b) none = tt
-none_no_yes t number (Count c n) none = tt
-none_no_yes t number (Mark c n) none = tt
-none_no_yes t number (Pass c n i w) none = tt
-none_no_yes t number (Finish c n k) none = tt
-none_no_yes t number (Root c o w rows) none = tt
-none_no_yes t number (Draw c o p) none = tt
-none_no_yes t number (Place c o i w rows) none = tt
-none_no_yes t number (Lose c bases) none = tt
+none_no_yes t number _ none = tt
 
 -- a log that went on by others, and by own events that install no yes, went on by such events
 pub no_yes_by : (t : Snapshot) (number : ℕ) (earlier log : Log)
@@ -101,19 +77,7 @@ module _ (pairs : List Pair) (words : ℕ) (last : Log) (h : EachEnabled (start 
       no_update : {k : ℕ} → k ≡ finish_kind → IsUpdate k → ⊥
       no_update e (inl f) = omega arith
       no_update e (inr f) = omega arith
-  finish_no_yes log (Enter c) until is = tt
-  finish_no_yes log (Reserve c b z) until is = tt
-  finish_no_yes log (Okay c b) until is = tt
-  finish_no_yes log (Decide c b d) until is = tt
-  finish_no_yes log (Resolve c b) until is = tt
-  finish_no_yes log (Count c n) until is = tt
-  finish_no_yes log (Mark c n) until is = tt
-  finish_no_yes log (Pass c n i w) until is = tt
-  finish_no_yes log (Finish c n k) until is = tt
-  finish_no_yes log (Root c o w rows) until is = tt
-  finish_no_yes log (Draw c o p) until is = tt
-  finish_no_yes log (Place c o i w rows) until is = tt
-  finish_no_yes log (Lose c bases) until is = tt
+  finish_no_yes log _ until is = tt
 
   -- a caller that only helped a rebuild installed no update that was decided yes
   pub served_no_yes : (earlier log : Log) → GoesOn log last

@@ -20,7 +20,7 @@ use Rattle.ist_updates.proofs.AskedLemmas.{asked_gone, asked_quiet}
 use Rattle.ist_updates.proofs.BehindLemmas.{behind_loads, behind_went}
 use Rattle.ist_updates.proofs.FurtherLemmas.{aimed_on, planned_aim, shut_further}
 use Rattle.ist_updates.proofs.ShortLemmas.{err_refused}
-use Rattle.ist_updates.proofs.SlotLemmas.{IsPrepared, loads_taken, prepared_taken}
+use Rattle.ist_updates.proofs.SlotLemmas.{HasPreparedPlan, loads_taken, prepared_taken}
 use Rattle.ist_updates.proofs.StandingLemmas.{way_on}
 use Rattle.ist_updates.proofs.StepLemmas.{prepares_none, prepares_tries}
 
@@ -65,7 +65,7 @@ module _ (old : Caller) (aim : Aim) (x : Way) (a : IsAsked old (command_by aim.k
 
   -- a prepared change that was carried out
   pub carried_changed : (words : ℕ) (mid new : Caller) (plan : PlannedChange) (taken : Bool)
-      → IsPrepared old mid aim x plan → MayReplace old.token.view aim.key aim.word x
+      → HasPreparedPlan old mid aim x plan → MayReplace old.token.view aim.key aim.word x
       → HasCarried mid plan taken new → HasChanged old aim x words (Ok taken) new
   carried_changed words mid new plan taken p room h =
       record {

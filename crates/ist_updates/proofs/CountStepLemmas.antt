@@ -1,13 +1,12 @@
 -- One Count on the way back: what was counted after it, and which row is due. Serves `counting`.
-use Rattle.std.proofs.Common.{◌≡◌, ◌≢◌, ℕ, ◌+◌, ◌≤◌, Bool, true, false, Option, List, [], ◌∷◌, ◌++◌, length, option_map, Some, None, refl, sym, ap, ◌∙◌, subst, ⊎_elim, append_assoc, arith}
+use Rattle.std.proofs.Common.{◌≡◌, ℕ, ◌+◌, ◌≤◌, Bool, true, false, Option, List, [], ◌∷◌, ◌++◌, length, option_map, Some, None, refl, sym, ap, ◌∙◌, subst, inr, ⊎_elim, append_assoc, arith}
 use Rattle.std.proofs.Math.Nat.{le_trans}
 use Rattle.ist_core.specs.declared.commands.Command.{Command}
-use Rattle.ist_core.specs.declared.events.Event.{Event}
-use Rattle.ist_core.specs.declared.events.Event.TheVariants.{Enter, Reserve, Install, Okay, Decide, Resolve, Count, Mark, Pass, Finish, Root, Draw, Place, Lose}
+use Rattle.ist_core.specs.declared.events.Event.TheVariants.{Count}
 use Rattle.ist_core.specs.declared.pairs.Pair.{Pair}
 use Rattle.ist_core.specs.declared.states.InnerRow.{InnerRow}
 use Rattle.ist_core.specs.Arithmetic.{limit}
-use Rattle.ist_core.specs.Authors.{GoesOnBy, no_more, one_more, whose, Later}
+use Rattle.ist_core.specs.Authors.{GoesOnBy, one_more}
 use Rattle.ist_core.specs.Deciding.{AllResolvedOf}
 use Rattle.ist_core.specs.Elements.{Among}
 use Rattle.ist_core.specs.Lawful.{EachEnabled, CanOpen, state_of}
@@ -15,19 +14,17 @@ use Rattle.ist_core.specs.Links.{Linked, Chain}
 use Rattle.ist_core.specs.Logs.{Log, GoesOn, same_log, one_event}
 use Rattle.ist_core.specs.Pieces.{Inner, counted}
 use Rattle.ist_core.specs.Rebuilding.{IsDue}
-use Rattle.ist_core.specs.Snapshots.{Snapshot}
 use Rattle.ist_core.specs.StartLayout.{start}
 use Rattle.ist_core.proofs.FateLemmas.{enabled_before, grow_between}
 use Rattle.ist_core.proofs.GrowingLemmas.{inner_there}
 use Rattle.ist_core.proofs.RowLemmas.{changed_at-same}
-use Rattle.ist_core.specs.declared.events.Who.TheVariants.{Caller as CallerOf}
 use Rattle.ist_core.proofs.PrefixLemmas.{goes_on_by}
 use Rattle.ist_rule.proofs.LaterLemmas.{goes_on_more, later-goes_on}
+use Rattle.ist_rule.proofs.WentOnLemmas.{later_by, later_by_more}
 use Rattle.laws_histories.specs.Calls.{MadeNoEntry}
 use Rattle.laws_stability.proofs.LaterLemmas.{ever_later}
 use Rattle.laws_calls.specs.Walking.{ComesBy}
 use Rattle.laws_calls.proofs.WalkLemmas.{meeting_on, met_chain, upper_rows}
-use Rattle.laws_calls.specs.Accepting.{InstallsNoYes}
 use Rattle.laws_calls.specs.Counting.{CountsFrom}
 use Rattle.laws_calls.proofs.InstalledLemmas.{installed_no_entry}
 use Rattle.laws_calls.proofs.UpLemmas.{counts_from}
@@ -37,36 +34,9 @@ use Rattle.ist_updates.specs.declared.updates.Due.{Due}
 use Rattle.ist_updates.specs.Counting.{WasCounted, CameToLimit}
 use Rattle.ist_updates.specs.Walking.{HasCountedAt, HasStood, IsTopmost, IsDueBy, HasCounted}
 use Rattle.ist_updates.proofs.NextRowLemmas.{get_here, counted_behind}
+use Rattle.ist_updates.proofs.AskedLemmas.{no_yes_by}
 use Rattle.ist_updates.proofs.OneUpdateLemmas.{yes_stays, reply_stays}
 use Rattle.ist_updates.proofs.OwnCountLemmas.{later_none, from_none, last_or_sooner, came_on, came_back, counted_on}
-
--- ---- no entry
-
--- what others do installs nothing of the caller
-other_installs : (t : Snapshot) (caller : ℕ) (event : Event) → whose event ≢ CallerOf caller
-    → InstallsNoYes t caller event
-other_installs t caller (Enter c) other = tt
-other_installs t caller (Reserve c base size) other = tt
-other_installs t caller (Install c base rows) other =
-    λ is change e up yes. other (ap CallerOf is)
-other_installs t caller (Okay c base) other = tt
-other_installs t caller (Decide c base said) other = tt
-other_installs t caller (Resolve c base) other = tt
-other_installs t caller (Count c n) other = tt
-other_installs t caller (Mark c n) other = tt
-other_installs t caller (Pass c n i word) other = tt
-other_installs t caller (Finish c n keys) other = tt
-other_installs t caller (Root c rebuild word rows) other = tt
-other_installs t caller (Draw c rebuild part) other = tt
-other_installs t caller (Place c rebuild i word rows) other = tt
-other_installs t caller (Lose c bases) other = tt
-
-others_install : (t : Snapshot) (caller : ℕ) (a b c : Log)
-    → GoesOnBy (InstallsNoYes t caller) a b → Later (CallerOf caller) b c
-    → GoesOnBy (InstallsNoYes t caller) a c
-others_install t caller a b _ g no_more = g
-others_install t caller a b _ g (one_more {log = log} event l other) =
-    one_more event (others_install t caller a b log g l) (other_installs t caller event other)
 
 -- ---- a Count
 
@@ -88,8 +58,8 @@ module _ (pairs : List Pair) (words : ℕ) (opens : CanOpen pairs words) (earlie
   no_entry resolved =
       let t = state_of pairs words longer in
       installed_no_entry pairs words opens log longer h caller
-      (others_install t caller log (Count caller row ∷ c.at) longer
-      (one_more (Count caller row) (others_install t caller log log c.at no_more c.later) tt) c.more)
+      (no_yes_by t caller log longer
+      (later_by_more (one_more (Count caller row) (later_by c.later) (inr tt)) (later_by c.more)))
       resolved
 
   -- the Count is after the earlier log

@@ -45,7 +45,8 @@ use Rattle.ist_updates.specs.Changing.{HasRows, filling_of}
 use Rattle.ist_updates.specs.Trying.{Tries, HasTakenEffect}
 use Rattle.ist_updates.proofs.AskedLemmas.{none_no_yes, no_yes_by, asked_still, asked_gone}
 use Rattle.ist_rows.proofs.GoneLemmas.{caller_gone}
-use Rattle.ist_updates.proofs.StepLemmas.{help_keeps, help_tries, help_installs_none}
+use Rattle.ist_updates.proofs.StepLemmas.{help_tries, help_installs_none}
+use Rattle.ist_dcss.proofs.HelperLemmas.{serves_keep}
 use Rattle.ist_updates.proofs.StandingLemmas.{no_start, fits_stands, reply_stays}
 use Rattle.ist_updates.proofs.EntryLemmas.{one_entry, one_more_entry}
 use Rattle.ist_updates.proofs.PairLemmas.{sound_now}
@@ -172,7 +173,7 @@ module _ (old mid : Caller) (token : TokenFace) (plan : PlannedChange) (c : IsCa
   -- the caller went on by tries only
   pub carried_gone : HasGone Tries old new
   carried_gone =
-      let it = caller_gone (Serves base) (help_keeps base) mid token caller refused g in
+      let it = caller_gone (Serves base) (serves_keep base) mid token caller refused g in
       record {
         caller = it.caller;
         number = number;

@@ -11,7 +11,6 @@ pub mod EndingLemmas
 pub mod ApplyingLemmas
 pub mod StepLemmas
 pub mod ShortLemmas
-pub mod SpareLemmas
 pub mod TakeLemmas
 pub mod PairLemmas
 pub mod PlanLemmas

@@ -1,7 +1,7 @@
 -- Which Counts a caller has made in a log that goes on. Serves the walk and its Counts.
 use Rattle.std.proofs.Common.{◌≡◌, ◌⊎◌, ℕ, List, ◌∷◌, refl, ap, inl, inr, arith}
 use Rattle.ist_core.specs.declared.events.Event.{Event}
-use Rattle.ist_core.specs.declared.events.Event.TheVariants.{Enter, Reserve, Install, Okay, Decide, Resolve, Count, Mark, Pass, Finish, Root, Draw, Place, Lose}
+use Rattle.ist_core.specs.declared.events.Event.TheVariants.{Count}
 use Rattle.ist_core.specs.declared.pairs.Pair.{Pair}
 use Rattle.ist_core.specs.Authors.{GoesOnBy, no_more, one_more, whose, Later, LaterBy}
 use Rattle.ist_core.specs.Logs.{Log, Counts, GoesOn, same_log, one_event}
@@ -19,37 +19,13 @@ CountsNone caller event = (node : ℕ) → ¬ (Counts caller node event)
 -- a Count of the caller is its own event
 counts_own : (caller node : ℕ) (event : Event) → Counts caller node event
     → whose event ≡ CallerOf caller
-counts_own caller node (Enter c) h = absurd h
-counts_own caller node (Reserve c base size) h = absurd h
-counts_own caller node (Install c base rows) h = absurd h
-counts_own caller node (Okay c base) h = absurd h
-counts_own caller node (Decide c base said) h = absurd h
-counts_own caller node (Resolve c base) h = absurd h
 counts_own caller node (Count c n) h = ap CallerOf h.0
-counts_own caller node (Mark c n) h = absurd h
-counts_own caller node (Pass c n i word) h = absurd h
-counts_own caller node (Finish c n keys) h = absurd h
-counts_own caller node (Root c rebuild word rows) h = absurd h
-counts_own caller node (Draw c rebuild part) h = absurd h
-counts_own caller node (Place c rebuild i word rows) h = absurd h
-counts_own caller node (Lose c bases) h = absurd h
+counts_own caller node _ h = absurd h
 
 -- a try counts nothing
 tries_none : (caller : ℕ) (event : Event) → Tries event → CountsNone caller event
-tries_none caller (Enter c) t node h = h
-tries_none caller (Reserve c base size) t node h = h
-tries_none caller (Install c base rows) t node h = h
-tries_none caller (Okay c base) t node h = h
-tries_none caller (Decide c base said) t node h = h
-tries_none caller (Resolve c base) t node h = h
 tries_none caller (Count c n) t node h = t
-tries_none caller (Mark c n) t node h = h
-tries_none caller (Pass c n i word) t node h = h
-tries_none caller (Finish c n keys) t node h = h
-tries_none caller (Root c rebuild word rows) t node h = h
-tries_none caller (Draw c rebuild part) t node h = h
-tries_none caller (Place c rebuild i word rows) t node h = h
-tries_none caller (Lose c bases) t node h = h
+tries_none caller _ t node h = h
 
 -- what others do is no Count of the caller
 pub later_none : {caller : ℕ} {a b : Log} → Later (CallerOf caller) a b

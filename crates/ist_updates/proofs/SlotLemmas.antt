@@ -204,7 +204,7 @@ module _ (old mid new : Caller) (aim : Aim) (x : Way) (plan : PlannedChange)
 -- ---- both together
 
 -- the caller has prepared the plan: it may be installed
-pub record IsPrepared (old new : Caller) (aim : Aim) (x : Way) (plan : PlannedChange) : Type 0 where
+pub record HasPreparedPlan (old new : Caller) (aim : Aim) (x : Way) (plan : PlannedChange) : Type 0 where
   pub gone : HasGone Prepares old new
   pub asked : IsAsked new (command_by aim.key x)
   pub rows : HasRows new plan
@@ -218,7 +218,7 @@ pub prepared : (old mid new : Caller) (aim : Aim) (x : Way) (plan : PlannedChang
     → IsPlanned mid aim x plan → IsCaller new → IsSound new.token.view
     → new ≡ with_own mid new.token.view.own
     → StoredAll new.token.view (rows_of (filling_of plan) plan.base)
-    → IsPrepared old new aim x plan
+    → HasPreparedPlan old new aim x plan
 prepared old mid new aim x plan a at unrefused h planned c s same stored =
     let f = filled_gone mid new h.refused c s same in
     let all = gone_more Prepares old mid new h f in
@@ -233,7 +233,7 @@ prepared old mid new aim x plan a at unrefused h planned c s same stored =
 
 -- if it took effect since the rows were prepared, it took effect since the first view
 pub prepared_taken : (old new : Caller) (aim : Aim) (x : Way) (plan : PlannedChange)
-    → IsAsked old (command_by aim.key x) → IsPrepared old new aim x plan
+    → IsAsked old (command_by aim.key x) → HasPreparedPlan old new aim x plan
     → MayReplace old.token.view aim.key aim.word x → (w : View)
     → HasTakenEffect new.token.view w new.number (command_by aim.key x) plan.row.node
     (reply_of (now new.token.view).pieces plan.row)

@@ -32,13 +32,13 @@ value_stays t u g key leaf row ref is there =
     (ap (λ o. value_in o key) (there ∙ sym (leaf_there t.pieces u.pieces g leaf row there)))
 
 -- what a slot that an update may change holds: nothing, or a leaf
-pub data StandsFor (t : Snapshot) (word : ℕ) : Type 0 where
-  nothing_there : ref_of word ≡ Some Empty → StandsFor t word
+pub data StandsInSlot (t : Snapshot) (word : ℕ) : Type 0 where
+  nothing_there : ref_of word ≡ Some Empty → StandsInSlot t word
   leaf_there_is : (leaf : ℕ) (row : LeafRow) → ref_of word ≡ Some (LeafAt leaf)
-      → t.pieces leaf ≡ Some (Leaf row) → StandsFor t word
+      → t.pieces leaf ≡ Some (Leaf row) → StandsInSlot t word
 
 -- a word that leaves room for a key names nothing or a leaf
-pub room_stands : (t : Snapshot) (key word : ℕ) → HasRoomFor t key word → StandsFor t word
+pub room_stands : (t : Snapshot) (key word : ℕ) → HasRoomFor t key word → StandsInSlot t word
 room_stands t key word (nothing e) = nothing_there e
 room_stands t key word (same_key leaf e l) = leaf_there_is leaf l.row e l.published
 
@@ -53,7 +53,7 @@ no_finish e (inr f) = omega arith
 
 -- the word that an update's change expects names nothing or a leaf
 pub fits_stands : (first : Snapshot) (log : Log) (row : ChangeRow) (fresh : List Row)
-    → FitsKind first log row fresh → IsUpdate row.kind → StandsFor (state first log) row.from
+    → FitsKind first log row fresh → IsUpdate row.kind → StandsInSlot (state first log) row.from
 fits_stands first log row fresh (a_put h) update =
     room_stands (state first log) row.key row.from h.from
 fits_stands first log row fresh (a_pair h) update =
@@ -64,7 +64,7 @@ fits_stands first log row fresh (a_start h) update = absurd (no_start h.kind upd
 fits_stands first log row fresh (a_finish h) update = absurd (no_finish h.kind update)
 
 -- so the reply to it stays
-pub reply_stays : (t u : Snapshot) → AllGrow t.pieces u.pieces → (key word : ℕ) → StandsFor t word
+pub reply_stays : (t u : Snapshot) → AllGrow t.pieces u.pieces → (key word : ℕ) → StandsInSlot t word
     → value_at t.pieces (ref_of word) key ≡ value_at u.pieces (ref_of word) key
 reply_stays t u g key word (nothing_there e) =
     subst (λ r. value_at t.pieces r key ≡ value_at u.pieces r key) (sym e) refl
@@ -100,7 +100,7 @@ way_on v w g key word (way.Pair value other other_key) h = (
 way_on v w g key word way.Clear h = (h.0, h.1, leaf_on (now v) (now w) g h.0 key h.2)
 
 -- the slot holds nothing or a leaf
-pub way_stands : (v : View) (key word : ℕ) (x : Way) → MayReplace v key word x → StandsFor (now v) word
+pub way_stands : (v : View) (key word : ℕ) (x : Way) → MayReplace v key word x → StandsInSlot (now v) word
 way_stands v key word (way.Leaf value) h = room_stands (now v) key word h
 way_stands v key word (way.Pair value other other_key) h =
     leaf_there_is other h.1.row h.0 h.1.published

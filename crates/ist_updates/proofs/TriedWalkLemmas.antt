@@ -2,7 +2,7 @@
 use Rattle.std.proofs.Common.{◌≡◌, ℕ, List, [], ◌++◌, length, Option, Some, None, sym, ap, ◌∙◌, subst, append-nil, arith}
 use Rattle.ist_core.specs.declared.commands.Command.{Command}
 use Rattle.ist_core.specs.declared.events.Event.{Event}
-use Rattle.ist_core.specs.declared.events.Event.TheVariants.{Enter, Reserve, Install, Okay, Decide, Resolve, Count, Mark, Pass, Finish, Root, Draw, Place, Lose}
+use Rattle.ist_core.specs.declared.events.Event.TheVariants.{Count}
 use Rattle.ist_core.specs.declared.pairs.Pair.{Pair}
 use Rattle.ist_core.specs.Authors.{GoesOnBy, no_more, LaterBy}
 use Rattle.ist_core.specs.Changes.{reply_of}
@@ -28,20 +28,8 @@ use Rattle.ist_updates.proofs.OwnCountLemmas.{CountsNone, tried_none, from_none,
 
 -- a try is a step of an update
 pub tries_update : (event : Event) → Tries event → Updates event
-tries_update (Enter c) t = t
-tries_update (Reserve c base size) t = t
-tries_update (Install c base rows) t = t
-tries_update (Okay c base) t = t
-tries_update (Decide c base said) t = t
-tries_update (Resolve c base) t = t
 tries_update (Count c n) t = absurd t
-tries_update (Mark c n) t = t
-tries_update (Pass c n i word) t = t
-tries_update (Finish c n keys) t = t
-tries_update (Root c rebuild word rows) t = t
-tries_update (Draw c rebuild part) t = t
-tries_update (Place c rebuild i word rows) t = t
-tries_update (Lose c bases) t = t
+tries_update _ t = t
 
 -- what holds for a view's table holds for the table of a view that it went on to
 pub went_table : (P : Event → Type 0) (v w : View) → WentOn P v w → (Q : List Pair → ℕ → Type 0)

@@ -20,7 +20,7 @@ use Rattle.ist_updates.specs.Asking.{Updates, command_for, IsAsked}
 use Rattle.ist_updates.specs.Ending.{IsWalk, HasTakenNone, HasDone, HasEnded}
 use Rattle.ist_updates.specs.Refusals.{WasRefused}
 use Rattle.ist_updates.specs.Walking.{IsAskedAgain, IsAskedStill, HasWalked}
-use Rattle.ist_updates.proofs.ApplyingLemmas.{HasBegun, all_searched, begun_walk, still_on, refused_first, still_counted, still_due, took_is_counted, took_ends, took_due, nothing_told}
+use Rattle.ist_updates.proofs.ApplyingLemmas.{HasBegunWalk, all_searched, begun_walk, still_on, refused_first, still_counted, still_due, took_is_counted, took_ends, took_due, nothing_told}
 use Rattle.ist_updates.proofs.FurtherLemmas.{begun_fresh}
 use Rattle.ist_updates.proofs.MissLemmas.{missed_since}
 use Rattle.ist_updates.proofs.ResultLemmas.{err_walked, ok_walked}
@@ -53,7 +53,7 @@ module _ {old who : Caller} {token : TokenFace} {key : ℕ} {value : Option ℕ}
   there = record who { token = token }
 
   -- it begins at the anchor
-  pub turn_begun : HasBegun old there key (command_for key value)
+  pub turn_begun : HasBegunWalk old there key (command_for key value)
   turn_begun = begun_walk old who token key (command_for key value) b.number b.again b.turned
 
   -- a caller that is still asked after the walk took no effect in the whole call

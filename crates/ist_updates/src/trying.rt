@@ -24,11 +24,11 @@ use crate::plans::{Aim, Way};
 use crate::updates::{Tried, When};
 use ist_core::{Full, LeafRow, Reply};
 use ist_dcss::help;
-use ist_find::Child;
-use ist_layout::{LEAF_KEY_OFFSET, LEAF_VALUE_OFFSET, Ref};
+use ist_find::{Child, leaf_pair};
+use ist_layout::Ref;
 use ist_rebuild::help_rebuild;
 use ist_rows::Caller;
-use ist_rule::{TreeTable, TreeToken, know, load};
+use ist_rule::{TreeTable, TreeToken, know};
 
 // What a try returns if its change was decided so.
 fn answer(taken: bool, reply: Reply) -> Tried
@@ -73,11 +73,11 @@ fn read_leaf(table: &TreeTable, token: &mut TreeToken, base: u32) -> LeafRow
     ensures seen { GoesOnTo token.old.view token.new.view }
     ensures published { (now token.new.view).pieces base ≡ Some (Leaf result) }
 {
-    know(token);
-    let key = load(table, token, u64::from(base) + LEAF_KEY_OFFSET);
-    know(token);
-    let value = load(table, token, u64::from(base) + LEAF_VALUE_OFFSET);
-    LeafRow { key, value }
+    let pair = leaf_pair(table, token, base);
+    LeafRow {
+        key: pair.key,
+        value: pair.value,
+    }
 }
 
 // Tries the update at an empty slot.

@@ -4,7 +4,7 @@ use Rattle.std.proofs.lemmas.Bool.Decides.{eqb_tells}
 use Rattle.std.proofs.lemmas.List.Elements.{filter-append}
 use Rattle.ist_core.specs.declared.commands.Command.TheVariants.{Put, Remove}
 use Rattle.ist_core.specs.declared.commands.Command.{Command}
-use Rattle.ist_core.specs.declared.events.Event.TheVariants.{Count, Decide, Draw, Enter, Finish, Install, Lose, Mark, Okay, Pass, Place, Reserve, Resolve, Root}
+use Rattle.ist_core.specs.declared.events.Event.TheVariants.{Decide}
 use Rattle.ist_core.specs.declared.events.Event.{Event}
 use Rattle.ist_core.specs.declared.pairs.Pair.{Pair}
 use Rattle.ist_core.specs.declared.states.ChangeRow.{ChangeRow}
@@ -158,20 +158,7 @@ module _ (pairs : List Pair) (words : ℕ) (opens : CanOpen pairs words) where
       case (Decide other again true) more last =
           two_entries earlier log h caller by base at since until update few other again m.before
           m.since last more
-      case (Decide other again false) more last = more
-      case (Enter c) more last = more
-      case (Reserve c b z) more last = more
-      case (Install c b rows) more last = more
-      case (Okay c b) more last = more
-      case (Resolve c b) more last = more
-      case (Count c n) more last = more
-      case (Mark c n) more last = more
-      case (Pass c n i w) more last = more
-      case (Finish c n k) more last = more
-      case (Root c o w rows) more last = more
-      case (Draw c o i) more last = more
-      case (Place c o i w rows) more last = more
-      case (Lose c bases) more last = more
+      case _ more last = more
 
   -- the update may be counted
   pub may_count : (earlier log : Log) → EachEnabled (start pairs words) log

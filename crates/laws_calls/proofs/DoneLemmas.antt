@@ -1,6 +1,6 @@
 -- What a caller has done stays done. Serves the settled law.
 use Rattle.std.proofs.Common.{List, Some, ap, arith, inl, inr, refl, subst, sym, ℕ, ⊎_elim, ◌+◌, ◌<◌, ◌∙◌, ◌∷◌, ◌≡◌, ◌≢◌, ◌≤◌, ◌⊎◌}
-use Rattle.ist_core.specs.declared.events.Event.TheVariants.{Count, Decide, Draw, Enter, Finish, Install, Lose, Mark, Okay, Pass, Place, Reserve, Resolve, Root}
+use Rattle.ist_core.specs.declared.events.Event.TheVariants.{Count, Install}
 use Rattle.ist_core.specs.declared.events.Event.{Event}
 use Rattle.ist_core.specs.declared.events.Who.TheVariants.{Caller}
 use Rattle.ist_core.specs.declared.pairs.Pair.{Pair}
@@ -184,34 +184,10 @@ pub others_start_nothing : (caller : ℕ) (event : Event) → whose event ≢ Ca
     → InstallsNoStart caller event
 others_start_nothing caller (Install by base rows) other =
     λ same change is kind. other (ap Caller same)
-others_start_nothing caller (Enter by) other = tt
-others_start_nothing caller (Reserve by base size) other = tt
-others_start_nothing caller (Okay by base) other = tt
-others_start_nothing caller (Decide by base said) other = tt
-others_start_nothing caller (Resolve by base) other = tt
-others_start_nothing caller (Count by node) other = tt
-others_start_nothing caller (Mark by node) other = tt
-others_start_nothing caller (Pass by node i word) other = tt
-others_start_nothing caller (Finish by node keys) other = tt
-others_start_nothing caller (Root by rebuild word rows) other = tt
-others_start_nothing caller (Draw by rebuild part) other = tt
-others_start_nothing caller (Place by rebuild i word rows) other = tt
-others_start_nothing caller (Lose by bases) other = tt
+others_start_nothing caller _ other = tt
 
 -- an event of others is no Count of the caller
 pub others_count_nothing : (caller : ℕ) (event : Event) → whose event ≢ Caller caller
     → CountsNothing caller event
 others_count_nothing caller (Count by at) other node counts = other (ap Caller counts.0)
-others_count_nothing caller (Install by base rows) other node counts = counts
-others_count_nothing caller (Enter by) other node counts = counts
-others_count_nothing caller (Reserve by base size) other node counts = counts
-others_count_nothing caller (Okay by base) other node counts = counts
-others_count_nothing caller (Decide by base said) other node counts = counts
-others_count_nothing caller (Resolve by base) other node counts = counts
-others_count_nothing caller (Mark by at) other node counts = counts
-others_count_nothing caller (Pass by at i word) other node counts = counts
-others_count_nothing caller (Finish by at keys) other node counts = counts
-others_count_nothing caller (Root by rebuild word rows) other node counts = counts
-others_count_nothing caller (Draw by rebuild part) other node counts = counts
-others_count_nothing caller (Place by rebuild i word rows) other node counts = counts
-others_count_nothing caller (Lose by bases) other node counts = counts
+others_count_nothing caller _ other node counts = counts

@@ -24,7 +24,7 @@ use Rattle.ist_core.proofs.PlaceLemmas.{absent, no_piece}
 use Rattle.ist_core.proofs.TallyLemmas.{count_at_most}
 use Rattle.laws_links.proofs.InductionLemmas.{grow_behind}
 use Rattle.laws_links.proofs.UntouchedLemmas.{on_chain_was_linked}
-use Rattle.laws_links.proofs.RowEventLemmas.{Came, BecameBy, as_it_was, by_count, by_decide, by_draw, by_finish, by_install, by_mark, by_place, by_resolve, by_root, came, from_new, from_old}
+use Rattle.laws_links.proofs.RowEventLemmas.{RowCame, BecameBy, as_it_was, by_count, by_decide, by_draw, by_finish, by_install, by_mark, by_place, by_resolve, by_root, came, from_new, from_old}
 use Rattle.ist_core.proofs.CallerLemmas.{known_step}
 use Rattle.laws_calls.specs.Settling.{MadeDue, due_before, due_now}
 use Rattle.ist_core.proofs.BornLemmas as born
@@ -203,7 +203,7 @@ module _ (pairs : List Pair) (words : ℕ) (opens : CanOpen pairs words) where
       → CountComes (start pairs words) log node x event
   count_comes log event h node x e = at (came pairs words log event h node (Inner x) e)
     where
-      at : Came (start pairs words) log event node (Inner x)
+      at : RowCame (start pairs words) log event node (Inner x)
           → CountComes (start pairs words) log node x event
       at (from_old p old turned) = turned_count log event node x p old turned
       at (from_new new none) = is_uncounted (born_uncounted log event h node x e none new)

@@ -1,18 +1,19 @@
 -- Ideal subtrees over rows that are added to others. Serves the law on ideal subtrees.
-use Rattle.std.proofs.Common.{Bool, List, None, Option, Some, [], false, if◌then◌else◌, inl, inr, refl, ap, subst, sym, true, ℕ, ⊎_elim, ◌==◌, ◌∙◌, ◌∷◌, ◌++◌, ◌≡◌}
+use Rattle.std.proofs.Common.{List, None, Option, Some, [], refl, ap, subst, sym, ℕ, ⊎_elim, ◌∙◌, ◌∷◌, ◌++◌, ◌≡◌}
 use Rattle.std.proofs.lemmas.List.{map-append}
 use Rattle.ist_core.specs.declared.lists.Row.{Row}
 use Rattle.ist_core.specs.declared.states.InnerRow.{InnerRow}
 use Rattle.ist_core.specs.declared.states.LeafRow.{LeafRow}
 use Rattle.ist_core.specs.Elements.{Among}
-use Rattle.ist_core.specs.Ideals.{AreIdeal, IsIdeal, IsTop, no_part, of_more, of_none, of_one, one_part}
+use Rattle.ist_core.specs.Ideals.{AreIdeal, IsIdeal, no_part, one_part}
 use Rattle.ist_core.specs.Leaves.{PlacedLeaf}
-use Rattle.ist_core.specs.Parts.{parts}
 use Rattle.ist_core.specs.Pieces.{Inner, Leaf, Piece, Pieces, inner_of, with_inners, with_row}
 use Rattle.ist_core.specs.References.{Ref, ref_of}
 use Rattle.ist_core.specs.Snapshots.{bases_of}
-use Rattle.ist_core.proofs.ElementLemmas.{among_left, among_right}
+use Rattle.ist_core.proofs.ElementLemmas.{among_left}
 use Rattle.ist_core.proofs.RowLemmas.{with_inners-other, with_inners-some}
+use Rattle.laws_links.proofs.NewTreeLemmas.{StandInOther, ideal_kept, parts_kept}
+use Rattle.laws_stability.proofs.IdealLemmas.{put_or_stood}
 
 -- ---- ideal subtrees elsewhere
 
@@ -20,42 +21,24 @@ module _ (ps qs : Pieces) (own : List ℕ)
     (leaf : (base : ℕ) (r : LeafRow) → ps base ≡ Some (Leaf r) → qs base ≡ Some (Leaf r))
     (inner : (base : ℕ) (r : InnerRow) → Among base own → ps base ≡ Some (Inner r)
     → qs base ≡ Some (Inner r)) where
-  top_over : (base : ℕ) (r : InnerRow) (leaves : List PlacedLeaf) (above : ℕ) → Among base own
-      → IsTop ps base r leaves above → IsTop qs base r leaves above
-  top_over base r leaves above i h =
-      record {
-        published = inner base r i h.published;
-        two = h.two;
-        higher = h.higher;
-        status = h.status;
-        count = h.count;
-        degree = h.degree;
-        size = h.size;
-        keys = h.keys;
-      }
+  -- the leaves and the rows that are in the first are in the second
+  stand : (bases : List ℕ) → ((base : ℕ) → Among base bases → Among base own)
+      → StandInOther ps qs bases
+  stand bases i = record { leaf = leaf; inner = λ base r j e. inner base r (i base j) e }
 
-  mutual
-    -- an ideal subtree is one wherever its leaves and rows are
-    pub ideal_over : (ref : Ref) (leaves : List PlacedLeaf) (above : ℕ) (bases : List ℕ)
-        → IsIdeal ps ref leaves above bases → ((base : ℕ) → Among base bases → Among base own)
-        → IsIdeal qs ref leaves above bases
-    ideal_over _ _ _ _ of_none i = of_none
-    ideal_over _ _ _ _ (of_one {base = base} {leaf = l} same e) i = of_one same (leaf base l.row e)
-    ideal_over _ _ above _ (of_more {base = base} {leaves = leaves} {rows = bases} r top under) i =
-        of_more r (top_over base r leaves above (i base (inl refl)) top)
-        (parts_over r.slots (parts leaves) base bases under (λ b j. i b (inr j)))
+  -- an ideal subtree is one wherever its leaves and rows are
+  pub ideal_over : (ref : Ref) (leaves : List PlacedLeaf) (above : ℕ) (bases : List ℕ)
+      → IsIdeal ps ref leaves above bases → ((base : ℕ) → Among base bases → Among base own)
+      → IsIdeal qs ref leaves above bases
+  ideal_over ref leaves above bases ideal i =
+      ideal_kept ps qs ref leaves above bases ideal (stand bases i)
 
-    -- ideal parts are ideal wherever their leaves and rows are
-    pub parts_over : (words : List ℕ) (behind : List (List PlacedLeaf)) (above : ℕ) (bases : List ℕ)
-        → AreIdeal ps words behind above bases → ((base : ℕ) → Among base bases → Among base own)
-        → AreIdeal qs words behind above bases
-    parts_over _ _ _ _ no_part i = no_part
-    parts_over _ _ above _
-        (one_part {words = words} {here = here} {rest = rest} {part = part} {behind = behind} ref is
-        first more) i =
-        one_part ref is
-        (ideal_over ref part above here first (λ b j. i b (among_left b here rest j)))
-        (parts_over words behind above rest more (λ b j. i b (among_right b here rest j)))
+  -- ideal parts are ideal wherever their leaves and rows are
+  pub parts_over : (words : List ℕ) (behind : List (List PlacedLeaf)) (above : ℕ) (bases : List ℕ)
+      → AreIdeal ps words behind above bases → ((base : ℕ) → Among base bases → Among base own)
+      → AreIdeal qs words behind above bases
+  parts_over words behind above bases are i =
+      parts_kept ps qs words behind above bases are (stand bases i)
 
 -- ideal parts with one more at the end are ideal parts
 pub parts_more : (ps : Pieces) (words : List ℕ) (behind : List (List PlacedLeaf)) (above : ℕ)
@@ -105,23 +88,12 @@ with_both ps (x ∷ xs) ys = ap (λ qs. with_row qs x.base (inner_of x.words)) (
 -- a row that is put at a free base is also there if the rows are put among others
 pub put_stands : (ps qs : Pieces) (rows : List Row) (base : ℕ) (p : Piece)
     → ps base ≡ None → with_inners ps rows base ≡ Some p → with_inners qs rows base ≡ Some p
-put_stands ps qs [] base p none e = absurd (clash (ps base) p none e)
+put_stands ps qs rows base p none e =
+    ⊎_elim (λ put. put) (λ stood. absurd (clash (ps base) none stood.0))
+    (put_or_stood ps qs rows base p e)
   where
-    clash : (o : Option Piece) (q : Piece) → o ≡ None → o ≡ Some q → ⊥
-    clash o q e f = cc
-put_stands ps qs (row ∷ rows) base p none e =
-    at (inner_of row.words) e (put_stands ps qs rows base p none)
-  where
-    at : (o : Option Piece) → with_row (with_inners ps rows) row.base o base ≡ Some p
-        → (with_inners ps rows base ≡ Some p → with_inners qs rows base ≡ Some p)
-        → with_row (with_inners qs rows) row.base o base ≡ Some p
-    at None f rest = rest f
-    at (Some x) f rest = here (base == row.base) f
-      where
-        here : (v : Bool) → (if v then Some x else with_inners ps rows base) ≡ Some p
-            → (if v then Some x else with_inners qs rows base) ≡ Some p
-        here true g = g
-        here false g = rest g
+    clash : (o : Option Piece) → o ≡ None → o ≡ Some p → ⊥
+    clash o e f = cc
 
 -- ---- two lists of rows that share no base, put where no row was before
 

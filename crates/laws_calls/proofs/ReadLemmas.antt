@@ -1,6 +1,6 @@
 -- If a slot reads as a rebuild, the rebuild was started. Serves the start law.
 use Rattle.std.proofs.Common.{List, None, Option, Some, [], ap, inl, inr, refl, subst, sym, ℕ, ⊎_elim, ◌∙◌, ◌∷◌, ◌≡◌, ◌⊎◌}
-use Rattle.ist_core.specs.declared.events.Event.TheVariants.{Count, Decide, Draw, Enter, Finish, Install, Lose, Mark, Okay, Pass, Place, Reserve, Resolve, Root}
+use Rattle.ist_core.specs.declared.events.Event.TheVariants.{Install, Place, Resolve}
 use Rattle.ist_core.specs.declared.events.Event.{Event}
 use Rattle.ist_core.specs.declared.pairs.Pair.{Pair}
 use Rattle.ist_core.specs.After.{side_of}
@@ -92,17 +92,7 @@ module _ (pairs : List Pair) (words : ℕ) (opens : CanOpen pairs words) where
       (ideal_no_rebuild (with_inners (state_of pairs words log).pieces rows) h.1.ref h.1.part
       h.1.root
       (bases_of rows) h.1.ideal other (one_ref h.1.ref (RebuildAt other) (sym h.1.ref_is ∙ e))))
-  keeps log (Enter caller) h = quiet_keeps log (Enter caller) h tt
-  keeps log (Reserve caller base size) h = quiet_keeps log (Reserve caller base size) h tt
-  keeps log (Okay caller base) h = quiet_keeps log (Okay caller base) h tt
-  keeps log (Decide caller base said) h = quiet_keeps log (Decide caller base said) h tt
-  keeps log (Count caller at) h = quiet_keeps log (Count caller at) h tt
-  keeps log (Mark caller at) h = quiet_keeps log (Mark caller at) h tt
-  keeps log (Pass caller at j word) h = quiet_keeps log (Pass caller at j word) h tt
-  keeps log (Finish caller at k) h = quiet_keeps log (Finish caller at k) h tt
-  keeps log (Root caller rebuild word rows) h = quiet_keeps log (Root caller rebuild word rows) h tt
-  keeps log (Draw caller rebuild part) h = quiet_keeps log (Draw caller rebuild part) h tt
-  keeps log (Lose caller bases) h = quiet_keeps log (Lose caller bases) h tt
+  keeps log event h = quiet_keeps log event h tt
 
   -- ---- the law
 

@@ -86,7 +86,7 @@ module _ (pairs : List Pair) (words : ℕ) (opens : CanOpen pairs words) where
     published : (state_of pairs words log).pieces base ≡ Some (Change change)
     to : ref_of change.to ≡ Some (RebuildAt rebuild)
 
-  record IsNew (log : Log) (event : Event) (base rebuild : ℕ) : Type 0 where
+  record IsNewRebuild (log : Log) (event : Event) (base rebuild : ℕ) : Type 0 where
     caller : ℕ
     rows : List Row
     is : event ≡ Install caller base rows
@@ -95,7 +95,7 @@ module _ (pairs : List Pair) (words : ℕ) (opens : CanOpen pairs words) where
   stood_or_new : (log : Log) (event : Event) → EachEnabled (start pairs words) (event ∷ log)
       → (base rebuild : ℕ) (x : ChangeRow) → ref_of x.to ≡ Some (RebuildAt rebuild)
       → ChangeComes (start pairs words) log base x event
-      → StoodBefore log base rebuild ⊎ IsNew log event base rebuild
+      → StoodBefore log base rebuild ⊎ IsNewRebuild log event base rebuild
   stood_or_new log event h base rebuild x to (change_was old) =
       inl record { change = x; published = old; to = to }
   stood_or_new log _ h base rebuild x to (is_installed {caller = caller} {rows = rows} k is) =
@@ -141,8 +141,8 @@ module _ (pairs : List Pair) (words : ℕ) (opens : CanOpen pairs words) where
       (λ s t. starts_are_one log h.0 rebuild base other s.change t.change s.published t.published
       s.to t.to)
     where
-      both : StoodBefore log base rebuild ⊎ IsNew log event base rebuild
-          → StoodBefore log other rebuild ⊎ IsNew log event other rebuild
+      both : StoodBefore log base rebuild ⊎ IsNewRebuild log event base rebuild
+          → StoodBefore log other rebuild ⊎ IsNewRebuild log event other rebuild
           → (StoodBefore log base rebuild → StoodBefore log other rebuild → base ≡ other)
           → base ≡ other
       both (inl s) (inl t) again = again s t

@@ -29,11 +29,11 @@ use Rattle.laws_histories.proofs.SearchLemmas.{ever_at, seen}
 use Rattle.laws_calls.specs.Walking.{ComesBy, IsChainOf, WalksTo, at_top, begins_by, goes_by, walks_down}
 
 -- a walk by children, each of which hung in its slot at some moment
-data Meets (pairs : List Pair) (words : ℕ) (log : Log) : ℕ → List ℕ → Type 0 where
-  no_meeting : Meets pairs words log anchor []
+data MeetsRows (pairs : List Pair) (words : ℕ) (log : Log) : ℕ → List ℕ → Type 0 where
+  no_meeting : MeetsRows pairs words log anchor []
   one_meeting : {node child : ℕ} {rows : List ℕ} (at : Log) (i : ℕ) → GoesOn at log
-      → Meets pairs words log node rows → IsChild (state_of pairs words at) node i child
-      → Meets pairs words log child (rows ++ child ∷ [])
+      → MeetsRows pairs words log node rows → IsChild (state_of pairs words at) node i child
+      → MeetsRows pairs words log child (rows ++ child ∷ [])
 
 -- ---- searches with their rows
 
@@ -171,7 +171,7 @@ module _ (pairs : List Pair) (words : ℕ) (opens : CanOpen pairs words) where
 
   -- the rows that were met are the chain of the node at each moment
   meets_only : (log : Log) → EachEnabled (start pairs words) log → (node : ℕ) (rows : List ℕ)
-      → Meets pairs words log node rows → (at : Log) → GoesOn at log → (others : List ℕ)
+      → MeetsRows pairs words log node rows → (at : Log) → GoesOn at log → (others : List ℕ)
       → Chain (state_of pairs words at) node others → others ≡ rows
   meets_only log h _ _ no_meeting at g others chain =
       anchor_chain at (enabled_before (start pairs words) at log g h) anchor others chain refl
@@ -187,7 +187,7 @@ module _ (pairs : List Pair) (words : ℕ) (opens : CanOpen pairs words) where
 
   -- they are the node's chain, if it was linked
   meets_chain : (log : Log) → EachEnabled (start pairs words) log → (node : ℕ) (rows : List ℕ)
-      → Meets pairs words log node rows → WasLinked (start pairs words) log node
+      → MeetsRows pairs words log node rows → WasLinked (start pairs words) log node
       → IsChainOf pairs words log node rows
   meets_chain log h node rows m was =
       let it = ever_from (start pairs words) (λ t. Linked t node) log was in
@@ -204,7 +204,7 @@ module _ (pairs : List Pair) (words : ℕ) (opens : CanOpen pairs words) where
   -- each row that a search met hung in the one before it at some moment
   comes_meets : (log : Log) → EachEnabled (start pairs words) log
       → (key began last node : ℕ) (rows : List ℕ)
-      → ComesBy pairs words log key began last node rows → Meets pairs words log node rows
+      → ComesBy pairs words log key began last node rows → MeetsRows pairs words log node rows
   comes_meets log h key began _ _ _ begins_by = no_meeting
   comes_meets log h key began _ _ _ (goes_by {least = least} {last = last} {node = node}
       {child = child} {rows = rows} c look) =
@@ -232,7 +232,7 @@ module _ (pairs : List Pair) (words : ℕ) (opens : CanOpen pairs words) where
   -- ---- a walk
 
   walk_meets : (log at : Log) → GoesOn at log → (node : ℕ) (rows : List ℕ)
-      → WalksTo pairs words at node rows → Meets pairs words log node rows
+      → WalksTo pairs words at node rows → MeetsRows pairs words log node rows
   walk_meets log _ g _ _ at_top = no_meeting
   walk_meets log _ g _ _ (walks_down {before = before} {at = at} {node = node} {child = child}
       {rows = rows} i w k c) =

@@ -2,7 +2,7 @@
 -- `laws.builds_come`.
 use Rattle.std.proofs.Common.{◌≡◌, ◌≢◌, ℕ, ◌+◌, ◌*◌, List, ◌∷◌, Some, refl, sym, ap, ◌∙◌, subst, inl, inr, arith}
 use Rattle.ist_core.specs.declared.events.Event.{Event}
-use Rattle.ist_core.specs.declared.events.Event.TheVariants.{Enter, Reserve, Install, Okay, Decide, Resolve, Count, Mark, Pass, Finish, Root, Draw, Place, Lose}
+use Rattle.ist_core.specs.declared.events.Event.TheVariants.{Root, Draw, Place, Lose}
 use Rattle.ist_core.specs.declared.lists.Row.{Row}
 use Rattle.ist_core.specs.declared.pairs.Pair.{Pair}
 use Rattle.ist_core.specs.declared.states.InnerRow.{InnerRow}
@@ -37,17 +37,7 @@ pub others_build : (number : ℕ) (event : Event) → whose event ≢ Caller num
 others_build number (Root c rebuild word rows) other = λ is. other (ap Caller is)
 others_build number (Place c rebuild i word rows) other = λ is. other (ap Caller is)
 others_build number (Lose c bases) other = λ is. other (ap Caller is)
-others_build number (Enter c) other = λ is. is
-others_build number (Reserve c base size) other = λ is. is
-others_build number (Install c change rows) other = λ is. is
-others_build number (Okay c change) other = λ is. is
-others_build number (Decide c change said) other = λ is. is
-others_build number (Resolve c change) other = λ is. is
-others_build number (Count c node) other = λ is. is
-others_build number (Mark c node) other = λ is. is
-others_build number (Pass c node i word) other = λ is. is
-others_build number (Finish c node keys) other = λ is. is
-others_build number (Draw c rebuild part) other = λ is. is
+others_build number _ other = λ is. is
 
 -- a log that went on without such an event does so by events of others
 pub without_later : (number : ℕ) {who : Who} {a b c : Log} → who ≡ Caller number
@@ -64,17 +54,7 @@ pub beaten_on : (number : ℕ) (sizes : List ℕ) (log : Log) (event : Event)
 beaten_on number sizes log (Root c rebuild word rows) out b = (out, inr b)
 beaten_on number sizes log (Place c rebuild i word rows) out b = (out, inr b)
 beaten_on number sizes log (Lose c bases) out b = (out, b)
-beaten_on number sizes log (Enter c) out b = b
-beaten_on number sizes log (Reserve c base size) out b = b
-beaten_on number sizes log (Install c change rows) out b = b
-beaten_on number sizes log (Okay c change) out b = b
-beaten_on number sizes log (Decide c change said) out b = b
-beaten_on number sizes log (Resolve c change) out b = b
-beaten_on number sizes log (Count c node) out b = b
-beaten_on number sizes log (Mark c node) out b = b
-beaten_on number sizes log (Pass c node i word) out b = b
-beaten_on number sizes log (Finish c node keys) out b = b
-beaten_on number sizes log (Draw c rebuild part) out b = b
+beaten_on number sizes log _ out b = b
 
 -- ---- roots
 

@@ -2,7 +2,7 @@
 -- `laws.enabled_events_come`.
 use Rattle.std.proofs.Common.{◌≡◌, ℕ, Option, Some, refl, ap, ◌∙◌, subst, sym, arith}
 use Rattle.ist_core.specs.declared.events.Event.{Event}
-use Rattle.ist_core.specs.declared.events.Event.TheVariants.{Enter, Reserve, Install, Okay, Decide, Resolve, Count, Mark, Pass, Finish, Root, Draw, Place, Lose}
+use Rattle.ist_core.specs.declared.events.Event.TheVariants.{Enter, Reserve, Install, Decide, Resolve, Count, Mark, Finish, Root, Draw, Place}
 use Rattle.ist_core.specs.declared.events.Who.{Who}
 use Rattle.ist_core.specs.Authors.{Later}
 use Rattle.ist_core.specs.Pieces.{Change, Inner, Rebuild, as_change, as_rebuild}
@@ -80,12 +80,7 @@ module _ (v : View) (s : IsSound v) where
       (ap (λ o. touch_of_place (now v) o i word) (ap as_rebuild can.published)
       ∙ ap (λ o. touch_in_root (now v) o i word) can.root_is)
       (slot_fast v s can.root i _ (in_row can.root_row can.root_published can.free))
-  place_fast place old new (Enter caller) x c = absurd x
-  place_fast place old new (Okay caller base) x c = absurd x
-  place_fast place old new (Count caller node) x c = absurd x
-  place_fast place old new (Pass caller node i word) x c = absurd x
-  place_fast place old new (Draw caller rebuild part) x c = absurd x
-  place_fast place old new (Lose caller bases) x c = absurd x
+  place_fast place old new _ x c = absurd x
 
   -- ---- after a log that may come
 
@@ -127,12 +122,7 @@ module _ (v : View) (s : IsSound v) where
     enabled_still (Place caller rebuild i word rows) x k can f =
         builds.place_stays v.start v.words m.lawful.opens caller
         (others k.mine) m.lawful.enabled rebuild i word rows can f
-    enabled_still (Enter caller) x k can f = absurd x
-    enabled_still (Okay caller base) x k can f = absurd x
-    enabled_still (Count caller node) x k can f = absurd x
-    enabled_still (Pass caller node i word) x k can f = absurd x
-    enabled_still (Draw caller rebuild part) x k can f = absurd x
-    enabled_still (Lose caller bases) x k can f = absurd x
+    enabled_still _ x k can f = absurd x
 
     -- an exchange adds nothing
     adds_nothing : (event : Event) → IsExchange event → AddsNothing event

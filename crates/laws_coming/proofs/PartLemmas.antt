@@ -1,6 +1,6 @@
 -- What was built for a part of a shared root may be put in place, or lost. Serves
 -- `laws.builds_come`.
-use Rattle.std.proofs.Common.{◌≡◌, ◌≢◌, ℕ, ◌<◌, List, slice_get, Some, refl, sym, ap, ◌∙◌, subst, inr, ⊎_elim, arith}
+use Rattle.std.proofs.Common.{◌≡◌, ◌≢◌, ℕ, ◌<◌, List, slice_get, Some, sym, ap, ◌∙◌, subst, ⊎_elim, arith}
 use Rattle.std.proofs.lemmas.Bool.Decides.{eqb_tells}
 use Rattle.std.proofs.lemmas.Option.{slice_get-get_or}
 use Rattle.std.specs.Prelude.{get_or}
@@ -11,22 +11,19 @@ use Rattle.ist_core.specs.Shapes.{shape}
 use Rattle.ist_core.specs.References.{ref_of, unset_word}
 use Rattle.ist_core.specs.Pieces.{Inner, as_rebuild}
 use Rattle.ist_core.specs.Snapshots.{bases_of, sizes_of}
-use Rattle.ist_core.specs.Authors.{Later}
 use Rattle.ist_core.specs.StartLayout.{start}
 use Rattle.ist_core.specs.Logs.{Log, same_log}
 use Rattle.ist_core.specs.Fairness.{IsBuild, build_part}
 use Rattle.ist_core.specs.Slots.{SlotHolds, in_row}
 use Rattle.ist_core.specs.Building.{CanPlace, IsBeaten}
-use Rattle.ist_core.specs.Rebuilding.{IsFinishedWith}
 use Rattle.ist_core.specs.Lawful.{state_of}
 use Rattle.ist_core.specs.Writing.{place_of_slot, touch_of_place, touch_in_root}
 use Rattle.ist_core.proofs.AddingLemmas.{held_free}
 use Rattle.ist_core.proofs.FateLemmas.{enabled_before}
-use Rattle.ist_core.proofs.GrowingLemmas.{rebuild_there, slot_remains}
+use Rattle.ist_core.proofs.GrowingLemmas.{slot_remains}
 use Rattle.ist_core.proofs.PlaceLemmas.{anchor_free}
 use Rattle.ist_core.proofs.ShapedLemmas.{shaped}
 use Rattle.ist_core.proofs.SlotLemmas.{slot_once}
-use Rattle.laws_links.proofs.FormLemmas.{finished_with_grows, started_grows}
 use Rattle.laws_links.proofs.InductionLemmas.{sound_behind}
 use Rattle.laws_links.proofs.NumberLemmas.{number_is}
 use Rattle.ist_rule.specs.declared.view.View.{View}
@@ -36,8 +33,6 @@ use Rattle.ist_core.proofs.PrefixLemmas.{goes_on_by}
 use Rattle.ist_rule.specs.Rule.{IsSound}
 use Rattle.ist_rule.specs.Learning.{now}
 use Rattle.ist_rule.specs.Conditions.{MayCome, CanMake, StoredAll, CanExchange, LeavesAt, CanExchangeOrLose}
-use Rattle.ist_rule.proofs.GoingOnLemmas.{callers_later}
-use Rattle.laws_stability.proofs.HoldingLemmas.{rows_later}
 use Rattle.laws_stability.proofs.SetLemmas.{set_by, set_later}
 use Rattle.laws_stability.proofs.SlotWordLemmas.{place_later, place_of_row}
 use Rattle.laws_stability.proofs.WordLemmas.{slot_word}
@@ -47,7 +42,7 @@ use Rattle.laws_coming.proofs.ComingLemmas.{exchange_comes}
 use Rattle.laws_coming.proofs.FilledLemmas.{beaten_part, slot_was}
 use Rattle.laws_coming.proofs.KnownLemmas.{IsFast, grow, slot_fast, fast_known, gone_missed}
 use Rattle.laws_coming.proofs.PlacedLemmas.{part_length, part_sizes}
-use Rattle.laws_coming.proofs.RootLemmas.{holds_sizes}
+use Rattle.laws_coming.proofs.RootLemmas.{rows_lost}
 
 module _ (v : View) (s : IsSound v) (number rebuild i word : ℕ) (rows : List Row)
     (mine : v.who ≡ Caller number) (stored : StoredAll v rows)
@@ -142,51 +137,23 @@ module _ (v : View) (s : IsSound v) (number rebuild i word : ℕ) (rows : List R
       → IsShown (state_of v.start v.words log) place found → found ≢ unset_word
       → LeavesAt v log (Lose number (bases_of rows)) place found
   part_loses was log m found shown differs =
-      let u = state_of v.start v.words log in
-      let g = grow v log m in
-      let low = s.is_true.low number mine in
-      let more = callers_later v.start v.words v.log log m.later in
       let since = without_later number mine was.since m.later in
-      let on = rebuild_there (now v).pieces u.pieces g rebuild b.row b.published in
       let set : b.row.root ≢ unset_word = set_by b.row.root _ b.root_is (λ q. cc) in
-      let done = subst (λ n. IsFinishedWith u n b.k) (sym on.2.target)
-      (finished_with_grows (now v) u g b.row.target b.k b.finished) in
       let first = enabled_before (start v.start v.words) was.prefix v.log
       (goes_on_by was.since) s.lawful.enabled in
       let slot = slot_was v.start v.words was.prefix v.log (goes_on_by was.since)
       s.lawful.enabled b.root i b.root_row b.root_published b.within place unset_word was.shown
       (at ∙ place_of_row (now v) b.root i b.root_row
       (anchor_free v.start v.words v.log s.lawful.enabled) b.root_published) (λ e. omega arith) in
-      record {
-        enabled = record {
-          known = omega arith;
-          cause = inr record {
-            sizes = sizes_of rows;
-            held = holds_sizes u number rows
-                (rows_later v.start v.words number
-                (subst (λ who. Later who v.log log) mine m.later) m.lawful.enabled
-                rows b.held);
-            once = b.once;
-            building = record {
-              rebuild = rebuild;
-              row = on.0;
-              published = on.1;
-              started = started_grows (now v) u g rebuild b.started;
-              k = b.k;
-              finished = done;
-              build = subst (IsBuild b.k) (sym sizes_fit.0) (build_part i b.shared sizes_fit.1);
-            };
-            beaten = subst (λ sizes. IsBeaten number sizes log) (sym sizes_fit.0)
-                (beaten_part v.start v.words s.lawful.opens number b.k log m.lawful.enabled rebuild
-                b.root i on.0 on.1 (ap (λ w. ref_of w) (on.2.rooted set) ∙ b.root_is) done
-                was.prefix slot log since same_log m.lawful.enabled found
-                (slot_behind log m found shown) differs
-                (λ w holds. slot_once (state_of v.start v.words was.prefix) b.root i w unset_word
-                (anchor_free v.start v.words was.prefix first) holds slot));
-          };
-        };
-        leaves = inr refl;
-      }
+      rows_lost v s number rebuild b.k rows mine b.row b.published b.started b.finished b.once
+      b.held (subst (IsBuild b.k) (sym sizes_fit.0) (build_part i b.shared sizes_fit.1)) log m place
+      found
+      (λ r there grows done. subst (λ sizes. IsBeaten number sizes log) (sym sizes_fit.0)
+      (beaten_part v.start v.words s.lawful.opens number b.k log m.lawful.enabled rebuild b.root i r
+      there (ap (λ w. ref_of w) (grows.rooted set) ∙ b.root_is) done was.prefix slot log since
+      same_log m.lawful.enabled found (slot_behind log m found shown) differs
+      (λ w holds. slot_once (state_of v.start v.words was.prefix) b.root i w unset_word
+      (anchor_free v.start v.words was.prefix first) holds slot)))
 
   -- the exchange of the slot may be the Place, or the Lose if it fails
   pub part_comes_or_loses : WasUnset v number place

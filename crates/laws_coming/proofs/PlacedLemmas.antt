@@ -4,7 +4,7 @@ use Rattle.std.proofs.Common.{◌≡◌, ◌≢◌, ℕ, ◌+◌, ◌*◌, ◌<�
 use Rattle.std.proofs.lemmas.List.FromFn.{get_or-map-range_with_len}
 use Rattle.std.proofs.lemmas.Option.{slice_get-map, slice_get_within, get_or_from_slice_get}
 use Rattle.ist_core.specs.declared.events.Event.{Event}
-use Rattle.ist_core.specs.declared.events.Event.TheVariants.{Enter, Reserve, Install, Okay, Decide, Resolve, Count, Mark, Pass, Finish, Root, Draw, Place, Lose}
+use Rattle.ist_core.specs.declared.events.Event.TheVariants.{Install, Resolve, Place}
 use Rattle.ist_core.specs.declared.lists.Row.{Row}
 use Rattle.ist_core.specs.declared.pairs.Pair.{Pair}
 use Rattle.ist_core.specs.declared.states.ChangeRow.{ChangeRow}
@@ -139,25 +139,4 @@ module _ (pairs : List Pair) (words : ℕ) where
       ((place_writes (state_of pairs words log) caller rebuild j word rows h.1
       (sound_behind pairs words log h.0) (anchor_free pairs words log h.0)).others node i unset_word
       before)
-  filled log (Enter caller) h node i w before now set =
-      quiet log (Enter caller) h tt node i w before now set
-  filled log (Reserve caller base size) h node i w before now set =
-      quiet log (Reserve caller base size) h tt node i w before now set
-  filled log (Okay caller base) h node i w before now set =
-      quiet log (Okay caller base) h tt node i w before now set
-  filled log (Decide caller base said) h node i w before now set =
-      quiet log (Decide caller base said) h tt node i w before now set
-  filled log (Count caller at) h node i w before now set =
-      quiet log (Count caller at) h tt node i w before now set
-  filled log (Mark caller at) h node i w before now set =
-      quiet log (Mark caller at) h tt node i w before now set
-  filled log (Pass caller at j word) h node i w before now set =
-      quiet log (Pass caller at j word) h tt node i w before now set
-  filled log (Finish caller at keys) h node i w before now set =
-      quiet log (Finish caller at keys) h tt node i w before now set
-  filled log (Root caller rebuild word rows) h node i w before now set =
-      quiet log (Root caller rebuild word rows) h tt node i w before now set
-  filled log (Draw caller rebuild part) h node i w before now set =
-      quiet log (Draw caller rebuild part) h tt node i w before now set
-  filled log (Lose caller bases) h node i w before now set =
-      quiet log (Lose caller bases) h tt node i w before now set
+  filled log event h node i w before now set = quiet log event h tt node i w before now set

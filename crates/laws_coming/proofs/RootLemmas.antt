@@ -13,8 +13,10 @@ use Rattle.ist_core.specs.Authors.{Later}
 use Rattle.ist_core.specs.StartLayout.{start}
 use Rattle.ist_core.specs.Logs.{Log}
 use Rattle.ist_core.specs.Fairness.{IsBuild, build_whole, build_top}
-use Rattle.ist_core.specs.Building.{HoldsSizes, CanRoot}
-use Rattle.ist_core.specs.Rebuilding.{IsFinishedWith}
+use Rattle.ist_core.specs.Building.{HoldsSizes, IsBeaten, CanRoot}
+use Rattle.ist_core.specs.Elements.{Distinct}
+use Rattle.ist_core.specs.Growing.{RebuildGrows}
+use Rattle.ist_core.specs.Rebuilding.{IsStarted, IsFinishedWith}
 use Rattle.ist_core.specs.Lawful.{state_of}
 use Rattle.ist_core.proofs.AddingLemmas.{held_free}
 use Rattle.ist_core.proofs.FateLemmas.{enabled_before}
@@ -46,6 +48,48 @@ pub holds_sizes : (t : Snapshot) (caller : ℕ) (rows : List Row) → HoldsRows 
     → HoldsSizes t caller (bases_of rows) (sizes_of rows)
 holds_sizes t caller [] held = tt
 holds_sizes t caller (row ∷ rows) held = (held.0, holds_sizes t caller rows held.1)
+
+-- the rows of a build for a started rebuild are lost if another's build of their sizes came first
+pub rows_lost : (v : View) (s : IsSound v) (number rebuild k : ℕ) (rows : List Row)
+    → v.who ≡ Caller number → (row : RebuildRow)
+    → (now v).pieces rebuild ≡ Some (Rebuild row) → IsStarted (now v) rebuild
+    → IsFinishedWith (now v) row.target k → Distinct (bases_of rows) → HoldsRows (now v) number rows
+    → IsBuild k (sizes_of rows) → (log : Log) → MayCome v log → (place found : ℕ)
+    → ((r : RebuildRow) → (state_of v.start v.words log).pieces rebuild ≡ Some (Rebuild r)
+    → RebuildGrows row r → IsFinishedWith (state_of v.start v.words log) r.target k
+    → IsBeaten number (sizes_of rows) log)
+    → LeavesAt v log (Lose number (bases_of rows)) place found
+rows_lost v s number rebuild k rows mine row there started finished once held build log m place
+    found beaten =
+    let u = state_of v.start v.words log in
+    let g = grow v log m in
+    let low = s.is_true.low number mine in
+    let more = callers_later v.start v.words v.log log m.later in
+    let on = rebuild_there (now v).pieces u.pieces g rebuild row there in
+    let done = subst (λ n. IsFinishedWith u n k) (sym on.2.target)
+    (finished_with_grows (now v) u g row.target k finished) in
+    record {
+      enabled = record {
+        known = omega arith;
+        cause = inr record {
+          sizes = sizes_of rows;
+          held = holds_sizes u number rows (rows_later v.start v.words number
+              (subst (λ who. Later who v.log log) mine m.later) m.lawful.enabled rows held);
+          once = once;
+          building = record {
+            rebuild = rebuild;
+            row = on.0;
+            published = on.1;
+            started = started_grows (now v) u g rebuild started;
+            k = k;
+            finished = done;
+            build = build;
+          };
+          beaten = beaten on.0 on.1 on.2 done;
+        };
+      };
+      leaves = inr refl;
+    }
 
 -- if there are rows, a shape is a shape of two keys or more
 pub shape_some : (k : ℕ) (rows : List Row) → rows ≢ [] → sizes_of rows ≡ shape k → 2 ≤ k
@@ -82,8 +126,7 @@ module _ (v : View) (s : IsSound v) (number rebuild word : ℕ) (rows : List Row
   root_behind : (log : Log) → MayCome v log → (found : ℕ)
       → IsShown (state_of v.start v.words log) (rebuild + rebuild_root_offset) found
       → (r : RebuildRow) × ((state_of v.start v.words log).pieces rebuild ≡ Some (Rebuild r))
-      × (found ≡ r.root) × (r.target ≡ b.row.target)
-      × (b.row.root ≢ unset_word → r.root ≡ b.row.root)
+      × (found ≡ r.root) × (b.row.root ≢ unset_word → r.root ≡ b.row.root)
   root_behind log m found shown =
       let u = state_of v.start v.words log in
       let on = rebuild_there (now v).pieces u.pieces (grow v log m) rebuild b.row b.published in (
@@ -91,7 +134,6 @@ module _ (v : View) (s : IsSound v) (number rebuild word : ℕ) (rows : List Row
         on.1,
         shown_in_row v.start v.words log m.lawful.enabled rebuild (Rebuild on.0) 3 on.0.root on.1
             refl (rebuild + rebuild_root_offset) found shown refl,
-        on.2.target,
         on.2.rooted,
       )
 
@@ -105,7 +147,7 @@ module _ (v : View) (s : IsSound v) (number rebuild word : ℕ) (rows : List Row
       (fast_known v _ (in_piece rebuild 3 (Rebuild b.row) b.published (omega arith)))
       (λ log m shown.
       let r = root_behind log m unset_word shown in
-      set.1 (sym (r.4 set.1) ∙ sym r.2)))
+      set.1 (sym (r.3 set.1) ∙ sym r.2)))
       (eqb_tells b.row.root unset_word)
     where
       can : b.row.root ≡ unset_word → CanRoot (now v) number rebuild word rows
@@ -141,43 +183,19 @@ module _ (v : View) (s : IsSound v) (number rebuild word : ℕ) (rows : List Row
       → found ≢ unset_word
       → LeavesAt v log (Lose number (bases_of rows)) (rebuild + rebuild_root_offset) found
   root_loses some was log m found shown differs =
-      let u = state_of v.start v.words log in
-      let r = root_behind log m found shown in
-      let low = s.is_true.low number mine in
-      let more = callers_later v.start v.words v.log log m.later in
       let since = without_later number mine was.since m.later in
-      let done = subst (λ n. IsFinishedWith u n b.k) (sym r.3)
-      (finished_with_grows (now v) u (grow v log m) b.row.target b.k b.finished) in
-      record {
-        enabled = record {
-          known = omega arith;
-          cause = inr record {
-            sizes = sizes_of rows;
-            held = holds_sizes u number rows
-                (rows_later v.start v.words number
-                (subst (λ who. Later who v.log log) mine m.later) m.lawful.enabled
-                rows b.held);
-            once = b.once;
-            building = record {
-              rebuild = rebuild;
-              row = r.0;
-              published = r.1;
-              started = started_grows (now v) u (grow v log m) rebuild b.started;
-              k = b.k;
-              finished = done;
-              build = root_build b.k rows some sizes_fit;
-            };
-            beaten = beaten_root v.start v.words s.lawful.opens number rebuild b.k (sizes_of rows)
-                sizes_fit was.prefix
-                (λ p e. sym (shown_in_row v.start v.words was.prefix
-                (enabled_before (start v.start v.words) was.prefix log (goes_on_by since)
-                m.lawful.enabled) rebuild (Rebuild p) 3 p.root e refl
-                (rebuild + rebuild_root_offset) unset_word was.shown refl))
-                log since m.lawful.enabled r.0 r.1 (λ e. differs (r.2 ∙ e)) done;
-          };
-        };
-        leaves = inr refl;
-      }
+      rows_lost v s number rebuild b.k rows mine b.row b.published b.started b.finished b.once
+      b.held (root_build b.k rows some sizes_fit) log m (rebuild + rebuild_root_offset) found
+      (λ r there grows done.
+      beaten_root v.start v.words s.lawful.opens number rebuild b.k (sizes_of rows) sizes_fit
+      was.prefix
+      (λ p e. sym (shown_in_row v.start v.words was.prefix
+      (enabled_before (start v.start v.words) was.prefix log (goes_on_by since) m.lawful.enabled)
+      rebuild (Rebuild p) 3 p.root e refl (rebuild + rebuild_root_offset) unset_word was.shown
+      refl))
+      log since m.lawful.enabled r there
+      (λ e. differs (shown_in_row v.start v.words log m.lawful.enabled rebuild (Rebuild r) 3 r.root
+      there refl (rebuild + rebuild_root_offset) found shown refl ∙ e)) done)
 
   -- the exchange of the root word may be the Root, or the Lose if it fails
   pub root_comes_or_loses : rows ≢ [] → WasUnset v number (rebuild + rebuild_root_offset)

@@ -18,7 +18,7 @@ use Rattle.ist_core.specs.Leaves.{PlacedLeaf}
 use Rattle.ist_core.specs.Ideals.{IsTop, IsIdeal, AreIdeal, of_none, of_one, of_more, no_part, one_part}
 use Rattle.ist_core.specs.Building.{IsRoot, root_whole, root_top}
 use Rattle.ist_core.proofs.PartLemmas.{sum-part_lens}
-use Rattle.ist_core.proofs.PublishingLemmas.{Stands, base_among, ideal_stands, publishes-with_inners}
+use Rattle.ist_core.proofs.PublishingLemmas.{LiesAt, base_among, ideal_stands, publishes-with_inners}
 use Rattle.ist_core.proofs.ShapeLemmas.{shape_none, shape_one, shape_many}
 use Rattle.ist_core.proofs.ShapedLemmas.{StandsShaped, ideal_shaped, root_shaped}
 
@@ -123,7 +123,7 @@ sizes_by qs (row ∷ rows) each =
 -- rows that are published on free bases have their words
 pub published_sizes : (ps : Pieces) (rows : List Row) → Distinct (bases_of rows)
     → ((base : ℕ) → Among base (bases_of rows) → ps base ≡ None)
-    → Each (λ base. Stands (with_inners ps rows) base) (bases_of rows)
+    → Each (λ base. LiesAt (with_inners ps rows) base) (bases_of rows)
     → sizes_at (with_inners ps rows) (bases_of rows) ≡ sizes_of rows
 published_sizes ps rows once free all =
     let p = publishes-with_inners ps rows all in
@@ -171,9 +171,9 @@ root_sizes ps rows word k leaves target once free many (root_top base row all e 
     let shaped : Each (StandsShaped qs) (base ∷ []) =
     subst (Each (StandsShaped qs)) one
     (root_shaped qs word k leaves target (bases_of rows) (root_top base row all e top unset one)) in
-    let stands : Each (λ b. Stands qs b) (base ∷ []) = ((Inner row, top.published), tt) in
+    let stands : Each (λ b. LiesAt qs b) (base ∷ []) = ((Inner row, top.published), tt) in
     of_top all
-    (sym (published_sizes ps rows once free (subst (Each (λ b. Stands qs b)) (sym one) stands))
+    (sym (published_sizes ps rows once free (subst (Each (λ b. LiesAt qs b)) (sym one) stands))
     ∙ ap (sizes_at qs) one
     ∙ ap (λ y. y ∷ []) (top_size qs base row leaves target top shaped.0 ∙ ap (λ n. inner_words
     (degree n)) many))

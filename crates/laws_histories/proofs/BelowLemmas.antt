@@ -17,7 +17,7 @@ use Rattle.ist_core.specs.Changes.{value_in}
 use Rattle.ist_core.proofs.ElementLemmas.{among_left, among_right, each_append}
 use Rattle.ist_core.proofs.NamingLemmas.{WordsName}
 use Rattle.ist_core.proofs.HomeLemmas.{HasOneHome}
-use Rattle.ist_core.proofs.RisingLemmas.{Rises}
+use Rattle.ist_core.proofs.RisingLemmas.{AreRisingKeys}
 use Rattle.ist_core.proofs.SplitLemmas.{key_of_leaf}
 use Rattle.ist_core.proofs.LeadingLemmas.{LiesIn, LeavesLie, lies_above, child_is}
 use Rattle.ist_core.proofs.UnderLemmas.{SaysWhere, leaves_lie_in, ReadsAs, slot_reads_as}
@@ -72,37 +72,37 @@ module _ (ps : Pieces) (In : ℕ → ℕ → Option Ref → Type 0) (Lies : ℕ 
 -- ---- each search ends
 
 -- the search for a key ends with no value, or with the value of a leaf of the key
-pub record IsEnd (key : ℕ) (leaves : List PlacedLeaf) (value : Option ℕ) : Type 0 where
+pub record IsSearchEnd (key : ℕ) (leaves : List PlacedLeaf) (value : Option ℕ) : Type 0 where
   pub cases : (value ≡ None) ⊎ ((leaf : PlacedLeaf) × Among leaf leaves × (leaf.row.key ≡ key) × (value ≡ Some leaf.row.value))
 
 module _ (ps : Pieces) (shaped : (base : ℕ) (r : InnerRow) → ps base ≡ Some (Inner r) → HasDegree r)
     (key : ℕ) where
   -- an end in the first of two lists is one in both
-  end_left : (xs ys : List PlacedLeaf) (value : Option ℕ) → IsEnd key xs value
-      → IsEnd key (xs ++ ys) value
+  end_left : (xs ys : List PlacedLeaf) (value : Option ℕ) → IsSearchEnd key xs value
+      → IsSearchEnd key (xs ++ ys) value
   end_left xs ys value h =
       record { cases = ⊎_elim (λ e. inl e) (λ w. inr (w.0, among_left w.0 xs ys w.1, w.2, w.3)) h.cases }
 
   -- an end in the second of two lists is one in both
-  end_right : (xs ys : List PlacedLeaf) (value : Option ℕ) → IsEnd key ys value
-      → IsEnd key (xs ++ ys) value
+  end_right : (xs ys : List PlacedLeaf) (value : Option ℕ) → IsSearchEnd key ys value
+      → IsSearchEnd key (xs ++ ys) value
   end_right xs ys value h =
       record { cases = ⊎_elim (λ e. inl e) (λ w. inr (w.0, among_right w.0 xs ys w.1, w.2, w.3)) h.cases }
 
   -- a leaf is an end
   leaf_end : (base : ℕ) (r : LeafRow)
-      → IsEnd key (record { base = base; row = r } ∷ []) (value_in (Some (Leaf r)) key)
+      → IsSearchEnd key (record { base = base; row = r } ∷ []) (value_in (Some (Leaf r)) key)
   leaf_end base r = at (r.key == key) refl
     where
       at : (v : Bool) → (r.key == key) ≡ v
-          → IsEnd key (record { base = base; row = r } ∷ []) (if v then Some r.value else None)
+          → IsSearchEnd key (record { base = base; row = r } ∷ []) (if v then Some r.value else None)
       at true e =
           record { cases = inr (record { base = base; row = r }, inl refl, (let same : r.key ≡ key = grind (arith, nat_tests) in same), refl) }
       at false e = record { cases = inl refl }
 
   mutual
     ends_in : (ref : Option Ref) (leaves : List PlacedLeaf) → HasLeaves ps ref leaves
-        → (value : Option ℕ) × Finds ps key ref value × IsEnd key leaves value
+        → (value : Option ℕ) × Finds ps key ref value × IsSearchEnd key leaves value
     ends_in _ _ none_here = (None, in_nothing, record { cases = inl refl })
     ends_in _ _ (leaf_here {base = base} r e) =
         (value_in (Some (Leaf r)) key, in_leaf r e, leaf_end base r)
@@ -116,7 +116,7 @@ module _ (ps : Pieces) (shaped : (base : ℕ) (r : InnerRow) → ps base ≡ Som
 
     ends_slot : (words : List ℕ) (leaves : List PlacedLeaf) → SlotsHaveLeaves ps words leaves
         → (j : ℕ) → j < length words
-        → (word : ℕ) × (value : Option ℕ) × (slice_get words j ≡ Some word) × Finds ps key (logical ps word) value × IsEnd key leaves value
+        → (word : ℕ) × (value : Option ℕ) × (slice_get words j ≡ Some word) × Finds ps key (logical ps word) value × IsSearchEnd key leaves value
     ends_slot _ _ no_slot j short = absurd (omega arith)
     ends_slot _ _ (one_slot {word = word} {words = words} {here = here} {rest = rest} first more) zero short =
         let it = ends_in (logical ps word) here first in
@@ -128,8 +128,8 @@ module _ (ps : Pieces) (shaped : (base : ℕ) (r : InnerRow) → ps base ≡ Som
 -- ---- the value of each key
 
 -- if the keys of leaves are strictly increasing, so are the keys of their pairs
-pub pairs_rise : (leaves : List PlacedLeaf) → Rises key_of_leaf leaves
-    → Rises (λ p. p.key) (map pair_of leaves)
+pub pairs_rise : (leaves : List PlacedLeaf) → AreRisingKeys key_of_leaf leaves
+    → AreRisingKeys (λ p. p.key) (map pair_of leaves)
 pairs_rise [] h = tt
 pairs_rise (leaf ∷ leaves) h = (each leaves h.0, pairs_rise leaves h.1)
   where

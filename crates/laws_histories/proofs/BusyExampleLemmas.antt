@@ -14,14 +14,14 @@ use Rattle.ist_core.specs.Installing.{CanInstall, same_key, a_put}
 use Rattle.ist_core.specs.Deciding.{CanOkay, CanDecide, CanResolve, CanCount}
 use Rattle.ist_core.specs.Enabled.{CanReserve}
 use Rattle.ist_core.specs.Lawful.{EachEnabled}
-use Rattle.ist_core.proofs.RefusalLemmas.{NotRefused, NoneRefused}
+use Rattle.ist_core.proofs.RefusalLemmas.{NotRefused, NoneDecidedNo}
 use Rattle.laws_histories.specs.ExampleRebuilds.{again_rows, again_reserved, again_installed, again_okayed, again_decided, again_resolved, put_again}
 use Rattle.laws_histories.proofs.HeldExampleLemmas.{leaf_fair, put_fair}
-use Rattle.laws_histories.proofs.ReadyExampleLemmas.{three, again, ten, left, top, IsReady}
+use Rattle.laws_histories.proofs.ReadyExampleLemmas.{three, again, ten, left, top, IsBeforePut}
 
 -- the leaf may be reserved
 leaf_reserved : (log : Log) (leaf from old count : ℕ)
-    → IsReady (state three log) leaf from old count
+    → IsBeforePut (state three log) leaf from old count
     → leaf + 11 ≤ 200 → CanReserve (state three log) 0 leaf 2
 leaf_reserved log leaf from old count ready room =
     let t = state three log in
@@ -41,7 +41,7 @@ leaf_reserved log leaf from old count ready room =
 
 -- the change may be reserved
 change_reserved : (log : Log) (leaf from old count : ℕ)
-    → IsReady (state three log) leaf from old count → leaf + 11 ≤ 200
+    → IsBeforePut (state three log) leaf from old count → leaf + 11 ≤ 200
     → CanReserve (state three (Reserve 0 leaf 2 ∷ log)) 0 (leaf + 2) 9
 change_reserved log leaf from old count ready room =
     let t = state three log in
@@ -87,9 +87,9 @@ left_chain t anchor top_row =
 
 -- the put may be installed
 installed : (log : Log) (leaf from to old count : ℕ)
-    → IsReady (state three log) leaf from old count
+    → IsBeforePut (state three log) leaf from old count
     → ref_of to ≡ Some (LeafAt leaf)
-    → NoneRefused (state three log).pieces
+    → NoneDecidedNo (state three log).pieces
     → CanInstall three (again_reserved leaf (leaf + 2) log) 0 (leaf + 2)
     (again_rows leaf (leaf + 2) from to)
 unfolding NotRefused
@@ -151,7 +151,7 @@ pub record IsMade (log : Log) (leaf from to count : ℕ) : Type 0 where
 
 -- the left row is seen open
 okayed : (log : Log) (leaf from to old count : ℕ)
-    → IsReady (state three log) leaf from old count
+    → IsBeforePut (state three log) leaf from old count
     → IsMade log leaf from to count
     → CanOkay (state three (again_installed leaf (leaf + 2) from to log)) 0 (leaf + 2)
 okayed log leaf from to old count ready made =
@@ -164,7 +164,7 @@ okayed log leaf from to old count ready made =
 
 -- the put may be decided yes
 decided : (log : Log) (leaf from to old count : ℕ)
-    → IsReady (state three log) leaf from old count
+    → IsBeforePut (state three log) leaf from old count
     → IsMade log leaf from to count
     → CanDecide (state three (again_okayed leaf (leaf + 2) from to log))
     (again_okayed leaf (leaf + 2) from to log) 0 (leaf + 2) true
@@ -178,7 +178,7 @@ decided log leaf from to old count ready made =
 
 -- the change may leave its slot
 resolved : (log : Log) (leaf from to old count : ℕ)
-    → IsReady (state three log) leaf from old count
+    → IsBeforePut (state three log) leaf from old count
     → IsMade log leaf from to count
     → CanResolve (state three (again_decided leaf (leaf + 2) from to log)) 0 (leaf + 2)
 resolved log leaf from to old count ready made =
@@ -197,7 +197,7 @@ neither (inr k) = k
 
 -- the put may be counted at the left row
 counted_once : (log : Log) (leaf from to old count : ℕ)
-    → IsReady (state three log) leaf from old count
+    → IsBeforePut (state three log) leaf from old count
     → IsMade log leaf from to count
     → CanCount three (again_resolved leaf (leaf + 2) from to log) 0 11
 counted_once log leaf from to old count ready made =
@@ -224,9 +224,9 @@ counted_once log leaf from to old count ready made =
 
 -- a put is enabled, event by event
 pub put_enabled : (log : Log) (leaf from to old count : ℕ)
-    → IsReady (state three log) leaf from old count
+    → IsBeforePut (state three log) leaf from old count
     → IsMade log leaf from to count → leaf + 11 ≤ 200 → ref_of to ≡ Some (LeafAt leaf)
-    → NoneRefused (state three log).pieces → EachEnabled three log
+    → NoneDecidedNo (state three log).pieces → EachEnabled three log
     → EachEnabled three (put_again leaf (leaf + 2) from to log)
 put_enabled log leaf from to old count ready made room to_is none enabled = (
   (

@@ -16,7 +16,7 @@ use Rattle.ist_core.proofs.EntryLemmas.{is_sorted-rising}
 use Rattle.ist_core.proofs.PlaceLemmas.{anchor_free}
 use Rattle.ist_core.proofs.OrderLemmas.{names}
 use Rattle.ist_core.proofs.ParentLemmas.{one_home}
-use Rattle.ist_core.proofs.RisingLemmas.{Rises}
+use Rattle.ist_core.proofs.RisingLemmas.{AreRisingKeys}
 use Rattle.ist_core.proofs.UnderLemmas.{leaves_under, slot_reads_as}
 use Rattle.ist_core.proofs.LeafOrderLemmas.{leaves_lie, next_from_rises}
 use Rattle.laws_links.proofs.ExistLemmas.{HasSome}
@@ -27,7 +27,7 @@ use Rattle.laws_histories.proofs.ValueLemmas.{value_of, get-map_of, same_gets}
 use Rattle.laws_histories.proofs.FindLemmas.{finds_once}
 use Rattle.laws_histories.proofs.BelowLemmas.{pairs_rise}
 use Rattle.laws_histories.proofs.RootLemmas.{named_value}
-use Rattle.laws_histories.proofs.TellLemmas.{Told}
+use Rattle.laws_histories.proofs.TellLemmas.{ToldAfter}
 use Rattle.laws_histories.proofs.ToldLemmas.{told}
 use Rattle.laws_histories.proofs.OpeningLemmas.{start_contents}
 use Rattle.laws_histories.proofs.NeededLemmas.{all_needed}
@@ -53,7 +53,7 @@ keys-entries [] = refl
 keys-entries (p ∷ pairs) = ap (λ ks. p.key ∷ ks) (keys-entries pairs)
 
 -- pairs with strictly increasing keys are the pairs of their map
-pairs_of-map_of : (pairs : List Pair) → Rises (λ p. p.key) pairs → pairs_of (map_of pairs) ≡ pairs
+pairs_of-map_of : (pairs : List Pair) → AreRisingKeys (λ p. p.key) pairs → pairs_of (map_of pairs) ≡ pairs
 pairs_of-map_of pairs rise =
     let es = map entry pairs in
     let sorted =
@@ -88,7 +88,7 @@ module _ (pairs : List Pair) (words : ℕ) (opens : CanOpen pairs words) where
       (tree_value [] tt record { leaves = it.leaves; reached = it.reached } key)
 
   -- what the tree gives for each key after the changes
-  pub told_at : (log : Log) → EachEnabled (start pairs words) log → Told pairs words log
+  pub told_at : (log : Log) → EachEnabled (start pairs words) log → ToldAfter pairs words log
   told_at log h = told pairs words opens (all_needed pairs words opens) opening log h
 
   -- some leaves lie in the tree
@@ -100,7 +100,7 @@ module _ (pairs : List Pair) (words : ℕ) (opens : CanOpen pairs words) where
 
   -- the keys of the pairs of these leaves are strictly increasing
   rise_at : (log : Log) (h : EachEnabled (start pairs words) log)
-      → Rises (λ p. p.key) (map pair_of (leaves_at log h).leaves)
+      → AreRisingKeys (λ p. p.key) (map pair_of (leaves_at log h).leaves)
   rise_at log h =
       let t = state_of pairs words log in
       let has = leaves_at log h in

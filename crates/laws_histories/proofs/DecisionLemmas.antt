@@ -3,7 +3,7 @@ use Rattle.std.proofs.Common.{◌≡◌, ◌≢◌, ◌⊎◌, Bool, ℕ, true, 
 use Rattle.ist_core.specs.declared.pairs.Pair.{Pair}
 use Rattle.ist_core.specs.declared.states.ChangeRow.{ChangeRow}
 use Rattle.ist_core.specs.declared.events.Event.{Event}
-use Rattle.ist_core.specs.declared.events.Event.TheVariants.{Enter, Reserve, Install, Okay, Decide, Resolve, Count, Mark, Pass, Finish, Root, Draw, Place, Lose}
+use Rattle.ist_core.specs.declared.events.Event.TheVariants.{Okay, Decide}
 use Rattle.ist_core.specs.References.{ChangeAt, ref_of, word_of}
 use Rattle.ist_core.specs.Statuses.{decided_yes}
 use Rattle.ist_core.specs.Pieces.{Change, with_decision}
@@ -196,19 +196,7 @@ module _ (pairs : List Pair) (words : ℕ) (opens : CanOpen pairs words) where
           open_unfinished pairs words opens log h.0 change.node
           (subst (λ x. IsOpen t x) node can.node_open)
           (finished_grows (state_of pairs words earlier) t grows change.node f)
-      at (Enter caller) j same = same
-      at (Reserve caller b size) j same = same
-      at (Install caller b rows) j same = same
-      at (Decide caller b said) j same = same
-      at (Resolve caller b) j same = same
-      at (Count caller n) j same = same
-      at (Mark caller n) j same = same
-      at (Pass caller n i w) j same = same
-      at (Finish caller n keys) j same = same
-      at (Root caller o w rows) j same = same
-      at (Draw caller o part) j same = same
-      at (Place caller o i w rows) j same = same
-      at (Lose caller bases) j same = same
+      at _ j same = same
 
   -- a change without an Okay at a finished node is never decided yes
   pub never_yes : (earlier log : Log) → GoesOn earlier log → EachEnabled (start pairs words) log

@@ -8,7 +8,7 @@ use Rattle.ist_core.specs.StartLayout.{rows_within}
 use Rattle.ist_core.specs.Logs.{Log, state}
 use Rattle.ist_core.specs.Enabled.{CanEnter}
 use Rattle.ist_core.specs.Lawful.{EachEnabled}
-use Rattle.ist_core.proofs.RefusalLemmas.{NoneRefused}
+use Rattle.ist_core.proofs.RefusalLemmas.{NoneDecidedNo}
 use Rattle.laws_histories.specs.ExampleRebuilds.{put_again, both_entered, four_puts, eight_puts}
 use Rattle.laws_histories.proofs.ReadyExampleLemmas.{three}
 use Rattle.laws_histories.proofs.BusyExampleLemmas.{put_enabled}
@@ -77,7 +77,7 @@ one_put_enabled =
     (omega arith) refl at_opening entered
 
 -- no change is refused in the log up to this put
-one_put_refuse : NoneRefused (state three one_put).pieces
+one_put_refuse : NoneDecidedNo (state three one_put).pieces
 one_put_refuse = put_keeps both_entered 24 145 193 at_opening
 
 -- put 2 of eight is enabled
@@ -107,7 +107,7 @@ two_puts_enabled =
     (omega arith) refl one_put_refuse one_put_enabled
 
 -- no change is refused in the log up to this put
-two_puts_refuse : NoneRefused (state three two_puts).pieces
+two_puts_refuse : NoneDecidedNo (state three two_puts).pieces
 two_puts_refuse = put_keeps one_put 35 193 281 one_put_refuse
 
 -- put 3 of eight is enabled
@@ -137,7 +137,7 @@ three_puts_enabled =
     (omega arith) refl two_puts_refuse two_puts_enabled
 
 -- no change is refused in the log up to this put
-three_puts_refuse : NoneRefused (state three three_puts).pieces
+three_puts_refuse : NoneDecidedNo (state three three_puts).pieces
 three_puts_refuse = put_keeps two_puts 46 281 369 two_puts_refuse
 
 -- put 4 of eight is enabled
@@ -167,7 +167,7 @@ four_puts_enabled =
     (omega arith) refl three_puts_refuse three_puts_enabled
 
 -- no change is refused in the log up to this put
-four_puts_refuse : NoneRefused (state three four_puts).pieces
+four_puts_refuse : NoneDecidedNo (state three four_puts).pieces
 four_puts_refuse = put_keeps three_puts 57 369 457 three_puts_refuse
 
 -- put 5 of eight is enabled
@@ -197,7 +197,7 @@ five_puts_enabled =
     (omega arith) refl four_puts_refuse four_puts_enabled
 
 -- no change is refused in the log up to this put
-five_puts_refuse : NoneRefused (state three five_puts).pieces
+five_puts_refuse : NoneDecidedNo (state three five_puts).pieces
 five_puts_refuse = put_keeps four_puts 68 457 545 four_puts_refuse
 
 -- put 6 of eight is enabled
@@ -227,7 +227,7 @@ six_puts_enabled =
     (omega arith) refl five_puts_refuse five_puts_enabled
 
 -- no change is refused in the log up to this put
-six_puts_refuse : NoneRefused (state three six_puts).pieces
+six_puts_refuse : NoneDecidedNo (state three six_puts).pieces
 six_puts_refuse = put_keeps five_puts 79 545 633 five_puts_refuse
 
 -- put 7 of eight is enabled
@@ -257,7 +257,7 @@ seven_puts_enabled =
     (omega arith) refl six_puts_refuse six_puts_enabled
 
 -- no change is refused in the log up to this put
-seven_puts_refuse : NoneRefused (state three seven_puts).pieces
+seven_puts_refuse : NoneDecidedNo (state three seven_puts).pieces
 seven_puts_refuse = put_keeps six_puts 90 633 721 six_puts_refuse
 
 -- put 8 of eight is enabled
@@ -287,5 +287,5 @@ eight_puts_enabled =
     (omega arith) refl seven_puts_refuse seven_puts_enabled
 
 -- no change is refused in the log up to this put
-pub eight_puts_refuse : NoneRefused (state three eight_puts).pieces
+pub eight_puts_refuse : NoneDecidedNo (state three eight_puts).pieces
 eight_puts_refuse = put_keeps seven_puts 101 721 809 seven_puts_refuse

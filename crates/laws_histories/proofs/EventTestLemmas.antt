@@ -108,13 +108,13 @@ mark_by t log caller node _ e = None
 -- ---- Pass
 
 -- a word that is neither a change nor Unset
-pub record IsPlain (word : ℕ) : Type 0 where
+pub record IsNoChangeWord (word : ℕ) : Type 0 where
   -- the word names no change
   pub no_change : (change : ℕ) → ref_of word ≢ Some (ChangeAt change)
   pub set : word ≢ unset_word
 
 -- 7 is Unset, which no reference below is
-pub plain_leaf : (word base : ℕ) → ref_of word ≡ Some (LeafAt base) → IsPlain word
+pub plain_leaf : (word base : ℕ) → ref_of word ≡ Some (LeafAt base) → IsNoChangeWord word
 unfolding ref_of
 plain_leaf word base e =
     record {
@@ -127,7 +127,7 @@ plain_leaf word base e =
     }
 
 -- the word of an inner row is plain
-pub plain_row : (word base : ℕ) → ref_of word ≡ Some (InnerAt base) → IsPlain word
+pub plain_row : (word base : ℕ) → ref_of word ≡ Some (InnerAt base) → IsNoChangeWord word
 unfolding ref_of
 plain_row word base e =
     record {
@@ -140,7 +140,7 @@ plain_row word base e =
     }
 
 -- the word is plain, or nothing is said
-abbrev pub plain_by : (word : ℕ) (o : Option Ref) → ref_of word ≡ o → Option (IsPlain word)
+abbrev pub plain_by : (word : ℕ) (o : Option Ref) → ref_of word ≡ o → Option (IsNoChangeWord word)
 plain_by word (Some (LeafAt base)) e = Some (plain_leaf word base e)
 plain_by word (Some (InnerAt base)) e = Some (plain_row word base e)
 plain_by word _ e = None

@@ -16,7 +16,7 @@ use Rattle.ist_core.specs.Leaves.{PlacedLeaf, pair_of, HasLeaves, none_here, lea
 use Rattle.ist_core.specs.Lawful.{CanOpen}
 use Rattle.ist_core.proofs.ElementLemmas.{among_left, among_right, each-among, each_append}
 use Rattle.ist_core.proofs.PieceLemmas.{among-pieces_of}
-use Rattle.ist_core.proofs.RisingLemmas.{Rises}
+use Rattle.ist_core.proofs.RisingLemmas.{AreRisingKeys}
 use Rattle.ist_core.proofs.SplitLemmas.{key_of_leaf, Splits, split_none, split_leaf, split_row, SplitAll, no_split, one_split}
 use Rattle.ist_core.proofs.StartTreeLemmas.{start_hangs, start_anchor}
 use Rattle.ist_core.proofs.LeafOrderLemmas.{rises_from_next}
@@ -35,7 +35,7 @@ split_plain key ps _ _ _ (split_row r f two keys below) word e =
     ap (λ x. past_rebuild ps (past_change ps x)) e
 
 -- the reference has leaves with the keys of the list
-record HasKeys {A : Type 0} (key : A → ℕ) (ps : Pieces) (ref : Ref) (xs : List A) : Type 0 where
+record HasLeavesWithKeys {A : Type 0} (key : A → ℕ) (ps : Pieces) (ref : Ref) (xs : List A) : Type 0 where
   leaves : List PlacedLeaf
   reached : HasLeaves ps (Some ref) leaves
   keys : map key_of_leaf leaves ≡ map key xs
@@ -50,7 +50,7 @@ record HaveKeys {A : Type 0} (key : A → ℕ) (ps : Pieces) (words : List ℕ)
 module _ {A : Type 0} (key : A → ℕ) (ps : Pieces) where
   mutual
     split_leaves : (ref : Ref) (xs : List A) (rows : List ℕ) → Splits key ps ref xs rows
-        → HasKeys key ps ref xs
+        → HasLeavesWithKeys key ps ref xs
     split_leaves _ _ _ split_none = record { leaves = []; reached = none_here; keys = refl }
     split_leaves _ _ _ (split_leaf {base = base} r e is) =
         record { leaves = record { base = base; row = r } ∷ []; reached = leaf_here r e; keys = ap (λ k. k ∷ []) is }
@@ -78,8 +78,8 @@ module _ {A : Type 0} (key : A → ℕ) (ps : Pieces) where
 -- ---- the leaves of a new table
 
 -- a leaf of the list has one of the pairs
-abbrev IsOf : List Pair → ℕ × Piece → Type 0
-IsOf pairs row =
+abbrev IsLeafOfPairs : List Pair → ℕ × Piece → Type 0
+IsLeafOfPairs pairs row =
     (r : LeafRow) → row.1 ≡ Leaf r → Among (record { key = r.key; value = r.value }) pairs
 
 module _ {A : Type 0} where
@@ -118,7 +118,7 @@ each_flat_map P f (x ∷ xs) all =
 
 -- the rows of a tree over pairs have leaves of these pairs
 rows_of : (fuel base : ℕ) (pairs all : List Pair) → ((p : Pair) → Among p pairs → Among p all)
-    → Each (IsOf all) (rows_within fuel base pairs)
+    → Each (IsLeafOfPairs all) (rows_within fuel base pairs)
 unfolding rows_within
 rows_of fuel base [] all sub = tt
 rows_of fuel base (pair ∷ []) all sub =
@@ -137,14 +137,14 @@ rows_of zero base (pair ∷ more ∷ pairs) all sub = tt
 rows_of (suc fuel) base (pair ∷ more ∷ pairs) all sub =
     let xs = pair ∷ more ∷ pairs in (
       λ r e. absurd (cc),
-      each_flat_map (IsOf all) (λ part. rows_within fuel part.0 part.1) (placed_parts base xs)
+      each_flat_map (IsLeafOfPairs all) (λ part. rows_within fuel part.0 part.1) (placed_parts base xs)
           (λ part i. rows_of fuel part.0 part.1 all (λ p j. sub p (among_cut p part.1 (part_lens (length xs)) xs (among_zip part _ (parts xs) i) j))),
     )
 
 -- ---- one list
 
 -- two lists of pairs of a strictly increasing list are equal if their keys are
-same_pairs : (xs ys all : List Pair) → Rises (λ p. p.key) all
+same_pairs : (xs ys all : List Pair) → AreRisingKeys (λ p. p.key) all
     → map (λ p. p.key) xs ≡ map (λ p. p.key) ys
     → Each (λ p. Among p all) xs → Each (λ p. Among p all) ys → xs ≡ ys
 same_pairs [] [] all rise e h k = refl
@@ -207,7 +207,7 @@ start_contents pairs words opens =
     (tree_at first_row pairs) pairs hang.rows hang.splits t.anchor
     (start_anchor pairs words opens) in
     let published : (base : ℕ) (r : LeafRow) → t.pieces base ≡ Some (Leaf r) → Among (record { key = r.key; value = r.value }) pairs =
-    λ base r e. each-among (IsOf pairs) (base, Leaf r) (rows_from first_row pairs) (rows_of (length pairs) first_row pairs pairs (λ p i. i)) (among-pieces_of (rows_from first_row pairs) base (Leaf r) e) r refl in
+    λ base r e. each-among (IsLeafOfPairs pairs) (base, Leaf r) (rows_from first_row pairs) (rows_of (length pairs) first_row pairs pairs (λ p i. i)) (among-pieces_of (rows_from first_row pairs) base (Leaf r) e) r refl in
     let rise = rises_from_next (λ pair. pair.key) pairs opens.rising in
     record {
       leaves = it.leaves;

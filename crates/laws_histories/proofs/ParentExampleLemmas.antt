@@ -21,7 +21,7 @@ use Rattle.ist_core.specs.Deciding.{CanDecide, CanResolve}
 use Rattle.ist_core.specs.Enabled.{CanReserve}
 use Rattle.ist_core.specs.Changes.{changes_of}
 use Rattle.ist_core.specs.Lawful.{Lawful}
-use Rattle.ist_core.proofs.RefusalLemmas.{NotRefused, NoneRefused, none_refused-with_row, none_refused-changed_at, slot_keeps, status_keeps, yes_keeps}
+use Rattle.ist_core.proofs.RefusalLemmas.{NotRefused, NoneDecidedNo, none_refused-with_row, none_refused-changed_at, slot_keeps, status_keeps, yes_keeps}
 use Rattle.laws_histories.specs.ExampleRebuilds.{three_pairs, top_started, top_marked, left_finish_rows, left_finish_installed, left_refused}
 use Rattle.laws_histories.proofs.ReadyExampleLemmas.{three, three_open, ten, left, top}
 use Rattle.laws_histories.proofs.HeldExampleLemmas.{change_fair}
@@ -51,7 +51,7 @@ finish_reserved =
     record { known = omega arith; base_is = refl; room = omega arith; fair = change_fair _ }
 
 -- no change was refused until then
-marked_refuse : NoneRefused (state three top_marked).pieces
+marked_refuse : NoneDecidedNo (state three top_marked).pieces
 unfolding NotRefused
 marked_refuse =
     let with_rebuild = none_refused-with_row _ 133 (Rebuild top_rebuild) tt rooted_refuse in

@@ -12,7 +12,7 @@ use Rattle.ist_core.specs.StartLayout.{rows_within, rows_from}
 use Rattle.ist_core.specs.After.{resolved, side_of}
 use Rattle.ist_core.specs.Logs.{Log, state}
 use Rattle.ist_core.proofs.PieceLemmas.{among-pieces_of}
-use Rattle.ist_core.proofs.RefusalLemmas.{NotRefused, NoneRefused, none_refused-with_row, none_refused-changed_at, slot_keeps, yes_keeps}
+use Rattle.ist_core.proofs.RefusalLemmas.{NotRefused, NoneDecidedNo, none_refused-with_row, none_refused-changed_at, slot_keeps, yes_keeps}
 use Rattle.laws_histories.specs.ExampleRebuilds.{three_pairs, again_decided, put_again}
 use Rattle.laws_histories.proofs.ReadyExampleLemmas.{three, ten, again}
 
@@ -25,16 +25,16 @@ count_keeps (Change r) h = h
 count_keeps (Rebuild r) h = h
 
 -- what leaves a slot refuses nothing
-resolve_keeps : (t : Snapshot) (o : Option ChangeRow) → NoneRefused t.pieces
-    → NoneRefused (resolved t o).pieces
+resolve_keeps : (t : Snapshot) (o : Option ChangeRow) → NoneDecidedNo t.pieces
+    → NoneDecidedNo (resolved t o).pieces
 resolve_keeps t None none = none
 resolve_keeps t (Some change) none =
     none_refused-changed_at _ change.node (with_slot change.index (side_of change))
     (slot_keeps change.index (side_of change)) none
 
 -- a put refuses nothing
-pub put_keeps : (log : Log) (leaf from to : ℕ) → NoneRefused (state three log).pieces
-    → NoneRefused (state three (put_again leaf (leaf + 2) from to log)).pieces
+pub put_keeps : (log : Log) (leaf from to : ℕ) → NoneDecidedNo (state three log).pieces
+    → NoneDecidedNo (state three (put_again leaf (leaf + 2) from to log)).pieces
 unfolding NotRefused
 put_keeps log leaf from to none =
     let change = leaf + 2 in
@@ -52,7 +52,7 @@ put_keeps log leaf from to none =
     none_refused-changed_at _ 11 counted count_keeps out
 
 -- no change is refused at the start
-pub at_opening : NoneRefused three.pieces
+pub at_opening : NoneDecidedNo three.pieces
 unfolding NotRefused rows_within degree square_root root_up_to part_len part_lens ideal_words ideal_words_within
 at_opening base p e = by_row (among-pieces_of (rows_from first_row three_pairs) base p e)
   where

@@ -74,7 +74,7 @@ top status word =
 
 -- the state before a put: both rows are as at the start, except for their counts, and the old leaf
 -- is in the slot
-pub record IsReady (t : Snapshot) (leaf from old count : ℕ) : Type 0 where
+pub record IsBeforePut (t : Snapshot) (leaf from old count : ℕ) : Type 0 where
   pub callers : t.callers ≡ 2
   pub next : t.next ≡ leaf
   pub words : t.words ≡ 200

@@ -24,7 +24,7 @@ use Rattle.ist_core.proofs.StartExampleLemmas.{two, start_is_lawful}
 use Rattle.ist_core.proofs.RebuildExampleLemmas.{the_start, the_rebuild, low, high, both}
 use Rattle.ist_core.proofs.FinishExampleLemmas.{none_refused_started}
 use Rattle.ist_core.proofs.LateExampleLemmas.{late_is_lawful}
-use Rattle.ist_core.proofs.RefusalLemmas.{NotRefused, NoneRefused, none_refused-changed_at, status_keeps}
+use Rattle.ist_core.proofs.RefusalLemmas.{NotRefused, NoneDecidedNo, none_refused-changed_at, status_keeps}
 use Rattle.laws_histories.specs.ExampleCalls.{refused_installed, refused}
 
 -- the put, with a decision
@@ -66,7 +66,7 @@ unfolding ref_of
 target_hangs = record { word = 124; holds = in_anchor refl refl refl; reads = refl }
 
 -- no change was refused before
-none_refused : NoneRefused (state two (Mark 0 4 ∷ late_reserved)).pieces
+none_refused : NoneDecidedNo (state two (Mark 0 4 ∷ late_reserved)).pieces
 none_refused = none_refused-changed_at _ 4 (with_status 1) (status_keeps 1) none_refused_started
 
 -- the put is installed after the mark

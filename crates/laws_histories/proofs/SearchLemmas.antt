@@ -58,8 +58,8 @@ comes_on pairs words key first _ _ (goes {before = before} {now = now} {node = n
 -- ---- the node that a search has reached
 
 -- the node is led to, or was when it was finished
-abbrev pub Stands : List Pair → ℕ → ℕ → Log → Log → ℕ → Type 0
-Stands pairs words key first now node =
+abbrev pub LedOrFinished : List Pair → ℕ → ℕ → Log → Log → ℕ → Type 0
+LedOrFinished pairs words key first now node =
     Leads (state_of pairs words now) key node ⊎ WasLeft pairs words key first now node
 
 module _ (pairs : List Pair) (words : ℕ) (opens : CanOpen pairs words)
@@ -67,7 +67,7 @@ module _ (pairs : List Pair) (words : ℕ) (opens : CanOpen pairs words)
   -- what a look saw was the tree's at one moment since the search began
   pub saw : (first before now : Log) → GoesOn first before → EachEnabled (start pairs words) now
       → (node : ℕ) (ref : Option Ref)
-      → Stands pairs words key first before node → Look pairs words key before now node ref
+      → LedOrFinished pairs words key first before node → Look pairs words key before now node ref
       → Saw pairs words key first now node ref
   saw first before now g h node ref stands look =
       let l = enabled_before (start pairs words) look.loaded now look.later h in
@@ -96,7 +96,7 @@ module _ (pairs : List Pair) (words : ℕ) (opens : CanOpen pairs words)
   -- a node that a search has reached is led to, or was until it was finished
   pub standing : (first now : Log) (node : ℕ) → EachEnabled (start pairs words) now
       → Comes pairs words key first now node
-      → Stands pairs words key first now node
+      → LedOrFinished pairs words key first now node
   standing first _ _ h begins = inl from_anchor
   standing first _ _ h (goes {before = before} {now = now} {node = node} {child = child} c look) =
       let l =

@@ -1,7 +1,7 @@
 -- A rebuild of 256 keys gets a shared root, and a part of it is drawn. Serves `examples`.
 use Rattle.std.proofs.Common.{◌≡◌, ℕ, zero, suc, ◌≤◌, ◌⊎◌, List, [], ◌∷◌, ◌++◌, length, replicate, Option, Some, None, refl, inl, inr, arith}
 use Rattle.ist_core.specs.declared.states.InnerRow.{InnerRow}
-use Rattle.ist_core.specs.declared.events.Event.TheVariants.{Enter, Reserve, Install, Okay, Decide, Resolve, Count, Mark, Pass, Finish, Root, Draw, Place, Lose}
+use Rattle.ist_core.specs.declared.events.Event.TheVariants.{Reserve, Draw}
 use Rattle.ist_core.specs.Arithmetic.{degree, square_root, root_up_to, part_len, part_lens}
 use Rattle.ist_core.specs.Shapes.{ideal_words, ideal_words_within, share_from, share_from_is}
 use Rattle.ist_core.specs.References.{Ref, Empty, LeafAt, InnerAt, ref_of}
@@ -24,8 +24,8 @@ use Rattle.laws_histories.proofs.ShareExampleLemmas.{many, share_start, share_re
 -- ---- leaves by a computation
 
 -- a way to the leaves below each reference
-abbrev pub Finds : Pieces → Type 0
-Finds ps = (o : Option Ref) → Option ((leaves : List PlacedLeaf) × HasLeaves ps o leaves)
+abbrev pub FindsLeaves : Pieces → Type 0
+FindsLeaves ps = (o : Option Ref) → Option ((leaves : List PlacedLeaf) × HasLeaves ps o leaves)
 
 -- the leaf at the base
 abbrev pub leaf_by : (ps : Pieces) (base : ℕ) (p : Option Piece) → ps base ≡ p
@@ -34,7 +34,7 @@ leaf_by ps base (Some (Leaf r)) e = Some (record { base = base; row = r } ∷ []
 leaf_by ps base _ e = None
 
 -- the leaves below some slots
-abbrev pub slots_by : (ps : Pieces) (find : Finds ps) (words : List ℕ)
+abbrev pub slots_by : (ps : Pieces) (find : FindsLeaves ps) (words : List ℕ)
     → Option ((leaves : List PlacedLeaf) × SlotsHaveLeaves ps words leaves)
 slots_by ps find [] = Some ([], no_slot)
 slots_by ps find (word ∷ words) =
@@ -42,14 +42,14 @@ slots_by ps find (word ∷ words) =
     then (slots_by ps find words) (λ rest. Some (here.0 ++ rest.0, one_slot here.1 rest.1)))
 
 -- the leaves below the inner row at the base
-abbrev pub row_by : (ps : Pieces) (find : Finds ps) (base : ℕ) (p : Option Piece) → ps base ≡ p
+abbrev pub row_by : (ps : Pieces) (find : FindsLeaves ps) (base : ℕ) (p : Option Piece) → ps base ≡ p
     → Option ((leaves : List PlacedLeaf) × HasLeaves ps (Some (InnerAt base)) leaves)
 row_by ps find base (Some (Inner r)) e =
     then (slots_by ps find r.slots) (λ found. Some (found.0, row_here r e found.1))
 row_by ps find base _ e = None
 
 -- the leaves below a reference, if `fuel` levels are enough to find them
-abbrev pub leaves_by : (fuel : ℕ) (ps : Pieces) → Finds ps
+abbrev pub leaves_by : (fuel : ℕ) (ps : Pieces) → FindsLeaves ps
 leaves_by zero ps o = None
 leaves_by (suc fuel) ps (Some Empty) = Some ([], none_here)
 leaves_by (suc fuel) ps (Some (LeafAt base)) = leaf_by ps base (ps base) refl
@@ -209,19 +209,7 @@ none_later log before = then before (λ none. Some (λ part h. only_later part l
 abbrev no_draw : (log : Log) → Option ((part : ℕ) → Happened (Draws 0 2071 part) log → ⊥)
 no_draw [] = Some (λ part h. h)
 no_draw (Draw c o p ∷ log) = None
-no_draw (Enter a ∷ log) = none_later log (no_draw log)
-no_draw (Reserve a b z ∷ log) = none_later log (no_draw log)
-no_draw (Install a b rows ∷ log) = none_later log (no_draw log)
-no_draw (Okay a b ∷ log) = none_later log (no_draw log)
-no_draw (Decide a b said ∷ log) = none_later log (no_draw log)
-no_draw (Resolve a b ∷ log) = none_later log (no_draw log)
-no_draw (Count a n ∷ log) = none_later log (no_draw log)
-no_draw (Mark a n ∷ log) = none_later log (no_draw log)
-no_draw (Pass a n i w ∷ log) = none_later log (no_draw log)
-no_draw (Finish a n k ∷ log) = none_later log (no_draw log)
-no_draw (Root a o w rows ∷ log) = none_later log (no_draw log)
-no_draw (Place a o p w rows ∷ log) = none_later log (no_draw log)
-no_draw (Lose a bases ∷ log) = none_later log (no_draw log)
+no_draw (_ ∷ log) = none_later log (no_draw log)
 
 -- no part was drawn before
 none_drawn : (part : ℕ) → Happened (Draws 0 2071 part) share_rooted → ⊥

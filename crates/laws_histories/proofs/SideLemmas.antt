@@ -103,7 +103,7 @@ module _ (ps : Pieces) (key : ℕ) where
 -- ---- commands
 
 -- what a command does to a map at its key, and to the other keys
-pub record Makes (change : ChangeRow) (new : Option ℕ) : Type 0 where
+pub record MakesOfMap (change : ChangeRow) (new : Option ℕ) : Type 0 where
   pub command : Command
   pub command_is : command_of change ≡ Some command
   pub key_is : key_of command ≡ change.key
@@ -123,7 +123,7 @@ finish_commands change kind = rw kind refl
 
 -- what a put makes of a map
 put_makes : (change : ChangeRow) (new : Option ℕ) → change.kind ≡ put_kind → new ≡ Some change.value
-    → Makes change new
+    → MakesOfMap change new
 put_makes change new kind is =
     record {
       command = Put change.key change.value;
@@ -136,7 +136,7 @@ put_makes change new kind is =
 
 -- what a remove makes of one
 remove_makes : (change : ChangeRow) (new : Option ℕ) → change.kind ≡ remove_kind → new ≡ None
-    → Makes change new
+    → MakesOfMap change new
 remove_makes change new kind is =
     record {
       command = Remove change.key;
@@ -163,7 +163,7 @@ pub record Sides (t u : Snapshot) (change : ChangeRow) : Type 0 where
   -- each key but the change's keeps its value
   pub others : (key : ℕ) → key ≢ change.key → new key ≡ old key
   pub reply : old change.key ≡ reply_of t.pieces change
-  pub makes : Makes change (new change.key)
+  pub makes : MakesOfMap change (new change.key)
 
 -- leaves and inner rows stay
 pub record RowsStay (ps qs : Pieces) : Type 0 where

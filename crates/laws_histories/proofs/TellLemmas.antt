@@ -48,7 +48,7 @@ pub same_base : (a b c d : ℕ) → Decide a b true ≡ Decide c d true → b �
 same_base a b c d e = cc
 
 -- what the tree gives and the changes reply after a log
-pub record Told (pairs : List Pair) (words : ℕ) (log : Log) : Type 0 where
+pub record ToldAfter (pairs : List Pair) (words : ℕ) (log : Log) : Type 0 where
   -- the tree gives each key the value that the map after the changes has for it
   pub gives : (key : ℕ)
       → Gives (state_of pairs words log) key (fin.get (map_behind (map_of pairs) (changes_of pairs words log)) key)
@@ -229,10 +229,10 @@ module _ (pairs : List Pair) (words : ℕ) (opens : CanOpen pairs words)
   -- what holds after the Decide, if these entries are new
   told_more : (new : List Entry)
       → changes_of pairs words (Decide caller base true ∷ log) ≡ changes_of pairs words log ++ new
-      → Told pairs words log
+      → ToldAfter pairs words log
       → ((key : ℕ) → Gives Behind key (fin.get (map_behind (map_behind (map_of pairs) (changes_of pairs words log)) new) key))
       → AreLegal (map_behind (map_of pairs) (changes_of pairs words log)) new
-      → Told pairs words (Decide caller base true ∷ log)
+      → ToldAfter pairs words (Decide caller base true ∷ log)
   told_more new are told gives legal =
       let m = map_of pairs in
       let old = changes_of pairs words log in
@@ -244,8 +244,8 @@ module _ (pairs : List Pair) (words : ℕ) (opens : CanOpen pairs words)
       }
 
   -- an update is its new entry
-  told_update : IsUpdate change.kind → Told pairs words log
-      → Told pairs words (Decide caller base true ∷ log)
+  told_update : IsUpdate change.kind → ToldAfter pairs words log
+      → ToldAfter pairs words (Decide caller base true ∷ log)
   told_update update told =
       let m = map_behind (map_of pairs) (changes_of pairs words log) in
       let makes = (its_sides update).makes in
@@ -260,8 +260,8 @@ module _ (pairs : List Pair) (words : ℕ) (opens : CanOpen pairs words)
 
   -- a start and a finish make no entry
   told_rebuild : ((key : ℕ) (value : Option ℕ) → Finds Before.pieces key From value → Finds Before.pieces key To value)
-      → command_of change ≡ None → Told pairs words log
-      → Told pairs words (Decide caller base true ∷ log)
+      → command_of change ≡ None → ToldAfter pairs words log
+      → ToldAfter pairs words (Decide caller base true ∷ log)
   told_rebuild same none told =
       let made : entry_of Before.pieces (Before.pieces base) ≡ [] =
       ap (entry_of Before.pieces) h.1.pending.published
@@ -271,10 +271,10 @@ module _ (pairs : List Pair) (words : ℕ) (opens : CanOpen pairs words)
       (λ key. rebuild_gives same key (fin.get m key) (told.gives key)) refl
 
   -- so what holds of the tree and the changes holds after each Decide with yes
-  pub told_yes : Told pairs words log → Told pairs words (Decide caller base true ∷ log)
+  pub told_yes : ToldAfter pairs words log → ToldAfter pairs words (Decide caller base true ∷ log)
   told_yes told = at form
     where
-      at : HasForm Before change → Told pairs words (Decide caller base true ∷ log)
+      at : HasForm Before change → ToldAfter pairs words (Decide caller base true ∷ log)
       at (into_nothing leaf kind from to new) = told_update (inl kind) told
       at (over_leaf old leaf kind from is to new) = told_update (inl kind) told
       at (beside_low other k leaf pair kind from is less to p new) = told_update (inl kind) told

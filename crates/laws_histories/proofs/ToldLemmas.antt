@@ -13,7 +13,7 @@ use Rattle.ist_core.specs.Lawful.{EachEnabled, CanOpen, state_of}
 use Rattle.laws_histories.specs.Finding.{Gives}
 use Rattle.laws_histories.proofs.NeedLemmas.{AllNeeds}
 use Rattle.laws_histories.proofs.FindLemmas.{gives_step}
-use Rattle.laws_histories.proofs.TellLemmas.{Told, told_yes}
+use Rattle.laws_histories.proofs.TellLemmas.{ToldAfter, told_yes}
 
 -- an event that decides no change yes
 abbrev pub IsNoYes : Event → Type 0
@@ -33,7 +33,7 @@ module _ (pairs : List Pair) (words : ℕ) (opens : CanOpen pairs words)
       (λ node i ref value turn f. absurd (subst IsNoYes turn.decides.is quiet))
 
   -- what the tree gives and the changes reply after each log
-  pub told : (log : Log) → EachEnabled (start pairs words) log → Told pairs words log
+  pub told : (log : Log) → EachEnabled (start pairs words) log → ToldAfter pairs words log
   told [] h = record { gives = opening; legal = refl }
   told (Decide caller base true ∷ log) h =
       told_yes pairs words opens needs log caller base h (told log h.0)

@@ -18,7 +18,7 @@ use Rattle.ist_core.specs.Deciding.{CanOkay, CanDecide, CanResolve}
 use Rattle.ist_core.specs.Marking.{CanMark, as_target}
 use Rattle.ist_core.specs.Enabled.{CanReserve}
 use Rattle.ist_core.specs.Lawful.{EachEnabled}
-use Rattle.ist_core.proofs.RefusalLemmas.{NotRefused, NoneRefused, none_refused-with_row, none_refused-changed_at, slot_keeps, status_keeps, yes_keeps, root_keeps}
+use Rattle.ist_core.proofs.RefusalLemmas.{NotRefused, NoneDecidedNo, none_refused-with_row, none_refused-changed_at, slot_keeps, status_keeps, yes_keeps, root_keeps}
 use Rattle.laws_histories.specs.ExampleRebuilds.{left_rooted, top_rows, top_installed, top_started}
 use Rattle.laws_histories.proofs.ReadyExampleLemmas.{three, top}
 use Rattle.laws_histories.proofs.DueExampleLemmas.{eight_puts_refuse}
@@ -46,7 +46,7 @@ abbrev pub top_rebuild : RebuildRow
 top_rebuild = record { target = 4; parent = 2; index = 0; root = 7; draw = 0 }
 
 -- no change was refused until the left rebuild has its root
-pub rooted_refuse : NoneRefused (state three left_rooted).pieces
+pub rooted_refuse : NoneDecidedNo (state three left_rooted).pieces
 unfolding NotRefused
 rooted_refuse =
     let with_rebuild = none_refused-with_row _ 112 (Rebuild (the_rebuild 7)) tt eight_puts_refuse in

@@ -9,7 +9,7 @@ use Rattle.ist_core.specs.declared.pairs.Pair.{Pair}
 use Rattle.ist_core.specs.Map.{Map, map_of}
 use Rattle.ist_core.specs.Elements.{Among, Each}
 use Rattle.ist_core.proofs.ElementLemmas.{each-among}
-use Rattle.ist_core.proofs.RisingLemmas.{Rises}
+use Rattle.ist_core.proofs.RisingLemmas.{AreRisingKeys}
 
 -- the value of the key in the list, if a pair has it
 unfoldable pub value_of : ℕ → List Pair → Option ℕ
@@ -33,7 +33,7 @@ value_of-none key (pair ∷ pairs) h =
     rw differs (value_of-none key pairs h.1)
 
 -- if the keys are strictly increasing, each pair of the list gives its key its value
-pub value_of-among : (pair : Pair) (pairs : List Pair) → Rises (λ p. p.key) pairs → Among pair pairs
+pub value_of-among : (pair : Pair) (pairs : List Pair) → AreRisingKeys (λ p. p.key) pairs → Among pair pairs
     → value_of pair.key pairs ≡ Some pair.value
 unfolding value_of
 value_of-among pair [] rise i = absurd i
@@ -47,7 +47,7 @@ value_of-among pair (p ∷ pairs) rise (inr i) =
     rw differs (value_of-among pair pairs rise.1 i)
 
 -- two pairs of a list with strictly increasing keys are equal if they have one key
-pub same_pair : (p q : Pair) (pairs : List Pair) → Rises (λ x. x.key) pairs → Among p pairs
+pub same_pair : (p q : Pair) (pairs : List Pair) → AreRisingKeys (λ x. x.key) pairs → Among p pairs
     → Among q pairs → p.key ≡ q.key → p ≡ q
 same_pair p q [] rise i j e = absurd i
 same_pair p q (x ∷ xs) rise (inl a) (inl b) e = a ∙ sym b

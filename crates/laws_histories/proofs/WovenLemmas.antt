@@ -94,7 +94,7 @@ among-in_order x (y ∷ xs) h =
     ⊎_elim (λ e. inl e) (λ i. inr (among-in_order x xs i)) (among-put_in x y (in_order xs) h)
 
 -- a reading is a call of its pass that changes nothing
-pub record IsOf (pass : PassCalls) (x : Reading) : Type 0 where
+pub record IsReadingOfPass (pass : PassCalls) (x : Reading) : Type 0 where
   pub call : Among x.call pass.calls
   pub plain : is_change x.call ≡ false
 
@@ -106,7 +106,7 @@ among_numbered number (call ∷ calls) x (inl e) = inl (ap (λ y. y.call) e)
 among_numbered number (call ∷ calls) x (inr h) = inr (among_numbered number calls x h)
 
 -- a reading of a pass is one of its calls
-of_pass : (pass : PassCalls) (x : Reading) → Among x (readings_of pass) → IsOf pass x
+of_pass : (pass : PassCalls) (x : Reading) → Among x (readings_of pass) → IsReadingOfPass pass x
 of_pass pass x h =
     let kept =
     among-filter (λ call. not (is_change call)) x.call pass.calls
@@ -119,7 +119,7 @@ of_pass pass x h =
 
 -- a reading of some passes is a call of one
 pub of_passes : (passes : List PassCalls) (x : Reading) → Among x (readings passes)
-    → (pass : PassCalls) × Among pass passes × IsOf pass x
+    → (pass : PassCalls) × Among pass passes × IsReadingOfPass pass x
 of_passes [] x h = absurd h
 of_passes (pass ∷ passes) x h =
     ⊎_elim

@@ -34,7 +34,7 @@ use Rattle.laws_links.proofs.InductionLemmas.{sound_behind}
 use Rattle.laws_links.proofs.OriginLemmas.{RebuildComes, is_begun, is_drawn, is_rooted, rebuild_was}
 use Rattle.laws_links.proofs.QuietLemmas.{start_quiet}
 use Rattle.laws_links.proofs.UntouchedLemmas.{Stays, is_filled, stays_so, untouched}
-use Rattle.laws_links.proofs.NewTreeLemmas.{ArePartly, IsPartly, StandsIn, ideal_each, ideal_kept, ideal_whole, in_parts, partly_each, partly_kept, partly_placed, partly_whole, top_kept, whole}
+use Rattle.laws_links.proofs.NewTreeLemmas.{ArePartly, IsPartly, StandInOther, ideal_each, ideal_kept, ideal_whole, in_parts, partly_each, partly_kept, partly_placed, partly_whole, top_kept, whole}
 use Rattle.laws_links.proofs.UnlinkedLemmas.{inner_set, never_down, never_stand, root_among, root_named, root_never_linked}
 
 -- ---- one rebuild a root
@@ -154,7 +154,7 @@ module _ (pairs : List Pair) (words : ℕ) (opens : CanOpen pairs words) where
       subst (λ ls. slice_get (parts ls) i ≡ Some can.part) all can.part_is in
       let free : slice_get row.slots i ≡ Some unset_word = subst (λ x. slice_get x.slots i ≡ Some unset_word) (same_inner (t.pieces can.root) can.root_row row can.root_published top.published) can.free in
       let written = rows_placed t caller rebuild i word rows can in
-      let stand : StandsIn qs u.pieces (bases_of rows) = record {
+      let stand : StandInOther qs u.pieces (bases_of rows) = record {
         leaf =
             λ b x k. subst (λ ps. ps b ≡ Some (Leaf x)) (sym written) (changed_at-fixed qs can.root b (with_slot i word) (Leaf x) k refl);
         inner = λ b x among k.

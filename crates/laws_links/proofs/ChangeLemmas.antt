@@ -2,7 +2,7 @@
 -- takes an Okay. Serves the linked law.
 use Rattle.std.proofs.Common.{Bool, List, None, Some, [], ap, arith, false, inl, inr, refl, subst, sym, true, ℕ, ⊎_elim, ◌*◌, ◌+◌, ◌∙◌, ◌∷◌, ◌≡◌, ◌≢◌}
 use Rattle.ist_core.specs.declared.events.Event.{Event}
-use Rattle.ist_core.specs.declared.events.Event.TheVariants.{Count, Decide, Draw, Enter, Finish, Install, Lose, Mark, Okay, Pass, Place, Reserve, Resolve, Root}
+use Rattle.ist_core.specs.declared.events.Event.TheVariants.{Decide, Install, Place, Resolve}
 use Rattle.ist_core.specs.declared.lists.Row.{Row}
 use Rattle.ist_core.specs.declared.pairs.Pair.{Pair}
 use Rattle.ist_core.specs.declared.states.ChangeRow.{ChangeRow}
@@ -54,19 +54,7 @@ pub resolved_now : (first : Snapshot) (log : Log) (event : Event) (base : ℕ)
     → Resolves base event → IsDecidedAt (state first log) base
 resolved_now first log (Resolve caller change) base h is =
     record { row = h.change; published = subst (λ b. (state first log).pieces b ≡ Some (Change h.change)) is h.published; decided = h.decided }
-resolved_now first log (Enter caller) base h is = absurd is
-resolved_now first log (Reserve caller b size) base h is = absurd is
-resolved_now first log (Install caller change rows) base h is = absurd is
-resolved_now first log (Okay caller change) base h is = absurd is
-resolved_now first log (Decide caller change said) base h is = absurd is
-resolved_now first log (Count caller node) base h is = absurd is
-resolved_now first log (Mark caller node) base h is = absurd is
-resolved_now first log (Pass caller node i word) base h is = absurd is
-resolved_now first log (Finish caller node keys) base h is = absurd is
-resolved_now first log (Root caller rebuild word rows) base h is = absurd is
-resolved_now first log (Draw caller rebuild part) base h is = absurd is
-resolved_now first log (Place caller rebuild i word rows) base h is = absurd is
-resolved_now first log (Lose caller bases) base h is = absurd is
+resolved_now first log _ base h is = absurd is
 
 -- a change that isn't published wasn't resolved
 unresolved_before : (pairs : List Pair) (words : ℕ) (log : Log)
@@ -113,39 +101,9 @@ module _ (pairs : List Pair) (words : ℕ) (opens : CanOpen pairs words) where
       (λ w. absurd (let seven : base * 8 + 3 ≡ 7 = w.0 in omega arith))
       (λ stays. stays)
       (writes.others n i (word_of (ChangeAt base)) slot)
-  change_slot_stays log (Enter caller) h base x e unresolved n i slot =
-      slot_stays (start pairs words) log (Enter caller) h.1
-      (sound_behind pairs words log h.0) tt n i (word_of (ChangeAt base)) slot
-  change_slot_stays log (Reserve caller b size) h base x e unresolved n i slot =
-      slot_stays (start pairs words) log (Reserve caller b size) h.1
-      (sound_behind pairs words log h.0) tt n i (word_of (ChangeAt base)) slot
-  change_slot_stays log (Okay caller change) h base x e unresolved n i slot =
-      slot_stays (start pairs words) log (Okay caller change) h.1
-      (sound_behind pairs words log h.0) tt n i (word_of (ChangeAt base)) slot
-  change_slot_stays log (Decide caller change said) h base x e unresolved n i slot =
-      slot_stays (start pairs words) log (Decide caller change said) h.1
-      (sound_behind pairs words log h.0) tt n i (word_of (ChangeAt base)) slot
-  change_slot_stays log (Count caller node) h base x e unresolved n i slot =
-      slot_stays (start pairs words) log (Count caller node) h.1
-      (sound_behind pairs words log h.0) tt n i (word_of (ChangeAt base)) slot
-  change_slot_stays log (Mark caller node) h base x e unresolved n i slot =
-      slot_stays (start pairs words) log (Mark caller node) h.1
-      (sound_behind pairs words log h.0) tt n i (word_of (ChangeAt base)) slot
-  change_slot_stays log (Pass caller node j word) h base x e unresolved n i slot =
-      slot_stays (start pairs words) log (Pass caller node j word) h.1
-      (sound_behind pairs words log h.0) tt n i (word_of (ChangeAt base)) slot
-  change_slot_stays log (Finish caller node keys) h base x e unresolved n i slot =
-      slot_stays (start pairs words) log (Finish caller node keys) h.1
-      (sound_behind pairs words log h.0) tt n i (word_of (ChangeAt base)) slot
-  change_slot_stays log (Root caller rebuild word rows) h base x e unresolved n i slot =
-      slot_stays (start pairs words) log (Root caller rebuild word rows) h.1
-      (sound_behind pairs words log h.0) tt n i (word_of (ChangeAt base)) slot
-  change_slot_stays log (Draw caller rebuild part) h base x e unresolved n i slot =
-      slot_stays (start pairs words) log (Draw caller rebuild part) h.1
-      (sound_behind pairs words log h.0) tt n i (word_of (ChangeAt base)) slot
-  change_slot_stays log (Lose caller bases) h base x e unresolved n i slot =
-      slot_stays (start pairs words) log (Lose caller bases) h.1
-      (sound_behind pairs words log h.0) tt n i (word_of (ChangeAt base)) slot
+  change_slot_stays log event h base x e unresolved n i slot =
+      slot_stays (start pairs words) log event h.1 (sound_behind pairs words log h.0) tt n i
+      (word_of (ChangeAt base)) slot
 
   -- a change that wasn't resolved is in its slot
   pub unresolved_stands : (log : Log) → EachEnabled (start pairs words) log

@@ -78,15 +78,15 @@ pub leads_rebuild : (ps : Pieces) (base : ℕ) (r : RebuildRow) → ps base ≡ 
 leads_rebuild ps base r e = ap rebuild_reads e
 
 -- what a change takes out that leads to an inner row: the change puts in what leads there too, or the row is finished
-pub data Takes (t : Snapshot) (x : ChangeRow) (child : ℕ) : Type 0 where
+pub data TakesOut (t : Snapshot) (x : ChangeRow) (child : ℕ) : Type 0 where
   takes_none_away : (ref : Ref) → ref_of x.to ≡ Some ref
-      → past_rebuild t.pieces (Some ref) ≡ Some (InnerAt child) → Takes t x child
-  takes_finished : IsFinished t child → Takes t x child
+      → past_rebuild t.pieces (Some ref) ≡ Some (InnerAt child) → TakesOut t x child
+  takes_finished : IsFinished t child → TakesOut t x child
 
 -- if the `from` of a change leads to an inner row, `to` leads there too or the row is finished
 pub takes : (t : Snapshot) (x : ChangeRow) (ref : Ref) (child : ℕ) → IsFormed t x
     → ref_of x.from ≡ Some ref
-    → past_rebuild t.pieces (Some ref) ≡ Some (InnerAt child) → Takes t x child
+    → past_rebuild t.pieces (Some ref) ≡ Some (InnerAt child) → TakesOut t x child
 takes t x ref child (of_leaf_put h) e leads = absurd (room h.from)
   where
     room : HasRoomFor t x.key x.from → ⊥
@@ -139,7 +139,7 @@ module _ (pairs : List Pair) (words : ℕ) (opens : CanOpen pairs words) where
           by_form
           (takes (state_of pairs words log) can.change ref child (changes_are_formed pairs words log h.0 base can.change can.pending.published) from leads)
         where
-          by_form : Takes (state_of pairs words log) can.change child
+          by_form : TakesOut (state_of pairs words log) can.change child
               → IsChild (state_of pairs words (Decide caller base true ∷ log)) node i child ⊎ IsFinished (state_of pairs words log) child
           by_form (takes_none_away to is on) =
               let u = state_of pairs words (Decide caller base true ∷ log) in

@@ -18,7 +18,7 @@ use Rattle.ist_core.proofs.BornLemmas.{Born}
 use Rattle.ist_core.proofs.PlaceLemmas.{one_piece}
 use Rattle.laws_links.proofs.OriginLemmas.{ChangeComes, KeepsStatuses, RebuildComes, StatusComes, change-counted, change-drawn, change-with_root, change-with_slot, change-with_status, change_was, finished_now, is_begun, is_decided, is_drawn, is_installed, is_new, is_rooted, marked_now, rebuild-counted, rebuild-with_decision, rebuild-with_slot, rebuild-with_status, rebuild_was, status-counted, status-drawn, status-with_decision, status-with_root, status-with_slot, status-with_status, status_was}
 use Rattle.laws_links.proofs.PublishedLemmas.{born_open, installed_change, installed_rebuild, new_rebuild_row, published_inner}
-use Rattle.laws_links.proofs.RowEventLemmas.{Came, BecameBy, as_it_was, by_count, by_decide, by_draw, by_finish, by_install, by_mark, by_place, by_resolve, by_root, came, from_new, from_old}
+use Rattle.laws_links.proofs.RowEventLemmas.{RowCame, BecameBy, as_it_was, by_count, by_decide, by_draw, by_finish, by_install, by_mark, by_place, by_resolve, by_root, came, from_new, from_old}
 use Rattle.ist_core.proofs.BornLemmas as born
 
 module _ (pairs : List Pair) (words : ℕ) where
@@ -87,7 +87,7 @@ module _ (pairs : List Pair) (words : ℕ) where
       → ChangeComes (start pairs words) log base x event
   change_comes log event h base x e = at (came pairs words log event h base (Change x) e)
     where
-      at : Came (start pairs words) log event base (Change x)
+      at : RowCame (start pairs words) log event base (Change x)
           → ChangeComes (start pairs words) log base x event
       at (from_old p old turned) = turned_change log event base x p old turned
       at (from_new new none) = born_change log event base x new
@@ -167,7 +167,7 @@ module _ (pairs : List Pair) (words : ℕ) where
       → RebuildComes (start pairs words) log base x event
   rebuild_comes log event h base x e = at (came pairs words log event h base (Rebuild x) e)
     where
-      at : Came (start pairs words) log event base (Rebuild x)
+      at : RowCame (start pairs words) log event base (Rebuild x)
           → RebuildComes (start pairs words) log base x event
       at (from_old p old turned) = turned_rebuild log event base x p old turned
       at (from_new new none) = born_rebuild log event base x new
@@ -217,7 +217,7 @@ module _ (pairs : List Pair) (words : ℕ) where
       → StatusComes (start pairs words) log base x.status event
   status_comes log event h base x e = at (came pairs words log event h base (Inner x) e)
     where
-      at : Came (start pairs words) log event base (Inner x)
+      at : RowCame (start pairs words) log event base (Inner x)
           → StatusComes (start pairs words) log base x.status event
       at (from_old p old turned) = turned_status log event base x p old turned
       at (from_new new none) = is_new none (born_open (start pairs words) log event base x h.1 new)

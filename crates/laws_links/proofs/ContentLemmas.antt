@@ -2,7 +2,7 @@
 use Rattle.std.proofs.Common.{List, Some, [], ap, arith, false, inl, inr, map, refl, subst, sym, true, ℕ, ⊎_elim, ◌==◌, ◌↔◌, ◌∙◌, ◌∷◌, ◌≡◌, ◌≢◌, ◌⊎◌}
 use Rattle.std.proofs.lemmas.Bool.Decides.{eqb_tells}
 use Rattle.ist_core.specs.declared.events.Event.{Event}
-use Rattle.ist_core.specs.declared.events.Event.TheVariants.{Count, Decide, Draw, Enter, Finish, Install, Lose, Mark, Okay, Pass, Place, Reserve, Resolve, Root}
+use Rattle.ist_core.specs.declared.events.Event.TheVariants.{Decide}
 use Rattle.ist_core.specs.declared.pairs.Pair.{Pair}
 use Rattle.ist_core.specs.Lawful.{CanOpen, EachEnabled, state_of}
 use Rattle.ist_core.specs.Leaves.{HasContents, pair_of}
@@ -62,20 +62,7 @@ module _ (pairs : List Pair) (words : ℕ) (opens : CanOpen pairs words) where
       (λ update. update_contents pairs words opens log caller base h update some)
       (λ other. kept log (Decide caller base true) h (λ change e k. other (subst (λ c. IsUpdate c.kind) (same_change ((state_of pairs words log).pieces base) change h.1.change e h.1.pending.published) k)) some)
       (kind_is h.1.change.kind)
-  contents_some log (Enter caller) h some = kept log (Enter caller) h tt some
-  contents_some log (Reserve caller b size) h some = kept log (Reserve caller b size) h tt some
-  contents_some log (Install c change rows) h some = kept log (Install c change rows) h tt some
-  contents_some log (Okay caller change) h some = kept log (Okay caller change) h tt some
-  contents_some log (Decide c base false) h some = kept log (Decide c base false) h tt some
-  contents_some log (Resolve caller change) h some = kept log (Resolve caller change) h tt some
-  contents_some log (Count caller n) h some = kept log (Count caller n) h tt some
-  contents_some log (Mark caller n) h some = kept log (Mark caller n) h tt some
-  contents_some log (Pass caller n j word) h some = kept log (Pass caller n j word) h tt some
-  contents_some log (Finish caller n keys) h some = kept log (Finish caller n keys) h tt some
-  contents_some log (Root c r word rows) h some = kept log (Root c r word rows) h tt some
-  contents_some log (Draw c r part) h some = kept log (Draw c r part) h tt some
-  contents_some log (Place c r j word rows) h some = kept log (Place c r j word rows) h tt some
-  contents_some log (Lose caller bases) h some = kept log (Lose caller bases) h tt some
+  contents_some log event h some = kept log event h tt some
 
   -- contents exist
   anchor_has : (log : Log) → EachEnabled (start pairs words) log → AnchorHas log

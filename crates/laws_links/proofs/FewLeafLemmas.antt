@@ -8,7 +8,7 @@ use Rattle.ist_core.specs.Pieces.{Leaf, Piece, Pieces}
 use Rattle.ist_core.specs.References.{Ref}
 use Rattle.ist_core.specs.Slots.{logical}
 use Rattle.ist_core.proofs.ElementLemmas.{each_append}
-use Rattle.ist_core.proofs.RisingLemmas.{Rises}
+use Rattle.ist_core.proofs.RisingLemmas.{AreRisingKeys}
 use Rattle.ist_core.proofs.SplitLemmas.{key_of_leaf}
 
 mutual
@@ -55,7 +55,7 @@ base_absent ps leaf (l ∷ leaves) e all above (inr i) = base_absent ps leaf lea
 -- leaves with strictly increasing keys have distinct bases
 pub bases_distinct : (ps : Pieces) (leaves : List PlacedLeaf)
     → Each (λ l. ps l.base ≡ Some (Leaf l.row)) leaves
-    → Rises key_of_leaf leaves → Distinct (leaf_bases leaves)
+    → AreRisingKeys key_of_leaf leaves → Distinct (leaf_bases leaves)
 bases_distinct ps [] all rise = tt
 bases_distinct ps (leaf ∷ leaves) all rise =
     (base_absent ps leaf leaves all.0 all.1 rise.0, bases_distinct ps leaves all.1 rise.1)

@@ -23,7 +23,7 @@ use Rattle.ist_core.proofs.LeafOrderLemmas.{leaves_lie}
 use Rattle.ist_core.proofs.OrderLemmas.{names}
 use Rattle.ist_core.proofs.ParentLemmas.{one_home}
 use Rattle.ist_core.proofs.PlaceLemmas.{anchor_free}
-use Rattle.ist_core.proofs.RisingLemmas.{Rises}
+use Rattle.ist_core.proofs.RisingLemmas.{AreRisingKeys}
 use Rattle.ist_core.proofs.RoomLemmas.{published_good}
 use Rattle.ist_core.proofs.SlotLemmas.{same_inner}
 use Rattle.ist_core.proofs.SplitLemmas.{key_of_leaf}
@@ -103,7 +103,7 @@ module _ (pairs : List Pair) (words : ℕ) (opens : CanOpen pairs words) where
   finished_rise : (log : Log) → EachEnabled (start pairs words) log → (node k : ℕ)
       → IsFinishedWith (state_of pairs words log) node k → (leaves : List PlacedLeaf)
       → HasLeaves (state_of pairs words log).pieces (Some (InnerAt node)) leaves
-      → Rises key_of_leaf leaves
+      → AreRisingKeys key_of_leaf leaves
   finished_rise log h node k f leaves reached =
       let t = state_of pairs words log in
       let some = f.status in

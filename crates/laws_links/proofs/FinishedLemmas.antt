@@ -1,6 +1,6 @@
 -- A finished row: each slot was passed with a word that leads to a finished row, so each child is
 -- finished. Serves the linked law.
-use Rattle.std.proofs.Common.{List, Option, Some, [], ap, arith, inr, length, slice_get, subst, suc, sym, zero, ℕ, ◌*◌, ◌+◌, ◌∙◌, ◌∷◌, ◌≡◌}
+use Rattle.std.proofs.Common.{List, Option, Some, [], ap, arith, length, slice_get, subst, suc, sym, zero, ℕ, ◌*◌, ◌+◌, ◌∙◌, ◌∷◌, ◌≡◌}
 use Rattle.ist_core.specs.declared.events.Event.{Event}
 use Rattle.ist_core.specs.declared.events.Event.TheVariants.{Finish}
 use Rattle.ist_core.specs.declared.pairs.Pair.{Pair}
@@ -8,7 +8,7 @@ use Rattle.ist_core.specs.declared.states.InnerRow.{InnerRow}
 use Rattle.ist_core.specs.Growing.{AllGrow}
 use Rattle.ist_core.specs.Lawful.{CanOpen, EachEnabled, state_of}
 use Rattle.ist_core.specs.Links.{IsChild}
-use Rattle.ist_core.specs.Logs.{Happened, Log, Passes}
+use Rattle.ist_core.specs.Logs.{GoesOn, Happened, Log, Passes, one_event, same_log}
 use Rattle.ist_core.specs.Marking.{ArePassed, CountsFor, HasTarget, no_key, of_child, of_target, one_key, one_passed, past_end}
 use Rattle.ist_core.specs.Pieces.{Inner, Pieces}
 use Rattle.ist_core.specs.Rebuilding.{IsFinishedWith}
@@ -18,12 +18,13 @@ use Rattle.ist_core.specs.Snapshots.{Snapshot}
 use Rattle.ist_core.specs.StartLayout.{start}
 use Rattle.ist_core.specs.Statuses.{finished_word}
 use Rattle.laws_links.specs.Linking.{IsFinished}
+use Rattle.ist_core.proofs.FinishedLemmas.{counts_grows}
 use Rattle.ist_core.proofs.FrozenLemmas.{frozen_reads}
 use Rattle.ist_core.proofs.GrowingLemmas.{inner_there, rebuild_there}
 use Rattle.ist_core.proofs.PlaceLemmas.{anchor_free}
+use Rattle.ist_core.proofs.PrefixLemmas.{happened_later}
 use Rattle.ist_core.proofs.SlotLemmas.{no_row, same_inner}
 use Rattle.laws_links.proofs.ComesLemmas.{status_comes}
-use Rattle.laws_links.proofs.FormLemmas.{finished_with_grows}
 use Rattle.laws_links.proofs.InductionLemmas.{grow_behind}
 use Rattle.laws_links.proofs.OriginLemmas.{StatusComes, finished_now, is_new, marked_now, status_was}
 use Rattle.laws_links.proofs.QuietLemmas.{start_quiet}
@@ -35,29 +36,19 @@ target_grows t u g rebuild target h =
     let it = rebuild_there t.pieces u.pieces g rebuild h.row h.published in
     record { row = it.0; published = it.1; target_is = it.2.target ∙ h.target_is }
 
--- what a word counts for stays the same
-counts_grows : (t u : Snapshot) → AllGrow t.pieces u.pieces → (o : Option Ref) (k : ℕ)
-    → CountsFor t o k
-    → CountsFor u o k
-counts_grows t u g _ _ no_key = no_key
-counts_grows t u g _ _ one_key = one_key
-counts_grows t u g _ _ (of_child {child = child} {k = k} f) =
-    of_child (finished_with_grows t u g child k f)
-counts_grows t u g _ _ (of_target {rebuild = rebuild} {target = target} {k = k} h f) =
-    of_target (target_grows t u g rebuild target h) (finished_with_grows t u g target k f)
-
 -- what was passed stays passed; of the slots only their number counts
-passed_grows : (t u : Snapshot) → AllGrow t.pieces u.pieces → (log : Log) (event : Event)
-    (node i k : ℕ) (old new : List ℕ)
-    → length new ≡ length old → ArePassed t log node i old k
-    → ArePassed u (event ∷ log) node i new k
-passed_grows t u g log event node i _ _ [] same past_end = past_end
-passed_grows t u g log event node i _ _ (w ∷ ws) same past_end = absurd (omega arith)
-passed_grows t u g log event node i _ _ [] same (one_passed word p c more) = absurd (omega arith)
-passed_grows t u g log event node i _ _ (w ∷ ws) same
+pub passed_later : (t u : Snapshot) → AllGrow t.pieces u.pieces → {earlier log : Log}
+    → GoesOn earlier log
+    → (node i k : ℕ) (old new : List ℕ) → length new ≡ length old → ArePassed t earlier node i old k
+    → ArePassed u log node i new k
+passed_later t u g on node i _ _ [] same past_end = past_end
+passed_later t u g on node i _ _ (w ∷ ws) same past_end = absurd (omega arith)
+passed_later t u g on node i _ _ [] same (one_passed word p c more) = absurd (omega arith)
+passed_later t u g on node i _ _ (w ∷ ws) same
     (one_passed {here = here} {rest = rest} {slots = slots} word p c more) =
-    one_passed word (inr p) (counts_grows t u g (ref_of word) here c)
-    (passed_grows t u g log event node (i + 1) rest slots ws (omega arith) more)
+    one_passed word (happened_later (Passes node i word) on p)
+    (counts_grows t u g (ref_of word) here c)
+    (passed_later t u g on node (i + 1) rest slots ws (omega arith) more)
 
 -- a slot was passed with some word
 pub record IsPassed (t : Snapshot) (log : Log) (node i : ℕ) : Type 0 where
@@ -124,8 +115,8 @@ module _ (pairs : List Pair) (words : ℕ) where
           → ArePassed (state_of pairs words (event ∷ log)) (event ∷ log) node 0 r.slots k
       at event all there (status_was s old same) before =
           let g = grow_behind pairs words log event all in
-          passed_grows (state_of pairs words log)
-          (state_of pairs words (event ∷ log)) g log event node 0 k s.slots r.slots
+          passed_later (state_of pairs words log) (state_of pairs words (event ∷ log)) g
+          (one_event event same_log) node 0 k s.slots r.slots
           (same_length (state_of pairs words log).pieces (state_of pairs words (event ∷ log)).pieces g node s r old there)
           (before s old (sym same ∙ is))
       at event all there (is_new none same) before =
@@ -137,9 +128,9 @@ module _ (pairs : List Pair) (words : ℕ) where
           let odd : r.status ≡ 4 * k + 3 = is in
           let also : r.status ≡ 4 * keys + 3 = same in
           let one : keys ≡ k = omega arith in
-          passed_grows (state_of pairs words log)
-          (state_of pairs words (Finish caller node keys ∷ log)) g log
-          (Finish caller node keys) node 0 k can.row.slots r.slots
+          passed_later (state_of pairs words log)
+          (state_of pairs words (Finish caller node keys ∷ log)) g
+          (one_event (Finish caller node keys) same_log) node 0 k can.row.slots r.slots
           (same_length (state_of pairs words log).pieces (state_of pairs words (Finish caller node keys ∷ log)).pieces g node can.row r can.published there)
           (subst (λ n. ArePassed (state_of pairs words log) log node 0 can.row.slots n) one can.passed)
 

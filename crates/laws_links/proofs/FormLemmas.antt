@@ -1,17 +1,18 @@
 -- The form of each published change, by its kind, from its first moment on; and that a rebuild with a root has a finished
 -- target. Serves the linked law and the replacement law.
-use Rattle.std.proofs.Common.{Some, ap, arith, subst, sym, ℕ, ◌*◌, ◌+◌, ◌<◌, ◌∙◌, ◌≡◌, ◌≢◌}
+use Rattle.std.proofs.Common.{Some, ap, arith, subst, sym, ℕ, ◌<◌, ◌∙◌, ◌≡◌, ◌≢◌}
 use Rattle.ist_core.specs.declared.states.ChangeRow.{ChangeRow}
 use Rattle.ist_core.specs.declared.states.InnerRow.{InnerRow}
 use Rattle.ist_core.specs.declared.states.RebuildRow.{RebuildRow}
-use Rattle.ist_core.specs.Growing.{AllGrow, Grows, StatusGoesOn, inner_grows, is_closed, is_finished, is_marked, status_stays}
+use Rattle.ist_core.specs.Growing.{AllGrow, Grows, inner_grows}
 use Rattle.ist_core.specs.Installing.{HasRoomFor, IsLeafOf, new_leaf, nothing, pair_row, same_key}
 use Rattle.ist_core.specs.Pieces.{Inner, Rebuild}
 use Rattle.ist_core.specs.Rebuilding.{IsFinishedWith, IsReplaced, IsStarted}
 use Rattle.ist_core.specs.References.{Empty, InnerAt, LeafAt, RebuildAt, ref_of, unset_word}
 use Rattle.ist_core.specs.Snapshots.{Snapshot}
-use Rattle.ist_core.specs.Statuses.{finish_kind, finished_word, put_kind, remove_kind, start_kind}
+use Rattle.ist_core.specs.Statuses.{finish_kind, put_kind, remove_kind, start_kind}
 use Rattle.laws_links.specs.Linking.{IsFinished}
+use Rattle.ist_core.proofs.DrawLemmas.{finished_grows as finished_stays}
 use Rattle.ist_core.proofs.GrowingLemmas.{change_there, grows_on, inner_there, leaf_there, rebuild_there}
 
 -- ---- growing keeps it
@@ -19,15 +20,7 @@ use Rattle.ist_core.proofs.GrowingLemmas.{change_there, grows_on, inner_there, l
 -- a row that is finished with k keys stays so as rows grow
 pub finished_with_grows : (t u : Snapshot) → AllGrow t.pieces u.pieces → (node k : ℕ)
     → IsFinishedWith t node k → IsFinishedWith u node k
-finished_with_grows t u g node k h =
-    let it = inner_there t.pieces u.pieces g node h.row h.published in
-    record { row = it.0; published = it.1; status = stays h.row.status it.0.status it.2.status h.status }
-  where
-    stays : (old new : ℕ) → StatusGoesOn old new → old ≡ finished_word k → new ≡ finished_word k
-    stays old new (status_stays e) is = e ∙ is
-    stays old new (is_marked a b) is = let odd : old ≡ 4 * k + 3 = is in absurd (omega arith)
-    stays old new (is_finished m a b) is = let odd : old ≡ 4 * k + 3 = is in absurd (omega arith)
-    stays old new (is_closed m a b) is = let odd : old ≡ 4 * k + 3 = is in absurd (omega arith)
+finished_with_grows t u g node k h = finished_stays t u node k g h
 
 -- a finished row stays finished as rows grow
 pub finished_grows : (t u : Snapshot) → AllGrow t.pieces u.pieces → (node : ℕ) → IsFinished t node

@@ -19,7 +19,7 @@ use Rattle.ist_core.specs.References.{ChangeAt, InnerAt, unset_word, word_of}
 use Rattle.ist_core.specs.Snapshots.{Snapshot}
 use Rattle.ist_core.specs.StartLayout.{start}
 use Rattle.laws_links.specs.Linking.{IsFinished}
-use Rattle.ist_core.proofs.FreshLemmas.{IsFresh, fresh_stands}
+use Rattle.ist_core.proofs.FreshLemmas.{IsPublishedWith, fresh_stands}
 use Rattle.ist_core.proofs.GrowingLemmas.{all_grow-changed_at, grows-with_slot}
 use Rattle.ist_core.proofs.InstallLemmas.{with_installed}
 use Rattle.ist_core.proofs.InstallNamingLemmas.{pair_is_inner}
@@ -34,7 +34,7 @@ use Rattle.ist_core.specs.Installing as kinds
 pub fresh_behind : (first : Snapshot) (log : Log) (caller base : ℕ) (rows : List Row)
     (h : CanInstall first log caller base rows)
     → HeldLieApart (state first log) → (at : ℕ) (p : Piece)
-    → IsFresh first log h.change h.fresh h.fits at p
+    → IsPublishedWith first log h.change h.fresh h.fits at p
     → (q : Piece) × ((state first (Install caller base rows ∷ log)).pieces at ≡ Some q) × Grows p q
 fresh_behind first log caller base rows h s at p is =
     let t = state first log in
@@ -68,7 +68,7 @@ formed_installed : (first : Snapshot) (log : Log) (caller base : ℕ) (rows : Li
     → r.root ≢ unset_word → IsFinished (state first log) r.target)
     → AllGrow (state first log).pieces (state first (Install caller base rows ∷ log)).pieces
     → (change : ChangeRow) (fresh : List Row) (fits : FitsKind first log change fresh)
-    → ((at : ℕ) (p : Piece) → IsFresh first log change fresh fits at p
+    → ((at : ℕ) (p : Piece) → IsPublishedWith first log change fresh fits at p
     → (q : Piece)
     × ((state first (Install caller base rows ∷ log)).pieces at ≡ Some q) × Grows p q)
     → IsFormed (state first (Install caller base rows ∷ log)) change

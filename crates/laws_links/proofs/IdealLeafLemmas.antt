@@ -17,7 +17,7 @@ use Rattle.ist_core.specs.References.{InnerAt, LeafAt, Ref}
 use Rattle.ist_core.specs.Slots.{past_change, past_rebuild}
 use Rattle.ist_core.proofs.NamingStepLemmas.{changed_at-fixed}
 use Rattle.ist_core.proofs.PartLemmas.{sum-part_lens}
-use Rattle.laws_links.proofs.NewTreeLemmas.{StandsIn}
+use Rattle.laws_links.proofs.NewTreeLemmas.{StandInOther}
 
 -- ---- parts, joined
 
@@ -99,7 +99,7 @@ ideal_above ps _ _ above _ base (of_more {base = b} r top under) e =
 -- a Decide leaves leaves and inner rows as they are
 pub decided_stands : (pairs : List Pair) (words : ℕ) (log : Log) (caller base : ℕ) (said : Bool)
     (rows : List ℕ)
-    → StandsIn (state_of pairs words log).pieces (state_of pairs words (Decide caller base said ∷ log)).pieces rows
+    → StandInOther (state_of pairs words log).pieces (state_of pairs words (Decide caller base said ∷ log)).pieces rows
 decided_stands pairs words log caller base said rows =
     let t = state_of pairs words log in
     record {

@@ -15,7 +15,7 @@ use Rattle.ist_core.proofs.ReferenceLemmas.{ref_of-unset}
 -- ---- whole trees
 
 -- the leaves of one table are also in the other, and so are these inner rows
-pub record StandsIn (ps qs : Pieces) (rows : List ℕ) : Type 0 where
+pub record StandInOther (ps qs : Pieces) (rows : List ℕ) : Type 0 where
   -- a leaf of the first is also in the second
   pub leaf : (base : ℕ) (r : LeafRow) → ps base ≡ Some (Leaf r) → qs base ≡ Some (Leaf r)
   -- one of these inner rows is in the second as it is in the first
@@ -41,7 +41,7 @@ mutual
   -- an ideal subtree stays one if its rows stay
   pub ideal_kept : (ps qs : Pieces) (ref : Ref) (leaves : List PlacedLeaf) (above : ℕ)
       (rows : List ℕ)
-      → IsIdeal ps ref leaves above rows → StandsIn ps qs rows → IsIdeal qs ref leaves above rows
+      → IsIdeal ps ref leaves above rows → StandInOther ps qs rows → IsIdeal qs ref leaves above rows
   ideal_kept ps qs _ _ _ _ of_none s = of_none
   ideal_kept ps qs _ _ _ _ (of_one {base = base} {leaf = leaf} same e) s =
       of_one same (s.leaf base leaf.row e)
@@ -53,7 +53,7 @@ mutual
   -- ideal parts stay ideal if their rows stay
   pub parts_kept : (ps qs : Pieces) (words : List ℕ) (behind : List (List PlacedLeaf)) (above : ℕ)
       (rows : List ℕ)
-      → AreIdeal ps words behind above rows → StandsIn ps qs rows
+      → AreIdeal ps words behind above rows → StandInOther ps qs rows
       → AreIdeal qs words behind above rows
   parts_kept ps qs _ _ _ _ no_part s = no_part
   parts_kept ps qs _ _ above _
@@ -139,7 +139,7 @@ pub data IsPartly (ps : Pieces) : Ref → List PlacedLeaf → ℕ → List ℕ �
 -- what is built stays if its rows stay
 pub partly_kept : (ps qs : Pieces) (words : List ℕ) (behind : List (List PlacedLeaf)) (above : ℕ)
     (rows : List ℕ)
-    → ArePartly ps words behind above rows → StandsIn ps qs rows
+    → ArePartly ps words behind above rows → StandInOther ps qs rows
     → ArePartly qs words behind above rows
 partly_kept ps qs _ _ _ _ no_more s = no_more
 partly_kept ps qs _ _ above _ (not_built {words = words} {rest = rest} {behind = behind} more) s =

@@ -18,15 +18,15 @@ use Rattle.ist_core.proofs.SlotLemmas.{same_inner}
 use Rattle.laws_links.proofs.FinishedLemmas.{finished_passed}
 
 -- the reference counts for this many keys: none, a leaf, or an inner row that has its number
-data Counts (Has : ℕ → ℕ → Type 0) : Option Ref → ℕ → Type 0 where
-  nothing_here : Counts Has (Some Empty) 0
-  one_leaf : {base : ℕ} → Counts Has (Some (LeafAt base)) 1
-  one_node : {base k : ℕ} → Has base k → Counts Has (Some (InnerAt base)) k
+data CountsKeys (Has : ℕ → ℕ → Type 0) : Option Ref → ℕ → Type 0 where
+  nothing_here : CountsKeys Has (Some Empty) 0
+  one_leaf : {base : ℕ} → CountsKeys Has (Some (LeafAt base)) 1
+  one_node : {base k : ℕ} → Has base k → CountsKeys Has (Some (InnerAt base)) k
 
 -- the words read as what counts for this many keys in all
 data CountAll (ps : Pieces) (Has : ℕ → ℕ → Type 0) : List ℕ → ℕ → Type 0 where
   count_none : CountAll ps Has [] 0
-  count_one : {word here rest : ℕ} {words : List ℕ} → Counts Has (logical ps word) here
+  count_one : {word here rest : ℕ} {words : List ℕ} → CountsKeys Has (logical ps word) here
       → CountAll ps Has words rest
       → CountAll ps Has (word ∷ words) (here + rest)
 
@@ -37,7 +37,7 @@ CountsBy Has (Some (LeafAt base)) k = k ≡ 1
 CountsBy Has (Some (InnerAt base)) k = Has base k
 CountsBy Has _ k = ⊥
 
-counts_by : (Has : ℕ → ℕ → Type 0) (ref : Option Ref) (k : ℕ) → Counts Has ref k
+counts_by : (Has : ℕ → ℕ → Type 0) (ref : Option Ref) (k : ℕ) → CountsKeys Has ref k
     → CountsBy Has ref k
 counts_by Has _ _ nothing_here = refl
 counts_by Has _ _ one_leaf = refl
@@ -47,7 +47,7 @@ counts_by Has _ _ (one_node has) = has
 abbrev CountAllBy : Pieces → (ℕ → ℕ → Type 0) → List ℕ → ℕ → Type 0
 CountAllBy ps Has [] k = k ≡ 0
 CountAllBy ps Has (word ∷ words) k =
-    (here : ℕ) × (rest : ℕ) × Counts Has (logical ps word) here × CountAll ps Has words rest ×
+    (here : ℕ) × (rest : ℕ) × CountsKeys Has (logical ps word) here × CountAll ps Has words rest ×
     (k ≡ here + rest)
 
 count_all_by : (ps : Pieces) (Has : ℕ → ℕ → Type 0) (words : List ℕ) (k : ℕ)
@@ -83,12 +83,12 @@ module _ (ps : Pieces) (Has : ℕ → ℕ → Type 0)
 
 -- what a passed word counts for, by what it reads as
 passed_counts : (t : Snapshot) (o : Option Ref) (k : ℕ) → CountsFor t o k
-    → Counts (IsFinishedWith t) (past_rebuild t.pieces o) k
+    → CountsKeys (IsFinishedWith t) (past_rebuild t.pieces o) k
 passed_counts t _ _ no_key = nothing_here
 passed_counts t _ _ one_key = one_leaf
 passed_counts t _ _ (of_child f) = one_node f
 passed_counts t _ k (of_target {rebuild = rebuild} {target = target} h f) =
-    subst (λ o. Counts (IsFinishedWith t) o k)
+    subst (λ o. CountsKeys (IsFinishedWith t) o k)
     (sym (ap rebuild_reads h.published ∙ ap (λ n. Some (InnerAt n)) h.target_is)) (one_node f)
 
 module _ (pairs : List Pair) (words : ℕ) (opens : CanOpen pairs words) where
@@ -103,7 +103,7 @@ module _ (pairs : List Pair) (words : ℕ) (opens : CanOpen pairs words) where
       (one_passed {here = here} {rest = rest} {slot = slot} {slots = slots} word p c more) get =
       let t = state_of pairs words log in
       count_one
-      (subst (λ o. Counts (IsFinishedWith t) o here) (sym (frozen_reads pairs words opens log h node i word slot p (get 0 i slot (omega arith) refl))) (passed_counts t (ref_of word) here c))
+      (subst (λ o. CountsKeys (IsFinishedWith t) o here) (sym (frozen_reads pairs words opens log h node i word slot p (get 0 i slot (omega arith) refl))) (passed_counts t (ref_of word) here c))
       (passed_count log h node (i + 1) rest slots more (λ j m w at e. get (suc j) m w (omega arith) e))
 
   -- the number of a finished row is the number of leaves below it

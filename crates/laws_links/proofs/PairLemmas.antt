@@ -19,7 +19,7 @@ use Rattle.ist_core.specs.Slots.{SlotHolds, logical, past_rebuild}
 use Rattle.ist_core.specs.Snapshots.{HoldsRows}
 use Rattle.ist_core.specs.StartLayout.{start}
 use Rattle.ist_core.specs.Statuses.{put_kind, undecided}
-use Rattle.ist_core.proofs.FreshLemmas.{IsFresh, fresh_stands}
+use Rattle.ist_core.proofs.FreshLemmas.{IsPublishedWith, fresh_stands}
 use Rattle.ist_core.proofs.GrowingLemmas.{leaf_there}
 use Rattle.ist_core.proofs.InstallLemmas.{with_installed}
 use Rattle.ist_core.proofs.InstallNamingLemmas.{pair_is_inner}
@@ -168,10 +168,10 @@ module _ (pairs : List Pair) (words : ℕ) (opens : CanOpen pairs words) where
       holds = holds_installed (start pairs words) log caller base rows can
 
       at : (fits : FitsKind (start pairs words) log can.change can.fresh)
-          → ((b : ℕ) (p : Piece) → IsFresh (start pairs words) log can.change can.fresh fits b p
+          → ((b : ℕ) (p : Piece) → IsPublishedWith (start pairs words) log can.change can.fresh fits b p
           → (q : Piece)
           × ((state_of pairs words (Install caller base rows ∷ log)).pieces b ≡ Some q) × Grows p q)
-          → ((b : ℕ) (p : Piece) → IsFresh (start pairs words) log can.change can.fresh fits b p
+          → ((b : ℕ) (p : Piece) → IsPublishedWith (start pairs words) log can.change can.fresh fits b p
           → with_installed (state_of pairs words log).pieces base can.change can.fresh b ≡ Some p)
           → IsFilledPair pairs words (Install caller base rows ∷ log) can.change pair
       at (kinds.a_put f) behind stands = absurd (clash (sym f.to ∙ to))

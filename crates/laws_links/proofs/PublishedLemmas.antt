@@ -15,7 +15,7 @@ use Rattle.ist_core.specs.Pieces.{Change, Inner, Piece, Pieces, Rebuild, inner_o
 use Rattle.ist_core.specs.References.{unset_word}
 use Rattle.ist_core.specs.Snapshots.{Snapshot, bases_of}
 use Rattle.ist_core.specs.Statuses.{open_word}
-use Rattle.ist_core.proofs.AddingLemmas.{IsInstalled}
+use Rattle.ist_core.proofs.AddingLemmas.{IsInstalledWith}
 use Rattle.ist_core.proofs.BornLemmas.{Born, by_install, by_place, by_root}
 use Rattle.ist_core.proofs.ElementLemmas.{each-among}
 use Rattle.ist_core.proofs.RowLemmas.{with_inners-some}
@@ -71,7 +71,7 @@ pair_no_rebuild key base other_key other x =
 pub installed_change : (first : Snapshot) (log : Log) (at : ℕ) (change : ChangeRow)
     (fresh : List Row)
     (fits : FitsKind first log change fresh) (base : ℕ) (x : ChangeRow)
-    → IsInstalled first log at change fresh fits base (Change x) → (base ≡ at) × (x ≡ change)
+    → IsInstalledWith first log at change fresh fits base (Change x) → (base ≡ at) × (x ≡ change)
 installed_change first log at change fresh fits base x (inl (here, is)) = (here, (cc))
 installed_change first log at change fresh (a_put f) base x (inr (here, is)) = absurd (cc)
 installed_change first log at change fresh (a_pair f) base x (inr (inl (here, is))) =
@@ -91,7 +91,7 @@ pub record IsStartOf (first : Snapshot) (log : Log) (change : ChangeRow) (fresh 
 pub installed_rebuild : (first : Snapshot) (log : Log) (at : ℕ) (change : ChangeRow)
     (fresh : List Row)
     (fits : FitsKind first log change fresh) (base : ℕ) (x : RebuildRow)
-    → IsInstalled first log at change fresh fits base (Rebuild x)
+    → IsInstalledWith first log at change fresh fits base (Rebuild x)
     → IsStartOf first log change fresh base x
 installed_rebuild first log at change fresh fits base x (inl (here, is)) = absurd (cc)
 installed_rebuild first log at change fresh (a_put f) base x (inr (here, is)) = absurd (cc)
@@ -106,7 +106,7 @@ installed_rebuild first log at change fresh (a_finish f) base x (inr is) = absur
 -- an inner row that an Install publishes is open
 pub installed_open : (first : Snapshot) (log : Log) (at : ℕ) (change : ChangeRow) (fresh : List Row)
     (fits : FitsKind first log change fresh) (base : ℕ) (x : InnerRow)
-    → IsInstalled first log at change fresh fits base (Inner x) → x.status ≡ open_word
+    → IsInstalledWith first log at change fresh fits base (Inner x) → x.status ≡ open_word
 installed_open first log at change fresh fits base x (inl (here, is)) = absurd (cc)
 installed_open first log at change fresh (a_put f) base x (inr (here, is)) = absurd (cc)
 installed_open first log at change fresh (a_pair f) base x (inr (inl (here, is))) =

@@ -25,11 +25,11 @@ use Rattle.ist_core.proofs.RowLemmas.{changed_at-other, changed_at-same}
 use Rattle.ist_core.proofs.SlotStepLemmas.{IsNoDecide, WritesNoSlot, change_stays, install_stands, install_writes, place_writes, resolve_writes, slot_stays}
 use Rattle.laws_links.proofs.ChangeLemmas.{undecided_stands}
 use Rattle.laws_links.proofs.InductionLemmas.{sound_behind}
-use Rattle.laws_links.proofs.ReadLemmas.{Fills, ReadsAs, Turns, filled_by, past_plain, past_same, side_plain, side_undecided, turned_by}
+use Rattle.laws_links.proofs.ReadLemmas.{FillsSlot, ReadsAs, Turns, filled_by, past_plain, past_same, side_plain, side_undecided, turned_by}
 
 -- what a slot reads as after an event
-abbrev pub Reading : List Pair → ℕ → Log → ℕ → ℕ → Ref → Event → Type 0
-Reading pairs words log node i ref event =
+abbrev pub ReadsAfter : List Pair → ℕ → Log → ℕ → ℕ → Ref → Event → Type 0
+ReadsAfter pairs words log node i ref event =
     ReadsAs (state_of pairs words (event ∷ log)) node i ref ⊎ Turns
     (start pairs words) log node i ref event
 
@@ -45,7 +45,7 @@ module _ (pairs : List Pair) (words : ℕ) (opens : CanOpen pairs words) where
   -- an event that writes no slot and decides nothing
   pub reads_quiet : (log : Log) (event : Event) → EachEnabled (start pairs words) (event ∷ log)
       → WritesNoSlot event → IsNoDecide event → (node i : ℕ) (ref : Ref)
-      → ReadsAs (state_of pairs words log) node i ref → Reading pairs words log node i ref event
+      → ReadsAs (state_of pairs words log) node i ref → ReadsAfter pairs words log node i ref event
   reads_quiet log event h none still node i ref r =
       let s = sound_behind pairs words log h.0 in
       inl record {
@@ -78,7 +78,7 @@ module _ (pairs : List Pair) (words : ℕ) (opens : CanOpen pairs words) where
       → (h : EachEnabled (start pairs words) (Install caller base rows ∷ log))
       → (node i : ℕ) (ref : Ref)
       → ReadsAs (state_of pairs words log) node i ref
-      → Reading pairs words log node i ref (Install caller base rows)
+      → ReadsAfter pairs words log node i ref (Install caller base rows)
   reads_install log caller base rows h node i ref r =
       let t = state_of pairs words log in
       let u = state_of pairs words (Install caller base rows ∷ log) in
@@ -103,7 +103,7 @@ module _ (pairs : List Pair) (words : ℕ) (opens : CanOpen pairs words) where
   pub reads_resolve : (log : Log) (caller base : ℕ)
       → (h : EachEnabled (start pairs words) (Resolve caller base ∷ log)) → (node i : ℕ) (ref : Ref)
       → ReadsAs (state_of pairs words log) node i ref
-      → Reading pairs words log node i ref (Resolve caller base)
+      → ReadsAfter pairs words log node i ref (Resolve caller base)
   reads_resolve log caller base h node i ref r =
       let t = state_of pairs words log in
       let u = state_of pairs words (Resolve caller base ∷ log) in
@@ -130,7 +130,7 @@ module _ (pairs : List Pair) (words : ℕ) (opens : CanOpen pairs words) where
   pub reads_place : (log : Log) (caller rebuild j word : ℕ) (rows : List Row)
       → (h : EachEnabled (start pairs words) (Place caller rebuild j word rows ∷ log))
       → (node i : ℕ) (ref : Ref) → ReadsAs (state_of pairs words log) node i ref
-      → Reading pairs words log node i ref (Place caller rebuild j word rows) ⊎ Fills (start pairs words) log node i ref (Place caller rebuild j word rows)
+      → ReadsAfter pairs words log node i ref (Place caller rebuild j word rows) ⊎ FillsSlot (start pairs words) log node i ref (Place caller rebuild j word rows)
   reads_place log caller rebuild j word rows h node i ref r =
       let t = state_of pairs words log in
       let writes = place_writes t caller rebuild j word rows h.1 (sound_behind pairs words log h.0) (anchor_free pairs words log h.0) in
@@ -146,7 +146,7 @@ module _ (pairs : List Pair) (words : ℕ) (opens : CanOpen pairs words) where
   pub reads_decide : (log : Log) (caller base : ℕ) (said : Bool)
       → EachEnabled (start pairs words) (Decide caller base said ∷ log) → (node i : ℕ) (ref : Ref)
       → ReadsAs (state_of pairs words log) node i ref
-      → Reading pairs words log node i ref (Decide caller base said)
+      → ReadsAfter pairs words log node i ref (Decide caller base said)
   reads_decide log caller base said h node i ref r = at said h (is_change_at (ref_of r.word) base)
     where
       -- the reference is the change's, or another
@@ -179,7 +179,7 @@ module _ (pairs : List Pair) (words : ℕ) (opens : CanOpen pairs words) where
 
       at : (said : Bool) → EachEnabled (start pairs words) (Decide caller base said ∷ log)
           → (ref_of r.word ≡ Some (ChangeAt base)) ⊎ (ref_of r.word ≢ Some (ChangeAt base))
-          → Reading pairs words log node i ref (Decide caller base said)
+          → ReadsAfter pairs words log node i ref (Decide caller base said)
       at said h (inr ne) = inl (other said h ne)
       at false h (inl is) =
           let t = state_of pairs words log in

@@ -33,11 +33,11 @@ pub data Turns (first : Snapshot) (log : Log) (node i : ℕ) (ref : Ref) : Event
       → Turns first log node i ref (Decide caller base true)
 
 -- the event puts a part into slot i of the node, which wasn't set
-pub data Fills (first : Snapshot) (log : Log) (node i : ℕ) (ref : Ref) : Event → Type 0 where
+pub data FillsSlot (first : Snapshot) (log : Log) (node i : ℕ) (ref : Ref) : Event → Type 0 where
   filled_by : {caller rebuild j word : ℕ} {rows : List Row}
       (h : CanPlace (state first log) caller rebuild j word rows)
       → node ≡ h.root → i ≡ j → ref ≡ Unset
-      → Fills first log node i ref (Place caller rebuild j word rows)
+      → FillsSlot first log node i ref (Place caller rebuild j word rows)
 
 -- ---- references
 

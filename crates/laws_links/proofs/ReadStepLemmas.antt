@@ -2,7 +2,7 @@
 -- replacement law and the rest law.
 use Rattle.std.proofs.Common.{List, None, Option, Some, inl, inr, refl, subst, sym, ℕ, ⊎_elim, ◌∷◌, ◌≡◌, ◌≢◌, ◌⊎◌}
 use Rattle.ist_core.specs.declared.events.Event.{Event}
-use Rattle.ist_core.specs.declared.events.Event.TheVariants.{Count, Decide, Draw, Enter, Finish, Install, Lose, Mark, Okay, Pass, Place, Reserve, Resolve, Root}
+use Rattle.ist_core.specs.declared.events.Event.TheVariants.{Decide, Install, Place, Resolve}
 use Rattle.ist_core.specs.declared.pairs.Pair.{Pair}
 use Rattle.ist_core.specs.Lawful.{CanOpen, EachEnabled, state_of}
 use Rattle.ist_core.specs.Logs.{Log}
@@ -18,15 +18,15 @@ use Rattle.ist_core.proofs.SlotLemmas.{no_row}
 use Rattle.ist_core.proofs.GrowingLemmas.{get_alike}
 use Rattle.laws_links.proofs.FinishedLemmas.{same_length}
 use Rattle.laws_links.proofs.InductionLemmas.{grow_behind}
-use Rattle.laws_links.proofs.ReadEventLemmas.{Reading, reads_decide, reads_install, reads_place, reads_quiet, reads_resolve}
-use Rattle.laws_links.proofs.ReadLemmas.{Fills, ReadsAs, Turns, filled_by, reads_once}
+use Rattle.laws_links.proofs.ReadEventLemmas.{ReadsAfter, reads_decide, reads_install, reads_place, reads_quiet, reads_resolve}
+use Rattle.laws_links.proofs.ReadLemmas.{FillsSlot, ReadsAs, Turns, filled_by, reads_once}
 
 module _ (pairs : List Pair) (words : ℕ) (opens : CanOpen pairs words) where
   -- a slot reads the same after each event, or the event decides its change yes, or puts a part
   -- into it
   pub reads_any : (log : Log) (event : Event) → EachEnabled (start pairs words) (event ∷ log)
       → (node i : ℕ) (ref : Ref) → ReadsAs (state_of pairs words log) node i ref
-      → Reading pairs words log node i ref event ⊎ Fills (start pairs words) log node i ref event
+      → ReadsAfter pairs words log node i ref event ⊎ FillsSlot (start pairs words) log node i ref event
   reads_any log (Install caller base rows) h node i ref r =
       inl (reads_install pairs words opens log caller base rows h node i ref r)
   reads_any log (Resolve caller base) h node i ref r =
@@ -35,35 +35,17 @@ module _ (pairs : List Pair) (words : ℕ) (opens : CanOpen pairs words) where
       reads_place pairs words opens log caller rebuild j word rows h node i ref r
   reads_any log (Decide caller base said) h node i ref r =
       inl (reads_decide pairs words opens log caller base said h node i ref r)
-  reads_any log (Enter caller) h node i ref r =
-      inl (reads_quiet pairs words opens log (Enter caller) h tt tt node i ref r)
-  reads_any log (Reserve caller b size) h node i ref r =
-      inl (reads_quiet pairs words opens log (Reserve caller b size) h tt tt node i ref r)
-  reads_any log (Okay caller change) h node i ref r =
-      inl (reads_quiet pairs words opens log (Okay caller change) h tt tt node i ref r)
-  reads_any log (Count caller n) h node i ref r =
-      inl (reads_quiet pairs words opens log (Count caller n) h tt tt node i ref r)
-  reads_any log (Mark caller n) h node i ref r =
-      inl (reads_quiet pairs words opens log (Mark caller n) h tt tt node i ref r)
-  reads_any log (Pass caller n j word) h node i ref r =
-      inl (reads_quiet pairs words opens log (Pass caller n j word) h tt tt node i ref r)
-  reads_any log (Finish caller n keys) h node i ref r =
-      inl (reads_quiet pairs words opens log (Finish caller n keys) h tt tt node i ref r)
-  reads_any log (Root caller rebuild word rows) h node i ref r =
-      inl (reads_quiet pairs words opens log (Root caller rebuild word rows) h tt tt node i ref r)
-  reads_any log (Draw caller rebuild part) h node i ref r =
-      inl (reads_quiet pairs words opens log (Draw caller rebuild part) h tt tt node i ref r)
-  reads_any log (Lose caller bases) h node i ref r =
-      inl (reads_quiet pairs words opens log (Lose caller bases) h tt tt node i ref r)
+  reads_any log event h node i ref r =
+      inl (reads_quiet pairs words opens log event h tt tt node i ref r)
 
   -- a slot that is set isn't filled
   pub reads_step : (log : Log) (event : Event) → EachEnabled (start pairs words) (event ∷ log)
       → (node i : ℕ) (ref : Ref) → ref ≢ Unset → ReadsAs (state_of pairs words log) node i ref
-      → Reading pairs words log node i ref event
+      → ReadsAfter pairs words log node i ref event
   reads_step log event h node i ref set r =
       ⊎_elim (λ k. k) (λ f. absurd (unset event f)) (reads_any log event h node i ref r)
     where
-      unset : (event : Event) → Fills (start pairs words) log node i ref event → ⊥
+      unset : (event : Event) → FillsSlot (start pairs words) log node i ref event → ⊥
       unset _ (filled_by can here at is) = set is
 
   -- ---- before the event
@@ -120,7 +102,7 @@ module _ (pairs : List Pair) (words : ℕ) (opens : CanOpen pairs words) where
     read_before : ReadsAs (state_of pairs words log) node i ref → Turning log node i ref event
     turned_now : (was : Ref) → ReadsAs (state_of pairs words log) node i was
         → Turns (start pairs words) log node i was event → Turning log node i ref event
-    filled_now : Fills (start pairs words) log node i Unset event → Turning log node i ref event
+    filled_now : FillsSlot (start pairs words) log node i Unset event → Turning log node i ref event
 
   -- how a slot got what it reads as after an event
   pub reads_back : (log : Log) (event : Event) → EachEnabled (start pairs words) (event ∷ log)
@@ -140,12 +122,12 @@ module _ (pairs : List Pair) (words : ℕ) (opens : CanOpen pairs words) where
       (λ f. filled event was.0 f)
       (reads_any log event h node i was.0 was.1)
     where
-      filled : (event : Event) (was : Ref) → Fills (start pairs words) log node i was event
+      filled : (event : Event) (was : Ref) → FillsSlot (start pairs words) log node i was event
           → Turning log node i ref event
       filled event was f =
           filled_now
-          (subst (λ x. Fills (start pairs words) log node i x event) (unset event was f) f)
+          (subst (λ x. FillsSlot (start pairs words) log node i x event) (unset event was f) f)
         where
-          unset : (event : Event) (was : Ref) → Fills (start pairs words) log node i was event
+          unset : (event : Event) (was : Ref) → FillsSlot (start pairs words) log node i was event
               → was ≡ Unset
           unset _ was (filled_by can here at is) = is

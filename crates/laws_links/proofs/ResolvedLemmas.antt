@@ -2,7 +2,7 @@
 use Rattle.std.proofs.Common.{List, Some, [], ap, false, inl, inr, subst, sym, true, ℕ, ⊎_elim, ◌==◌, ◌∙◌, ◌∷◌, ◌≡◌, ◌≢◌, ◌⊎◌}
 use Rattle.std.proofs.lemmas.Bool.Decides.{eqb_tells}
 use Rattle.ist_core.specs.declared.events.Event.{Event}
-use Rattle.ist_core.specs.declared.events.Event.TheVariants.{Count, Decide, Draw, Enter, Finish, Install, Lose, Mark, Okay, Pass, Place, Reserve, Resolve, Root}
+use Rattle.ist_core.specs.declared.events.Event.TheVariants.{Install, Place, Resolve}
 use Rattle.ist_core.specs.declared.pairs.Pair.{Pair}
 use Rattle.ist_core.specs.declared.states.ChangeRow.{ChangeRow}
 use Rattle.ist_core.specs.After.{side_of}
@@ -105,39 +105,9 @@ module _ (pairs : List Pair) (words : ℕ) (opens : CanOpen pairs words) where
       absurd (ideal_no_change (with_inners t.pieces rows) can.ref can.part can.root (bases_of rows) can.ideal base read))
       (λ stays. kept_word log (Place caller rebuild j word rows) h node i old (word_of (ChangeAt base)) stays now was)
       (writes.others node i old was)
-  stood_before log (Enter caller) h base x e node i old was now =
-      kept_word log (Enter caller) h node i old (word_of (ChangeAt base))
-      (slot_stays (start pairs words) log (Enter caller) h.1 (sound_behind pairs words log h.0) tt node i old was) now was
-  stood_before log (Reserve caller b size) h base x e node i old was now =
-      kept_word log (Reserve caller b size) h node i old (word_of (ChangeAt base))
-      (slot_stays (start pairs words) log (Reserve caller b size) h.1 (sound_behind pairs words log h.0) tt node i old was) now was
-  stood_before log (Okay caller change) h base x e node i old was now =
-      kept_word log (Okay caller change) h node i old (word_of (ChangeAt base))
-      (slot_stays (start pairs words) log (Okay caller change) h.1 (sound_behind pairs words log h.0) tt node i old was) now was
-  stood_before log (Decide caller change said) h base x e node i old was now =
-      kept_word log (Decide caller change said) h node i old (word_of (ChangeAt base))
-      (slot_stays (start pairs words) log (Decide caller change said) h.1 (sound_behind pairs words log h.0) tt node i old was) now was
-  stood_before log (Count caller n) h base x e node i old was now =
-      kept_word log (Count caller n) h node i old (word_of (ChangeAt base))
-      (slot_stays (start pairs words) log (Count caller n) h.1 (sound_behind pairs words log h.0) tt node i old was) now was
-  stood_before log (Mark caller n) h base x e node i old was now =
-      kept_word log (Mark caller n) h node i old (word_of (ChangeAt base))
-      (slot_stays (start pairs words) log (Mark caller n) h.1 (sound_behind pairs words log h.0) tt node i old was) now was
-  stood_before log (Pass caller n j word) h base x e node i old was now =
-      kept_word log (Pass caller n j word) h node i old (word_of (ChangeAt base))
-      (slot_stays (start pairs words) log (Pass caller n j word) h.1 (sound_behind pairs words log h.0) tt node i old was) now was
-  stood_before log (Finish caller n keys) h base x e node i old was now =
-      kept_word log (Finish caller n keys) h node i old (word_of (ChangeAt base))
-      (slot_stays (start pairs words) log (Finish caller n keys) h.1 (sound_behind pairs words log h.0) tt node i old was) now was
-  stood_before log (Root caller rebuild word rows) h base x e node i old was now =
-      kept_word log (Root caller rebuild word rows) h node i old (word_of (ChangeAt base))
-      (slot_stays (start pairs words) log (Root caller rebuild word rows) h.1 (sound_behind pairs words log h.0) tt node i old was) now was
-  stood_before log (Draw caller rebuild part) h base x e node i old was now =
-      kept_word log (Draw caller rebuild part) h node i old (word_of (ChangeAt base))
-      (slot_stays (start pairs words) log (Draw caller rebuild part) h.1 (sound_behind pairs words log h.0) tt node i old was) now was
-  stood_before log (Lose caller bases) h base x e node i old was now =
-      kept_word log (Lose caller bases) h node i old (word_of (ChangeAt base))
-      (slot_stays (start pairs words) log (Lose caller bases) h.1 (sound_behind pairs words log h.0) tt node i old was) now was
+  stood_before log event h base x e node i old was now =
+      kept_word log event h node i old (word_of (ChangeAt base)) (slot_stays (start pairs words)
+      log event h.1 (sound_behind pairs words log h.0) tt node i old was) now was
 
   -- a change that was resolved is published
   resolved_published : (log : Log) → EachEnabled (start pairs words) log → (base : ℕ)
@@ -177,19 +147,7 @@ module _ (pairs : List Pair) (words : ℕ) (opens : CanOpen pairs words) where
       let same = slot_once u can.change.node can.change.index (word_of (ChangeAt base)) (side_of can.change) (anchor_free pairs words (Resolve caller at ∷ log) h) here writes.now in
       side_no_change log h.0 at can.change can.published at
       (ap ref_of (sym same) ∙ ap (λ b. ref_of (word_of (ChangeAt b))) (sym is) ∙ change_read pairs words opens log h.0 at can.change can.published)
-  left_now log (Enter caller) h base is node i slot = absurd is
-  left_now log (Reserve caller b size) h base is node i slot = absurd is
-  left_now log (Install caller change rows) h base is node i slot = absurd is
-  left_now log (Okay caller change) h base is node i slot = absurd is
-  left_now log (Decide caller change said) h base is node i slot = absurd is
-  left_now log (Count caller n) h base is node i slot = absurd is
-  left_now log (Mark caller n) h base is node i slot = absurd is
-  left_now log (Pass caller n j word) h base is node i slot = absurd is
-  left_now log (Finish caller n keys) h base is node i slot = absurd is
-  left_now log (Root caller rebuild word rows) h base is node i slot = absurd is
-  left_now log (Draw caller rebuild part) h base is node i slot = absurd is
-  left_now log (Place caller rebuild j word rows) h base is node i slot = absurd is
-  left_now log (Lose caller bases) h base is node i slot = absurd is
+  left_now log _ h base is node i slot = absurd is
 
   -- a change that was resolved is in no slot
   pub resolved_gone : (log : Log) → EachEnabled (start pairs words) log → (base : ℕ)

@@ -29,7 +29,7 @@ use Rattle.laws_links.proofs.FormedLemmas.{changes_are_formed}
 use Rattle.laws_links.proofs.InductionLemmas.{grow_behind, sound_behind}
 use Rattle.laws_links.proofs.PairLemmas.{pair_is_filled}
 use Rattle.laws_links.proofs.ReadEventLemmas.{decide_reads}
-use Rattle.laws_links.proofs.ReadLemmas.{Fills, ReadsAs, Turns, filled_by, reads_once, turned_by}
+use Rattle.laws_links.proofs.ReadLemmas.{FillsSlot, ReadsAs, Turns, filled_by, reads_once, turned_by}
 use Rattle.laws_links.proofs.ReadStepLemmas.{Stood, Turning, filled_now, read_before, reads_back, turned_now, was_anchor, was_row}
 use Rattle.laws_links.proofs.UntouchedLemmas.{not_the_anchor, was_linked_here, was_linked_parent}
 use Rattle.laws_links.proofs.IdealLeafLemmas.{ideal_reads}
@@ -166,7 +166,7 @@ module _ (pairs : List Pair) (words : ℕ) (opens : CanOpen pairs words) where
   filled_back : (log : Log) (event : Event) → EachEnabled (start pairs words) (event ∷ log)
       → (node i child : ℕ) (ref : Ref)
       → InnerHere (state_of pairs words log).pieces child
-      → Fills (start pairs words) log node i Unset event
+      → FillsSlot (start pairs words) log node i Unset event
       → ReadsAs (state_of pairs words (event ∷ log)) node i ref
       → past_rebuild (state_of pairs words (event ∷ log)).pieces (Some ref) ≡ Some (InnerAt child)
       → ⊥

@@ -2,7 +2,7 @@
 -- fields.
 use Rattle.std.proofs.Common.{Bool, List, None, Option, Some, ap, inl, inr, refl, subst, sym, ℕ, ⊎_elim, ◌∙◌, ◌∷◌, ◌≡◌, ◌⊎◌}
 use Rattle.ist_core.specs.declared.events.Event.{Event}
-use Rattle.ist_core.specs.declared.events.Event.TheVariants.{Count, Decide, Draw, Enter, Finish, Install, Lose, Mark, Okay, Pass, Place, Reserve, Resolve, Root}
+use Rattle.ist_core.specs.declared.events.Event.TheVariants.{Count, Decide, Draw, Finish, Install, Mark, Place, Resolve, Root}
 use Rattle.ist_core.specs.declared.lists.Row.{Row}
 use Rattle.ist_core.specs.declared.pairs.Pair.{Pair}
 use Rattle.ist_core.specs.After.{after, decision_word, side_of}
@@ -20,7 +20,7 @@ use Rattle.ist_core.specs.Slots.{SlotHolds, in_anchor, in_row}
 use Rattle.ist_core.specs.Snapshots.{Snapshot, bases_of}
 use Rattle.ist_core.specs.StartLayout.{start}
 use Rattle.ist_core.specs.Statuses.{finished_word, marked_word}
-use Rattle.ist_core.proofs.AddingLemmas.{Adds, IsInstalled, adds-with_inners, adds_install}
+use Rattle.ist_core.proofs.AddingLemmas.{Adds, IsInstalledWith, adds-with_inners, adds_install}
 use Rattle.ist_core.proofs.BornLemmas.{Born}
 use Rattle.ist_core.proofs.InstallLemmas.{with_installed}
 use Rattle.ist_core.proofs.MoveLemmas.{HeldLieApart}
@@ -59,11 +59,11 @@ pub data BecameBy (first : Snapshot) (log : Log) (base : ℕ) (p q : Piece) : Ev
       → BecameBy first log base p q (Draw caller base part)
 
 -- a row after the event was there before it, or is published by it
-pub data Came (first : Snapshot) (log : Log) (event : Event) (base : ℕ) (q : Piece) : Type 0 where
+pub data RowCame (first : Snapshot) (log : Log) (event : Event) (base : ℕ) (q : Piece) : Type 0 where
   from_old : (p : Piece) → (state first log).pieces base ≡ Some p → BecameBy first log base p q event
-      → Came first log event base q
+      → RowCame first log event base q
   from_new : Born first log base q event → (state first log).pieces base ≡ None
-      → Came first log event base q
+      → RowCame first log event base q
 
 -- ---- rows that are added, of which one is changed
 
@@ -105,7 +105,7 @@ turned_one : (first : Snapshot) (log : Log) (event : Event) (at : ℕ) (f : Piec
     → (state first (event ∷ log)).pieces ≡ changed_at (state first log).pieces at f
     → ((base : ℕ) (p q : Piece) → base ≡ at → q ≡ f p → BecameBy first log base p q event)
     → (base : ℕ) (q : Piece) → (state first (event ∷ log)).pieces base ≡ Some q
-    → Came first log event base q
+    → RowCame first log event base q
 turned_one first log event at f pieces turned base q e =
     let it = changed_at-some (state first log).pieces at base f q (subst (λ ps. ps base ≡ Some q) pieces e) in
     from_old it.0 it.1
@@ -114,7 +114,7 @@ turned_one first log event at f pieces turned base q e =
 -- an event that writes no row
 turned_none : (first : Snapshot) (log : Log) (event : Event)
     → (state first (event ∷ log)).pieces ≡ (state first log).pieces → (base : ℕ) (q : Piece)
-    → (state first (event ∷ log)).pieces base ≡ Some q → Came first log event base q
+    → (state first (event ∷ log)).pieces base ≡ Some q → RowCame first log event base q
 turned_none first log event pieces base q e =
     from_old q (subst (λ ps. ps base ≡ Some q) pieces e) (as_it_was refl)
 
@@ -126,7 +126,7 @@ turned_added : (first : Snapshot) (log : Log) (event : Event) (qs : Pieces)
     → ((base : ℕ) (p q : Piece) → base ≡ at → q ≡ f p → BecameBy first log base p q event)
     → ((base : ℕ) (p : Piece) → New base p → qs base ≡ Some p → Born first log base p event)
     → (base : ℕ) (q : Piece) → (state first (event ∷ log)).pieces base ≡ Some q
-    → (base ≡ at → (state first log).pieces base ≡ None → ⊥) → Came first log event base q
+    → (base ≡ at → (state first log).pieces base ≡ None → ⊥) → RowCame first log event base q
 turned_added first log event qs New at f adds pieces turned publishes base q e stood =
     ⊎_elim
     (λ old. from_old old.0 old.1 (⊎_elim (λ same. as_it_was same) (λ now. turned base old.0 q now.0 now.1) old.2))
@@ -152,7 +152,7 @@ module _ (pairs : List Pair) (words : ℕ) where
   -- where each row after an enabled event comes from
   pub came : (log : Log) (event : Event) → EachEnabled (start pairs words) (event ∷ log)
       → (base : ℕ) (q : Piece) → (state_of pairs words (event ∷ log)).pieces base ≡ Some q
-      → Came (start pairs words) log event base q
+      → RowCame (start pairs words) log event base q
   came log event h base q e = at event h h.1 e
     where
       s : HeldLieApart (state_of pairs words log)
@@ -161,13 +161,13 @@ module _ (pairs : List Pair) (words : ℕ) where
       at : (event : Event) → EachEnabled (start pairs words) (event ∷ log)
           → Enabled (start pairs words) log event
           → (state_of pairs words (event ∷ log)).pieces base ≡ Some q
-          → Came (start pairs words) log event base q
+          → RowCame (start pairs words) log event base q
       at (Install caller change rows) all k there =
           let t = state_of pairs words log in
           let holds = holds_installed (start pairs words) log caller change rows k in
           turned_added (start pairs words) log (Install caller change rows)
           (with_installed t.pieces change k.change k.fresh)
-          (IsInstalled (start pairs words) log change k.change k.fresh k.fits)
+          (IsInstalledWith (start pairs words) log change k.change k.fresh k.fits)
           k.change.node (with_slot k.change.index (word_of (ChangeAt change)))
           (adds_install (start pairs words) log caller change k.change k.fresh k.fits holds s)
           (ap (λ rs. (after t (Install caller change rs)).pieces) k.rows_are)
@@ -209,13 +209,4 @@ module _ (pairs : List Pair) (words : ℕ) where
       at (Draw caller rebuild part) all k there =
           turned_one (start pairs words) log (Draw caller rebuild part) rebuild drawn refl
           (λ b p x here is. subst (λ n. BecameBy (start pairs words) log n p x (Draw caller rebuild part)) (sym here) (by_draw k is)) base q there
-      at (Enter caller) all k there =
-          turned_none (start pairs words) log (Enter caller) refl base q there
-      at (Reserve caller b size) all k there =
-          turned_none (start pairs words) log (Reserve caller b size) refl base q there
-      at (Okay caller change) all k there =
-          turned_none (start pairs words) log (Okay caller change) refl base q there
-      at (Pass caller node i word) all k there =
-          turned_none (start pairs words) log (Pass caller node i word) refl base q there
-      at (Lose caller bases) all k there =
-          turned_none (start pairs words) log (Lose caller bases) refl base q there
+      at event all k there = turned_none (start pairs words) log event refl base q there

@@ -35,13 +35,13 @@ use Rattle.ist_core.proofs.DrawLemmas.{same_rebuild}
 -- ---- changes that name a rebuild
 
 -- a change that takes a rebuild out is a finish of it
-pub record IsFinishOf (t : Snapshot) (x : ChangeRow) (rebuild : ℕ) : Type 0 where
+pub record IsFinishOfRebuild (t : Snapshot) (x : ChangeRow) (rebuild : ℕ) : Type 0 where
   pub form : IsFinish t x
   pub same : form.rebuild ≡ rebuild
 
 -- a change whose `from` is a rebuild is the rebuild's finish
 pub finish_of : (t : Snapshot) (x : ChangeRow) (rebuild : ℕ) → IsFormed t x
-    → ref_of x.from ≡ Some (RebuildAt rebuild) → IsFinishOf t x rebuild
+    → ref_of x.from ≡ Some (RebuildAt rebuild) → IsFinishOfRebuild t x rebuild
 finish_of t x rebuild (of_leaf_put f) e = absurd (room f.from)
   where
     room : HasRoomFor t x.key x.from → ⊥

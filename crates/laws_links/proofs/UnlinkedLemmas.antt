@@ -36,7 +36,7 @@ use Rattle.laws_links.proofs.InductionLemmas.{grow_behind, rebuilds_by, sound_be
 use Rattle.laws_links.proofs.OriginLemmas.{RebuildComes, is_begun, is_drawn, is_rooted, rebuild_was}
 use Rattle.laws_links.proofs.QuietLemmas.{start_quiet}
 use Rattle.laws_links.proofs.UntouchedLemmas.{not_the_anchor, stays_whole, untouched, was_linked_here, was_linked_parent}
-use Rattle.laws_links.proofs.NewTreeLemmas.{GoesDown, StandsIn, StandsWhole}
+use Rattle.laws_links.proofs.NewTreeLemmas.{GoesDown, StandInOther, StandsWhole}
 use Rattle.laws_links.proofs.RebuiltLemmas.{started_reads, unreplaced_before}
 
 -- the top of an ideal subtree is one of its rows
@@ -188,7 +188,7 @@ module _ (pairs : List Pair) (words : ℕ) (opens : CanOpen pairs words) where
       → (rows : List ℕ)
       → Each (λ base. ¬ (WasLinked (start pairs words) log base)) rows
       → Each (StandsWhole (state_of pairs words log).pieces) rows
-      → StandsIn (state_of pairs words log).pieces (state_of pairs words (event ∷ log)).pieces rows
+      → StandInOther (state_of pairs words log).pieces (state_of pairs words (event ∷ log)).pieces rows
   never_stand log event h rows never whole_rows =
       let t = state_of pairs words log in
       let u = state_of pairs words (event ∷ log) in

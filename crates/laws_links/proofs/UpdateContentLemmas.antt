@@ -35,7 +35,7 @@ use Rattle.laws_links.proofs.ReadStepLemmas.{reads_step}
 use Rattle.laws_links.proofs.ExistLemmas.{HasSome, IsAlikeEnough, pair_some, plain_to, some_move}
 use Rattle.laws_links.proofs.IdealLeafLemmas.{decided_stands}
 use Rattle.laws_links.proofs.KeepingContentLemmas.{no_leaves, past_rebuild_grows, unset_leaves}
-use Rattle.laws_links.proofs.NewTreeLemmas.{StandsIn}
+use Rattle.laws_links.proofs.NewTreeLemmas.{StandInOther}
 
 module _ (pairs : List Pair) (words : ℕ) (opens : CanOpen pairs words) where
   -- what an undecided put or remove puts in has some leaves after its yes
@@ -51,7 +51,7 @@ module _ (pairs : List Pair) (words : ℕ) (opens : CanOpen pairs words) where
       same : (a : Ref) → ref_of x.to ≡ Some a → Some a ≡ Some to
       same a k = sym k ∙ is
 
-      stand : StandsIn (state_of pairs words log).pieces (state_of pairs words (Decide caller base true ∷ log)).pieces []
+      stand : StandInOther (state_of pairs words log).pieces (state_of pairs words (Decide caller base true ∷ log)).pieces []
       stand = decided_stands pairs words log caller base true []
 
       not_three : (k : ℕ) → x.kind ≡ k → 3 ≤ k → ⊥

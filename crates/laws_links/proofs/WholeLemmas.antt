@@ -151,7 +151,7 @@ module _ (pairs : List Pair) (words : ℕ) (opens : CanOpen pairs words) where
   -- ---- finishes
 
   -- the change puts in the root of a rebuild, which is ideal over exactly the leaves of the target
-  pub record IsWhole (log : Log) (x : ChangeRow) (rebuild : ℕ) : Type 0 where
+  pub record IsWholeRoot (log : Log) (x : ChangeRow) (rebuild : ℕ) : Type 0 where
     pub row : RebuildRow
     pub published : (state_of pairs words log).pieces rebuild ≡ Some (Rebuild row)
     pub to : x.to ≡ row.root
@@ -166,8 +166,8 @@ module _ (pairs : List Pair) (words : ℕ) (opens : CanOpen pairs words) where
   -- until its rebuild is replaced, such a change still puts in such a root after an event
   whole_on : (log : Log) (event : Event) → EachEnabled (start pairs words) (event ∷ log)
       → (x : ChangeRow) (rebuild : ℕ)
-      → ¬ (IsReplaced (state_of pairs words log) rebuild) → IsWhole log x rebuild
-      → IsWhole (event ∷ log) x rebuild
+      → ¬ (IsReplaced (state_of pairs words log) rebuild) → IsWholeRoot log x rebuild
+      → IsWholeRoot (event ∷ log) x rebuild
   whole_on log event h x rebuild unr w =
       let t = state_of pairs words log in
       let u = state_of pairs words (event ∷ log) in
@@ -203,11 +203,11 @@ module _ (pairs : List Pair) (words : ℕ) (opens : CanOpen pairs words) where
       → EachEnabled (start pairs words) (Install caller base rows ∷ log)
       → (can : CanInstall (start pairs words) log caller base rows) → (rebuild : ℕ)
       → ref_of can.change.from ≡ Some (RebuildAt rebuild)
-      → IsWhole (Install caller base rows ∷ log) can.change rebuild
+      → IsWholeRoot (Install caller base rows ∷ log) can.change rebuild
   whole_install log caller base rows h can rebuild from = at can.fits
     where
       at : FitsKind (start pairs words) log can.change can.fresh
-          → IsWhole (Install caller base rows ∷ log) can.change rebuild
+          → IsWholeRoot (Install caller base rows ∷ log) can.change rebuild
       at (kinds.a_put f) = absurd (room f.from)
         where
           room : HasRoomFor (state_of pairs words log) can.change.key can.change.from → ⊥
@@ -238,7 +238,7 @@ module _ (pairs : List Pair) (words : ℕ) (opens : CanOpen pairs words) where
           let unr = read_unreplaced pairs words opens log h.0 f.rebuild f.row f.published reads in
           let b = built_over log h.0 f.rebuild f.row f.published f.built.set unr in
           let it = partly_is_whole t b.ref b.leaves f.row.target b.rows b.built (λ n i w same k. f.built.whole n i w (b.root_is ∙ ap (λ x. Some x) same) k) in
-          let now : IsWhole log can.change f.rebuild = record {
+          let now : IsWholeRoot log can.change f.rebuild = record {
             row = f.row;
             published = f.published;
             to = f.to;
@@ -250,7 +250,7 @@ module _ (pairs : List Pair) (words : ℕ) (opens : CanOpen pairs words) where
             rows = it.0;
             ideal = it.1;
           } in
-          subst (λ n. IsWhole (Install caller base rows ∷ log) can.change n)
+          subst (λ n. IsWholeRoot (Install caller base rows ∷ log) can.change n)
           (one f.rebuild rebuild (sym f.from ∙ from))
           (whole_on log (Install caller base rows) h can.change f.rebuild unr now)
         where
@@ -262,10 +262,10 @@ module _ (pairs : List Pair) (words : ℕ) (opens : CanOpen pairs words) where
       → (base : ℕ) (x : ChangeRow)
       → (state_of pairs words log).pieces base ≡ Some (Change x) → x.decision ≡ undecided
       → (rebuild : ℕ)
-      → ref_of x.from ≡ Some (RebuildAt rebuild) → IsWhole log x rebuild
+      → ref_of x.from ≡ Some (RebuildAt rebuild) → IsWholeRoot log x rebuild
   finish_is_whole =
       changes_by pairs words
-      (λ log base x. x.decision ≡ undecided → (rebuild : ℕ) → ref_of x.from ≡ Some (RebuildAt rebuild) → IsWhole log x rebuild)
+      (λ log base x. x.decision ≡ undecided → (rebuild : ℕ) → ref_of x.from ≡ Some (RebuildAt rebuild) → IsWholeRoot log x rebuild)
       (λ log event h base x old there before none rebuild from. whole_on log event h x rebuild (finish_unreplaced pairs words opens log h.0 base x old none rebuild from) (before none rebuild from))
       (λ log caller base rows h can none rebuild from. whole_install log caller base rows h can rebuild from)
       (λ log caller base said h can before none. absurd (said_something said none))

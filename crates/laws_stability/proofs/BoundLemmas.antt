@@ -267,19 +267,7 @@ module _ (pairs : List Pair) (words : ℕ) (opens : CanOpen pairs words) where
   unfolding numbers
   as_many [] = refl
   as_many (Enter c ∷ log) = let before = as_many log in omega arith
-  as_many (Reserve c b z ∷ log) = let before = as_many log in omega arith
-  as_many (Install c d rows ∷ log) = let before = as_many log in omega arith
-  as_many (Okay c d ∷ log) = let before = as_many log in omega arith
-  as_many (Decide c d said ∷ log) = let before = as_many log in omega arith
-  as_many (Resolve c d ∷ log) = let before = as_many log in omega arith
-  as_many (Count c n ∷ log) = let before = as_many log in omega arith
-  as_many (Mark c n ∷ log) = let before = as_many log in omega arith
-  as_many (Pass c n j w ∷ log) = let before = as_many log in omega arith
-  as_many (Finish c n k ∷ log) = let before = as_many log in omega arith
-  as_many (Root c o w rows ∷ log) = let before = as_many log in omega arith
-  as_many (Draw c o part ∷ log) = let before = as_many log in omega arith
-  as_many (Place c o j w rows ∷ log) = let before = as_many log in omega arith
-  as_many (Lose c bases ∷ log) = let before = as_many log in omega arith
+  as_many (_ ∷ log) = let before = as_many log in omega arith
 
   -- progress is at most the number of words
   pub within_words : (log : Log) → EachEnabled (start pairs words) log → progress log ≤ words

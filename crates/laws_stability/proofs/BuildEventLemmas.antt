@@ -1,7 +1,7 @@
 -- Roots, Draws and Places stay enabled under events of others. Serves their clauses.
 use Rattle.std.proofs.Common.{List, None, Some, ap, length, refl, subst, sym, ℕ, ◌+◌, ◌∙◌, ◌≡◌, ◌≢◌}
 use Rattle.ist_core.specs.declared.events.Event.{Event}
-use Rattle.ist_core.specs.declared.events.Event.TheVariants.{Count, Decide, Draw, Enter, Finish, Install, Lose, Mark, Okay, Pass, Place, Reserve, Resolve, Root}
+use Rattle.ist_core.specs.declared.events.Event.TheVariants.{Draw, Place, Root}
 use Rattle.ist_core.specs.declared.events.Who.TheVariants.{Caller}
 use Rattle.ist_core.specs.declared.lists.HeldRow.{HeldRow}
 use Rattle.ist_core.specs.declared.lists.Row.{Row}
@@ -47,19 +47,7 @@ use Rattle.ist_core.proofs.PrefixLemmas.{goes_on_by}
 draws_own : (caller rebuild part : ℕ) (event : Event) → Draws caller rebuild part event
     → whose event ≡ Caller caller
 draws_own caller rebuild part (Draw c o p) is = ap Caller is.0
-draws_own caller rebuild part (Enter c) is = absurd is
-draws_own caller rebuild part (Reserve c base size) is = absurd is
-draws_own caller rebuild part (Install c change rows) is = absurd is
-draws_own caller rebuild part (Okay c change) is = absurd is
-draws_own caller rebuild part (Decide c change said) is = absurd is
-draws_own caller rebuild part (Resolve c change) is = absurd is
-draws_own caller rebuild part (Count c n) is = absurd is
-draws_own caller rebuild part (Mark c n) is = absurd is
-draws_own caller rebuild part (Pass c n i word) is = absurd is
-draws_own caller rebuild part (Finish c n keys) is = absurd is
-draws_own caller rebuild part (Root c o word rows) is = absurd is
-draws_own caller rebuild part (Place c o i word rows) is = absurd is
-draws_own caller rebuild part (Lose c bases) is = absurd is
+draws_own caller rebuild part _ is = absurd is
 
 -- no row is published at the base of one that a caller holds
 held_free : (t : Snapshot) (caller : ℕ) (rows : List Row) → HeldLieApart t → HoldsRows t caller rows
@@ -217,7 +205,7 @@ module _ (pairs : List Pair) (words : ℕ) (opens : CanOpen pairs words) {earlie
         ref_is = can.ref_is;
         ideal = ideal_put t.pieces u.pieces rows leaf_later
             (held_free t caller rows (sound_behind pairs words earlier before) can.held)
-            can.ref can.part can.root (bases_of rows) can.ideal (λ b i. i);
+            can.ref can.part can.root can.ideal;
         once = can.once;
         held = rows_later pairs words caller later h rows can.held;
       }

@@ -1,9 +1,9 @@
 -- A Count stays enabled under events of others, if none decides a put or remove of its caller yes.
 -- Serves its clause.
-use Rattle.std.proofs.Common.{List, Option, Some, [], ap, false, inl, inr, option_map, refl, subst, sym, true, ℕ, ⊎_elim, ◌++◌, ◌∙◌, ◌∷◌, ◌≡◌, ◌≢◌}
+use Rattle.std.proofs.Common.{List, Option, Some, [], ap, inl, inr, option_map, refl, subst, sym, true, ℕ, ⊎_elim, ◌++◌, ◌∙◌, ◌∷◌, ◌≡◌, ◌≢◌}
 use Rattle.std.proofs.lemmas.Bool.Decides.{eqb_tells}
 use Rattle.ist_core.specs.declared.events.Event.{Event}
-use Rattle.ist_core.specs.declared.events.Event.TheVariants.{Count, Decide, Draw, Enter, Finish, Install, Lose, Mark, Okay, Pass, Place, Reserve, Resolve, Root}
+use Rattle.ist_core.specs.declared.events.Event.TheVariants.{Count, Decide}
 use Rattle.ist_core.specs.declared.events.Who.TheVariants.{Caller}
 use Rattle.ist_core.specs.declared.pairs.Pair.{Pair}
 use Rattle.ist_core.specs.declared.states.ChangeRow.{ChangeRow}
@@ -30,19 +30,7 @@ use Rattle.laws_stability.proofs.OwnLemmas.{Was, own_was}
 counts_own : (caller node : ℕ) (event : Event) → Counts caller node event
     → whose event ≡ Caller caller
 counts_own caller node (Count c n) is = ap Caller is.0
-counts_own caller node (Enter c) is = absurd is
-counts_own caller node (Reserve c base size) is = absurd is
-counts_own caller node (Install c change rows) is = absurd is
-counts_own caller node (Okay c change) is = absurd is
-counts_own caller node (Decide c change said) is = absurd is
-counts_own caller node (Resolve c change) is = absurd is
-counts_own caller node (Mark c n) is = absurd is
-counts_own caller node (Pass c n i word) is = absurd is
-counts_own caller node (Finish c n keys) is = absurd is
-counts_own caller node (Root c rebuild word rows) is = absurd is
-counts_own caller node (Draw c rebuild part) is = absurd is
-counts_own caller node (Place c rebuild i word rows) is = absurd is
-counts_own caller node (Lose c bases) is = absurd is
+counts_own caller node _ is = absurd is
 
 -- ---- changes that are decided yes
 
@@ -111,20 +99,7 @@ says_back : (t u : Snapshot) (caller : ℕ) (event : Event)
     → ((base : ℕ) → Decides base true event → IsUpdateOf u caller base → IsUpdateOf t caller base)
     → SaysYes u caller event → SaysYes t caller event
 says_back t u caller (Decide c base true) back is = back base (refl, refl) is
-says_back t u caller (Decide c base false) back is = absurd is
-says_back t u caller (Enter c) back is = absurd is
-says_back t u caller (Reserve c base size) back is = absurd is
-says_back t u caller (Install c change rows) back is = absurd is
-says_back t u caller (Okay c change) back is = absurd is
-says_back t u caller (Resolve c change) back is = absurd is
-says_back t u caller (Count c n) back is = absurd is
-says_back t u caller (Mark c n) back is = absurd is
-says_back t u caller (Pass c n i word) back is = absurd is
-says_back t u caller (Finish c n keys) back is = absurd is
-says_back t u caller (Root c rebuild word rows) back is = absurd is
-says_back t u caller (Draw c rebuild part) back is = absurd is
-says_back t u caller (Place c rebuild i word rows) back is = absurd is
-says_back t u caller (Lose c bases) back is = absurd is
+says_back t u caller _ back is = absurd is
 
 -- if the updates are the same, an event that says yes to one in the later state says so in the
 -- earlier state
@@ -158,19 +133,7 @@ module _ (pairs : List Pair) (words : ℕ) where
             ∙ ap (option_map (with_decision decided_yes)) h.1.pending.published;
         decision = refl;
       })
-  yes_now log (Enter c) h base is = absurd is
-  yes_now log (Reserve c b size) h base is = absurd is
-  yes_now log (Install c change rows) h base is = absurd is
-  yes_now log (Okay c change) h base is = absurd is
-  yes_now log (Resolve c change) h base is = absurd is
-  yes_now log (Count c n) h base is = absurd is
-  yes_now log (Mark c n) h base is = absurd is
-  yes_now log (Pass c n i word) h base is = absurd is
-  yes_now log (Finish c n keys) h base is = absurd is
-  yes_now log (Root c rebuild word rows) h base is = absurd is
-  yes_now log (Draw c rebuild part) h base is = absurd is
-  yes_now log (Place c rebuild i word rows) h base is = absurd is
-  yes_now log (Lose c bases) h base is = absurd is
+  yes_now log _ h base is = absurd is
 
   -- a change that was decided yes stays so
   yes_behind : (log : Log) → EachEnabled (start pairs words) log → (base : ℕ)
@@ -212,20 +175,7 @@ module _ (pairs : List Pair) (words : ℕ) where
         (subst IsUpdate (sym kind) up.update) up.published (ap (λ y. y.decision) is ∙ yes.decision))
         (λ decided. decided.1 (sym (was.grew.decided decided.1) ∙ h.1.pending.unset))
         (eqb_tells was.old.decision undecided)
-    yes_meanwhile (Decide c base false) later h none up = absurd up
-    yes_meanwhile (Enter c) later h none up = absurd up
-    yes_meanwhile (Reserve c b size) later h none up = absurd up
-    yes_meanwhile (Install c change rows) later h none up = absurd up
-    yes_meanwhile (Okay c change) later h none up = absurd up
-    yes_meanwhile (Resolve c change) later h none up = absurd up
-    yes_meanwhile (Count c n) later h none up = absurd up
-    yes_meanwhile (Mark c n) later h none up = absurd up
-    yes_meanwhile (Pass c n i word) later h none up = absurd up
-    yes_meanwhile (Finish c n keys) later h none up = absurd up
-    yes_meanwhile (Root c rebuild word rows) later h none up = absurd up
-    yes_meanwhile (Draw c rebuild part) later h none up = absurd up
-    yes_meanwhile (Place c rebuild i word rows) later h none up = absurd up
-    yes_meanwhile (Lose c bases) later h none up = absurd up
+    yes_meanwhile _ later h none up = absurd up
 
     -- a Count stays enabled over one event of another
     count_step : (log : Log) (event : Event) → EachEnabled (start pairs words) (event ∷ log)

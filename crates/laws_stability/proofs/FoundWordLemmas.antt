@@ -1,6 +1,5 @@
--- A place has one word, and an enabled event finds its own there. Serves
--- `laws.events_find_their_words`.
-use Rattle.std.proofs.Common.{List, Some, ap, arith, if◌then◌else◌, length, refl, subst, sym, ℕ, ⊎_elim, ◌+◌, ◌∙◌, ◌≡◌, ◌≤◌}
+-- An enabled event finds its own word at its place. Serves `laws.events_find_their_words`.
+use Rattle.std.proofs.Common.{List, Some, ap, arith, if◌then◌else◌, length, refl, subst, sym, ℕ, ⊎_elim, ◌+◌, ◌∙◌, ◌≡◌}
 use Rattle.std.proofs.lemmas.Bool.Decides.{eqb_tells}
 use Rattle.ist_core.specs.declared.events.Event.{Event}
 use Rattle.ist_core.specs.declared.events.Event.TheVariants.{Count, Decide, Draw, Enter, Finish, Install, Lose, Mark, Okay, Pass, Place, Reserve, Resolve, Root}
@@ -10,96 +9,24 @@ use Rattle.ist_core.specs.ImageLaws.{IsNoLose}
 use Rattle.ist_core.specs.Lawful.{CanOpen, EachEnabled, state_of}
 use Rattle.ist_core.specs.Logs.{Log}
 use Rattle.ist_core.specs.Naming.{HasDegree}
-use Rattle.ist_core.specs.Pieces.{Change, Inner, Rebuild, as_change, as_inner, as_rebuild, size_of, words_of}
+use Rattle.ist_core.specs.Pieces.{Change, Inner, Rebuild, as_change, as_inner, as_rebuild}
 use Rattle.ist_core.specs.References.{unset_word}
-use Rattle.ist_core.specs.RowLayout.{anchor, anchor_status_place, callers_place, inner_status_offset, slot_place}
+use Rattle.ist_core.specs.RowLayout.{anchor, anchor_status_place, inner_status_offset, slot_place}
 use Rattle.ist_core.specs.Slots.{IsOpen, SlotHolds, anchor_is, in_anchor, in_row, row_is}
 use Rattle.ist_core.specs.StartLayout.{start}
 use Rattle.ist_core.specs.Statuses.{open_word}
 use Rattle.ist_core.specs.Writing.{place_of_slot, place_of_status, touch_in_root, touch_of, touch_of_count, touch_of_draw, touch_of_okay, touch_of_place, touch_of_resolve}
 use Rattle.ist_core.proofs.ChainLemmas.{on_chain_inner}
-use Rattle.ist_core.proofs.ImageLemmas.{get-words_of_slot, get_below}
-use Rattle.ist_core.proofs.PlaceLemmas.{anchor_free, claimed_within, next_behind_fixed, placed}
+use Rattle.ist_core.proofs.ImageLemmas.{get-words_of_slot}
+use Rattle.ist_core.proofs.PlaceLemmas.{anchor_free}
 use Rattle.ist_core.proofs.ShapedLemmas.{shaped}
 use Rattle.ist_core.proofs.SlotLemmas.{no_row}
-use Rattle.ist_core.specs.Shown.{IsShown, shown_free, shown_slot, shown_callers, shown_next, shown_row, shown_status}
+use Rattle.ist_core.specs.Shown.{IsShown, shown_slot, shown_callers, shown_next, shown_row, shown_status}
 use Rattle.laws_stability.specs.Words.{FindsItsWord}
 use Rattle.laws_stability.proofs.SlotWordLemmas.{place_of_row}
-use Rattle.ist_core.proofs.ShownLemmas.{anchor_word, fixed_row, next_word, row_word}
 
 module _ (pairs : List Pair) (words : ℕ) (opens : CanOpen pairs words) (log : Log)
     (enabled : EachEnabled (start pairs words) log) where
-  -- the word that is shown at the callers' place is their number
-  callers_word : (place v : ℕ) → IsShown (state_of pairs words log) place v → place ≡ callers_place
-      → (state_of pairs words log).callers ≡ v
-  callers_word _ _ shown_next is = absurd (omega arith)
-  callers_word _ _ shown_callers is = refl
-  callers_word _ _ shown_status is = absurd (omega arith)
-  callers_word _ _ shown_slot is = absurd (omega arith)
-  callers_word _ _ (shown_free far near) is =
-      let low = next_behind_fixed pairs words log enabled in
-      absurd (omega arith)
-  callers_word _ _ (shown_row base p k e at) is =
-      let low = fixed_row pairs words log enabled base k p e in
-      absurd (omega arith)
-
-  -- the word that is shown at the anchor's status is the open word
-  status_word : (place v : ℕ) → IsShown (state_of pairs words log) place v
-      → place ≡ anchor_status_place
-      → open_word ≡ v
-  status_word _ _ shown_next is = absurd (omega arith)
-  status_word _ _ shown_callers is = absurd (omega arith)
-  status_word _ _ shown_status is = refl
-  status_word _ _ shown_slot is = absurd (omega arith)
-  status_word _ _ (shown_free far near) is =
-      let low = next_behind_fixed pairs words log enabled in
-      absurd (omega arith)
-  status_word _ _ (shown_row base p k e at) is =
-      let low = fixed_row pairs words log enabled base k p e in
-      absurd (omega arith)
-
-  -- the word that is shown at a free place is 0
-  free_is : (place v : ℕ) → IsShown (state_of pairs words log) place v
-      → (state_of pairs words log).next ≤ place
-      → 0 ≡ v
-  free_is _ _ shown_next is =
-      let low = next_behind_fixed pairs words log enabled in
-      absurd
-      (omega arith)
-  free_is _ _ shown_callers is =
-      let low = next_behind_fixed pairs words log enabled in
-      absurd
-      (omega arith)
-  free_is _ _ shown_status is =
-      let low = next_behind_fixed pairs words log enabled in
-      absurd
-      (omega arith)
-  free_is _ _ shown_slot is =
-      let low = next_behind_fixed pairs words log enabled in
-      absurd
-      (omega arith)
-  free_is _ _ (shown_free far near) is = refl
-  free_is _ _ (shown_row base p k e at) is =
-      let inside = claimed_within pairs words log base (size_of p) enabled
-      ((placed pairs words log enabled).published base p e) in
-      let high = inside.below_next in
-      let less = get_below (words_of p) k _ at in
-      absurd (omega arith)
-
-  -- a place has one word
-  pub one_word : (place w v : ℕ) → IsShown (state_of pairs words log) place w
-      → IsShown (state_of pairs words log) place v
-      → w ≡ v
-  one_word _ _ v shown_next has = sym (next_word pairs words log enabled _ v has refl)
-  one_word _ _ v shown_callers has = callers_word _ v has refl
-  one_word _ _ v shown_status has = status_word _ v has refl
-  one_word _ _ v shown_slot has = sym (anchor_word pairs words log enabled _ v has refl)
-  one_word _ w v (shown_row base p k e at) has =
-      sym (row_word pairs words log enabled base k w p e at _ v has refl)
-  one_word _ _ v (shown_free far near) has = free_is _ v has far
-
-  -- ---- the word that an event finds
-
   -- the state has the word of a slot at its place
   slot_has : (node i w : ℕ) → SlotHolds (state_of pairs words log) node i w
       → IsShown (state_of pairs words log) (place_of_slot (state_of pairs words log) node i) w

@@ -4,7 +4,7 @@ use Rattle.std.proofs.Common.{Bool, List, None, Option, Some, [], ap, false, fil
 use Rattle.std.specs.List.{list_any}
 use Rattle.std.proofs.lemmas.Bool.Decides.{eqb_tells}
 use Rattle.ist_core.specs.declared.events.Event.{Event}
-use Rattle.ist_core.specs.declared.events.Event.TheVariants.{Count, Decide, Draw, Enter, Finish, Install, Lose, Mark, Okay, Pass, Place, Reserve, Resolve, Root}
+use Rattle.ist_core.specs.declared.events.Event.TheVariants.{Install, Lose, Place, Reserve, Resolve, Root}
 use Rattle.ist_core.specs.declared.events.Who.TheVariants.{Caller}
 use Rattle.ist_core.specs.declared.lists.HeldRow.{HeldRow}
 use Rattle.ist_core.specs.declared.lists.Row.{Row}
@@ -130,14 +130,7 @@ own_step first log (Reserve caller base size) can s number other =
 own_step first log (Resolve caller change) can s number other =
     ap (filter (λ h. h.caller == number))
     (held-resolved (state first log) (as_change ((state first log).pieces change)))
-own_step first log (Enter caller) can s number other = refl
-own_step first log (Okay caller change) can s number other = refl
-own_step first log (Decide caller change said) can s number other = refl
-own_step first log (Count caller node) can s number other = refl
-own_step first log (Mark caller node) can s number other = refl
-own_step first log (Pass caller node i word) can s number other = refl
-own_step first log (Finish caller node keys) can s number other = refl
-own_step first log (Draw caller rebuild part) can s number other = refl
+own_step first log _ can s number other = refl
 
 module _ (pairs : List Pair) (words : ℕ) (number : ℕ) where
   -- all events of others leave the rows that a caller holds

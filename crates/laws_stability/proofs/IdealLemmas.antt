@@ -2,20 +2,18 @@
 -- theirs. Serves the clauses on Root and Place.
 use Rattle.std.proofs.Common.{Bool, List, None, Option, Some, [], false, if◌then◌else◌, inl, inr, refl, subst, sym, true, ℕ, ⊎_elim, ◌==◌, ◌∙◌, ◌∷◌, ◌≡◌, ◌⊎◌}
 use Rattle.ist_core.specs.declared.lists.Row.{Row}
-use Rattle.ist_core.specs.declared.states.InnerRow.{InnerRow}
 use Rattle.ist_core.specs.declared.states.LeafRow.{LeafRow}
 use Rattle.ist_core.specs.Building.{IsRoot, root_top, root_whole}
 use Rattle.ist_core.specs.Elements.{Among}
-use Rattle.ist_core.specs.Ideals.{AreIdeal, IsIdeal, IsTop, no_part, of_more, of_none, of_one, one_part}
+use Rattle.ist_core.specs.Ideals.{IsIdeal}
 use Rattle.ist_core.specs.Leaves.{PlacedLeaf}
-use Rattle.ist_core.specs.Parts.{parts}
 use Rattle.ist_core.specs.Pieces.{Inner, Leaf, Piece, Pieces, inner_of, with_inners, with_row}
 use Rattle.ist_core.specs.References.{Ref}
 use Rattle.ist_core.specs.Snapshots.{bases_of}
-use Rattle.ist_core.proofs.ElementLemmas.{among_left, among_right}
+use Rattle.laws_links.proofs.NewTreeLemmas.{StandInOther, ideal_kept, top_kept}
 
 -- a row after rows are put is one of them, whatever was there before, or was there before
-put_or_stood : (ps qs : Pieces) (rows : List Row) (base : ℕ) (p : Piece)
+pub put_or_stood : (ps qs : Pieces) (rows : List Row) (base : ℕ) (p : Piece)
     → with_inners ps rows base ≡ Some p
     → (with_inners qs rows base ≡ Some p) ⊎
     ((ps base ≡ Some p) × (with_inners qs rows base ≡ qs base))
@@ -59,53 +57,25 @@ module _ (ps qs : Pieces) (rows : List Row)
       ⊎_elim (λ put. put) (λ stood. absurd (clash (ps base) p (free base own) stood.0))
       (put_or_stood ps qs rows base p e)
 
-  top_put : (base : ℕ) (r : InnerRow) (leaves : List PlacedLeaf) (above : ℕ)
-      → Among base (bases_of rows)
-      → IsTop (with_inners ps rows) base r leaves above
-      → IsTop (with_inners qs rows) base r leaves above
-  top_put base r leaves above own h =
-      record {
-        published = inner_put base (Inner r) own h.published;
-        two = h.two;
-        higher = h.higher;
-        status = h.status;
-        count = h.count;
-        degree = h.degree;
-        size = h.size;
-        keys = h.keys;
-      }
+  -- what is in the first of the leaves and of the rows is also in the second
+  stand : StandInOther (with_inners ps rows) (with_inners qs rows) (bases_of rows)
+  stand = record { leaf = leaf_put; inner = λ base r own e. inner_put base (Inner r) own e }
 
-  mutual
-    -- an ideal subtree of rows that are put stays one
-    pub ideal_put : (ref : Ref) (leaves : List PlacedLeaf) (above : ℕ) (bases : List ℕ)
-        → IsIdeal (with_inners ps rows) ref leaves above bases
-        → ((base : ℕ) → Among base bases → Among base (bases_of rows))
-        → IsIdeal (with_inners qs rows) ref leaves above bases
-    ideal_put _ _ _ _ of_none own = of_none
-    ideal_put _ _ _ _ (of_one {base = base} {leaf = l} same e) own =
-        of_one same (leaf_put base l.row e)
-    ideal_put _ _ above _ (of_more {base = base} {leaves = leaves} {rows = bases} r top under) own =
-        of_more r (top_put base r leaves above (own base (inl refl)) top)
-        (parts_put r.slots (parts leaves) base bases under (λ b i. own b (inr i)))
-
-    parts_put : (words : List ℕ) (behind : List (List PlacedLeaf)) (above : ℕ) (bases : List ℕ)
-        → AreIdeal (with_inners ps rows) words behind above bases
-        → ((base : ℕ) → Among base bases → Among base (bases_of rows))
-        → AreIdeal (with_inners qs rows) words behind above bases
-    parts_put _ _ _ _ no_part own = no_part
-    parts_put _ _ above _
-        (one_part {words = words} {here = here} {rest = rest} {part = part} {behind = behind} ref is
-        first more) own =
-        one_part ref is
-        (ideal_put ref part above here first (λ b i. own b (among_left b here rest i)))
-        (parts_put words behind above rest more (λ b i. own b (among_right b here rest i)))
+  -- an ideal subtree of the rows that are put stays one
+  pub ideal_put : (ref : Ref) (leaves : List PlacedLeaf) (above : ℕ)
+      → IsIdeal (with_inners ps rows) ref leaves above (bases_of rows)
+      → IsIdeal (with_inners qs rows) ref leaves above (bases_of rows)
+  ideal_put ref leaves above ideal =
+      ideal_kept (with_inners ps rows) (with_inners qs rows) ref leaves above (bases_of rows) ideal
+      stand
 
   -- a root over some rows is one over others with the same leaves
   pub root_put : (word k : ℕ) (leaves : List PlacedLeaf) (target : ℕ)
       → IsRoot (with_inners ps rows) word k leaves target (bases_of rows)
       → IsRoot (with_inners qs rows) word k leaves target (bases_of rows)
   root_put word k leaves target (root_whole ref few is ideal) =
-      root_whole ref few is (ideal_put ref leaves target (bases_of rows) ideal (λ b i. i))
+      root_whole ref few is (ideal_put ref leaves target ideal)
   root_put word k leaves target (root_top base row many is top unset one) =
       root_top base row many is
-      (top_put base row leaves target (subst (Among base) (sym one) (inl refl)) top) unset one
+      (top_kept (with_inners ps rows) (with_inners qs rows) base row leaves target top
+      (inner_put base (Inner row) (subst (Among base) (sym one) (inl refl)) top.published)) unset one

@@ -1,22 +1,21 @@
 -- Marks, Passes and Finishes stay enabled under events of others. Serves their clauses.
-use Rattle.std.proofs.Common.{List, Option, Some, [], arith, length, refl, sym, ℕ, ◌+◌, ◌∷◌, ◌≡◌}
+use Rattle.std.proofs.Common.{List, Some, length, refl, sym, ℕ, ◌≡◌}
 use Rattle.ist_core.specs.declared.events.Event.TheVariants.{Finish, Mark, Pass}
 use Rattle.ist_core.specs.declared.pairs.Pair.{Pair}
 use Rattle.ist_core.specs.declared.states.InnerRow.{InnerRow}
 use Rattle.ist_core.specs.Growing.{AllGrow}
 use Rattle.ist_core.specs.Lawful.{EachEnabled, state_of}
 use Rattle.ist_core.specs.Logs.{GoesOn, Log, Passes}
-use Rattle.ist_core.specs.Marking.{ArePassed, CanFinish, CanMark, CanPass, CountsFor, IsCalled, as_child, as_target, behind_rebuild, no_key, of_child, of_target, one_key, one_passed, past_end}
+use Rattle.ist_core.specs.Marking.{CanFinish, CanMark, CanPass, IsCalled, as_child, as_target, behind_rebuild}
 use Rattle.ist_core.specs.Pieces.{Inner}
-use Rattle.ist_core.specs.References.{Ref, ref_of}
 use Rattle.ist_core.specs.Slots.{in_row}
 use Rattle.ist_core.specs.Snapshots.{Snapshot}
 use Rattle.ist_core.specs.StartLayout.{start}
 use Rattle.ist_core.proofs.FateLemmas.{grow_between}
 use Rattle.ist_core.proofs.GrowingLemmas.{inner_there}
 use Rattle.ist_core.proofs.PlaceLemmas.{anchor_free}
-use Rattle.laws_links.proofs.FinishedLemmas.{target_grows}
-use Rattle.laws_links.proofs.FormLemmas.{finished_with_grows, started_grows}
+use Rattle.laws_links.proofs.FinishedLemmas.{passed_later, target_grows}
+use Rattle.laws_links.proofs.FormLemmas.{started_grows}
 use Rattle.laws_stability.specs.Meanwhile.{IsMarked}
 use Rattle.laws_stability.specs.Words.{FindsItsWord}
 use Rattle.laws_stability.proofs.LaterLemmas.{known_later}
@@ -35,31 +34,6 @@ called_later t u g on node (as_child above i word passed is) =
 called_later t u g on node (behind_rebuild above i word rebuild passed is has) =
     behind_rebuild above i word rebuild (happened_later (Passes above i word) on passed) is
     (target_grows t u g rebuild node has)
-
--- what a word counts for stays the same
-counts_later : (t u : Snapshot) → AllGrow t.pieces u.pieces → (o : Option Ref) (k : ℕ)
-    → CountsFor t o k
-    → CountsFor u o k
-counts_later t u g _ _ no_key = no_key
-counts_later t u g _ _ one_key = one_key
-counts_later t u g _ _ (of_child {child = child} {k = k} f) =
-    of_child (finished_with_grows t u g child k f)
-counts_later t u g _ _ (of_target {rebuild = rebuild} {target = target} {k = k} has f) =
-    of_target (target_grows t u g rebuild target has) (finished_with_grows t u g target k f)
-
--- what was passed stays passed; of the slots only their number counts
-passed_later : (t u : Snapshot) → AllGrow t.pieces u.pieces → {earlier log : Log}
-    → GoesOn earlier log
-    → (node i k : ℕ) (old new : List ℕ) → length new ≡ length old → ArePassed t earlier node i old k
-    → ArePassed u log node i new k
-passed_later t u g on node i _ _ [] same past_end = past_end
-passed_later t u g on node i _ _ (w ∷ ws) same past_end = absurd (omega arith)
-passed_later t u g on node i _ _ [] same (one_passed word p c more) = absurd (omega arith)
-passed_later t u g on node i _ _ (w ∷ ws) same
-    (one_passed {here = here} {rest = rest} {slots = slots} word p c more) =
-    one_passed word (happened_later (Passes node i word) on p)
-    (counts_later t u g (ref_of word) here c)
-    (passed_later t u g on node (i + 1) rest slots ws (omega arith) more)
 
 module _ (pairs : List Pair) (words : ℕ) (earlier log : Log) (on : GoesOn earlier log)
     (h : EachEnabled (start pairs words) log) where

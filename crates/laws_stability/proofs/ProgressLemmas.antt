@@ -1,7 +1,7 @@
 -- Progress never falls, and grows with each event that counts. Serves `laws.progress_is_bounded`.
 use Rattle.std.proofs.Common.{List, ℕ, ◌<◌, ◌≤◌, ◌≡◌, ◌∷◌, refl, inl, inr, arith}
 use Rattle.ist_core.specs.declared.events.Event.{Event}
-use Rattle.ist_core.specs.declared.events.Event.TheVariants.{Count, Decide, Draw, Enter, Finish, Install, Lose, Mark, Okay, Pass, Place, Reserve, Resolve, Root}
+use Rattle.ist_core.specs.declared.events.Event.TheVariants.{Install, Resolve}
 use Rattle.ist_core.specs.declared.lists.Row.{Row}
 use Rattle.ist_core.specs.Logs.{GoesOn, Happened, Log, Resolves, one_event, same_log}
 use Rattle.laws_stability.specs.Progress.{advance_by, progress}
@@ -28,20 +28,8 @@ rises P counts earlier _ (one_event {log = log} event g) none (inr before) =
 
 -- a Resolve counts
 resolve_counts : (base : ℕ) (event : Event) → Resolves base event → advance_by event ≡ 1
-resolve_counts base (Enter c) is = absurd is
-resolve_counts base (Reserve c b z) is = absurd is
-resolve_counts base (Install c d rows) is = absurd is
-resolve_counts base (Okay c d) is = absurd is
-resolve_counts base (Decide c d said) is = absurd is
 resolve_counts base (Resolve c d) is = refl
-resolve_counts base (Count c n) is = absurd is
-resolve_counts base (Mark c n) is = absurd is
-resolve_counts base (Pass c n j w) is = absurd is
-resolve_counts base (Finish c n k) is = absurd is
-resolve_counts base (Root c o w rows) is = absurd is
-resolve_counts base (Draw c o part) is = absurd is
-resolve_counts base (Place c o j w rows) is = absurd is
-resolve_counts base (Lose c bases) is = absurd is
+resolve_counts base _ is = absurd is
 
 -- if a change was resolved between two logs, the table has come further
 pub resolving : (earlier log : Log) → GoesOn earlier log → (base : ℕ)

@@ -1,7 +1,7 @@
 -- A slot that is set stays set: no event puts Unset into a slot. Serves the clause on Install.
 use Rattle.std.proofs.Common.{Bool, List, Some, ap, arith, false, if◌then◌else◌, subst, sym, true, ℕ, ⊎_elim, ◌*◌, ◌+◌, ◌==◌, ◌∙◌, ◌∷◌, ◌≡◌, ◌≢◌}
 use Rattle.ist_core.specs.declared.events.Event.{Event}
-use Rattle.ist_core.specs.declared.events.Event.TheVariants.{Count, Decide, Draw, Enter, Finish, Install, Lose, Mark, Okay, Pass, Place, Reserve, Resolve, Root}
+use Rattle.ist_core.specs.declared.events.Event.TheVariants.{Install, Place, Resolve}
 use Rattle.ist_core.specs.declared.pairs.Pair.{Pair}
 use Rattle.ist_core.specs.declared.states.ChangeRow.{ChangeRow}
 use Rattle.ist_core.specs.After.{side_of}
@@ -119,21 +119,7 @@ module _ (pairs : List Pair) (words : ℕ) (opens : CanOpen pairs words) where
       set_filled _ _ node i h.1.root j word
       (place_writes (state_of pairs words log) caller rebuild j word rows h.1
       (sound_behind pairs words log h.0) (anchor_free pairs words log h.0)) s
-  set_step log (Enter caller) h node i s = quiet log (Enter caller) h tt node i s
-  set_step log (Reserve caller base size) h node i s =
-      quiet log (Reserve caller base size) h tt node i s
-  set_step log (Okay caller base) h node i s = quiet log (Okay caller base) h tt node i s
-  set_step log (Decide caller base said) h node i s =
-      quiet log (Decide caller base said) h tt node i s
-  set_step log (Count caller at) h node i s = quiet log (Count caller at) h tt node i s
-  set_step log (Mark caller at) h node i s = quiet log (Mark caller at) h tt node i s
-  set_step log (Pass caller at j word) h node i s = quiet log (Pass caller at j word) h tt node i s
-  set_step log (Finish caller at keys) h node i s = quiet log (Finish caller at keys) h tt node i s
-  set_step log (Root caller rebuild word rows) h node i s =
-      quiet log (Root caller rebuild word rows) h tt node i s
-  set_step log (Draw caller rebuild part) h node i s =
-      quiet log (Draw caller rebuild part) h tt node i s
-  set_step log (Lose caller bases) h node i s = quiet log (Lose caller bases) h tt node i s
+  set_step log event h node i s = quiet log event h tt node i s
 
   -- a set slot stays set
   pub set_later : {earlier log : Log} → GoesOn earlier log → EachEnabled (start pairs words) log

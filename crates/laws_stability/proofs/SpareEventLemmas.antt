@@ -1,7 +1,7 @@
 -- Enters, Reserves and Loses stay enabled under events of others. Serves their clauses.
 use Rattle.std.proofs.Common.{List, [], ap, inl, inr, refl, subst, sym, ℕ, ⊎_elim, ◌++◌, ◌+◌, ◌<◌, ◌≤◌, ◌∙◌, ◌∷◌, ◌≡◌, ◌≢◌}
 use Rattle.ist_core.specs.declared.events.Event.{Event}
-use Rattle.ist_core.specs.declared.events.Event.TheVariants.{Count, Decide, Draw, Enter, Finish, Install, Lose, Mark, Okay, Pass, Place, Reserve, Resolve, Root}
+use Rattle.ist_core.specs.declared.events.Event.TheVariants.{Lose, Place, Reserve, Root}
 use Rattle.ist_core.specs.declared.events.Who.TheVariants.{Caller, Maker}
 use Rattle.ist_core.specs.declared.pairs.Pair.{Pair}
 use Rattle.ist_core.specs.Building.{CanLose, IsBeaten, LosesBuild, LosesPair}
@@ -69,17 +69,7 @@ beaten_step caller sizes (Root c rebuild word rows) log other b = ((λ e. other 
 beaten_step caller sizes (Place c rebuild i word rows) log other b =
     ((λ e. other (ap Caller e)), inr b)
 beaten_step caller sizes (Lose c bases) log other b = ((λ e. other (ap Caller e)), b)
-beaten_step caller sizes (Enter c) log other b = b
-beaten_step caller sizes (Reserve c base size) log other b = b
-beaten_step caller sizes (Install c change rows) log other b = b
-beaten_step caller sizes (Okay c change) log other b = b
-beaten_step caller sizes (Decide c change said) log other b = b
-beaten_step caller sizes (Resolve c change) log other b = b
-beaten_step caller sizes (Count c n) log other b = b
-beaten_step caller sizes (Mark c n) log other b = b
-beaten_step caller sizes (Pass c n i word) log other b = b
-beaten_step caller sizes (Finish c n keys) log other b = b
-beaten_step caller sizes (Draw c rebuild part) log other b = b
+beaten_step caller sizes _ log other b = b
 
 beaten_later : (caller : ℕ) (sizes : List ℕ) {earlier log : Log}
     → Later (Caller caller) earlier log

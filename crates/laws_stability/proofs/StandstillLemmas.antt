@@ -2,7 +2,7 @@
 use Rattle.std.proofs.Common.{List, Option, Some, ap, arith, subst, sym, ℕ, ⊎_elim, ◌≤◌, ◌∙◌, ◌∷◌, ◌≡◌, ◌≢◌}
 use Rattle.std.proofs.lemmas.Bool.Decides.{eqb_tells}
 use Rattle.ist_core.specs.declared.events.Event.{Event}
-use Rattle.ist_core.specs.declared.events.Event.TheVariants.{Count, Decide, Draw, Enter, Finish, Install, Lose, Mark, Okay, Pass, Place, Reserve, Resolve, Root}
+use Rattle.ist_core.specs.declared.events.Event.TheVariants.{Install, Place, Resolve}
 use Rattle.ist_core.specs.declared.pairs.Pair.{Pair}
 use Rattle.ist_core.specs.declared.states.InnerRow.{InnerRow}
 use Rattle.ist_core.specs.Lawful.{CanOpen, EachEnabled, state_of}
@@ -52,28 +52,9 @@ module _ (pairs : List Pair) (words : ℕ) (opens : CanOpen pairs words) where
       ⊎_elim (λ k. absurd (set k.0)) (λ stays. stays)
       ((place_writes (state_of pairs words log) c o j w rows h.1 (sound_behind pairs words log h.0)
       (anchor_free pairs words log h.0)).others node i word here)
-  slot_step log (Enter c) h none node i word set here =
-      slot_stays (start pairs words) log (Enter c) h.1 (sound_behind pairs words log h.0) tt node i word here
-  slot_step log (Reserve c b z) h none node i word set here =
-      slot_stays (start pairs words) log (Reserve c b z) h.1 (sound_behind pairs words log h.0) tt node i word here
-  slot_step log (Okay c d) h none node i word set here =
-      slot_stays (start pairs words) log (Okay c d) h.1 (sound_behind pairs words log h.0) tt node i word here
-  slot_step log (Decide c d said) h none node i word set here =
-      slot_stays (start pairs words) log (Decide c d said) h.1 (sound_behind pairs words log h.0) tt node i word here
-  slot_step log (Count c n) h none node i word set here =
-      slot_stays (start pairs words) log (Count c n) h.1 (sound_behind pairs words log h.0) tt node i word here
-  slot_step log (Mark c n) h none node i word set here =
-      slot_stays (start pairs words) log (Mark c n) h.1 (sound_behind pairs words log h.0) tt node i word here
-  slot_step log (Pass c n j w) h none node i word set here =
-      slot_stays (start pairs words) log (Pass c n j w) h.1 (sound_behind pairs words log h.0) tt node i word here
-  slot_step log (Finish c n k) h none node i word set here =
-      slot_stays (start pairs words) log (Finish c n k) h.1 (sound_behind pairs words log h.0) tt node i word here
-  slot_step log (Root c o w rows) h none node i word set here =
-      slot_stays (start pairs words) log (Root c o w rows) h.1 (sound_behind pairs words log h.0) tt node i word here
-  slot_step log (Draw c o part) h none node i word set here =
-      slot_stays (start pairs words) log (Draw c o part) h.1 (sound_behind pairs words log h.0) tt node i word here
-  slot_step log (Lose c bases) h none node i word set here =
-      slot_stays (start pairs words) log (Lose c bases) h.1 (sound_behind pairs words log h.0) tt node i word here
+  slot_step log event h none node i word set here =
+      slot_stays (start pairs words) log event h.1 (sound_behind pairs words log h.0) tt node i
+      word here
 
   status_step : (log : Log) (event : Event) (node status : ℕ) (r : InnerRow) → advance_by event ≡ 0
       → (state_of pairs words log).pieces node ≡ Some (Inner r) → r.status ≡ open_word

@@ -2,7 +2,7 @@
 -- `laws.touches_stay`.
 use Rattle.std.proofs.Common.{List, Option, Some, ap, if◌then◌else◌, refl, sym, ℕ, ◌==◌, ◌∙◌, ◌≡◌, ◌≢◌}
 use Rattle.ist_core.specs.declared.events.Event.{Event}
-use Rattle.ist_core.specs.declared.events.Event.TheVariants.{Count, Decide, Draw, Enter, Finish, Install, Lose, Mark, Okay, Pass, Place, Reserve, Resolve, Root}
+use Rattle.ist_core.specs.declared.events.Event.TheVariants.{Count, Draw, Enter, Install, Okay, Pass, Place, Resolve}
 use Rattle.ist_core.specs.declared.pairs.Pair.{Pair}
 use Rattle.ist_core.specs.declared.states.ChangeRow.{ChangeRow}
 use Rattle.ist_core.specs.After.{side_of}
@@ -99,11 +99,6 @@ module _ (pairs : List Pair) (words : ℕ) (earlier log : Log) (on : GoesOn earl
       ∙ sym (ap (λ o. touch_of_place t (as_rebuild o) i word) can.published
       ∙ ap (λ o. touch_in_root t o i word) can.root_is)
   touch_stays (Enter caller) can adds = absurd adds
-  touch_stays (Reserve caller base size) can adds = refl
-  touch_stays (Decide caller base said) can adds = refl
   touch_stays (Count caller node) can adds = absurd adds
-  touch_stays (Mark caller node) can adds = refl
-  touch_stays (Finish caller node keys) can adds = refl
-  touch_stays (Root caller rebuild word rows) can adds = refl
   touch_stays (Draw caller rebuild part) can adds = absurd adds
-  touch_stays (Lose caller bases) can adds = refl
+  touch_stays _ can adds = refl

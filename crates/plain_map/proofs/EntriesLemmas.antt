@@ -1,5 +1,5 @@
 -- The pairs of a map are the list that it was made of, if the keys of that list are strictly
--- increasing.
+-- increasing; and the map of its pairs is the map.
 use Rattle.std.proofs.Common.{◌≡◌, ℕ, suc, ◌<◌, Bool, true, false, ◌&&◌, T, List, [], ◌∷◌, map, length, refl, sym, ap, subst, ◌∙◌, arith}
 use Rattle.std.specs.FinMap as fin
 use Rattle.std.specs.FinMap.{is_sorted}
@@ -8,7 +8,7 @@ use Rattle.std.specs.Ordering.{nat_cmp, is_lt}
 use Rattle.std.specs.declared.cmp.Ordering.TheVariants.{Less}
 use Rattle.std.specs.Cmp.{nat_cmp_is}
 use Rattle.std.proofs.lemmas.Cmp.{nat_cmp_total}
-use Rattle.ist_core.specs.Map.{map_of, pairs_of}
+use Rattle.ist_core.specs.Map.{Map, map_of, pairs_of}
 use Rattle.ist_core.specs.declared.pairs.Pair.{Pair}
 use Rattle.plain_map.specs.Rising.{IsRising}
 use Rattle.plain_map.specs.Place.{key_at}
@@ -60,3 +60,14 @@ pairs_of-map_of pairs rising =
     fin.get-from_entries nat_cmp_total es q ∙ sym (fin.get-from_sorted nat_cmp es q sorted)) in
     ap (λ m. map pair (fin.entries m)) same
     ∙ ap (map pair) (fin.entries-from_sorted nat_cmp es sorted) ∙ pairs-entries pairs
+
+-- entries are the entries of their pairs
+entries-pairs : (es : List (ℕ × ℕ)) → map entry (map pair es) ≡ es
+entries-pairs [] = refl
+entries-pairs (e ∷ es) = ap (λ l. e ∷ l) (entries-pairs es)
+
+-- the map of the pairs of a map is that map
+pub map_of-pairs_of : (m : Map) → map_of (pairs_of m) ≡ m
+map_of-pairs_of m = fin.same_map nat_cmp_total fin.nat_cmp-IsAntisymmetric _ _
+    (λ q. fin.get-from_entries nat_cmp_total _ q
+    ∙ ap (fin.find nat_cmp q) (entries-pairs (fin.entries m)) ∙ sym (fin.get-entries m q))

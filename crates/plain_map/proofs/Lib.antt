@@ -3,3 +3,4 @@ pub mod ValueLemmas
 pub mod PlaceLemmas
 pub mod ListingLemmas
 pub mod EntriesLemmas
+pub mod PairCountLemmas

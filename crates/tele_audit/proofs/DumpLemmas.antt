@@ -22,8 +22,8 @@ use Rattle.tele_audit.specs.Flaws.{count_told, used_told, dump_length}
 use Rattle.tele_audit.specs.Flaws.{words_told, table_told, is_out, head_flaw, length_flaw}
 use Rattle.tele_audit.specs.Flaws.{anchor_flaw, flaw_or, flaw_before_rows, BreaksAtRow}
 use Rattle.tele_audit.specs.Taking.{AreBytes}
-use Rattle.tele_audit.proofs.NumberLemmas.{bytes-drop, number_of_inside}
-use Rattle.tele_audit.proofs.NumberLemmas.{number_bytes-number_of, length_numbers_in}
+use Rattle.tele_audit.proofs.NumberLemmas.{bytes-drop, number_encoded_inside}
+use Rattle.tele_audit.proofs.NumberLemmas.{number_bytes-number_encoded, length_numbers_in}
 use Rattle.tele_audit.proofs.NumberLemmas.{get_or_numbers_in, bytes_of_numbers}
 
 -- ---- tests
@@ -87,11 +87,11 @@ begin_magic bytes e = sym (same_text magic (take 8 bytes) (sym e))
 module _ (xs ys : List ℕ) (long : 24 ≤ length xs) where
   -- the number of words is determined by the first bytes
   pub count_front : count_told (xs ++ ys) ≡ count_told xs
-  count_front = number_of_inside 8 xs ys (omega arith)
+  count_front = number_encoded_inside 8 xs ys (omega arith)
 
   -- the number of used words is determined by the first bytes
   pub used_front : used_told (xs ++ ys) ≡ used_told xs
-  used_front = number_of_inside 16 xs ys (omega arith)
+  used_front = number_encoded_inside 16 xs ys (omega arith)
 
 -- ---- the length
 
@@ -197,7 +197,7 @@ module _ (bytes : List ℕ) (head : IsGoodHead bytes)
       let l16 = length-drop 16 bytes in
       let first : take 8 bytes ≡ magic = begin_magic bytes head.begins in
       let count : take 8 (drop 8 bytes) ≡ number_bytes (length (table_told bytes)) =
-      sym (number_bytes-number_of (drop 8 bytes) (bytes-drop 8 bytes are) (omega arith))
+      sym (number_bytes-number_encoded (drop 8 bytes) (bytes-drop 8 bytes are) (omega arith))
       ∙ ap number_bytes (sym length_table) in
       let words : drop 16 bytes ≡ flat_map number_bytes (used_words (table_told bytes)) =
       sym (bytes_of_numbers (used_told bytes) (drop 16 bytes) (bytes-drop 16 bytes are) (omega arith))

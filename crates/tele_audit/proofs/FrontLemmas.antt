@@ -10,7 +10,7 @@ use Rattle.ist_core.specs.RowLayout.{first_row, place_limit}
 use Rattle.tele_audit.specs.declared.flaws.Flaw.{Flaw}
 use Rattle.tele_audit.specs.declared.flaws.Flaw.TheVariants.{Magic, Short, Size, Used, Long, Anchor, Row}
 use Rattle.tele_audit.specs.Dumps.{magic}
-use Rattle.tele_audit.specs.Flaws.{number_of, count_told, used_told, dump_length, is_out, head_flaw, length_flaw}
+use Rattle.tele_audit.specs.Flaws.{number_encoded, count_told, used_told, dump_length, is_out, head_flaw, length_flaw}
 use Rattle.tele_audit.specs.Flaws.{anchor_flaw, flaw_or, flaw_before_rows, IsFirstFlaw}
 use Rattle.tele_audit.specs.Taking.{TakesBytes, AreEnough, Extends}
 use Rattle.tele_audit.proofs.DumpLemmas.{count_front, used_front, good_head, good_length}
@@ -18,18 +18,18 @@ use Rattle.tele_audit.proofs.DumpLemmas.{count_front, used_front, good_head, goo
 -- ---- flaws before the rows
 
 -- the flaw names no row
-abbrev pub IsPlain : Flaw → Type 0
-IsPlain (Row place) = ⊥
-IsPlain Magic = Unit {0}
-IsPlain Short = Unit {0}
-IsPlain Size = Unit {0}
-IsPlain Used = Unit {0}
-IsPlain Long = Unit {0}
-IsPlain Anchor = Unit {0}
+abbrev pub NamesNoRow : Flaw → Type 0
+NamesNoRow (Row place) = ⊥
+NamesNoRow Magic = Unit {0}
+NamesNoRow Short = Unit {0}
+NamesNoRow Size = Unit {0}
+NamesNoRow Used = Unit {0}
+NamesNoRow Long = Unit {0}
+NamesNoRow Anchor = Unit {0}
 
 -- a flaw that some flaw is
-plain_is : (flaw other : Flaw) → IsPlain flaw → Some flaw ≡ Some other → IsPlain other
-plain_is flaw other p e = let same : flaw ≡ other = cc in subst IsPlain same p
+plain_is : (flaw other : Flaw) → NamesNoRow flaw → Some flaw ≡ Some other → NamesNoRow other
+plain_is flaw other p e = let same : flaw ≡ other = cc in subst NamesNoRow same p
 
 -- what the tests of the head name
 abbrev head_by : Bool → Bool → Bool → Bool → Bool → Option Flaw
@@ -37,7 +37,7 @@ head_by m s z t u =
     if m then (if s then Some Short else (if z then Some Size else (if t then Some Short else
     (if u then Some Used else None)))) else Some Magic
 
-plain_head : (m s z t u : Bool) (flaw : Flaw) → head_by m s z t u ≡ Some flaw → IsPlain flaw
+plain_head : (m s z t u : Bool) (flaw : Flaw) → head_by m s z t u ≡ Some flaw → NamesNoRow flaw
 plain_head false s z t u flaw e = plain_is Magic flaw tt e
 plain_head true true z t u flaw e = plain_is Short flaw tt e
 plain_head true false true t u flaw e = plain_is Size flaw tt e
@@ -49,13 +49,13 @@ plain_head true false false false false flaw e = absurd (cc)
 abbrev length_by : Bool → Bool → Option Flaw
 length_by a b = if a then Some Short else (if b then Some Long else None)
 
-plain_length : (a b : Bool) (flaw : Flaw) → length_by a b ≡ Some flaw → IsPlain flaw
+plain_length : (a b : Bool) (flaw : Flaw) → length_by a b ≡ Some flaw → NamesNoRow flaw
 plain_length true b flaw e = plain_is Short flaw tt e
 plain_length false true flaw e = plain_is Long flaw tt e
 plain_length false false flaw e = absurd (cc)
 
 -- a flaw before the rows is the first
-first_is : (bytes : List ℕ) (flaw : Flaw) → IsPlain flaw → flaw_before_rows bytes ≡ Some flaw
+first_is : (bytes : List ℕ) (flaw : Flaw) → NamesNoRow flaw → flaw_before_rows bytes ≡ Some flaw
     → IsFirstFlaw bytes flaw
 first_is bytes Magic p e = e
 first_is bytes Short p e = e
@@ -230,7 +230,7 @@ pub record Reaches (mid now : Option (List ℕ)) (taken more first second : List
   pub extends : Extends taken more
   pub enough : IfSome mid (λ _. AreEnough now (16 + 8 * used + 1) more)
   pub first_is : first ≡ taken
-  pub used_is : used ≡ number_of (drop 16 first)
+  pub used_is : used ≡ number_encoded (drop 16 first)
   pub second_is : second ≡ more
   pub found_is : found ≡ length_flaw second
 
@@ -241,7 +241,7 @@ module _ (mid now : Option (List ℕ)) (taken more first second : List ℕ) (use
 
   used_more : used ≡ used_told more
   used_more =
-      h.used_is ∙ ap (λ xs. number_of (drop 16 xs)) h.first_is
+      h.used_is ∙ ap (λ xs. number_encoded (drop 16 xs)) h.first_is
       ∙ sym (extended_used taken more h.extends h.head)
 
   enough_more : IfSome mid (λ _. AreEnough now (dump_length (used_told more) + 1) more)

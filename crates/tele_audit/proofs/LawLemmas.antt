@@ -17,10 +17,10 @@ use Rattle.ist_rest.specs.Walks.{first_visit}
 use Rattle.tele_audit.specs.declared.flaws.Flaw.{Flaw}
 use Rattle.tele_audit.specs.declared.flaws.Flaw.TheVariants.{Magic, Short, Size, Used, Long, Anchor, Row}
 use Rattle.tele_audit.specs.Dumps.{magic, number_bytes, used_words, dump_of, DumpContent, IsLawfulDump}
-use Rattle.tele_audit.specs.Flaws.{number_of, numbers_in, count_told, used_told, dump_length}
+use Rattle.tele_audit.specs.Flaws.{number_encoded, numbers_in, count_told, used_told, dump_length}
 use Rattle.tele_audit.specs.Flaws.{words_told, table_told, is_out, head_flaw, length_flaw}
 use Rattle.tele_audit.specs.Flaws.{anchor_flaw, flaw_or, flaw_before_rows, BreaksAtRow, IsFirstFlaw}
-use Rattle.tele_audit.proofs.NumberLemmas.{length-number_bytes, number_of-number_bytes}
+use Rattle.tele_audit.proofs.NumberLemmas.{length-number_bytes, number_encoded-number_bytes}
 use Rattle.tele_audit.proofs.NumberLemmas.{get_or_numbers_in, numbers_of_bytes, length-flat_bytes}
 use Rattle.tele_audit.proofs.NumberLemmas.{below-take}
 
@@ -68,8 +68,8 @@ module _ (table : List ℕ) (bounds : HasGoodBounds table)
   pub count_back : count_told (dump_of table) ≡ length table
   count_back =
       let most = bounds.most in
-      ap number_of behind_magic
-      ∙ number_of-number_bytes (length table) (flat_map number_bytes (used_words table)) (omega arith)
+      ap number_encoded behind_magic
+      ∙ number_encoded-number_bytes (length table) (flat_map number_bytes (used_words table)) (omega arith)
 
   fit_used : (i : ℕ) → get_or (used_words table) i 0 < 2 ^ 64
   fit_used = below-take (2 ^ 64) (word_at table next_place) table (omega arith) fit
@@ -86,7 +86,7 @@ module _ (table : List ℕ) (bounds : HasGoodBounds table)
   used_back =
       let low = bounds.low in
       let l = length_ws in
-      ap number_of behind_count
+      ap number_encoded behind_count
       ∙ sym (get_or_numbers_in (length (used_words table)) (flat_map number_bytes (used_words table))
       0 (omega arith))
       ∙ ap (λ xs. get_or xs 0 0) numbers_back

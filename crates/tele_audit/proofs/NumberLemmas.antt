@@ -9,7 +9,7 @@ use Rattle.std.proofs.lemmas.List.{drop-drop, take-append-le, drop-append-le, le
 use Rattle.std.proofs.lemmas.List.{length-drop, length-append, get_or-drop, take-append-drop}
 use Rattle.std.proofs.lemmas.List.{append_assoc, take_at, drop_at}
 use Rattle.tele_audit.specs.Dumps.{number_bytes}
-use Rattle.tele_audit.specs.Flaws.{number_of, numbers_in}
+use Rattle.tele_audit.specs.Flaws.{number_encoded, numbers_in}
 use Rattle.tele_audit.specs.Taking.{AreBytes}
 
 -- ---- bytes
@@ -30,23 +30,23 @@ bytes-drop n bytes h i = rw get_or-drop (h (n + i))
 -- ---- one number
 
 -- a number is determined by its own eight bytes
-pub number_of_front : (xs ys : List ℕ) → 8 ≤ length xs → number_of (xs ++ ys) ≡ number_of xs
-unfolding number_of
-number_of_front xs ys long = ap (from_le_bytes w64) (take-append-le 8 xs ys long)
+pub number_encoded_front : (xs ys : List ℕ) → 8 ≤ length xs → number_encoded (xs ++ ys) ≡ number_encoded xs
+unfolding number_encoded
+number_encoded_front xs ys long = ap (from_le_bytes w64) (take-append-le 8 xs ys long)
 
 -- a number that lies within the first bytes is determined by them
-pub number_of_inside : (n : ℕ) (xs ys : List ℕ) → n + 8 ≤ length xs
-    → number_of (drop n (xs ++ ys)) ≡ number_of (drop n xs)
-number_of_inside n xs ys long =
+pub number_encoded_inside : (n : ℕ) (xs ys : List ℕ) → n + 8 ≤ length xs
+    → number_encoded (drop n (xs ++ ys)) ≡ number_encoded (drop n xs)
+number_encoded_inside n xs ys long =
     let l = length-drop n xs in
-    ap number_of (drop-append-le n xs ys (omega arith))
-    ∙ number_of_front (drop n xs) ys (omega arith)
+    ap number_encoded (drop-append-le n xs ys (omega arith))
+    ∙ number_encoded_front (drop n xs) ys (omega arith)
 
 -- eight bytes are the encoding of the number that they encode
-pub number_bytes-number_of : (bytes : List ℕ) → AreBytes bytes → 8 ≤ length bytes
-    → number_bytes (number_of bytes) ≡ take 8 bytes
-unfolding number_bytes number_of
-number_bytes-number_of bytes h long =
+pub number_bytes-number_encoded : (bytes : List ℕ) → AreBytes bytes → 8 ≤ length bytes
+    → number_bytes (number_encoded bytes) ≡ take 8 bytes
+unfolding number_bytes number_encoded
+number_bytes-number_encoded bytes h long =
     le_bytes_8 (take 8 bytes) (from_le_bytes w64 (take 8 bytes)) (length-take-le 8 bytes long)
     (below-take 256 8 bytes (omega arith) h) refl
 
@@ -56,10 +56,10 @@ unfolding number_bytes
 length-number_bytes n = refl
 
 -- a number is what its eight bytes say
-pub number_of-number_bytes : (n : ℕ) (rest : List ℕ) → n < 2 ^ 64
-    → number_of (number_bytes n ++ rest) ≡ n
-unfolding number_bytes number_of
-number_of-number_bytes n rest fits =
+pub number_encoded-number_bytes : (n : ℕ) (rest : List ℕ) → n < 2 ^ 64
+    → number_encoded (number_bytes n ++ rest) ≡ n
+unfolding number_bytes number_encoded
+number_encoded-number_bytes n rest fits =
     ap (from_le_bytes w64) (take_at (to_le_bytes w64 n) rest 8 refl)
     ∙ from_le_bytes-to_le_bytes_8 n fits
 
@@ -73,14 +73,14 @@ length_numbers_in (suc count) bytes = ap suc (length_numbers_in count (drop 8 by
 
 -- number i is encoded by the eight bytes from place 8 * i on
 pub get_or_numbers_in : (count : ℕ) (bytes : List ℕ) (i : ℕ) → i < count
-    → get_or (numbers_in count bytes) i 0 ≡ number_of (drop (8 * i) bytes)
+    → get_or (numbers_in count bytes) i 0 ≡ number_encoded (drop (8 * i) bytes)
 unfolding numbers_in
 get_or_numbers_in zero bytes i less = absurd (omega arith)
 get_or_numbers_in (suc count) bytes zero less = refl
 get_or_numbers_in (suc count) bytes (suc i) less =
     let e : 8 + 8 * i ≡ 8 * suc i = omega arith in
     get_or_numbers_in count (drop 8 bytes) i (omega arith)
-    ∙ ap number_of (drop-drop (8 * i) 8 bytes ∙ ap (λ n. drop n bytes) e)
+    ∙ ap number_encoded (drop-drop (8 * i) 8 bytes ∙ ap (λ n. drop n bytes) e)
 
 -- the bytes of the numbers that some bytes are
 pub bytes_of_numbers : (count : ℕ) (bytes : List ℕ) → AreBytes bytes → length bytes ≡ 8 * count
@@ -92,7 +92,7 @@ bytes_of_numbers (suc count) bytes h e =
     let l = length-drop 8 bytes in
     let rest = numbers_in count (drop 8 bytes) in
     ap (λ (xs : List ℕ). xs ++ flat_map number_bytes rest)
-    (number_bytes-number_of bytes h (omega arith))
+    (number_bytes-number_encoded bytes h (omega arith))
     ∙ ap (λ xs. take 8 bytes ++ xs)
     (bytes_of_numbers count (drop 8 bytes) (bytes-drop 8 bytes h) (omega arith))
     ∙ take-append-drop 8 bytes
@@ -105,8 +105,8 @@ numbers_of_bytes [] rest fit = refl
 numbers_of_bytes (n ∷ numbers) rest fit =
     let more = flat_map number_bytes numbers in
     let e = append_assoc (number_bytes n) more rest in
-    let first : number_of ((number_bytes n ++ more) ++ rest) ≡ n =
-    ap number_of e ∙ number_of-number_bytes n (more ++ rest) (fit 0) in
+    let first : number_encoded ((number_bytes n ++ more) ++ rest) ≡ n =
+    ap number_encoded e ∙ number_encoded-number_bytes n (more ++ rest) (fit 0) in
     let others : drop 8 ((number_bytes n ++ more) ++ rest) ≡ more ++ rest =
     ap (drop 8) e ∙ drop_at (number_bytes n) (more ++ rest) 8 (length-number_bytes n) in
     ap (λ (x : ℕ). x ∷ numbers_in (length numbers) (drop 8 ((number_bytes n ++ more) ++ rest))) first
@@ -135,8 +135,8 @@ module _ (used : ℕ) (bytes words : List ℕ) (place : ℕ) (is : numbers_in us
       omega arith
 
   -- it follows the first 16 bytes
-  pub word_told : get_or words place 0 ≡ number_of (drop (16 + 8 * place) bytes)
+  pub word_told : get_or words place 0 ≡ number_encoded (drop (16 + 8 * place) bytes)
   word_told =
       ap (λ xs. get_or xs place 0) (sym is)
       ∙ get_or_numbers_in used (drop 16 bytes) place place_told
-      ∙ ap number_of (drop-drop (8 * place) 16 bytes)
+      ∙ ap number_encoded (drop-drop (8 * place) 16 bytes)

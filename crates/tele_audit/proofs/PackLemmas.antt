@@ -1,17 +1,14 @@
 -- What `pack` makes of lines. Serves `packing` and `laws.packed_lines_are_listed`.
-use Rattle.std.proofs.Common.{◌≡◌, ℕ, ◌+◌, ◌-◌, ◌*◌, ◌^◌, ◌<◌, ◌≤◌, Bool, true, false, cond, List, [], ◌∷◌, length}
+use Rattle.std.proofs.Common.{◌≡◌, ℕ, ◌+◌, ◌*◌, ◌^◌, ◌<◌, ◌≤◌, Bool, false, List, [], ◌∷◌, length}
 use Rattle.std.proofs.Common.{Option, Some, None, refl, sym, ap, ◌∙◌, subst, arith, IfSome}
 use Rattle.std.proofs.Common.{inl, inr, flat_map}
-use Rattle.std.proofs.lemmas.List.{length-map}
 use Rattle.std.specs.FinMap as fin
-use Rattle.std.specs.Cmp.{nat_cmp_total}
 use Rattle.std.specs.Ordering.{nat_cmp}
 use Rattle.ist_core.specs.declared.pairs.Pair.{Pair}
 use Rattle.ist_core.specs.declared.commands.Command.{Command}
-use Rattle.ist_core.specs.declared.commands.Command.TheVariants.{Put, Remove, Get}
 use Rattle.ist_core.specs.Images.{IsImage}
 use Rattle.ist_core.specs.Lawful.{CanOpen}
-use Rattle.ist_core.specs.Map.{Map, no_pairs, map_of, map_after, step, pairs_of, pairs_between, listed}
+use Rattle.ist_core.specs.Map.{Map, no_pairs, map_of, step, pairs_of, pairs_between, listed}
 use Rattle.ist_core.specs.Pieces.{Change}
 use Rattle.ist_core.specs.Resting.{StandsFor}
 use Rattle.ist_core.specs.RowLayout.{next_place, first_row}
@@ -24,6 +21,7 @@ use Rattle.ist_rest.specs.RestingWords.{AreLawful}
 use Rattle.ist_rest.specs.WordRows.{word_at}
 use Rattle.plain_map.specs.Rising.{IsRising}
 use Rattle.plain_map.proofs.EntriesLemmas.{pairs_of-map_of}
+use Rattle.plain_map.proofs.PairCountLemmas.{adds_one_key, length-pairs_of}
 use Rattle.tele_lines.specs.declared.items.Cause.{Cause}
 use Rattle.tele_lines.specs.declared.items.Item.{Item}
 use Rattle.tele_lines.specs.declared.items.Version.{Version}
@@ -42,24 +40,6 @@ use Rattle.tele_audit.proofs.LawLemmas.{one_told, no_flaw}
 
 -- ---- lines
 
--- a command adds at most one key
-pub one_more : (m : Map) (c : Command) → fin.len (map_after m c) ≤ fin.len m + 1
-one_more m (Put key value) =
-    (let long = fin.len-insert nat_cmp_total m key value in
-    let high = at (fin.contains_key m key) in omega arith)
-  where
-    at : (b : Bool) → cond b (fin.len m) (fin.len m + 1) ≤ fin.len m + 1
-    at true = omega arith
-    at false = omega arith
-one_more m (Remove key) =
-    (let long = fin.len-remove nat_cmp_total m key in
-    let high = at (fin.contains_key m key) in omega arith)
-  where
-    at : (b : Bool) → cond b (fin.len m - 1) (fin.len m) ≤ fin.len m + 1
-    at true = omega arith
-    at false = omega arith
-one_more m (Get key) = omega arith
-
 -- a point line was carried out
 module _ (m then_m : Map) (command : Command) (reply : Option ℕ)
     (done : (then_m, reply) ≡ step m command) where
@@ -67,10 +47,10 @@ module _ (m then_m : Map) (command : Command) (reply : Option ℕ)
   pub point_few : fin.len then_m ≤ fin.len m + 1
   point_few =
       subst (λ n. fin.len n ≤ fin.len m + 1) (ap (λ (p : Map × Option ℕ). p.0) (sym done))
-      (one_more m command)
+      (adds_one_key m command)
 
 -- some lines were taken into a map: what it and the lines that are unread leave is what all bytes do
-pub record IsUnderWay (bytes : List ℕ) (m : Map) (place : Place) (unread : Option (List ℕ))
+pub record IsPackedSoFar (bytes : List ℕ) (m : Map) (place : Place) (unread : Option (List ℕ))
     : Type 0 where
   pub rest : List ℕ
   pub leaves : unread ≡ Some rest
@@ -81,14 +61,14 @@ abbrev pub first_place : Place
 first_place = record { limit = line_limit; count = 0; mode = None }
 
 all_unread : (left : Option (List ℕ))
-    → IfSome left (λ bytes. IsUnderWay bytes no_pairs first_place (unread_of [] false left))
+    → IfSome left (λ bytes. IsPackedSoFar bytes no_pairs first_place (unread_of [] false left))
 all_unread None = tt
 all_unread (Some bytes) = record { rest = bytes; leaves = refl; same = refl }
 
 -- lines were gathered into a map, which has at most one key for each line
 pub record HasGathered (left : Option (List ℕ)) (m : Map) (place : Place)
     (unread : Option (List ℕ)) : Type 0 where
-  pub way : IfSome left (λ bytes. IsUnderWay bytes m place unread)
+  pub way : IfSome left (λ bytes. IsPackedSoFar bytes m place unread)
   pub few : fin.len m ≤ place.count
   pub limit : place.limit ≡ line_limit
   pub allowed : place.count ≤ line_limit
@@ -121,12 +101,12 @@ module _ (m : Map) (old : Place) (unread : Option (List ℕ)) where
   -- one more line
   way_on : (left later : Option (List ℕ)) (then_m : Map) (new : Place) (ended : Bool)
       (number : ℕ) (version : Version) (item : Item)
-      → IfSome left (λ bytes. IsUnderWay bytes m old unread)
+      → IfSome left (λ bytes. IsPackedSoFar bytes m old unread)
       → IfSome unread
       (λ bytes. GoesTo old new ended (Good number version item ∷ []) bytes later)
       → ((number : ℕ) (version : Version) (lines : List Read)
       → behind_lines m (Good number version item ∷ lines) ≡ behind_lines then_m lines)
-      → IfSome left (λ bytes. IsUnderWay bytes then_m new later)
+      → IfSome left (λ bytes. IsPackedSoFar bytes then_m new later)
   way_on None later then_m new ended number version item way goes taken = tt
   way_on (Some bytes) later then_m new ended number version item way goes taken =
       let next : GoesTo old new ended (Good number version item ∷ []) way.rest later =
@@ -160,7 +140,7 @@ module _ (m : Map) (old : Place) (unread : Option (List ℕ)) where
 
   -- a line is bad
   pub way_bad : (left : Option (List ℕ)) (number : ℕ) (cause : Cause)
-      → IfSome left (λ bytes. IsUnderWay bytes m old unread)
+      → IfSome left (λ bytes. IsPackedSoFar bytes m old unread)
       → IfSome unread (λ bytes. read_at old (lines_of bytes) ≡ Bad number cause ∷ [])
       → IfSome left (λ bytes. left_by bytes ≡ Refuses number cause)
   way_bad None number cause way bad = tt
@@ -186,11 +166,6 @@ stands_new m words table = record {
   at_rest = refl;
   stand = tt;
 }
-
--- there are as many pairs as keys
-pub length-pairs_of : (m : Map) → length (pairs_of m) ≡ fin.len m
-length-pairs_of m = length-map {A = ℕ × ℕ} (fin.entries m) (λ e. record { key = e.0; value = e.1 })
-    ∙ sym (fin.len-entries m)
 
 -- a table may begin with this many pairs
 pub can_open : (pairs plain : List Pair) (m : Map) (first ideal : ℕ) → pairs ≡ plain

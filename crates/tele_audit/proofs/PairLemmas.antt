@@ -6,7 +6,7 @@ use Rattle.ist_core.specs.Arithmetic.{child_count}
 use Rattle.ist_core.specs.References.{Ref, Empty, Unset, LeafAt, InnerAt, ChangeAt, RebuildAt}
 use Rattle.ist_core.specs.Elements.{Among, Each}
 use Rattle.ist_core.proofs.ElementLemmas.{each_append, each-among}
-use Rattle.ist_core.proofs.RisingLemmas.{child_count_tells, Rises}
+use Rattle.ist_core.proofs.RisingLemmas.{child_count_tells, AreRisingKeys}
 use Rattle.ist_core.proofs.LeafOrderLemmas.{next_from_rises}
 use Rattle.ist_rest.specs.WordRows.{Span, row_keys, row_slots, row_degree, leaf_key}
 use Rattle.ist_rest.specs.Walks.{Way, Visit, LeadsBy, IsGoodAs, pairs_read, first_visit}
@@ -153,8 +153,8 @@ all_above words key _ _ _ (goes_on {visit = visit} {visits = visits} {rows = row
 here_rises : (words : List ℕ) (visit : Visit) (visits : List Visit) (rows : List Span)
     (pairs : List Pair) (ref : Ref) → IsGoodAs words visit ref
     → Walks words (visits_below words visit ref ++ visits) rows pairs
-    → Each (IsBefore visit) visits → Rises (λ (p : Pair). p.key) pairs
-    → Rises (λ (p : Pair). p.key) (pairs_read words ref ++ pairs)
+    → Each (IsBefore visit) visits → AreRisingKeys (λ (p : Pair). p.key) pairs
+    → AreRisingKeys (λ (p : Pair). p.key) (pairs_read words ref ++ pairs)
 here_rises words visit visits rows pairs (LeafAt base) good w before rises = (
   all_above words (leaf_key words base) visits rows pairs w
       (each_so (IsBefore visit) (IsAbove (leaf_key words base)) visits
@@ -177,7 +177,7 @@ here_rises words visit visits rows pairs (RebuildAt base) good w before rises = 
 
 -- the pairs of a walk over slots in order have strictly increasing keys
 walk_rises : (words : List ℕ) (visits : List Visit) (rows : List Span) (pairs : List Pair)
-    → Walks words visits rows pairs → AreOrdered visits → Rises (λ (p : Pair). p.key) pairs
+    → Walks words visits rows pairs → AreOrdered visits → AreRisingKeys (λ (p : Pair). p.key) pairs
 walk_rises words _ _ _ ends ordered = tt
 walk_rises words _ _ _ (goes_on {visit = visit} {visits = visits} {rows = rows} {pairs = pairs}
     at w) ordered =

@@ -11,7 +11,7 @@ use Rattle.plain_map.specs.Rising.{IsRising}
 use Rattle.tele_audit.specs.declared.flaws.Flaw.{Flaw}
 use Rattle.tele_audit.specs.declared.flaws.Flaw.TheVariants.{Row}
 use Rattle.tele_audit.specs.Dumps.{IsLawfulDump}
-use Rattle.tele_audit.specs.Flaws.{number_of, numbers_in, count_told, used_told, dump_length}
+use Rattle.tele_audit.specs.Flaws.{number_encoded, numbers_in, count_told, used_told, dump_length}
 use Rattle.tele_audit.specs.Flaws.{words_told, head_flaw, length_flaw, IsFirstFlaw}
 use Rattle.tele_audit.specs.Taking.{AreBytes}
 use Rattle.tele_audit.proofs.DumpLemmas.{IsGoodHead, good_head, good_length, length_told}
@@ -27,10 +27,10 @@ pub record AreRead (bytes : List ℕ) (used : ℕ) (words : List ℕ) : Type 0 w
 
 -- what is read after the first 16 bytes: the number of used words, and this many words
 pub words_read : (bytes words now : List ℕ) (used : ℕ) → head_flaw bytes ≡ None
-    → length_flaw bytes ≡ None → now ≡ bytes → used ≡ number_of (drop 16 now)
+    → length_flaw bytes ≡ None → now ≡ bytes → used ≡ number_encoded (drop 16 now)
     → words ≡ numbers_in used (drop 16 bytes) → AreRead bytes used words
 words_read bytes words now used head whole e f g =
-    let u : used ≡ used_told bytes = f ∙ ap (λ xs. number_of (drop 16 xs)) e in
+    let u : used ≡ used_told bytes = f ∙ ap (λ xs. number_encoded (drop 16 xs)) e in
     record {
       head = head;
       whole = whole;

@@ -16,21 +16,21 @@ use Rattle.tele_audit.specs.Dumps.{magic}
 -- ---- what bytes say
 
 -- the number that the first eight bytes encode
-unfoldable pub number_of : List ℕ → ℕ
-number_of bytes = from_le_bytes w64 (take 8 bytes)
+unfoldable pub number_encoded : List ℕ → ℕ
+number_encoded bytes = from_le_bytes w64 (take 8 bytes)
 
 -- this many numbers, one after another
 unfoldable pub numbers_in : ℕ → List ℕ → List ℕ
 numbers_in zero bytes = []
-numbers_in (suc count) bytes = number_of bytes ∷ numbers_in count (drop 8 bytes)
+numbers_in (suc count) bytes = number_encoded bytes ∷ numbers_in count (drop 8 bytes)
 
 -- the number of words that the bytes give for the table
 abbrev pub count_told : List ℕ → ℕ
-count_told bytes = number_of (drop 8 bytes)
+count_told bytes = number_encoded (drop 8 bytes)
 
 -- the first word: the number of used words
 abbrev pub used_told : List ℕ → ℕ
-used_told bytes = number_of (drop 16 bytes)
+used_told bytes = number_encoded (drop 16 bytes)
 
 -- the length in bytes of a dump with this many used words
 abbrev pub dump_length : ℕ → ℕ

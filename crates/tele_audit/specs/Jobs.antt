@@ -33,6 +33,6 @@ job_behind (word ∷ first ∷ last ∷ []) = job_between word first last
 job_behind (word ∷ first ∷ last ∷ more ∷ words) = Refuse
 
 -- what a command line asks for; its first argument is the program's name
-abbrev pub job_of : List (List ℕ) → Job
-job_of [] = Refuse
-job_of (name ∷ words) = job_behind words
+abbrev pub audit_job : List (List ℕ) → Job
+audit_job [] = Refuse
+audit_job (name ∷ words) = job_behind words

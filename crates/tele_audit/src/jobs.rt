@@ -1,6 +1,6 @@
 //! What a command line asks for. Its arguments are read by hand.
 ghost use Rattle.std.specs.Prelude.{◌≡◌, map, string_bytes};
-ghost use Rattle.tele_audit.specs.Jobs.{job_of, job_named, job_between};
+ghost use Rattle.tele_audit.specs.Jobs.{audit_job, job_named, job_between};
 
 use tele_lines::number;
 
@@ -26,7 +26,7 @@ pub(crate) enum Job {
 
 /// Returns what the command-line arguments ask for, the program's name first.
 pub(crate) fn read_job(words: &[String]) -> Job
-    ensures value { result ≡ job_of (map string_bytes words.now) }
+    ensures value { result ≡ audit_job (map string_bytes words.now) }
 {
     match words {
         [_, word] => named(word.as_str()),

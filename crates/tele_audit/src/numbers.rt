@@ -1,13 +1,13 @@
 //! Numbers as eight bytes, lowest byte first.
 ghost use Rattle.std.specs.Prelude.{◌≡◌, ◌+◌, ◌≤◌, length, drop};
-ghost use Rattle.tele_audit.specs.Flaws.{number_of};
+ghost use Rattle.tele_audit.specs.Flaws.{number_encoded};
 ghost use Rattle.tele_audit.specs.Taking.{AreBytes};
 
 /// Reads the number that the eight bytes from `from` on encode.
-#[tactic(auto, unfolding(crate::specs::Flaws::number_of))]
+#[tactic(auto, unfolding(crate::specs::Flaws::number_encoded))]
 pub(crate) fn number_at(bytes: &[u8], from: usize) -> u64
     requires within { from + 8 ≤ length bytes.now }
-    ensures value { result ≡ number_of (drop from bytes.now) }
+    ensures value { result ≡ number_encoded (drop from bytes.now) }
 {
     let mut eight = [0u8; 8];
     eight.copy_from_slice(&bytes[from..from + 8]);

@@ -2,7 +2,7 @@
 ghost use Rattle.std.specs.Prelude.{◌≡◌, ◌≤◌, ◌⊎◌, [], Some, Ok, Err, map, string_bytes, IfOk, IfSome, OnOk, OnErr};
 ghost use Rattle.tele_io.specs.Bytes.{HaveRisen, Appends, AppendsPart};
 ghost use Rattle.tele_lines.specs.Answer.{usage_text};
-ghost use Rattle.tele_audit.specs.Jobs.{job_of};
+ghost use Rattle.tele_audit.specs.Jobs.{audit_job};
 ghost use Rattle.tele_audit.specs.Runs.{Writes, WritesPart, IsWrittenWhole, EndsEarly, IsRunStatus};
 
 use crate::audits::audit;
@@ -38,8 +38,8 @@ pub fn audit_run<S: Source, O: Sink>(
 ) -> u8
     // What was written is what the command owes for all bytes that the source had, with this
     // status.
-    ensures text { IsWrittenWhole (job_of (map string_bytes words.now)) result →
-        IfSome (S.left source.old) (λ bytes. Writes (job_of (map string_bytes words.now)) bytes
+    ensures text { IsWrittenWhole (audit_job (map string_bytes words.now)) result →
+        IfSome (S.left source.old) (λ bytes. Writes (audit_job (map string_bytes words.now)) bytes
         (O.written out.old) (O.written out.new) result) }
     ensures whole { result ≡ DONE →
         IfSome (S.left source.old) (λ _. S.left source.new ≡ Some []) }
@@ -47,17 +47,17 @@ pub fn audit_run<S: Source, O: Sink>(
     // For wrong arguments the usage line is written, and nothing is read.
     ensures usage { result ≡ USAGE →
         Appends (O.written out.old) (O.written out.new) usage_text }
-    ensures unread { job_of (map string_bytes words.now) ≡ Job.Refuse → source.new ≡ source.old }
+    ensures unread { audit_job (map string_bytes words.now) ≡ Job.Refuse → source.new ≡ source.old }
 
     // If the run was cut short, a prefix of what is due was written.
     ensures part { EndsEarly result → IfSome (S.left source.old) (λ bytes.
-        WritesPart (job_of (map string_bytes words.now)) bytes
+        WritesPart (audit_job (map string_bytes words.now)) bytes
         (O.written out.old) (O.written out.new)) }
-    ensures usage_part { job_of (map string_bytes words.now) ≡ Job.Refuse → EndsEarly result →
+    ensures usage_part { audit_job (map string_bytes words.now) ≡ Job.Refuse → EndsEarly result →
         AppendsPart (O.written out.old) (O.written out.new) usage_text }
 
     // Each status has its cause.
-    ensures statuses { IsRunStatus (job_of (map string_bytes words.now)) result }
+    ensures statuses { IsRunStatus (audit_job (map string_bytes words.now)) result }
     ensures read_failed { result ≡ READ_FAILED →
         HaveRisen (S.faults source.old) (S.faults source.new) }
     ensures unwritten { result ≡ READ_FAILED → out.new ≡ out.old }
@@ -67,7 +67,7 @@ pub fn audit_run<S: Source, O: Sink>(
     // Without a fault the whole text is written, unless memory runs out.
     ensures complete { ¬ HaveRisen (S.faults source.old) (S.faults source.new) →
         ¬ HaveRisen (O.faults out.old) (O.faults out.new) →
-        IsWrittenWhole (job_of (map string_bytes words.now)) result ⊎ (result ≡ NO_MEMORY) }
+        IsWrittenWhole (audit_job (map string_bytes words.now)) result ⊎ (result ≡ NO_MEMORY) }
 
     ensures source_counted { S.faults source.old ≤ S.faults source.new }
     ensures sink_counted { O.faults out.old ≤ O.faults out.new }

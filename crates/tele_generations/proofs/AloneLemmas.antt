@@ -18,7 +18,7 @@ use Rattle.laws_histories.proofs.MapLemmas.{no_entry_leaves}
 use Rattle.tele_lanes.specs.Lanes.{lane_of}
 use Rattle.tele_lanes.proofs.AloneLemmas.{Agree, get-map_after_same, get-map_after_other}
 use Rattle.tele_generations.proofs.StandLemmas.{StandFrom, stand_rest, stand_behind, all_behind}
-use Rattle.tele_generations.proofs.StandLemmas.{rest_behind, first_made, own_entry, other_entry, Told}
+use Rattle.tele_generations.proofs.StandLemmas.{rest_behind, first_made, own_entry, other_entry, TestsAs}
 use Rattle.tele_generations.proofs.StandLemmas.{few_none, changing_few}
 
 -- the calls of the lane belong to the entries, in which each owner keeps to its lane; and `n` has
@@ -123,7 +123,7 @@ module _ (workers number : ℕ) (m : Map) (from : ℕ) where
       behind : StandFrom (map_after m e.command) es number (from + 1) calls
       behind = stand_behind m e es number from calls x.stand high
 
-      at : Told e.owner number → IsAlone workers number m n (e ∷ es) calls
+      at : TestsAs e.owner number → IsAlone workers number m n (e ∷ es) calls
       at (inl own) =
           let few = changing_few number es (map_after m e.command) (from + 1) calls behind in
           let long = ap length (own_entry number e es own.1) in
@@ -182,7 +182,7 @@ module _ (workers number : ℕ) (m : Map) (from : ℕ) where
       at (eqb_tells call.position from) (is_change call) refl
       (λ y. alone_step e es later n calls y kept.1)
     where
-      at : Told call.position from → (v : Bool) → is_change call ≡ v
+      at : TestsAs call.position from → (v : Bool) → is_change call ≡ v
           → (OnItsLane workers number m n (e ∷ es) from calls → IsAlone workers number m n
           (e ∷ es) calls)
           → IsAlone workers number m n (e ∷ es) (call ∷ calls)

@@ -2,7 +2,6 @@ pub mod StandLemmas
 pub mod AloneLemmas
 pub mod RestingListLemmas
 pub mod PlainLemmas
-pub mod PairCountLemmas
 pub mod PartLemmas
 pub mod LaneLemmas
 pub mod RunLemmas

@@ -6,7 +6,7 @@ use Rattle.ist_core.specs.Map.{map_of, pairs_of, map_after}
 use Rattle.tele_lanes.specs.declared.task_lists.Task.{Task}
 use Rattle.tele_lanes.specs.declared.answer_lists.Answer.{Answer}
 use Rattle.tele_generations.specs.Turns.{plain_answer}
-use Rattle.tele_generations.proofs.PairCountLemmas.{pairs_few}
+use Rattle.plain_map.proofs.PairCountLemmas.{adds_few_pairs}
 use Rattle.plain_map.specs.Rising.{IsRising}
 use Rattle.plain_map.proofs.EntriesLemmas.{pairs_of-map_of}
 use Rattle.tele_generations.specs.Ways.{Rests}
@@ -38,7 +38,7 @@ pub rests_few : (answers : List Answer) (left : List Task) (pairs : List Pair)
     → length after + length rest ≤ length pairs + length left
 rests_few answers left pairs given rest after (stays some) rise = omega arith
 rests_few answers left pairs given rest after (rests_one task others later none first up is) rise =
-    let few = pairs_few (map_of pairs) (task.command ∷ []) in
+    let few = adds_few_pairs (map_of pairs) (task.command ∷ []) in
     let old = ap length (pairs_of-map_of pairs rise) in
     let new = ap length (pairs_of-map_of after up) in
     let same = ap (λ m. length (pairs_of m)) is in

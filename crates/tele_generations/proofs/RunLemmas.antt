@@ -30,7 +30,7 @@ use Rattle.tele_generations.specs.Runs.{LaneRun, HasRun, RanOn, told_of_runs, an
 use Rattle.tele_generations.specs.Runs.{done_of_runs, left_of_runs, ArePlainly}
 use Rattle.tele_generations.proofs.RestingListLemmas.{each_from_map, lists_alone, keys_alone}
 use Rattle.tele_generations.proofs.PlainLemmas.{lane_commands-tasks}
-use Rattle.tele_generations.proofs.PairCountLemmas.{pairs_few}
+use Rattle.plain_map.proofs.PairCountLemmas.{adds_few_pairs}
 use Rattle.tele_generations.proofs.PartLemmas.{AreParts, lane_of_parts, lane_of_flat}
 use Rattle.tele_generations.proofs.LaneLemmas.{each_all, all_each, IsStrictlyIncreasing-drop, keeps_from}
 use Rattle.tele_generations.proofs.LaneLemmas.{of_lane, run_asked, run_plain}
@@ -268,7 +268,7 @@ module _ (pairs : List Pair) (words : ℕ) (log : Log) (workers : ℕ) (tasks : 
   keys_few =
       let done : List Task = flat_map (λ tasks. tasks) (done_of_runs runs) in
       let lead = done_leads in
-      let few = pairs_few (map_of pairs) (commands_of done) in
+      let few = adds_few_pairs (map_of pairs) (commands_of done) in
       let long = length-map done (λ t. t.command) in
       let low = part_few runs in
       let same = ap (λ n. length (pairs_of n)) lead in

@@ -145,8 +145,8 @@ entries_more number e es = at (e.owner == number)
     at false = omega arith
 
 -- the two results of a test of two numbers
-abbrev pub Told : ℕ → ℕ → Type 0
-Told x y = (((x == y) ≡ true) × (x ≡ y)) ⊎ (((x == y) ≡ false) × (x ≢ y))
+abbrev pub TestsAs : ℕ → ℕ → Type 0
+TestsAs x y = (((x == y) ≡ true) × (x ≡ y)) ⊎ (((x == y) ≡ false) × (x ≢ y))
 
 -- after the last entry no call changes the map
 pub few_none : (number : ℕ) (m : Map) (from : ℕ) (calls : List Call)
@@ -178,7 +178,7 @@ few_step number e es m from later (call ∷ calls) s =
     at (eqb_tells call.position from) (is_change call) refl
     (few_step number e es m from later calls (stand_rest m (e ∷ es) number from call calls s))
   where
-    at : Told call.position from → (v : Bool) → is_change call ≡ v
+    at : TestsAs call.position from → (v : Bool) → is_change call ≡ v
         → length (filter is_change calls) ≤ length (entries_by number (e ∷ es))
         → length (if v then call ∷ filter is_change calls else filter is_change calls)
         ≤ length (entries_by number (e ∷ es))

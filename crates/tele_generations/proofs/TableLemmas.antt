@@ -20,13 +20,12 @@ use Rattle.tele_generations.specs.Runs.{RanOn, AreWhole, told_of_runs, answers_o
 use Rattle.tele_generations.specs.Runs.{left_of_runs}
 use Rattle.tele_generations.specs.Turns.{IsUnderWay}
 use Rattle.tele_generations.specs.Suffixes.{LeavesSuffixes}
-use Rattle.tele_generations.proofs.PairCountLemmas.{pairs_are_map}
 use Rattle.tele_generations.proofs.RunLemmas.{done_leads}
 use Rattle.tele_generations.proofs.TurnLemmas.{lanes_turn, tasks_counted}
 use Rattle.tele_generations.proofs.SuffixLemmas.{lanes_leave}
 use Rattle.tele_generations.proofs.WholeLemmas.{nothing_left}
 use Rattle.plain_map.specs.Rising.{IsRising}
-use Rattle.plain_map.proofs.EntriesLemmas.{pairs_of-map_of}
+use Rattle.plain_map.proofs.EntriesLemmas.{pairs_of-map_of, map_of-pairs_of}
 use Rattle.tele_generations.specs.Generations.{RanFull, MayAsk, all_done, puts_done}
 use Rattle.tele_generations.specs.Tables.{RanOnTable, HasPairs}
 use Rattle.tele_generations.proofs.DoneLemmas.{length-all_done, left_some}
@@ -111,7 +110,7 @@ module _ (workers words : ℕ) (now : List Pair) (left : List Task) (table : Lis
 
     -- the pairs after the table make the map
     pub behind_map : map_of behind ≡ table_map
-    behind_map = ap map_of behind_is ∙ pairs_are_map table_map
+    behind_map = ap map_of behind_is ∙ map_of-pairs_of table_map
 
     -- the pairs after the table are strictly increasing
     pub behind_rises : IsRising behind

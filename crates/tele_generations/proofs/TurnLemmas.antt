@@ -32,7 +32,7 @@ use Rattle.tele_lanes.proofs.LineLemmas.{flat_map-map, line_of}
 use Rattle.tele_generations.specs.Runs.{LaneRun, RanOn, answers_of_runs, left_of_runs}
 use Rattle.tele_generations.specs.Runs.{ArePlainly}
 use Rattle.tele_generations.specs.Turns.{IsUnderWay, plain_answer}
-use Rattle.tele_generations.proofs.PairCountLemmas.{pairs_few}
+use Rattle.plain_map.proofs.PairCountLemmas.{adds_few_pairs}
 use Rattle.tele_generations.proofs.PlainLemmas.{answered-append, lane_commands-tasks, flat_map-within}
 use Rattle.tele_generations.proofs.PlainLemmas.{flat_map-both}
 use Rattle.tele_generations.proofs.RunLemmas.{runs_long, keys_few, run_tasks, lane_plain, lane_sees}
@@ -86,7 +86,7 @@ pub one_line : (m : Map) (task : Task) (tasks : List Task)
 one_line m task tasks =
     under_way m (task ∷ tasks) (plain_answer m task ∷ []) tasks (map_after m task.command)
     (IsPermutation-refl (answered m (task ∷ tasks))) refl
-    (let few = pairs_few m (task.command ∷ []) in omega arith)
+    (let few = adds_few_pairs m (task.command ∷ []) in omega arith)
 
 -- there is an answer of one thread for each task
 length-answered : (m : Map) (tasks : List Task) → length (answered m tasks) ≡ length tasks

@@ -7,7 +7,7 @@ use Rattle.tele_lanes.specs.Lines.{commands_of}
 use Rattle.tele_lanes.specs.Lanes.{ArePlainAnswers}
 use Rattle.tele_lines.specs.declared.items.Version.{Version}
 use Rattle.tele_lines.specs.declared.items.Item.TheVariants.{Point, Interval}
-use Rattle.tele_lines.specs.Answer.{Read, Good, Bad, text_of, status_of, answer_text, interval_text}
+use Rattle.tele_lines.specs.Answer.{Read, Good, Bad, text_of, exit_status, answer_text, interval_text}
 use Rattle.tele_jobs.specs.Open.{asked, answers_text}
 
 -- the text of some tasks is the text of their answers
@@ -42,12 +42,12 @@ text-asked version m (task ∷ tasks) more =
     (text_of (replay next (commands_of tasks)) more))
 
 -- what follows the text of good lines
-pub record Follows (m : Map) (lines more : List Read) : Type 0 where
+pub record FollowsGoodLines (m : Map) (lines more : List Read) : Type 0 where
   pub others : List ℕ
   pub same : text_of m (lines ++ more) ≡ text_of m lines ++ others
 
 -- the text of good lines precedes the text of the lines after them
-pub text-good : (m : Map) (lines more : List Read) → status_of lines ≡ 0 → Follows m lines more
+pub text-good : (m : Map) (lines more : List Read) → exit_status lines ≡ 0 → FollowsGoodLines m lines more
 text-good m [] more good = record { others = text_of m more; same = refl }
 text-good m (Good number version (Point command) ∷ lines) more good =
     let first = answer_text version number (reply_to m command) in
@@ -69,7 +69,7 @@ text-good m (Bad number cause ∷ lines) more good = absurd (cc good)
 
 -- point lines are good
 pub status-asked : (version : Version) (tasks : List Task) (more : List Read)
-    → status_of (asked version tasks ++ more) ≡ status_of more
+    → exit_status (asked version tasks ++ more) ≡ exit_status more
 status-asked version [] more = refl
 status-asked version (task ∷ tasks) more = status-asked version tasks more
 

@@ -6,10 +6,11 @@ use Rattle.ist_core.specs.declared.ports.Full.{Full}
 use Rattle.ist_core.specs.Map.{map_of, replay, pairs_of}
 use Rattle.laws_histories.proofs.ContentLemmas.{pairs_rise_at}
 use Rattle.plain_map.specs.Rising.{IsRising}
+use Rattle.plain_map.proofs.EntriesLemmas.{map_of-pairs_of}
+use Rattle.plain_map.proofs.PairCountLemmas.{adds_few_pairs}
 use Rattle.tele_lanes.specs.declared.task_lists.Task.{Task}
 use Rattle.tele_lanes.specs.Lines.{commands_of}
 use Rattle.tele_generations.specs.Runs.{told_of_runs}
-use Rattle.tele_generations.proofs.PairCountLemmas.{pairs_few, pairs_are_map}
 use Rattle.tele_generations.specs.Tables.{HasPairs}
 use Rattle.tele_generations.specs.Rounds.{EndsTheRound}
 
@@ -22,7 +23,7 @@ module _ {workers : ℕ} {pairs : List Pair} {tasks : List Task} {table : List �
 
   -- the pairs make the map after the tasks
   pub behind_map : map_of behind ≡ replay (map_of pairs) (commands_of tasks)
-  behind_map = ap map_of behind_is ∙ pairs_are_map (replay (map_of pairs) (commands_of tasks))
+  behind_map = ap map_of behind_is ∙ map_of-pairs_of (replay (map_of pairs) (commands_of tasks))
 
   -- the pairs are strictly increasing
   pub behind_rises : IsRising behind
@@ -36,7 +37,7 @@ module _ {workers : ℕ} {pairs : List Pair} {tasks : List Task} {table : List �
   pub behind_few : (first : List Pair) → pairs ≡ first → first ≡ pairs_of (map_of first)
       → length behind ≤ length first + length tasks
   behind_few first same of_map =
-      let few = pairs_few (map_of pairs) (commands_of tasks) in
+      let few = adds_few_pairs (map_of pairs) (commands_of tasks) in
       let long = length-map tasks (λ t. t.command) in
       let now = ap length behind_is in
       let then = ap (λ ps. length (pairs_of (map_of ps))) same in

@@ -4,7 +4,7 @@ use Rattle.std.specs.Prelude.{Option, IfSome}
 use Rattle.tele_io.specs.Bytes.{Appends, AppendsPart}
 use Rattle.tele_io.proofs.AppendsLemmas.{Appends-append, AppendsPart-append, AppendsPart-longer}
 use Rattle.tele_lines.specs.Lines.{lines_of, whole_lines}
-use Rattle.tele_lines.specs.Answer.{Read, text_of, status_of}
+use Rattle.tele_lines.specs.Answer.{Read, text_of, exit_status}
 use Rattle.tele_lines.specs.Progress.{read_at, GoesTo}
 use Rattle.tele_jobs.specs.Due.{Moment, Takes, due, whole_due, whole_text, RunsTo, Ends}
 use Rattle.tele_jobs.proofs.AnswerLemmas.{text-good}
@@ -36,17 +36,17 @@ went_on was now lines given bytes ended before written unread is goes takes =
       same = goes.same;
       writes = takes.writes;
       text = sym (ap (text_of was.m) all ∙ takes.text rest);
-      status = sym (ap status_of all ∙ takes.status rest);
+      status = sym (ap exit_status all ∙ takes.status rest);
       whole_text = λ going more. ap (whole_text was.m) (whole going more) ∙ takes.whole
           (read_at now.place (whole_lines more));
-      whole_status = λ going more. ap status_of (whole going more) ∙ takes.status
+      whole_status = λ going more. ap exit_status (whole going more) ∙ takes.status
           (read_at now.place (whole_lines more));
     }
 
 -- a part of the text of good lines is a part of what is due
 pub part_of_due : (was : Moment) (lines given : List Read) (bytes : List ℕ) (others : List Read)
     (before written : Option (List ℕ))
-    → was.lines ≡ lines → read_at was.place (lines_of bytes) ≡ given ++ others → status_of
+    → was.lines ≡ lines → read_at was.place (lines_of bytes) ≡ given ++ others → exit_status
     (lines ++ given) ≡ 0
     → AppendsPart before written (text_of was.m (lines ++ given))
     → AppendsPart before written (due was bytes).text
@@ -67,7 +67,7 @@ due-last was lines last bytes is reads = ap (λ ls. was.lines ++ ls) reads ∙ a
 -- the last lines were answered
 pub ended_so : (was : Moment) (lines last : List Read) (bytes : List ℕ) (ending : ℕ)
     (before written : Option (List ℕ))
-    → was.lines ≡ lines → read_at was.place (lines_of bytes) ≡ last → ending ≡ status_of
+    → was.lines ≡ lines → read_at was.place (lines_of bytes) ≡ last → ending ≡ exit_status
     (lines ++ last)
     → Appends before written (text_of was.m (lines ++ last))
     → Ends (due was bytes) before written ending
@@ -75,7 +75,7 @@ ended_so was lines last bytes ending before written is reads status writes =
     let all = due-last was lines last bytes is reads in
     record {
       writes = subst (Appends before written) (sym (ap (text_of was.m) all)) writes;
-      status = status ∙ sym (ap status_of all);
+      status = status ∙ sym (ap exit_status all);
     }
 
 -- a part of the text of the last lines is a part of what is due

@@ -37,14 +37,14 @@ values-append m xs ys =
 
 -- with the open lines and the lines left to be made, the values found and the map are the values
 -- and the map of all lines
-pub record HasMade (all : List Command) (m : Map) (tasks : List Task) (rest : List Command)
+pub record HasMadeLines (all : List Command) (m : Map) (tasks : List Task) (rest : List Command)
     (found : ℕ) : Type 0 where
   pub values : found + values_in m (commands_of tasks ++ rest) ≡ values_in no_pairs all
   pub behind : replay m (commands_of tasks ++ rest) ≡ replay no_pairs all
 
 -- before the first line
 pub none_made : (all : List Command) (m : Map) (tasks : List Task) → m ≡ no_pairs → tasks ≡ [] →
-    HasMade all m tasks all 0
+    HasMadeLines all m tasks all 0
 none_made all m tasks is none = record {
   values = zero-add (values_in m (commands_of tasks ++ all))
       ∙ ap (λ n. values_in n (commands_of tasks ++ all)) is ∙ ap
@@ -56,8 +56,8 @@ none_made all m tasks is none = record {
 -- one more line is open
 pub one_made : (all : List Command) (m : Map) (tasks now : List Task) (task : Task)
     (rest others : List Command) (found : ℕ)
-    → rest ≡ task.command ∷ others → now ≡ tasks ++ task ∷ [] → HasMade all m tasks rest found →
-    HasMade all m now others found
+    → rest ≡ task.command ∷ others → now ≡ tasks ++ task ∷ [] → HasMadeLines all m tasks rest found →
+    HasMadeLines all m now others found
 one_made all m tasks now task rest others found is more h =
     let same : commands_of now ++ others ≡ commands_of tasks ++ rest =
     ap (λ ts. commands_of ts ++ others) more ∙ ap (λ cs. cs ++ others)
@@ -74,7 +74,7 @@ pub round_made : (all : List Command) (m n : Map) (tasks left : List Task) (rest
     (found more later : ℕ)
     → more ≡ values_in m (commands_of tasks) → n ≡ replay m (commands_of tasks) → left ≡ [] → later
     ≡ found + more
-    → HasMade all m tasks rest found → HasMade all n left rest later
+    → HasMadeLines all m tasks rest found → HasMadeLines all n left rest later
 round_made all m n tasks left rest found more later counts is none sum h =
     let after = values_in (replay m (commands_of tasks)) rest in
     let here : values_in n (commands_of left ++ rest) ≡ after =
@@ -89,7 +89,7 @@ round_made all m n tasks left rest found more later counts is none sum h =
 -- all lines were made and answered
 pub all_found : (all : List Command) (m : Map) (tasks : List Task) (rest : List Command) (found : ℕ)
     → tasks ≡ [] → rest ≡ []
-    → HasMade all m tasks rest found → found ≡ values_in no_pairs all
+    → HasMadeLines all m tasks rest found → found ≡ values_in no_pairs all
 all_found all m tasks rest found none last h =
     let nothing : values_in m (commands_of tasks ++ rest) ≡ 0 =
     ap (λ ts. values_in m (commands_of ts ++ rest)) none ∙ ap (values_in m) last in
@@ -98,7 +98,7 @@ all_found all m tasks rest found none last h =
 -- once all lines were made and answered, the map is the map after all lines
 pub all_behind : (all : List Command) (m : Map) (tasks : List Task) (rest : List Command)
     (found : ℕ) → tasks ≡ [] → rest ≡ []
-    → HasMade all m tasks rest found → m ≡ replay no_pairs all
+    → HasMadeLines all m tasks rest found → m ≡ replay no_pairs all
 all_behind all m tasks rest found none last h =
     sym (ap (λ ts. replay m (commands_of ts ++ rest)) none ∙ ap (replay m) last) ∙ h.behind
 
@@ -113,7 +113,7 @@ next_made count line number lt =
 -- at a moment between two made lines: what was found and what is left are what all lines find, and
 -- no more was found than made
 pub record Sums (count seed line number found : ℕ) (now : Open) : Type 0 where
-  pub made : HasMade (made_commands count seed) (map_in now) now.tasks
+  pub made : HasMadeLines (made_commands count seed) (map_in now) now.tasks
       (made_commands (count - line) number) found
   pub few : found + length now.tasks ≤ line
 
@@ -126,7 +126,7 @@ sums_first count seed number team words now is empty =
     (subst (λ (o : Open). Sums count seed 0 seed 0 o) (sym empty)
     (record {
       made = let e : count ≡ count - 0 = omega arith in
-          subst (λ n. HasMade (made_commands count seed) no_pairs [] (made_commands n seed) 0) e
+          subst (λ n. HasMadeLines (made_commands count seed) no_pairs [] (made_commands n seed) 0) e
           (none_made (made_commands count seed) no_pairs [] refl refl);
       few = omega arith;
     }))
@@ -144,9 +144,9 @@ sums_asked count seed line number next found before now task lt command is asks 
     next_made count line number lt ∙ ap (λ c. c ∷ rest) (sym command) in
     let m : map_in before ≡ map_in now = ap map_in (sym asks) in
     record {
-      made = subst (λ n. HasMade (made_commands count seed) (map_in now) now.tasks
+      made = subst (λ n. HasMadeLines (made_commands count seed) (map_in now) now.tasks
           (made_commands (count - (line + 1)) n) found) (sym is)
-          (subst (λ m. HasMade (made_commands count seed) m now.tasks rest found) m
+          (subst (λ m. HasMadeLines (made_commands count seed) m now.tasks rest found) m
           (one_made (made_commands count seed) (map_in before) before.tasks now.tasks task
           (made_commands (count - line) number) rest
           found left more h.made));

@@ -3,7 +3,7 @@ use Rattle.std.proofs.Common.{◌≡◌, ℕ, Bool, true, false, List, [], ◌�
 use Rattle.std.specs.Prelude.{Option, Some, None, IfSome, IsSome}
 use Rattle.tele_lines.specs.declared.reader.Lines.{Lines}
 use Rattle.tele_lines.specs.Lines.{newline, whole_lines}
-use Rattle.tele_lines.specs.Answer.{status_of, input_lines}
+use Rattle.tele_lines.specs.Answer.{exit_status, input_lines}
 use Rattle.tele_lines.specs.Buffers.{unread_of, TellsEndOf}
 use Rattle.tele_lines.specs.Progress.{place_of, version_of, read_at, unread, GoesTo, ShowsBad, TakesLast, TakesAsNeeded}
 use Rattle.tele_lines.proofs.PlaceLemmas.{still_going}
@@ -51,10 +51,10 @@ module _ (bytes : List ℕ) (before written : Option (List ℕ)) (round : Open)
             ∙ sym (append_assoc {A = ℕ} taken last.before (last.piece ++ last.rest));
         leaves = last.left;
         few = last.few;
-        good = ap (λ xs. status_of (input_lines (whole_lines xs)))
+        good = ap (λ xs. exit_status (input_lines (whole_lines xs)))
             (ap (λ xs. xs ++ last.before) twice ∙ append_assoc {A = ℕ} one.taken lines.buffer last.before)
             ∙ one.whole_status refl more
-            ∙ ap (λ ls. status_of (asked (version_of lines) round.tasks ++ ls)) last.waits
+            ∙ ap (λ ls. exit_status (asked (version_of lines) round.tasks ++ ls)) last.waits
             ∙ status-asked (version_of lines) round.tasks [];
       }
 
@@ -111,11 +111,11 @@ reached_at bytes before written round lines new here (Some rest) false one lasts
           ∙ sym (append_assoc {A = ℕ} met.taken new.buffer rest))
           ∙ sym (append_assoc {A = ℕ} one.taken (met.taken ++ new.buffer) rest);
       leaves = refl;
-      shown = inr (ap (λ xs. status_of (input_lines (whole_lines xs)))
+      shown = inr (ap (λ xs. exit_status (input_lines (whole_lines xs)))
           (append_assoc {A = ℕ} one.taken (met.taken ++ new.buffer) (newline ∷ [])
           ∙ ap (λ xs. one.taken ++ xs) (append_assoc {A = ℕ} met.taken new.buffer (newline ∷ [])))
           ∙ one.whole_status going (met.taken ++ last)
-          ∙ ap (λ ls. status_of (open_lines ++ ls)) (met.whole refl last)
+          ∙ ap (λ ls. exit_status (open_lines ++ ls)) (met.whole refl last)
           ∙ status-asked (version_of lines) round.tasks (read_at (place_of new) (whole_lines last))
           ∙ bad);
     }

@@ -35,17 +35,17 @@ module _ (was now : Standing) (held : List ℕ) (v : Version) (version : v ≡ v
   same = same_lines was.lines now.lines v was.round.tasks version chosen steady
 
   -- the reader met these last lines
-  abbrev Meets : List Read → Type 0
-  Meets last = IfSome (unread_at was) (λ bytes.
+  abbrev MeetsLines : List Read → Type 0
+  MeetsLines last = IfSome (unread_at was) (λ bytes.
       read_at (place_of was.lines) (lines_of bytes) ≡ last)
 
   -- the reader went on over these lines
-  abbrev Goes : List Read → Type 0
-  Goes given = IfSome (unread_at was) (λ bytes. GoesTo (place_of was.lines) (place_of now.lines)
+  abbrev GoesOverLines : List Read → Type 0
+  GoesOverLines given = IfSome (unread_at was) (λ bytes. GoesTo (place_of was.lines) (place_of now.lines)
       (has_ended now.lines) given bytes (unread_at now))
 
   -- the lines were answered with these after them, and their rounds run
-  module _ (last : List Read) (meets : Meets last) where
+  module _ (last : List Read) (meets : MeetsLines last) where
     -- if the sink failed or memory ran out meanwhile
     pub last_cut : (status : ℕ) → IsCutShort status
         → AppendsPart was.written now.written (text_of (map_in was.round) (lines ++ last))
@@ -54,7 +54,7 @@ module _ (was now : Standing) (held : List ℕ) (v : Version) (version : v ≡ v
         (ended_part_if (moment_at was) lines last _ _ _ same meets part)
 
   -- the input has ended, and the round was answered
-  pub input_done : Meets [] → length was.round.tasks < round_limit
+  pub input_done : MeetsLines [] → length was.round.tasks < round_limit
       → Appends was.written now.written (text_of (map_in was.round) lines)
       → RunsOn was.round was.kept now.round now.kept (round_for was.round.tasks)
       → held ≡ [] → has_ended now.lines ≡ true → EndsRun was now held ANSWERED
@@ -66,12 +66,12 @@ module _ (was now : Standing) (held : List ℕ) (v : Version) (version : v ≡ v
       none ended
 
   -- a bad line was named after the replies of the round
-  pub bad_done : (number : ℕ) (cause : Cause) → Meets (Bad number cause ∷ [])
+  pub bad_done : (number : ℕ) (cause : Cause) → MeetsLines (Bad number cause ∷ [])
       → length was.round.tasks < round_limit
       → Appends was.written now.written
       (text_of (map_in was.round) (lines ++ Bad number cause ∷ []))
       → RunsOn was.round was.kept now.round now.kept (round_for was.round.tasks)
-      → held ≡ [] → Goes []
+      → held ≡ [] → GoesOverLines []
       → ShowsBad (place_of now.lines) (kept_of now.lines) (has_ended now.lines)
       → EndsRun was now held BAD_LINE
   bad_done number cause meets few writes ran none skipped shown =
@@ -85,7 +85,7 @@ module _ (was now : Standing) (held : List ℕ) (v : Version) (version : v ≡ v
       none skipped shown
 
   -- the source failed, and nothing was written
-  pub read_done : now.round ≡ was.round → Goes [] → Keeps was.written now.written
+  pub read_done : now.round ≡ was.round → GoesOverLines [] → Keeps was.written now.written
       → Waits now.lines → held ≡ [] → EndsRun was now held READ_FAILED
   read_done still passed kept waits none = read_ends was now held
       (went_on_if (moment_at was) (moment_at now) lines [] _ _ _ _ _ same passed
@@ -104,7 +104,7 @@ module _ (was now : Standing) (held : List ℕ) (v : Version) (version : v ≡ v
     given = Good number v item ∷ []
 
     -- a line was taken into the round
-    pub line_taken : Goes given
+    pub line_taken : GoesOverLines given
         → Takes (map_in was.round) (lines ++ given) was.written now.written (map_in now.round)
         (asked v now.round.tasks)
         → TakesRounds was.round was.kept now.round now.kept (lines ++ given)
@@ -130,7 +130,7 @@ module _ (was now : Standing) (held : List ℕ) (v : Version) (version : v ≡ v
         }
 
     -- if the sink failed or memory ran out meanwhile
-    pub line_cut : (status : ℕ) → IsCutShort status → Goes given
+    pub line_cut : (status : ℕ) → IsCutShort status → GoesOverLines given
         → AppendsPart was.written now.written (text_of (map_in was.round) (lines ++ given))
         → EndsRun was now held status
     line_cut status cut goes part = cut_ends was now held status cut

@@ -14,7 +14,7 @@ use Rattle.tele_lines.specs.declared.items.Version.{Version}
 use Rattle.tele_lines.specs.declared.reader.Lines.{Lines}
 use Rattle.tele_lines.specs.Readings.{version_in}
 use Rattle.tele_lines.specs.Progress.{mode_of, version_of}
-use Rattle.tele_lines.specs.Answer.{Read, Good, text_of, interval_text, status_of}
+use Rattle.tele_lines.specs.Answer.{Read, Good, text_of, interval_text, exit_status}
 use Rattle.tele_lines.specs.Rounds.{round_limit}
 use Rattle.tele_jobs.specs.Open.{asked}
 use Rattle.tele_jobs.specs.Due.{Takes}
@@ -151,5 +151,5 @@ at_end version m tasks = ap (text_of m) (sym (append-nil (asked version tasks)))
 
 -- open lines and a good one are good
 pub status-taken : (version : Version) (tasks : List Task) (number : ℕ) (item : Item)
-    → status_of (asked version tasks ++ Good number version item ∷ []) ≡ 0
+    → exit_status (asked version tasks ++ Good number version item ∷ []) ≡ 0
 status-taken version tasks number item = status-asked version tasks (Good number version item ∷ [])

@@ -10,7 +10,7 @@ use Rattle.tele_lanes.specs.declared.task_lists.Task.{Task}
 use Rattle.tele_lanes.specs.Lines.{commands_of}
 use Rattle.tele_lines.specs.declared.items.Item.TheVariants.{Point, Interval}
 use Rattle.tele_lines.specs.declared.items.Version.{Version}
-use Rattle.tele_lines.specs.Answer.{Read, Good, text_of, status_of, interval_text}
+use Rattle.tele_lines.specs.Answer.{Read, Good, text_of, exit_status, interval_text}
 use Rattle.tele_lines.specs.Rounds.{round_limit, in_whole_rounds}
 use Rattle.tele_jobs.specs.Open.{asked}
 use Rattle.tele_jobs.specs.Due.{Takes, whole_text}
@@ -75,7 +75,7 @@ answered_interval version number first last m tasks before mid written few write
       printed = points ++ list;
       writes = Appends-append before mid written points list writes more_writes;
       text = text;
-      status = λ more. ap status_of (append_assoc {A = Read} (asked version tasks) (line ∷ []) more)
+      status = λ more. ap exit_status (append_assoc {A = Read} (asked version tasks) (line ∷ []) more)
           ∙ status-asked version tasks (line ∷ more);
       whole = λ more. ap (whole_text m)
           (append_assoc {A = Read} (asked version tasks) (line ∷ []) more)

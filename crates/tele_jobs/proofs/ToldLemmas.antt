@@ -8,7 +8,7 @@ use Rattle.tele_io.proofs.AppendsLemmas.{Appends-nothing}
 use Rattle.tele_io.proofs.KeepsLemmas.{part_none}
 use Rattle.tele_lines.specs.declared.reader.Lines.{Lines}
 use Rattle.tele_lines.specs.Lines.{line_limit, lines_of, whole_lines}
-use Rattle.tele_lines.specs.Answer.{Read, text_of, status_of}
+use Rattle.tele_lines.specs.Answer.{Read, text_of, exit_status}
 use Rattle.tele_lines.specs.Rounds.{round_limit}
 use Rattle.tele_lines.specs.Buffers.{unread_of}
 use Rattle.tele_lines.specs.Progress.{Place, place_of, version_of, read_at, GoesTo, Waits, unread}
@@ -49,7 +49,7 @@ went_on_if was now lines given (Some bytes) ended before written left is goes ta
 -- a part of the text of good lines is a part of what is due
 pub part_if : (was : Moment) (next : Place) (lines given : List Read) (unread : Option (List ℕ))
     (ended : Bool)
-    (before written left : Option (List ℕ)) → was.lines ≡ lines → status_of (lines ++ given) ≡ 0
+    (before written left : Option (List ℕ)) → was.lines ≡ lines → exit_status (lines ++ given) ≡ 0
     → IfSome unread (λ bytes. GoesTo was.place next ended given bytes left)
     → AppendsPart before written (text_of was.m (lines ++ given))
     → IfSome unread (λ bytes. AppendsPart before written (due was bytes).text)
@@ -67,7 +67,7 @@ none_if was (Some bytes) before written kept = part_none before written (due was
 -- the last lines were answered
 pub ended_if : (was : Moment) (lines last : List Read) (unread : Option (List ℕ)) (ending : ℕ)
     (before written : Option (List ℕ))
-    → was.lines ≡ lines → ending ≡ status_of (lines ++ last)
+    → was.lines ≡ lines → ending ≡ exit_status (lines ++ last)
     → IfSome unread (λ bytes. read_at was.place (lines_of bytes) ≡ last)
     → Appends before written (text_of was.m (lines ++ last))
     → IfSome unread (λ bytes. Ends (due was bytes) before written ending)
@@ -181,8 +181,8 @@ stops_at bytes before written round lines left one waits few =
     one.whole_text waits.open_end lines.buffer ∙ ap
     (λ ls. one.printed ++ whole_text (map_in round) ls) no_more
     ∙ ap (λ text. one.printed ++ text) none ∙ append-nil one.printed in
-    let good : status_of open_lines ≡ 0 =
-    ap status_of (sym (append-nil open_lines)) ∙ status-asked (version_of lines) round.tasks [] in
+    let good : exit_status open_lines ≡ 0 =
+    ap exit_status (sym (append-nil open_lines)) ∙ status-asked (version_of lines) round.tasks [] in
     record {
       taken = one.taken ++ lines.buffer;
       rest = split.rest;
@@ -190,7 +190,7 @@ stops_at bytes before written round lines left one waits few =
           (append_assoc {A = ℕ} one.taken lines.buffer split.rest);
       leaves = split.leaves;
       writes = subst (Appends before written) (sym text) one.writes;
-      good = one.whole_status waits.open_end lines.buffer ∙ ap status_of no_more ∙ good;
+      good = one.whole_status waits.open_end lines.buffer ∙ ap exit_status no_more ∙ good;
     }
 
 -- what a failed read leaves, if the source reports its bytes

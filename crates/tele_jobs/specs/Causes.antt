@@ -3,7 +3,7 @@ use Rattle.std.specs.Prelude.{◌≡◌, ℕ, ◌≤◌, ◌⊎◌, List, [], �
 use Rattle.tele_io.specs.Bytes.{Appends, AppendsPart}
 use Rattle.tele_lines.specs.Lines.{newline, whole_lines}
 use Rattle.tele_lines.specs.Buffers.{piece_limit}
-use Rattle.tele_lines.specs.Answer.{answer, input_lines, status_of}
+use Rattle.tele_lines.specs.Answer.{answer, input_lines, exit_status}
 use Rattle.tele_lines.specs.Rounds.{whole_rounds_text}
 use Rattle.tele_jobs.specs.declared.jobs.Job.{Job}
 use Rattle.tele_jobs.specs.declared.jobs.Job.TheVariants.{Refuse, Make, Read}
@@ -37,7 +37,7 @@ pub record Stops (bytes : List ℕ) (left before written : Option (List ℕ)) : 
   pub same : bytes ≡ taken ++ rest
   pub leaves : left ≡ Some rest
   pub writes : Appends before written (whole_rounds_text taken)
-  pub good : status_of (input_lines (whole_lines taken)) ≡ ANSWERED
+  pub good : exit_status (input_lines (whole_lines taken)) ≡ ANSWERED
 
 -- what a run has read of its source: of the bytes, those before the rest were taken, the last of them
 -- by one read; and before this read no line whose newline had been taken was bad
@@ -48,7 +48,7 @@ pub record ReadsSparingly (bytes : List ℕ) (left : Option (List ℕ)) : Type 0
   pub same : bytes ≡ before ++ (piece ++ rest)
   pub leaves : left ≡ Some rest
   pub few : length piece ≤ piece_limit
-  pub good : status_of (input_lines (whole_lines before)) ≡ ANSWERED
+  pub good : exit_status (input_lines (whole_lines before)) ≡ ANSWERED
 
 -- what a bad line leaves: of the bytes, those before the rest were taken; the source is at its end, or
 -- the lines taken have a bad one, if a newline comes after them
@@ -57,7 +57,7 @@ pub record ReachesBad (bytes : List ℕ) (left : Option (List ℕ)) : Type 0 whe
   pub rest : List ℕ
   pub same : bytes ≡ taken ++ rest
   pub leaves : left ≡ Some rest
-  pub shown : (rest ≡ []) ⊎ (status_of (input_lines (whole_lines (taken ++ newline ∷ []))) ≡ BAD_LINE)
+  pub shown : (rest ≡ []) ⊎ (exit_status (input_lines (whole_lines (taken ++ newline ∷ []))) ≡ BAD_LINE)
 
 -- what a run over lines with this status has read of its source and written to its sink: with 0 or 3
 -- the answer to all bytes, with 4 the replies to the whole rounds of those that came, and else a

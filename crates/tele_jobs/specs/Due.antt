@@ -4,7 +4,7 @@ use Rattle.ist_core.specs.Map.{Map}
 use Rattle.tele_io.specs.Bytes.{Appends}
 use Rattle.tele_lines.specs.declared.reader.Lines.{Lines}
 use Rattle.tele_lines.specs.Lines.{lines_of, whole_lines}
-use Rattle.tele_lines.specs.Answer.{Answer, Read, text_of, status_of}
+use Rattle.tele_lines.specs.Answer.{Answer, Read, text_of, exit_status}
 use Rattle.tele_lines.specs.Rounds.{in_whole_rounds}
 use Rattle.tele_lines.specs.Progress.{Place, read_at, place_of, version_of}
 use Rattle.tele_lanes.specs.declared.task_lists.Task.{Task}
@@ -34,13 +34,13 @@ whole_text m lines = text_of m (in_whole_rounds lines)
 abbrev pub due : Moment → List ℕ → Answer
 due at bytes =
     let lines = at.lines ++ read_at at.place (lines_of bytes) in
-    record { text = text_of at.m lines; status = status_of lines }
+    record { text = text_of at.m lines; status = exit_status lines }
 
 -- the same for only those lines that a newline ends; the text is of the whole rounds only
 abbrev pub whole_due : Moment → List ℕ → Answer
 whole_due at bytes =
     let lines = at.lines ++ read_at at.place (whole_lines bytes) in
-    record { text = whole_text at.m lines; status = status_of lines }
+    record { text = whole_text at.m lines; status = exit_status lines }
 
 -- the step of taking lines into the round, which leaves others open: what was printed, with what is
 -- due then, is what was due before, and what was printed is the text of whole rounds
@@ -50,7 +50,7 @@ pub record Takes (m : Map) (lines : List Read) (before written : Option (List �
   pub writes : Appends before written printed
   pub text : (more : List Read)
       → text_of m (lines ++ more) ≡ printed ++ text_of then_m (then_lines ++ more)
-  pub status : (more : List Read) → status_of (lines ++ more) ≡ status_of (then_lines ++ more)
+  pub status : (more : List Read) → exit_status (lines ++ more) ≡ exit_status (then_lines ++ more)
   pub whole : (more : List Read)
       → whole_text m (lines ++ more) ≡ printed ++ whole_text then_m (then_lines ++ more)
 

@@ -20,8 +20,8 @@ use Rattle.std.proofs.lemmas.Map.Keys.{IsDistinct-from_apart, IsDistinct-IsPermu
 use Rattle.std.proofs.lemmas.Map.Keys.{IsStrictlyIncreasing-from_distinct, apart_from_distinct}
 
 -- no number is in both lists
-abbrev pub Apart : List ℕ → List ℕ → Type 0
-Apart xs ys = (x : ℕ) → Contains xs x → ¬ (Contains ys x)
+abbrev pub ShareNoNumber : List ℕ → List ℕ → Type 0
+ShareNoNumber xs ys = (x : ℕ) → Contains xs x → ¬ (Contains ys x)
 
 -- an element of the rest
 pub Contains-later : {X : Type 0} (y : X) (xs : List X) (x : X) → Contains xs x
@@ -46,7 +46,7 @@ IsDistinct-from_increasing xs up = IsDistinct-from_apart eqb xs (λ i j d lt h.
 -- ---- one list after another
 
 -- two lists that are each distinct, and apart, are distinct together
-pub IsDistinct-append : (xs ys : List ℕ) → IsDistinct eqb xs → IsDistinct eqb ys → Apart xs ys
+pub IsDistinct-append : (xs ys : List ℕ) → IsDistinct eqb xs → IsDistinct eqb ys → ShareNoNumber xs ys
     → IsDistinct eqb (xs ++ ys)
 IsDistinct-append [] ys one two apart = two
 IsDistinct-append (x ∷ xs) ys one two apart =
@@ -78,7 +78,7 @@ IsDistinct-back [] ys all = all
 IsDistinct-back (x ∷ xs) ys all = IsDistinct-back xs ys (IsDistinct-tail eqb x (xs ++ ys) all)
 
 -- if two lists are distinct together, they are apart
-pub Apart-from_distinct : (xs ys : List ℕ) → IsDistinct eqb (xs ++ ys) → Apart xs ys
+pub Apart-from_distinct : (xs ys : List ℕ) → IsDistinct eqb (xs ++ ys) → ShareNoNumber xs ys
 Apart-from_distinct xs ys all n (i, h, e) (j, k, f) =
     let here : get_or (xs ++ ys) i n ≡ n = get_or_append_left xs ys n i h ∙ e in
     let there : get_or (xs ++ ys) (length xs + j) n ≡ n = get_or-append-add xs ys j n ∙ f in
@@ -90,7 +90,7 @@ Apart-from_distinct xs ys all n (i, h, e) (j, k, f) =
 
 -- strictly increasing lists that are apart are distinct together
 pub IsDistinct-flat_map : {X : Type 0} (f : X → List ℕ) (xs : List X)
-    → All (λ x. IsStrictlyIncreasing (f x)) xs → AllPairs (λ x y. Apart (f x) (f y)) xs
+    → All (λ x. IsStrictlyIncreasing (f x)) xs → AllPairs (λ x y. ShareNoNumber (f x) (f y)) xs
     → IsDistinct eqb (flat_map f xs)
 IsDistinct-flat_map {X = X} f [] up apart =
     IsDistinct-from_increasing [] (λ k h. absurd (omega arith))
@@ -102,24 +102,24 @@ IsDistinct-flat_map {X = X} f (x ∷ xs) up apart =
     (together xs (λ k d h. apart 0 (suc k) d (omega arith) (omega arith)))
   where
     -- a list apart from each is apart from all together
-    together : (ys : List X) → All (λ y. Apart (f x) (f y)) ys → Apart (f x) (flat_map f ys)
+    together : (ys : List X) → All (λ y. ShareNoNumber (f x) (f y)) ys → ShareNoNumber (f x) (flat_map f ys)
     together [] each n here (k, h, e) = absurd (omega arith)
     together (y ∷ ys) each n here there =
         elim (Contains-append_cases (f y) (flat_map f ys) n there) [
-          | inl c ↦ All-head (λ z. Apart (f x) (f z)) y ys each n here c
-          | inr c ↦ together ys (All-tail (λ z. Apart (f x) (f z)) y ys each) n here c
+          | inl c ↦ All-head (λ z. ShareNoNumber (f x) (f z)) y ys each n here c
+          | inr c ↦ together ys (All-tail (λ z. ShareNoNumber (f x) (f z)) y ys each) n here c
         ]
 
 -- ---- a piece of each of some lists
 
 -- the first list is a piece of the second
-pub record IsPiece (piece xs : List ℕ) : Type 0 where
+pub record IsPieceOf (piece xs : List ℕ) : Type 0 where
   pub front : List ℕ
   pub back : List ℕ
   pub is : xs ≡ (front ++ piece) ++ back
 
 -- what is in the piece is in the list
-pub Contains-piece : (piece xs : List ℕ) → IsPiece piece xs → (n : ℕ) → Contains piece n
+pub Contains-piece : (piece xs : List ℕ) → IsPieceOf piece xs → (n : ℕ) → Contains piece n
     → Contains xs n
 Contains-piece piece xs p n c =
     subst (λ l. Contains l n) (sym p.is)
@@ -127,24 +127,24 @@ Contains-piece piece xs p n c =
 
 module _ {X : Type 0} (f g : X → List ℕ) where
   -- what is in pieces of lists is in the lists
-  pub Contains-pieces : (xs : List X) → All (λ x. IsPiece (g x) (f x)) xs → (n : ℕ)
+  pub Contains-pieces : (xs : List X) → All (λ x. IsPieceOf (g x) (f x)) xs → (n : ℕ)
       → Contains (flat_map g xs) n → Contains (flat_map f xs) n
   Contains-pieces [] pieces n c = c
   Contains-pieces (x ∷ xs) pieces n c =
       elim (Contains-append_cases (g x) (flat_map g xs) n c) [
         | inl here ↦ Contains-append_left (f x) (flat_map f xs) n
-            (Contains-piece (g x) (f x) (All-head (λ y. IsPiece (g y) (f y)) x xs pieces) n here)
+            (Contains-piece (g x) (f x) (All-head (λ y. IsPieceOf (g y) (f y)) x xs pieces) n here)
         | inr there ↦ Contains-append_right (f x) (flat_map f xs) n
-            (Contains-pieces xs (All-tail (λ y. IsPiece (g y) (f y)) x xs pieces) n there)
+            (Contains-pieces xs (All-tail (λ y. IsPieceOf (g y) (f y)) x xs pieces) n there)
       ]
 
   -- pieces of lists that are distinct together are so too
-  pub IsDistinct-pieces : (xs : List X) → All (λ x. IsPiece (g x) (f x)) xs
+  pub IsDistinct-pieces : (xs : List X) → All (λ x. IsPieceOf (g x) (f x)) xs
       → IsDistinct eqb (flat_map f xs) → IsDistinct eqb (flat_map g xs)
   IsDistinct-pieces [] pieces all = all
   IsDistinct-pieces (x ∷ xs) pieces all =
-      let rest = All-tail (λ y. IsPiece (g y) (f y)) x xs pieces in
-      let p : IsPiece (g x) (f x) = All-head (λ y. IsPiece (g y) (f y)) x xs pieces in
+      let rest = All-tail (λ y. IsPieceOf (g y) (f y)) x xs pieces in
+      let p : IsPieceOf (g x) (f x) = All-head (λ y. IsPieceOf (g y) (f y)) x xs pieces in
       IsDistinct-append (g x) (flat_map g xs)
       (IsDistinct-back p.front (g x)
       (IsDistinct-front (p.front ++ g x) p.back

@@ -12,7 +12,7 @@ use Rattle.tele_lanes.specs.declared.task_lists.Task.{Task}
 use Rattle.tele_lanes.specs.declared.answer_lists.Answer.{Answer}
 use Rattle.tele_lanes.specs.Lines.{task_lines, answer_lines, AnswerInOrder}
 use Rattle.tele_lanes.specs.Lanes.{HaveOwnLines, unanswered, InLineOrder, TasksInLineOrder}
-use Rattle.tele_lanes.proofs.DistinctLemmas.{IsPiece, IsDistinct-pieces, sorted_rises}
+use Rattle.tele_lanes.proofs.DistinctLemmas.{IsPieceOf, IsDistinct-pieces, sorted_rises}
 
 -- what holds of a value on two counts
 pub IfOk-both : {T E : Type 0} (r : Result T E) (P Q R : T → Type 0) → ((x : T) → P x → Q x → R x)
@@ -92,7 +92,7 @@ module _ {L : Type 0} (tasks_of : L → List Task) (answers_of : L → List Answ
     where
       -- the answered lines are the first of all
       first_piece : (l : L) → AnswerInOrder (tasks_of l) (answers_of l)
-          → IsPiece (answer_lines (answers_of l)) (lines l)
+          → IsPieceOf (answer_lines (answers_of l)) (lines l)
       first_piece l in_order =
           let n = length (answers_of l) in
           record {
@@ -112,7 +112,7 @@ module _ {L : Type 0} (tasks_of : L → List Task) (answers_of : L → List Answ
       (λ k d h. last_piece (get_or lanes k d)) IsDistinct-lines)
     where
       -- the lines that were left are the last of all
-      last_piece : (l : L) → IsPiece (task_lines (unanswered (tasks_of l) (answers_of l))) (lines l)
+      last_piece : (l : L) → IsPieceOf (task_lines (unanswered (tasks_of l) (answers_of l))) (lines l)
       last_piece l =
           let n = length (answers_of l) in
           record {

@@ -93,22 +93,22 @@ cut_last (byte ∷ bytes) is some =
     ] is
 
 -- a first line that begins with these bytes, and the lines after it
-abbrev Begins : List ℕ → List (List ℕ) → Type 0
-Begins start lines = (more : List ℕ) × (others : List (List ℕ)) × (lines ≡ (start ++ more) ∷ others)
+abbrev BeginsWithBytes : List ℕ → List (List ℕ) → Type 0
+BeginsWithBytes start lines = (more : List ℕ) × (others : List (List ℕ)) × (lines ≡ (start ++ more) ∷ others)
 
 -- a byte that goes onto the first line begins it
-begins_one : (byte : ℕ) (lines : List (List ℕ)) → Begins (byte ∷ []) (onto_first byte lines)
+begins_one : (byte : ℕ) (lines : List (List ℕ)) → BeginsWithBytes (byte ∷ []) (onto_first byte lines)
 begins_one byte [] = ([], [], refl)
 begins_one byte (line ∷ lines) = (line, lines, refl)
 
 -- a byte followed by bytes without a newline also begins the first line
 begins_all : (byte : ℕ) (bytes others : List ℕ) → IsUnbroken bytes
-    → Begins (byte ∷ bytes) (onto_first byte (lines_of (bytes ++ others)))
+    → BeginsWithBytes (byte ∷ bytes) (onto_first byte (lines_of (bytes ++ others)))
 begins_all byte [] others is = begins_one byte (lines_of others)
 begins_all byte (next ∷ bytes) others is =
     elim (next == newline) as
     (λ b. cond (not b) (1 + position_or_len is_newline bytes) 0 ≡ length (next ∷ bytes)
-    → Begins (byte ∷ next ∷ bytes)
+    → BeginsWithBytes (byte ∷ next ∷ bytes)
     (onto_first byte
     (if b then [] ∷ lines_of (bytes ++ others) else onto_first next (lines_of (bytes ++ others))))) [
       | true ↦ λ e. absurd (omega arith)
@@ -124,7 +124,7 @@ cut_long [] others is some = absurd (omega arith)
 cut_long (byte ∷ bytes) others is some =
     elim (byte == newline) as
     (λ b. cond (not b) (1 + position_or_len is_newline bytes) 0 ≡ length (byte ∷ bytes)
-    → Begins (byte ∷ bytes)
+    → BeginsWithBytes (byte ∷ bytes)
     (if b then [] ∷ lines_of (bytes ++ others) else onto_first byte (lines_of (bytes ++ others)))) [
       | true ↦ λ e. absurd (omega arith)
       | false ↦ λ e. begins_all byte bytes others (omega arith)

@@ -9,28 +9,28 @@ use Rattle.tele_lines.specs.Lines.{longest, without_return, words_in_line}
 use Rattle.tele_lines.specs.Readings.{Mode, next_mode, by_letter, by_words, asks_one, asks_two, is_note, letter_of, reading}
 
 -- a line leaves the version in force
-abbrev Keeps : Version → Said → Type 0
-Keeps version said = next_mode (Some version) said ≡ Some version
+abbrev KeepsVersion : Version → Said → Type 0
+KeepsVersion version said = next_mode (Some version) said ≡ Some version
 
 -- one of two lines
-either : (v : Version) (b : Bool) (x y : Said) → Keeps v x → Keeps v y → Keeps v (if b then x else y)
+either : (v : Version) (b : Bool) (x y : Said) → KeepsVersion v x → KeepsVersion v y → KeepsVersion v (if b then x else y)
 either v true x y one other = one
 either v false x y one other = other
 
 -- one of two lines, of which the first isn't chosen
-second : (v : Version) (b : Bool) (x y : Said) → Keeps v y → Keeps v (if b && false then x else y)
+second : (v : Version) (b : Bool) (x y : Said) → KeepsVersion v y → KeepsVersion v (if b && false then x else y)
 second v true x y other = other
 second v false x y other = other
 
-asks_one-keeps : (v : Version) (item : ℕ → Item) (r : Result ℕ Cause) → Keeps v (asks_one item r)
+asks_one-keeps : (v : Version) (item : ℕ → Item) (r : Result ℕ Cause) → KeepsVersion v (asks_one item r)
 asks_one-keeps v item (Ok x) = refl
 asks_one-keeps v item (Err cause) = refl
 
-asks_two-keeps : (v : Version) (item : ℕ → ℕ → Item) (r : Result (ℕ × ℕ) Cause) → Keeps v (asks_two item r)
+asks_two-keeps : (v : Version) (item : ℕ → ℕ → Item) (r : Result (ℕ × ℕ) Cause) → KeepsVersion v (asks_two item r)
 asks_two-keeps v item (Ok p) = refl
 asks_two-keeps v item (Err cause) = refl
 
-by_letter-keeps : (v : Version) (letter : Option ℕ) (more : List (List ℕ)) → Keeps v (by_letter (Some v) letter more)
+by_letter-keeps : (v : Version) (letter : Option ℕ) (more : List (List ℕ)) → KeepsVersion v (by_letter (Some v) letter more)
 by_letter-keeps v None more = refl
 by_letter-keeps v (Some letter) more =
     either v (letter == 80) _ _ (asks_two-keeps v _ _)
@@ -39,7 +39,7 @@ by_letter-keeps v (Some letter) more =
     (either v (letter == 73) _ _ (asks_two-keeps v _ _)
     (second v (letter == 86) _ _ refl))))
 
-by_words-keeps : (v : Version) (words : List (List ℕ)) → Keeps v (by_words (Some v) words)
+by_words-keeps : (v : Version) (words : List (List ℕ)) → KeepsVersion v (by_words (Some v) words)
 by_words-keeps v [] = refl
 by_words-keeps v (word ∷ more) = either v (is_note word) _ _ refl (by_letter-keeps v (letter_of word) more)
 

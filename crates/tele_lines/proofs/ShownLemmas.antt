@@ -9,7 +9,7 @@ use Rattle.tele_lines.specs.declared.items.Said.{Said}
 use Rattle.tele_lines.specs.declared.items.Said.TheVariants.{Fails}
 use Rattle.tele_lines.specs.Lines.{newline, onto_whole, whole_lines}
 use Rattle.tele_lines.specs.Readings.{next_mode, reading}
-use Rattle.tele_lines.specs.Answer.{then_read, read_from, status_of}
+use Rattle.tele_lines.specs.Answer.{then_read, read_from, exit_status}
 use Rattle.tele_lines.specs.Buffers.{is_newline, IsUnbroken, BreaksAt, IsOpenEnded}
 use Rattle.tele_lines.specs.Progress.{Place, GoesTo, ShowsBad, read_at}
 use Rattle.tele_lines.proofs.CutLemmas.{whole_first}
@@ -19,10 +19,10 @@ use Rattle.tele_lines.proofs.PlaceLemmas.{still_going}
 first_bad : (place : Place) (cause : Cause) (line : List ℕ) (lines others : List (List ℕ))
     → lines ≡ line ∷ others
     → reading place.limit (place.count + 1) place.mode line ≡ Fails cause
-    → status_of (read_at place lines) ≡ 3
+    → exit_status (read_at place lines) ≡ 3
 first_bad place cause line lines others cut says =
-    ap (λ ls. status_of (read_at place ls)) cut
-    ∙ ap (λ s. status_of (then_read (place.count + 1) place.mode s
+    ap (λ ls. exit_status (read_at place ls)) cut
+    ∙ ap (λ s. exit_status (then_read (place.count + 1) place.mode s
     (read_from place.limit (place.count + 1 + 1) (next_mode place.mode s) others))) says
 
 -- a bad line that a newline ends

@@ -79,10 +79,10 @@ text_of m (Good number version (Interval first last) ∷ lines) =
 text_of m (Bad number cause ∷ lines) = bad_text number cause
 
 -- the exit status after some lines: 3 if there is a bad line, and otherwise 0
-abbrev pub status_of : List Read → ℕ
-status_of [] = 0
-status_of (Good number version item ∷ lines) = status_of lines
-status_of (Bad number cause ∷ lines) = 3
+abbrev pub exit_status : List Read → ℕ
+exit_status [] = 0
+exit_status (Good number version item ∷ lines) = exit_status lines
+exit_status (Bad number cause ∷ lines) = 3
 
 -- what is written for an input, and the status
 pub record Answer : Type 0 where
@@ -91,7 +91,7 @@ pub record Answer : Type 0 where
 
 -- the answer to some lines
 abbrev pub answer_to : List Read → Answer
-answer_to lines = record { text = text_of no_pairs lines; status = status_of lines }
+answer_to lines = record { text = text_of no_pairs lines; status = exit_status lines }
 
 -- the lines of an input that say something, up to the first bad one
 abbrev pub input_lines : List (List ℕ) → List Read

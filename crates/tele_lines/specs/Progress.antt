@@ -8,7 +8,7 @@ use Rattle.tele_lines.specs.declared.reader.Lines.{Lines}
 use Rattle.tele_lines.specs.Buffers.{unread_of, TellsEndOf, piece_limit}
 use Rattle.tele_lines.specs.Lines.{newline, lines_of, whole_lines}
 use Rattle.tele_lines.specs.Readings.{Mode, version_in, next_mode, reading}
-use Rattle.tele_lines.specs.Answer.{Read, Good, read_from, status_of}
+use Rattle.tele_lines.specs.Answer.{Read, Good, read_from, exit_status}
 
 -- how far the reading has come: how many lines are allowed, how many were read, and the mode in
 -- which the next is read
@@ -139,4 +139,4 @@ TakesAsNeeded place kept ended bytes now =
 -- bad if a newline comes after these bytes
 abbrev pub ShowsBad : Place → List ℕ → Bool → Type 0
 ShowsBad place kept ended =
-    (ended ≡ true) ⊎ (status_of (read_at place (whole_lines (kept ++ newline ∷ []))) ≡ 3)
+    (ended ≡ true) ⊎ (exit_status (read_at place (whole_lines (kept ++ newline ∷ []))) ≡ 3)

@@ -146,47 +146,6 @@ fn take_hand<P: Port>(owner: &mut Owner<P>, hand: Hand<P>, lanes: &mut Vec<Lane<
     }
 }
 
-/// Takes back the pass of each worker, and the lanes that it ran.
-fn take_back<P: Port>(
-    owner: &mut Owner<P>,
-    hands: &mut Vec<Hand<P>>,
-    bags: &mut Vec<Vec<Lane<P>>>,
-    lanes: &mut Vec<Lane<P>>,
-)
-    requires owner { IsOwners (worker_view owner.old) }
-    requires count { (worker_view owner.old).out ≡ length hands.old.items }
-    requires none_back { (worker_view owner.old).back ≡ [] }
-    requires tables { All (λ h. IsPassOf (worker_deque owner.old) h.pass) hands.old.items }
-    requires workers { All (λ h. view h.pass ≡ of_worker (taken_by (view h.pass))) hands.old.items }
-    requires tickets { All (λ h. map (ticket P.tie) h.bag.items
-        ≡ map (ticket P.tie) (taken_by (view h.pass))) hands.old.items }
-    requires ran { All (λ h. All (IsRunLane P.calls P.refused) h.bag.items) hands.old.items }
-    requires wide { All (λ h. 64 ≤ vec_capacity h.bag) hands.old.items }
-    requires no_bags { bags.old.items ≡ [] }
-    requires bag_room { length hands.old.items ≤ vec_capacity bags.old }
-    requires lanes_ran { All (IsRunLane P.calls P.refused) lanes.old.items }
-    requires lane_room { length lanes.old.items + length (worker_view owner.old).put
-        ≤ vec_capacity lanes.old }
-    ensures same { SameWorker owner.old owner.new }
-    ensures owner { worker_view owner.new
-        ≡ of_owner 0 (worker_view owner.old).put (worker_view owner.new).back }
-    ensures tickets { map (ticket P.tie) lanes.new.items ≡ map (ticket P.tie) lanes.old.items
-        ++ map (ticket P.tie) (worker_view owner.new).back }
-    ensures ran { All (IsRunLane P.calls P.refused) lanes.new.items }
-    ensures lane_room { vec_capacity lanes.old ≤ vec_capacity lanes.new }
-    ensures no_hands { hands.new.items ≡ [] }
-    ensures hand_room { vec_capacity hands.new ≡ vec_capacity hands.old }
-    ensures bags { length bags.new.items ≡ length hands.old.items }
-    ensures bag_room { vec_capacity bags.new ≡ vec_capacity bags.old }
-    ensures empty { All (λ b. b.items ≡ []) bags.new.items }
-    ensures wide { All (λ b. 64 ≤ vec_capacity b) bags.new.items }
-{
-    while let Some(hand) = hands.pop() {
-        let bag = take_hand(owner, hand, lanes);
-        bags.push_reserved(bag);
-    }
-}
-
 /// Runs the lanes still in the deque, on this thread, until it is empty; then all came back.
 ///
 /// A worker ends only if the deque was empty at one moment, but nothing that it returns can say so
@@ -260,6 +219,9 @@ pub(crate) fn get_back<R: Threads + Wait + Sync, P: Port + Send, G: Gate + Sync>
     ensures empty { All (λ b. b.items ≡ []) bags.new.items }
     ensures wide { All (λ b. 64 ≤ vec_capacity b) bags.new.items }
 {
-    take_back(owner, hands, bags, lanes);
+    while let Some(hand) = hands.pop() {
+        let bag = take_hand(owner, hand, lanes);
+        bags.push_reserved(bag);
+    }
     draw_all(rt, gate, owner, lanes);
 }

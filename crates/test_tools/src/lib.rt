@@ -22,7 +22,10 @@ pub use cuts::judge_moments;
 pub use drawing::Draws;
 pub use misfits::Misfit;
 pub use openings::opening_pairs;
-pub use options::{JUDGE_STATUSES, Job, NumberOption, arguments, number, read_words, with_numbers};
+pub use options::{
+    FAILED, JUDGE_STATUSES, Job, NumberOption, USAGE, WRONG, arguments, exit_code, number,
+    read_words, with_numbers,
+};
 pub use orders::Order;
 pub use sharing::{Kind, Shares};
 pub use spreads::Spread;

@@ -3,7 +3,17 @@
 use clap::builder::ValueParser;
 use clap::{Arg, ArgAction, ArgMatches, Command};
 use std::alloc::{AllocError, Global};
+use std::process::ExitCode;
 use std::{env, io};
+
+/// The status of a program that found a check failed.
+pub const WRONG: u8 = 1;
+
+/// The status if the arguments are refused, or ask for a run that can't begin.
+pub const USAGE: u8 = 2;
+
+/// The status if memory ran out, or reading or writing failed.
+pub const FAILED: u8 = 3;
 
 /// What follows the options in the text that `--help` prints, if the program judges what it runs.
 pub const JUDGE_STATUSES: &str =
@@ -49,11 +59,7 @@ pub fn number(matches: &ArgMatches, name: &str, otherwise: u64) -> u64 {
 
 /// Returns the program's arguments, of which the first is its name.
 pub fn arguments(rt: &HostRuntime) -> io::Result<Vec<String>> {
-    let mut words = Vec::new(rt.alloc());
-    for word in env::args(rt)? {
-        words.push(word)?;
-    }
-    Ok(words)
+    Ok(env::args(rt)?.collect(rt.alloc())?)
 }
 
 /// Returns what the command finds in the arguments, of which the first is the program's name. What it has to say
@@ -68,8 +74,13 @@ pub fn read_words<'a>(
         Err(error) => {
             error.print(rt)?;
             Ok(Job::Done {
-                status: if error.use_stderr() { 2 } else { 0 },
+                status: if error.use_stderr() { USAGE } else { 0 },
             })
         }
     }
+}
+
+/// Returns how a program ends: with its status, or with `FAILED` if it has none.
+pub fn exit_code(status: io::Result<u8>) -> ExitCode {
+    ExitCode::from(status.unwrap_or(FAILED))
 }

@@ -4,7 +4,9 @@ use crate::plans::{MOST_KEYS, MOST_THREADS, MOST_WORDS, Plan};
 use clap::{Arg, ArgAction, ArgMatches, Command};
 use std::alloc::{AllocError, Global};
 use std::io;
-use test_tools::{Job, NumberOption, Shares, Spread, arguments, number, read_words, with_numbers};
+use test_tools::{
+    Job, NumberOption, Shares, Spread, USAGE, arguments, number, read_words, with_numbers,
+};
 
 // The options with numbers that stand before `spread`.
 const CALLS: [NumberOption; 6] = [
@@ -107,7 +109,7 @@ pub(crate) fn read_job(rt: &HostRuntime) -> io::Result<Job<Plan>> {
     match read_words(rt, command(rt.alloc())?, &words)? {
         Job::Run(matches) => match plan_of(&matches) {
             Some(plan) => Ok(Job::Run(plan)),
-            None => Ok(Job::Done { status: 2 }),
+            None => Ok(Job::Done { status: USAGE }),
         },
         Job::Done { status } => Ok(Job::Done { status }),
     }

@@ -14,13 +14,7 @@ use command::read_job;
 use runs::{Figures, measure};
 use std::io;
 use std::process::ExitCode;
-use test_tools::Job;
-
-/// The status if the arguments are refused, or the tree can't be opened.
-const USAGE: u8 = 2;
-
-/// The status if memory ran out, or reading or writing failed.
-const FAILED: u8 = 3;
+use test_tools::{FAILED, Job, USAGE, exit_code};
 
 fn main(rt: HostRuntime) -> ExitCode {
     let plan = match read_job(&rt) {
@@ -28,19 +22,15 @@ fn main(rt: HostRuntime) -> ExitCode {
         Ok(Job::Done { status }) => return ExitCode::from(status),
         Err(_) => return ExitCode::from(FAILED),
     };
-    let figures = match measure(&rt, plan) {
-        Ok(Some(figures)) => figures,
-        Ok(None) => return ExitCode::from(USAGE),
-        Err(_) => return ExitCode::from(FAILED),
-    };
-    match say(&rt, &figures) {
-        Ok(()) => ExitCode::from(0),
+    match measure(&rt, plan) {
+        Ok(Some(figures)) => exit_code(say(&rt, &figures)),
+        Ok(None) => ExitCode::from(USAGE),
         Err(_) => ExitCode::from(FAILED),
     }
 }
 
-/// Says the figures in one line.
-fn say(rt: &HostRuntime, figures: &Figures) -> io::Result<()> {
+/// Says the figures in one line, and returns the status.
+fn say(rt: &HostRuntime, figures: &Figures) -> io::Result<u8> {
     let spent = figures.spent;
     let each = spent.processor / figures.calls.max(1);
     let second = per_second(figures.calls, spent.elapsed);
@@ -48,7 +38,8 @@ fn say(rt: &HostRuntime, figures: &Figures) -> io::Result<()> {
     println!(rt;
         "{each} processor ns a call, {second} calls a second, {words} words a key: {} calls, {} found, {} refused, {} keys",
         figures.calls, figures.found, figures.refused, figures.keys
-    )
+    )?;
+    Ok(0)
 }
 
 /// How many of the calls were made in a second, by the nanoseconds of all.

@@ -17,16 +17,7 @@ use plans::Plan;
 use runs::{Report, run_all};
 use std::io;
 use std::process::ExitCode;
-use test_tools::Job;
-
-/// The status if a check failed.
-const WRONG: u8 = 1;
-
-/// The status if the arguments are refused.
-const USAGE: u8 = 2;
-
-/// The status if memory ran out, or writing failed.
-const FAILED: u8 = 3;
+use test_tools::{FAILED, Job, USAGE, WRONG, exit_code};
 
 fn main(rt: HostRuntime) -> ExitCode {
     let plan = match read_job(&rt) {
@@ -35,10 +26,7 @@ fn main(rt: HostRuntime) -> ExitCode {
         Err(_) => return ExitCode::from(FAILED),
     };
     let outcome = run_all(&rt, rt.alloc(), plan);
-    match say(&rt, &plan, &outcome) {
-        Ok(status) => ExitCode::from(status),
-        Err(_) => ExitCode::from(FAILED),
-    }
+    exit_code(say(&rt, &plan, &outcome))
 }
 
 /// Says what was run and what came of it, and returns the status.

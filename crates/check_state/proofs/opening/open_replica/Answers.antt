@@ -29,7 +29,7 @@ returns c =
             words = refl;
             next = omega arith;
             callers = refl;
-            anchor = c.word_at.ensures.value pairs refl ∙ ap (λ base. word_of (tree_at base pairs))
+            anchor = c.tree_word.ensures.value pairs refl ∙ ap (λ base. word_of (tree_at base pairs))
                 c.from-first.ensures;
             leaves = λ base. finds_none c.new.result base c.new.ensures.empty;
             inners = λ base. finds_none c.new-2.result base c.new-2.ensures.empty;

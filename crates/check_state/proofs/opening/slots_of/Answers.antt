@@ -17,8 +17,8 @@ overflow_add-at c =
     let few = c.requires.few in
     omega (arith, degree-le c.args.count c.requires.several)
 
-pub word_at-requires-clause-below_limit : goal.word_at-requires-clause-below_limit
-word_at-requires-clause-below_limit c =
+pub tree_word-requires-clause-below_limit : goal.tree_word-requires-clause-below_limit
+tree_word-requires-clause-below_limit c =
     let at = c.loop-j.invariant.place in
     let below : c.loop-j.j < degree c.args.count = omega arith in
     let fits = part_base_fits c.args.base c.args.count c.loop-j.j c.requires.several below
@@ -44,7 +44,7 @@ loop-j-preserved c =
     let next = part_base-suc c.args.base c.args.count c.loop-j.j in
     record {
       place = omega arith;
-      slots = slot_more c.args.base below at c.part-len.ensures.len c.word_at.ensures.value
+      slots = slot_more c.args.base below at c.part-len.ensures.len c.tree_word.ensures.value
           c.in_ok-push.ensures.items c.loop-j.invariant.slots;
     }
 

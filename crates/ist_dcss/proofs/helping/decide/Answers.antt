@@ -1,15 +1,13 @@
-use Rattle.std.proofs.Common.{◌≡◌, ◌+◌, ◌==◌, ◌∙◌, sym, ap, subst, arith}
+use Rattle.std.proofs.Common.{◌≡◌, ◌+◌, ◌∙◌, sym, ap, subst, arith}
 use Rattle.ist_core.specs.declared.events.Event.{Event}
-use Rattle.ist_core.specs.Statuses.{undecided, decided_yes}
+use Rattle.ist_core.specs.Statuses.{undecided}
 use Rattle.ist_core.specs.Pieces.{Change}
 use Rattle.ist_rule.specs.Conditions.{CanExchange}
-use Rattle.ist_rule.specs.Learning.{Exchanged}
-use Rattle.ist_dcss.specs.Naming.{standing}
-use Rattle.ist_rule.proofs.WentOnLemmas.{went_more}
 use Rattle.ist_rule.proofs.KeptSearchLemmas.{keeps_more, exchanged_keeps, loaded_as_keeps}
-use Rattle.ist_dcss.specs.Helping.{Serves}
+use Rattle.ist_rule.specs.Going.{WentOn}
+use Rattle.ist_dcss.specs.Helping.{Serves, IsDecided, is_yes}
 use Rattle.ist_dcss.proofs.FieldLemmas.{row_low}
-use Rattle.ist_dcss.proofs.DecidedLemmas.{decide_tells, decided_as}
+use Rattle.ist_dcss.proofs.DecidedLemmas.{helper_decided}
 use Rattle.ist_dcss.proofs.DecideLemmas.{may_decide, can_decide, deciding_is}
 use Rattle.ist_dcss.proofs.helping.decide.Goals as goal
 
@@ -42,23 +40,22 @@ exchange-stood-requires c =
       ),
     )
 
+-- what the loads and the exchange told: the caller served the change, and its decision
+told : (c : goal.After-decision_of)
+    → WentOn (Serves c.args.change) c.args.token.now.view c.exchange-stood.new.token.view
+    × IsDecided c.exchange-stood.new.token.view c.args.change (is_yes c.decision_of.result)
+told c =
+    let place = c.from.ensures in
+    let base : c.from.result + 0 ≡ c.args.change = omega arith in
+    helper_decided _ c.args.change c.requires.may_help.number _ _
+    (may_decide _ c.args.change c.requires.may_help _ c.field-node.ensures.went _
+    c.field-node.ensures.field _ c.status_place.ensures.value _ c.load_okay-status.new.token.view
+    c.load_okay-status.ensures.seen) _ _ _ _ base c.decision_for-wanted.ensures.value
+    c.exchange-stood.ensures.exchanged _ c.decision_of.ensures.value
+
 -- the caller only made steps that serve the change
 pub returns-clause-went : goal.returns-clause-went
-returns-clause-went c =
-    let v = c.load_okay-status.new.token.view in
-    let it = may_decide _ c.args.change c.requires.may_help _ c.field-node.ensures.went _
-    c.field-node.ensures.field _ c.status_place.ensures.value _ v
-    c.load_okay-status.ensures.seen in
-    let place = c.from.ensures in
-    let at : c.from.result + 0 ≡ c.args.change + 0 = omega arith in
-    let base : c.from.result + 0 ≡ c.args.change = omega arith in
-    let tells = decide_tells v c.args.change c.requires.may_help.number _ (c.from.result + 0) _ _
-    it.row it.published at
-    (subst (λ (e : Event). Exchanged v e (c.from.result + 0) undecided
-    c.exchange-stood.result c.exchange-stood.new.token.view)
-    (deciding_is v c.requires.may_help.number c.args.change (c.from.result + 0) _ _ it.mine
-    base c.decision_for-wanted.ensures.value) c.exchange-stood.ensures.exchanged) in
-    went_more (Serves c.args.change) _ v _ it.went tells.0
+returns-clause-went c = (told c).0
 
 -- it stored nothing and began no search
 pub returns-clause-search : goal.returns-clause-search
@@ -69,23 +66,4 @@ returns-clause-search c =
 
 -- the change has the decision that is returned
 pub returns-clause-decided : goal.returns-clause-decided
-returns-clause-decided c =
-    let v = c.load_okay-status.new.token.view in
-    let it = may_decide _ c.args.change c.requires.may_help _ c.field-node.ensures.went _
-    c.field-node.ensures.field _ c.status_place.ensures.value _ v
-    c.load_okay-status.ensures.seen in
-    let place = c.from.ensures in
-    let at : c.from.result + 0 ≡ c.args.change + 0 = omega arith in
-    let base : c.from.result + 0 ≡ c.args.change = omega arith in
-    let tells = decide_tells v c.args.change c.requires.may_help.number _ (c.from.result + 0) _ _
-    it.row it.published at
-    (subst (λ (e : Event). Exchanged v e (c.from.result + 0) undecided
-    c.exchange-stood.result c.exchange-stood.new.token.view)
-    (deciding_is v c.requires.may_help.number c.args.change (c.from.result + 0) _ _ it.mine
-    base c.decision_for-wanted.ensures.value) c.exchange-stood.ensures.exchanged) in
-    let r = tells.1 in
-    decided_as _ tells.0.sound c.args.change r.0 r.1 r.3 _
-    (c.decision_of.ensures.value
-    ∙ ap (λ w. standing w c.exchange-stood.result == decided_yes)
-    c.decision_for-wanted.ensures.value
-    ∙ ap (λ d. d == decided_yes) (sym r.2))
+returns-clause-decided c = (told c).1

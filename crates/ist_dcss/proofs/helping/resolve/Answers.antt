@@ -4,7 +4,8 @@ use Rattle.ist_core.specs.Pieces.{Change}
 use Rattle.ist_rule.specs.Conditions.{CanExchange}
 use Rattle.ist_rule.specs.Learning.{Exchanged}
 use Rattle.ist_rule.proofs.KnownPlaceLemmas.{known_low}
-use Rattle.ist_dcss.specs.Helping.{Serves, is_yes}
+use Rattle.ist_rule.specs.Going.{WentOn}
+use Rattle.ist_dcss.specs.Helping.{Serves, is_yes, IsOut}
 use Rattle.ist_dcss.specs.Naming.{IsField}
 use Rattle.ist_rule.proofs.WentOnLemmas.{went_more}
 use Rattle.ist_rule.proofs.KeptSearchLemmas.{keeps_more, exchanged_keeps}
@@ -47,23 +48,28 @@ exchange-requires c =
       ),
     )
 
--- the caller only made steps that serve the change
-pub returns-clause-went : goal.returns-clause-went
-returns-clause-went c =
+-- what the loads and the exchange told: the caller served the change, which is out of its slot
+told : (c : goal.After-exchange)
+    → WentOn (Serves c.args.change) c.args.token.now.view c.exchange.new.token.view
+    × IsOut c.exchange.new.token.view c.args.change
+told c =
     let v = c.field-side.new.token.view in
     let it = may_resolve _ c.args.change c.requires.may_help (is_yes c.args.decision)
     c.requires.decided _ c.slot_of-place.ensures.went _ c.slot_of-place.ensures.slot v
     c.field-side.ensures.went c.slot_of-place.ensures.went.sound _
     (subst (λ n. IsField v c.args.change n c.field-side.result) c.side_offset.ensures.value
     c.field-side.ensures.field) in
-    went_more (Serves c.args.change) _ v _ it.went
-    (resolve_tells v c.know.ensures.sound c.args.change c.requires.may_help.number _ _ _ _
-    it.row
-    it.published it.at c.to_word-word.ensures.value
+    let tells = resolve_tells v c.know.ensures.sound c.args.change c.requires.may_help.number _ _
+    _ _ it.row it.published it.at c.to_word-word.ensures.value
     (subst (λ (e : Event). Exchanged v e c.slot_of-place.result c.to_word-word.result
     c.exchange.result c.exchange.new.token.view)
     (resolving_is v c.requires.may_help.number c.args.change c.to_word-word.result it.mine
-    c.to_word-word.ensures.value) c.exchange.ensures.exchanged)).0
+    c.to_word-word.ensures.value) c.exchange.ensures.exchanged) in
+    (went_more (Serves c.args.change) _ v _ it.went tells.0, tells.1)
+
+-- the caller only made steps that serve the change
+pub returns-clause-went : goal.returns-clause-went
+returns-clause-went c = (told c).0
 
 -- it stored nothing and began no search
 pub returns-clause-search : goal.returns-clause-search
@@ -74,16 +80,4 @@ returns-clause-search c =
 
 -- the change is out of its slot
 pub returns-clause-out : goal.returns-clause-out
-returns-clause-out c =
-    let v = c.field-side.new.token.view in
-    let it = may_resolve _ c.args.change c.requires.may_help (is_yes c.args.decision)
-    c.requires.decided _ c.slot_of-place.ensures.went _ c.slot_of-place.ensures.slot v
-    c.field-side.ensures.went c.slot_of-place.ensures.went.sound _
-    (subst (λ n. IsField v c.args.change n c.field-side.result) c.side_offset.ensures.value
-    c.field-side.ensures.field) in
-    (resolve_tells v c.know.ensures.sound c.args.change c.requires.may_help.number _ _ _ _ it.row
-    it.published it.at c.to_word-word.ensures.value
-    (subst (λ (e : Event). Exchanged v e c.slot_of-place.result c.to_word-word.result
-    c.exchange.result c.exchange.new.token.view)
-    (resolving_is v c.requires.may_help.number c.args.change c.to_word-word.result it.mine
-    c.to_word-word.ensures.value) c.exchange.ensures.exchanged)).1
+returns-clause-out c = (told c).1

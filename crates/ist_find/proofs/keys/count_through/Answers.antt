@@ -1,5 +1,5 @@
 use Rattle.std.proofs.Common.{◌∙◌, ◌+◌, refl, sym, subst, arith}
-use Rattle.ist_find.proofs.KeyLemmas.{HasCounted, none_counted, counted_yes, counted_no}
+use Rattle.ist_find.proofs.KeyLemmas.{HasCountedKeys, none_counted, counted_yes, counted_no}
 use Rattle.ist_find.proofs.keys.count_through.Goals.{then-key_at-key, else-key_at-key}
 use Rattle.ist_find.proofs.keys.count_through.Goals as goal
 
@@ -16,12 +16,12 @@ loop-j-preserved c =
       k.same_table ∙ c.loop-j.invariant.0,
       elim c.if-key_at-key.branch [
         | then-key_at-key w ↦ subst
-            (HasCounted c.args.token.now.view c.key_at.new.token.view c.args.node (c.loop-j.j + 1) c.args.key)
+            (HasCountedKeys c.args.token.now.view c.key_at.new.token.view c.args.node (c.loop-j.j + 1) c.args.key)
             (sym w.found-is)
             (counted_yes _ _ _ c.args.node c.loop-j.j c.args.key _ _ h k.seen k.loads (omega arith)
             k.value w.if-key_at-key.true)
         | else-key_at-key w ↦ subst
-            (HasCounted c.args.token.now.view c.key_at.new.token.view c.args.node (c.loop-j.j + 1) c.args.key)
+            (HasCountedKeys c.args.token.now.view c.key_at.new.token.view c.args.node (c.loop-j.j + 1) c.args.key)
             (sym w.found-is)
             (counted_no _ _ _ c.args.node c.loop-j.j c.args.key _ _ h k.seen k.loads (omega arith)
             k.value w.if-key_at-key.false)

@@ -1,6 +1,6 @@
 use Rattle.ist_rule.proofs.GoingOnLemmas.{goes_on_more}
-use Rattle.ist_find.proofs.LookLemmas.{holds_named}
-use Rattle.ist_find.proofs.SlotSawLemmas.{since_told}
+use Rattle.ist_find.proofs.LookLemmas.{holds_named, look_since}
+use Rattle.ist_find.proofs.SpanLemmas.{child_on}
 use Rattle.ist_find.proofs.sweeping.read_slot.Goals as goal
 
 -- the word in the slot names a row
@@ -17,6 +17,7 @@ returns-clause-seen c =
 -- the loads are a look for each key that has the slot
 pub returns-clause-looked : goal.returns-clause-looked
 returns-clause-looked c key least low child =
-    since_told _ _ _ _ key least c.args.node c.args.place.index _ _ _ c.slot_word-word.ensures.seen low
-    child c.slot_word-word.ensures.holds c.past_change-side.ensures.side
+    let seen = c.slot_word-word.ensures.seen in
+    look_since _ _ _ _ key least c.args.node c.args.place.index _ _ _ seen low
+    (child_on _ _ seen c.args.node key c.args.place.index child) c.slot_word-word.ensures.holds c.past_change-side.ensures.side
     c.past_rebuild-reference.ensures.target

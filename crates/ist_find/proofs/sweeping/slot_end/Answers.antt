@@ -1,7 +1,8 @@
+use Rattle.ist_math.proofs.ChildLemmas.{key_after_child}
 use Rattle.ist_rule.proofs.GoingOnLemmas.{goes_on_same}
 use Rattle.ist_find.specs.Searches.{keys_at}
 use Rattle.ist_find.proofs.RowLemmas.{keys_rise}
-use Rattle.ist_find.proofs.SpanLemmas.{node_row, row_child, child_below}
+use Rattle.ist_find.proofs.SpanLemmas.{node_row, row_child}
 use Rattle.ist_find.proofs.SlotEndLemmas.{slot_within}
 use Rattle.ist_find.proofs.PlaceLemmas.{anchor_ends, keys_end}
 use Rattle.ist_find.proofs.sweeping.slot_end.Goals as goal
@@ -26,7 +27,7 @@ last_of-requires c =
       row = row;
       count = c.requires.at.count_is;
       within = slot_within v c.args.node c.args.from _ c.requires.at.child;
-      below = child_below (keys_at v c.args.node) (keys_rise v c.know.ensures.sound c.args.node row)
+      below = key_after_child (keys_at v c.args.node) (keys_rise v c.know.ensures.sound c.args.node row)
           c.args.from _ (row_child v c.args.node c.args.from _ other c.requires.at.child);
     }
 

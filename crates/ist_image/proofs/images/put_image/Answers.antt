@@ -24,9 +24,9 @@ pub returns : goal.returns
 returns c =
     let pairs = c.args.pairs.now in
     let old = c.args.words.now in
-    let same = words_laid old c.put_tree.new.words c.needed_words.result c.word_at.result
+    let same = words_laid old c.put_tree.new.words c.needed_words.result c.tree_word.result
     c.from-first.result pairs c.needed_words.ensures.value
-    (c.word_at.ensures.value pairs refl) c.from-first.ensures c.put_tree.ensures.exact in
+    (c.tree_word.ensures.value pairs refl) c.from-first.ensures c.put_tree.ensures.exact in
     record {
       image = subst (λ ws. IsImage (start pairs c.args.size) (take c.args.size ws)) (sym same)
           (image_laid pairs old c.args.size c.requires.opens c.requires.within c.requires.zeros);

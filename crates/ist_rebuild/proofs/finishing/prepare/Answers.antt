@@ -1,5 +1,5 @@
 use Rattle.ist_rebuild.proofs.HelpedLemmas.{refused_row}
-use Rattle.ist_rebuild.proofs.PreparedLemmas.{HasPrepared, has_prepared}
+use Rattle.ist_rebuild.proofs.PreparedLemmas.{HasPreparedFinish, has_prepared}
 use Rattle.ist_rebuild.proofs.RefusalLemmas.{passed_on, row_refused}
 use Rattle.ist_rebuild.proofs.SiteLemmas.{plan_good}
 use Rattle.ist_rebuild.proofs.finishing.prepare.Goals as goal
@@ -22,7 +22,7 @@ finish_words-words-requires c =
 
 -- the row was filled
 prepares : (c : goal.After-know-3)
-    → HasPrepared c.args.who.now c.fill_row.new.who c.args.plan c.in_ok-change.change
+    → HasPreparedFinish c.args.who.now c.fill_row.new.who c.args.plan c.in_ok-change.change
 prepares c =
     let e = c.in_ok-change.ensures in
     has_prepared c.args.who.now c.reserve.new.who _ c.args.plan c.in_ok-change.change _

@@ -1,6 +1,6 @@
 use Rattle.std.proofs.Common.{rules}
 use Rattle.ist_updates.proofs.ChangedLemmas.{carried_changed, refused_changed}
-use Rattle.ist_updates.proofs.SlotLemmas.{IsPrepared, prepared}
+use Rattle.ist_updates.proofs.SlotLemmas.{HasPreparedPlan, prepared}
 use Rattle.ist_updates.proofs.changing.change_open.Goals as goal
 use Rattle.ist_updates.proofs.changing.change_open.Goals.{After-know-2}
 
@@ -13,7 +13,7 @@ returns-in_err-plan-clause-changed c =
     search rules
 
 -- the plan was prepared
-ready : (c : After-know-2) → IsPrepared c.args.who.now c.fill_rows.new.who c.args.aim c.args.way
+ready : (c : After-know-2) → HasPreparedPlan c.args.who.now c.fill_rows.new.who c.args.aim c.args.way
     c.in_ok-plan.plan
 ready c =
     prepared c.args.who.now c.plan_for.new.who c.fill_rows.new.who c.args.aim c.args.way

@@ -23,8 +23,7 @@ returns-in_err-base-clause-full c =
 -- the leaf lies at a good base
 pub to_word-to-requires : goal.to_word-to-requires
 to_word-to-requires c =
-    let leaf = c.in_ok-leaf.ensures in
-    record { good = taken_good leaf.gone kind.Leaf leaf.held (omega arith) }
+    record { good = taken_good c.in_ok-leaf.ensures.gone kind.Leaf c.in_ok-leaf.ensures.held (omega arith) }
 
 pub returns-clause-gone : goal.returns-clause-gone
 returns-clause-gone c =
@@ -34,9 +33,8 @@ returns-clause-gone c =
 pub returns-clause-planned : goal.returns-clause-planned
 returns-clause-planned c =
     let leaf = c.in_ok-leaf.ensures in let change = c.in_ok-base.ensures in
-    let both = gone_more Prepares _ _ _ leaf.gone change.gone in
-    leaf_planned Prepares c.args.who.now c.take-2.new.who both.went c.args.aim c.requires.at_slot
-    c.in_ok-base.base change.held c.args.value c.in_ok-leaf.leaf c.to_word-to.result c.requires.room
-    (ap (λ (s : Spares). s.leaf) change.rows ∙ leaf.held)
-    (taken_good leaf.gone kind.Leaf leaf.held (omega arith))
+    leaf_planned Prepares c.args.who.now c.take-2.new.who
+    (gone_more Prepares _ _ _ leaf.gone change.gone).went c.args.aim c.requires.at_slot c.in_ok-base.base change.held
+    c.args.value c.in_ok-leaf.leaf c.to_word-to.result c.requires.room
+    (ap (λ (s : Spares). s.leaf) change.rows ∙ leaf.held) (taken_good leaf.gone kind.Leaf leaf.held (omega arith))
     c.to_word-to.ensures.value _ c.change_for-row.ensures.value

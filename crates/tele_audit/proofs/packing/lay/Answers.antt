@@ -1,7 +1,8 @@
 use Rattle.std.proofs.Common.{◌+◌, ◌∙◌, ap, length, arith, List}
 use Rattle.ist_core.specs.declared.pairs.Pair.{Pair}
 use Rattle.ist_core.specs.Map.{map_of}
-use Rattle.tele_audit.proofs.PackLemmas.{length-pairs_of, can_open, table_laid, lawful_new}
+use Rattle.plain_map.proofs.PairCountLemmas.{length-pairs_of}
+use Rattle.tele_audit.proofs.PackLemmas.{can_open, table_laid, lawful_new}
 use Rattle.tele_audit.proofs.packing.lay.Goals as goal
 use Rattle.tele_audit.proofs.packing.lay.Goals.{After-ideal_words}
 
@@ -10,8 +11,7 @@ pub ideal_words-requires : goal.ideal_words-requires
 ideal_words-requires c =
     let all = ap (λ (ps : List Pair). length ps) c.pairs-pairs.ensures.all in
     let of_map = ap (λ (ps : List Pair). length ps) c.pairs-pairs.ensures.of_map in
-    let long = length-pairs_of (map_of c.args.plain.now) in
-    record { fits = omega (arith, all, of_map, long, c.requires.few) }
+    record { fits = omega (arith, all, of_map, length-pairs_of (map_of c.args.plain.now), c.requires.few) }
 
 -- a table may begin with them
 pub lay_image-requires : goal.lay_image-requires

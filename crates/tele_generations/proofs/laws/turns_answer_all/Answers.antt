@@ -1,6 +1,6 @@
+use Rattle.plain_map.proofs.EntriesLemmas.{map_of-pairs_of}
 use Rattle.tele_generations.proofs.TurnLemmas.{round_begins, round_goes_on, lanes_turn, one_line}
 use Rattle.tele_generations.proofs.TurnLemmas.{tasks_counted, round_ends}
-use Rattle.tele_generations.proofs.PairCountLemmas.{pairs_are_map}
 use Rattle.tele_generations.proofs.laws.turns_answer_all.Goals as goal
 
 pub returns : goal.returns
@@ -12,5 +12,5 @@ returns c =
       one_line = one_line;
       counted = tasks_counted;
       ends = round_ends;
-      pairs = pairs_are_map;
+      pairs = map_of-pairs_of;
     }

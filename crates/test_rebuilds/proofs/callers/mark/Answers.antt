@@ -1,6 +1,6 @@
 use Rattle.ist_dcss.proofs.TargetLemmas.{started_rebuild}
 use Rattle.test_rebuilds.proofs.ReadyLemmas.{is_marked}
-use Rattle.ist_rebuild.proofs.BuiltOutLemmas.{HasMarked, has_marked, may_mark}
+use Rattle.ist_rebuild.proofs.BuiltOutLemmas.{HasMarkedForBuild, has_marked, may_mark}
 use Rattle.ist_rows.proofs.GoneLemmas.{still_ready}
 use Rattle.test_rebuilds.proofs.callers.mark.Goals as goal
 
@@ -17,7 +17,7 @@ mark_and_count-keys-requires-clause-may_mark c =
 
 -- and is finished then
 marked : (c : goal.After-mark_and_count-keys)
-    → HasMarked c.args.who.now c.mark_and_count-keys.new.token c.args.rebuild
+    → HasMarkedForBuild c.args.who.now c.mark_and_count-keys.new.token c.args.rebuild
 marked c =
     has_marked c.args.who.now c.target_of-target.new.token _ _ _ _ c.requires.ready
     c.requires.started c.target_of-target.ensures.seen c.target_of-target.ensures.target

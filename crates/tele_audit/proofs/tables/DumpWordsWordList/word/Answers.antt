@@ -1,5 +1,5 @@
 use Rattle.std.proofs.Common.{◌+◌, ◌*◌, drop, ap, sym, ◌∙◌, arith}
-use Rattle.tele_audit.specs.Flaws.{number_of}
+use Rattle.tele_audit.specs.Flaws.{number_encoded}
 use Rattle.tele_audit.proofs.NumberLemmas.{place_told, word_told}
 use Rattle.tele_audit.proofs.tables.DumpWordsWordList.word.Goals as goal
 
@@ -31,7 +31,7 @@ pub returns : goal.returns
 returns c =
     record {
       value = c.number_at.ensures.value
-          ∙ ap (λ bytes. number_of (drop (16 + 8 * c.args.place) bytes)) c.deref.ensures.value
+          ∙ ap (λ bytes. number_encoded (drop (16 + 8 * c.args.place) bytes)) c.deref.ensures.value
           ∙ sym (word_told c.self.inside.used c.self.inside.bytes.items c.args.self.now c.args.place
           c.self.view_is c.requires.within);
     }

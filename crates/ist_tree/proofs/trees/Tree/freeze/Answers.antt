@@ -1,9 +1,9 @@
 -- A freeze in a call of its own, which is given up.
 use Rattle.std.proofs.Common.{sym, ◌∙◌}
 use Rattle.ist_tree.proofs.FreezeCallLemmas.{may_give_up, way_of}
-use Rattle.ist_tree.proofs.FreezeEndLemmas.{FreezeEnds, StopEnds, freeze_ends, stop_ends}
+use Rattle.ist_tree.proofs.FreezeResultLemmas.{FreezeEnds, StopEnds, freeze_ends, stop_ends}
 use Rattle.ist_tree.proofs.GoingLemmas.{table_is, words_are}
-use Rattle.ist_tree.proofs.trees.Tree.freeze_all.Goals as goal
+use Rattle.ist_tree.proofs.trees.Tree.freeze.Goals as goal
 
 -- the tree is frozen
 pub give_up-requires-clause-may_give_up : goal.give_up-requires-clause-may_give_up
@@ -26,8 +26,21 @@ ends c =
 pub invariant_of-pass : goal.invariant_of-pass
 invariant_of-pass c = (ends c).pass
 
-pub returns-in-Ok-clause-froze : goal.returns-in-Ok-clause-froze
-returns-in-Ok-clause-froze c = (ends c).froze
+pub returns-in-Ok : goal.returns-in-Ok
+returns-in-Ok c =
+    let froze = (ends c).froze in
+    record {
+      seen = froze.seen;
+      frozen = froze.still;
+      pairs = froze.pairs;
+      rebuilt = froze.rebuilt;
+      full = tt;
+      unstarted = tt;
+      calls = froze.calls;
+      unrefused = tt;
+      refused = froze.refused;
+      done = froze.done;
+    }
 
 -- the start of its rebuild is refused
 pub give_up-requires-in-Err-clause-may_give_up : goal.give_up-requires-in-Err-clause-may_give_up
@@ -50,5 +63,18 @@ stops c =
 pub invariant_of-pass-in-Err : goal.invariant_of-pass-in-Err
 invariant_of-pass-in-Err c = (stops c).pass
 
-pub returns-in-Err-clause-stopped : goal.returns-in-Err-clause-stopped
-returns-in-Err-clause-stopped c = (stops c).stopped
+pub returns-in-Err : goal.returns-in-Err
+returns-in-Err c =
+    let stopped = (stops c).stopped in
+    record {
+      seen = stopped.seen;
+      frozen = tt;
+      pairs = tt;
+      rebuilt = tt;
+      full = stopped.cause;
+      unstarted = stopped.unstarted;
+      calls = stopped.calls;
+      unrefused = stopped.unrefused;
+      refused = stopped.refused;
+      done = stopped.done;
+    }

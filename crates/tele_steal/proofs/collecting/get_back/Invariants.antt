@@ -2,7 +2,7 @@ use Rattle.std.proofs.Common.{◌≡◌, ◌+◌, ◌≤◌, [], ◌++◌, All, 
 use Rattle.crossbeam_deque.specs.Handles.{view, IsPassOf, SameWorker, worker_deque, worker_view}
 use Rattle.tele_steal.specs.Runs.{IsRunLane, ticket}
 use Rattle.tele_steal.specs.Tallies.{of_owner, of_worker, taken_by}
-use Rattle.tele_steal.proofs.collecting.take_back.Given as goal
+use Rattle.tele_steal.proofs.collecting.get_back.Given as goal
 
 abbrev pub invariant-loop-hand : goal.invariant-loop-hand
 invariant-loop-hand g l = record {
