@@ -57,6 +57,13 @@ says 'a map in another order' 1 "$good" '' '| `high` | high |
 | `low` | low |'
 says 'a crate that is drawn below what it uses' 1 "$good" '' '' '    low
     high'
+says 'a function on a way' 0 "$good" '    go    crates/low/src/lib.rt    it goes'
+says 'a function on a way that is gone' 1 "$good" '    goes    crates/low/src/lib.rt    it goes'
+printf 'pub fn pass(x: u64)\n    ensures value { result ≡ x }\n{\n    go(x)\n}\n\npub fn hand(x: u64) -> Result<u64, u64> {\n    match low::go(x) {\n        Ok(y) => Ok(y),\n        Err(y) => Err(y),\n    }\n}\n\npub fn more(x: u64) -> u64 {\n    go(x + 1)\n}\n' \
+    >>"$all/crates/low/src/lib.rt"
+says 'a function on a way that changes what it hands on' 0 "$good" '    more    crates/low/src/lib.rt    it goes on'
+says 'a function on a way that only forwards' 1 "$good" '    pass    crates/low/src/lib.rt    it passes'
+says 'one that forwards case by case' 1 "$good" '    hand    crates/low/src/lib.rt    it hands on'
 
 mkdir "$all/crates/high/specs/inner"
 printf -- '-- it goes\nabbrev pub Goes : Type 0\n' >"$all/crates/high/specs/inner/Going.antt"

@@ -9,7 +9,7 @@
 - In prose there `crate::item` is an item of the crate, and a word behind it in the same way.
 - `SomethingLemmas` is a file, `lemma` in `SomethingLemmas` a lemma of it, and `Definition` in `Something.antt` a definition of that one.
 - A path that begins with crates/, docs/, bench/, tools/ or tests/ is there, and a function that stands before one in a way
-  through the code is in that file.
+  through the code is in that file, and does more than one call with its own parameters.
 - The index of docs/DECISIONS.md has its titles.
 - docs/ARCHITECTURE.md has one row for each crate, in the order of crates.txt, and draws what a put line passes above what it uses.
 - A definition of specs/ has a name that no other file of specs/ and no record of a file of lemmas has.
@@ -30,6 +30,21 @@ LEMMA = re.compile(r"((?:`[^`\s]+`(?:, | and )?)+) in `(?:[^`]*/)?(\w+)(?:\.(ant
 DEFINED = re.compile(r"(?m)^(?:abbrev pub|unfoldable pub|pub record|pub data|pub(?! (?:mod|use|record|data))) ([A-Za-z_][\w-]*)")
 RECORD = re.compile(r"(?m)^ *(?:abbrev pub|abbrev|pub record|record|pub data|data) ([A-Z][\w-]*)")
 CLAUSE = re.compile(r"^\s*(?:ensures|requires) (\w+) \{")
+
+
+def forwards(text, name):
+    """Whether the body of a function is one call with its own parameters, or hands on what one returns case by case."""
+    text = re.sub(r"//.*", "", text)
+    head = re.search(rf"(?m)^( *)(?:pub(?:\([^)]*\))? )?fn {name}\b[^(]*\(([^)]*)\)", text)
+    body = head and re.compile(rf"(?m)(?:^{head[1]}|[^\n]){{\n((?:(?!{head[1]}}}$).*\n)*?){head[1]}}}$").search(text, head.end())
+    if not body:
+        return False
+    own = {*re.findall(r"(\w+)\s*:", head[2])} | ({"self"} & {*re.findall(r"\w+", head[2])})
+    said = " ".join(body[1].split())
+    cases = re.fullmatch(r"match (.*) \{ Ok\((\w+)\) => Ok\(\2\), Err\((\w+)\) => Err\(\3\),? \}", said)
+    call = re.fullmatch(r"(?:Ok\()?(?:(\w+)\.)?[\w:]+(?:::<[^()]*>)?\(([^();{}]*)\)\??\)?", cases[1] if cases else said)
+    given = [it.strip().removeprefix("&").removeprefix("mut ") for it in call[2].split(",") if it.strip()] if call else []
+    return bool(call) and {*given} | ({call[1]} - {None}) <= own
 
 
 class Crate:
@@ -143,6 +158,7 @@ class Citations:
             path, name = self.top / step[2], step[1].split("::")[-1]
             text = path.read_text() if path.is_file() else ""
             self.is_good(where, re.search(rf"\bfn {name}\b", text), f"{step[2]} has no function {name}")
+            self.is_good(where, not forwards(text, name), f"{name} of {step[2]} only forwards to another function")
 
     def document(self, name, has_claims):
         columns, is_code = [], False
