@@ -1,7 +1,8 @@
 -- The slot of a key in a node: it stays the key's slot, and where its keys end. Serves `children`
 -- and `sweeping`.
-use Rattle.std.proofs.Common.{◌≡◌, ◌≢◌, ℕ, ◌+◌, ◌<◌, ◌≤◌, length, get_or, refl, sym, ap, ◌∙◌, le_refl, arith}
+use Rattle.std.proofs.Common.{◌≡◌, ◌≢◌, ◌⊎◌, ℕ, ◌+◌, ◌<◌, ◌≤◌, ◌==◌, true, false, length, get_or, refl, sym, ap, ◌∙◌, inl, inr, le_refl, arith}
 use Rattle.std.proofs.Math.Nat.{le_trans}
+use Rattle.std.proofs.lemmas.Bool.Decides.{eqb_tells}
 use Rattle.ist_core.specs.Arithmetic.{child_count}
 use Rattle.ist_core.specs.Elements.{Among}
 use Rattle.ist_core.specs.RowLayout.{anchor}
@@ -57,6 +58,17 @@ row_at v u w g h node key i count r long is =
           (is ∙ ap (λ ks. child_count ks key) (sym (keys_on u w h node there)));
     }
 
+-- what it takes to find the first slot of a row
+pub row_starts : (v : View) (node key : ℕ) → node ≢ anchor
+    → starting v node key ≡ distance (guess_in (keys_at v node) key) (child_count (keys_at v node) key) + 6
+row_starts v node key other = at (eqb_tells node anchor)
+  where
+    at : (((node == anchor) ≡ true) × (node ≡ anchor)) ⊎ (((node == anchor) ≡ false) × (node ≢ anchor))
+        → starting v node key
+        ≡ distance (guess_in (keys_at v node) key) (child_count (keys_at v node) key) + 6
+    at (inl t) = absurd (other t.1)
+    at (inr t) = rw t.0 refl
+
 -- and it takes few loads to find it
 pub few_to_start : (v w : View) → GoesOnTo v w → (node key i count loads : ℕ) → node ≢ anchor → IsRow v node
     → IsSlotForKey w node key i count → loads ≤ distance (guess_in (keys_at v node) key) i + 6
@@ -65,8 +77,7 @@ few_to_start v w g node key i count loads other r a few =
     let is = row_child w node key i other a.child
     ∙ ap (λ ks. child_count ks key) (keys_on v w g node r) in
     let near = ap (λ n. distance (guess_in (keys_at v node) key) n) is in
-    let start : starting v node key
-    ≡ distance (guess_in (keys_at v node) key) (child_count (keys_at v node) key) + 6 = refl in
+    let start = row_starts v node key other in
     omega arith
 
 -- ---- where its keys end

@@ -25,16 +25,19 @@ use Rattle.laws_calls.proofs.WalkLemmas.{meeting_comes}
 use Rattle.laws_histories.proofs.ChangeLemmas.{changes_rise}
 use Rattle.laws_histories.proofs.LoadOnLemmas.{at_on, at_prefix, load_on, come_on, side_on, target_on, at_same}
 use Rattle.laws_histories.proofs.PositionLemmas.{search_position, node_met}
-use Rattle.ist_find.specs.Searches.{HasSearched, HasFound, HasCome}
+use Rattle.ist_find.specs.Searches.{HasBegunSearch, HasSearched, HasFound, HasCome}
 use Rattle.ist_find.specs.Reads.{HasLooked, TellsValue}
 use Rattle.ist_find.proofs.LoadLemmas.{by_table, goes_log}
 
 -- ---- the begin
 
--- a search begins at the anchor
+-- a search is at the anchor
+pub at_anchor : (w : View) (key : ℕ) → IsSound w → HasCome w key anchor []
+at_anchor w key s = record { last = w.loads.since; until = s.well_made.since; comes = begins_by }
+
+-- so is one that begins
 pub begun_comes : (v w : View) (key : ℕ) → Turned v (searching v) w → HasCome w key anchor []
-begun_comes v w key t =
-    record { last = w.loads.since; until = t.sound.well_made.since; comes = begins_by }
+begun_comes v w key t = at_anchor w key t.sound
 
 -- a caller that has begun a search and gone on by loads has searched
 pub has_searched : (v b w : View) → Turned v (searching v) b → GoesOnTo b w → HasSearched v w
@@ -115,18 +118,23 @@ has_found v w key node i rows ref value h t =
 -- ---- what was found
 
 -- the map has the value at a position, not before the changes that were seen when the search began
+pub found_since : (b w : View) → HasBegunSearch b → GoesOnTo b w
+    → (key node i : ℕ) (value : Option ℕ) → HasFound w key node i value
+    → HasPosition w.start w.words b.log w.log key value
+found_since b w begun g key node i value f =
+    let s = g.sound.lawful in
+    let at : log_at w.log w.loads.since ≡ b.log =
+    ap (log_at w.log) (g.since ∙ begun) ∙ at_prefix b.log w.log (goes_log b w g) in
+    subst (λ l. HasPosition w.start w.words l w.log key value) at
+    (search_position w.start w.words s.opens w.log s.enabled key w.loads.since node value f.searched)
+
+-- nor before those that were seen earlier
 pub found_position : (v b w : View) → Turned v (searching v) b → GoesOnTo b w
     → (key node i : ℕ) (value : Option ℕ) → HasFound w key node i value
     → HasPosition w.start w.words v.log w.log key value
 found_position v b w t g key node i value f =
-    let s = g.sound.lawful in
-    let since : w.loads.since ≡ length b.log = g.since ∙ ap (λ x. x.loads.since) t.view in
-    let at : log_at w.log w.loads.since ≡ b.log =
-    ap (log_at w.log) since ∙ at_prefix b.log w.log (goes_log b w g) in
-    let p = search_position w.start w.words s.opens w.log s.enabled key w.loads.since node value
-    f.searched in
-    let rise = changes_rise (start w.start w.words) v.log (log_at w.log w.loads.since)
-    (subst (GoesOn v.log) (sym at) (later-goes_on t.later)) in
+    let p = found_since b w (ap (λ x. x.loads.since) t.view) g key node i value f in
+    let rise = changes_rise (start w.start w.words) v.log b.log (later-goes_on t.later) in
     record {
       position = p.position;
       from = le_trans rise p.from;

@@ -12,12 +12,12 @@ use Rattle.ist_core.proofs.ShownLemmas.{fixed_row}
 use Rattle.ist_core.proofs.GrowingLemmas.{child_remains, leaf_there}
 use Rattle.ist_rule.specs.declared.view.View.{View}
 use Rattle.ist_rule.specs.Rule.{IsSound}
-use Rattle.ist_rule.specs.Learning.{now, GoesOnTo, Looked, Turned, searching}
+use Rattle.ist_rule.specs.Learning.{now, GoesOnTo, Looked}
 use Rattle.ist_rule.specs.Watching.{IsNode, is_anchor, is_inner}
 use Rattle.ist_rule.proofs.GoingOnLemmas.{goes_on_more, looked_goes_on}
 use Rattle.laws_histories.specs.Searching.{LooksAt, HasPosition, of_other}
 use Rattle.ist_dcss.proofs.FieldLemmas.{looked_row, row_low}
-use Rattle.ist_find.specs.Searches.{IsRow, SeesLeaf, keys_at, row_cost}
+use Rattle.ist_find.specs.Searches.{HasBegunSearch, IsRow, SeesLeaf, keys_at, row_cost}
 use Rattle.ist_find.specs.Reads.{HasLooked, IsFoundAs, TellsValue, loaded_in}
 use Rattle.ist_find.specs.Spans.{pair_value, IsPairOf, AllCome, AllLooked, LooksFewOver, HasFewSpanLoads}
 use Rattle.ist_find.proofs.LoadLemmas.{by_table, goes_log, goes_length, looked_load, load_later}
@@ -27,7 +27,7 @@ use Rattle.ist_find.proofs.CostLemmas.{rows_met, cost_on, cost_more}
 use Rattle.ist_find.proofs.LookLemmas.{comes_later, look_comes}
 use Rattle.ist_find.proofs.ReadLemmas.{leaf_on, value_told}
 use Rattle.ist_find.proofs.RowLemmas.{row_on, keys_are, keys_on}
-use Rattle.ist_find.proofs.SearchLemmas.{look_later, has_found, found_position}
+use Rattle.ist_find.proofs.SearchLemmas.{look_later, has_found, found_since}
 
 -- ---- which keys have a child
 
@@ -118,14 +118,14 @@ leaf_pair_is v u w base key value p q r first at second there =
 -- ---- the end
 
 -- each key for which the search looked at the slot has its value at a position
-pub span_position : (v b x w : View) → Turned v (searching v) b → GoesOnTo b x
+pub span_position : (v x w : View) → HasBegunSearch v → GoesOnTo v x
     → (first last node i : ℕ) (ref : Ref) (pair : Option Pair) → AllLooked x first last node i ref
     → ((k : ℕ) → TellsValue x w k ref (pair_value pair k)) → (k : ℕ) → first ≤ k → k ≤ last
     → HasPosition w.start w.words v.log w.log k (pair_value pair k)
-span_position v b x w t g first last node i ref pair looked told k low high =
+span_position v x w begun g first last node i ref pair looked told k low high =
     let one = looked k low high in
     let tells = told k in
-    found_position v b w t (goes_on_more b x w g tells.seen) k node i (pair_value pair k)
+    found_since v w begun (goes_on_more v x w g tells.seen) k node i (pair_value pair k)
     (has_found x w k node i one.0 ref (pair_value pair k) one.1 tells)
 
 -- and if it read an inner row, the search for each key reached that row
@@ -158,7 +158,7 @@ over_on u v w s g key node i base j ref l h more =
 
 -- at its end it made few
 pub few_over : (v u w x : View) → IsSound w → (key node i : ℕ) (ref : Ref) (value : Option ℕ)
-    → TellsValue w x key ref value → u.loaded ≤ v.loaded + 5 → LooksFewOver u w key node i ref
+    → TellsValue w x key ref value → u.loaded ≤ v.loaded + 4 → LooksFewOver u w key node i ref
     → x.loaded ≤ w.loaded + 2 → HasFewSpanLoads v x key value
 few_over v u w x s key node i ref value tells first l last =
     let g = tells.seen in

@@ -1,38 +1,36 @@
 -- A search for all keys of a slot, look after look, and what it ends with. Serves `spans`.
-use Rattle.std.proofs.Common.{◌≡◌, ℕ, ◌+◌, ◌≤◌, [], ◌∷◌, ◌++◌, Option, ap, subst, sym, refl, arith}
+use Rattle.std.proofs.Common.{◌≡◌, ℕ, ◌+◌, ◌≤◌, [], ◌∷◌, ◌++◌, Option, subst, sym, refl, arith}
 use Rattle.std.proofs.Math.Nat.{le_trans}
 use Rattle.ist_core.specs.declared.pairs.Pair.{Pair}
 use Rattle.ist_core.specs.References.{Ref, InnerAt}
 use Rattle.ist_core.specs.RowLayout.{anchor}
 use Rattle.ist_rule.specs.declared.view.View.{View}
-use Rattle.ist_rule.specs.Learning.{Turned, searching}
+use Rattle.ist_rule.specs.Rule.{IsSound}
 use Rattle.ist_rule.proofs.GoingOnLemmas.{goes_on_more}
 use Rattle.laws_histories.specs.Searching.{HasPosition}
+use Rattle.ist_find.specs.Searches.{HasBegunSearch}
 use Rattle.ist_find.specs.Reads.{IsReached, TellsValue}
 use Rattle.ist_find.specs.Spans.{pair_value, AllCome, AllLooked, HasFewSpanLoads, LooksFewOver}
 use Rattle.ist_find.specs.Looks.{LooksForAll, SpanIsAt}
 use Rattle.ist_find.proofs.LookLemmas.{look_comes}
-use Rattle.ist_find.proofs.SearchLemmas.{begun_comes}
+use Rattle.ist_find.proofs.SearchLemmas.{at_anchor}
 use Rattle.ist_find.proofs.SearchTurnLemmas.{LiesAbove, row_above}
 use Rattle.ist_find.proofs.SpanLemmas.{all_came, span_position, over_first, over_on, few_over}
 
 -- it begins with a look at the anchor's slot, for all keys
-pub span_begins : (v b w : View) → Turned v (searching v) b → (key first last i low high : ℕ) (ref : Ref)
-    → LooksForAll b w anchor key first last i low high ref → SpanIsAt v w key anchor i low high ref
-span_begins v b w t key first last i low high ref l =
-    let begun = ap (λ x. x.loaded) t.view in
+pub span_begins : (v w : View) → IsSound v → (key first last i low high : ℕ) (ref : Ref)
+    → LooksForAll v w anchor key first last i low high ref → SpanIsAt v w key anchor i low high ref
+span_begins v w s key first last i low high ref l =
     let four = l.anchor_loads refl in
     record {
-      begun = b;
-      turned = t;
       seen = l.seen;
       first = w;
       few_first = omega arith;
       below = l.below;
       above = l.above;
       edges = l.edges;
-      looked = λ k least most. ([], l.looked k [] least most (begun_comes v b k t));
-      looks = over_first w key anchor i ref (l.looked key [] l.below l.above (begun_comes v b key t));
+      looked = λ k least most. ([], l.looked k [] least most (at_anchor v k s));
+      looks = over_first w key anchor i ref (l.looked key [] l.below l.above (at_anchor v key s));
       reached = l.reached;
     }
 
@@ -52,9 +50,7 @@ module _ (v w : View) (key node i low high : ℕ) (ref : Ref) (h : SpanIsAt v w 
       let few = subst (LooksFewOver h.first w key node i) is h.looks in
       let reached = subst (IsReached w node) is h.reached in
       record {
-        begun = h.begun;
-        turned = h.turned;
-        seen = goes_on_more h.begun w x h.seen l.seen;
+        seen = goes_on_more v w x h.seen l.seen;
         first = h.first;
         few_first = h.few_first;
         below = l.below;
@@ -72,11 +68,11 @@ module _ (v w : View) (key node i low high : ℕ) (ref : Ref) (h : SpanIsAt v w 
   module _ (x : View) (pair own : Option Pair) (tells : (k : ℕ) → TellsValue w x k ref (pair_value pair k))
       (same : (k : ℕ) → low ≤ k → k ≤ high → pair_value own k ≡ pair_value pair k) where
     -- each key of the slot has what the pair gives it at a position
-    pub span_values : (k : ℕ) → low ≤ k → k ≤ high
+    pub span_values : HasBegunSearch v → (k : ℕ) → low ≤ k → k ≤ high
         → HasPosition x.start x.words v.log x.log k (pair_value own k)
-    span_values k least most =
+    span_values begun k least most =
         subst (HasPosition x.start x.words v.log x.log k) (sym (same k least most))
-        (span_position v h.begun w x h.turned h.seen low high node i ref pair h.looked tells k least most)
+        (span_position v w x begun h.seen low high node i ref pair h.looked tells k least most)
 
     -- and few loads were made
     pub span_few : x.loaded ≤ w.loaded + 2 → HasFewSpanLoads v x key (pair_value own key)

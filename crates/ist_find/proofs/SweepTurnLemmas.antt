@@ -30,6 +30,7 @@ use Rattle.ist_find.specs.Spans.{IsEdge}
 use Rattle.ist_find.specs.Sweeps.{Swept, later_swept, row_swept, slot_swept, entering_loads, starting, AllLed, HasSwept, one_of}
 use Rattle.ist_find.specs.Turns.{HasReadSlot, LeadsBelow, HasReadEnd, HasSweptSlot, row_below, end_there, HasSweptTo}
 use Rattle.ist_find.proofs.LoadLemmas.{by_table, goes_log}
+use Rattle.ist_find.proofs.PlaceLemmas.{row_starts}
 use Rattle.ist_find.proofs.RowLemmas.{keys_are}
 use Rattle.ist_find.proofs.SlotEndLemmas.{node_keys_on}
 use Rattle.ist_find.proofs.SpanLemmas.{node_later, child_on}
@@ -173,8 +174,7 @@ module _ (v u w : View) (node first low high last i count spent : ℕ) (ref : Re
               let there = by_table w x d (λ p n. (state_of p n saw.at).pieces base ≡ Some (Inner keys.0))
               keys.1 in
               let cost = ap (λ ks. distance (guess_in ks low) (child_count ks low)) keys.2 in
-              let begun : starting w base low
-              ≡ distance (guess_in (keys_at w base) low) (child_count (keys_at w base) low) + 6 = refl in
+              let begun = row_starts w base low (not_anchor w r.seen.sound base row) in
               let entered : entering_loads keys.0.keys low
               ≡ distance (guess_in keys.0.keys low) (child_count keys.0.keys low) + 11 = refl in
               let limit = s.under in

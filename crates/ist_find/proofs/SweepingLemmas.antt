@@ -1,15 +1,12 @@
 -- Where a sweep of a node begins, what its calls return, and a whole sweep. Serves `sweeping`.
-use Rattle.std.proofs.Common.{◌≡◌, ℕ, nat_lt, nat_le, true, false, ◌+◌, ◌≤◌, List, [], ◌++◌, Option, refl, sym, ap, ◌∙◌, subst, inl, le_refl, append-nil, arith, Result, Ok, Err}
+use Rattle.std.proofs.Common.{◌≡◌, ℕ, ◌+◌, ◌≤◌, List, [], ◌++◌, Option, refl, sym, subst, inl, le_refl, append-nil, arith, Result, Ok, Err}
 use Rattle.std.specs.Prelude.{IfSome, OnOk}
-use Rattle.std.proofs.lemmas.Bool.Decides.{nat_tests}
 use Rattle.ist_core.specs.declared.pairs.Pair.{Pair}
-use Rattle.ist_core.specs.Arithmetic.{child_count}
 use Rattle.ist_core.specs.RowLayout.{anchor}
 use Rattle.ist_core.specs.References.{Ref, InnerAt}
 use Rattle.ist_core.specs.Links.{from_anchor}
 use Rattle.ist_core.specs.Logs.{same_log}
 use Rattle.laws_histories.proofs.ChangeLemmas.{on_trans}
-use Rattle.ist_math.specs.Guess.{guess_in, distance}
 use Rattle.ist_rule.specs.declared.view.View.{View}
 use Rattle.ist_rule.specs.Learning.{GoesOnTo}
 use Rattle.ist_rule.specs.Rule.{IsSound}
@@ -18,7 +15,6 @@ use Rattle.ist_find.specs.Spans.{pair_value}
 use Rattle.ist_find.specs.Sweeps.{Swept, none_swept, starting, WereLed, HasSwept, SweptBetween, one_of}
 use Rattle.ist_find.specs.Turns.{IsSlotForKey, HasReadEnd, HasSweptSlot, row_below, end_there, HasSweptTo}
 use Rattle.ist_find.proofs.LoadLemmas.{goes_log}
-use Rattle.ist_find.proofs.SlotEndLemmas.{no_keys}
 use Rattle.ist_find.proofs.SlotSawLemmas.{led_on, were_led_on}
 
 -- ---- at the first slot
@@ -102,9 +98,7 @@ pub swept_between : {A E : Type 0} (v w : View) → IsSound v → (first last : 
 swept_between v w sound first last old new (Err e) h = tt
 swept_between v w sound first last old new (Ok x) h =
     let s = h.sweeps v.log same_log (λ k low high. from_anchor) in
-    let none = no_keys v sound anchor refl in
-    let begun : starting v anchor first ≡ 6 =
-    ap (λ ks. distance (guess_in ks first) (child_count ks first) + 6) none ∙ at_none first in
+    let begun : starting v anchor first ≡ 0 = refl in
     let few = s.few in
     let low = s.under in
     let zero_row : s.row ≡ 0 = omega arith in
@@ -118,9 +112,3 @@ swept_between v w sound first last old new (Ok x) h =
       swept = subst (λ n. Swept w.start w.words first anchor v.log s.at (last + 1) n s.loads h.found)
           zero_row s.swept;
     }
-  where
-    at_none : (k : ℕ) → distance (guess_in [] k) (child_count [] k) + 6 ≡ 6
-    at_none k =
-        let not_less : nat_lt k 0 ≡ false = grind (arith, nat_tests) in
-        let at_most : nat_le 0 k ≡ true = grind (arith, nat_tests) in
-        rw not_less (rw at_most refl)

@@ -86,13 +86,11 @@ pub record SearchIsAt (v w : View) (key node index loads : ℕ) (ref : Ref) : Ty
   pub reached : IsReached w node ref
   pub spent : HasSpent v w node loads
 
--- the same, at once for all keys of the slot
+-- the same from the first view on, at once for all keys of the slot
 pub record SpanIsAt (v w : View) (key node index low high : ℕ) (ref : Ref) : Type 0 where
-  pub begun : View
-  pub turned : Turned v (searching v) begun
-  pub seen : GoesOnTo begun w
+  pub seen : GoesOnTo v w
   pub first : View
-  pub few_first : first.loaded ≤ v.loaded + 5
+  pub few_first : first.loaded ≤ v.loaded + 4
   pub below : low ≤ key
   pub above : key ≤ high
   pub edges : EndAtEdges (now w) low high

@@ -83,6 +83,10 @@ cost_of v key = sum_by (row_cost v key)
 
 -- ---- a search
 
+-- the caller has begun a search, and has seen no more since
+abbrev pub HasBegunSearch : View → Type 0
+HasBegunSearch v = v.loads.since ≡ length v.log
+
 -- the caller began one search and made only loads: it may have seen more events of others, and the
 -- rest of its view is unchanged
 pub record HasSearched (v w : View) : Type 0 where

@@ -40,7 +40,7 @@ pub record LooksFewOver (v w : View) (key node index : ℕ) (ref : Ref) : Type 0
   pub looked : HasLooked w key node index rows ref
   pub few : w.loaded ≤ v.loaded + cost_of w key rows + 3 * length rows
 
--- the search ended with this value for the key, and made few loads: at most 10 plus, for each row
+-- the search ended with this value for the key, and made few loads: at most 9 plus, for each row
 -- on the chain of its node, the row's cost and 3
 pub record HasFewSpanLoads (v w : View) (key : ℕ) (value : Option ℕ) : Type 0 where
   pub node : ℕ
@@ -48,7 +48,7 @@ pub record HasFewSpanLoads (v w : View) (key : ℕ) (value : Option ℕ) : Type 
   pub found : HasFound w key node index value
   pub rows : List ℕ
   pub chain : IsChainOf w.start w.words w.log node rows
-  pub few : w.loaded ≤ v.loaded + 10 + cost_of w key rows + 3 * length rows
+  pub few : w.loaded ≤ v.loaded + 9 + cost_of w key rows + 3 * length rows
 
 -- the key is one of the keys of a published inner row: two slots meet there
 pub record IsEdge (t : Snapshot) (key : ℕ) : Type 0 where

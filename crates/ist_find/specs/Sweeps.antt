@@ -1,6 +1,6 @@
 -- Reading keys in order: each at a position of its own, and none at an earlier one than a lesser
 -- key.
-use Rattle.std.specs.Prelude.{◌≡◌, ℕ, ◌+◌, ◌<◌, ◌≤◌, ◌⊎◌, List, [], ◌∷◌, ◌++◌, length, Option, Some, None, IfSome}
+use Rattle.std.specs.Prelude.{◌≡◌, ℕ, ◌+◌, ◌<◌, ◌≤◌, ◌⊎◌, ◌==◌, if◌then◌else◌, List, [], ◌∷◌, ◌++◌, length, Option, Some, None, IfSome}
 use Rattle.ist_core.specs.declared.pairs.Pair.{Pair}
 use Rattle.ist_core.specs.declared.states.InnerRow.{InnerRow}
 use Rattle.ist_core.specs.Arithmetic.{child_count}
@@ -72,10 +72,11 @@ pub record WereLed (v : View) (first last node : ℕ) : Type 0 where
   pub until : GoesOn at v.log
   pub led : AllLed v at first last node
 
--- how many loads it takes at most to find the first slot of a node
+-- how many loads it takes at most to find the first slot of a node: none at the anchor, which has one
 abbrev pub starting : View → ℕ → ℕ → ℕ
 starting v node key =
-    let keys = keys_at v node in distance (guess_in keys key) (child_count keys key) + 6
+    if node == anchor then 0
+    else let keys = keys_at v node in distance (guess_in keys key) (child_count keys key) + 6
 
 -- since the first view the caller has swept the keys from the first up to a slot's end, beginning
 -- at this log, and found the pairs, by no more loads than the sweep says and some spent apart. At
@@ -119,5 +120,5 @@ pub record SweptBetween (v w : View) (first last : ℕ) (old new : List Pair) : 
   pub at : Log
   pub until : GoesOn at w.log
   pub loads : ℕ
-  pub few : w.loaded ≤ v.loaded + 6 + loads
+  pub few : w.loaded ≤ v.loaded + loads
   pub swept : Swept w.start w.words first anchor v.log at (last + 1) 0 loads found

@@ -10,7 +10,7 @@ ghost use Rattle.ist_layout.specs.Meanings.{ref_meant};
 ghost use Rattle.ist_rule.specs.Learning.{now, GoesOnTo};
 ghost use Rattle.ist_rule.specs.Watching.{IsNode};
 ghost use Rattle.laws_histories.specs.Searching.{HasPosition};
-ghost use Rattle.ist_find.specs.Searches.{IsRow, SeesLeaf, HasSearched, keys_at};
+ghost use Rattle.ist_find.specs.Searches.{IsRow, SeesLeaf, HasBegunSearch, keys_at};
 ghost use Rattle.ist_find.specs.Reads.{IsEnd, TellsValue};
 ghost use Rattle.ist_find.specs.Looks.{LooksForAll};
 ghost use Rattle.ist_find.specs.Spans.{pair_value, IsPairOf, AllCome, EndAtEdges, HasFewSpanLoads};
@@ -21,7 +21,7 @@ use crate::keys::{key_at, key_count};
 use crate::reading::leaf_in;
 use ist_core::Pair;
 use ist_layout::{ANCHOR, LEAF_KEY_OFFSET, LEAF_VALUE_OFFSET, Ref};
-use ist_rule::{TreeTable, TreeToken, begin_search, know, load};
+use ist_rule::{TreeTable, TreeToken, know, load};
 
 // ---- which keys share a child
 
@@ -233,16 +233,18 @@ pub(crate) fn pair_within(pair: Option<Pair>, ends: Ends) -> Option<Pair>
     }
 }
 
-/// Searches for the key from the anchor down, by loads only, and at once for all keys that share the
-/// slot in which this search ends.
+/// Goes on with a search that was begun: looks for the key from the anchor down, by loads only, and at
+/// once for all keys that share the slot in which this search ends.
 ///
 /// Returns the range of that slot and the pair in it. Each key of the range has the value that the
-/// result gives it, at a position of its own during the call. The range ends at keys of inner rows.
-/// Never blocks. Its bound on loads is the bound of `find_from_anchor`, plus three for each row.
+/// result gives it, at a position of its own since the search was begun. The range ends at keys of inner
+/// rows. Never blocks. With the load by which a search begins, its bound on loads is the bound of
+/// `find_from_anchor`, plus three for each row.
 pub fn find_span(table: &TreeTable, token: &mut TreeToken, key: u64) -> Span
     requires same_table { token.old.table ≡ table.now.table }
+    requires begun { HasBegunSearch token.old.view }
     ensures same_table { token.new.table ≡ token.old.table }
-    ensures seen { HasSearched token.old.view token.new.view }
+    ensures seen { GoesOnTo token.old.view token.new.view }
     ensures first { result.first ≤ key }
     ensures last { key ≤ result.last }
     ensures within { IfSome result.pair (λ p. (result.first ≤ p.key) × (p.key ≤ result.last)) }
@@ -252,7 +254,6 @@ pub fn find_span(table: &TreeTable, token: &mut TreeToken, key: u64) -> Span
     ensures loads { let value = pair_value result.pair key in
         HasFewSpanLoads token.old.view token.new.view key value }
 {
-    begin_search(table, token);
     know(token);
     let mut node = ANCHOR;
     let all = Ends {

@@ -10,7 +10,7 @@ use Rattle.ist_tree.specs.Faces.{PassFace}
 use Rattle.ist_live.specs.Reading.{HasOnlyRead, Had}
 use Rattle.ist_live.specs.Lists.{value_among, AreLive, AreInTurn, HadInTurn}
 use Rattle.ist_live.proofs.ListLemmas.{other_first, each_higher, rises_on}
-use Rattle.ist_live.proofs.ReadLemmas.{read_more, had_before, had_after}
+use Rattle.ist_live.proofs.ReadLemmas.{read_more, had_before, had_after, had_since, since_before}
 use Rattle.ist_live.proofs.TurnLemmas.{turn_later}
 
 -- ---- keys that rise
@@ -160,8 +160,8 @@ module _ (p m q : PassFace) (first from last : ℕ) (xs ys : List Pair) (r : Has
             between = m;
             before = r;
             after = s;
-            one_had = live_had p m first (from - 1) xs a x e;
-            other_had = live_had m q from last ys b y f;
+            one_had = had_since p m x.key (Some x.value) (live_had p m first (from - 1) xs a x e);
+            other_had = had_since m q y.key (Some y.value) (live_had m q from last ys b y f);
           }
 
       earlier : HadInTurn m q x y → HadInTurn p q x y
@@ -170,7 +170,7 @@ module _ (p m q : PassFace) (first from last : ℕ) (xs ys : List Pair) (r : Has
             between = t.between;
             before = read_more p m t.between r t.before;
             after = t.after;
-            one_had = had_before p m t.between r x.key (Some x.value) t.one_had;
+            one_had = since_before p m t.between r x.key (Some x.value) t.one_had;
             other_had = t.other_had;
           }
 

@@ -12,7 +12,7 @@ use Rattle.ist_find.specs.Sweeps.{one_of}
 use Rattle.ist_live.specs.Reading.{HasOnlyRead, Had, ReadsUp}
 use Rattle.ist_live.specs.Lists.{value_among, AreLive}
 use Rattle.ist_live.proofs.SlotLemmas.{HasReadKeysOfSlot, SweepsUp, none_up, later_up, slot_up, slots_of}
-use Rattle.ist_live.proofs.ReadLemmas.{read_not, read_more, had_before, had_after}
+use Rattle.ist_live.proofs.ReadLemmas.{read_not, read_more, had_after}
 
 -- a pair of another key gives the key nothing
 pub other_first : (pair : Pair) (pairs : List Pair) (k : ℕ) → pair.key ≢ k
@@ -114,7 +114,7 @@ module _ (p m q : PassFace) (first from behind : ℕ) (pairs : List Pair)
   before : HasOnlyRead m q → (k : ℕ) → first ≤ k → k < from → Had p q k (value_among pairs k)
   before r k low high = had_after p m q r k (value_among pairs k) (h.values k low high)
 
-  listed_on : (pair : Option Pair) → HasReadKeysOfSlot m q from behind pair
+  listed_on : (pair : Option Pair) → HasReadKeysOfSlot p m q from behind pair
       → Listed p q first behind (pairs ++ one_of pair)
   listed_on None s =
       let above = h.above in
@@ -127,7 +127,7 @@ module _ (p m q : PassFace) (first from behind : ℕ) (pairs : List Pair)
         within = h.within;
         values = λ k least most. ⊎_elim (λ (l : k < from). before s.read k least l)
             (λ (l : from ≤ k). subst (Had p q k) (sym (among_none pairs from k h.low l))
-            (had_before p m q h.read k None (s.values k l most)))
+            (s.values k l most))
             (cases_lt k from);
       }
   listed_on (Some x) s =
@@ -145,7 +145,7 @@ module _ (p m q : PassFace) (first from behind : ℕ) (pairs : List Pair)
         values = λ k a b. ⊎_elim (λ (l : k < from).
             subst (Had p q k) (sym (among_old pairs x k (omega arith))) (before s.read k a l))
             (λ (l : from ≤ k). subst (Had p q k) (sym (among_new pairs x from k h.low l))
-            (had_before p m q h.read k (value_among (x ∷ []) k) (s.values k l b)))
+            (s.values k l b))
             (cases_lt k from);
       }
 

@@ -3,61 +3,118 @@ use Rattle.std.proofs.Common.{◌≡◌, ℕ, ◌+◌, ◌<◌, List, [], ◌++�
 use Rattle.ist_core.specs.declared.pairs.Pair.{Pair}
 use Rattle.ist_core.specs.Logs.{Log, GoesOn, same_log}
 use Rattle.ist_core.specs.RowLayout.{anchor}
+use Rattle.laws_histories.proofs.ChangeLemmas.{on_trans}
+use Rattle.laws_histories.proofs.PositionOnLemmas.{position_on}
+use Rattle.ist_find.specs.Spans.{pair_value}
 use Rattle.ist_find.specs.Sweeps.{Swept, none_swept, later_swept, row_swept, slot_swept}
+use Rattle.ist_find.proofs.SweptLemmas.{swept_on}
 use Rattle.ist_tree.specs.Faces.{PassFace}
+use Rattle.ist_tree.specs.RealTime.{StepsIn}
 use Rattle.ist_tree.specs.Sweeps.{HasSweptOver}
+use Rattle.ist_tree.proofs.HeardLemmas.{heard_same}
 use Rattle.ist_live.specs.Reading.{HasOnlyRead}
 use Rattle.ist_live.specs.Lists.{HasListedLive}
 use Rattle.ist_live.proofs.SlotLemmas.{SweepsUp, none_up, later_up, slot_up}
 
--- the moment of the pass at which it would have seen this log
-abbrev moment : PassFace → Log → PassFace
-moment p log = record p { seen = log }
+-- the keys were swept between these moments of the pass, from its step on
+module _ (p q : PassFace) (r : HasOnlyRead p q) (began : Log) (step : StepsIn p q began) where
+  -- the pass when it would have seen this log, after its step
+  abbrev seeing : Log → PassFace
+  seeing log = record p { seen = log; moments = q.moments }
 
--- from one log to a longer one
-moments : (p : PassFace) (a b : Log) → GoesOn a b → HasOnlyRead (moment p a) (moment p b)
-moments p a b g =
-    record {
-      seen = record { tree = refl; number = refl; seen = g; stamp = omega arith };
-      calls = refl;
-      stamp = refl;
-      refused = refl;
-    }
+  -- from the beginning to the step
+  to_step : HasOnlyRead p (seeing began)
+  to_step =
+      record {
+        seen = record {
+          tree = refl;
+          number = refl;
+          seen = step.seen;
+          heard = r.seen.heard;
+          stamp = omega arith;
+        };
+        calls = refl;
+        stamp = refl;
+        refused = refl;
+      }
 
--- and from a log to what the pass has seen in the end
-to_end : (p q : PassFace) → HasOnlyRead p q → (a : Log) → GoesOn a q.seen → HasOnlyRead (moment p a) q
-to_end p q r a g =
-    record {
-      seen = record { tree = r.seen.tree; number = r.seen.number; seen = g; stamp = r.seen.stamp };
-      calls = r.calls;
-      stamp = r.stamp;
-      refused = r.refused;
-    }
+  -- from one log to a longer one
+  to_later : (a b : Log) → GoesOn a b → HasOnlyRead (seeing a) (seeing b)
+  to_later a b g =
+      record {
+        seen = record {
+          tree = refl;
+          number = refl;
+          seen = g;
+          heard = heard_same refl;
+          stamp = omega arith;
+        };
+        calls = refl;
+        stamp = refl;
+        refused = refl;
+      }
 
--- each slot was read between two of these moments
-slots_at : (p : PassFace) (first above : ℕ) (at : Log) (behind row loads : ℕ) (pairs : List Pair)
-    → Swept p.tree.start p.tree.words first above p.seen at behind row loads pairs
-    → SweepsUp p first (moment p at) behind pairs
-slots_at p first above _ _ _ _ _ none_swept = none_up
-slots_at p first above _ behind row loads pairs (later_swept {at = at} {later = later} s g) =
-    later_up (slots_at p first above at behind row loads pairs s) (moments p at later g)
-slots_at p first above at behind _ _ pairs (row_swept {row = row} {loads = loads} base r s e up) =
-    slots_at p first above at behind row loads pairs s
-slots_at p first above _ _ _ _ _ (slot_swept {at = at} {later = later} {low = low} {row = row} {loads = loads} {found = found} pair s begins r) =
-    slot_up pair (slots_at p first above at low row loads found s) record {
-      read = moments p at later r.on;
-      some = r.some;
-      within = r.within;
-      values = r.values;
-    }
+  -- from a log to what the pass has seen in the end
+  to_end : (a : Log) → GoesOn a q.seen → HasOnlyRead (seeing a) q
+  to_end a g =
+      record {
+        seen = record {
+          tree = r.seen.tree;
+          number = r.seen.number;
+          seen = g;
+          heard = heard_same refl;
+          stamp = r.seen.stamp;
+        };
+        calls = r.calls;
+        stamp = r.stamp;
+        refused = r.refused;
+      }
+
+  -- the step was made before each longer log was seen
+  step_at : (a : Log) → GoesOn began a → StepsIn p (seeing a) began
+  step_at a g =
+      record {
+        before = step.before;
+        since = step.since;
+        step = step.step;
+        step_by = step.step_by;
+        heard = step.heard;
+        seen = step.seen;
+        until = g;
+        placed = step.placed;
+      }
+
+  -- each slot was read between two of these moments
+  slots_at : (first above : ℕ) (at : Log) (behind row loads : ℕ) (pairs : List Pair)
+      → Swept p.tree.start p.tree.words first above began at behind row loads pairs
+      → SweepsUp p first (seeing at) behind pairs
+  slots_at first above _ _ _ _ _ none_swept = later_up none_up to_step
+  slots_at first above _ behind row loads pairs (later_swept {at = at} {later = later} s g) =
+      later_up (slots_at first above at behind row loads pairs s) (to_later at later g)
+  slots_at first above at behind _ _ pairs (row_swept {row = row} {loads = loads} base r s e up) =
+      slots_at first above at behind row loads pairs s
+  slots_at first above _ behind _ _ _ (slot_swept {at = at} {later = later} {low = low} {row = row} {loads = loads} {found = found} pair s begins o) =
+      let on = swept_on p.tree.start p.tree.words first above began at low row loads found s in
+      slot_up pair (slots_at first above at low row loads found s) record {
+        read = to_later at later o.on;
+        some = o.some;
+        within = o.within;
+        values = λ k least most. record {
+          at = began;
+          step = step_at later (on_trans began at later on o.on);
+          position = position_on p.tree.start p.tree.words began at later later on same_log k
+              (pair_value pair k) (o.values k least most);
+        };
+        since = o.values;
+      }
 
 -- so the pass has read the keys
 pub swept_up : (p q : PassFace) → HasOnlyRead p q → (first last : ℕ) (old new : List Pair) → old ≡ []
     → HasSweptOver p q first last old new → SweepsUp p first q (last + 1) new
 swept_up p q r first last old new none h =
     subst (SweepsUp p first q (last + 1)) (sym (h.are ∙ ap (λ xs. xs ++ h.found) none))
-    (later_up (slots_at p first anchor h.at (last + 1) 0 h.loads h.found h.swept)
-    (to_end p q r h.at h.until))
+    (later_up (slots_at p q r h.began h.step first anchor h.at (last + 1) 0 h.loads h.found h.swept)
+    (to_end p q r h.began h.step h.at h.until))
 
 -- and listed them
 pub has_listed : (p q : PassFace) (first last : ℕ) (old new : List Pair) → old ≡ []
@@ -66,13 +123,15 @@ has_listed p q first last old new none h =
     record {
       behind = last + 1;
       past = omega arith;
+      began = h.began;
+      step = λ some. h.step;
       at = h.at;
       until = h.until;
       row = 0;
       loads = h.loads;
       few = h.few;
       swept = subst
-          (Swept p.tree.start p.tree.words first anchor p.seen h.at (last + 1) 0 h.loads)
+          (Swept p.tree.start p.tree.words first anchor h.began h.at (last + 1) 0 h.loads)
           (sym (h.are ∙ ap (λ xs. xs ++ h.found) none)) h.swept;
     }
 
@@ -82,6 +141,8 @@ none_listed p first last less =
     record {
       behind = first;
       past = less;
+      began = p.seen;
+      step = λ some. absurd (omega arith);
       at = p.seen;
       until = same_log;
       row = anchor;

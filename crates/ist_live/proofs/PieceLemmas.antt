@@ -3,12 +3,13 @@ use Rattle.std.proofs.Common.{◌≡◌, ℕ, ◌+◌, ◌-◌, ◌<◌, ◌≤�
 use Rattle.std.specs.Prelude.{IfSome}
 use Rattle.std.proofs.lemmas.Bool.Decides.{eqb_tells}
 use Rattle.ist_core.specs.declared.pairs.Pair.{Pair}
+use Rattle.ist_find.specs.Spans.{pair_value}
 use Rattle.ist_tree.specs.Faces.{PassFace}
 use Rattle.ist_live.specs.Ends.{IsNextUp}
 use Rattle.ist_live.specs.Reading.{HasOnlyRead, Had, HadNone}
 use Rattle.ist_live.proofs.JoinLemmas.{live_join, turn_join}
 use Rattle.ist_live.proofs.ListLemmas.{all_live, none_live}
-use Rattle.ist_live.proofs.ReadLemmas.{read_not, read_more}
+use Rattle.ist_live.proofs.ReadLemmas.{had_before, had_since, read_not, read_more}
 use Rattle.ist_live.proofs.SlotLemmas.{SweepsUp, none_up, slot_up}
 use Rattle.ist_live.proofs.TurnLemmas.{in_turn}
 use Rattle.ist_live.specs.Pieces.{IsPiece, end_of}
@@ -69,7 +70,8 @@ module _ (p m q : PassFace) (first from last : ℕ) (pairs : List Pair) (h : IsR
         read = r;
         some = omega arith;
         within = tt;
-        values = λ k low high. none k low high;
+        values = λ k low high. had_before p m q h.read k None (none k low high);
+        since = λ k low high. had_since m q k None (none k low high);
       }))
 
   module _ (x : Pair) (next : IsNextUp m q from (Some x)) (all : List Pair) (is : all ≡ pairs ++ x ∷ []) where
@@ -80,14 +82,18 @@ module _ (p m q : PassFace) (first from last : ℕ) (pairs : List Pair) (h : IsR
           read = r;
           some = let low = next.0 in omega arith;
           within = (next.0, omega arith);
-          values = λ k low high. ⊎_elim
-              (λ a. subst (λ b. Had m q k (if b then Some x.value else None)) (sym a.0)
-              (subst (λ j. Had m q j (Some x.value)) a.1 next.1))
-              (λ a. let other = a.1 in
-              subst (λ b. Had m q k (if b then Some x.value else None)) (sym a.0)
-              (next.2 k low (omega arith)))
-              (eqb_tells x.key k);
+          values = λ k low high. had_before p m q h.read k (pair_value (Some x) k) (had_here k low high);
+          since = λ k low high. had_since m q k (pair_value (Some x) k) (had_here k low high);
         })
+      where
+        had_here : (k : ℕ) → from ≤ k → k < x.key + 1 → Had m q k (pair_value (Some x) k)
+        had_here k low high = ⊎_elim
+            (λ a. subst (λ b. Had m q k (if b then Some x.value else None)) (sym a.0)
+            (subst (λ j. Had m q j (Some x.value)) a.1 next.1))
+            (λ a. let other = a.1 in
+            subst (λ b. Had m q k (if b then Some x.value else None)) (sym a.0)
+            (next.2 k low (omega arith)))
+            (eqb_tells x.key k)
 
     -- it is the pair of the last key
     pub piece_full : x.key ≡ last → IsPiece p q first last None all

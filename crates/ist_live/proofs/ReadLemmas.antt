@@ -1,60 +1,74 @@
 -- What a pass read so far, and what it read after that, together. Serves all reads.
-use Rattle.std.proofs.Common.{◌≡◌, ℕ, ◌+◌, Option, Some, refl, ◌∙◌, subst, arith}
+use Rattle.std.proofs.Common.{◌≡◌, ℕ, ◌+◌, ◌≤◌, Option, Some, refl, ◌∙◌, subst, arith}
 use Rattle.ist_core.specs.declared.pairs.Pair.{Pair}
-use Rattle.ist_core.specs.Logs.{Log, GoesOn, same_log, one_event}
+use Rattle.ist_core.specs.Logs.{same_log}
 use Rattle.laws_histories.specs.Searching.{HasPosition}
 use Rattle.laws_histories.proofs.PositionOnLemmas.{position_on}
-use Rattle.ist_tree.specs.Calls.{HasSeenMore}
+use Rattle.ist_find.specs.Spans.{pair_value}
 use Rattle.ist_tree.specs.Faces.{PassFace}
-use Rattle.ist_live.specs.Reading.{HasOnlyRead, Had, HasReadSpan}
-
-goes_on_trans : (a b c : Log) → GoesOn a b → GoesOn b c → GoesOn a c
-goes_on_trans a b _ x same_log = x
-goes_on_trans a b _ x (one_event {log = rest} event y) = one_event event (goes_on_trans a b rest x y)
-
-seen_more : (p m q : PassFace) → HasSeenMore p m → HasSeenMore m q → HasSeenMore p q
-seen_more p m q a b =
-    let low = a.stamp in
-    let high = b.stamp in
-    record {
-      tree = b.tree ∙ a.tree;
-      number = b.number ∙ a.number;
-      seen = goes_on_trans p.seen m.seen q.seen a.seen b.seen;
-      stamp = omega arith;
-    }
+use Rattle.ist_tree.specs.Spans.{AllHave}
+use Rattle.ist_tree.proofs.HeardLemmas.{seen_more_then, seen_same, steps_from, steps_until}
+use Rattle.ist_live.specs.Reading.{HasOnlyRead, Had, HadSince, HasReadSpan}
 
 -- nothing was read yet
 pub read_not : (p : PassFace) → HasOnlyRead p p
-read_not p =
-    record {
-      seen = record { tree = refl; number = refl; seen = same_log; stamp = omega arith };
-      calls = refl;
-      stamp = refl;
-      refused = refl;
-    }
+read_not p = record { seen = seen_same p; calls = refl; stamp = refl; refused = refl }
 
 -- two reads are one
 pub read_more : (p m q : PassFace) → HasOnlyRead p m → HasOnlyRead m q → HasOnlyRead p q
 read_more p m q a b =
     record {
-      seen = seen_more p m q a.seen b.seen;
+      seen = seen_more_then p m q a.seen b.seen;
       calls = b.calls ∙ a.calls;
       stamp = b.stamp ∙ a.stamp;
       refused = b.refused ∙ a.refused;
     }
 
 -- what a key had after what was read so far, it had since the beginning
-pub had_before : (p m q : PassFace) → HasOnlyRead p m → (k : ℕ) (value : Option ℕ) → Had m q k value
-    → Had p q k value
-had_before p m q r k value h =
+pub since_before : (p m q : PassFace) → HasOnlyRead p m → (k : ℕ) (value : Option ℕ)
+    → HadSince m q k value → HadSince p q k value
+since_before p m q r k value h =
     position_on p.tree.start p.tree.words p.seen m.seen q.seen q.seen r.seen.seen same_log k value
     (subst (λ t. HasPosition t.start t.words m.seen q.seen k value) r.seen.tree h)
 
 -- what it had so far, it has had still
+pub since_after : (p m q : PassFace) → HasOnlyRead m q → (k : ℕ) (value : Option ℕ)
+    → HadSince p m k value → HadSince p q k value
+since_after p m q r k value h =
+    position_on p.tree.start p.tree.words p.seen p.seen m.seen q.seen same_log r.seen.seen k value h
+
+-- since a step of the pass is since the beginning
+pub had_since : (p q : PassFace) (k : ℕ) (value : Option ℕ) → Had p q k value → HadSince p q k value
+had_since p q k value h =
+    position_on p.tree.start p.tree.words p.seen h.at q.seen q.seen h.step.seen same_log k value
+    h.position
+
+-- a step after what was read so far is one of both
+pub had_before : (p m q : PassFace) → HasOnlyRead p m → (k : ℕ) (value : Option ℕ) → Had m q k value
+    → Had p q k value
+had_before p m q r k value h =
+    record {
+      at = h.at;
+      step = steps_from p m q h.at r.seen h.step;
+      position = subst (λ t. HasPosition t.start t.words h.at q.seen k value) r.seen.tree h.position;
+    }
+
+-- so is a step before more is read
 pub had_after : (p m q : PassFace) → HasOnlyRead m q → (k : ℕ) (value : Option ℕ) → Had p m k value
     → Had p q k value
 had_after p m q r k value h =
-    position_on p.tree.start p.tree.words p.seen p.seen m.seen q.seen same_log r.seen.seen k value h
+    record {
+      at = h.at;
+      step = steps_until p m q h.at h.step r.seen;
+      position = position_on p.tree.start p.tree.words h.at h.at m.seen q.seen same_log r.seen.seen k
+          value h.position;
+    }
+
+-- each key of a span had its value since the span's first step
+pub all_had : (p q : PassFace) (first last : ℕ) (pair : Option Pair) → AllHave p q first last pair
+    → (k : ℕ) → first ≤ k → k ≤ last → Had p q k (pair_value pair k)
+all_had p q first last pair h k low high =
+    record { at = h.at; step = h.step; position = h.values k low high }
 
 -- a part of it up to its pair
 pub up_to_pair : (p q : PassFace) (asked from behind : ℕ) (x : Pair)

@@ -5,10 +5,10 @@ use Rattle.ist_core.specs.Elements.{Among}
 use Rattle.ist_core.proofs.ElementLemmas.{among-append, each-among}
 use Rattle.ist_tree.specs.Faces.{PassFace}
 use Rattle.ist_find.specs.Sweeps.{one_of}
-use Rattle.ist_live.specs.Reading.{HasOnlyRead, Had}
+use Rattle.ist_live.specs.Reading.{HasOnlyRead, HadSince}
 use Rattle.ist_live.specs.Lists.{HadInTurn}
 use Rattle.ist_live.proofs.SlotLemmas.{HasReadKeysOfSlot, SweepsUp, none_up, later_up, slot_up}
-use Rattle.ist_live.proofs.ReadLemmas.{read_more, had_before, had_after}
+use Rattle.ist_live.proofs.ReadLemmas.{read_more, since_before, since_after}
 use Rattle.ist_live.proofs.ListLemmas.{all_swept}
 use Rattle.ist_live.proofs.EndLemmas.{own_key}
 
@@ -20,14 +20,14 @@ one_same (Some z) x y (inr a) b = absurd a
 one_same None x y a b = absurd a
 
 -- which was in the map at a position of its search
-span_had : (m q : PassFace) (from behind : ℕ) (pair : Option Pair)
-    → HasReadKeysOfSlot m q from behind pair → (x : Pair) → Among x (one_of pair)
-    → (from ≤ x.key) × Had m q x.key (Some x.value)
-span_had m q from behind (Some y) s x (inl e) =
-    subst (λ z. (from ≤ z.key) × Had m q z.key (Some z.value)) (sym e)
-    (s.within.0, subst (Had m q y.key) (own_key y) (s.values y.key s.within.0 s.within.1))
-span_had m q from behind (Some y) s x (inr a) = absurd a
-span_had m q from behind None s x a = absurd a
+span_had : (p m q : PassFace) (from behind : ℕ) (pair : Option Pair)
+    → HasReadKeysOfSlot p m q from behind pair → (x : Pair) → Among x (one_of pair)
+    → (from ≤ x.key) × HadSince m q x.key (Some x.value)
+span_had p m q from behind (Some y) s x (inl e) =
+    subst (λ z. (from ≤ z.key) × HadSince m q z.key (Some z.value)) (sym e)
+    (s.within.0, subst (HadSince m q y.key) (own_key y) (s.since y.key s.within.0 s.within.1))
+span_had p m q from behind (Some y) s x (inr a) = absurd a
+span_had p m q from behind None s x a = absurd a
 
 -- both were in turn at a later moment too
 pub turn_later : (p m q : PassFace) (x y : Pair) → HasOnlyRead m q → HadInTurn p m x y → HadInTurn p q x y
@@ -37,21 +37,21 @@ turn_later p m q x y r t =
       before = t.before;
       after = read_more t.between m q t.after r;
       one_had = t.one_had;
-      other_had = had_after t.between m q r y.key (Some y.value) t.other_had;
+      other_had = since_after t.between m q r y.key (Some y.value) t.other_had;
     }
 
 module _ (p : PassFace) (first : ℕ) where
   -- each pair that was read was in the map at a position
   pair_had : (q : PassFace) (behind : ℕ) (pairs : List Pair) → SweepsUp p first q behind pairs
-      → (x : Pair) → Among x pairs → Had p q x.key (Some x.value)
+      → (x : Pair) → Among x pairs → HadSince p q x.key (Some x.value)
   pair_had _ _ _ none_up x a = absurd a
   pair_had q behind pairs (later_up {m = m} s r) x a =
-      had_after p m q r x.key (Some x.value) (pair_had m behind pairs s x a)
+      since_after p m q r x.key (Some x.value) (pair_had m behind pairs s x a)
   pair_had q behind _ (slot_up {m = m} {from = from} {pairs = pairs} pair r s) x a =
       ⊎_elim
-      (λ b. had_after p m q s.read x.key (Some x.value) (pair_had m from pairs r x b))
-      (λ b. had_before p m q (all_swept p first m from pairs r).read x.key (Some x.value)
-      (span_had m q from behind pair s x b).1)
+      (λ b. since_after p m q s.read x.key (Some x.value) (pair_had m from pairs r x b))
+      (λ b. since_before p m q (all_swept p first m from pairs r).read x.key (Some x.value)
+      (span_had p m q from behind pair s x b).1)
       (among-append x pairs (one_of pair) a)
 
   -- and the greater of two at no earlier one
@@ -78,12 +78,12 @@ module _ (p : PassFace) (first : ℕ) where
             before = (all_swept p first m from pairs r).read;
             after = s.read;
             one_had = pair_had m from pairs r x c;
-            other_had = (span_had m q from behind pair s y d).1;
+            other_had = (span_had p m q from behind pair s y d).1;
           }
 
       wrong_way : Among x (one_of pair) → Among y pairs → ⊥
       wrong_way c d =
-          let high = (span_had m q from behind pair s x c).0 in
+          let high = (span_had p m q from behind pair s x c).0 in
           let low = each-among (λ (z : Pair). z.key < from) y pairs
           (all_swept p first m from pairs r).low d in
           omega arith

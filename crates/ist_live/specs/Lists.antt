@@ -6,8 +6,9 @@ use Rattle.ist_core.specs.Elements.{Among, Each}
 use Rattle.ist_core.specs.Logs.{Log, GoesOn}
 use Rattle.ist_core.specs.RowLayout.{anchor}
 use Rattle.ist_tree.specs.Faces.{PassFace}
+use Rattle.ist_tree.specs.RealTime.{StepsIn}
 use Rattle.ist_find.specs.Sweeps.{Swept}
-use Rattle.ist_live.specs.Reading.{HasOnlyRead, Had}
+use Rattle.ist_live.specs.Reading.{HasOnlyRead, Had, HadSince}
 
 -- the value that the first of the pairs with this key gives it
 abbrev pub value_among : List Pair → ℕ → Option ℕ
@@ -22,17 +23,19 @@ pub record AreLive (p q : PassFace) (first last : ℕ) (pairs : List Pair) : Typ
   pub values : (k : ℕ) → first ≤ k → k ≤ last → Had p q k (value_among pairs k)
 
 -- the pass read all of these keys upwards, slot after slot, and found the pairs. Each key had what the
--- pairs give it at a position of its own, and no earlier than the keys below it. It made few loads: 6 at
--- most, and those that the sweep says
+-- pairs give it at a position of its own, since a step of this call, and no earlier than the keys below it.
+-- It made few loads: one, and those that the sweep says
 pub record HasListedLive (p q : PassFace) (first last : ℕ) (pairs : List Pair) : Type 0 where
   pub behind : ℕ
   pub past : last < behind
+  pub began : Log
+  pub step : first ≤ last → StepsIn p q began
   pub at : Log
   pub until : GoesOn at q.seen
   pub row : ℕ
   pub loads : ℕ
-  pub few : q.loaded ≤ p.loaded + 6 + loads
-  pub swept : Swept p.tree.start p.tree.words first anchor p.seen at behind row loads pairs
+  pub few : q.loaded ≤ p.loaded + 1 + loads
+  pub swept : Swept p.tree.start p.tree.words first anchor began at behind row loads pairs
 
 -- there is a moment between both such that the first pair was in the map at a position before it, and the
 -- second at one after it
@@ -40,8 +43,8 @@ pub record HadInTurn (p q : PassFace) (one other : Pair) : Type 0 where
   pub between : PassFace
   pub before : HasOnlyRead p between
   pub after : HasOnlyRead between q
-  pub one_had : Had p between one.key (Some one.value)
-  pub other_had : Had between q other.key (Some other.value)
+  pub one_had : HadSince p between one.key (Some one.value)
+  pub other_had : HadSince between q other.key (Some other.value)
 
 -- time never goes back along the keys: so it is of any two of the pairs
 abbrev pub AreInTurn : PassFace → PassFace → List Pair → Type 0

@@ -1,11 +1,13 @@
 -- Reading keys in order: one span after another, each at a later moment of the pass.
 use Rattle.std.specs.Prelude.{◌≡◌, ℕ, ◌+◌, ◌<◌, ◌≤◌, ◌⊎◌, List, [], ◌++◌, Option, None, IfSome}
 use Rattle.ist_core.specs.declared.pairs.Pair.{Pair}
+use Rattle.ist_core.specs.Logs.{Log}
 use Rattle.laws_histories.specs.Searching.{HasPosition}
 use Rattle.ist_find.specs.Spans.{pair_value, IsEdge}
 use Rattle.ist_find.specs.Sweeps.{one_of}
 use Rattle.ist_tree.specs.Calls.{HasSeenMore}
 use Rattle.ist_tree.specs.Faces.{PassFace}
+use Rattle.ist_tree.specs.RealTime.{StepsIn}
 use Rattle.ist_tree.specs.Spans.{HasLoadedFewOver, state_seen}
 
 -- the pass has seen more, and is otherwise unchanged: a read is no call of the map
@@ -16,8 +18,14 @@ pub record HasOnlyRead (p q : PassFace) : Type 0 where
   pub refused : q.refused ≡ p.refused
 
 -- between these two moments of the pass, the key had this value, or none, at some position
-abbrev pub Had : PassFace → PassFace → ℕ → Option ℕ → Type 0
-Had p q key value = HasPosition p.tree.start p.tree.words p.seen q.seen key value
+abbrev pub HadSince : PassFace → PassFace → ℕ → Option ℕ → Type 0
+HadSince p q key value = HasPosition p.tree.start p.tree.words p.seen q.seen key value
+
+-- the key had this value, or none, at some position since a step of the pass between these moments
+pub record Had (p q : PassFace) (key : ℕ) (value : Option ℕ) : Type 0 where
+  pub at : Log
+  pub step : StepsIn p q at
+  pub position : HasPosition p.tree.start p.tree.words at q.seen key value
 
 -- each key from the first to before `behind` had none, at a position of its own
 abbrev pub HadNone : PassFace → PassFace → ℕ → ℕ → Type 0

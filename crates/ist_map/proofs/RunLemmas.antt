@@ -16,13 +16,15 @@ use Rattle.ist_rest.specs.Standings.{Stands}
 use Rattle.ist_rest.proofs.MapLemmas.{hold_map}
 use Rattle.ist_tree.specs.Faces.{MakerFace}
 use Rattle.ist_tree.specs.Closing.{ClosesWith, calls_taken, told_to}
-use Rattle.ist_reopen.specs.Generations.{Generation, generation_of, FollowOn, pairs_left, history}
-use Rattle.ist_reopen.specs.Interleaving.{calls_of, told_over}
+use Rattle.ist_reopen.specs.Generations.{Generation, generation_of, FollowOn, moments_over, pairs_left, history}
+use Rattle.ist_reopen.specs.Generations.{calls_of}
+use Rattle.ist_reopen.specs.Interleaving.{told_over}
 use Rattle.ist_map.specs.Hands.{HaveWorked}
 use Rattle.ist_map.specs.Growing.{HaveDoubled, words_for_tree, asked_after}
 use Rattle.ist_map.specs.Running.{HasRunOn, HasRunTo, IsOneHistory}
 use Rattle.ist_reopen.proofs.GenerationLemmas.{closed_is, history_legal, history_leads}
 use Rattle.ist_reopen.proofs.PassLemmas.{made_over}
+use Rattle.ist_reopen.proofs.TimeLemmas.{history_linear, moments_told}
 
 -- trees that follow others, which lead to where these begin, follow on from where the others began
 pub follow-append : (first middle last : List Pair) (gs hs : List Generation)
@@ -142,6 +144,9 @@ run_is_one first last asked before after r = record {
   leads = history_leads r.began r.ended r.trees r.follow;
   told = told_over r.trees;
   made = made_over r.began r.ended r.trees r.follow;
+  moments = moments_over r.trees;
+  linear = history_linear r.began r.ended r.trees r.follow;
+  returned = moments_told r.began r.ended r.trees r.follow;
   told_are = r.told;
 }
 

@@ -1,11 +1,15 @@
 -- Workers that run on trees that follow one another.
-use Rattle.std.specs.Prelude.{◌≡◌, ◌≢◌, ℕ, ◌≤◌, List, [], ◌++◌, Any, Option, IsSome, slice_index_or}
+use Rattle.std.specs.Prelude.{◌≡◌, ◌≢◌, ℕ, ◌≤◌, List, [], ◌++◌, map, Any, Option, IsSome, slice_index_or}
 use Rattle.ist_core.specs.declared.pairs.Pair.{Pair}
 use Rattle.ist_core.specs.declared.ports.Full.{Full}
 use Rattle.ist_core.specs.Map.{map_of}
 use Rattle.ist_core.specs.Histories.{IsLegal}
 use Rattle.ist_core.specs.RowLayout.{place_limit}
 use Rattle.ist_core.specs.Replies.{Answered}
+use Rattle.ist_core.specs.Resting.{told_by_call}
+use Rattle.laws_real_time.specs.Moments.{Moments}
+use Rattle.laws_real_time.specs.Making.{calls_returned}
+use Rattle.laws_real_time.specs.Joining.{LinearizesTo}
 use Rattle.ist_rest.specs.RestingWords.{HoldPairs}
 use Rattle.ist_tree.specs.Faces.{TreeFace, MakerFace}
 use Rattle.ist_reopen.specs.declared.faults.ReopenFault.{ReopenFault}
@@ -42,7 +46,7 @@ pub record HasStopped (first last : List ℕ) (asked : ℕ) (before after : List
 
 -- the calls of all workers form one legal history, from the pairs that the first words hold to those
 -- that the last hold. It is made of what each worker was told in this run: each answered call once,
--- in the worker's order, and no others
+-- in the worker's order, and no others. By their moments these calls are linearizable
 pub record IsOneHistory (first last : List ℕ) (before after : List (List Answered)) : Type 0 where
   pub began : List Pair
   pub began_held : HoldPairs first began
@@ -53,6 +57,9 @@ pub record IsOneHistory (first last : List ℕ) (before after : List (List Answe
   pub leads : map_told (map_of began) history ≡ map_of ended
   pub told : ℕ → List Answered
   pub made : IsMadeOf told history
+  pub moments : Moments
+  pub linear : LinearizesTo (map_of began) moments (map_of ended)
+  pub returned : (number : ℕ) → map told_by_call (calls_returned number moments) ≡ told number
   pub told_are : (number : ℕ) → slice_index_or after number []
       ≡ slice_index_or before number [] ++ told number
 

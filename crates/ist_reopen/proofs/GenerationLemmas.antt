@@ -1,12 +1,8 @@
 -- Closed trees are generations, and the calls on trees that follow one another are one legal
 -- history. Serves the laws.
-use Rattle.std.proofs.Common.{◌≡◌, ℕ, zero, suc, ◌+◌, ◌<◌, List, [], ◌∷◌, length, map, refl, sym, ap, subst, ◌∙◌}
-use Rattle.std.specs.FinMap as fin
-use Rattle.std.specs.FinMap.{same_map, nat_cmp-IsAntisymmetric}
-use Rattle.std.specs.Ordering.{nat_cmp}
-use Rattle.std.specs.Cmp.{nat_cmp_total}
+use Rattle.std.proofs.Common.{◌≡◌, ℕ, zero, suc, ◌+◌, ◌<◌, List, [], ◌∷◌, length, refl, sym, ap, subst, ◌∙◌}
 use Rattle.ist_core.specs.declared.pairs.Pair.{Pair}
-use Rattle.ist_core.specs.Map.{Map, map_of, pairs_of}
+use Rattle.ist_core.specs.Map.{map_of}
 use Rattle.ist_core.specs.Elements.{Each}
 use Rattle.ist_core.specs.Histories.{PassCalls, IsLegal}
 use Rattle.ist_core.specs.Resting.{AllStandIn}
@@ -20,6 +16,8 @@ use Rattle.ist_tree.specs.Closing.{ClosesWith, calls_from}
 use Rattle.ist_reopen.specs.Generations.{Generation, generation_of, IsGeneration, FollowOn, history}
 use Rattle.ist_reopen.specs.Generations.{changes_in, history_in, pairs_left, map_told}
 use Rattle.ist_reopen.proofs.HistoryLemmas.{told-append, woven_leads}
+use Rattle.ist_reopen.proofs.MapLemmas.{pairs_are_map}
+use Rattle.ist_reopen.proofs.TimeLemmas.{returned_are}
 
 -- there is a list of calls for each number
 calls_long : (number count : ℕ) (taken : List PassCalls)
@@ -36,20 +34,10 @@ closed_is m closed c = record {
       c.stands.stand;
   owners = subst (λ n. Each (λ entry. entry.owner < n) (changes_in (generation_of m closed c)))
       (sym (calls_long 0 m.made m.taken)) c.owners;
+  linear = record { linear = c.timed.linear; leads = c.leads };
+  over = c.timed.over;
+  returned = returned_are m closed c;
 }
-
--- the pairs of a map make the map
-pairs_are_map : (n : Map) → map_of (pairs_of n) ≡ n
-pairs_are_map n = same_map nat_cmp_total nat_cmp-IsAntisymmetric _ _
-    (λ q. fin.get-from_entries nat_cmp_total _ q
-    ∙ ap (fin.find nat_cmp q) (same_entries (fin.entries n))
-    ∙ sym (fin.get-entries n q))
-  where
-    same_entries : (es : List (ℕ × ℕ))
-        → map {A = Pair} (λ p. (p.key, p.value)) (map (λ e. record { key = e.0; value = e.1 }) es)
-        ≡ es
-    same_entries [] = refl
-    same_entries (e ∷ es) = ap (λ xs. e ∷ xs) (same_entries es)
 
 -- the history of one tree is legal
 pub one_legal : (g : Generation) → IsGeneration g → IsLegal (map_of g.start) (history_in g)

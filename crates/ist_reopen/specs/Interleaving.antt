@@ -1,9 +1,8 @@
 -- A history that is made of several lists of calls, each in its own order.
-use Rattle.std.specs.Prelude.{◌≡◌, ℕ, ◌==◌, List, [], ◌∷◌, ◌++◌, map, filter, slice_index_or}
-use Rattle.ist_core.specs.declared.calls.Call.{Call}
+use Rattle.std.specs.Prelude.{◌≡◌, ℕ, ◌==◌, List, [], ◌∷◌, ◌++◌, map, filter}
 use Rattle.ist_core.specs.Replies.{Answered}
 use Rattle.ist_core.specs.Resting.{told_by_call}
-use Rattle.ist_reopen.specs.Generations.{Generation}
+use Rattle.ist_reopen.specs.Generations.{Generation, calls_of}
 
 -- an answered call, with the number of the pass that made it
 pub record Owned : Type 0 where
@@ -20,10 +19,6 @@ pub record IsMadeOf (lists : ℕ → List Answered) (history : List Answered) : 
   pub owned : List Owned
   pub told_are : map (λ x. x.told) owned ≡ history
   pub each : (number : ℕ) → told_to_pass number owned ≡ lists number
-
--- the calls of the pass with this number on one tree, or none if it has no such pass
-abbrev pub calls_of : Generation → ℕ → List Call
-calls_of g number = slice_index_or g.calls number []
 
 -- what the passes with this number were told on all trees, one tree after another
 abbrev pub told_over : List Generation → ℕ → List Answered

@@ -2,6 +2,7 @@
 //! laws.
 ghost use Rattle.ist_reopen.specs.Laws.{OpenedTreesFollow, ClosedTreesAreGenerations};
 ghost use Rattle.ist_reopen.specs.Laws.{HistoriesAreOne, HistoriesLeadOn, HistoriesAreMadeOfCalls};
+ghost use Rattle.ist_reopen.specs.Laws.{HistoriesAreLinearizable, MomentsAreOfCalls};
 
 /// A tree that is opened over a closed one, at any time later, begins with exactly the pairs that all
 /// calls of the closed one's passes left, as a tree that `reopen` opens does.
@@ -28,4 +29,12 @@ pub fn histories_are_one()
 /// another: each answered call once, in the order of its number's calls, and no others.
 pub fn histories_are_made_of_calls()
     ensures made { HistoriesAreMadeOfCalls }
+{}
+
+/// The calls on all trees are linearizable together: they have one order that is legal from the pairs of
+/// the first tree on, leads to those that the last one left, and keeps real time. They are what the passes
+/// of each number were told.
+pub fn histories_are_linearizable()
+    ensures linearizable { HistoriesAreLinearizable }
+    ensures calls { MomentsAreOfCalls }
 {}

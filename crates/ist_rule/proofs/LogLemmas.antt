@@ -1,13 +1,13 @@
 -- A step that is an event of its seat: what it keeps, and what the seat learns. Serves exchanges and
 -- adds.
-use Rattle.std.proofs.Common.{◌≡◌, ◌≢◌, ℕ, List, [], ◌∷◌, slice_index, slice_set, Some, refl, sym, ap, ◌∙◌, subst, le_refl}
+use Rattle.std.proofs.Common.{◌≡◌, ◌≢◌, ◌⊎◌, inl, inr, ℕ, List, [], ◌∷◌, slice_index, slice_set, Some, refl, sym, ap, ◌∙◌, subst, le_refl}
 use Rattle.atomic_table.specs.Table.{keeps}
 use Rattle.ist_core.specs.declared.events.Event.{Event}
 use Rattle.ist_core.specs.Elements.{Each}
 use Rattle.ist_core.specs.StartLayout.{start}
 use Rattle.ist_core.specs.Images.{IsImage}
 use Rattle.ist_core.specs.Writing.{touch_of, touched}
-use Rattle.ist_core.specs.Logs.{Log, one_event}
+use Rattle.ist_core.specs.Logs.{Log, same_log, one_event}
 use Rattle.ist_core.specs.Enabled.{Enabled}
 use Rattle.ist_core.specs.Lawful.{EachEnabled, Lawful, state_of}
 use Rattle.ist_rule.specs.declared.view.View.{View}
@@ -15,7 +15,15 @@ use Rattle.ist_rule.specs.declared.view.Taken.{Taken}
 use Rattle.ist_rule.specs.declared.view.About.{About}
 use Rattle.ist_core.specs.declared.events.Who.TheVariants.{Caller, Spent}
 use Rattle.ist_core.specs.Authors.{no_more, one_more, whose}
-use Rattle.ist_rule.specs.Rule.{IsNamed, IsRetired, Owns, HasView, Fits, Kept, IsSound}
+use Rattle.laws_real_time.specs.Moments.{in_call}
+use Rattle.laws_real_time.specs.Making.{calls_returned}
+use Rattle.laws_real_time.proofs.KeepLemmas.{kept_on}
+use Rattle.ist_rule.specs.Standings.{CallStands}
+use Rattle.ist_rule.specs.Speaking.{pending_of}
+use Rattle.ist_rule.specs.Rule.{IsNamed, IsRetired, IsTimed, Owns, HasView, Fits, Kept, IsSound}
+use Rattle.ist_rule.proofs.CallLemmas.{call_by_others}
+use Rattle.ist_rule.proofs.SpeakLemmas.{caller_or, heard_spoken, spoken_stands}
+use Rattle.ist_rule.proofs.TimedLemmas.{timed_view}
 use Rattle.ist_rule.specs.Playing.{Seated}
 use Rattle.ist_rule.specs.Learning.{logging, Logged}
 use Rattle.ist_rule.specs.Conditions.{CanMake}
@@ -98,9 +106,33 @@ module _ (k : About) (s : Table) (r : Kept k s) (id : ℕ) (me : Seated) (live :
         later = no_more;
         owns = owns_now v f;
         well_made = well_made_but k.start.value.items k.words m refl m.stands m.stamps m.recalls
-            m.in_order m.since m.taken_given m.in_none;
+            m.in_order m.since m.taken_given m.in_none m.moments m.olds;
         is_true = true_but k.start.value.items k.words log' t refl t.call;
       }
+
+  -- the moments of all calls stay kept, and each caller's changes are known
+  timed_now : IsTimed k log' r.moments (slice_set s.views id w)
+  timed_now =
+      record {
+        kept = kept_on k.start.value.items k.words r.log log' r.moments
+            (one_event event same_log) r.timed.kept;
+        working = λ number. at number (caller_or (whose event) number);
+        heard = (timed_view k r.log r.moments s.views id w r.timed
+            (r.timed.heard id v mine live)).heard;
+      }
+    where
+      at : (number : ℕ) → (whose event ≡ Caller number) ⊎ (whose event ≢ Caller number)
+          → CallStands k.start.value.items k.words log' number (calls_returned number r.moments)
+          (pending_of (in_call number r.moments))
+      at number (inl e) =
+          let is : v.who ≡ Caller number = sym make.mine ∙ e in
+          spoken_stands k.start.value.items k.words log' r.moments number v.calls v.pending
+          (heard_spoken k.start.value.items r.moments v number is f.well_made.moments
+          (r.timed.heard id v mine live))
+          (fits_own.is_true.call number is)
+      at number (inr other) =
+          call_by_others k.start.value.items k.words number (calls_returned number r.moments) r.log event
+          enabled' (pending_of (in_call number r.moments)) other (r.timed.working number)
 
   -- the view after the event is sound
   pub sound_now : IsSound w
@@ -113,7 +145,7 @@ module _ (k : About) (s : Table) (r : Kept k s) (id : ℕ) (me : Seated) (live :
       (subst (IsImage (state_of k.start.value.items k.words log')) words_behind
       (image_behind k.start.value.items k.words r.lawful.opens r.log event enabled' s.words r.image
       v make.mine f.owns make.stored))
-      others fits_own (r.retired id v mine live)
+      others fits_own (r.retired id v mine live) r.moments timed_now
 
   -- the longest log is the old one with the event
   pub kept_log : kept.log ≡ log'

@@ -4,7 +4,6 @@ use Rattle.std.proofs.Common.{◌≡◌, ◌≢◌, ℕ, ◌+◌, ◌^◌, ◌<�
 use Rattle.std.proofs.lemmas.List.{set-get_or}
 use Rattle.std.proofs.lemmas.Option.{get_or_from_slice_get}
 use mathlib.Core.Option as maybe
-use mathlib.Core.Option.{some}
 use Rattle.atomic_table.specs.Table.{step, Act, keeps, Valid, carried_after, stepped, Allows}
 use Rattle.ist_core.specs.declared.lists.HeldRow.{HeldRow}
 use Rattle.ist_core.specs.Elements.{Among, Each}
@@ -16,7 +15,7 @@ use Rattle.ist_rule.specs.declared.view.About.{About}
 use Rattle.ist_core.specs.declared.events.Who.TheVariants.{Caller, Spent}
 use Rattle.ist_core.specs.Authors.{Later}
 use Rattle.ist_core.specs.Shown.{IsShown}
-use Rattle.ist_rule.specs.Rule.{own_at, Recalls, IsRetired, HasView, Fits, Kept, IsSound}
+use Rattle.ist_rule.specs.Rule.{own_at, Recalls, IsRetired, IsTimed, HasView, Fits, Kept, IsSound}
 use Rattle.ist_rule.specs.Playing.{Seated, looks}
 use Rattle.ist_rule.specs.Learning.{seeing, Looked, Turned}
 use Rattle.ist_core.proofs.ShownLemmas.{image_shows}
@@ -24,6 +23,8 @@ use Rattle.ist_core.proofs.PrefixLemmas.{goes_on_length, goes_on_by}
 use Rattle.ist_rule.proofs.FitLemmas.{each_map, well_made_on}
 use Rattle.ist_rule.proofs.ViewPartLemmas.{fits_loads}
 use Rattle.ist_rule.proofs.FrameLemmas.{Table, moved}
+use Rattle.laws_real_time.specs.Moments.{Moments}
+use Rattle.ist_rule.proofs.TimedLemmas.{timed_view, heard_same}
 use Rattle.ist_rule.proofs.SoundViewLemmas.{as_view, sound_of}
 
 -- what to show at a step that finds a word at the place and leaves y: a new view under the rule,
@@ -38,6 +39,7 @@ GoesAtStep k s place id me then y =
 pub quiet : (k : About) (s : Table) (r : Kept k s) (id : ℕ) (v w : View) → HasView s id v
     → v.who ≢ Spent
     → w.who ≡ v.who → w.given ≡ v.given → w.taken ≡ v.taken → Fits k r.log s.words w
+    → (moments : Moments) → IsTimed k r.log moments (slice_set s.views id w)
     → (place : ℕ)
     → Kept k (record {
       words = slice_set s.words place (slice_index s.words place);
@@ -45,13 +47,13 @@ pub quiet : (k : About) (s : Table) (r : Kept k s) (id : ℕ) (v w : View) → H
           s.homes;
       views = slice_set s.views id w;
     })
-quiet k s r id v w mine live who given taken f place =
+quiet k s r id v w mine live who given taken f moments timed place =
     subst (λ ws. Kept k (record { words = ws; homes = s.homes; views = slice_set s.views id w }))
     (sym (set-get_or s.words place 0))
     (moved k s r id v w s.homes mine live who
     (subst (λ n. v.given ≤ n) (sym given) (le_refl v.given)) r.log s.words r.lawful
     r.image (λ i u at alive _ g. g) f
-    (subst (Each (IsRetired s)) (sym taken) (r.retired id v mine live)))
+    (subst (Each (IsRetired s)) (sym taken) (r.retired id v mine live)) moments timed)
 
 -- ---- a load
 
@@ -116,7 +118,9 @@ sees k s r id me place then live mine fits told =
       keeps,
       tt,
       quiet k s r id me.0 (w k s r me.0 f place) mine live refl refl refl
-          (fits_seeing k s r me.0 f place) place,
+          (fits_seeing k s r me.0 f place) r.moments
+          (timed_view k r.log r.moments s.views id (w k s r me.0 f place) r.timed
+          (r.timed.heard id me.0 mine live)) place,
       told (looked k s r me.0 f place live fits),
     )
 
@@ -139,6 +143,8 @@ pub record CanTurn (v : View) (turn : Log → View) : Type 0 where
   pub taken : (log : Log) → (turn log).taken ≡ v.taken
   -- it has seen the whole log
   pub log_is : (log : Log) → (turn log).log ≡ log
+  -- it has heard of no more calls
+  pub moments : (log : Log) → (turn log).moments ≡ v.moments
   -- if the view before fits the words and a lawful log, the new one does too
   pub fits : (k : About) (log : Log) (image : List ℕ) → Lawful k.start.value.items k.words log
       → Fits k log image v → Fits k log image (turn log)
@@ -162,7 +168,10 @@ turns_moves k slots id me turn then live can told s r _ mine fits =
       w,
       keeps,
       tt,
-      quiet k s r id v w mine live (can.who r.log) (can.given r.log) (can.taken r.log) g 0,
+      quiet k s r id v w mine live (can.who r.log) (can.given r.log) (can.taken r.log) g r.moments
+          (timed_view k r.log r.moments s.views id w r.timed
+          (heard_same r.moments v w (can.who r.log) (can.moments r.log) (can.given r.log)
+          (can.taken r.log) (r.timed.heard id v mine live))) 0,
       told (slice_index s.words 0) w record {
         later =
             subst (Later v.who v.log) (sym log) f.later;

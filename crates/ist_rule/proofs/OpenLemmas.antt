@@ -13,7 +13,13 @@ use Rattle.ist_rule.specs.declared.view.About.{About}
 use Rattle.ist_core.specs.declared.events.Who.{Who}
 use Rattle.ist_core.specs.declared.events.Who.TheVariants.{Maker, Spent}
 use Rattle.ist_core.specs.Authors.{no_more}
-use Rattle.ist_rule.specs.Rule.{KeepsCalls, its_own, noted, IsWellMade, IsTrueIn, IsRetired, Fits, Kept, opened_view, first_view}
+use Rattle.ist_core.specs.Changes.{changes_of, map_behind}
+use Rattle.ist_core.specs.Map.{map_of}
+use Rattle.laws_real_time.specs.Joining.{LinearizesTo}
+use Rattle.ist_rule.specs.Speaking.{no_later}
+use Rattle.ist_rule.proofs.HeldLemmas.{idle_between}
+use Rattle.ist_rule.proofs.SpeakLemmas.{none_linear, working_linear}
+use Rattle.ist_rule.specs.Rule.{IsHeard, KeepsCalls, its_own, noted, IsWellMade, IsTrueIn, IsRetired, Fits, Kept, opened_view, first_view}
 use Rattle.ist_rule.specs.Seating.{IsLast}
 use Rattle.ist_rule.proofs.ViewPartLemmas.{well_made_plain}
 use Rattle.ist_rule.proofs.WhoLemmas.{maker_caller}
@@ -28,6 +34,11 @@ first_well_made : (pairs : List Pair) (words : ℕ) → IsWellMade pairs words (
 first_well_made pairs words =
     well_made_plain pairs words (opened_view pairs words) Maker []
     (λ number keeps. absurd (maker_keeps number Maker keeps refl)) tt
+    record {
+      spoken = λ number is. absurd (maker_caller number is);
+      silent = λ _ number above. tt;
+      linear = none_linear (map_of pairs);
+    }
 
 -- the first view and the empty log
 first_true : (pairs : List Pair) (words : ℕ) → IsTrueIn pairs words [] (opened_view pairs words)
@@ -68,6 +79,19 @@ opens k words can image =
           (sym (ap (λ y. y.who) (sym (only v j x bt).0)) ∙ is);
       retired = λ i u at live. subst (λ y. Each (IsRetired (opening words [] v)) y.taken)
           (only v i u at).0 tt;
+      moments = [];
+      timed = record {
+        kept = record {
+          well_formed = tt;
+          never_fall = tt;
+          counted = tt;
+          placed = tt;
+          began = λ number begun i. absurd (cc);
+        };
+        working = λ number. idle_between k.start.value.items k.words [] number tt tt;
+        heard = λ i u at live. subst (IsHeard []) (only v i u at).0
+            record { later = no_later; silent = λ _ n above. tt; taken = tt };
+      };
     }
 
 -- what the words are after the last step
@@ -78,8 +102,15 @@ closes k id v words slots live fin =
     let r : Kept k s = fin.1.0 in
     let f = r.seats id v fin.1.1 live in
     let it = as_view k r.log s.words v f (λ p n. Lawful p n r.log
-    × IsImage (state_of p n r.log) s.words × IsWellMade p n v × IsTrueIn p n r.log v)
-    (r.lawful, r.image, f.well_made, f.is_true) in
+    × IsImage (state_of p n r.log) s.words × IsWellMade p n v × IsTrueIn p n r.log v
+    × LinearizesTo (map_of p) r.moments (map_behind (map_of p) (changes_of p n r.log))) (
+      r.lawful,
+      r.image,
+      f.well_made,
+      f.is_true,
+      working_linear k.start.value.items k.words r.log r.moments r.lawful r.timed.kept
+          r.timed.working,
+    ) in
     record {
       log = r.log;
       later = f.later;
@@ -87,4 +118,7 @@ closes k id v words slots live fin =
       is_image = subst (IsImage (state_of v.start v.words r.log)) fin.2 it.1;
       well_made = it.2;
       is_true = it.3;
+      moments = r.moments;
+      linear = it.4;
+      heard = r.timed.heard id v fin.1.1 live;
     }

@@ -5,7 +5,9 @@ use Rattle.ist_core.specs.declared.commands.Command.{Command}
 use Rattle.ist_core.specs.declared.events.Event.{Event}
 use Rattle.ist_core.specs.declared.events.Event.TheVariants.{Enter}
 use Rattle.ist_core.specs.declared.lists.HeldRow.{HeldRow}
-use Rattle.ist_core.specs.Elements.{Among}
+use Rattle.ist_core.specs.Changes.{changes_of}
+use Rattle.ist_core.specs.Elements.{Among, Each}
+use Rattle.ist_core.specs.Standing.{position_behind}
 use Rattle.ist_core.specs.Snapshots.{Snapshot}
 use Rattle.ist_core.specs.Logs.{Log}
 use Rattle.ist_core.specs.Lawful.{state_of}
@@ -15,6 +17,12 @@ use Rattle.ist_rule.specs.declared.view.Loads.{Loads}
 use Rattle.ist_core.specs.declared.events.Who.TheVariants.{Caller}
 use Rattle.ist_core.specs.Authors.{Later}
 use Rattle.ist_core.specs.Shown.{IsShown}
+use Rattle.laws_real_time.specs.declared.moments.Deed.{Deed}
+use Rattle.laws_real_time.specs.declared.moments.Deed.TheVariants.{Begins, Returns, GivesUp}
+use Rattle.laws_real_time.specs.declared.moments.Moment.{Moment}
+use Rattle.laws_real_time.specs.Moments.{Moments, ended}
+use Rattle.laws_real_time.specs.Keeping.{moment_now}
+use Rattle.ist_rule.specs.Speaking.{number_of, MomentsLater}
 use Rattle.ist_rule.specs.Rule.{own_at, IsSound}
 
 -- the state after the log that the seat has seen
@@ -128,11 +136,31 @@ pub record Turned (v : View) (turn : Log → View) (w : View) : Type 0 where
   pub view : w ≡ turn w.log
   pub sound : IsSound w
 
+-- what the seat's caller did, when the log was this one
+abbrev pub moment_seen : View → Log → Deed → Moment
+moment_seen v log deed = moment_now v.start v.words log (number_of v.who) deed
+
+-- the view after a load at which its call began or ended, or a read began: all moments before it are
+-- seen, and each call that returned in them has its position among the changes that are seen
+pub record TurnedAt (v : View) (turn : Log → Moments → View) (w : View) : Type 0 where
+  pub later : Later v.who v.log w.log
+  pub before : Moments
+  pub since : MomentsLater v.who v.moments before
+  pub placed : Each (λ x. position_behind x.call ≤ length (changes_of v.start v.words w.log))
+      (ended before)
+  pub view : w ≡ turn w.log before
+  pub sound : IsSound w
+
 -- the view that has begun a call with this command
-abbrev pub beginning : View → Option Command → Log → View
-beginning v command log =
+abbrev pub beginning : View → Option Command → Log → Moments → View
+beginning v command log moments =
     let pending = Some record { command = command; length = length log } in
-    record v { log = log; pending = pending; loaded = v.loaded + 1 }
+    record v {
+      log = log;
+      moments = moment_seen v log (Begins command) ∷ moments;
+      pending = pending;
+      loaded = v.loaded + 1;
+    }
 
 -- the view that has begun a search
 abbrev pub searching : View → Log → View
@@ -144,15 +172,40 @@ searching v log =
       searches = v.searches + 1;
     }
 
+-- the view that has begun a read, which is a search in no call. It marks its beginning by a call
+-- without a command that is given up at once
+abbrev pub beginning_read : View → Log → Moments → View
+beginning_read v log moments =
+    record v {
+      log = log;
+      moments = moment_seen v log GivesUp ∷ moment_seen v log (Begins None) ∷ moments;
+      loads = record { since = length log; list = [] };
+      loaded = v.loaded + 1;
+      searches = v.searches + 1;
+    }
+
 -- the view that has ended its call
-abbrev pub ending : View → Call → Log → View
-ending v call log =
+abbrev pub ending : View → Call → Log → Moments → View
+ending v call log moments =
     let calls = v.calls ++ call ∷ [] in
-    record v { log = log; calls = calls; stamp = call.stamp; pending = None; loaded = v.loaded + 1 }
+    record v {
+      log = log;
+      moments = moment_seen v log (Returns call) ∷ moments;
+      calls = calls;
+      stamp = call.stamp;
+      pending = None;
+      loaded = v.loaded + 1;
+    }
 
 -- the view that has given up its call
-abbrev pub giving_up : View → Log → View
-giving_up v log = record v { log = log; pending = None; loaded = v.loaded + 1 }
+abbrev pub giving_up : View → Log → Moments → View
+giving_up v log moments =
+    record v {
+      log = log;
+      moments = moment_seen v log GivesUp ∷ moments;
+      pending = None;
+      loaded = v.loaded + 1;
+    }
 
 -- ---- own words
 

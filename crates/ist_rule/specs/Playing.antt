@@ -5,7 +5,7 @@ use Rattle.ist_core.specs.declared.calls.Call.{Call}
 use Rattle.ist_core.specs.declared.commands.Command.{Command}
 use Rattle.ist_core.specs.declared.events.Event.{Event}
 use Rattle.ist_rule.specs.declared.view.View.{View}
-use Rattle.ist_rule.specs.Learning.{Looked, LoggedAdd, LoadedAs, Naming, Exchanged, ExchangedOrLost, Turned, storing, beginning, searching, ending, giving_up}
+use Rattle.ist_rule.specs.Learning.{Looked, LoggedAdd, LoadedAs, Naming, Exchanged, ExchangedOrLost, Turned, TurnedAt, storing, beginning, searching, beginning_read, ending, giving_up}
 use Rattle.ist_rule.specs.Several.{ExchangedAll}
 
 -- a seat: its view, and the slots that it has taken, which are none
@@ -40,19 +40,23 @@ adds event step me found you = LoggedAdd me.0 event step.word found you.0 × (yo
 
 -- a load that begins a call
 abbrev pub begins : Option Command → Told
-begins command step me found you = Turned me.0 (beginning me.0 command) you.0 × (you.1 ≡ me.1)
+begins command step me found you = TurnedAt me.0 (beginning me.0 command) you.0 × (you.1 ≡ me.1)
 
 -- a load that begins a search
 abbrev pub searches : Told
 searches step me found you = Turned me.0 (searching me.0) you.0 × (you.1 ≡ me.1)
 
+-- a load that begins a read
+abbrev pub reads : Told
+reads step me found you = TurnedAt me.0 (beginning_read me.0) you.0 × (you.1 ≡ me.1)
+
 -- a load that ends a call
 abbrev pub ends : Call → Told
-ends call step me found you = Turned me.0 (ending me.0 call) you.0 × (you.1 ≡ me.1)
+ends call step me found you = TurnedAt me.0 (ending me.0 call) you.0 × (you.1 ≡ me.1)
 
 -- a load that gives up a call
 abbrev pub gives_up : Told
-gives_up step me found you = Turned me.0 (giving_up me.0) you.0 × (you.1 ≡ me.1)
+gives_up step me found you = TurnedAt me.0 (giving_up me.0) you.0 × (you.1 ≡ me.1)
 
 -- a load that is an event if it is named so
 abbrev pub loads_as : Naming → Told

@@ -19,7 +19,11 @@ use Rattle.ist_core.specs.declared.events.Who.{Who}
 use Rattle.ist_core.specs.declared.events.Who.TheVariants.{Maker, Caller, Note, Spent}
 use Rattle.ist_core.specs.Authors.{Later, IsIdleIn}
 use Rattle.ist_core.specs.Shown.{IsShown}
+use Rattle.laws_real_time.specs.Moments.{Moments, in_call}
+use Rattle.laws_real_time.specs.Making.{calls_returned}
+use Rattle.laws_real_time.specs.Keeping.{KeepsTime}
 use Rattle.ist_rule.specs.Standings.{StandsInPrefix, IsBetween, CallStands}
+use Rattle.ist_rule.specs.Speaking.{pending_of, HasSpoken, IsSilent, MomentsGoOn, MomentsLater, HasMoments}
 
 -- the word that was stored at the place last, and 0 if none was
 abbrev pub own_at : List OwnWord → ℕ → ℕ
@@ -53,7 +57,8 @@ NeverFall since (load ∷ loads) = (since ≤ load.length) × Each (λ l. l.leng
     × NeverFall since loads
 
 -- the seat that met another went on to the log of both by events of others, and all of that is seen
-pub record IsMet (log : Log) (met : Met) : Type 0 where
+pub record IsMet (log : Log) (moments : Moments) (met : Met) : Type 0 where
+  pub heard : MomentsGoOn met.moments moments
   pub later : Later met.who met.log met.both
   pub seen : GoesOn met.both log
 
@@ -65,13 +70,14 @@ pub record IsWellMade (pairs : List Pair) (words : ℕ) (v : View) : Type 0 wher
   pub recalls : Each (Recalls pairs words v.log) v.loads.list
   pub in_order : NeverFall v.loads.since v.loads.list
   pub since : v.loads.since ≤ length v.log
-  pub olds : Each (IsMet v.log) v.olds
+  pub olds : Each (IsMet v.log v.moments) v.olds
   pub taken_stand : Each (λ t. StandsInPrefix pairs words t.log t.number t.calls) v.taken
   pub taken_seen : Each (λ t. GoesOn t.log v.log) v.taken
   pub taken_once : Distinct (map (λ t. t.number) v.taken)
   pub taken_given : Each (λ t. t.number < v.given) v.taken
   pub maker_takes : v.who ≢ Maker → v.taken ≡ []
   pub in_none : (v.who ≡ Maker) → v.pending ≡ None
+  pub moments : HasMoments pairs v.who v.given v.moments v.calls v.pending
 
 -- ---- what a view says of the longest log
 
@@ -118,6 +124,27 @@ pub record Fits (k : About) (log : Log) (image : List ℕ) (v : View) : Type 0 w
   pub well_made : IsWellMade k.start.value.items k.words v
   pub is_true : IsTrueIn k.start.value.items k.words log v
 
+-- the moments that a seat has seen are followed by those of others only. A caller without a seat
+-- has no moment, and one that was taken back has its calls
+pub record IsHeardOf (moments : Moments) (who : Who) (seen : Moments) (given : ℕ)
+    (back : List Taken) : Type 0 where
+  pub later : MomentsLater who seen moments
+  pub silent : who ≡ Maker → (number : ℕ) → given ≤ number → IsSilent number moments
+  pub taken : Each (λ t. HasSpoken moments t.number t.calls None) back
+
+-- the same of a view
+abbrev pub IsHeard : Moments → View → Type 0
+IsHeard moments v = IsHeardOf moments v.who v.moments v.given v.taken
+
+-- the moments of all calls: they are kept beside the log, what became of each caller's changes is
+-- known by them, and each seat has seen the first of them
+pub record IsTimed (k : About) (log : Log) (moments : Moments) (views : List View) : Type 0 where
+  pub kept : KeepsTime k.start.value.items k.words log moments
+  pub working : (number : ℕ)
+      → CallStands k.start.value.items k.words log number (calls_returned number moments)
+      (pending_of (in_call number moments))
+  pub heard : (i : ℕ) (v : View) → get_elem? views i ≡ some v → v.who ≢ Spent → IsHeard moments v
+
 -- seat i has this view
 abbrev pub HasView : T.State (Unit {0}) View → ℕ → View → Type 0
 HasView s i v = get_elem? s.views i ≡ some v
@@ -140,6 +167,9 @@ pub record Kept (k : About) (s : T.State (Unit {0}) View) : Type 0 where
       → (j : ℕ) (w : View) → HasView s j w → w.who ≢ Caller number
   pub retired : (i : ℕ) (v : View) → HasView s i v → v.who ≢ Spent
       → Each (IsRetired s) v.taken
+  -- the moments of all calls
+  pub moments : Moments
+  pub timed : IsTimed k log moments s.views
 
 -- ---- a new table
 
@@ -152,6 +182,7 @@ opened_view pairs words =
       who = Maker;
       log = [];
       olds = [];
+      moments = [];
       own = [];
       calls = [];
       stamp = 0;

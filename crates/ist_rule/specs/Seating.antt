@@ -10,7 +10,11 @@ use Rattle.ist_rule.specs.declared.view.Taken.{Taken}
 use Rattle.ist_core.specs.declared.events.Who.{Who}
 use Rattle.ist_core.specs.declared.events.Who.TheVariants.{Maker, Caller, Note, Spent}
 use Rattle.ist_core.specs.Authors.{Later}
-use Rattle.ist_rule.specs.Rule.{IsWellMade, IsTrueIn}
+use Rattle.ist_core.specs.Changes.{changes_of, map_behind}
+use Rattle.ist_core.specs.Map.{map_of}
+use Rattle.laws_real_time.specs.Moments.{Moments}
+use Rattle.laws_real_time.specs.Joining.{LinearizesTo}
+use Rattle.ist_rule.specs.Rule.{IsWellMade, IsTrueIn, IsHeard}
 
 -- ---- splitting
 
@@ -63,6 +67,10 @@ split_right v = if awaits_seat v then plain v (Caller v.given) [] else plain v
 abbrev pub longer : Log → Log → Log
 longer a b = if nat_le (length b) (length a) then a else b
 
+-- the longer of two lists of moments
+abbrev pub longer_moments : Moments → Moments → Moments
+longer_moments a b = if nat_le (length b) (length a) then a else b
+
 -- the callers that were taken back, with the caller of a seat that is joined now
 abbrev pub with_taken : Who → List Call → Log → List Taken → List Taken
 with_taken (Caller number) calls log taken =
@@ -71,7 +79,7 @@ with_taken _ calls log taken = taken
 
 -- a seat that met another, with the log of both
 abbrev pub met_as : View → Log → Met
-met_as v both = record { who = v.who; log = v.log; both = both }
+met_as v both = record { who = v.who; log = v.log; moments = v.moments; both = both }
 
 -- the seat that another was joined to: it has the longer log and the greater stamp, and keeps what
 -- both had seen
@@ -81,6 +89,7 @@ joined v w =
     record v {
       log = both;
       olds = met_as v both ∷ met_as w both ∷ [];
+      moments = longer_moments v.moments w.moments;
       stamp = max v.stamp w.stamp;
       taken = with_taken w.who w.calls w.log v.taken;
     }
@@ -94,6 +103,7 @@ gone =
       who = Spent;
       log = [];
       olds = [];
+      moments = [];
       own = [];
       calls = [];
       stamp = 0;
@@ -116,7 +126,8 @@ pub record CanJoin (v w : View) : Type 0 where
 -- ---- closing
 
 -- the words are the image of a lawful log that goes on from the seat's by events of others, and the
--- view is true of that log
+-- view is true of that log. All calls on the table are linearizable and lead to the map after the changes
+-- of the log, and those of the callers that were taken back are their calls
 pub record IsLast (v : View) (image : List ℕ) : Type 0 where
   pub log : Log
   pub later : Later v.who v.log log
@@ -124,3 +135,7 @@ pub record IsLast (v : View) (image : List ℕ) : Type 0 where
   pub is_image : IsImage (state_of v.start v.words log) image
   pub well_made : IsWellMade v.start v.words v
   pub is_true : IsTrueIn v.start v.words log v
+  pub moments : Moments
+  pub linear : LinearizesTo (map_of v.start) moments
+      (map_behind (map_of v.start) (changes_of v.start v.words log))
+  pub heard : IsHeard moments v

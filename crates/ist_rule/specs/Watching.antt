@@ -11,15 +11,10 @@ use Rattle.ist_core.specs.Pieces.{Inner, Change, as_inner, as_change}
 use Rattle.ist_core.specs.Snapshots.{Snapshot, HoldsRow}
 use Rattle.ist_core.specs.Lawful.{state_of}
 use Rattle.ist_core.specs.Writing.{place_of_status}
+pub use Rattle.ist_rule.specs.Speaking.{number_of}
 use Rattle.ist_rule.specs.declared.view.View.{View}
-use Rattle.ist_core.specs.declared.events.Who.{Who}
 use Rattle.ist_core.specs.declared.events.Who.TheVariants.{Caller}
 use Rattle.ist_rule.specs.Learning.{now, Naming, LoadedAs}
-
--- the number of a caller
-abbrev pub number_of : Who → ℕ
-number_of (Caller number) = number
-number_of _ = 0
 
 -- ---- Okay
 

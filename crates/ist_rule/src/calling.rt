@@ -3,10 +3,10 @@
 ghost use Rattle.std.specs.Prelude.{◌≡◌, Option};
 ghost use Rattle.ist_core.specs.declared.calls.Call.{Call as CallOf};
 ghost use Rattle.ist_core.specs.declared.commands.Command.{Command as CommandOf};
-ghost use Rattle.ist_rule.specs.Learning.{Turned, beginning, searching, ending, giving_up};
+ghost use Rattle.ist_rule.specs.Learning.{Turned, TurnedAt, beginning, searching, beginning_read, ending, giving_up};
 ghost use Rattle.ist_rule.specs.Conditions.{CanBegin, CanEnd, CanGiveUp};
 
-use crate::plays::{GivesUp, Searches};
+use crate::plays::{GivesUp, Reads, Searches};
 use crate::table::{TreeTable, TreeToken};
 use ist_core::{Command, Reply};
 use std::marker::Brand;
@@ -18,7 +18,7 @@ pub fn begin_call(table: &TreeTable, token: &mut TreeToken, command: Option<Comm
     requires may_begin { CanBegin token.old.view }
     requires asked { command ≡ asked }
     ensures same_table { token.new.table ≡ token.old.table }
-    ensures begun { Turned token.old.view (beginning token.old.view command) token.new.view }
+    ensures begun { TurnedAt token.old.view (beginning token.old.view command) token.new.view }
 {
     let _ = command;
     // No event: a load of word 0, to begin a call. It sees what others did up to here.
@@ -35,6 +35,18 @@ pub fn begin_search(table: &TreeTable, token: &mut TreeToken)
     table.table.shared.load::<Searches>(&mut token.seat, 0);
 }
 
+/// Begins a read of the token's caller, which is in no call: a search whose beginning has its place among
+/// the moments of all calls.
+pub fn begin_read(table: &TreeTable, token: &mut TreeToken)
+    requires same_table { token.old.table ≡ table.now.table }
+    requires may_begin { CanBegin token.old.view }
+    ensures same_table { token.new.table ≡ token.old.table }
+    ensures begun { TurnedAt token.old.view (beginning_read token.old.view) token.new.view }
+{
+    // No event: a load of word 0, to begin a read. It sees what others did up to here.
+    table.table.shared.load::<Reads>(&mut token.seat, 0);
+}
+
 /// Ends the token's call with this reply. The call is then the last of the token's calls, with the
 /// next stamp, at the position that is shown for it.
 pub fn end_call(table: &TreeTable, token: &mut TreeToken, reply: Reply)
@@ -43,7 +55,7 @@ pub fn end_call(table: &TreeTable, token: &mut TreeToken, reply: Reply)
     requires may_end { CanEnd token.old.view call }
     requires reply { reply ≡ call.reply }
     ensures same_table { token.new.table ≡ token.old.table }
-    ensures ended { Turned token.old.view (ending token.old.view call) token.new.view }
+    ensures ended { TurnedAt token.old.view (ending token.old.view call) token.new.view }
 {
     let _ = reply;
     // No event: a load of word 0, to end a call. It sees what others did up to here.
@@ -55,7 +67,7 @@ pub fn give_up(table: &TreeTable, token: &mut TreeToken)
     requires same_table { token.old.table ≡ table.now.table }
     requires may_give_up { CanGiveUp token.old.view }
     ensures same_table { token.new.table ≡ token.old.table }
-    ensures given_up { Turned token.old.view (giving_up token.old.view) token.new.view }
+    ensures given_up { TurnedAt token.old.view (giving_up token.old.view) token.new.view }
 {
     // No event: a load of word 0, to give up a call. It sees what others did up to here.
     table.table.shared.load::<GivesUp>(&mut token.seat, 0);

@@ -30,6 +30,15 @@ impl Play<(), View> for Searches {
     ghost then = { searches };
 }
 
+// A load that begins a read.
+pub(crate) struct Reads;
+
+impl Play<(), View> for Reads {
+    ghost use Rattle.ist_rule.specs.Playing.{reads};
+
+    ghost then = { reads };
+}
+
 // A load that gives up a call.
 pub(crate) struct GivesUp;
 

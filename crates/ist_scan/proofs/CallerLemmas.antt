@@ -8,6 +8,7 @@ use Rattle.ist_core.specs.Map.{listed, pairs_between, pairs_of}
 use Rattle.ist_tree.specs.declared.freezing.Frozen.{Frozen}
 use Rattle.ist_tree.specs.Calls.{HasSeenMore, HasLearnt, AddsCall}
 use Rattle.ist_tree.specs.Faces.{PassFace, noted}
+use Rattle.ist_tree.proofs.HeardLemmas.{seen_more_then, steps_until}
 use Rattle.ist_scan.specs.declared.totals.Total.{Total}
 use Rattle.ist_scan.specs.Callers.{IsTotalBefore, IsListOnce}
 use Rattle.ist_scan.specs.Shots.{IsOf, ArePairsOf, HasTakenShot, HasOnlyLooked, map_seen}
@@ -33,6 +34,8 @@ module _ (p taken made q : PassFace) (seen : HasSeenMore taken made)
   total_before shot first last key reply total h calls added value =
       let at = of_on taken made on h.position shot h.is_of in
       record {
+        at = h.at;
+        step = steps_until p taken q h.at h.step (seen_more_then taken made q seen looked.seen);
         position = h.position;
         fresh = h.fresh;
         total_is = value h.position at
@@ -56,6 +59,8 @@ module _ (p taken q : PassFace) (shot : Frozen) (h : HasTakenShot p taken shot)
       record { tree = looked.seen.tree; seen = looked.seen.seen; lawful = lawful_now } in
       let at = of_on taken q behind h.position shot h.is_of in
       record {
+        at = h.at;
+        step = steps_until p taken q h.at h.step looked.seen;
         position = h.position;
         fresh = h.fresh;
         within = at.within;

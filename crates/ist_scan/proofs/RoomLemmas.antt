@@ -1,9 +1,10 @@
 -- A pass that looked for room, and then took a shot or was refused one. Serves `look_for` and
 -- `take_if_room`.
-use Rattle.std.proofs.Common.{◌≡◌, ℕ, ◌+◌, ◌<◌, ◌≤◌, length, Result, Ok, Err, IfOk, IfErr, OnOk, inl, inr, ⊎_elim, ap, ◌∙◌, sym, subst, le_refl, arith}
+use Rattle.std.proofs.Common.{◌≡◌, ℕ, ◌+◌, ◌<◌, ◌≤◌, length, Result, Ok, Err, IfOk, IfErr, OnOk, inl, inr, ⊎_elim, ap, ◌∙◌, sym, subst, arith}
 use Rattle.ist_core.specs.declared.ports.Full.{Full}
 use Rattle.ist_core.specs.Lawful.{state_of}
 use Rattle.ist_core.specs.Links.{IsChild}
+use Rattle.ist_core.specs.Changes.{changes_of}
 use Rattle.ist_core.specs.Logs.{same_log}
 use Rattle.ist_core.specs.RowLayout.{anchor}
 use Rattle.ist_core.specs.Slots.{SlotHolds}
@@ -11,13 +12,14 @@ use Rattle.ist_core.specs.References.{InnerAt, word_of}
 use Rattle.ist_core.specs.Spending.{spent}
 use Rattle.ist_tree.specs.declared.freezing.Frozen.{Frozen}
 use Rattle.ist_tree.specs.Calls.{HasSeenMore}
-use Rattle.ist_tree.specs.Faces.{TreeFace, PassFace, changes_seen}
+use Rattle.ist_tree.specs.Faces.{TreeFace, PassFace}
 use Rattle.ist_tree.specs.Freezing.{IsFreezeRefused}
 use Rattle.ist_tree.specs.Refusals.{HadTooFew, IsTopRefused, KeepsRefusal}
 use Rattle.ist_tree.specs.Room.{HasLeft, HasMadeNone}
+use Rattle.ist_tree.proofs.HeardLemmas.{seen_more_then, steps_from}
 use Rattle.ist_scan.specs.Room.{HadRoom, HadNoRoom, IsShotRefused, for_start}
 use Rattle.ist_scan.specs.Shots.{HasTakenShot}
-use Rattle.ist_scan.proofs.ShotLemmas.{GoesOnWell, further, more_on}
+use Rattle.ist_scan.proofs.ShotLemmas.{further}
 
 -- ---- the look
 
@@ -52,15 +54,7 @@ had_no_room p q left words full seen has none few next asked all =
 module _ (p m q : PassFace) (look : HasSeenMore p m) (after : HasSeenMore m q) where
   -- both together have seen more
   pub seen_both : HasSeenMore p q
-  seen_both =
-      let low = look.stamp in
-      let high = after.stamp in
-      record {
-        tree = after.tree ∙ look.tree;
-        number = after.number ∙ look.number;
-        seen = further p.seen m.seen q.seen look.seen after.seen;
-        stamp = omega arith;
-      }
+  seen_both = seen_more_then p m q look after
 
   -- the room that was found was there in the call
   room_both : (words : ℕ) → HadRoom p m words → HadRoom p q words
@@ -72,12 +66,17 @@ module _ (p m q : PassFace) (look : HasSeenMore p m) (after : HasSeenMore m q) w
         enough = h.enough;
       }
 
-  -- the shot isn't before what the pass had seen before the look
-  taken_both : GoesOnWell p m → (shot : Frozen) → HasTakenShot m q shot → HasTakenShot p q shot
-  taken_both on shot h =
-      let more = more_on p m on (length (changes_seen p)) (le_refl _) in
-      let fresh = h.fresh in
-      record { position = h.position; fresh = omega arith; is_of = h.is_of }
+  -- a shot that was taken after the look was taken in the call
+  taken_both : (shot : Frozen) → HasTakenShot m q shot → HasTakenShot p q shot
+  taken_both shot h =
+      record {
+        at = h.at;
+        step = steps_from p m q h.at look h.step;
+        position = h.position;
+        fresh = subst (λ (t : TreeFace). length (changes_of t.start t.words h.at) ≤ h.position)
+            look.tree h.fresh;
+        is_of = h.is_of;
+      }
 
   -- too few words after the look were too few in the call
   short_both : (full : Full) → HadTooFew m q full → HadTooFew p q full
@@ -132,10 +131,10 @@ module _ (p m q : PassFace) (look : HasSeenMore p m) (after : HasSeenMore m q) w
       }
 
   -- what the shot after the look returned, it returned in the call
-  pub ok_both : GoesOnWell p m → (r : Result Frozen Full) → IfOk r (HasTakenShot m q)
+  pub ok_both : (r : Result Frozen Full) → IfOk r (HasTakenShot m q)
       → IfOk r (HasTakenShot p q)
-  ok_both on (Ok shot) h = taken_both on shot h
-  ok_both on (Err full) h = tt
+  ok_both (Ok shot) h = taken_both shot h
+  ok_both (Err full) h = tt
 
   -- if it was taken, there was room
   pub room_if_ok : (words : ℕ) → HadRoom p m words → (r : Result Frozen Full)

@@ -13,6 +13,7 @@ use Rattle.ist_tree.specs.Calls.{HasSeenMore}
 use Rattle.ist_tree.specs.Faces.{TreeFace, PassFace, changes_seen}
 use Rattle.ist_tree.specs.Freezing.{IsFrozenIn, IsFrozenFor, HasFrozenPairs, HasFrozen}
 use Rattle.ist_tree.proofs.FreezingLemmas.{frozen_pairs_are_one, frozen_pairs_stay, frozen_stays, has_its_pairs}
+use Rattle.ist_tree.proofs.HeardLemmas.{seen_more_then, seen_same}
 use Rattle.ist_scan.specs.Shots.{ArePairsOf, map_seen, IsOf, HasTakenShot, HasOnlyLooked, ShotsStay, LaterCallsComeBehind}
 
 -- the pass has seen more, and what it has seen is lawful
@@ -122,20 +123,22 @@ of_pairs p position shot lawful o =
 pub taken : (p q : PassFace) (shot : Frozen) → q.tree ≡ p.tree
     → Lawful q.tree.start q.tree.words q.seen → HasFrozen p q shot → HasTakenShot p q shot
 taken p q shot tree lawful h =
-    let at = h.were.position in
-    let frozen = subst (λ (t : TreeFace). IsFrozenIn t.start t.words q.seen shot) (sym tree) h.frozen_is in
+    let place = h.was.were.position in
+    let frozen = subst (λ (t : TreeFace). IsFrozenIn t.start t.words q.seen shot) (sym tree) h.was.frozen_is in
     let pairs = subst (λ (t : TreeFace). HasFrozenPairs t.start t.words q.seen shot
-    (pairs_of (map_at (map_of t.start) (changes_of t.start t.words q.seen) at)))
-    (sym tree) (subst (HasFrozenPairs p.tree.start p.tree.words q.seen shot) h.were.pairs_are h.has) in
+    (pairs_of (map_at (map_of t.start) (changes_of t.start t.words q.seen) place)))
+    (sym tree) (subst (HasFrozenPairs p.tree.start p.tree.words q.seen shot) h.was.were.pairs_are h.was.has) in
     let it = has_its_pairs q.tree.start q.tree.words q.seen lawful shot frozen in
     let one = frozen_pairs_are_one q.tree.start q.tree.words q.seen shot it.found
-    (pairs_of (map_seen q at)) it.has pairs in
+    (pairs_of (map_seen q place)) it.has pairs in
     record {
-      position = at;
-      fresh = h.were.from;
+      at = h.at;
+      step = h.step;
+      position = place;
+      fresh = h.was.were.from;
       is_of = record {
-        within = subst (λ (t : TreeFace). at ≤ length (changes_of t.start t.words q.seen))
-            (sym tree) h.were.to;
+        within = subst (λ (t : TreeFace). place ≤ length (changes_of t.start t.words q.seen))
+            (sym tree) h.was.were.to;
         frozen = frozen;
         pairs = pairs;
         number = subst (λ found. length found ≡ shot.keys) one it.number;
@@ -159,7 +162,7 @@ one_pairs p shot found others h k =
 pub looked_not : (p : PassFace) → HasOnlyLooked p p
 looked_not p =
     record {
-      seen = record { tree = refl; number = refl; seen = same_log; stamp = omega arith };
+      seen = seen_same p;
       calls = refl;
       refused = refl;
       frozen = λ shot f. f;
@@ -175,15 +178,8 @@ further a b _ g (one_event event h) = one_event event (further a b _ g h)
 -- a pass that looked twice has looked
 pub looked_more : (p q r : PassFace) → HasOnlyLooked p q → HasOnlyLooked q r → HasOnlyLooked p r
 looked_more p q r a b =
-    let low = a.seen.stamp in
-    let high = b.seen.stamp in
     record {
-      seen = record {
-        tree = b.seen.tree ∙ a.seen.tree;
-        number = b.seen.number ∙ a.seen.number;
-        seen = further p.seen q.seen r.seen a.seen.seen b.seen.seen;
-        stamp = omega arith;
-      };
+      seen = seen_more_then p q r a.seen b.seen;
       calls = b.calls ∙ a.calls;
       refused = b.refused ∙ a.refused;
       frozen = λ shot f. b.frozen shot (a.frozen shot f);

@@ -3,14 +3,15 @@ use Rattle.std.specs.Prelude.{◌≡◌, ℕ, ◌≤◌, List, length, map, Opti
 use Rattle.std.specs.List.Sorted.{IsStrictlyIncreasing}
 use Rattle.ist_core.specs.declared.commands.Command.{Command}
 use Rattle.ist_core.specs.declared.pairs.Pair.{Pair}
-use Rattle.ist_core.specs.Changes.{map_at}
+use Rattle.ist_core.specs.Changes.{changes_of, map_at}
 use Rattle.ist_core.specs.Lawful.{Lawful}
-use Rattle.ist_core.specs.Logs.{GoesOn}
+use Rattle.ist_core.specs.Logs.{Log, GoesOn}
 use Rattle.ist_core.specs.Map.{Map, map_of, pairs_of}
 use Rattle.ist_tree.specs.declared.freezing.Frozen.{Frozen}
 use Rattle.ist_tree.specs.Calls.{HasSeenMore, AddsCall}
 use Rattle.ist_tree.specs.Faces.{PassFace, changes_seen}
 use Rattle.ist_tree.specs.Freezing.{IsFrozenFor, HasFrozenPairs}
+use Rattle.ist_tree.specs.RealTime.{StepsIn}
 
 -- the map after this many of the changes that the pass has seen
 abbrev pub map_seen : PassFace → ℕ → Map
@@ -24,10 +25,12 @@ pub record IsOf (p : PassFace) (position : ℕ) (shot : Frozen) : Type 0 where
   pub pairs : HasFrozenPairs p.tree.start p.tree.words p.seen shot (pairs_of (map_seen p position))
   pub number : length (pairs_of (map_seen p position)) ≡ shot.keys
 
--- the shot was taken in the call: its position isn't before what the pass had seen
+-- the shot was taken in the call: its position isn't before what the pass had seen at a step of it
 pub record HasTakenShot (p q : PassFace) (shot : Frozen) : Type 0 where
+  pub at : Log
+  pub step : StepsIn p q at
   pub position : ℕ
-  pub fresh : length (changes_seen p) ≤ position
+  pub fresh : length (changes_of p.tree.start p.tree.words at) ≤ position
   pub is_of : IsOf q position shot
 
 -- these are the pairs of the shot, in what the pass has seen

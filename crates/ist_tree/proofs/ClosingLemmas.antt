@@ -1,9 +1,10 @@
 -- The words of a tree whose passes were all taken back. Serves `close`.
-use Rattle.std.proofs.Common.{◌≡◌, ℕ, ◌<◌, Bool, false, List, map, length, Some, refl, sym, ap, ◌∙◌, subst, arith}
+use Rattle.std.proofs.Common.{◌≡◌, ◌≢◌, ℕ, ◌<◌, ◌≤◌, Bool, false, List, map, length, Some, None, refl, sym, ap, ◌∙◌, subst, ⊎_elim, arith}
 use Rattle.ist_core.specs.declared.states.ChangeRow.{ChangeRow}
 use Rattle.ist_core.specs.Elements.{Each}
 use Rattle.ist_core.specs.Images.{IsImage}
-use Rattle.ist_core.specs.Changes.{Entry, changes_of}
+use Rattle.ist_core.specs.Changes.{Entry, changes_of, map_behind}
+use Rattle.ist_core.specs.Map.{map_of, replay}
 use Rattle.ist_core.specs.Deciding.{AllResolved}
 use Rattle.ist_core.specs.Logs.{Log}
 use Rattle.ist_core.specs.Pieces.{Change}
@@ -15,17 +16,24 @@ use Rattle.ist_core.proofs.RoomLemmas.{words_same}
 use Rattle.laws_links.proofs.OwnerLemmas.{owner_known}
 use Rattle.laws_histories.proofs.CallLemmas.{stand_on}
 use Rattle.laws_histories.proofs.EntryLemmas.{entry_update}
+use Rattle.laws_real_time.specs.declared.moments.Moment.{Moment}
+use Rattle.laws_real_time.specs.Moments.{in_call}
+use Rattle.laws_real_time.proofs.PairLemmas.{each_of}
 use Rattle.ist_rule.specs.declared.view.View.{View}
 use Rattle.ist_rule.specs.declared.view.Taken.{Taken}
 use Rattle.ist_rule.specs.Faces.{TokenFace}
 use Rattle.ist_rule.specs.Rule.{IsTakenBack}
 use Rattle.ist_rule.specs.Seating.{IsLast}
+use Rattle.ist_rule.specs.Speaking.{HasSpoken, IsSilent}
 use Rattle.ist_rule.specs.Standings.{StandsInPrefix}
 use Rattle.ist_rule.proofs.LaterLemmas.{later-goes_on, goes_on_more}
+use Rattle.ist_rule.proofs.SpeakLemmas.{later_goes_on, out_of_call, silent_spoken}
 use Rattle.laws_calls.proofs.SettledLemmas.{settled}
-use Rattle.ist_tree.specs.Faces.{MakerFace}
-use Rattle.ist_tree.specs.Closing.{calls_numbered, calls_taken, ClosesWith}
+use Rattle.ist_tree.specs.Faces.{MakerFace, calls_numbered}
+use Rattle.ist_tree.specs.RealTime.{ClosesInTime}
+use Rattle.ist_tree.specs.Closing.{calls_taken, ClosesWith}
 use Rattle.ist_tree.specs.Insides.{taken_pass, maker_face, IsMakerWith, HasSettled}
+use Rattle.ist_tree.proofs.RealTimeLemmas.{below_or, none_numbered}
 use Rattle.ist_tree.proofs.SettlingLemmas.{settled_later}
 use Rattle.ist_tree.proofs.TakenLemmas.{all_below, each_number, numbers_long, IsNumbered, numbered_is, lists_long, lists_stand, each_get}
 
@@ -140,8 +148,51 @@ module _ (token : TokenFace) (image : List ℕ) (refused : Bool) (is : IsMakerWi
   pub image_long : length image ≡ v.words
   image_long = last.is_image.size ∙ words_same v.start v.words last.lawful.opens last.log
 
+  -- no moment is of a number from this one on
+  silent : (number : ℕ) → v.made ≤ number → IsSilent number last.moments
+  silent number le =
+      let given = is.maker.given in last.heard.silent is.maker.maker number (omega arith)
+
+  -- by the moments each pass made the calls that were kept of it
+  spoken : (number : ℕ)
+      → HasSpoken last.moments number (calls_numbered number (map taken_pass v.taken)) None
+  spoken number = ⊎_elim near far (below_or number v.made)
+    where
+      near : number < v.made
+          → HasSpoken last.moments number (calls_numbered number (map taken_pass v.taken)) None
+      near lt =
+          let it = numbered number lt in
+          subst (λ calls. HasSpoken last.moments number calls None) (sym it.calls_are)
+          (subst (λ n. HasSpoken last.moments n it.taken.calls None) it.number_is
+          (each-among (λ (t : Taken). HasSpoken last.moments t.number t.calls None) it.taken v.taken
+          last.heard.taken it.among))
+
+      far : v.made ≤ number
+          → HasSpoken last.moments number (calls_numbered number (map taken_pass v.taken)) None
+      far le =
+          subst (λ calls. HasSpoken last.moments number calls None)
+          (sym (none_numbered number v.made v.taken le
+          (subst (λ n. Each (λ (t : Taken). t.number < n) v.taken) is.maker.given last.well_made.taken_given)))
+          (silent_spoken number last.moments (silent number le))
+
+  -- the calls of all passes are linearizable
+  in_time : ClosesInTime m.tree.start m.made m.moments m.taken
+  in_time =
+      record {
+        moments = last.moments;
+        goes_on = later_goes_on last.heard.later;
+        linear = last.linear.linear;
+        callers = each_of (λ (x : Moment). x.caller < v.made) last.moments
+            (λ x i. ⊎_elim (λ l. l)
+            (λ l. absurd (each-among (λ (y : Moment). y.caller ≢ x.caller) x last.moments
+            (silent x.caller l) i refl)) (below_or x.caller v.made));
+        calls = λ number. (spoken number).calls_are;
+        over = λ number. out_of_call (in_call number last.moments) (spoken number).pending_is;
+      }
+
   -- the words represent the calls of all passes
   pub closes_with : ClosesWith m image
+  unfolding in_time
   closes_with =
       let e = subst (EndsIn m image last.log) (sym image_long) ends_here in
       record {
@@ -158,5 +209,9 @@ module _ (token : TokenFace) (image : List ℕ) (refused : Bool) (is : IsMakerWi
         calls_are = refl;
         goes_on = later-goes_on last.later;
         owners = e.owners;
+        timed = in_time;
+        leads = subst (λ n. replay (map_of v.start) (map (λ x. x.command) last.linear.linear.order)
+            ≡ map_behind (map_of v.start) (changes_of v.start n last.log)) (sym image_long)
+            last.linear.leads;
         settled = e.settled;
       }

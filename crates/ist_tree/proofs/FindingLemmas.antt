@@ -10,11 +10,12 @@ use Rattle.ist_core.specs.Changes.{changes_of}
 use Rattle.ist_core.specs.Lawful.{Lawful}
 use Rattle.ist_core.specs.Standing.{IsRead, IsFresh}
 use Rattle.ist_core.specs.StartLayout.{start}
-use Rattle.laws_histories.specs.Calls.{HasCalls, IsAdded}
+use Rattle.laws_histories.specs.Calls.{HasCalls}
 use Rattle.laws_histories.specs.Searching.{HasPosition}
 use Rattle.laws_histories.proofs.CallLemmas.{add_reading}
 use Rattle.laws_histories.proofs.ChangeLemmas.{changes_on}
 use Rattle.laws_histories.proofs.LoadOnLemmas.{at_prefix}
+use Rattle.laws_real_time.specs.Moments.{Moments}
 use Rattle.ist_rule.specs.declared.view.View.{View}
 use Rattle.ist_rule.specs.declared.view.Loads.{Loads}
 use Rattle.ist_core.specs.declared.events.Who.TheVariants.{Caller as CallerOf}
@@ -34,10 +35,11 @@ changes_rise pairs words earlier log g =
     omega (arith, length-append (changes_of pairs words earlier) on.0)
 
 -- a view that began to get the key when it had seen the earlier log, and then searched
-abbrev pub searched_view : View → ℕ → Log → Log → Loads → ℕ → ℕ → View
-searched_view v key earlier log loads loaded searches =
+abbrev pub searched_view : View → ℕ → Log → Log → Loads → ℕ → ℕ → Moments → View
+searched_view v key earlier log loads loaded searches moments =
     record v {
       log = log;
+      moments = moments;
       loads = loads;
       loaded = loaded;
       searches = searches;
@@ -86,18 +88,18 @@ module _ (v : View) (number key : ℕ) (s : IsSound v) (mine : v.who ≡ CallerO
       (its_fresh v.log (later-goes_on before)) its_read
 
   -- the call is the one that is picked
-  pub found_is : (loads : Loads) (loaded searches : ℕ)
-      → found_call (searched_view v key earlier log loads loaded searches) value
+  pub found_is : (loads : Loads) (loaded searches : ℕ) (moments : Moments)
+      → found_call (searched_view v key earlier log loads loaded searches moments) value
       ≡ get_call v key earlier log value
-  found_is loads loaded searches =
+  found_is loads loaded searches moments =
       ap (λ (l : Log). get_call v key l log value) (at_prefix earlier log (later-goes_on later))
 
   -- and the view may end it
-  pub may_end : (loads : Loads) (loaded searches : ℕ)
-      → CanEnd (searched_view v key earlier log loads loaded searches)
-      (found_call (searched_view v key earlier log loads loaded searches) value)
-  may_end loads loaded searches =
-      subst (CanEnd (searched_view v key earlier log loads loaded searches)) (sym (found_is loads loaded searches))
+  pub may_end : (loads : Loads) (loaded searches : ℕ) (moments : Moments)
+      → CanEnd (searched_view v key earlier log loads loaded searches moments)
+      (found_call (searched_view v key earlier log loads loaded searches moments) value)
+  may_end loads loaded searches moments =
+      subst (CanEnd (searched_view v key earlier log loads loaded searches moments)) (sym (found_is loads loaded searches moments))
       record {
         number = number;
         mine = mine;

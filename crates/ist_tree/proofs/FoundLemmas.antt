@@ -21,7 +21,11 @@ use Rattle.ist_core.specs.declared.events.Who.TheVariants.{Caller as CallerOf}
 use Rattle.ist_core.specs.Authors.{Later}
 use Rattle.ist_rule.specs.Faces.{TokenFace}
 use Rattle.ist_rule.specs.Rule.{IsSound}
-use Rattle.ist_rule.specs.Learning.{Turned, beginning, ending}
+use Rattle.laws_real_time.specs.declared.moments.Deed.TheVariants.{Begins, Returns}
+use Rattle.laws_real_time.specs.Moments.{Moments}
+use Rattle.ist_rule.specs.Speaking.{number_of, MomentsLater}
+use Rattle.ist_tree.specs.RealTime.{ReturnsInTime}
+use Rattle.ist_rule.specs.Learning.{moment_seen, TurnedAt, beginning, ending}
 use Rattle.ist_rule.specs.Conditions.{CanEnd}
 use Rattle.ist_rule.proofs.LaterLemmas.{goes_on_length, later-goes_on, later_more}
 use Rattle.ist_rows.specs.declared.callers.Caller.{Caller}
@@ -29,6 +33,8 @@ use Rattle.ist_find.specs.Searches.{HasSearched, HasFound, HasFewLoads}
 use Rattle.ist_tree.specs.Faces.{PassFace}
 use Rattle.ist_tree.specs.Calls.{HasSeenMore, AddsCall, row_loads, HasLoadedFew}
 use Rattle.ist_tree.specs.Insides.{face_as, pass_face, IsPass, IsPassWith}
+use Rattle.ist_rule.proofs.SpeakLemmas.{go_on_more}
+use Rattle.ist_tree.proofs.HeardLemmas.{heard_same, heard_turned, runs_at_once}
 use Rattle.ist_tree.proofs.IdleCallerLemmas.{has_its_calls}
 use Rattle.ist_tree.proofs.GoingLemmas.{IsLaterView, lawful_behind, pass_with_later}
 use Rattle.ist_tree.proofs.LoadingLemmas.{chain_on, costs_rise}
@@ -41,15 +47,17 @@ pub record FindEnds (old : PassFace) (who : Caller) (refused : Option Full) (tok
   pub pass : IsPassWith (record who { token = token }) refused
   pub seen : HasSeenMore old (face_as token who.number refused)
   pub added : AddsCall old (face_as token who.number refused) (Get key) value
+  pub timed : ReturnsInTime old (face_as token who.number refused) (Get key) value
   pub position : HasPosition old.tree.start old.tree.words old.seen token.view.log key value
   pub loads : HasLoadedFew old (face_as token who.number refused) key value
   pub others : Later (CallerOf old.number) old.seen token.view.log
 
 -- the view after a find
-abbrev pub ended_view : View → Log → Log → Call → Loads → ℕ → ℕ → View
-ended_view v log last call loads loaded searches =
+abbrev pub ended_view : View → Log → Log → Call → Loads → ℕ → ℕ → Moments → View
+ended_view v log last call loads loaded searches moments =
     record v {
       log = last;
+      moments = moments;
       calls = v.calls ++ call ∷ [];
       stamp = v.stamp + 1;
       loads = loads;
@@ -60,14 +68,17 @@ ended_view v log last call loads loaded searches =
 
 -- the caller began a get and searched
 module _ (who : Caller) (key : ℕ) (value : Option ℕ) (b w : View) (s : IsSound who.token.view)
-    (p : IsPass who) (begun : Turned who.token.view (beginning who.token.view (Some (Get key))) b)
+    (p : IsPass who) (begun : TurnedAt who.token.view (beginning who.token.view (Some (Get key))) b)
     (seen : HasSearched b w) (has : HasPosition w.start w.words b.log w.log key value) where
   -- the view before the find
   abbrev v : View
   v = who.token.view
 
   -- what became of its view
-  pub w_is : w ≡ searched_view v key b.log w.log w.loads w.loaded w.searches
+  abbrev pub seen_moments : Moments
+  seen_moments = moment_seen v b.log (Begins (Some (Get key))) ∷ begun.before
+
+  pub w_is : w ≡ searched_view v key b.log w.log w.loads w.loaded w.searches seen_moments
   w_is =
       seen.same ∙ ap (λ (y : View). record y { log = w.log; loads = w.loads; loaded = w.loaded; searches = w.searches })
       begun.view
@@ -99,14 +110,14 @@ module _ (who : Caller) (key : ℕ) (value : Option ℕ) (b w : View) (s : IsSou
   call_is =
       ap (λ (y : View). found_call y value) w_is
       ∙ found_is v who.number key s p.caller.mine p.in_none b.log w.log before later lawful value
-      its_position w.loads w.loaded w.searches
+      its_position w.loads w.loaded w.searches seen_moments
 
   -- it may end its call
   pub can_end : CanEnd w (found_call w value)
   can_end =
       subst (λ y. CanEnd y (found_call y value)) (sym w_is)
       (may_end v who.number key s p.caller.mine p.in_none b.log w.log before later lawful value
-      its_position w.loads w.loaded w.searches)
+      its_position w.loads w.loaded w.searches seen_moments)
 
   fresh : IsFresh v.start v.words v.log v.stamp call
   fresh =
@@ -116,15 +127,16 @@ module _ (who : Caller) (key : ℕ) (value : Option ℕ) (b w : View) (s : IsSou
   -- and ended it
   module _ (token : TokenFace) (refused : Option Full) (all : IsPassWith who refused)
       (same_table : token.table ≡ who.token.table)
-      (ended : Turned w (ending w (found_call w value)) token.view) where
+      (ended : TurnedAt w (ending w (found_call w value)) token.view) where
     -- the view after the find
     abbrev x : View
     x = token.view
 
     x_is : x ≡ ended_view v w.log x.log call w.loads (w.loaded + 1) w.searches
+        (moment_seen v x.log (Returns call) ∷ ended.before)
     x_is =
         ended.view
-        ∙ ap₂ (λ (y : View) (c : Call). ending y c x.log) w_is call_is
+        ∙ ap₂ (λ (y : View) (c : Call). ending y c x.log ended.before) w_is call_is
 
     all_later : Later (CallerOf who.number) v.log x.log
     all_later =
@@ -148,6 +160,28 @@ module _ (who : Caller) (key : ℕ) (value : Option ℕ) (b w : View) (s : IsSou
     ended_pass =
         pass_with_later who token refused all later_view (ap (λ (y : View). y.pending) x_is)
 
+    -- its call was made in real time
+    pub in_time : ReturnsInTime (pass_face who refused) (face_as token who.number refused) (Get key) value
+    in_time =
+        record {
+          before = begun.before;
+          since = subst (λ a. MomentsLater a v.moments begun.before) p.caller.mine begun.since;
+          began = moment_seen v b.log (Begins (Some (Get key)));
+          began_by = ap number_of p.caller.mine;
+          begins = refl;
+          meanwhile = ended.before;
+          during = subst (λ (y : View). MomentsLater (CallerOf who.number) y.moments ended.before) w_is
+              (subst (λ a. MomentsLater a w.moments ended.before)
+              (ap (λ (y : View). y.who) w_is ∙ p.caller.mine) ended.since);
+          returned = moment_seen v x.log (Returns call);
+          returned_by = ap number_of p.caller.mine;
+          call = call;
+          returns = refl;
+          command_is = refl;
+          reply_is = refl;
+          now_is = ap (λ (y : View). y.moments) x_is;
+        }
+
     -- which has seen more
     pub has_seen_more : HasSeenMore (pass_face who refused) (face_as token who.number refused)
     has_seen_more =
@@ -155,6 +189,11 @@ module _ (who : Caller) (key : ℕ) (value : Option ℕ) (b w : View) (s : IsSou
           tree = tree_same;
           number = refl;
           seen = later-goes_on all_later;
+          heard = go_on_more v.moments b.moments x.moments
+              (heard_turned begun _ (ap (λ (y : View). y.moments) begun.view))
+              (go_on_more b.moments w.moments x.moments
+              (heard_same (ap (λ (y : View). y.moments) seen.same))
+              (heard_turned ended _ (ap (λ (y : View). y.moments) ended.view)));
           stamp = let up = ap (λ (y : View). y.stamp) x_is in omega arith;
         }
       where
@@ -177,6 +216,8 @@ module _ (who : Caller) (key : ℕ) (value : Option ℕ) (b w : View) (s : IsSou
           reply_is = refl;
           stamp_is = sym (ap (λ (y : View). y.stamp) x_is);
           calls_are = ap (λ (y : View). y.calls) x_is;
+          timed = runs_at_once (pass_face who refused) (face_as token who.number refused) (Get key) value
+              (s.well_made.moments.spoken who.number p.caller.mine).calls_are in_time;
           added = record { has_calls = its_calls_now; fresh = fresh };
           learnt = λ other l h. learnt_first v.start v.words other.seen v.log other.number other.stamp
               v.stamp other.calls call
@@ -237,6 +278,7 @@ module _ (who : Caller) (key : ℕ) (value : Option ℕ) (b w : View) (s : IsSou
           pass = ended_pass;
           seen = has_seen_more;
           added = adds_call;
+          timed = in_time;
           position = has_position;
           loads = has_loaded_few node index found few;
           others = all_later;

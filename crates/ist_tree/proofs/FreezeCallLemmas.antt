@@ -11,7 +11,7 @@ use Rattle.ist_rule.specs.declared.view.View.{View}
 use Rattle.ist_core.specs.Authors.{Later}
 use Rattle.ist_rule.specs.Conditions.{CanGiveUp, IsResolved}
 use Rattle.ist_rule.specs.Faces.{TokenFace}
-use Rattle.ist_rule.specs.Learning.{Turned, beginning, giving_up}
+use Rattle.ist_rule.specs.Learning.{TurnedAt, beginning, giving_up, moment_seen}
 use Rattle.ist_rule.specs.Rule.{IsSound}
 use Rattle.ist_rule.specs.Standings.{HasMade, IsBetween}
 use Rattle.ist_rule.proofs.LaterLemmas.{goes_on_more, later-goes_on}
@@ -26,13 +26,18 @@ use Rattle.ist_tree.proofs.IdleCallerLemmas.{between_behind}
 use Rattle.ist_tree.proofs.UpdateKeptLemmas.{rebuilt_no_entry}
 use Rattle.ist_tree.proofs.EventLemmas.{rebuilds_count_none}
 use Rattle.ist_tree.proofs.GoingLemmas.{IsLaterView, caller_on, lawful_behind}
+use Rattle.laws_real_time.specs.declared.moments.Deed.TheVariants.{Begins}
+use Rattle.ist_rule.specs.Speaking.{MomentsGoOn, number_of}
+use Rattle.ist_rule.proofs.SpeakLemmas.{go_on_more, later_goes_on}
+use Rattle.ist_tree.specs.RealTime.{StepsIn}
+use Rattle.ist_tree.proofs.HeardLemmas.{heard_same, heard_turned}
 use Rattle.ist_tree.proofs.RebuildLemmas.{due_went}
 use Rattle.ist_tree.proofs.SettlingLemmas.{settled_later}
 
 -- ---- the beginning
 
 module _ (who : Caller) (token : TokenFace) (s : IsSound who.token.view) (p : IsPass who)
-    (begun : Turned who.token.view (beginning who.token.view None) token.view) where
+    (begun : TurnedAt who.token.view (beginning who.token.view None) token.view) where
   begun_view : IsLaterView who.token.view token.view
   begun_view =
       record {
@@ -79,16 +84,16 @@ pub record IsFreezeCall (who began new : Caller) (token : TokenFace) : Type 0 wh
   pub sound : IsSound who.token.view
   pub pass : IsPass who
   pub began_number : began.number ≡ who.number
-  pub begun : Turned who.token.view (beginning who.token.view None) began.token.view
+  pub begun : TurnedAt who.token.view (beginning who.token.view None) began.token.view
   pub ready : IsReady began
   pub on : StaysReady Rebuilds began new
-  pub given : Turned new.token.view (giving_up new.token.view) token.view
+  pub given : TurnedAt new.token.view (giving_up new.token.view) token.view
 
 -- so it goes
 pub way_of : (who began new : Caller) (token : TokenFace) → IsSound who.token.view → IsPass who
     → began.number ≡ who.number
-    → Turned who.token.view (beginning who.token.view None) began.token.view → IsReady began
-    → StaysReady Rebuilds began new → Turned new.token.view (giving_up new.token.view) token.view
+    → TurnedAt who.token.view (beginning who.token.view None) began.token.view → IsReady began
+    → StaysReady Rebuilds began new → TurnedAt new.token.view (giving_up new.token.view) token.view
     → IsFreezeCall who began new token
 way_of who began new token s p number begun ready on given =
     record {
@@ -104,7 +109,7 @@ way_of who began new token s p number begun ready on given =
 -- its call may be given up: nothing of it is an entry
 pub may_give_up : (who began new : Caller) → IsSound who.token.view → IsPass who
     → began.number ≡ who.number
-    → Turned who.token.view (beginning who.token.view None) began.token.view → IsReady began
+    → TurnedAt who.token.view (beginning who.token.view None) began.token.view → IsReady began
     → StaysReady Rebuilds began new → CanGiveUp new.token.view
 may_give_up who began new s p number begun ready on =
     let b = began.token.view in
@@ -264,6 +269,11 @@ module _ (who began new : Caller) (token : TokenFace) (it : IsFreezeCall who beg
         tree = trees same;
         number = number_is;
         seen = goes_on_more v_to_b (goes_on_more b_to_w w_to_x);
+        heard = go_on_more v.moments b.moments x.moments
+            (heard_turned it.begun _ (ap (λ (y : View). y.moments) it.begun.view))
+            (go_on_more b.moments w.moments x.moments
+            (heard_same (ap (λ (y : View). y.moments) it.on.gone.went.same))
+            (heard_turned it.given _ (ap (λ (y : View). y.moments) it.given.view)));
         stamp = omega arith;
       }
     where
@@ -272,6 +282,23 @@ module _ (who began new : Caller) (token : TokenFace) (it : IsFreezeCall who beg
       trees e =
           ap₂ (λ t pairs. record { table = t; start = pairs; words = x.words }) e x_start
           ∙ ap (λ words. record { table = who.token.table; start = v.start; words = words }) x_words
+
+  -- since the step at which its call began
+  pub begin_step : (r q : Option Full) → StepsIn (pass_face who r) (face_as token new.number q) b.log
+  begin_step r q =
+      record {
+        before = it.begun.before;
+        since = later_goes_on it.begun.since;
+        step = moment_seen v b.log (Begins None);
+        step_by = ap number_of it.pass.caller.mine;
+        heard = subst (λ ms. MomentsGoOn ms x.moments) (ap (λ (y : View). y.moments) it.begun.view)
+            (go_on_more b.moments w.moments x.moments
+            (heard_same (ap (λ (y : View). y.moments) it.on.gone.went.same))
+            (heard_turned it.given _ (ap (λ (y : View). y.moments) it.given.view)));
+        seen = v_to_b;
+        until = goes_on_more b_to_w w_to_x;
+        placed = it.begun.placed;
+      }
 
   -- with the same calls
   pub calls_are : x.calls ≡ v.calls

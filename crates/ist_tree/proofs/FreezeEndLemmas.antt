@@ -7,6 +7,7 @@ use Rattle.ist_core.specs.Changes.{Entry, changes_of}
 use Rattle.ist_core.specs.Lawful.{state_of}
 use Rattle.ist_core.specs.Growing.{AllGrow}
 use Rattle.ist_core.specs.Links.{IsChild}
+use Rattle.ist_core.specs.Logs.{same_log}
 use Rattle.ist_core.specs.Marking.{HasTarget}
 use Rattle.ist_core.specs.Rebuilding.{IsFinishedWith, IsStarted}
 use Rattle.ist_core.specs.RowLayout.{anchor, change_words, rebuild_words}
@@ -63,10 +64,15 @@ module _ (who began new : Caller) (token : TokenFace) (it : IsFreezeCall who beg
       → HasFrozen (pass_face who r) (face_as token new.number q) frozen
   has_frozen r q frozen was =
       let l = way.b_view who began new token it in
-      was_frozen_on v.start v.words v.log b.log w.log x.log (way.lawful_x who began new token it)
-      (way.v_to_b who began new token it) (way.w_to_x who began new token it) frozen
-      (subst (λ pairs. WasFrozen pairs v.words b.log w.log frozen) l.start_is
-      (subst (λ words. WasFrozen b.start words b.log w.log frozen) l.words_is was))
+      record {
+        at = b.log;
+        step = way.begin_step who began new token it r q;
+        was =
+            was_frozen_on v.start v.words b.log b.log w.log x.log (way.lawful_x who began new token it)
+            same_log (way.w_to_x who began new token it) frozen
+            (subst (λ pairs. WasFrozen pairs v.words b.log w.log frozen) l.start_is
+            (subst (λ words. WasFrozen b.start words b.log w.log frozen) l.words_is was));
+      }
 
   -- the tree is frozen by the table that the pass has then
   pub frozen_for : (q : Option Full) (frozen : Frozen) → IsFrozenIn v.start v.words x.log frozen

@@ -36,6 +36,7 @@ use Rattle.ist_tree.specs.FreezeSteps.{IsLeafNumber}
 use Rattle.ist_tree.specs.Insides.{IsPassWith, face_as, pass_face}
 use Rattle.ist_tree.proofs.FreezingLemmas.{pairs_rise, still_leaves, still_stays}
 use Rattle.ist_tree.proofs.GoingLemmas.{IsLaterView, goes_later, pass_with_later}
+use Rattle.ist_tree.proofs.HeardLemmas.{heard_same}
 
 -- ---- the leaf
 
@@ -191,6 +192,7 @@ read_ends who refused token all g table frozen old view =
                 table g.same;
             number = refl;
             seen = later-goes_on g.later;
+            heard = heard_same (ap (λ (y : View). y.moments) g.same);
             stamp = omega arith;
           };
           calls = ap (λ (y : View). y.calls) g.same;

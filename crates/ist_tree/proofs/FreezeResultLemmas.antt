@@ -64,7 +64,7 @@ freeze_ends who began new token it r q all words same table outcome f is old vie
       froze = record {
         seen = way.has_seen_more who began new token it r (option_or r outcome.refused) table;
         still = frozen_for who began new token it (option_or r outcome.refused) outcome.frozen
-            had.frozen_is;
+            had.was.frozen_is;
         pairs = had;
         rebuilt = λ row e.
             (let k = f.rebuilt row e in

@@ -7,7 +7,7 @@ use Rattle.ist_rule.specs.declared.view.View.{View}
 use Rattle.ist_core.specs.declared.events.Who.TheVariants.{Caller as CallerOf}
 use Rattle.ist_rule.specs.Conditions.{IsResolved}
 use Rattle.ist_rule.specs.Faces.{TokenFace}
-use Rattle.ist_rule.specs.Learning.{Turned, beginning, giving_up}
+use Rattle.ist_rule.specs.Learning.{TurnedAt, beginning, giving_up}
 use Rattle.ist_rule.specs.Rule.{IsSound}
 use Rattle.ist_rows.specs.declared.callers.Caller.{Caller}
 use Rattle.ist_updates.specs.declared.updates.When.{When}
@@ -22,6 +22,7 @@ use Rattle.ist_tree.specs.Insides.{IsPassWith, face_as, pass_face}
 use Rattle.ist_tree.specs.Refusals.{IsRefused}
 use Rattle.ist_tree.specs.Rounds.{HadMissed, HasLetGo}
 use Rattle.ist_tree.specs.Working.{IsLetGo, StartsDue}
+use Rattle.ist_tree.proofs.HeardLemmas.{heard_turned}
 use Rattle.ist_tree.proofs.IdleCallerLemmas.{has_its_calls}
 use Rattle.ist_tree.proofs.CountedLemmas.{way_counted}
 use Rattle.ist_tree.proofs.InstallLemmas.{way_starts}
@@ -31,11 +32,11 @@ use Rattle.ist_tree.proofs.UpdateSeenLemmas.{IsUpdateCall, final_pass, seen_more
 
 module _ (who began new : Caller) (token : TokenFace) (command : Command) (s : IsSound who.token.view)
     (r : Option Full) (p : IsPassWith who r)
-    (begun : Turned who.token.view (beginning who.token.view (Some command)) began.token.view)
+    (begun : TurnedAt who.token.view (beginning who.token.view (Some command)) began.token.view)
     (began_number : began.number ≡ who.number) (words : ℕ) (same_words : words ≡ who.token.view.words)
     (table : token.table ≡ who.token.table) where
   module _ (d : IsLetGo began new)
-      (given : Turned new.token.view (giving_up new.token.view) token.view) where
+      (given : TurnedAt new.token.view (giving_up new.token.view) token.view) where
     stops : IsUpdateCall who began new token command
     stops =
         record {
@@ -54,6 +55,7 @@ module _ (who began new : Caller) (token : TokenFace) (command : Command) (s : I
             later = given.later;
             sound = given.sound;
           };
+          heard = heard_turned given _ (ap (λ (y : View). y.moments) given.view);
           none = ap (λ (y : View). y.pending) given.view;
           table = table;
         }

@@ -1,5 +1,6 @@
 pub mod IdleCallerLemmas
 pub mod SettlingLemmas
+pub mod HeardLemmas
 pub mod EventLemmas
 pub mod StartLemmas
 pub mod RebuildLemmas
@@ -30,6 +31,7 @@ pub mod TokenLemmas
 pub mod MeetingLemmas
 pub mod TakenLemmas
 pub mod ClosingLemmas
+pub mod RealTimeLemmas
 pub mod FreezingLemmas
 pub mod FreezeGoingLemmas
 pub mod FreezeBelowLemmas
@@ -48,6 +50,7 @@ mod RoundEndLemmas
 mod FindCallLemmas
 pub mod DueFurtherLemmas
 pub mod InsteadLemmas
+pub mod ReadLemmas
 pub mod SpanLemmas
 pub mod RoundRefusalLemmas
 pub mod RoundLemmas

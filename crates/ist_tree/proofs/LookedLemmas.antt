@@ -1,5 +1,5 @@
 -- A find that is given up at its end, in the words of its steps, and what it leaves. Serves `find_unless` and `update_if`.
-use Rattle.std.proofs.Common.{◌≡◌, ◌≢◌, ℕ, ◌+◌, Option, Some, None, length, refl, inl, ⊎_elim, sym, ap, ap₂, ◌∙◌, subst, arith}
+use Rattle.std.proofs.Common.{◌≡◌, ◌≢◌, ℕ, ◌+◌, ◌∷◌, Option, Some, None, length, refl, inl, ⊎_elim, sym, ap, ap₂, ◌∙◌, subst, arith}
 use Rattle.ist_core.specs.declared.events.Event.TheVariants.{Count}
 use Rattle.ist_core.specs.Authors.{whose}
 use Rattle.laws_calls.proofs.DoneLemmas.{others_start_nothing}
@@ -17,7 +17,8 @@ use Rattle.laws_histories.specs.Searching.{HasPosition}
 use Rattle.ist_rule.specs.declared.view.View.{View}
 use Rattle.ist_rule.specs.Conditions.{CanGiveUp}
 use Rattle.ist_rule.specs.Faces.{TokenFace}
-use Rattle.ist_rule.specs.Learning.{Turned, beginning, giving_up}
+use Rattle.laws_real_time.specs.declared.moments.Deed.TheVariants.{GivesUp}
+use Rattle.ist_rule.specs.Learning.{moment_seen, TurnedAt, beginning, giving_up}
 use Rattle.ist_rule.specs.Rule.{IsSound}
 use Rattle.ist_rule.proofs.LaterLemmas.{later-goes_on, later_more}
 use Rattle.ist_rows.specs.declared.callers.Caller.{Caller}
@@ -26,9 +27,11 @@ use Rattle.ist_tree.specs.Calls.{HasSeenMore}
 use Rattle.ist_tree.specs.Faces.{PassFace}
 use Rattle.ist_tree.specs.Insides.{IsPass, IsPassWith, face_as, pass_face}
 use Rattle.ist_tree.specs.Rounds.{HadValue}
+use Rattle.ist_rule.proofs.SpeakLemmas.{go_on_more}
+use Rattle.ist_tree.proofs.HeardLemmas.{heard_same, heard_turned}
 use Rattle.ist_tree.proofs.IdleCallerLemmas.{between_behind}
 use Rattle.ist_tree.proofs.FindingLemmas.{searched_view}
-use Rattle.ist_tree.proofs.FoundLemmas.{before, its_position, later, lawful, w_is}
+use Rattle.ist_tree.proofs.FoundLemmas.{before, its_position, later, lawful, seen_moments, w_is}
 use Rattle.laws_histories.proofs.PositionOnLemmas.{position_on}
 use Rattle.ist_tree.proofs.GoingLemmas.{IsLaterView, pass_with_later}
 use Rattle.ist_tree.proofs.RoundWalkLemmas.{one_search}
@@ -46,7 +49,7 @@ pub record FindLeaves (old : PassFace) (who : Caller) (refused : Option Full) (t
 
 -- the caller began a get and searched
 module _ (who : Caller) (key : ℕ) (value : Option ℕ) (b w : View) (s : IsSound who.token.view)
-    (p : IsPass who) (begun : Turned who.token.view (beginning who.token.view (Some (Get key))) b)
+    (p : IsPass who) (begun : TurnedAt who.token.view (beginning who.token.view (Some (Get key))) b)
     (seen : HasSearched b w) (has : HasPosition w.start w.words b.log w.log key value) where
   -- the view before the find
   abbrev v : View
@@ -59,6 +62,7 @@ module _ (who : Caller) (key : ℕ) (value : Option ℕ) (b w : View) (s : IsSou
   to_w = later who key value b w s p begun seen has
 
   is_w : w ≡ searched_view v key b.log w.log w.loads w.loaded w.searches
+      (seen_moments who key value b w s p begun seen has)
   is_w = w_is who key value b w s p begun seen has
 
   -- it may give its call up
@@ -79,13 +83,20 @@ module _ (who : Caller) (key : ℕ) (value : Option ℕ) (b w : View) (s : IsSou
   -- and gave it up
   module _ (token : TokenFace) (refused : Option Full) (all : IsPassWith who refused)
       (same_table : token.table ≡ who.token.table)
-      (given : Turned w (giving_up w) token.view) where
+      (given : TurnedAt w (giving_up w) token.view) where
     -- the view after the find
     abbrev x : View
     x = token.view
 
-    x_is : x ≡ record v { log = x.log; loads = w.loads; loaded = w.loaded + 1; searches = w.searches; pending = None }
-    x_is = given.view ∙ ap (λ (y : View). giving_up y x.log) is_w
+    x_is : x ≡ record v {
+      log = x.log;
+      moments = moment_seen v x.log GivesUp ∷ given.before;
+      loads = w.loads;
+      loaded = w.loaded + 1;
+      searches = w.searches;
+      pending = None;
+    }
+    x_is = given.view ∙ ap (λ (y : View). giving_up y x.log given.before) is_w
 
     w_to_x : Later (CallerOf who.number) w.log x.log
     w_to_x =
@@ -117,6 +128,11 @@ module _ (who : Caller) (key : ℕ) (value : Option ℕ) (b w : View) (s : IsSou
                 same_table x_is;
             number = refl;
             seen = later-goes_on all_later;
+            heard = go_on_more v.moments b.moments x.moments
+                (heard_turned begun _ (ap (λ (y : View). y.moments) begun.view))
+                (go_on_more b.moments w.moments x.moments
+                (heard_same (ap (λ (y : View). y.moments) seen.same))
+                (heard_turned given _ (ap (λ (y : View). y.moments) given.view)));
             stamp = let same = ap (λ (y : View). y.stamp) x_is in omega arith;
           };
           others = all_later;

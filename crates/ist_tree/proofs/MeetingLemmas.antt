@@ -14,6 +14,7 @@ use Rattle.ist_core.specs.Authors.{Later}
 use Rattle.ist_rule.specs.Faces.{TokenFace}
 use Rattle.ist_rule.specs.Learning.{Looked, seeing}
 use Rattle.ist_rule.specs.Seating.{joined}
+use Rattle.ist_rule.specs.Speaking.{MomentsGoOn}
 use Rattle.ist_rule.proofs.LaterLemmas.{later-goes_on}
 use Rattle.ist_rows.specs.declared.callers.Caller.{Caller}
 use Rattle.ist_tree.specs.Faces.{TreeFace, PassFace, calls_in, HasItsCalls}
@@ -64,6 +65,7 @@ module _ (who : Caller) (n token : TokenFace) (refused : Option Full)
     (l : Looked (joined who.token.view n.view) 0 word token.view)
     (later : Later who.token.view.who who.token.view.log token.view.log)
     (other_later : Later n.view.who n.view.log token.view.log)
+    (heard : MomentsGoOn who.token.view.moments token.view.moments)
     (one_tree : tree_of n ≡ tree_of who.token) where
   abbrev v : View
   v = who.token.view
@@ -117,6 +119,7 @@ module _ (who : Caller) (n token : TokenFace) (refused : Option Full)
           tree = tree_same;
           number = refl;
           seen = later-goes_on later;
+          heard = heard;
           stamp = omega arith;
         };
         calls = ap (λ (y : View). y.calls) x_is;

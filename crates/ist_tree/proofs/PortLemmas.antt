@@ -1,15 +1,14 @@
 -- A port keeps its last refusal, which is one of its pass. Serves the `call` of a port.
-use Rattle.std.proofs.Common.{◌≡◌, ◌≢◌, ℕ, ◌+◌, ◌≤◌, length, Option, Some, None, Result, Ok, Err, IfErr, IfSome, refl, sym, ◌∙◌, subst, inl, inr, ⊎_elim, arith}
-use Rattle.std.proofs.Math.Nat.{le_refl, le_trans}
+use Rattle.std.proofs.Common.{◌≡◌, ◌≢◌, ℕ, ◌+◌, ◌≤◌, length, Option, Some, None, Result, Ok, Err, IfErr, IfSome, sym, ◌∙◌, subst, inl, inr, ⊎_elim, arith}
 use Rattle.ist_core.specs.declared.commands.Command.{Command}
 use Rattle.ist_core.specs.declared.commands.Command.TheVariants.{Get, Put, Remove}
 use Rattle.ist_core.specs.declared.ports.Full.{Full}
-use Rattle.ist_core.specs.Logs.{same_log}
 use Rattle.ist_core.specs.Replies.{Refused, refusal}
 use Rattle.ist_rule.proofs.LaterLemmas.{goes_on_more}
 use Rattle.laws_calls.specs.Finishing.{puts_in}
 use Rattle.ist_core.specs.Changes.{changes_of}
 use Rattle.ist_updates.specs.Asking.{command_for}
+use Rattle.ist_tree.proofs.HeardLemmas.{seen_more_then, seen_same}
 use Rattle.ist_tree.specs.Calls.{HasSeenMore}
 use Rattle.ist_tree.specs.Faces.{PassFace, TreeFace}
 use Rattle.ist_tree.specs.Insides.{IsPort}
@@ -48,12 +47,7 @@ refused_more p q said m r =
       began = r.began;
       ended = r.ended;
       call = r.call;
-      later = record {
-        tree = m.tree ∙ r.later.tree;
-        number = m.number ∙ r.later.number;
-        seen = goes_on_more r.later.seen m.seen;
-        stamp = le_trans r.later.stamp m.stamp;
-      };
+      later = seen_more_then r.ended p q r.later m;
       cause = r.cause;
     }
 
@@ -82,7 +76,7 @@ refused_now p q key value command full m update is r =
       began = p;
       ended = q;
       call = m;
-      later = record { tree = refl; number = refl; seen = same_log; stamp = le_refl q.stamp };
+      later = seen_same q;
       cause = record { key = key; value = value; command_is = is; cause = r };
     }
 

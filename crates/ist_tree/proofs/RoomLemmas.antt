@@ -20,6 +20,7 @@ use Rattle.ist_tree.specs.Insides.{IsPassWith, face_as, pass_face}
 use Rattle.ist_tree.specs.Room.{HasLeft, HasMadeNone}
 use Rattle.ist_tree.proofs.IdleCallerLemmas.{between_calls}
 use Rattle.ist_tree.proofs.GoingLemmas.{IsLaterView, goes_later, pass_with_later}
+use Rattle.ist_tree.proofs.HeardLemmas.{heard_same}
 use Rattle.ist_tree.proofs.StartLemmas.{starts_none_later}
 
 -- the first free word that was loaded isn't beyond the table
@@ -80,6 +81,7 @@ room_ends who refused token all sound next left l table sum old view =
                 table g.same;
             number = refl;
             seen = later-goes_on g.later;
+            heard = heard_same (ap (λ (y : View). y.moments) g.same);
             stamp = omega arith;
           };
           left_is = omega arith;

@@ -43,7 +43,7 @@ module _ (p m n : PassFace) (r : IsBetweenRounds p m) (w : HasWorked m n) where
       record {
         took = λ e. adds_from p m r.let_go n command reply u.added;
         got = λ other. absurd (other same);
-        counted = λ e entry. counted_from p m r.let_go n command (u.counted entry);
+        counted = λ e entry. counted_from p m r.let_go n r.lawful command (u.counted entry);
         due = due_from p m r.let_go n r.lawful w.seen.seen u.due;
         idle = λ other. absurd (other same);
       }

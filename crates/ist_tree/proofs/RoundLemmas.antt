@@ -1,6 +1,6 @@
 -- A pass that has let calls go: what its next call does holds since the beginning too. Serves
 -- `update_if`.
-use Rattle.std.proofs.Common.{◌≡◌, ℕ, ◌∷◌, Option, sym, ap, ◌∙◌, subst, refl, ⊎_elim, arith}
+use Rattle.std.proofs.Common.{◌≡◌, ℕ, ◌∷◌, Option, sym, ap, ◌∙◌, subst, refl, ⊎_elim}
 use Rattle.std.proofs.Math.Nat.{le_trans}
 use Rattle.ist_core.specs.declared.commands.Command.{Command}
 use Rattle.ist_core.specs.declared.events.Event.TheVariants.{Count, Install}
@@ -9,34 +9,45 @@ use Rattle.ist_core.specs.Lawful.{Lawful}
 use Rattle.ist_core.specs.Logs.{GoesOn, Log, same_log}
 use Rattle.ist_core.specs.StartLayout.{start}
 use Rattle.laws_histories.proofs.ChangeLemmas.{changes_rise}
+use Rattle.ist_rule.specs.Speaking.{MomentsGoOn}
 use Rattle.ist_rule.proofs.LaterLemmas.{goes_on_more}
+use Rattle.ist_rule.proofs.SpeakLemmas.{go_on_more}
 use Rattle.ist_tree.specs.Calls.{AddsCall, HasSeenMore}
 use Rattle.ist_updates.specs.Counting.{CountedNowhere}
 use Rattle.ist_tree.specs.DueRows.{CameDue, CountsNowhere, HasCountedInCall, IsTopmostDue, LeavesNoneDue, StartsOnlyDue, is_closed, none_came, was_refused}
+use Rattle.laws_real_time.specs.Moments.{Moments}
 use Rattle.ist_tree.specs.Faces.{PassFace}
 use Rattle.ist_tree.specs.Refusals.{IsRefused, KeepsRowRefusal}
 use Rattle.ist_tree.specs.Rounds.{HasLetGo, HasNoEffect}
 use Rattle.ist_tree.proofs.RowAtLimitLemmas.{in_order, whole_or_before}
 use Rattle.ist_tree.proofs.CountedLemmas.{counted_more}
+use Rattle.ist_tree.proofs.HeardLemmas.{seen_more_then, seen_same}
 use Rattle.ist_tree.proofs.InstallLemmas.{due_more, not_before}
+use Rattle.ist_tree.proofs.UpdateKeptLemmas.{not_yes_before}
 use Rattle.ist_tree.proofs.RoundRefusalLemmas.{keeps_since, let_go_at, refused_since, row_since}
 
-module _ (p : PassFace) (seen : Log) (loaded searches : ℕ) (g : GoesOn p.seen seen) (q : PassFace) where
+module _ (p : PassFace) (seen : Log) (loaded searches : ℕ) (moments : Moments) (g : GoesOn p.seen seen) (q : PassFace) where
   -- the pass between the two parts
   abbrev m : PassFace
-  m = let_go_at p seen loaded searches
+  m = let_go_at p seen loaded searches moments
 
   -- ---- calls and counts
 
-  adds_since : (command : Command) (reply : Option ℕ) → AddsCall m q command reply
-      → AddsCall p q command reply
-  adds_since command reply a =
+  adds_since : MomentsGoOn p.moments moments → (command : Command) (reply : Option ℕ)
+      → AddsCall m q command reply → AddsCall p q command reply
+  adds_since heard command reply a =
       record {
         call = a.call;
         command_is = a.command_is;
         reply_is = a.reply_is;
         stamp_is = a.stamp_is;
         calls_are = a.calls_are;
+        timed = record {
+          tried = a.timed.tried;
+          goes_on = go_on_more p.moments moments a.timed.tried heard a.timed.goes_on;
+          unreturned = a.timed.unreturned;
+          returns = a.timed.returns;
+        };
         added = record {
           has_calls = a.added.has_calls;
           fresh = record {
@@ -49,8 +60,9 @@ module _ (p : PassFace) (seen : Log) (loaded searches : ℕ) (g : GoesOn p.seen 
             record { tree = l.tree; seen = goes_on_more l.seen g; stamp = l.stamp } h;
       }
 
-  counted_since : (command : Command) → HasCountedInCall m q command → HasCountedInCall p q command
-  counted_since command c =
+  counted_since : Lawful p.tree.start p.tree.words seen → (command : Command)
+      → HasCountedInCall m q command → HasCountedInCall p q command
+  counted_since lawful command c =
       record {
         base = c.base;
         change = c.change;
@@ -58,6 +70,7 @@ module _ (p : PassFace) (seen : Log) (loaded searches : ℕ) (g : GoesOn p.seen 
         owned = c.owned;
         command_is = c.command_is;
         decision = c.decision;
+        since = not_yes_before p.tree.start p.tree.words p.seen seen g lawful.enabled c.base c.since;
         rows = c.rows;
         chain = c.chain;
         counted = λ row i. let it = c.counted row i in
@@ -119,15 +132,11 @@ module _ (p : PassFace) (seen : Log) (loaded searches : ℕ) (g : GoesOn p.seen 
     due_since lawful (none_came quiet) = none_came (none_since quiet)
     due_since lawful (is_closed row t closed) = is_closed row (top_since row t) closed
     due_since lawful (was_refused row full t r e) =
-        was_refused row full (top_since row t) (row_since p seen loaded searches g q lawful row full r) e
+        was_refused row full (top_since row t) (row_since p seen loaded searches moments g q lawful row full r) e
 
   starts_since : StartsOnlyDue p m → GoesOn seen q.seen → StartsOnlyDue m q → StartsOnlyDue p q
   starts_since before longer then =
       due_more p.tree.start p.tree.words p.number p.seen seen q.seen longer before then
-
-  seen_since : HasSeenMore m q → HasSeenMore p q
-  seen_since h =
-      record { tree = h.tree; number = h.number; seen = goes_on_more g h.seen; stamp = h.stamp }
 
 -- ---- in the words of what was let go
 
@@ -136,7 +145,7 @@ module _ (p m : PassFace) (h : HasLetGo p m) where
   g = h.idle.seen.seen
 
   -- the pass differs by its log, its loads and its walks only
-  pub is_let_go : m ≡ let_go_at p m.seen m.loaded m.searches
+  pub is_let_go : m ≡ let_go_at p m.seen m.loaded m.searches m.moments
   is_let_go =
       ap (λ t. record m { tree = t }) h.idle.seen.tree
       ∙ ap (λ n. record m { tree = p.tree; number = n }) h.idle.seen.number
@@ -146,49 +155,52 @@ module _ (p m : PassFace) (h : HasLetGo p m) where
       ∙ ap (λ r. record m { tree = p.tree; number = p.number; stamp = p.stamp; calls = p.calls; refused = r })
       h.idle.refused
 
-  back : (Q : PassFace → Type 0) → Q m → Q (let_go_at p m.seen m.loaded m.searches)
+  back : (Q : PassFace → Type 0) → Q m → Q (let_go_at p m.seen m.loaded m.searches m.moments)
   back Q = subst Q is_let_go
 
-  none : (row : ℕ) → ¬ (CameDue p (let_go_at p m.seen m.loaded m.searches) row)
+  none : (row : ℕ) → ¬ (CameDue p (let_go_at p m.seen m.loaded m.searches m.moments) row)
   none = back (λ (x : PassFace). (row : ℕ) → ¬ (CameDue p x row)) h.idle.none_came
 
-  starts : StartsOnlyDue p (let_go_at p m.seen m.loaded m.searches)
+  starts : StartsOnlyDue p (let_go_at p m.seen m.loaded m.searches m.moments)
   starts = back (λ (x : PassFace). StartsOnlyDue p x) h.idle.starts
 
   module _ (q : PassFace) where
     -- the pass has seen more since the first part
     pub seen_from : HasSeenMore m q → HasSeenMore p q
-    seen_from s = seen_since p m.seen m.loaded m.searches g q (back (λ (x : PassFace). HasSeenMore x q) s)
+    seen_from s = seen_more_then p m q h.idle.seen s
 
     -- a call that the second part adds is added since the first part
     pub adds_from : (command : Command) (reply : Option ℕ) → AddsCall m q command reply
         → AddsCall p q command reply
     adds_from command reply a =
-        adds_since p m.seen m.loaded m.searches g q command reply
+        adds_since p m.seen m.loaded m.searches m.moments g q h.idle.seen.heard command reply
         (back (λ (x : PassFace). AddsCall x q command reply) a)
 
     -- what the second part counted is counted since the first part
-    pub counted_from : (command : Command) → HasCountedInCall m q command → HasCountedInCall p q command
-    counted_from command c =
-        counted_since p m.seen m.loaded m.searches g q command (back (λ (x : PassFace). HasCountedInCall x q command) c)
+    pub counted_from : Lawful m.tree.start m.tree.words m.seen → (command : Command)
+        → HasCountedInCall m q command → HasCountedInCall p q command
+    counted_from lawful command c =
+        counted_since p m.seen m.loaded m.searches m.moments g q
+        (back (λ (x : PassFace). Lawful x.tree.start x.tree.words m.seen) lawful) command
+        (back (λ (x : PassFace). HasCountedInCall x q command) c)
 
     -- if the second part leaves no row due, none is left due since the first part
     pub due_from : Lawful m.tree.start m.tree.words m.seen → GoesOn m.seen q.seen
         → LeavesNoneDue m q → LeavesNoneDue p q
     due_from lawful longer d =
-        due_since p m.seen m.loaded m.searches g q none longer
+        due_since p m.seen m.loaded m.searches m.moments g q none longer
         (back (λ (x : PassFace). Lawful x.tree.start x.tree.words m.seen) lawful) (back (λ (x : PassFace). LeavesNoneDue x q) d)
 
     -- rebuilds started since the first part were of rows at their limits
     pub starts_from : GoesOn m.seen q.seen → StartsOnlyDue m q → StartsOnlyDue p q
     starts_from longer d =
-        starts_since p m.seen m.loaded m.searches g q starts longer (back (λ (x : PassFace). StartsOnlyDue x q) d)
+        starts_since p m.seen m.loaded m.searches m.moments g q starts longer (back (λ (x : PassFace). StartsOnlyDue x q) d)
 
     -- a refusal in the second part is one since the first part
     pub refused_from : Lawful m.tree.start m.tree.words m.seen → (key : ℕ) (value : Option ℕ)
         (full : Full) → IsRefused m q key value full → IsRefused p q key value full
     refused_from lawful key value full r =
-        refused_since p m.seen m.loaded m.searches g q
+        refused_since p m.seen m.loaded m.searches m.moments g q
         (back (λ (x : PassFace). Lawful x.tree.start x.tree.words m.seen) lawful) key value full
         (back (λ (x : PassFace). IsRefused x q key value full) r)
 
@@ -196,7 +208,7 @@ module _ (p m : PassFace) (h : HasLetGo p m) where
     pub keeps_from : Lawful m.tree.start m.tree.words m.seen → KeepsRowRefusal m q
         → KeepsRowRefusal p q
     keeps_from lawful k =
-        keeps_since p m.seen m.loaded m.searches g q
+        keeps_since p m.seen m.loaded m.searches m.moments g q
         (back (λ (x : PassFace). Lawful x.tree.start x.tree.words m.seen) lawful)
         (back (λ (x : PassFace). KeepsRowRefusal x q) k)
 
@@ -212,7 +224,7 @@ module _ (p m : PassFace) (h : HasLetGo p m) where
         record {
           seen = seen_from i.seen;
           refused = i.refused ∙ h.idle.refused;
-          none_came = none_since p m.seen m.loaded m.searches g q none i.seen.seen
+          none_came = none_since p m.seen m.loaded m.searches m.moments g q none i.seen.seen
               (back (λ (x : PassFace). (row : ℕ) → ¬ (CameDue x q row)) i.none_came);
           uncounted = nowhere_from i.seen.seen i.uncounted;
           starts = starts_from i.seen.seen i.starts;
@@ -232,7 +244,7 @@ pub let_go_none : (p : PassFace) → HasLetGo p p
 let_go_none p =
     record {
       idle = record {
-        seen = record { tree = refl; number = refl; seen = same_log; stamp = omega arith };
+        seen = seen_same p;
         refused = refl;
         none_came = λ row c. not_before p.tree.start p.tree.words p.number (Count p.number row) p.seen c.at c.since c.until;
         uncounted = λ row c. not_before p.tree.start p.tree.words p.number (Count p.number row) p.seen c.at c.since c.until;

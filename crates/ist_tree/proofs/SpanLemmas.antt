@@ -1,20 +1,21 @@
 -- A pass that searched, in no call of its own. Serves `span`.
-use Rattle.std.proofs.Common.{◌≡◌, ℕ, ◌≤◌, Option, refl, ap, ap₂, ◌∙◌, subst, arith}
+use Rattle.std.proofs.Common.{◌≡◌, ℕ, ◌≤◌, Option, ap, ◌∙◌, subst, arith}
 use Rattle.ist_core.specs.declared.pairs.Pair.{Pair}
 use Rattle.ist_core.specs.declared.ports.Full.{Full}
+use Rattle.ist_core.proofs.PrefixLemmas.{goes_on_length}
 use Rattle.laws_histories.specs.Searching.{HasPosition}
 use Rattle.ist_rule.specs.declared.view.View.{View}
 use Rattle.ist_rule.specs.Faces.{TokenFace}
-use Rattle.ist_rule.specs.Learning.{now}
+use Rattle.ist_rule.specs.Learning.{GoesOnTo, TurnedAt, now, beginning_read}
 use Rattle.ist_rule.proofs.LaterLemmas.{later-goes_on}
 use Rattle.ist_rows.specs.declared.callers.Caller.{Caller}
-use Rattle.ist_find.specs.Searches.{HasSearched}
+use Rattle.ist_find.specs.Searches.{HasBegunSearch}
 use Rattle.ist_find.specs.Spans.{pair_value, HasFewSpanLoads, EndAtEdges}
 use Rattle.ist_tree.specs.Calls.{HasSeenMore}
 use Rattle.ist_tree.specs.Faces.{PassFace}
 use Rattle.ist_tree.specs.Insides.{IsPassWith, face_as, pass_face}
 use Rattle.ist_tree.specs.Spans.{AllHave, HasLoadedFewOver, state_seen}
-use Rattle.ist_tree.proofs.GoingLemmas.{IsLaterView, pass_with_later}
+use Rattle.ist_tree.proofs.ReadLemmas.{read_began, read_calls, read_once, read_pass, read_seen, read_stamp, read_step, read_view}
 
 -- what it results in, for a pass with this face
 pub record SpanEnds (old : PassFace) (who : Caller) (refused : Option Full) (token : TokenFace)
@@ -27,15 +28,20 @@ pub record SpanEnds (old : PassFace) (who : Caller) (refused : Option Full) (tok
   pub edges : EndAtEdges (state_seen (face_as token who.number refused)) first last
   pub loads : HasLoadedFewOver old (face_as token who.number refused) key (pair_value pair key)
 
+-- a read begins with a search that was begun
+pub read_begun : (v b : View) → TurnedAt v (beginning_read v) b → HasBegunSearch b
+read_begun v b t = ap (λ (y : View). y.loads.since) t.view
+
 -- a search for a range ends so
-pub span_ends : (who : Caller) (refused : Option Full) (token : TokenFace) → IsPassWith who refused
-    → HasSearched who.token.view token.view → token.table ≡ who.token.table
+pub span_ends : (who : Caller) (refused : Option Full) (b : View) (token : TokenFace)
+    → IsPassWith who refused → TurnedAt who.token.view (beginning_read who.token.view) b
+    → GoesOnTo b token.view → token.table ≡ who.token.table
     → (key first last : ℕ) (pair : Option Pair)
-    → HasFewSpanLoads who.token.view token.view key (pair_value pair key)
+    → HasFewSpanLoads b token.view key (pair_value pair key)
     → EndAtEdges (now token.view) first last → ((k : ℕ) → first ≤ k → k ≤ last → HasPosition token.view.start token.view.words
-    who.token.view.log token.view.log k (pair_value pair k))
+    b.log token.view.log k (pair_value pair k))
     → (old : PassFace) → pass_face who refused ≡ old → SpanEnds old who refused token key first last pair
-span_ends who refused token all g table key first last pair few edges values old view =
+span_ends who refused b token all t g table key first last pair few edges values old view =
     subst (λ (o : PassFace). SpanEnds o who refused token key first last pair) view from
   where
     v : View
@@ -44,43 +50,35 @@ span_ends who refused token all g table key first last pair few edges values old
     w : View
     w = token.view
 
-    later : IsLaterView v w
-    later =
-        record {
-          who_is = ap (λ (y : View). y.who) g.same;
-          start_is = ap (λ (y : View). y.start) g.same;
-          words_is = ap (λ (y : View). y.words) g.same;
-          later = g.later;
-          sound = g.sound;
-        }
-
     from : SpanEnds (pass_face who refused) who refused token key first last pair
     from =
-        let stamps = ap (λ (y : View). y.stamp) g.same in
+        let later = read_view who refused b token all t g table in
+        let one = read_began who refused b token all t g table in
+        let begun = g.since ∙ read_begun v b t in
+        let long = goes_on_length (later-goes_on t.later) in
+        let little = few.few in
         record {
-          pass = pass_with_later who token refused all later
-              (ap (λ (y : View). y.pending) g.same ∙ all.pass.in_none);
-          seen = record {
-            tree = ap₂ (λ t (y : View). record { table = t; start = y.start; words = y.words })
-                table g.same;
-            number = refl;
-            seen = later-goes_on g.later;
-            stamp = omega arith;
+          pass = read_pass who refused b token all t g table;
+          seen = read_seen who refused b token all t g table;
+          values = record {
+            at = b.log;
+            step = read_step who refused b token all t g table;
+            values = λ k low high.
+                subst (λ p. HasPosition p v.words b.log w.log k (pair_value pair k)) later.start_is
+                (subst (λ n. HasPosition w.start n b.log w.log k (pair_value pair k)) later.words_is
+                (values k low high));
           };
-          values = λ k low high.
-              subst (λ p. HasPosition p v.words v.log w.log k (pair_value pair k)) later.start_is
-              (subst (λ n. HasPosition w.start n v.log w.log k (pair_value pair k)) later.words_is
-              (values k low high));
-          calls = ap (λ (y : View). y.calls) g.same;
-          stamp = stamps;
+          calls = read_calls who refused b token all t g table;
+          stamp = read_stamp who refused b token all t g table;
           edges = edges;
           loads = record {
+            once = read_once who refused b token all t g table;
             began = w.loads.since;
-            since = g.since;
+            since = omega arith;
             node = few.node;
             searched = few.found.searched;
             rows = few.rows;
             chain = few.chain;
-            few = few.few;
+            few = omega arith;
           };
         }

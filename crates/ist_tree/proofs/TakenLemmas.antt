@@ -14,7 +14,8 @@ use Rattle.ist_core.proofs.YesLemmas.{distinct_below}
 use Rattle.ist_rule.specs.declared.view.Taken.{Taken}
 use Rattle.ist_rule.specs.declared.view.View.{View}
 use Rattle.ist_rule.specs.Rule.{IsSound}
-use Rattle.ist_tree.specs.Closing.{calls_numbered, calls_from}
+use Rattle.ist_tree.specs.Closing.{calls_from}
+use Rattle.ist_tree.specs.Faces.{calls_numbered}
 use Rattle.ist_tree.specs.Insides.{taken_pass, IsMaker}
 
 -- ---- numbers

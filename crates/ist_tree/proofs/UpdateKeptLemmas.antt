@@ -16,7 +16,8 @@ use Rattle.ist_core.specs.Pieces.{Change}
 use Rattle.ist_core.specs.Rebuilding.{IsUpdate}
 use Rattle.ist_core.specs.StartLayout.{start}
 use Rattle.ist_core.specs.Writing.{first_change}
-use Rattle.ist_core.proofs.FateLemmas.{grow_between}
+use Rattle.ist_core.specs.Statuses.{decided_yes}
+use Rattle.ist_core.proofs.FateLemmas.{enabled_before, grow_between}
 use Rattle.ist_core.proofs.GrowingLemmas.{change_there}
 use Rattle.ist_core.proofs.PlaceLemmas.{no_piece}
 use Rattle.laws_links.proofs.ComesLemmas.{change_comes}
@@ -152,12 +153,25 @@ may_end_on old new command reply mine on m =
 
 -- ---- a change that was counted
 
+-- a change that isn't decided yes wasn't decided yes before
+pub not_yes_before : (pairs : List Pair) (words : ℕ) (earlier before : Log) → GoesOn earlier before
+    → EachEnabled (start pairs words) before → (base : ℕ)
+    → ((change : ChangeRow) → (state_of pairs words before).pieces base ≡ Some (Change change)
+    → change.decision ≢ decided_yes)
+    → (change : ChangeRow) → (state_of pairs words earlier).pieces base ≡ Some (Change change)
+    → change.decision ≢ decided_yes
+not_yes_before pairs words earlier before g enabled base none change there said =
+    let it = change_there (state_of pairs words earlier).pieces (state_of pairs words before).pieces
+    (grow_between pairs words earlier before enabled g) base change there in
+    none it.0 it.1 (it.2.decided (λ undecided. omega (said, undecided, arith)) ∙ said)
+
 -- what was counted in a part of a log was counted in all of it
 pub counted_on : (pairs : List Pair) (words : ℕ) (earlier before log longer : Log)
-    → GoesOn earlier before → GoesOn log longer → Lawful pairs words longer → (number : ℕ)
+    → GoesOn earlier before → GoesOn before log → GoesOn log longer → Lawful pairs words longer
+    → (number : ℕ)
     (command : Command) → IsCounted pairs words before log number command
     → IsCounted pairs words earlier longer number command
-counted_on pairs words earlier before log longer g h lawful number command c =
+counted_on pairs words earlier before log longer g on h lawful number command c =
     let it = change_there (state_of pairs words log).pieces (state_of pairs words longer).pieces
     (grow_between pairs words log longer lawful.enabled h) c.base c.change c.published in
     let same = it.2.others in
@@ -169,6 +183,9 @@ counted_on pairs words earlier before log longer g h lawful number command c =
       owned = ap (λ x. x.owner) same ∙ c.owned;
       command_is = ap command_of same ∙ c.command_is;
       decision = it.2.decided (λ none. omega arith) ∙ c.decision;
+      since = not_yes_before pairs words earlier before g
+          (enabled_before (start pairs words) before longer (goes_on_more on h) lawful.enabled)
+          c.base c.since;
       rows = c.rows;
       chain =
           subst (λ node. IsChainOf pairs words longer node c.rows) (sym (ap (λ x. x.node) same))

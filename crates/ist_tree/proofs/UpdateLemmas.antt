@@ -27,7 +27,10 @@ use Rattle.ist_core.specs.declared.events.Who.TheVariants.{Caller as CallerOf}
 use Rattle.ist_core.specs.Authors.{whose}
 use Rattle.ist_rule.specs.Conditions.{CanEnd}
 use Rattle.ist_rule.specs.Faces.{TokenFace}
-use Rattle.ist_rule.specs.Learning.{Turned, beginning, ending, now}
+use Rattle.laws_real_time.specs.declared.moments.Deed.TheVariants.{Begins, Returns}
+use Rattle.ist_rule.specs.Speaking.{number_of, MomentsLater}
+use Rattle.ist_tree.specs.RealTime.{ReturnsInTime}
+use Rattle.ist_rule.specs.Learning.{moment_seen, TurnedAt, beginning, ending, now}
 use Rattle.ist_rule.specs.Watching.{IsNode, is_anchor, is_inner}
 use Rattle.ist_rule.proofs.LaterLemmas.{between, goes_on_length, goes_on_more}
 use Rattle.ist_rows.specs.declared.callers.Caller.{Caller}
@@ -38,6 +41,7 @@ use Rattle.ist_tree.specs.Faces.{PassFace}
 use Rattle.ist_tree.specs.Insides.{face_as, pass_face}
 use Rattle.ist_tree.specs.Refusals.{IsRowRefused}
 use Rattle.ist_tree.specs.Working as working
+use Rattle.ist_tree.proofs.HeardLemmas.{runs_at_once}
 use Rattle.ist_tree.proofs.IdleCallerLemmas.{has_its_calls}
 use Rattle.ist_tree.proofs.RowAtLimitLemmas.{came_inside, came_within}
 use Rattle.ist_tree.proofs.UpdateKeptLemmas.{counted_on}
@@ -78,8 +82,8 @@ module _ (who began new : Caller) (token : TokenFace) (command : Command)
       → HasCountedInCall before behind command
   has_counted c =
       counted_on v.start v.words v.log b.log w.log x.log (way.v_to_b who began new token command it)
-      (way.w_to_x who began new token command it) (way.lawful_x who began new token command it)
-      who.number command
+      (way.b_to_w who began new token command it) (way.w_to_x who began new token command it)
+      (way.lawful_x who began new token command it) who.number command
       (subst (λ n. IsCounted v.start v.words b.log w.log n command) it.began_number
       (subst (λ pairs. IsCounted pairs v.words b.log w.log began.number command)
       (way.b_start who began new token command it)
@@ -147,7 +151,7 @@ module _ (who began new : Caller) (token : TokenFace) (command : Command)
       }
 
   -- the topmost row that reached its limit, or its parent, isn't open
-  top_is_shut : (row : ℕ) → working.IsTopShut (record (beginning v (Some command) b.log) {
+  top_is_shut : (row : ℕ) → working.IsTopShut (record (beginning v (Some command) b.log it.begun.before) {
     log = b.log;
   }) w began.number row
       → LeavesNoneDue before behind
@@ -185,7 +189,7 @@ module _ (who began new : Caller) (token : TokenFace) (command : Command)
 
   -- the topmost row that reached its limit in the work, by the first view's table
   top_here : (row : ℕ) → working.IsTopCame b w began.number row
-      → working.IsTopCame (record (beginning v (Some command) b.log) { log = b.log }) w began.number
+      → working.IsTopCame (record (beginning v (Some command) b.log it.begun.before) { log = b.log }) w began.number
       row
   top_here row t =
       subst (λ (y : View). working.IsTopCame (record y { log = b.log }) w began.number row)
@@ -221,7 +225,7 @@ module _ (who began new : Caller) (token : TokenFace) (command : Command)
 
   -- it ended as this call, which may end
   module _ (call : Call) (c : CanEnd w call) (command_is : call.command ≡ command)
-      (ended : Turned w (ending w call) x) where
+      (ended : TurnedAt w (ending w call) x) where
     x_calls : x.calls ≡ v.calls ++ call ∷ []
     x_calls =
         ap (λ (y : View). y.calls) ended.view
@@ -271,6 +275,31 @@ module _ (who began new : Caller) (token : TokenFace) (command : Command)
         let from = f.position in
         record { position = omega arith; later = f.later }
 
+    -- it was made in real time
+    pub in_time : ReturnsInTime before behind command call.reply
+    in_time =
+        record {
+          before = it.begun.before;
+          since = subst (λ a. MomentsLater a v.moments it.begun.before) it.pass.caller.mine
+              it.begun.since;
+          began = moment_seen v b.log (Begins (Some command));
+          began_by = ap number_of it.pass.caller.mine;
+          begins = refl;
+          meanwhile = ended.before;
+          during = subst (λ ms. MomentsLater (CallerOf who.number) ms ended.before)
+              (ap (λ (y : View). y.moments) it.went.went.same
+              ∙ ap (λ (y : View). y.moments) it.begun.view)
+              (subst (λ a. MomentsLater a w.moments ended.before)
+              (way.w_mine who began new token command it) ended.since);
+          returned = moment_seen w x.log (Returns call);
+          returned_by = ap number_of (way.w_mine who began new token command it);
+          call = call;
+          returns = refl;
+          command_is = command_is;
+          reply_is = refl;
+          now_is = ap (λ (y : View). y.moments) ended.view;
+        }
+
     -- it is one call more of the pass
     pub adds_call : AddsCall before behind command call.reply
     adds_call =
@@ -280,6 +309,8 @@ module _ (who began new : Caller) (token : TokenFace) (command : Command)
           reply_is = refl;
           stamp_is = sym x_stamp;
           calls_are = x_calls;
+          timed = runs_at_once before behind command call.reply
+              (it.sound.well_made.moments.spoken who.number it.pass.caller.mine).calls_are in_time;
           added = record { has_calls = has_calls; fresh = fresh };
           learnt = λ other l h. learnt_first v.start v.words other.seen v.log other.number other.stamp
               v.stamp other.calls call

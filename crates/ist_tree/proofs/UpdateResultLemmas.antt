@@ -34,7 +34,7 @@ use Rattle.ist_rows.specs.declared.callers.Caller.{Caller}
 use Rattle.ist_rows.specs.Building.{HasRefused}
 use Rattle.ist_rows.specs.Rows.{IsCaller}
 use Rattle.ist_rows.specs.Going.{IsQuiet, StaysReady}
-use Rattle.std.specs.Prelude.{IfOk, IfSome, OnErr}
+use Rattle.std.specs.Prelude.{IfOk, IfSome}
 use Rattle.ist_updates.specs.declared.updates.Applied.{Applied}
 use Rattle.ist_updates.specs.declared.updates.Due.{Due}
 use Rattle.ist_updates.specs.Asking.{MayEnd, Updates}
@@ -267,7 +267,8 @@ module _ (old mid new : Caller) (words : ℕ) (command : Command) (reply : Optio
         few_walks = few_with old.token.view w x a.few_walks on.gone.went;
         may = may_end_on mid new command reply a.caller.mine on a.may;
         counted = λ entry.
-            counted_on v.start v.words v.log v.log w.log x.log same_log longer lawful old.number command
+            counted_on v.start v.words v.log v.log w.log x.log same_log
+            (later_by-goes_on a.went.went.later) longer lawful old.number command
             (a.counted entry);
         shut = subst (LeavesShut old.token.view x old.number words) (sym is) (outcome answer shut full);
         starts = λ unrefused. starts_done answer (sym is ∙ unrefused) done;

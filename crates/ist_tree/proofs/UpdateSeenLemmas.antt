@@ -15,9 +15,11 @@ use Rattle.ist_core.specs.Authors.{Later}
 use Rattle.ist_rule.specs.Conditions.{IsResolved}
 use Rattle.ist_rule.specs.Faces.{TokenFace}
 use Rattle.ist_rule.specs.Going.{SearchedOn}
-use Rattle.ist_rule.specs.Learning.{Turned, beginning, now}
+use Rattle.ist_rule.specs.Learning.{TurnedAt, beginning, now}
 use Rattle.ist_rule.specs.Rule.{IsSound}
+use Rattle.ist_rule.specs.Speaking.{MomentsGoOn}
 use Rattle.ist_rule.proofs.LaterLemmas.{goes_on_more, later-goes_on}
+use Rattle.ist_rule.proofs.SpeakLemmas.{go_on_more}
 use Rattle.ist_rule.proofs.WentOnLemmas.{later_by-goes_on}
 use Rattle.ist_rows.specs.declared.callers.Caller.{Caller}
 use Rattle.ist_rows.specs.Building.{HasRefused}
@@ -27,19 +29,21 @@ use Rattle.ist_tree.specs.Insides.{HasSettled, IsPass, face_as, pass_face, tree_
 use Rattle.ist_tree.specs.Working.{KeepsDone, Works}
 use Rattle.ist_tree.proofs.BeginningLemmas.{begun_view}
 use Rattle.ist_tree.proofs.GoingLemmas.{IsLaterView, caller_on, lawful_behind}
+use Rattle.ist_tree.proofs.HeardLemmas.{heard_same, heard_turned}
 use Rattle.ist_tree.proofs.SettlingLemmas.{settled_later}
 
 -- a pass began its call, worked, and ended it or gave it up
 pub record IsUpdateCall (who began new : Caller) (token : TokenFace) (command : Command) : Type 0 where
   pub sound : IsSound who.token.view
   pub pass : IsPass who
-  pub begun : Turned who.token.view (beginning who.token.view (Some command)) began.token.view
+  pub begun : TurnedAt who.token.view (beginning who.token.view (Some command)) began.token.view
   pub began_number : began.number ≡ who.number
   pub went : SearchedOn Works began.token.view new.token.view
   pub number : new.number ≡ began.number
   pub caller : IsCaller new
   pub refused : HasRefused new
   pub last : IsLaterView new.token.view token.view
+  pub heard : MomentsGoOn new.token.view.moments token.view.moments
   pub none : token.view.pending ≡ None
   pub table : token.table ≡ who.token.table
 
@@ -135,6 +139,14 @@ module _ (who began new : Caller) (token : TokenFace) (command : Command)
   pub later_x : Later (CallerOf who.number) w.log x.log
   later_x = subst (λ a. Later a w.log x.log) w_mine way.last.later
 
+  -- it has heard more
+  v_to_x_heard : MomentsGoOn v.moments x.moments
+  v_to_x_heard =
+      go_on_more v.moments b.moments x.moments
+      (heard_turned way.begun _ (ap (λ (y : View). y.moments) way.begun.view))
+      (go_on_more b.moments w.moments x.moments
+      (heard_same (ap (λ (y : View). y.moments) way.went.went.same)) way.heard)
+
   -- it is a pass in no call again
   pub final_pass : IsPass (record new { token = token })
   final_pass =
@@ -155,6 +167,7 @@ module _ (who began new : Caller) (token : TokenFace) (command : Command)
         tree = same_tree;
         number = number_is;
         seen = v_to_x;
+        heard = v_to_x_heard;
         stamp = up;
       }
 

@@ -15,7 +15,7 @@ use Rattle.ist_core.specs.declared.events.Who.TheVariants.{Caller as CallerOf}
 use Rattle.ist_rule.specs.Conditions.{CanEnd}
 use Rattle.ist_rule.specs.Faces.{TokenFace}
 use Rattle.ist_rule.specs.Going.{SearchedOn}
-use Rattle.ist_rule.specs.Learning.{Turned, beginning, ending}
+use Rattle.ist_rule.specs.Learning.{TurnedAt, beginning, ending}
 use Rattle.ist_rule.specs.Rule.{IsSound}
 use Rattle.ist_rule.proofs.WentOnLemmas.{later_by-goes_on}
 use Rattle.ist_rows.specs.declared.callers.Caller.{Caller}
@@ -26,12 +26,14 @@ use Rattle.ist_tree.specs.Faces.{PassFace}
 use Rattle.ist_tree.specs.Insides.{IsPass, IsPassWith, face_as, pass_face}
 use Rattle.ist_tree.specs.Refusals.{IsRowRefused, KeepsRowRefusal}
 use Rattle.ist_tree.specs.Working as working
-use Rattle.ist_tree.specs.Working.{CarriesOut, IsLetGo, Works, StartsDue}
+use Rattle.ist_tree.specs.Working.{CarriesOut, Works, StartsDue}
 use Rattle.ist_tree.proofs.InstallLemmas.{way_starts}
 use Rattle.ist_tree.proofs.BeginningLemmas.{begun_calls}
 use Rattle.ist_tree.proofs.EndingLemmas.{can_end_so, ended_call, ending_in}
+use Rattle.ist_tree.proofs.HeardLemmas.{heard_turned}
 use Rattle.ist_tree.proofs.RefusalLemmas.{keeps_first}
-use Rattle.ist_tree.proofs.UpdateLemmas.{adds_call, has_counted, leaves_none_due, row_refused, stamp_up}
+use Rattle.ist_tree.specs.RealTime.{ReturnsInTime}
+use Rattle.ist_tree.proofs.UpdateLemmas.{adds_call, in_time, has_counted, leaves_none_due, row_refused, stamp_up}
 use Rattle.ist_tree.proofs.UpdateSeenLemmas.{IsUpdateCall, final_pass, seen_more, settled_then}
 
 -- ---- the call that ends
@@ -53,7 +55,7 @@ its_command w call command n c is = at c.pending (sym is ∙ c.in_call) c.comman
 
 -- a pass began its call, and its work is done
 module _ (who began new : Caller) (command : Command) (s : IsSound who.token.view) (p : IsPass who)
-    (begun : Turned who.token.view (beginning who.token.view (Some command)) began.token.view)
+    (begun : TurnedAt who.token.view (beginning who.token.view (Some command)) began.token.view)
     (began_number : began.number ≡ who.number)
     (went : SearchedOn Works began.token.view new.token.view) (number : new.number ≡ began.number) where
   pending_is : new.token.view.pending
@@ -110,6 +112,7 @@ pub record UpdateEnds (old : PassFace) (new : Caller) (token : TokenFace) (q : O
   pub pass : IsPassWith (record new { token = token }) q
   pub seen : HasSeenMore old (face_as token new.number q)
   pub added : AddsCall old (face_as token new.number q) command reply
+  pub timed : ReturnsInTime old (face_as token new.number q) command reply
   -- a command that took effect is counted at each row on the chain of its change
   pub counted : makes_entry command reply ≡ true
       → HasCountedInCall old (face_as token new.number q) command
@@ -123,12 +126,12 @@ none_kept (Some full) met e = absurd (cc)
 
 module _ (who began new : Caller) (token : TokenFace) (command : Command) (s : IsSound who.token.view)
     (r : Option Full) (p : IsPassWith who r)
-    (begun : Turned who.token.view (beginning who.token.view (Some command)) began.token.view)
+    (begun : TurnedAt who.token.view (beginning who.token.view (Some command)) began.token.view)
     (began_number : began.number ≡ who.number) (words : ℕ) (same_words : words ≡ who.token.view.words)
     (table : token.table ≡ who.token.table) where
   module _ (reply : Option ℕ) (met : Option Full)
       (c : CarriesOut began new words command reply met)
-      (ended : Turned new.token.view (ending new.token.view (ended_call new.token.view reply)) token.view)
+      (ended : TurnedAt new.token.view (ending new.token.view (ended_call new.token.view reply)) token.view)
       (q : Option Full) (kept : q ≡ option_or r met) where
     it : IsUpdateCall who began new token command
     it =
@@ -148,6 +151,7 @@ module _ (who began new : Caller) (token : TokenFace) (command : Command) (s : I
             later = ended.later;
             sound = ended.sound;
           };
+          heard = heard_turned ended _ (ap (λ (y : View). y.moments) ended.view);
           none = ap (λ (y : View). y.pending) ended.view;
           table = table;
         }
@@ -180,6 +184,10 @@ module _ (who began new : Caller) (token : TokenFace) (command : Command) (s : I
           added =
               subst (AddsCall (pass_face who r) (face_as token new.number q) command) (sym picked.1)
               (adds_call who began new token command it r q (ended_call new.token.view reply) picked.0
+              is_command ended);
+          timed =
+              subst (ReturnsInTime (pass_face who r) (face_as token new.number q) command) (sym picked.1)
+              (in_time who began new token command it r q (ended_call new.token.view reply) picked.0
               is_command ended);
           counted = λ entry. has_counted who began new token command it r q (c.counted entry);
           due = leaves_none_due who began new token command it r q words met same_words kept c.shut;

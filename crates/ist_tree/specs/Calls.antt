@@ -19,17 +19,20 @@ use Rattle.laws_histories.specs.Calls.{IsAdded}
 use Rattle.laws_histories.specs.Placing.{HasPlaces}
 use Rattle.laws_histories.specs.Searching.{Searched}
 use Rattle.laws_calls.specs.Walking.{IsChainOf}
+use Rattle.ist_rule.specs.Speaking.{MomentsGoOn}
 use Rattle.ist_find.specs.Searches.{keys_in}
 use Rattle.ist_tree.specs.Faces.{PassFace, changes_seen, calls_in, HasItsCalls}
+use Rattle.ist_tree.specs.RealTime.{RunsInTime}
 
 -- ---- seeing and learning
 
--- the pass is the same, on the same tree; it has seen all that it had seen, and perhaps more; and
--- its stamp didn't fall
+-- the pass is the same, on the same tree; it has seen all that it had seen, and perhaps more, and so
+-- with the moments of all calls; and its stamp didn't fall
 pub record HasSeenMore (p q : PassFace) : Type 0 where
   pub tree : q.tree ≡ p.tree
   pub number : q.number ≡ p.number
   pub seen : GoesOn p.seen q.seen
+  pub heard : MomentsGoOn p.moments q.moments
   pub stamp : p.stamp ≤ q.stamp
 
 -- the pass has learnt what another knew: it has seen all that the other had seen, and its stamp is
@@ -41,8 +44,8 @@ pub record HasLearnt (p other : PassFace) : Type 0 where
 
 -- ---- one more call
 
--- the pass made one more call, with this command and this reply. The call follows the pass's
--- earlier calls among the changes that the pass has seen. It is fresh: its position is after all
+-- the pass made one more call, with this command and this reply, in real time. The call follows the
+-- pass's earlier calls among the changes that the pass has seen. It is fresh: its position is after all
 -- changes that the pass had seen before, and its stamp is higher. So it comes after each call that
 -- the pass had learnt of
 pub record AddsCall (p q : PassFace) (command : Command) (reply : Option ℕ) : Type 0 where
@@ -51,6 +54,7 @@ pub record AddsCall (p q : PassFace) (command : Command) (reply : Option ℕ) : 
   pub reply_is : call.reply ≡ reply
   pub stamp_is : call.stamp ≡ q.stamp
   pub calls_are : q.calls ≡ p.calls ++ call ∷ []
+  pub timed : RunsInTime p q command reply
   pub added : IsAdded p.tree.start p.tree.words p.seen q.seen p.number p.stamp p.calls call
   pub learnt : (other : PassFace) → HasLearnt p other → HasItsCalls other
       → Each (λ known. Follows known call) other.calls

@@ -1,5 +1,5 @@
 -- A tree, its passes, notes and maker, as contracts see them.
-use Rattle.std.specs.Prelude.{ℕ, Bool, List, Option, None}
+use Rattle.std.specs.Prelude.{ℕ, ◌==◌, if◌then◌else◌, Bool, List, [], ◌∷◌, Option, None}
 use Rattle.atomic_table.specs.Seated.{TableId}
 use Rattle.ist_core.specs.declared.calls.Call.{Call}
 use Rattle.ist_core.specs.declared.pairs.Pair.{Pair}
@@ -9,6 +9,7 @@ use Rattle.ist_core.specs.Changes.{Entry, changes_of}
 use Rattle.ist_core.specs.Histories.{PassCalls}
 use Rattle.ist_core.specs.Replies.{Refused}
 use Rattle.laws_histories.specs.Calls.{HasCalls}
+use Rattle.laws_real_time.specs.Moments.{Moments}
 
 -- a tree: which one it is, the pairs that it was opened with, and how many words it has
 pub record TreeFace : Type 0 where
@@ -17,7 +18,8 @@ pub record TreeFace : Type 0 where
   pub words : ℕ
 
 -- a pass, or what a note keeps of one: its tree and its number, the log that it has seen, its
--- stamp, and its calls with their replies, the oldest first. `loaded` counts its loads, `searches`
+-- stamp, its calls with their replies, the oldest first, and the moments of all calls that it has seen
+-- at its last one. `loaded` counts its loads, `searches`
 -- the walks that it began from the anchor, and `refused` is the first refusal of a rebuild that one
 -- of its calls met after its own change, or that a freeze met after a rebuild was in place
 pub record PassFace : Type 0 where
@@ -26,17 +28,19 @@ pub record PassFace : Type 0 where
   pub seen : Log
   pub stamp : ℕ
   pub calls : List Call
+  pub moments : Moments
   pub loaded : ℕ
   pub searches : ℕ
   pub refused : Option Full
 
--- a maker: its tree, how many passes it made, the log that it has seen, its stamp, and the passes
--- that it took back, the last first. `refused` says whether one of these had met a refused rebuild
+-- a maker: its tree, how many passes it made, the log that it has seen, its stamp, the moments that
+-- it has seen, and the passes that it took back, the last first. `refused` says whether one of these had met a refused rebuild
 pub record MakerFace : Type 0 where
   pub tree : TreeFace
   pub made : ℕ
   pub seen : Log
   pub stamp : ℕ
+  pub moments : Moments
   pub taken : List PassCalls
   pub refused : Bool
 
@@ -61,3 +65,9 @@ HasItsCalls p = HasCalls p.tree.start p.tree.words p.seen p.number p.stamp p.cal
 -- what a note of a pass keeps: all that the pass knew, but none of its loads, walks and refusals
 abbrev pub noted : PassFace → PassFace
 noted p = record p { loaded = 0; searches = 0; refused = None }
+
+-- the calls of the pass with this number, if it is one of these
+abbrev pub calls_numbered : ℕ → List PassCalls → List Call
+calls_numbered number [] = []
+calls_numbered number (pass ∷ more) =
+    if pass.number == number then pass.calls else calls_numbered number more

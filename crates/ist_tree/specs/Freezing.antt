@@ -19,6 +19,7 @@ use Rattle.ist_layout.specs.Meanings.{ref_meant}
 use Rattle.ist_rebuild.specs.Starting.{StartsNone}
 use Rattle.ist_tree.specs.declared.freezing.Frozen.{Frozen}
 use Rattle.ist_tree.specs.Faces.{PassFace}
+use Rattle.ist_tree.specs.RealTime.{StepsIn}
 use Rattle.ist_tree.specs.Refusals.{HadTooFew}
 
 -- ---- what is frozen
@@ -95,9 +96,11 @@ abbrev pub IsFrozenFor : PassFace → Frozen → Type 0
 IsFrozenFor p frozen = IsFrozenIn p.tree.start p.tree.words p.seen frozen
 
 -- the tree was frozen in the call: its pairs are the map's pairs after some number of changes, no
--- fewer than the pass had seen before, and no more than it has seen then
-abbrev pub HasFrozen : PassFace → PassFace → Frozen → Type 0
-HasFrozen p q frozen = WasFrozen p.tree.start p.tree.words p.seen q.seen frozen
+-- fewer than there were at a step of the pass in this call, and no more than it has seen then
+pub record HasFrozen (p q : PassFace) (frozen : Frozen) : Type 0 where
+  pub at : Log
+  pub step : StepsIn p q at
+  pub was : WasFrozen p.tree.start p.tree.words at q.seen frozen
 
 -- after some log between these the anchor's slot held an inner row
 pub record HeldInnerRow (pairs : List Pair) (words : ℕ) (earlier log : Log) : Type 0 where

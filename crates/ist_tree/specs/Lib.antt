@@ -1,6 +1,7 @@
 -- what the public contracts rest on, in the order to read them
 pub mod Faces
 pub mod Opening
+pub mod RealTime
 pub mod Calls
 pub mod Spans
 pub mod Sweeps

@@ -12,7 +12,7 @@ abbrev pub words_for : List Pair → ℕ
 words_for pairs = first_row + ideal_words (length pairs)
 
 -- the tree is a new one of the pairs, and they fit in this many words. Its maker has made no pass
--- and seen no event, so that the words are the image of the start
+-- and seen no event and no call, so that the words are the image of the start
 pub record IsNewTree (words : ℕ) (pairs : List Pair) (tree : TreeFace) (maker : MakerFace)
     : Type 0 where
   pub room : words_for pairs ≤ words
@@ -21,6 +21,7 @@ pub record IsNewTree (words : ℕ) (pairs : List Pair) (tree : TreeFace) (maker 
   pub same_tree : maker.tree ≡ tree
   pub made : maker.made ≡ 0
   pub seen : maker.seen ≡ []
+  pub unheard : maker.moments ≡ []
   pub stamp : maker.stamp ≡ 0
   pub taken : maker.taken ≡ []
   pub unrefused : maker.refused ≡ false

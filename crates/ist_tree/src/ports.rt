@@ -3,6 +3,7 @@ ghost use Rattle.std.specs.Prelude.{◌≡◌, ℕ, ◌+◌, ◌<◌, ◌++◌, 
 ghost use Rattle.ist_core.specs.Replies.{refusal, told};
 ghost use Rattle.ist_tree.specs.Calls.{HasSeenMore, AddsCall};
 ghost use Rattle.ist_tree.specs.Faces.{TreeFace};
+ghost use Rattle.ist_tree.specs.RealTime.{ReturnsInTime};
 ghost use Rattle.ist_tree.specs.Refusals.{IsRefusedCall, PassWasRefused};
 
 use crate::passes::Pass;
@@ -16,6 +17,7 @@ fn answer(tree: &Tree, pass: &mut Pass, command: Command) -> Result<Reply, Full>
     requires same_tree { pass.old.tree ≡ tree.now }
     ensures seen { HasSeenMore pass.old pass.new }
     ensures added { IfOk result (λ reply. AddsCall pass.old pass.new command reply) }
+    ensures timed { IfOk result (λ reply. ReturnsInTime pass.old pass.new command reply) }
     ensures full { IfErr result (λ full. PassWasRefused pass.new (refusal command full)) }
     ensures cause { IfErr result (IsRefusedCall pass.old pass.new command) }
     ensures small { IfErr result (λ full. full.words < full.next + full.asked) }
@@ -97,6 +99,8 @@ impl<'a> Port for TreePort<'a> {
     fn call<R: Wait>(&mut self, rt: &R, command: Command) -> Result<Reply, Full>
         ensures recorded { IfOk result (λ r. map told_by_call self.new.pass.calls
             ≡ map told_by_call self.old.pass.calls ++ told command r ∷ []) }
+        ensures timed { IfOk result (λ r.
+            ReturnsInTime self.old.pass self.new.pass command r) }
         ensures unrefused { OnOk result (self.new.refused ≡ self.old.refused) }
         ensures full { IfErr result (λ f. f.words < f.next + f.asked) }
         ensures refused { IfErr result (λ f. self.new.refused ≡ Some (refusal command f)) }

@@ -7,7 +7,7 @@ use crate::passes::Pass;
 use crate::trees::Tree;
 use ist_core::Pair;
 use ist_find::sweep;
-use ist_rule::know;
+use ist_rule::{begin_read, know};
 use std::alloc::AllocError;
 
 impl Tree {
@@ -15,9 +15,9 @@ impl Tree {
     /// of keys. Never blocks. If allocation fails it returns an error; `found` then has some of them.
     ///
     /// It goes down from the anchor once, and reads each slot of these keys once, in their order. Each key
-    /// has what the pairs give it at some number of changes of its own, no fewer than the pass had seen,
-    /// and no fewer than a lesser key's. It isn't a call of the map: the calls of the pass stay as they
-    /// are. Its loads are in proportion to the slots that it reads (`swept`).
+    /// has what the pairs give it at some number of changes of its own, no fewer than there were at the
+    /// first step of this call, and no fewer than a lesser key's. It isn't a call of the map: the calls of
+    /// the pass stay as they are. Its loads are in proportion to the slots that it reads (`swept`).
     pub fn sweep(
         &self,
         pass: &mut Pass,
@@ -34,7 +34,9 @@ impl Tree {
         ensures stamp { pass.new.stamp ≡ pass.old.stamp }
         ensures refused { pass.new.refused ≡ pass.old.refused }
     {
-        know(&pass.caller.token);
-        sweep(&self.table, &mut pass.caller.token, first, last, found)
+        let token = &mut pass.caller.token;
+        know(token);
+        begin_read(&self.table, token);
+        sweep(&self.table, token, first, last, found)
     }
 }

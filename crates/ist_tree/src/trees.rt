@@ -8,6 +8,7 @@ ghost use Rattle.ist_core.specs.Enabled.{caller_limit};
 ghost use Rattle.ist_core.specs.Logs.{GoesOn};
 ghost use Rattle.ist_core.specs.Standing.{makes_entry};
 ghost use Rattle.laws_histories.specs.Searching.{HasPosition};
+ghost use Rattle.ist_rule.specs.Speaking.{MomentsGoOn};
 ghost use Rattle.ist_find.specs.Spans.{pair_value, EndAtEdges};
 ghost use Rattle.ist_tree.specs.Faces.{noted, calls_in, HasItsCalls};
 ghost use Rattle.ist_tree.specs.Calls.{HasSeenMore, HasLearnt, AddsCall, BeginsFewWalks};
@@ -15,6 +16,7 @@ ghost use Rattle.ist_tree.specs.Calls.{WeavesWith, HasLoadedFew};
 ghost use Rattle.ist_tree.specs.Closing.{ClosesWith};
 ghost use Rattle.ist_tree.specs.DueRows.{CountsNowhere, HasCountedInCall, LeavesNoneDue, StartsOnlyDue};
 ghost use Rattle.ist_tree.specs.Opening.{IsNewTree, IsFaultOf};
+ghost use Rattle.ist_tree.specs.RealTime.{ReturnsInTime, ClosesInTime};
 ghost use Rattle.ist_tree.specs.Refusals.{HasStartsDone, IsRefused, KeepsRowRefusal};
 ghost use Rattle.ist_tree.specs.Rounds.{BeginsFewRounds};
 ghost use Rattle.ist_tree.specs.Spans.{AllHave, HasLoadedFewOver, state_seen};
@@ -28,7 +30,7 @@ use ist_find::{Span, find_span};
 use ist_image::{Image, needed_words};
 use ist_rest::Closed;
 use ist_rows::{Caller, enter};
-use ist_rule::{TreeTable, close, end_call, join, know, open_table_over, split};
+use ist_rule::{TreeTable, begin_read, close, end_call, join, know, open_table_over, split};
 use std::alloc::Global;
 use std::marker::Model;
 
@@ -108,6 +110,7 @@ impl Tree {
         ensures number { result.number ≡ maker.old.made }
         ensures no_calls { result.calls ≡ [] }
         ensures seen { (result.seen ≡ maker.new.seen) × (result.stamp ≡ maker.new.stamp) }
+        ensures heard { result.moments ≡ maker.new.moments }
         ensures unrefused { result.refused ≡ None }
         ensures same_tree { maker.new.tree ≡ maker.old.tree }
         ensures made { maker.new.made ≡ maker.old.made + 1 }
@@ -137,6 +140,8 @@ impl Tree {
         ensures stamp { maker.old.stamp ≤ maker.new.stamp }
         ensures pass_seen { GoesOn pass.seen maker.new.seen }
         ensures pass_stamp { pass.stamp ≤ maker.new.stamp }
+        ensures heard { MomentsGoOn maker.old.moments maker.new.moments }
+        ensures pass_heard { MomentsGoOn pass.moments maker.new.moments }
         ensures refused { maker.new.refused ≡ (maker.old.refused || is_some pass.refused) }
     {
         let Pass { caller, refused } = pass;
@@ -169,6 +174,7 @@ impl Tree {
         ensures calls { pass.new.calls ≡ pass.old.calls }
         ensures learnt { HasLearnt pass.new note }
         ensures woven { WeavesWith pass.new note }
+        ensures note_heard { MomentsGoOn note.moments pass.new.moments }
         ensures refused { pass.new.refused ≡ pass.old.refused }
     {
         let Note { token } = note;
@@ -187,6 +193,8 @@ impl Tree {
         ensures stamp { maker.old.stamp ≤ maker.new.stamp }
         ensures note_seen { GoesOn note.seen maker.new.seen }
         ensures note_stamp { note.stamp ≤ maker.new.stamp }
+        ensures heard { MomentsGoOn maker.old.moments maker.new.moments }
+        ensures note_heard { MomentsGoOn note.moments maker.new.moments }
         ensures refused { maker.new.refused ≡ maker.old.refused }
     {
         let Note { token } = note;
@@ -201,6 +209,7 @@ impl Tree {
         requires same_tree { pass.old.tree ≡ self.now }
         ensures seen { HasSeenMore pass.old pass.new }
         ensures added { AddsCall pass.old pass.new (Get key) result }
+        ensures timed { ReturnsInTime pass.old pass.new (Get key) result }
         ensures value { let tree = pass.old.tree in
             HasPosition tree.start tree.words pass.old.seen pass.new.seen key result }
         ensures loads { HasLoadedFew pass.old pass.new key result }
@@ -218,7 +227,8 @@ impl Tree {
     /// one. Never blocks, never allocates, always returns.
     ///
     /// Each key of the range has what the result says at some number of changes of its own, no
-    /// fewer than the pass had seen: different keys may have different numbers. The range ends at
+    /// fewer than there were at the first step of this call: so it has the effect of each call that
+    /// had returned by then. Different keys may have different numbers. The range ends at
     /// keys of the tree's inner rows, so the next range begins at `last + 1`. It isn't a call of
     /// the map: the calls of the pass stay as they are. It makes few loads.
     pub fn span(&self, pass: &mut Pass, key: u64) -> Span
@@ -235,8 +245,10 @@ impl Tree {
         ensures stamp { pass.new.stamp ≡ pass.old.stamp }
         ensures refused { pass.new.refused ≡ pass.old.refused }
     {
-        know(&pass.caller.token);
-        find_span(&self.table, &mut pass.caller.token, key)
+        let token = &mut pass.caller.token;
+        know(token);
+        begin_read(&self.table, token);
+        find_span(&self.table, token, key)
     }
 
     /// Inserts or replaces the value at the key, and returns the value that the key had before.
@@ -253,6 +265,8 @@ impl Tree {
         requires same_tree { pass.old.tree ≡ self.now }
         ensures seen { HasSeenMore pass.old pass.new }
         ensures added { IfOk result (λ reply. AddsCall pass.old pass.new (Put key value) reply) }
+        ensures timed { IfOk result (λ reply.
+            ReturnsInTime pass.old pass.new (Put key value) reply) }
         ensures counted { OnOk result (HasCountedInCall pass.old pass.new (Put key value)) }
         ensures due { OnOk result (LeavesNoneDue pass.old pass.new) }
         ensures starts { StartsOnlyDue pass.old pass.new }
@@ -274,6 +288,8 @@ impl Tree {
         requires same_tree { pass.old.tree ≡ self.now }
         ensures seen { HasSeenMore pass.old pass.new }
         ensures added { IfOk result (λ reply. AddsCall pass.old pass.new (Remove key) reply) }
+        ensures timed { IfOk result (λ reply.
+            ReturnsInTime pass.old pass.new (Remove key) reply) }
         ensures counted { IfOk result (λ reply. makes_entry (Remove key) reply ≡ true
             → HasCountedInCall pass.old pass.new (Remove key)) }
         ensures due { OnOk result (LeavesNoneDue pass.old pass.new) }
@@ -368,6 +384,7 @@ impl Tree {
         requires all_back { length maker.taken ≡ maker.made }
         ensures words { length result ≡ self.words }
         ensures stands { ClosesWith maker result }
+        ensures linearizable { let m = maker in ClosesInTime m.tree.start m.made m.moments m.taken }
     {
         let Tree { table } = self;
         let Maker { token, .. } = maker;

@@ -171,6 +171,7 @@ module _ (old who : Caller) (key : ℕ) (value : Option ℕ) (a : IsAsked old (c
           owned = x.update.owned;
           command_is = x.command_is;
           decision = x.update.decision;
+          since = x.update.since;
           rows = x.below;
           chain = met_chain first.start first.words lawful.opens w.log lawful.enabled x.met.key
               x.met.began x.met.last x.update.change.node x.below x.met.comes;

@@ -1,5 +1,5 @@
 -- At which rows an update was counted, and which row it made due.
-use Rattle.std.specs.Prelude.{◌≡◌, ◌≤◌, ℕ, ◌+◌, List, ◌∷◌, Option, Some, None}
+use Rattle.std.specs.Prelude.{◌≡◌, ◌≢◌, ◌≤◌, ℕ, ◌+◌, List, ◌∷◌, Option, Some, None}
 use Rattle.ist_core.specs.declared.pairs.Pair.{Pair}
 use Rattle.ist_core.specs.Lawful.{state_of}
 use Rattle.ist_core.specs.declared.commands.Command.{Command}
@@ -32,7 +32,8 @@ pub record WasCounted (earlier log : Log) (caller node : ℕ) : Type 0 where
 abbrev pub CountedNowhere : Log → Log → ℕ → Type 0
 CountedNowhere earlier log caller = (node : ℕ) → ¬ (WasCounted earlier log caller node)
 
--- the caller's update was decided yes, and was counted after the earlier log at each row of its chain
+-- the caller's update was decided yes after the earlier log, and was counted since then at each row of
+-- its chain
 pub record IsCounted (pairs : List Pair) (words : ℕ) (earlier log : Log) (caller : ℕ) (command : Command)
     : Type 0 where
   pub base : ℕ
@@ -41,6 +42,8 @@ pub record IsCounted (pairs : List Pair) (words : ℕ) (earlier log : Log) (call
   pub owned : change.owner ≡ caller
   pub command_is : command_of change ≡ Some command
   pub decision : change.decision ≡ decided_yes
+  pub since : (old : ChangeRow) → (state_of pairs words earlier).pieces base ≡ Some (Change old)
+      → old.decision ≢ decided_yes
   pub rows : List ℕ
   pub chain : IsChainOf pairs words log change.node rows
   pub counted : (row : ℕ) → Among row rows → WasCounted earlier log caller row

@@ -12,7 +12,7 @@ use ist_dcss::Decision;
 use ist_find::{Child, Found, Span, child_at, find_and_loads, find_from_anchor, find_span};
 use ist_image::lay_image;
 use ist_rows::{Caller, enter};
-use ist_rule::{TreeTable, TreeToken, open_table};
+use ist_rule::{TreeTable, TreeToken, begin_search, open_table};
 use std::alloc::{AllocError, Global};
 use std::test::Fail;
 
@@ -123,6 +123,7 @@ fn a_search_loads_the_words_of_its_way_alone(rt: HostRuntime) -> Result<(), Fail
 // Returns the span of a key in the table of ten pairs.
 fn span_of_ten(alloc: Global, key: u64) -> Result<Span, AllocError> {
     let (table, mut token) = ten_pairs(alloc)?;
+    begin_search(&table, &mut token);
     let span = find_span(&table, &mut token, key);
     Ok(span)
 }

@@ -1,22 +1,22 @@
 use Rattle.std.proofs.Common.{[], ◌-◌, ◌^◌, ◌∙◌, ap, arith}
 use Rattle.ist_layout.specs.Meanings.{ref_meant}
 use Rattle.ist_rule.proofs.GoingOnLemmas.{goes_on_more}
-use Rattle.ist_find.proofs.SearchLemmas.{begun_comes, has_searched}
+use Rattle.ist_find.proofs.SearchLemmas.{at_anchor}
 use Rattle.ist_find.proofs.EdgeLemmas.{edges_on, no_edges}
 use Rattle.ist_find.proofs.SpanTurnLemmas.{span_begins, span_came, span_rises, span_goes_on, span_values, span_few}
 use Rattle.ist_find.proofs.spans.find_span.Goals as goal
 
 -- the search for each key begins at the anchor
 pub look_for_all-look-requires-clause-come : goal.look_for_all-look-requires-clause-come
-look_for_all-look-requires-clause-come c k low high = ([], begun_comes _ _ k c.begin_search.ensures.begun)
+look_for_all-look-requires-clause-come c k low high = ([], at_anchor _ k c.know.ensures.sound)
 
 pub look_for_all-look-requires-clause-edges : goal.look_for_all-look-requires-clause-edges
 look_for_all-look-requires-clause-edges c = no_edges _ (2 ^ 64 - 1) (omega arith)
 
 pub loop-look-init : goal.loop-look-init
 loop-look-init c = record {
-  table = c.look_for_all-look.ensures.same_table ∙ c.begin_search.ensures.same_table;
-  here = span_begins _ _ _ c.begin_search.ensures.begun c.args.key _ _ _ _ _ _
+  table = c.look_for_all-look.ensures.same_table;
+  here = span_begins _ _ c.know.ensures.sound c.args.key _ _ _ _ _ _
       c.look_for_all-look.ensures.looked;
 }
 
@@ -57,11 +57,12 @@ returns c =
     let own = c.pair_within-its_pair.ensures in
     record {
       same_table = end.same_table ∙ c.loop-look.invariant.table;
-      seen = has_searched _ _ _ here.turned (goes_on_more _ _ _ here.seen end.seen);
+      seen = goes_on_more _ _ _ here.seen end.seen;
       first = here.below;
       last = here.above;
       within = own.within;
-      values = span_values _ _ c.args.key c.loop-look.node _ _ _ _ here _ _ _ end.values own.value;
+      values = span_values _ _ c.args.key c.loop-look.node _ _ _ _ here _ _ _ end.values own.value
+          c.requires.begun;
       edges = edges_on _ _ end.seen c.loop-look.look.ends.first c.loop-look.look.ends.last here.edges;
       loads = span_few _ _ c.args.key c.loop-look.node _ _ _ _ here _ _ _ end.values own.value end.loads;
     }

@@ -1,6 +1,5 @@
 -- The shot is taken after the look, by the same pass.
 use Rattle.ist_scan.proofs.RoomLemmas.{err_both, keeps_both, ok_both, room_if_ok, seen_both}
-use Rattle.ist_scan.proofs.ShotLemmas.{GoesOnWell}
 use Rattle.ist_scan.proofs.shots.Shot.take_if_room.Goals as goal
 
 pub returns-clause-seen : goal.returns-clause-seen
@@ -10,13 +9,8 @@ returns-clause-seen c =
 
 pub returns-clause-taken : goal.returns-clause-taken
 returns-clause-taken c =
-    let on : GoesOnWell c.args.pass.now c.look_for.new.pass = record {
-      tree = c.look_for.ensures.seen.tree;
-      seen = c.look_for.ensures.seen.seen;
-      lawful = c.know.ensures.lawful;
-    } in
     ok_both c.args.pass.now c.look_for.new.pass c.take.new.pass c.look_for.ensures.seen
-    c.take.ensures.seen on c.take.result c.take.ensures.taken
+    c.take.ensures.seen c.take.result c.take.ensures.taken
 
 pub returns-clause-room : goal.returns-clause-room
 returns-clause-room c =

@@ -1,5 +1,6 @@
 -- A meeting is a join.
-use Rattle.std.proofs.Common.{◌∙◌, sym, ap}
+use Rattle.std.proofs.Common.{◌∙◌, sym, ap, subst}
+use Rattle.ist_rule.specs.Speaking.{MomentsGoOn}
 use Rattle.ist_tree.specs.Faces.{PassFace}
 use Rattle.ist_tree.proofs.MeetingLemmas.{MeetEnds, meet_ends}
 use Rattle.ist_tree.proofs.trees.Tree.meet.Goals as goal
@@ -12,7 +13,7 @@ ends c =
     meet_ends c.pass.inside.caller c.note.inside.token c.join.new.token c.pass.inside.refused
     c.pass.invariant
     c.note.invariant c.join.ensures.joined.0 c.join.ensures.same_table c.join.ensures.joined.1
-    c.join.ensures.later c.join.ensures.other_later
+    c.join.ensures.later c.join.ensures.other_later c.join.ensures.heard
     (ap (λ (p : PassFace). p.tree) c.note.view_is ∙ c.requires.its_tree
     ∙ sym (ap (λ (p : PassFace). p.tree) c.pass.view_is ∙ c.requires.same_tree))
     _ _ c.pass.view_is c.note.view_is
@@ -28,5 +29,7 @@ returns c =
       calls = e.calls;
       learnt = e.learnt;
       woven = e.woven;
+      note_heard = subst (λ (p : PassFace). MomentsGoOn p.moments c.join.new.token.view.moments)
+          c.note.view_is c.join.ensures.other_heard;
       refused = ap (λ (p : PassFace). p.refused) c.pass.view_is;
     }

@@ -1,15 +1,20 @@
 -- A span is read by a search in no call.
-use Rattle.ist_tree.proofs.SpanLemmas.{SpanEnds, span_ends}
+use Rattle.std.proofs.Common.{◌∙◌}
+use Rattle.ist_tree.proofs.SpanLemmas.{SpanEnds, read_begun, span_ends}
 use Rattle.ist_tree.proofs.trees.Tree.span.Goals as goal
 use Rattle.ist_tree.proofs.trees.Tree.span.Goals.{After-find_span}
+
+pub find_span-requires-clause-begun : goal.find_span-requires-clause-begun
+find_span-requires-clause-begun c = read_begun _ _ c.begin_read.ensures.begun
 
 -- what the search results in
 ends : (c : After-find_span) → SpanEnds c.args.pass.now c.pass.inside.caller c.pass.inside.refused
     c.find_span.new.token c.args.key c.find_span.result.first c.find_span.result.last
     c.find_span.result.pair
 ends c =
-    span_ends c.pass.inside.caller c.pass.inside.refused c.find_span.new.token c.pass.invariant
-    c.find_span.ensures.seen c.find_span.ensures.same_table c.args.key c.find_span.result.first
+    span_ends c.pass.inside.caller c.pass.inside.refused _ c.find_span.new.token c.pass.invariant
+    c.begin_read.ensures.begun c.find_span.ensures.seen
+    (c.find_span.ensures.same_table ∙ c.begin_read.ensures.same_table) c.args.key c.find_span.result.first
     c.find_span.result.last c.find_span.result.pair c.find_span.ensures.loads
     c.find_span.ensures.edges c.find_span.ensures.values c.args.pass.now c.pass.view_is
 

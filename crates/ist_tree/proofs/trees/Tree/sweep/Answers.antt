@@ -1,4 +1,5 @@
 -- A range is swept in no call.
+use Rattle.std.proofs.Common.{◌∙◌}
 use Rattle.ist_tree.proofs.SweepLemmas.{SweepEnds, sweep_ends}
 use Rattle.ist_tree.proofs.trees.Tree.sweep.Goals as goal
 use Rattle.ist_tree.proofs.trees.Tree.sweep.Goals.{After-sweep}
@@ -8,8 +9,9 @@ ends : (c : After-sweep) → SweepEnds c.args.pass.now c.pass.inside.caller c.pa
     c.sweep.new.token c.args.first c.args.last c.args.found.now.items c.sweep.new.found.items
     c.sweep.result
 ends c =
-    sweep_ends c.pass.inside.caller c.pass.inside.refused c.sweep.new.token c.pass.invariant
-    c.sweep.ensures.seen c.sweep.ensures.same_table c.args.first c.args.last c.args.found.now.items
+    sweep_ends c.pass.inside.caller c.pass.inside.refused _ c.sweep.new.token c.pass.invariant
+    c.begin_read.ensures.begun c.sweep.ensures.seen
+    (c.sweep.ensures.same_table ∙ c.begin_read.ensures.same_table) c.args.first c.args.last c.args.found.now.items
     c.sweep.new.found.items c.sweep.result c.sweep.ensures.swept c.args.pass.now c.pass.view_is
 
 pub invariant_of-pass : goal.invariant_of-pass

@@ -1,0 +1,5 @@
+use Rattle.ist_reopen.proofs.TimeLemmas.{history_linear, moments_told}
+use Rattle.ist_reopen.proofs.laws.histories_are_linearizable.Goals as goal
+
+pub returns : goal.returns
+returns c = record { linearizable = history_linear; calls = moments_told }

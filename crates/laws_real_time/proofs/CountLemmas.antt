@@ -1,0 +1,220 @@
+-- As many changes of one owner as it has calls at their positions: each is the change of such a call.
+-- Serves `laws.made_calls_are_linearizable`.
+use Rattle.std.proofs.Common.{◌≡◌, ◌≢◌, ◌⊎◌, ℕ, zero, suc, ◌+◌, ◌<◌, ◌≤◌, ◌==◌, true, false, List, [], ◌∷◌, length, slice_get, Some, refl, ap, ◌∙◌, subst, inl, inr, ⊎_elim, arith}
+use Rattle.std.proofs.lemmas.Bool.Decides.{eqb_tells}
+use Rattle.ist_core.specs.declared.calls.Call.{Call}
+use Rattle.ist_core.specs.Elements.{Among, Each}
+use Rattle.ist_core.specs.Changes.{Entry}
+use Rattle.ist_core.specs.Standing.{entry_by, entries_by}
+use Rattle.ist_core.proofs.ElementLemmas.{each-among}
+use Rattle.laws_real_time.proofs.PairLemmas.{Pairwise, each_of}
+
+module _ (number : ℕ) where
+  -- the call's entry is at its position, in entries that begin at an offset
+  pub record IsAtIndex (entries : List Entry) (offset : ℕ) (call : Call) : Type 0 where
+    pub index : ℕ
+    pub position_is : call.position ≡ offset + index
+    pub entry : slice_get entries index ≡ Some (entry_by number call)
+
+  -- the first entry is the owner's, or not
+  owner_cases : (entry : Entry) (entries : List Entry)
+      → ((entry.owner ≡ number)
+      × (length (entries_by number (entry ∷ entries)) ≡ length (entries_by number entries) + 1))
+      ⊎ ((entry.owner ≢ number)
+      × (length (entries_by number (entry ∷ entries)) ≡ length (entries_by number entries)))
+  owner_cases entry entries = at (eqb_tells entry.owner number)
+    where
+      at : (((entry.owner == number) ≡ true) × (entry.owner ≡ number)) ⊎ (((entry.owner == number) ≡ false) × (entry.owner ≢ number))
+          → ((entry.owner ≡ number)
+          × (length (entries_by number (entry ∷ entries)) ≡ length (entries_by number entries) + 1))
+          ⊎ ((entry.owner ≢ number)
+          × (length (entries_by number (entry ∷ entries)) ≡ length (entries_by number entries)))
+      at (inl e) = inl (e.1, rw e.0 (omega arith))
+      at (inr e) = inr (e.1, rw e.0 refl)
+
+  -- no fewer with one more entry
+  count_rises : (entry : Entry) (entries : List Entry)
+      → length (entries_by number entries) ≤ length (entries_by number (entry ∷ entries))
+  count_rises entry entries =
+      ⊎_elim (λ e. omega (arith, e.1)) (λ e. omega (arith, e.1)) (owner_cases entry entries)
+
+  -- a call past the first entry is at its place among the others
+  past_first : (entry : Entry) (entries : List Entry) (offset : ℕ) (call : Call)
+      → IsAtIndex (entry ∷ entries) offset call → offset < call.position
+      → IsAtIndex entries (offset + 1) call
+  past_first entry entries offset call a l = at a.index refl
+    where
+      at : (index : ℕ) → a.index ≡ index → IsAtIndex entries (offset + 1) call
+      at zero e = let position = a.position_is in absurd (omega arith)
+      at (suc i) e =
+          let position = a.position_is in
+          record {
+            index = i;
+            position_is = omega arith;
+            entry = subst (λ n. slice_get (entry ∷ entries) n ≡ Some (entry_by number call)) e a.entry;
+          }
+
+  -- calls after the first one are past the entries up to its own
+  rest_past : (entry : Entry) (entries : List Entry) (offset : ℕ) (call : Call) (calls : List Call)
+      → offset ≤ call.position
+      → Each (λ later. call.position < later.position) calls
+      → Each (IsAtIndex (entry ∷ entries) offset) calls
+      → Each (IsAtIndex entries (offset + 1)) calls
+  rest_past entry entries offset call calls low rise all =
+      each_of (IsAtIndex entries (offset + 1)) calls
+      (λ later i. (let l = each-among (λ later. call.position < later.position) later calls rise i in
+      past_first entry entries offset later
+      (each-among (IsAtIndex (entry ∷ entries) offset) later calls all i) (omega arith)))
+
+  some_one : (e f : Entry) → Some e ≡ Some f → e ≡ f
+  some_one e f h = cc
+
+  -- there are as many entries as calls
+  pub calls_fit : (entries : List Entry) (offset : ℕ) (calls : List Call)
+      → Pairwise (λ a b. a.position < b.position) calls → Each (IsAtIndex entries offset) calls
+      → length calls ≤ length (entries_by number entries)
+  calls_fit entries offset [] rise all = omega arith
+  calls_fit [] offset (call ∷ calls) rise all = absurd (none (all.0.index) all.0.entry)
+    where
+      none : (index : ℕ) → slice_get [] index ≡ Some (entry_by number call) → ⊥
+      none index e = cc
+  calls_fit (entry ∷ entries) offset (call ∷ calls) rise all =
+      at all.0.index refl (calls_fit entries (offset + 1) calls rise.1)
+      (calls_fit entries (offset + 1) (call ∷ calls) rise)
+    where
+      low : offset ≤ call.position
+      low = let position = all.0.position_is in omega arith
+
+      rest : Each (IsAtIndex entries (offset + 1)) calls
+      rest = rest_past entry entries offset call calls low rise.0 all.1
+
+      at : (index : ℕ) → all.0.index ≡ index
+          → (Each (IsAtIndex entries (offset + 1)) calls
+          → length calls ≤ length (entries_by number entries))
+          → (Each (IsAtIndex entries (offset + 1)) (call ∷ calls)
+          → length (call ∷ calls) ≤ length (entries_by number entries))
+          → length (call ∷ calls) ≤ length (entries_by number (entry ∷ entries))
+      at zero e one both =
+          let few = one rest in
+          let first : entry ≡ entry_by number call =
+          some_one entry (entry_by number call)
+          (subst (λ n. slice_get (entry ∷ entries) n ≡ Some (entry_by number call)) e all.0.entry) in
+          ⊎_elim (λ h. omega (arith, h.1, few))
+          (λ h. absurd (h.0 (ap (λ (x : Entry). x.owner) first))) (owner_cases entry entries)
+      at (suc i) e one both =
+          let position = all.0.position_is in
+          let few = both (past_first entry entries offset call all.0 (omega arith), rest) in
+          let more = count_rises entry entries in omega arith
+
+  -- a call at a place
+  pub record IsFound (calls : List Call) (place : ℕ) : Type 0 where
+    pub call : Call
+    pub among : Among call calls
+    pub position_is : call.position ≡ place
+
+  -- an entry of the owner is one
+  pub has_one : (entries : List Entry) (i : ℕ) (e : Entry) → slice_get entries i ≡ Some e
+      → e.owner ≡ number → 1 ≤ length (entries_by number entries)
+  has_one [] i e h o = absurd (none h)
+    where
+      none : slice_get [] i ≡ Some e → ⊥
+      none k = cc
+  has_one (entry ∷ entries) zero e h o =
+      ⊎_elim (λ t. omega (arith, t.1))
+      (λ t. absurd (t.0 (ap (λ (x : Entry). x.owner) (some_one entry e h) ∙ o)))
+      (owner_cases entry entries)
+  has_one (entry ∷ entries) (suc i) e h o =
+      let some = has_one entries i e h o in
+      let more = count_rises entry entries in omega arith
+
+  -- two entries of the owner are one, if it has only one
+  pub only_one : (entries : List Entry) → length (entries_by number entries) ≤ 1
+      → (i j : ℕ) (e f : Entry) → slice_get entries i ≡ Some e → slice_get entries j ≡ Some f
+      → e.owner ≡ number → f.owner ≡ number → i ≡ j
+  only_one [] few i j e f h k o q = absurd (none h)
+    where
+      none : slice_get [] i ≡ Some e → ⊥
+      none l = cc
+  only_one (entry ∷ entries) few zero zero e f h k o q = refl
+  only_one (entry ∷ entries) few zero (suc j) e f h k o q =
+      ⊎_elim (λ t. (let some = has_one entries j f k q in absurd (omega (arith, t.1, some, few))))
+      (λ t. absurd (t.0 (ap (λ (x : Entry). x.owner) (some_one entry e h) ∙ o)))
+      (owner_cases entry entries)
+  only_one (entry ∷ entries) few (suc i) zero e f h k o q =
+      ⊎_elim (λ t. (let some = has_one entries i e h o in absurd (omega (arith, t.1, some, few))))
+      (λ t. absurd (t.0 (ap (λ (x : Entry). x.owner) (some_one entry f k) ∙ q)))
+      (owner_cases entry entries)
+  only_one (entry ∷ entries) few (suc i) (suc j) e f h k o q =
+      let more = count_rises entry entries in
+      ap suc (only_one entries (omega arith) i j e f h k o q)
+
+  -- if there are no more entries than calls, each entry is the change of a call
+  pub entry_found : (entries : List Entry) (offset : ℕ) (calls : List Call)
+      → Pairwise (λ a b. a.position < b.position) calls → Each (IsAtIndex entries offset) calls
+      → length (entries_by number entries) ≤ length calls
+      → (i : ℕ) (e : Entry) → slice_get entries i ≡ Some e → e.owner ≡ number
+      → IsFound calls (offset + i)
+  entry_found entries offset [] rise all few i e h o =
+      let some = has_one entries i e h o in absurd (omega arith)
+  entry_found [] offset (call ∷ calls) rise all few i e h o = absurd (none h)
+    where
+      none : slice_get [] i ≡ Some e → ⊥
+      none k = cc
+  entry_found (entry ∷ entries) offset (call ∷ calls) rise all few i e h o =
+      at all.0.index i refl h
+      (entry_found entries (offset + 1) calls rise.1)
+      (entry_found entries (offset + 1) (call ∷ calls) rise)
+    where
+      low : offset ≤ call.position
+      low = let position = all.0.position_is in omega arith
+
+      rest : Each (IsAtIndex entries (offset + 1)) calls
+      rest = rest_past entry entries offset call calls low rise.0 all.1
+
+      later : (i : ℕ) → IsFound calls ((offset + 1) + i) → IsFound (call ∷ calls) (offset + suc i)
+      later i f =
+          let position = f.position_is in
+          record { call = f.call; among = inr f.among; position_is = omega arith }
+
+      same : (i : ℕ) → IsFound (call ∷ calls) ((offset + 1) + i)
+          → IsFound (call ∷ calls) (offset + suc i)
+      same i f =
+          let position = f.position_is in
+          record { call = f.call; among = f.among; position_is = omega arith }
+
+      at : (index i : ℕ) → all.0.index ≡ index → slice_get (entry ∷ entries) i ≡ Some e
+          → (Each (IsAtIndex entries (offset + 1)) calls
+          → length (entries_by number entries) ≤ length calls
+          → (i : ℕ) (e : Entry) → slice_get entries i ≡ Some e → e.owner ≡ number
+          → IsFound calls ((offset + 1) + i))
+          → (Each (IsAtIndex entries (offset + 1)) (call ∷ calls)
+          → length (entries_by number entries) ≤ length (call ∷ calls)
+          → (i : ℕ) (e : Entry) → slice_get entries i ≡ Some e → e.owner ≡ number
+          → IsFound (call ∷ calls) ((offset + 1) + i))
+          → IsFound (call ∷ calls) (offset + i)
+      at zero zero is k one both =
+          let position = all.0.position_is in
+          record { call = call; among = inl refl; position_is = omega arith }
+      at zero (suc j) is k one both =
+          let first : entry ≡ entry_by number call =
+          some_one entry (entry_by number call)
+          (subst (λ n. slice_get (entry ∷ entries) n ≡ Some (entry_by number call)) is all.0.entry) in
+          ⊎_elim
+          (λ t. later j (one rest (omega (arith, t.1, few)) j e k o))
+          (λ t. absurd (t.0 (ap (λ (x : Entry). x.owner) first))) (owner_cases entry entries)
+      at (suc n) zero is k one both =
+          let position = all.0.position_is in
+          let past = past_first entry entries offset call all.0 (omega arith) in
+          let fit = calls_fit entries (offset + 1) (call ∷ calls) rise (past, rest) in
+          ⊎_elim
+          (λ t. absurd (omega (arith, t.1, few, fit)))
+          (λ t. absurd (t.0 (ap (λ (x : Entry). x.owner) (some_one entry e k) ∙ o)))
+          (owner_cases entry entries)
+      at (suc n) (suc j) is k one both =
+          let position = all.0.position_is in
+          let past = past_first entry entries offset call all.0 (omega arith) in
+          let fit = calls_fit entries (offset + 1) (call ∷ calls) rise (past, rest) in
+          ⊎_elim
+          (λ t. absurd (omega (arith, t.1, few, fit)))
+          (λ t. same j (both (past, rest) (omega (arith, t.1, few)) j e k o))
+          (owner_cases entry entries)

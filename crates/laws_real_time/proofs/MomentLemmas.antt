@@ -1,0 +1,322 @@
+-- When calls begin and return: times, and the numbers of changes then. Serves linearizability.
+use Rattle.std.proofs.Common.{◌≡◌, ◌≢◌, ◌⊎◌, ℕ, ◌<◌, ◌≤◌, ◌==◌, Bool, true, false, if◌then◌else◌, List, [], ◌∷◌, length, Option, Some, None, refl, sym, ap, ◌∙◌, subst, inl, inr, ⊎_elim, arith}
+use Rattle.std.proofs.lemmas.Bool.Decides.{eqb_tells}
+use Rattle.ist_core.specs.declared.calls.Call.{Call}
+use Rattle.ist_core.specs.declared.commands.Command.{Command}
+use Rattle.ist_core.specs.Elements.{Among, Each}
+use Rattle.ist_core.proofs.ElementLemmas.{among-append}
+use Rattle.laws_real_time.specs.declared.moments.Deed.{Deed}
+use Rattle.laws_real_time.specs.declared.moments.Deed.TheVariants.{Begins, Returns, GivesUp}
+use Rattle.laws_real_time.specs.declared.moments.Moment.{Moment}
+use Rattle.laws_real_time.specs.Moments.{Moments, Begun, begun_by, in_call, Ended, ended_by, ended}
+use Rattle.laws_real_time.specs.Timing.{NumbersNeverFall}
+use Rattle.laws_real_time.proofs.PairLemmas.{Pairwise, pairwise_append}
+
+-- ---- how many changes there were
+
+-- how many changes there were at a time
+abbrev pub changes_at : Moments → ℕ → ℕ
+changes_at [] time = 0
+changes_at (moment ∷ moments) time =
+    if time == length moments then moment.changes else changes_at moments time
+
+-- at the last moment
+changes_here : (moment : Moment) (moments : Moments) (time : ℕ) → time ≡ length moments
+    → changes_at (moment ∷ moments) time ≡ moment.changes
+changes_here moment moments time e = at (eqb_tells time (length moments))
+  where
+    at : (((time == length moments) ≡ true) × (time ≡ length moments)) ⊎ (((time == length moments) ≡ false) × (time ≢ length moments))
+        → changes_at (moment ∷ moments) time ≡ moment.changes
+    at (inl t) = rw t.0 refl
+    at (inr t) = absurd (t.1 e)
+
+-- at an earlier one
+changes_before : (moment : Moment) (moments : Moments) (time : ℕ) → time < length moments
+    → changes_at (moment ∷ moments) time ≡ changes_at moments time
+changes_before moment moments time e = at (eqb_tells time (length moments))
+  where
+    at : (((time == length moments) ≡ true) × (time ≡ length moments)) ⊎ (((time == length moments) ≡ false) × (time ≢ length moments))
+        → changes_at (moment ∷ moments) time ≡ changes_at moments time
+    at (inl t) = let same = t.1 in absurd (omega arith)
+    at (inr t) = rw t.0 refl
+
+-- no moment has more changes than a bound of all
+pub changes_low : (bound : ℕ) (moments : Moments) → Each (λ m. m.changes ≤ bound) moments
+    → (time : ℕ)
+    → changes_at moments time ≤ bound
+changes_low bound [] h time = omega arith
+changes_low bound (moment ∷ moments) h time =
+    at (changes_low bound moments h.1 time) (time == length moments)
+  where
+    at : changes_at moments time ≤ bound → (b : Bool)
+        → (if b then moment.changes else changes_at moments time) ≤ bound
+    at rest true = h.0
+    at rest false = rest
+
+-- the numbers rise with time
+pub changes_rise : (moments : Moments) → NumbersNeverFall moments → (early late : ℕ) → early ≤ late
+    → late < length moments
+    → changes_at moments early ≤ changes_at moments late
+changes_rise [] h early late e l = absurd (omega arith)
+changes_rise (moment ∷ moments) h early late e l =
+    at (changes_rise moments h.1 early late) (eqb_tells late (length moments)) (eqb_tells early (length moments))
+  where
+    at : (early ≤ late → late < length moments → changes_at moments early ≤ changes_at moments late)
+        → (((late == length moments) ≡ true) × (late ≡ length moments)) ⊎ (((late == length moments) ≡ false) × (late ≢ length moments))
+        → (((early == length moments) ≡ true) × (early ≡ length moments)) ⊎ (((early == length moments) ≡ false) × (early ≢ length moments))
+        → changes_at (moment ∷ moments) early ≤ changes_at (moment ∷ moments) late
+    at again (inl s) (inl t) =
+        let a = changes_here moment moments late s.1 in
+        let b = changes_here moment moments early t.1 in omega arith
+    at again (inl s) (inr t) =
+        let late_is = s.1 in
+        let apart = t.1 in
+        let older : early < length moments = omega arith in
+        let a = changes_here moment moments late s.1 in
+        let b = changes_before moment moments early older in
+        let c = changes_low moment.changes moments h.0 early in omega arith
+    at again (inr s) t =
+        let apart = s.1 in
+        let older : late < length moments = omega arith in
+        let first : early < length moments = omega arith in
+        let a = changes_before moment moments late older in
+        let b = changes_before moment moments early first in
+        let c = again e older in omega arith
+
+-- ---- the call that a caller is in
+
+-- a call in progress was begun at the last moment, or before it
+pub data IsInCall (caller : ℕ) (begun : Begun) (moment : Moment) (moments : Moments) : Type 0 where
+  begun_now : (command : Option Command) → moment.caller ≡ caller → moment.deed ≡ Begins command
+      → begun.time ≡ length moments → begun.changes ≡ moment.changes
+      → begun.length ≡ moment.length
+      → IsInCall caller begun moment moments
+  begun_before : moment.caller ≢ caller → in_call caller moments ≡ Some begun
+      → IsInCall caller begun moment moments
+
+-- if the last moment is the caller's own, it began the call
+begun_here : (caller : ℕ) (begun : Begun) (moment : Moment) (moments : Moments) (deed : Deed)
+    → moment.caller ≡ caller → moment.deed ≡ deed
+    → begun_by (length moments) moment deed ≡ Some begun
+    → IsInCall caller begun moment moments
+begun_here caller begun moment moments (Begins command) mine is h =
+    begun_now command mine is (ap (time_in begun) (sym h)) (ap (changes_in begun) (sym h))
+    (ap (length_in begun) (sym h))
+  where
+    length_in : Begun → Option Begun → ℕ
+    length_in d None = d.length
+    length_in d (Some b) = b.length
+
+    time_in : Begun → Option Begun → ℕ
+    time_in d None = d.time
+    time_in d (Some b) = b.time
+
+    changes_in : Begun → Option Begun → ℕ
+    changes_in d None = d.changes
+    changes_in d (Some b) = b.changes
+begun_here caller begun moment moments (Returns call) mine is h = absurd (cc)
+begun_here caller begun moment moments GivesUp mine is h = absurd (cc)
+
+pub in_call_cases : (caller : ℕ) (begun : Begun) (moment : Moment) (moments : Moments)
+    → in_call caller (moment ∷ moments) ≡ Some begun → IsInCall caller begun moment moments
+in_call_cases caller begun moment moments h = at (eqb_tells moment.caller caller)
+  where
+    at : (((moment.caller == caller) ≡ true) × (moment.caller ≡ caller)) ⊎ (((moment.caller == caller) ≡ false) × (moment.caller ≢ caller))
+        → IsInCall caller begun moment moments
+    at (inl t) = begun_here caller begun moment moments moment.deed t.1 refl (rw t.0 at h)
+    at (inr t) = begun_before t.1 (rw t.0 at h)
+
+-- when a call in progress began
+pub record IsBegunIn (moments : Moments) (begun : Begun) : Type 0 where
+  pub within : begun.time < length moments
+  pub changes : changes_at moments begun.time ≡ begun.changes
+
+pub begun_in : (caller : ℕ) (moments : Moments) (begun : Begun)
+    → in_call caller moments ≡ Some begun → IsBegunIn moments begun
+begun_in caller [] begun h = absurd (cc)
+begun_in caller (moment ∷ moments) begun h =
+    at (begun_in caller moments begun) (in_call_cases caller begun moment moments h)
+  where
+    at : (in_call caller moments ≡ Some begun → IsBegunIn moments begun)
+        → IsInCall caller begun moment moments → IsBegunIn (moment ∷ moments) begun
+    at again (begun_now command mine is time changes long) =
+        record {
+          within = omega arith;
+          changes = changes_here moment moments begun.time time ∙ sym changes;
+        }
+    at again (begun_before other i) =
+        let rest = again i in
+        record {
+          within = omega arith;
+          changes = changes_before moment moments begun.time rest.within ∙ rest.changes;
+        }
+
+-- ---- calls that returned
+
+-- a call that returns at a moment
+pub record ReturnsAt (o : Option Begun) (time : ℕ) (moment : Moment) (deed : Deed) (x : Ended) : Type 0 where
+  pub begun : Begun
+  pub in_it : o ≡ Some begun
+  pub deed_is : deed ≡ Returns x.call
+  pub caller_is : x.caller ≡ moment.caller
+  pub begun_is : x.begun ≡ begun
+  pub time_is : x.time ≡ time
+  pub changes_is : x.changes ≡ moment.changes
+
+pub ends_at : (o : Option Begun) (time : ℕ) (moment : Moment) (deed : Deed) (x : Ended)
+    → Among x (ended_by o time moment deed) → ReturnsAt o time moment deed x
+ends_at (Some begun) time moment (Returns call) x (inl e) =
+    record {
+      begun = begun;
+      in_it = refl;
+      deed_is = ap (λ (y : Ended). Returns y.call) (sym e);
+      caller_is = ap (λ (y : Ended). y.caller) e;
+      begun_is = ap (λ (y : Ended). y.begun) e;
+      time_is = ap (λ (y : Ended). y.time) e;
+      changes_is = ap (λ (y : Ended). y.changes) e;
+    }
+ends_at (Some begun) time moment (Returns call) x (inr h) = absurd h
+ends_at (Some begun) time moment (Begins command) x h = absurd h
+ends_at (Some begun) time moment GivesUp x h = absurd h
+ends_at None time moment (Returns call) x h = absurd h
+ends_at None time moment (Begins command) x h = absurd h
+ends_at None time moment GivesUp x h = absurd h
+
+-- only one call returns at a moment
+one_ends : (o : Option Begun) (time : ℕ) (moment : Moment) (deed : Deed) (x y : Ended)
+    → Among x (ended_by o time moment deed) → Among y (ended_by o time moment deed) → x ≡ y
+one_ends (Some begun) time moment (Returns call) x y (inl e) (inl f) = e ∙ sym f
+one_ends (Some begun) time moment (Returns call) x y (inl e) (inr k) = absurd k
+one_ends (Some begun) time moment (Returns call) x y (inr h) k = absurd h
+one_ends (Some begun) time moment (Begins command) x y h k = absurd h
+one_ends (Some begun) time moment GivesUp x y h k = absurd h
+one_ends None time moment (Returns call) x y h k = absurd h
+one_ends None time moment (Begins command) x y h k = absurd h
+one_ends None time moment GivesUp x y h k = absurd h
+
+-- when a call that returned began and returned
+pub record IsEndedIn (moments : Moments) (x : Ended) : Type 0 where
+  pub within : x.time < length moments
+  pub before : x.begun.time < x.time
+  pub changes : changes_at moments x.time ≡ x.changes
+  pub from : changes_at moments x.begun.time ≡ x.begun.changes
+
+pub ended_in : (moments : Moments) (x : Ended) → Among x (ended moments) → IsEndedIn moments x
+ended_in [] x h = absurd h
+ended_in (moment ∷ moments) x h =
+    ⊎_elim (λ i. older (ended_in moments x i)) here (among-append x (ended moments) last h)
+  where
+    last : List Ended
+    last = ended_by (in_call moment.caller moments) (length moments) moment moment.deed
+
+    older : IsEndedIn moments x → IsEndedIn (moment ∷ moments) x
+    older rest =
+        let first : x.begun.time < length moments = omega (arith, rest.within, rest.before) in
+        record {
+          within = omega (arith, rest.within);
+          before = rest.before;
+          changes = changes_before moment moments x.time rest.within ∙ rest.changes;
+          from = changes_before moment moments x.begun.time first ∙ rest.from;
+        }
+
+    here : Among x last → IsEndedIn (moment ∷ moments) x
+    here i =
+        let it =
+        ends_at (in_call moment.caller moments) (length moments) moment moment.deed x i in
+        let first = begun_in moment.caller moments it.begun it.in_it in
+        let same : x.begun.time ≡ it.begun.time = ap (λ (b : Begun). b.time) it.begun_is in
+        let older : x.begun.time < length moments = omega (arith, first.within, same) in
+        record {
+          within = omega (arith, it.time_is);
+          before = omega (arith, it.time_is, older);
+          changes = changes_here moment moments x.time it.time_is ∙ sym it.changes_is;
+          from = changes_before moment moments x.begun.time older
+              ∙ ap (changes_at moments) same ∙ first.changes
+              ∙ ap (λ (b : Begun). b.changes) (sym it.begun_is);
+        }
+
+-- a caller's call that returned did so before the call that it is in began
+pub ended_before : (moments : Moments) (x : Ended) (begun : Begun) → Among x (ended moments)
+    → in_call x.caller moments ≡ Some begun → x.time < begun.time
+ended_before [] x begun h i = absurd h
+ended_before (moment ∷ moments) x begun h i =
+    ⊎_elim
+    (λ j. older (λ k. ended_before moments x begun j k)
+    (in_call_cases x.caller begun moment moments i) j)
+    (here (in_call_cases x.caller begun moment moments i)) (among-append x (ended moments) last h)
+  where
+    last : List Ended
+    last = ended_by (in_call moment.caller moments) (length moments) moment moment.deed
+
+    older : (in_call x.caller moments ≡ Some begun → x.time < begun.time)
+        → IsInCall x.caller begun moment moments → Among x (ended moments)
+        → x.time < begun.time
+    older again (begun_now command mine is time changes long) j =
+        let it = ended_in moments x j in omega (arith, it.within, time)
+    older again (begun_before other k) j = again k
+
+    here : IsInCall x.caller begun moment moments → Among x last → x.time < begun.time
+    here (begun_now command mine is time changes long) j =
+        let it =
+        ends_at (in_call moment.caller moments) (length moments) moment moment.deed x j in
+        absurd (clash x.call (sym is ∙ it.deed_is))
+      where
+        clash : (call : Call) → Begins command ≡ Returns call → ⊥
+        clash call e = cc
+    here (begun_before other k) j =
+        let it =
+        ends_at (in_call moment.caller moments) (length moments) moment moment.deed x j in
+        absurd (other (sym it.caller_is))
+
+-- two calls of one caller are one, or one returned before the other began
+pub data AreApartInTime (x y : Ended) : Type 0 where
+  same_call : x ≡ y → AreApartInTime x y
+  comes_first : x.time < y.begun.time → AreApartInTime x y
+  comes_later : y.time < x.begun.time → AreApartInTime x y
+
+pub ended_apart : (moments : Moments) (x y : Ended) → Among x (ended moments)
+    → Among y (ended moments) → x.caller ≡ y.caller → AreApartInTime x y
+ended_apart [] x y h k same = absurd h
+ended_apart (moment ∷ moments) x y h k same =
+    ⊎_elim
+    (λ i. ⊎_elim (λ j. ended_apart moments x y i j same)
+    (λ j. comes_first (first x y i j same)) (among-append y (ended moments) last k))
+    (λ i. ⊎_elim (λ j. comes_later (first y x j i (sym same)))
+    (λ j. same_call (one_ends (in_call moment.caller moments) (length moments) moment moment.deed x y i j))
+    (among-append y (ended moments) last k))
+    (among-append x (ended moments) last h)
+  where
+    last : List Ended
+    last = ended_by (in_call moment.caller moments) (length moments) moment moment.deed
+
+    first : (a b : Ended) → Among a (ended moments) → Among b last → a.caller ≡ b.caller
+        → a.time < b.begun.time
+    first a b i j e =
+        let it =
+        ends_at (in_call moment.caller moments) (length moments) moment moment.deed b j in
+        let early = ended_before moments a it.begun i
+        (subst (λ c. in_call c moments ≡ Some it.begun) (sym (e ∙ it.caller_is)) it.in_it) in
+        let time : b.begun.time ≡ it.begun.time = ap (λ (z : Begun). z.time) it.begun_is in
+        omega (arith, early, time)
+
+-- calls are listed in the order of their returns
+pub ended_in_order : (moments : Moments) → Pairwise (λ x y. x.time < y.time) (ended moments)
+ended_in_order [] = tt
+ended_in_order (moment ∷ moments) =
+    pairwise_append (λ x y. x.time < y.time) (ended moments) last (ended_in_order moments)
+    (single (in_call moment.caller moments) moment.deed)
+    (λ x y i j. (let a = (ended_in moments x i).within in
+    let b = (ends_at (in_call moment.caller moments) (length moments) moment moment.deed y j).time_is in
+    omega (arith, a, b)))
+  where
+    last : List Ended
+    last = ended_by (in_call moment.caller moments) (length moments) moment moment.deed
+
+    single : (o : Option Begun) (deed : Deed)
+        → Pairwise (λ x y. x.time < y.time) (ended_by o (length moments) moment deed)
+    single (Some begun) (Returns call) = (tt, tt)
+    single (Some begun) (Begins command) = tt
+    single (Some begun) GivesUp = tt
+    single None (Returns call) = tt
+    single None (Begins command) = tt
+    single None GivesUp = tt
