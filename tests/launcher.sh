@@ -19,7 +19,8 @@ write_program() {
         echo 'case " $* " in *" --help "*) echo "! usage"; exit 2 ;; esac'
         echo "echo '$(cat ../low/src/* ../left/src/* src/main.rt 2>/dev/null | tr '\n' ' ')${1:-}'"
         echo '[ -z "${PROGRAM_TELLS:-}" ] || echo "heap:$GLIBC_TUNABLES"'
-        echo 'echo "words:$*"; cat; exit "${PROGRAM_STATUS:-0}"'
+        echo '[ -z "${PROGRAM_DIES:-}" ] || kill -9 $$'
+        echo 'echo "words:$*"; cat || exit 4; exit "${PROGRAM_STATUS:-0}"'
     } >"$2"
     chmod +x "$2"
 }
@@ -36,7 +37,7 @@ if [ "$1" = try ]; then
     fi
     write_program "${STUB_TRY_SAYS:-}" ./unproved
     shift 2
-    PROGRAM_STATUS=${STUB_TRY_STATUS:-${PROGRAM_STATUS:-0}} ./unproved "$@"
+    PROGRAM_DIES='' PROGRAM_STATUS=${STUB_TRY_STATUS:-${PROGRAM_STATUS:-0}} ./unproved "$@"
     status=$?
     note try-ends
     echo "run=ended status=$status runners=1 races=unchecked proved=no" >&2
@@ -106,7 +107,7 @@ fresh() {
     top=$dir/repository
     mkdir -p "$top/tools"
     cp "$here/tele" "$top"
-    cp "$here/tools/build.py" "$here/tools/first_call.py" "$here/tools/once.py" "$top/tools"
+    cp "$here/tools/build.py" "$here/tools/first_call.py" "$here/tools/kept.py" "$here/tools/once.py" "$top/tools"
     printf '# crates\nlow:\nleft may_wait=2: low\nright: low\naside: low\ntele: left right\n' >"$top/crates.txt"
     for it in low left right aside; do
         mkdir -p "$top/crates/$it/src" "$top/crates/$it/specs"
@@ -139,9 +140,11 @@ expect() {
 }
 has() { case $2 in *"$3"*) expect "$1" yes yes ;; *) expect "$1" "$2" "..$3.." ;; esac }
 wait_for() { for _ in $(seq 1200); do grep -qs "$1" "$2" && return; sleep 0.05; done; }
-answer='low-1 left-1 main-1 
-words:
-input'
+# What the launcher passes if its caller says nothing of it.
+preset=--words=3145728
+answer="low-1 left-1 main-1 
+words:$preset
+input"
 
 fresh
 run
@@ -152,7 +155,7 @@ has "it says where the log lies" "$err" "log: $dir/build/logs"
 has "it names what is proved and how far it is" "$err" "of 4 crates; proving"
 expect "what the program doesn't stand on isn't built" "$(calls aside)" 0
 run a 'b c'
-expect "words are handed on" "$out" "${answer/words:/words:a b c}"
+expect "words are handed on" "$out" "${answer/$preset/$preset a b c}"
 expect "nothing is said where the program is built" "$err" ""
 expect "nothing is called then" "$(calls lib-begins)" 3
 export PROGRAM_STATUS=3
@@ -192,6 +195,18 @@ TELE_RT=$dir/none run
 expect "a built program runs without the kit" "$err$out" "${answer/left-1/left-2}"
 run
 expect "and with it again" "$err$out" "${answer/left-1/left-2}"
+
+# The size of a round's first table: passed unless the caller says it.
+fresh
+run --words 64
+expect "a first call hands on --words, and passes nothing beside it" "$out" "${answer/$preset/--words 64}"
+run --seed 5
+expect "it is passed before other arguments" "$out" "${answer/$preset/$preset --seed 5}"
+run --seed 5 --words=64
+expect "--words=.. is seen" "$out" "${answer/$preset/--seed 5 --words=64}"
+run --words
+expect "and --words without a number" "$out" "${answer/$preset/--words}"
+has "docs/LINES.md says which number that is" "$(cat "$here/docs/LINES.md")" "${preset#*=}"
 
 fresh
 TELE_RT=none-such run
@@ -279,7 +294,7 @@ unset PROGRAM_TELLS
 # The first minute: an unproved build answers while the proof goes on.
 begin() { "$top/tele" "$@" <&0 >"$dir/first" 2>"$dir/err" & pid=$!; }
 end() { wait "$pid"; status=$?; out=$(cat "$dir/first") err=$(cat "$dir/err"); }
-left() { ls "$dir/build" | grep -c unproved-; }
+left() { ls "$dir/build" | grep -c '^unproved-'; }
 
 fresh
 STUB_HELD=low "$top/tele" 2>"$dir/err" <<<input | { cat >"$dir/first"; cat "$STUB_LOG" >"$dir/seen"; touch "$STUB_LOG.seen"; }
@@ -307,6 +322,8 @@ both end with a status of its own|STUB_SECOND=low PROGRAM_STATUS=3|3|yes|gives t
 the unproved build ends with another status|STUB_SECOND=low STUB_TRY_STATUS=3|125|yes|answers otherwise (status 0, unproved 3)
 memory was lacking in the unproved build|STUB_SECOND=low STUB_TRY_STATUS=7|0|yes|has no answer
 the unproved build has no answer|STUB_TRY_LACKS=yes|0|yes|has no answer
+the proved program has no memory|STUB_SECOND=low STUB_TRY_STATUS=0 PROGRAM_STATUS=7|125|yes|THE ANSWER IS UNCHECKED: the proved program ended with status 7
+the proved program is killed|STUB_SECOND=low PROGRAM_DIES=yes|125|yes|THE ANSWER IS UNCHECKED: the proved program was ended by signal 9
 the proof is faster|STUB_TRY_SLEEPS=600|0|yes|proved and built
 the proof fails after the answer|STUB_SECOND=low STUB_FAILS=left|125|yes|left failed
 the proof fails before the answer|STUB_FAILS=left STUB_TRY_SLEEPS=600|125||left failed
@@ -332,13 +349,81 @@ expect "an input that doesn't end waits for the proof, and is given whole" "$(ca
 has "which is said" "$(cat "$dir/err")" "did not end within"
 
 head -c 67108865 /dev/zero | tr '\0' x >"$all/large"
-wanted=$({ printf 'low-1 left-1 main-1 \nwords:\n'; cat "$all/large"; } | cksum)
+wanted=$({ printf 'low-1 left-1 main-1 \nwords:%s\n' "$preset"; cat "$all/large"; } | cksum)
 fresh
 expect "a larger input, from a pipe, waits for the proof" "$(cat "$all/large" | "$top/tele" 2>"$dir/err" | cksum)$(calls tried)" "${wanted}0"
 has "which is said" "$(cat "$dir/err")" "larger than 64 MiB"
 fresh
 expect "and from a file" "$("$top/tele" <"$all/large" 2>"$dir/err" | cksum)$(calls tried)" "${wanted}0"
 rm "$all/large"
+
+# Where an input can't be kept whole in a file: a limit, and a full file system.
+apart() { unshare -rm sh -c "$@"; }
+head -c 3000000 /dev/zero | tr '\0' x >"$all/large"
+wanted=$({ printf 'low-1 left-1 main-1 \nwords:%s\n' "$preset"; cat "$all/large"; } | cksum)
+fresh
+out=$( (ulimit -f 2500 && cat "$all/large" | "$top/tele" 2>"$dir/err") | cksum)
+expect "a limit on files: the input is given whole" "$out" "$wanted"
+has "by the proved program" "$(cat "$dir/err")" "the proved program will answer"
+fresh
+mkdir "$dir/full"
+if apart 'mount -t tmpfs -o size=2m tmpfs "$1"' - "$dir/full"; then
+    small='mount -t tmpfs -o size=2m tmpfs "$1" && exec "$2"'
+    out=$(cat "$all/large" | TELE_BUILD=$dir/full/build apart "$small" - "$dir/full" "$top/tele" 2>"$dir/err" | cksum)
+    expect "a full file system: the input is given whole" "$out" "$wanted"
+fi
+rm "$all/large"
+
+# Calls it with a socket for standard input: these bytes come, and after that many seconds the connection is reset.
+reset_after() {
+    python3 - "$top/tele" "$@" >"$dir/first" 2>"$dir/err" <<'PY'
+import socket, struct, subprocess, sys, time
+program, seconds, lines = sys.argv[1:]
+with socket.create_server(("127.0.0.1", 0)) as server:
+    mine = socket.create_connection(server.getsockname())
+    its, _ = server.accept()
+called = subprocess.Popen([program], stdin=its)
+its.close()
+mine.sendall(lines.encode())
+time.sleep(float(seconds))
+mine.setsockopt(socket.SOL_SOCKET, socket.SO_LINGER, struct.pack("ii", 1, 0))
+mine.close()
+sys.exit(called.wait())
+PY
+    status=$? out=$(cat "$dir/first")
+}
+# what resets, after how many seconds, what came before
+while IFS='|' read -r name seconds lines; do
+    fresh
+    reset_after "$seconds" "$lines"
+    expect "$name: the program finds that its input failed" "$status" 4
+    expect "$name: it has what came" "$out" "${answer/$'\n'input/${lines:+$'\n'}$lines}"
+done <<'CASES'
+a connection that is reset while its input is kept|1|two lines
+a connection that is reset at once|0|
+a connection that is reset when its input is handed on|7|two lines
+CASES
+
+# An input that doesn't end: a pipe that this script keeps open.
+fresh
+pipe=$dir/pipe
+mkfifo "$pipe"
+exec 7<>"$pipe"
+echo input >&7
+begin <"$pipe" 7>&-
+wait_for input "$dir/first"
+kill -9 $(pgrep -P "$pid" -f first_call)
+exec 7>&-
+end
+expect "what hands on the rest of an input is killed: that is no end of the input" "$out$status" "${answer}4"
+fresh
+exec 7<>"$pipe"
+echo input >&7
+STUB_TRY_LACKS=yes "$top/tele" --help <"$pipe" 2>"$dir/err" 7>&- | timeout 600 cat >"$dir/first"
+expect "a program that reads no further lets its output end" "${PIPESTATUS[*]}$(cat "$dir/first")" "2 0! usage"
+for _ in $(seq 600); do pgrep -f "$top/tools/first_call.py" >"$dir/left" || break; sleep 0.05; done
+expect "and leaves the rest of its input to others" "$(cat "$dir/left")" ""
+exec 7>&-
 
 fresh
 STUB_TRY_SLEEPS=600 STUB_SLOW=low begin <<<input
@@ -399,7 +484,7 @@ out=$(on_terminal "$top/tele" --help)
 expect "on a terminal, after it" "$out" $'! usage\ntele: '"$hint"
 run --help
 expect "elsewhere only what the program writes" "$out$err$status" "! usage2"
-expect "on a terminal, with arguments that aren't refused" "$(on_terminal sh -c "echo input | '$top/tele' a")" "${answer/words:/words:a}"
+expect "on a terminal, with arguments that aren't refused" "$(on_terminal sh -c "echo input | '$top/tele' a")" "${answer/$preset/$preset a}"
 
 # Each program of this repository, over the stub.
 fresh
@@ -417,6 +502,86 @@ for it in $programs; do
     python3 "$top/tools/build.py" "$it" 2>"$dir/err" </dev/null
     expect "tools/build.py $it" "$?$("$top/out/$it" </dev/null | sed 2q\;d)" 0words:
 done
+
+# What can't be is said before anything is proved.
+refused() {
+    expect "$1: the status is none of the program's" "$status" 125
+    expect "$1: nothing is proved, and nothing written" "$(cat "$STUB_LOG")$out" ""
+    has "$1: it says why" "$err" "$2"
+}
+fresh
+touch "$top/out"
+run
+refused "out is a file" "nothing can be written into $top/out"
+fresh
+mkdir -p "$top/out/tele"
+run
+refused "out/tele is a folder" "$top/out/tele is a folder"
+fresh
+mkdir "$top/out"
+if apart 'mount -t tmpfs -o ro tmpfs "$1"' - "$top/out"; then
+    out=$(echo input | apart 'mount -t tmpfs -o ro tmpfs "$1" && exec "$2"' - "$top/out" "$top/tele" 2>"$dir/err") status=$? err=$(cat "$dir/err")
+    refused "out is read-only" "nothing can be written into $top/out: Read-only file system"
+    run
+    touch "$top/crates/low/src/lib.rt"
+    bound='mount --bind "$1" "$1" && mount -o remount,bind,ro "$1" && exec "$2"'
+    expect "a built program in a read-only folder" "$(echo input | apart "$bound" - "$top/out" "$top/tele" 2>&1)" "$answer"
+fi
+fresh
+mkdir -m 777 "$dir/build"
+run
+refused "a folder to build in that others can write" "other users can write into $dir/build"
+chmod 755 "$dir/build"
+mkdir -m 755 "$dir/build/logs"
+before=$(umask)
+umask 000
+run
+umask "$before"
+expect "one that others can read: what is said and answered is the caller's" "$out$(stat -c %a "$dir/build/logs" "$dir"/build/logs/*.log | sort -u | tr '\n' ' ')" "${answer}600 700 "
+expect "nothing in it can be written by others" "$(find "$dir/build" -perm /022 ! -type l)" ""
+expect "the program is for all who can read the repository" "$(stat -c %a "$top/out/tele" "$top/out/tele.from" | tr '\n' ' ')" "755 644 "
+fresh
+mkdir "$dir/elsewhere"
+ln -s elsewhere "$dir/build"
+run
+refused "a link to a folder to build in" "$dir/build is a link"
+fresh
+mkdir "$dir/build"
+if chown 1 "$dir/build" 2>/dev/null; then
+    run
+    refused "another user's folder to build in" "$dir/build belongs to another user"
+fi
+
+# Two containers that share a folder don't know the numbers of each other's processes.
+fresh
+mkdir -p "$dir/build/unproved-held" "$dir/build/unproved-left"
+touch "$dir/build/unproved-left/lock"
+exec 8>"$dir/build/unproved-held/lock"
+flock 8
+run
+expect "of the folders of other calls, those without a call are removed" "$out$(cd "$dir/build" && echo unproved-*/)" "${answer}unproved-held/"
+exec 8>&-
+echo left-2 >"$top/crates/left/src/lib.rt"
+run
+expect "and later the other" "$(left)" 0
+
+# What the surroundings say of Python, and a folder with a name of any kind.
+fresh
+PYTHONSAFEPATH=1 PYTHONINSPECT=1 PYTHONPATH=$dir run
+expect "settings of Python don't reach it" "$out$status" "${answer}0"
+fresh
+mkdir "$dir/bin"
+printf '#!/bin/sh\nexit 1\n' >"$dir/bin/python3"
+chmod +x "$dir/bin/python3"
+PATH=$dir/bin:$PATH run
+refused "a Python that doesn't run it" "python3 can't run tools/first_call.py"
+fresh
+mv "$top" "$dir/named "$'\n'
+top=$dir/$'named \n'
+run
+expect "a folder whose name ends in a newline" "$out$status" "${answer}0"
+run
+expect "and once it is built" "$out$status$(calls tried)" "${answer}01"
 
 fresh
 chmod -w "$top"

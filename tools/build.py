@@ -13,10 +13,12 @@ a folder of its own to be proved in, with what it stands on beside it: `rt` lets
 so crates that don't stand on one another are proved side by side. What was proved is kept there, so that a call that was
 interrupted or failed is gone on with.
 
-    TELE_BUILD   the folder to build in; else one in ~/.cache/luskadorv, by the path of the repository
+    TELE_BUILD   the folder to build in; else one in ~/.cache/luskadorv, by the path of the repository. Other users can't read what
+                 is written there, and a folder into which they can write is refused
     TELE_JOBS    how many checks run side by side at most; else as many as there are processors, and memory for
     TELE_RT      the command `rt`
 """
+import contextlib
 import fcntl
 import hashlib
 import os
@@ -24,6 +26,7 @@ import queue
 import re
 import shutil
 import signal
+import stat
 import subprocess
 import sys
 import tempfile
@@ -156,25 +159,46 @@ class Made:
         made_from, by = (self.note.read_text().split("\n") + [""])[:2]
         return made_from == source.sum and kit.sum in ("", by)
 
+    def can_be_put(self):
+        """Raises an error if the program couldn't be put in its place, which shows before anything is proved."""
+        folder = self.program.parent
+        try:
+            folder.mkdir(exist_ok=True)
+            tempfile.TemporaryFile(dir=folder).close()
+        except OSError as error:
+            raise NotBuilt(f"nothing can be written into {folder}: {error.strerror}")
+        for it in (self.program, self.note):
+            if it.is_dir():
+                raise NotBuilt(f"{it} is a folder")
+
+    def put(self, path, write, mode, since=None):
+        """Replaces a file in one step by what `write` writes into another."""
+        number, part = tempfile.mkstemp(prefix=f"{path.name}.", dir=path.parent)
+        try:
+            with open(number, "wb") as file:
+                write(file)
+            os.chmod(part, mode)
+            if since is not None:
+                os.utime(part, times=(since, since))
+            os.replace(part, path)
+        except BaseException:
+            os.unlink(part)
+            raise
+
     def write_note(self, source, kit, by):
         text = "\n".join([source.sum, by, kit.real, *source.paths(), *kit.paths]) + "\n"
-        part = self.note.with_suffix(f".{os.getpid()}")
-        part.write_text(text)
         # A file that changed in the same tick of the clock counts as changed.
-        os.utime(part, times=(source.since - 0.1, source.since - 0.1))
-        os.replace(part, self.note)
+        self.put(self.note, lambda file: file.write(os.fsencode(text)), 0o644, source.since - 0.1)
 
     def refresh(self, source, kit):
-        """Says that the files were looked at, and are the same."""
-        self.write_note(source, kit, self.note.read_text().split("\n")[1])
+        """Says that the files were looked at, and are the same. Where that can't be written, the next call looks again."""
+        with contextlib.suppress(OSError):
+            self.write_note(source, kit, self.note.read_text().split("\n")[1])
 
     def take(self, built, source, kit):
-        self.program.parent.mkdir(exist_ok=True)
-        part = self.program.with_suffix(f".{os.getpid()}")
-        shutil.copyfile(built, part)
-        os.chmod(part, 0o755)
         self.note.unlink(missing_ok=True)
-        os.replace(part, self.program)
+        with open(built, "rb") as program:
+            self.put(self.program, lambda file: shutil.copyfileobj(program, file), 0o755)
         self.write_note(source, kit, kit.sum)
 
 
@@ -189,15 +213,38 @@ def room_for(top):
     places.append(f"{tempfile.gettempdir()}/{name.replace('/', f'-{os.getuid()}-')}")
     if os.environ.get("TELE_BUILD"):
         places = [os.path.abspath(os.environ["TELE_BUILD"])]
-    why = None
+    faults = []
     for it in map(Path, places):
-        try:
-            it.mkdir(mode=0o700, parents=True, exist_ok=True)
-            if it.stat().st_uid == os.geteuid() and os.access(it, os.W_OK):
-                return it
-        except OSError as error:
-            why = error
-    raise NotBuilt(f"there is no folder to build in: {why or places[-1]}")
+        faults.append(fault_of(it))
+        if not faults[-1]:
+            return it
+    raise NotBuilt(f"there is no folder to build in: {'; '.join(faults)}")
+
+
+def fault_of(folder):
+    """Makes the folder if it's missing. Returns why it can't be built in, if it can't. Programs of it are run, so it is the caller's own."""
+    try:
+        folder.mkdir(mode=0o700, parents=True, exist_ok=True)
+        found = folder.lstat()
+    except OSError as error:
+        return str(error)
+    if not stat.S_ISDIR(found.st_mode):
+        return f"{folder} is a link"
+    if found.st_uid != os.geteuid():
+        return f"{folder} belongs to another user"
+    if found.st_mode & (stat.S_IWGRP | stat.S_IWOTH):
+        return f"other users can write into {folder}"
+    return None if os.access(folder, os.W_OK | os.X_OK) else f"nothing can be written into {folder}"
+
+
+@contextlib.contextmanager
+def private():
+    """Has only the caller read and write what is made."""
+    before = os.umask(0o077)
+    try:
+        yield
+    finally:
+        os.umask(before)
 
 
 class Room:
@@ -207,6 +254,7 @@ class Room:
         self.at, self.source, self.kit = at, source, kit
         self.logs = at / "logs"
         self.logs.mkdir(exist_ok=True)
+        self.logs.chmod(0o700)
 
     def crate(self, name, of=None):
         return self.at / "proved" / (of or name) / "crates" / name
@@ -500,21 +548,29 @@ def build(top, program, begin=lambda *_: None):
         return made.refresh(source, kit)
     if not kit.rt:
         raise NotBuilt("the Rattle kit is missing: there is no command `rt` on the path\nREADME.md says what is needed")
+    made.can_be_put()
     at = room_for(top)
-    begin(source, kit, at)
-    with in_turn(at):
-        source = Source(top, program)
-        if made.fits(source, kit):
-            return made.refresh(source, kit)
-        room = Room(at, source, kit)
-        begun = time.time()
-        Build(room).all()
-        made.take(room.crate(program) / "out" / program, source, kit)
-        room.tidy()
-        took = int(time.time() - begun)
-        say(f"proved and built in {took // 60}:{took % 60:02}; from now on it starts at once")
-        if Source(top, program).sum != source.sum:
-            say("a file changed meanwhile: the next call builds again")
+    with private():
+        begin(source, kit, at)
+        with in_turn(at):
+            make(made, kit, at)
+
+
+def make(made, kit, at):
+    """Proves and builds the program, unless another call has done so meanwhile."""
+    top, program = made.program.parent.parent, made.program.name
+    source = Source(top, program)
+    if made.fits(source, kit):
+        return made.refresh(source, kit)
+    room = Room(at, source, kit)
+    begun = time.time()
+    Build(room).all()
+    made.take(room.crate(program) / "out" / program, source, kit)
+    room.tidy()
+    took = int(time.time() - begun)
+    say(f"proved and built in {took // 60}:{took % 60:02}; from now on it starts at once")
+    if Source(top, program).sum != source.sum:
+        say("a file changed meanwhile: the next call builds again")
 
 
 class Stopped(BaseException):

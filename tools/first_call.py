@@ -1,11 +1,11 @@
 #!/usr/bin/env python3
 """Runs a program of this repository that isn't built: an unproved build answers first, while the program is proved and built.
 
-    python3 tools/first_call.py NAME TUNABLES CLOSED ARGUMENTS..
+    python3 tools/first_call.py NAME TUNABLES CLOSED PRESET ARGUMENTS..
 
 `./tele` calls this if out/NAME is missing or out of date. If standard input ends within some seconds and has at most 64 MiB, it is
-kept in a file, and `rt try` answers from it without a proof. Then standard output is closed, and the proof goes on. At the end the
-proved program runs on the kept input: it must write the same bytes and end with the same status.
+kept, and `rt try` answers from it without a proof. Then standard output is closed, and the proof goes on. At the end the proved
+program runs on the kept input: it must write the same bytes and end with the same status.
 
 In all other cases the answer waits for the proved program:
 
@@ -13,89 +13,35 @@ In all other cases the answer waits for the proved program:
 - the input is a terminal, is larger, or doesn't end in time, and the answer depends on it;
 - `rt try` gives no answer, for instance because that is longer than 1 MiB or takes more than 60 seconds.
 
-TUNABLES is GLIBC_TUNABLES for the program, and CLOSED has the numbers of the streams that are closed for it. The status is the
-program's. It is 125 if the program couldn't be built or gives another answer, and 128 + N after signal N.
+TUNABLES is GLIBC_TUNABLES for the program, CLOSED has the numbers of the streams that are closed for it, and PRESET is an argument
+that precedes those of the caller, or empty. The status is the program's. It is 125 if the program couldn't be built, gives another
+answer or couldn't check the one that was given, and 128 + N after signal N.
+
+Without arguments it does nothing, which shows that this Python can run it.
 """
 import contextlib
+import fcntl
 import os
 import re
-import select
 import shutil
 import signal
-import stat
 import subprocess
 import sys
 import tempfile
 import threading
-import time
 from pathlib import Path
 
 sys.dont_write_bytecode = True
+# Python is told to leave it out, as other settings of its caller.
+sys.path.insert(0, str(Path(__file__).resolve().parent))
 import build
+from kept import Kept
 
-KEPT_AT_MOST = 64 << 20
-SECONDS_TO_READ = 5
 # The statuses that come from input and arguments only. The others come from memory, or from a read or write that failed.
 SETTLED = (0, 2, 3)
 WRITE_FAILED = 5
 # The last line of `rt try` if the program ended.
 ENDED = re.compile(rb"^run=ended status=(\d+) .*proved=no\n\Z", re.M)
-
-
-class Kept:
-    """What was read of standard input, in a file without a name."""
-
-    def __init__(self, folder):
-        self.file = tempfile.TemporaryFile(dir=folder, buffering=0)
-        self.size, self.is_whole, self.why = 0, False, None
-
-    def read(self):
-        """Reads standard input to its end, or says why it can't. What was read of a file that is too large is given back."""
-        if os.isatty(0):
-            self.why = "standard input is a terminal"
-            return
-        start = os.lseek(0, 0, os.SEEK_CUR) if stat.S_ISREG(os.fstat(0).st_mode) else None
-        self.take_all(time.monotonic() + SECONDS_TO_READ)
-        if self.why and start is not None:
-            os.lseek(0, start, os.SEEK_SET)
-            self.size = 0
-
-    def take_all(self, until):
-        while self.size <= KEPT_AT_MOST:
-            if not select.select([0], [], [], max(0, until - time.monotonic()))[0]:
-                self.why = f"standard input did not end within {SECONDS_TO_READ} seconds"
-                return
-            try:
-                part = os.read(0, 1 << 20)
-            except OSError as error:
-                # The program meets the same, unless something was read before it.
-                if self.size:
-                    raise
-                self.why = f"standard input: {error.strerror}"
-                return
-            if not part:
-                self.is_whole = True
-                return
-            self.file.write(part)
-            self.size += len(part)
-        self.why = f"standard input is larger than {KEPT_AT_MOST >> 20} MiB"
-
-    def from_start(self):
-        """Returns what a program can read that must answer from this alone."""
-        if not self.is_whole:
-            return subprocess.DEVNULL
-        self.file.seek(0)
-        return self.file
-
-    def give_back(self):
-        """Makes standard input what was read of it, and then the rest."""
-        if self.is_whole:
-            os.dup2(self.from_start().fileno(), 0)
-        elif self.size:
-            kept = self.file.fileno()
-            words = ["cat", f"/dev/fd/{kept}", "-"]
-            rest = subprocess.Popen(words, stdout=subprocess.PIPE, stderr=subprocess.DEVNULL, pass_fds=[kept])
-            os.dup2(rest.stdout.fileno(), 0)
 
 
 class Answer(threading.Thread):
@@ -104,7 +50,7 @@ class Answer(threading.Thread):
     def __init__(self, source, kit, at, kept, arguments):
         super().__init__(daemon=True)
         self.source, self.kit, self.kept, self.log = source, kit, kept, at / "logs" / "unproved.log"
-        self.folder = at / f"unproved-{os.getpid()}"
+        self.folder, self.lock = own_folder(at)
         self.words = [*kit.command(), "try", "--", *arguments]
         self.turn, self.is_stopped, self.process = threading.Lock(), False, None
         self.status, self.text, self.is_lost = None, None, False
@@ -131,18 +77,21 @@ class Answer(threading.Thread):
 
     def tried(self):
         """Returns the status and the text of the unproved build, if the proved program must answer the same."""
-        at = self.folder / "crates" / self.source.program
-        with open(self.folder / "text", "wb") as text, open(self.folder / "said", "wb") as said:
+        at, whole = self.folder / "crates" / self.source.program, self.kept.whole()
+        # `rt` waits two seconds for more of a pipe, and then takes what came for the whole input. A file keeps it from that.
+        with open(os.memfd_create("given"), "w+b") as given:
+            given.write(whole)
+            given.seek(0)
+            if os.fstat(given.fileno()).st_size != len(whole):
+                raise OSError("its input couldn't be written whole")
             with self.turn:
                 if self.is_stopped:
                     return None
-                how = {"cwd": at, "stdin": self.kept.from_start(), "stdout": text, "stderr": said}
-                self.process = subprocess.Popen(self.words, **how)
-            self.process.wait()
-            lines = (self.folder / "said").read_bytes()
-            self.log.parent.mkdir(exist_ok=True)
-            self.log.write_bytes(lines)
-            return self.settled(ENDED.search(lines), (self.folder / "text").read_bytes())
+                self.process = subprocess.Popen(self.words, cwd=at, stdin=given, stdout=subprocess.PIPE, stderr=subprocess.PIPE)
+        text, said = self.process.communicate()
+        self.log.parent.mkdir(exist_ok=True)
+        self.log.write_bytes(said)
+        return self.settled(ENDED.search(said), text)
 
     def settled(self, ended, text):
         status = int(ended[1]) if ended else None
@@ -186,26 +135,26 @@ def tell_of_options(status):
 class Call:
     """One call of the program, with these arguments, before the program is built."""
 
-    def __init__(self, program, tunables, closed, arguments):
+    def __init__(self, program, tunables, closed, preset, arguments):
         self.top = Path(__file__).resolve().parent.parent
         self.name, self.arguments, self.kept, self.answer = program, arguments, None, None
-        self.words = [str(self.top / "out" / program), *arguments]
+        self.given = [*([preset] if preset else []), *arguments]
+        self.words = [str(self.top / "out" / program), *self.given]
         self.environment = {**os.environ, "GLIBC_TUNABLES": tunables}
         self.closed = [int(it) for it in closed]
 
     def begin(self, source, kit, at):
         """Has an unproved build answer, if there is an input for it."""
         self.at = at
-        remove_left(at)
         if os.environ.get("TELE_WAIT", "0") not in ("", "0") or {0, 1} & {*self.closed}:
             return
-        self.kept = Kept(at)
+        self.kept = Kept()
         self.kept.read()
         if not self.kept.is_whole and not self.arguments:
             build.say(f"{self.kept.why}: the answer waits for the proof")
             return
         build.say("an unproved build answers first, in about a minute; meanwhile the program is proved, and then it answers too")
-        self.answer = Answer(source, kit, at, self.kept, self.arguments)
+        self.answer = Answer(source, kit, at, self.kept, self.given)
         self.answer.start()
         kit.gives_way = build.GIVES_WAY
 
@@ -227,17 +176,19 @@ class Call:
         return self.answer is not None and self.answer.stop()
 
     def compared(self):
-        """Runs the proved program on the same input. Returns the status, or 125 if it answers otherwise."""
-        with tempfile.TemporaryFile(dir=self.at) as file:
-            ran = subprocess.run(self.words, stdin=self.kept.from_start(), stdout=file, env=self.environment)
-            file.seek(0)
-            status, text = status_of(ran), file.read()
-        if (status, text) == (self.answer.status, self.answer.text):
+        """Runs the proved program on the same input. Returns the status, or 125 if its answer is another or it has none."""
+        ran = subprocess.run(self.words, input=self.kept.whole(), stdout=subprocess.PIPE, env=self.environment)
+        status = status_of(ran)
+        if (status, ran.stdout) == (self.answer.status, self.answer.text):
             build.say("the proved program gives the same answer")
             return WRITE_FAILED if self.answer.is_lost else status
-        for name, it in (("unproved", self.answer.text), ("proved", text)):
-            (self.at / "logs" / f"answer.{name}").write_bytes(it)
+        if status not in SETTLED:
+            how = f"ended with status {status}" if ran.returncode >= 0 else f"was ended by signal {-ran.returncode}"
+            build.say(f"THE ANSWER IS UNCHECKED: the proved program {how}")
+            return build.NOT_BUILT
         build.say(f"THE ANSWER WAS WRONG: the proved program answers otherwise (status {status}, unproved {self.answer.status})")
+        for name, it in (("unproved", self.answer.text), ("proved", ran.stdout)):
+            (self.at / "logs" / f"answer.{name}").write_bytes(it)
         build.say(f"its answer: {self.at}/logs/answer.proved; the one that was given: {self.at}/logs/answer.unproved")
         return build.NOT_BUILT
 
@@ -262,17 +213,33 @@ def status_of(ran):
     return ran.returncode if ran.returncode >= 0 else 128 - ran.returncode
 
 
-def remove_left(at):
-    """Removes what calls that were killed left."""
-    for it in at.glob("unproved-*"):
-        if not Path(f"/proc/{it.name.partition('-')[2]}").exists():
-            shutil.rmtree(it, ignore_errors=True)
+def own_folder(at):
+    """Makes a folder for an unproved build, and removes those of calls that ended. Returns it, and a lock for as long as the call lives."""
+    with open(at / "unproved.lock", "w") as turn:
+        fcntl.flock(turn, fcntl.LOCK_EX)
+        for it in at.glob("unproved-*"):
+            if is_left(it):
+                shutil.rmtree(it, ignore_errors=True)
+        folder = Path(tempfile.mkdtemp(prefix="unproved-", dir=at))
+        lock = open(folder / "lock", "w")
+        fcntl.flock(lock, fcntl.LOCK_EX)
+        return folder, lock
+
+
+def is_left(folder):
+    """Returns whether no process holds the folder's lock. The number of a process wouldn't show it: another container has its own."""
+    try:
+        with open(folder / "lock", "r+") as lock:
+            fcntl.flock(lock, fcntl.LOCK_EX | fcntl.LOCK_NB)
+        return True
+    except OSError as error:
+        return isinstance(error, FileNotFoundError)
 
 
 def main():
-    name, tunables, closed, *arguments = sys.argv[1:]
-    return build.ended(Call(name, tunables, closed, arguments).make)
+    name, tunables, closed, preset, *arguments = sys.argv[1:]
+    return build.ended(Call(name, tunables, closed, preset, arguments).make)
 
 
-if __name__ == "__main__":
+if __name__ == "__main__" and sys.argv[1:]:
     sys.exit(main())
