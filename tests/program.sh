@@ -50,6 +50,17 @@ done
 wanted "a word that isn't UTF-8" "1 2" $? true
 "$program" $(yes x | head -n 100000) <"$all/lines" >"$all/out"
 wanted "a hundred thousand words" "2" $? is "! usage"
+# What the launcher rests on: no shorter form of `--words` is taken, and what it passes first changes nothing for other arguments.
+for it in "--word 64" --word=64 "--w 64" -w64; do
+    "$program" $it </dev/null >"$all/out"
+    wanted "$it" "2" $? is "! usage"
+done
+for it in "" x --help --seed "--seed 5" "--seed --steal 1" "-- --seed" "--workers 0" "--workers 2 --steal=1" --generate=3; do
+    "$program" $it <"$all/lines" >"$all/without"
+    status=$?
+    "$program" --words=4096 $it <"$all/lines" >"$all/out"
+    wanted "--words=4096 $it" "$status" $? cmp -s "$all/out" "$all/without"
+done
 head -c 8000000 /dev/zero | tr '\0' 'P' | "$program" "${small[@]}" >"$all/out"
 wanted "a line of eight million bytes" "3" $? is "! 1 long"
 { echo "P 1 2" && head -c 8000000 /dev/zero; } | "$program" "${small[@]}" >"$all/out"
