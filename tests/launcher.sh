@@ -371,6 +371,8 @@ if apart 'mount -t tmpfs -o size=2m tmpfs "$1"' - "$dir/full"; then
     small='mount -t tmpfs -o size=2m tmpfs "$1" && exec "$2"'
     out=$(cat "$all/large" | TELE_BUILD=$dir/full/build apart "$small" - "$dir/full" "$top/tele" 2>"$dir/err" | cksum)
     expect "a full file system: the input is given whole" "$out" "$wanted"
+else
+    echo "not tried: a full file system, since none can be mounted here"
 fi
 rm "$all/large"
 
@@ -526,6 +528,8 @@ if apart 'mount -t tmpfs -o ro tmpfs "$1"' - "$top/out"; then
     touch "$top/crates/low/src/lib.rt"
     bound='mount --bind "$1" "$1" && mount -o remount,bind,ro "$1" && exec "$2"'
     expect "a built program in a read-only folder" "$(echo input | apart "$bound" - "$top/out" "$top/tele" 2>&1)" "$answer"
+else
+    echo "not tried: a read-only folder, since none can be mounted here"
 fi
 fresh
 mkdir -m 777 "$dir/build"

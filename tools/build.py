@@ -142,8 +142,8 @@ class Kit:
         self.gives_way = 0
 
     def command(self, *options):
-        """Returns `rt`, as a command for folders in which nothing is edited."""
-        return [sys.executable, str(Path(__file__).resolve().parent / "once.py"), "--still", *options, self.rt]
+        """Returns `rt`, as a command for folders in which nothing is edited. No setting of the caller's changes what Python does."""
+        return [sys.executable, "-I", str(Path(__file__).resolve().parent / "once.py"), "--still", *options, self.rt]
 
 
 class Made:
@@ -181,9 +181,8 @@ class Made:
             if since is not None:
                 os.utime(part, times=(since, since))
             os.replace(part, path)
-        except BaseException:
-            os.unlink(part)
-            raise
+        finally:
+            Path(part).unlink(missing_ok=True)
 
     def write_note(self, source, kit, by):
         text = "\n".join([source.sum, by, kit.real, *source.paths(), *kit.paths]) + "\n"
