@@ -96,5 +96,6 @@ if there 'the package in Rust' cargo cc; then
     well 'the package in Rust passes its tests' in_rust test --release
     well 'the measurement of maps in Rust runs' in_rust bench --bench maps -- 200 1
     well 'the measurement of calls in Rust runs' in_rust bench --bench calls -- 100 200 10
+    well 'the measurement of a service in Rust runs' in_rust bench --bench service -- 1000 2 25 25 1
 fi
 ends

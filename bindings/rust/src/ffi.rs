@@ -1,5 +1,5 @@
-//! The calls of the static library, as `crates/ist_c/include/ist.h` declares them, behind types of Rust. All of this
-//! package's `unsafe` is here, each with its reason, and what this module gives to others is safe to use in any way.
+//! The calls of the static library, as `crates/ist_c/include/ist.h` declares them, behind types of Rust. Each `unsafe`
+//! call has its reason here, and what this module gives to others is safe to use in any way.
 //!
 //! Each handle has the number of its tree. A call on two handles compares these numbers: that is what the header's `same
 //! tree` asks for.
@@ -163,25 +163,37 @@ pub(crate) struct Owner {
     handle: Handle,
     tree: TreeNumber,
     is_open: bool,
+    // The handle holds the pairs that are left.
+    is_listed: bool,
+}
+
+// The pairs in increasing order of keys, of two with one key the later. The library sorts too, but in quadratic time.
+fn sorted(pairs: &[Pair]) -> Result<Vec<Pair>, Error> {
+    let mut sorted: Vec<Pair> = Vec::new();
+    sorted.try_reserve_exact(pairs.len()).map_err(|_| Error::Memory)?;
+    // numbers for values, so that a sort without memory keeps the order of pairs with one key
+    sorted.extend(pairs.iter().enumerate().map(|(number, pair)| Pair { key: pair.key, value: number as u64 }));
+    sorted.sort_unstable_by_key(|pair| (pair.key, u64::MAX - pair.value));
+    sorted.dedup_by_key(|pair| pair.key);
+    sorted.iter_mut().for_each(|pair| pair.value = pairs[pair.value as usize].value);
+    Ok(sorted)
 }
 
 impl Owner {
     /// Opens a tree of these pairs, of two with one key the later, with this many words.
     pub(crate) fn open(words: u32, pairs: &[Pair]) -> Result<Owner, Error> {
+        if !pairs.is_sorted_by(|one, other| one.key < other.key) {
+            return Owner::open(words, &sorted(pairs)?);
+        }
         let mut handle = Handle::new();
         // SAFETY: pointer and length are those of one slice, and `handle` is the call's alone.
         checked(unsafe { ist_open(words, pairs.as_ptr(), pairs.len(), &mut handle) })?;
-        Ok(Owner { handle, tree: next_number(), is_open: true })
+        Ok(Owner { handle, tree: next_number(), is_open: true, is_listed: false })
     }
 
     /// The number of its tree.
     pub(crate) fn tree(&self) -> TreeNumber {
         self.tree
-    }
-
-    /// Whether the tree is open: it isn't only after a `reopen` that failed.
-    pub(crate) fn is_open(&self) -> bool {
-        self.is_open
     }
 
     /// Makes a pass.
@@ -226,12 +238,19 @@ impl Owner {
         checked(status)
     }
 
-    /// Closes the tree, and returns its pairs in increasing order of keys, and how far it was filled.
-    pub(crate) fn close(mut self) -> Result<(Vec<Pair>, Stats), Error> {
-        let owner = &mut self.handle;
+    /// Closes the tree, and returns its pairs in increasing order of keys, and how far it was filled. If that fails, nothing is lost, and
+    /// the call may be made again.
+    pub(crate) fn close(&mut self) -> Result<(Vec<Pair>, Stats), Error> {
         let mut stats = Stats::default();
-        // SAFETY: the handle is the call's alone, here and in the two calls below, and so is `stats`.
-        checked(unsafe { ist_close(owner) })?;
+        if !self.is_listed {
+            // SAFETY: the handle is the call's alone, here and in the calls below, and so is `stats`.
+            let status = unsafe { ist_close(&mut self.handle) };
+            self.is_open &= status == BUSY;
+            checked(status)?;
+            self.is_listed = true;
+        }
+        let owner = &mut self.handle;
+        // SAFETY: as above.
         checked(unsafe { ist_count(owner, &mut stats) })?;
         let mut pairs = Vec::new();
         pairs.try_reserve_exact(stats.keys as usize).map_err(|_| Error::Memory)?;
@@ -242,12 +261,6 @@ impl Owner {
         debug_assert_eq!(count, stats.keys);
         Ok((pairs, stats))
     }
-
-    /// Closes the tree, and returns its pairs in increasing order of keys.
-    pub(crate) fn into_pairs(self) -> Result<Vec<Pair>, Error> {
-        let (pairs, _) = self.close()?;
-        Ok(pairs)
-    }
 }
 
 /// What one call at a time calls a tree by.
@@ -257,11 +270,6 @@ pub(crate) struct PassHandle {
 }
 
 impl PassHandle {
-    /// The number of its tree.
-    pub(crate) fn tree(&self) -> TreeNumber {
-        self.tree
-    }
-
     pub(crate) fn find(&mut self, key: u64) -> Option<u64> {
         // SAFETY: the handle is the call's alone.
         let called = unsafe { ist_find(&mut self.handle, key) };
@@ -329,6 +337,15 @@ impl PassHandle {
         let status = unsafe { ist_list_range(&mut self.handle, first, last, at, rooms, &mut piece) };
         debug_assert_eq!(status, DONE);
         (piece.count as usize, piece.more.then_some(piece.next))
+    }
+
+    /// How many words of the tree are used. It is read off the refusal of a shot for which no tree has enough words.
+    pub(crate) fn used(&mut self) -> u64 {
+        let mut why = Shortage::default();
+        // SAFETY: the handle is the call's alone, and so is `why`.
+        let status = unsafe { ist_take_shot(&mut self.handle, u64::MAX, &mut why) };
+        debug_assert_eq!(status, FULL);
+        why.next
     }
 
     /// Takes a shot of the map, if at least this many words are left at a moment of the call. Else the pass is returned, with the

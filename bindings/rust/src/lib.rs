@@ -1,7 +1,7 @@
 //! An ordered map from `u64` keys to `u64` values that threads share without blocking each other.
 //!
 //! Safe Rust over a static library that is proved (`crates/ist_c`). `docs/LIBRARY.md` says what the proofs state of each call. This
-//! package itself is only tested: its `unsafe` calls are all in `ffi.rs`, each with its reason.
+//! package itself is only tested: its `unsafe` calls are all in `ffi.rs` and `shared.rs`, each with its reason.
 //!
 //! - [`Map`] is for those who come from `crossbeam_skiplist::SkipMap` or from a `BTreeMap` under a lock: its calls take `&self`,
 //!   and it grows.
@@ -32,9 +32,11 @@ mod errors;
 #[allow(unsafe_code)]
 mod ffi;
 mod map;
+#[allow(unsafe_code)]
+mod shared;
 mod tree;
 
-pub use errors::{Error, Full};
+pub use errors::{Error, Full, Kept};
 pub use ffi::{Pair, Stats};
 pub use map::{Map, Range};
 pub use tree::{Exchanged, Note, Pass, Shot, Tree, shot_words, words_for};

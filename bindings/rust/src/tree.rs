@@ -1,7 +1,7 @@
 //! The tree and its passes.
 
 use crate::ffi::{self, NoteHandle, Owner, PassHandle, ShotHandle};
-use crate::{Error, Full, Pair, Stats};
+use crate::{Error, Full, Kept, Pair, Stats};
 use std::fmt::{Debug, Formatter};
 use std::ops::RangeBounds;
 use std::sync::{Mutex, MutexGuard, PoisonError};
@@ -30,23 +30,32 @@ pub fn shot_words(pairs: usize) -> Option<u64> {
     Some(ffi::shot_words(pairs as u64)).filter(|words| *words != 0)
 }
 
-// The pairs from the first key to the last, by calls that write as many as there is room for, and return how many these are and
-// the key to go on from.
-pub(crate) fn listed(ends: Option<(u64, u64)>, mut list: impl FnMut(u64, u64, &mut [Pair]) -> (usize, Option<u64>)) -> Vec<Pair> {
-    let mut pairs = Vec::new();
-    let Some((mut first, last)) = ends else {
-        return pairs;
-    };
+// Appends the pairs from the first key to the last, by calls that write as many as there is room for, and return how many these are
+// and the key to go on from.
+pub(crate) fn append_listed(
+    pairs: &mut Vec<Pair>,
+    (mut first, last): (u64, u64),
+    mut list: impl FnMut(u64, u64, &mut [Pair]) -> (usize, Option<u64>),
+) -> Result<(), Error> {
     loop {
         let begun = pairs.len();
+        pairs.try_reserve(64).map_err(|_| Error::Memory)?;
         pairs.resize(begun + 64, Pair::default());
         let (count, next) = list(first, last, &mut pairs[begun..]);
         pairs.truncate(begun + count);
         match next {
             Some(key) => first = key,
-            None => return pairs,
+            None => return Ok(()),
         }
     }
+}
+
+fn listed(ends: Option<(u64, u64)>, list: impl FnMut(u64, u64, &mut [Pair]) -> (usize, Option<u64>)) -> Vec<Pair> {
+    let mut pairs = Vec::new();
+    if let Some(ends) = ends {
+        append_listed(&mut pairs, ends, list).expect("there is memory for the list");
+    }
+    pairs
 }
 
 // The first and the last key of the range, if it has keys.
@@ -181,13 +190,17 @@ impl Tree {
     /// assert_eq!(stats.used, u64::from(luskadorv::words_for(1).unwrap()));
     /// # Ok::<(), Error>(())
     /// ```
-    pub fn close(self) -> Result<(Vec<Pair>, Stats), Error> {
-        self.owner.into_inner().unwrap_or_else(PoisonError::into_inner).close()
+    ///
+    /// If that fails, the tree is returned with the error: call it again.
+    pub fn close(mut self) -> Result<(Vec<Pair>, Stats), Kept<Tree>> {
+        let closed = self.owner.get_mut().unwrap_or_else(PoisonError::into_inner).close();
+        closed.map_err(|error| Kept { kept: self, error })
     }
 
-    /// Closes the tree, and returns its pairs in increasing order of keys. All passes were dropped, as the compiler sees.
-    pub fn into_pairs(self) -> Result<Vec<Pair>, Error> {
-        self.owner.into_inner().unwrap_or_else(PoisonError::into_inner).into_pairs()
+    /// Closes the tree, and returns its pairs in increasing order of keys. All passes were dropped, as the compiler sees. It fails as
+    /// [`close`](Tree::close).
+    pub fn into_pairs(self) -> Result<Vec<Pair>, Kept<Tree>> {
+        self.close().map(|(pairs, _)| pairs)
     }
 }
 

@@ -1,0 +1,245 @@
+//! Parts of the map: each has the keys from its first to its last one in a tree of its own.
+
+use super::locked;
+use super::sizes::{SHARE, Sizes};
+use crate::ffi::{self, Owner, PassHandle, TreeNumber};
+use crate::shared::Shared;
+use crate::{Error, Pair};
+use std::sync::Mutex;
+use std::sync::atomic::Ordering::{Relaxed, SeqCst};
+use std::sync::atomic::{AtomicBool, AtomicU8, AtomicUsize};
+use std::time::Instant;
+
+/// What updates of a part do besides changing its tree.
+#[derive(Clone, Copy, Debug, PartialEq, Eq)]
+pub(super) enum Phase {
+    /// Nothing.
+    Calm,
+    /// They copy their keys to the next trees.
+    Mirror,
+    /// They wait until the directory was replaced, or the growth was given up.
+    Stopped,
+    /// The part isn't the map's any more. They wait until they have the directory.
+    Replaced,
+}
+
+/// What parts that follow others are made for.
+#[derive(Clone, Copy, PartialEq, Eq)]
+pub(super) enum Aim {
+    /// There are more words for updates.
+    Room,
+    /// The pairs lie in as few parts and words as there may be.
+    Fit,
+}
+
+pub(super) struct Part {
+    pub(super) first: u64,
+    pub(super) last: u64,
+    pub(super) tree: TreeNumber,
+    pub(super) words: u32,
+    /// What it was opened with.
+    pub(super) pairs: Vec<Pair>,
+    /// From this used word on it grows.
+    pub(super) begin: u64,
+    /// After this many updates of a slot the used words are looked at.
+    pub(super) look: u64,
+    pub(super) opened: Instant,
+    /// How many slots have called it.
+    pub(super) users: AtomicUsize,
+    phase: AtomicU8,
+    // One call makes the trees that follow.
+    is_claimed: AtomicBool,
+    // The trees that are being made lack an update.
+    is_lost: AtomicBool,
+    /// A growth failed: from then on only updates that are refused try again.
+    pub(super) has_failed: AtomicBool,
+    // The keys that were changed since it was opened, as far as they were taken out of the slots. Held while some are added or read.
+    changed: Mutex<Vec<Vec<u64>>>,
+    // Held while a pass is made.
+    owner: Mutex<Owner>,
+    // Held while it is read or written. It is there while the phase is `Mirror`.
+    next: Mutex<Option<Shared<Parts>>>,
+}
+
+impl Part {
+    pub(super) fn open(first: u64, last: u64, words: u32, pairs: Vec<Pair>) -> Result<Shared<Part>, Error> {
+        let owner = Owner::open(words, &pairs)?;
+        let free = u64::from(words) - ffi::words_for(pairs.len() as u64);
+        Shared::new(Part {
+            first,
+            last,
+            tree: owner.tree(),
+            words,
+            begin: u64::from(words) - free / 4,
+            look: (free / (60 * 64)).clamp(1, 16),
+            pairs,
+            opened: Instant::now(),
+            users: AtomicUsize::new(0),
+            phase: AtomicU8::new(Phase::Calm as u8),
+            is_claimed: AtomicBool::new(false),
+            is_lost: AtomicBool::new(false),
+            has_failed: AtomicBool::new(false),
+            changed: Mutex::new(Vec::new()),
+            owner: Mutex::new(owner),
+            next: Mutex::new(None),
+        })
+    }
+
+    pub(super) fn pass(&self) -> Result<PassHandle, Error> {
+        locked(&self.owner).pass()
+    }
+
+    /// Takes over these keys, which were changed. Without memory for that they stay.
+    pub(super) fn add_changed(&self, keys: &mut Vec<u64>) -> Result<(), Error> {
+        let mut changed = locked(&self.changed);
+        changed.try_reserve(1).map_err(|_| Error::Memory)?;
+        changed.push(std::mem::take(keys));
+        Ok(())
+    }
+
+    /// The changed keys in order, without the first lists of them, and how many lists there are.
+    pub(super) fn changed(&self, without: usize) -> Result<(Vec<u64>, usize), Error> {
+        let changed = locked(&self.changed);
+        let mut keys = room_for(changed[without..].iter().map(Vec::len).sum())?;
+        changed[without..].iter().for_each(|list| keys.extend_from_slice(list));
+        keys.sort_unstable();
+        keys.dedup();
+        Ok((keys, changed.len()))
+    }
+
+    pub(super) fn phase(&self) -> Phase {
+        match self.phase.load(SeqCst) {
+            0 => Phase::Calm,
+            1 => Phase::Mirror,
+            2 => Phase::Stopped,
+            _ => Phase::Replaced,
+        }
+    }
+
+    pub(super) fn set_phase(&self, phase: Phase) {
+        self.phase.store(phase as u8, SeqCst);
+    }
+
+    /// Claims the part for this call to grow, if no other call has.
+    pub(super) fn claim(&self) -> bool {
+        !self.is_claimed.swap(true, SeqCst)
+    }
+
+    pub(super) fn unclaim(&self) {
+        self.is_claimed.store(false, SeqCst);
+    }
+
+    pub(super) fn is_claimed(&self) -> bool {
+        self.is_claimed.load(SeqCst)
+    }
+
+    pub(super) fn lose(&self) {
+        self.is_lost.store(true, SeqCst);
+    }
+
+    /// Begins a growth anew.
+    pub(super) fn lose_nothing(&self) {
+        self.is_lost.store(false, SeqCst);
+    }
+
+    pub(super) fn is_lost(&self) -> bool {
+        self.is_lost.load(SeqCst)
+    }
+
+    pub(super) fn next(&self) -> Option<Shared<Parts>> {
+        locked(&self.next).clone()
+    }
+
+    pub(super) fn set_next(&self, next: Option<Shared<Parts>>) {
+        // dropped after the lock is given back: the parts may be the last references to their trees
+        let old = std::mem::replace(&mut *locked(&self.next), next);
+        drop(old);
+    }
+
+    /// Whether several slots have called it.
+    pub(super) fn is_shared(&self) -> bool {
+        self.users.load(Relaxed) > 1
+    }
+}
+
+/// An empty list with room for this many elements.
+pub(super) fn room_for<T>(elements: usize) -> Result<Vec<T>, Error> {
+    let mut room = Vec::new();
+    room.try_reserve_exact(elements).map_err(|_| Error::Memory)?;
+    Ok(room)
+}
+
+/// Parts side by side, at least one.
+pub(super) struct Parts {
+    firsts: Vec<u64>,
+    all: Vec<Shared<Part>>,
+}
+
+impl Parts {
+    pub(super) fn of(all: Vec<Shared<Part>>) -> Result<Shared<Parts>, Error> {
+        let mut firsts = room_for(all.len())?;
+        firsts.extend(all.iter().map(|part| part.first));
+        Shared::new(Parts { firsts, all })
+    }
+
+    pub(super) fn all(&self) -> &[Shared<Part>] {
+        &self.all
+    }
+
+    /// The number of the part that has this key.
+    pub(super) fn at(&self, key: u64) -> usize {
+        self.firsts.partition_point(|first| *first <= key).saturating_sub(1)
+    }
+}
+
+/// Opens this many parts of these pairs side by side, with the keys from the first to the last one, each with at least `least` words.
+pub(super) fn opened(first: u64, last: u64, pairs: Vec<Pair>, count: usize, least: u32) -> Result<Vec<Shared<Part>>, Error> {
+    let mut parts = room_for(count)?;
+    let open = |first, last, pairs: Vec<Pair>| {
+        let words = (SHARE * ffi::words_for(pairs.len() as u64)).max(u64::from(least)).min(u64::from(ffi::MOST_WORDS));
+        Part::open(first, last, words as u32, pairs)
+    };
+    if count == 1 {
+        parts.push(open(first, last, pairs)?);
+        return Ok(parts);
+    }
+    let begin = |number: usize| number * pairs.len() / count;
+    for number in 0..count {
+        let some = &pairs[begin(number)..begin(number + 1)];
+        let mut own = room_for(some.len())?;
+        own.extend_from_slice(some);
+        let first = if number == 0 { first } else { some[0].key };
+        let last = if number + 1 == count { last } else { pairs[begin(number + 1)].key - 1 };
+        parts.push(open(first, last, own)?);
+    }
+    Ok(parts)
+}
+
+/// What follows some parts: how many parts, and the words that each has at least.
+pub(super) struct Plan {
+    pub(super) count: usize,
+    pub(super) words: u32,
+}
+
+impl Plan {
+    /// What follows this part, which has this many keys, in a map of this many parts.
+    pub(super) fn after(part: &Part, aim: Aim, keys: usize, parts: usize, sizes: &Sizes) -> Plan {
+        let plan = |count, words: u32| Plan { count, words: words.max(sizes.least_words) };
+        if keys > sizes.most_keys {
+            return plan(keys.div_ceil(sizes.most_keys / 2), 0);
+        }
+        let age = part.opened.elapsed();
+        match aim {
+            Aim::Fit => plan(1, 0),
+            Aim::Room if age > sizes.long_life => plan(1, (part.words / 2).min(sizes.hot_words)),
+            Aim::Room if age >= sizes.short_life => plan(1, part.words.min(sizes.hot_words)),
+            // it is changed much: several threads are served by two parts better than by one, and one thread isn't
+            Aim::Room if part.is_shared() && keys >= sizes.hot_keys => match parts < sizes.hot_parts {
+                true => plan(2, part.words.min(sizes.hot_words)),
+                false => plan(1, part.words.saturating_mul(2).min(sizes.hot_words)),
+            },
+            // no split helps
+            Aim::Room => plan(1, part.words.saturating_mul(2).min(sizes.lone_words)),
+        }
+    }
+}

@@ -1,0 +1,1 @@
+//! Each step of growing is held open while others call.

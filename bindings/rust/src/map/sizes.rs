@@ -1,0 +1,56 @@
+//! How many words trees have, and when parts are split and merged.
+
+use std::time::Duration;
+
+/// How many words the first tree of a map has, if no number is named: 512 KiB.
+pub(super) const FIRST_WORDS: u32 = 1 << 16;
+
+/// A tree has this many times the words that its pairs take, at least.
+pub(super) const SHARE: u64 = 2;
+
+/// What a test changes to strain a map.
+pub(super) struct Sizes {
+    /// How many words a tree has at least that follows another.
+    pub(super) least_words: u32,
+    /// A tree has no more words than this, unless its pairs ask for more.
+    pub(super) hot_words: u32,
+    /// The same for a tree that is changed much, if no split helps: it has few keys, or one thread calls it.
+    pub(super) lone_words: u32,
+    /// A part with more keys than this is split.
+    pub(super) most_keys: usize,
+    /// A part that is changed much by several threads is split if it has at least this many keys ..
+    pub(super) hot_keys: usize,
+    /// .. while the map has fewer parts than this.
+    pub(super) hot_parts: usize,
+    /// Two neighbours are merged if each has at most this many keys, and neither is changed much.
+    pub(super) few_keys: usize,
+    /// A tree that served for a shorter time than this is changed much: two follow it, or a larger one.
+    pub(super) short_life: Duration,
+    /// A tree that served for a longer time than this is followed by a smaller one, if it is larger than its pairs ask for.
+    pub(super) long_life: Duration,
+}
+
+pub(super) const USUAL: Sizes = Sizes {
+    least_words: 1 << 12,
+    hot_words: 1 << 13,
+    lone_words: 1 << 15,
+    most_keys: 1 << 11,
+    hot_keys: 16,
+    hot_parts: 64,
+    few_keys: 128,
+    short_life: Duration::from_millis(50),
+    long_life: Duration::from_secs(2),
+};
+
+/// A map of these sizes grows, splits and merges all the time.
+pub(super) const STRAINED: Sizes = Sizes {
+    least_words: 1 << 10,
+    hot_words: 1 << 10,
+    lone_words: 1 << 11,
+    most_keys: 8,
+    hot_keys: 4,
+    hot_parts: 64,
+    few_keys: 4,
+    short_life: Duration::from_micros(100),
+    long_life: Duration::ZERO,
+};

@@ -1,0 +1,216 @@
+//! Slots: what a call has while it holds its slot's lock.
+
+use super::directory::Directory;
+use super::parts::Part;
+use super::update::Update;
+use crate::ffi::{PassHandle, TreeNumber};
+use crate::shared::Shared;
+use crate::{Error, Full};
+use std::collections::HashMap;
+use std::hash::{BuildHasherDefault, Hasher};
+use std::sync::atomic::Ordering::{Relaxed, SeqCst};
+use std::sync::atomic::{AtomicBool, AtomicI64, AtomicUsize};
+use std::sync::{Mutex, MutexGuard, PoisonError, TryLockError};
+
+/// A slot, on lines of memory of its own.
+#[derive(Default)]
+#[repr(align(128))]
+pub(super) struct Slot {
+    // Held for each call on keys, by the one call that has the slot.
+    passes: Mutex<Passes>,
+    // How many sweeps wait for it.
+    sweeps: AtomicUsize,
+    // Some call had the slot. Set under the lock, before the call reads a version or a phase.
+    is_used: AtomicBool,
+    // How many keys the calls by this slot added, less those that they removed. Written under its lock, or while no update is under way.
+    added: AtomicI64,
+}
+
+impl Slot {
+    /// Locks the slot for a call.
+    pub(super) fn lock(&self) -> MutexGuard<'_, Passes> {
+        self.used(super::locked(&self.passes))
+    }
+
+    /// Locks the slot for a call, if no other has it and no sweep waits for it.
+    pub(super) fn try_lock(&self) -> Option<MutexGuard<'_, Passes>> {
+        if self.sweeps.load(Relaxed) > 0 {
+            return None;
+        }
+        self.free().map(|passes| self.used(passes))
+    }
+
+    /// Locks the slot for a sweep, if no call has it. A sweep that comes back for it says so, so that calls leave it the slot.
+    pub(super) fn try_sweep(&self, is_first: bool) -> Option<MutexGuard<'_, Passes>> {
+        let free = self.free();
+        match (free.is_some(), is_first) {
+            (true, true) | (false, false) => {}
+            (true, false) => _ = self.sweeps.fetch_sub(1, Relaxed),
+            (false, true) => _ = self.sweeps.fetch_add(1, Relaxed),
+        }
+        free
+    }
+
+    // The slot's lock, if nobody has it.
+    fn free(&self) -> Option<MutexGuard<'_, Passes>> {
+        match self.passes.try_lock() {
+            Ok(passes) => Some(passes),
+            Err(TryLockError::Poisoned(poisoned)) => Some(PoisonError::into_inner(poisoned)),
+            Err(TryLockError::WouldBlock) => None,
+        }
+    }
+
+    fn used<'s>(&self, passes: MutexGuard<'s, Passes>) -> MutexGuard<'s, Passes> {
+        if !self.is_used.load(Relaxed) {
+            self.is_used.store(true, SeqCst);
+        }
+        passes
+    }
+
+    /// Whether a call had the slot. If it isn't so, the first call will read what was stored before this.
+    pub(super) fn is_used(&self) -> bool {
+        self.is_used.load(SeqCst)
+    }
+
+    /// Counts keys. The caller has the lock, so no other call writes meanwhile.
+    pub(super) fn count(&self, more: i64) {
+        if more != 0 {
+            self.set_added(self.added() + more);
+        }
+    }
+
+    pub(super) fn added(&self) -> i64 {
+        self.added.load(Relaxed)
+    }
+
+    pub(super) fn set_added(&self, added: i64) {
+        self.added.store(added, Relaxed);
+    }
+}
+
+/// What a slot has for the call that locks it.
+#[derive(Default)]
+pub(super) struct Passes {
+    /// There is one once the slot is used.
+    pub(super) directory: Option<Shared<Directory>>,
+    pub(super) seats: Seats,
+    /// How many updates were made since the last look at the words that are left.
+    pub(super) unseen: u64,
+}
+
+// Tree numbers are counted up: one multiplication spreads them.
+#[derive(Default)]
+struct NumberHasher(u64);
+
+impl Hasher for NumberHasher {
+    fn write(&mut self, _bytes: &[u8]) {
+        unreachable!("keys are tree numbers");
+    }
+
+    fn write_u64(&mut self, number: u64) {
+        self.0 = number.wrapping_mul(0x9e37_79b9_7f4a_7c15);
+    }
+
+    fn finish(&self) -> u64 {
+        self.0
+    }
+}
+
+/// What a slot has of one tree.
+pub(super) struct Seat {
+    pub(super) pass: PassHandle,
+    // The keys that the calls of this slot changed.
+    changed: Vec<u64>,
+}
+
+impl Seat {
+    /// Makes room for one more changed key, before the key is changed.
+    pub(super) fn reserve(&mut self) -> Result<(), Error> {
+        self.changed.try_reserve(1).map_err(|_| Error::Memory)
+    }
+
+    /// Records a changed key, for which there is room.
+    pub(super) fn record(&mut self, key: u64) {
+        self.changed.push(key);
+    }
+}
+
+impl Passes {
+    /// The directory by which the call goes, and the rest of the slot.
+    pub(super) fn parts(&mut self) -> (&Directory, &mut Seats, &mut u64) {
+        let directory = self.directory.as_ref().expect("a slot that is used has a directory");
+        (directory, &mut self.seats, &mut self.unseen)
+    }
+}
+
+/// A seat at each tree that the slot has called.
+#[derive(Default)]
+pub(super) struct Seats {
+    seats: HashMap<TreeNumber, Seat, BuildHasherDefault<NumberHasher>>,
+}
+
+impl Seats {
+    /// The seat at this part's tree.
+    pub(super) fn seat(&mut self, part: &Part) -> Result<&mut Seat, Error> {
+        if !self.seats.contains_key(&part.tree) {
+            self.sit(part)?;
+        }
+        Ok(self.seats.get_mut(&part.tree).expect("the slot has a seat"))
+    }
+
+    #[cold]
+    fn sit(&mut self, part: &Part) -> Result<(), Error> {
+        self.seats.try_reserve(1).map_err(|_| Error::Memory)?;
+        self.seats.insert(part.tree, Seat { pass: part.pass()?, changed: Vec::new() });
+        part.users.fetch_add(1, Relaxed);
+        Ok(())
+    }
+
+    /// Takes out which keys the calls of this slot changed, and appends them to those of the part. Without memory for that they stay.
+    pub(super) fn take_changed(&mut self, part: &Part) -> Result<(), Error> {
+        match self.seats.get_mut(&part.tree) {
+            Some(seat) if !seat.changed.is_empty() => part.add_changed(&mut seat.changed),
+            _ => Ok(()),
+        }
+    }
+
+    /// Copies the key of an update, which was just made, to the parts that follow. If there is no room or memory for that, the growth is
+    /// lost.
+    pub(super) fn mirror(&mut self, part: &Part, update: &Update) {
+        if !part.is_lost() && self.try_mirror(part, update).is_none() {
+            part.lose();
+        }
+    }
+
+    fn try_mirror(&mut self, part: &Part, update: &Update) -> Option<()> {
+        let next = part.next()?;
+        let to = &next.all()[next.at(update.key)];
+        self.seat(to).ok()?.reserve().ok()?;
+        // taken out, since the other pass is used beside it
+        let mut seat = self.seats.remove(&to.tree)?;
+        seat.record(update.key);
+        let copied = self.seat(part).map(|now| copy(&mut now.pass, &mut seat.pass, update.key, update.new));
+        self.seats.insert(to.tree, seat);
+        copied.ok()?.ok()
+    }
+
+    pub(super) fn leave(&mut self, part: &Part) {
+        self.seats.remove(&part.tree);
+    }
+
+    pub(super) fn leave_all(&mut self) {
+        self.seats = HashMap::default();
+    }
+}
+
+/// Copies a key from one tree to the next: puts the value that it had, finds it in the old one, and does so again until both are the same.
+pub(super) fn copy(now: &mut PassHandle, next: &mut PassHandle, key: u64, mut value: Option<u64>) -> Result<(), Full> {
+    loop {
+        next.update(key, value)?;
+        let found = now.find(key);
+        if found == value {
+            return Ok(());
+        }
+        value = found;
+    }
+}

@@ -1,0 +1,166 @@
+//! Snapshots: the pairs of a range at one moment.
+//!
+//! 1. All updates are stopped, as long as the 64 slots are locked once. That is the snapshot's moment.
+//! 2. From then on each update records what its key had before, if no earlier one has. So that there is an earlier one of two updates
+//!    of a key, each is made under a lock, one of 64 by the key.
+//! 3. The parts of the moment's directory are listed while all calls go on. A key that wasn't changed since is found as it was then. A
+//!    part that is replaced meanwhile doesn't change any more, and stays as it is for the snapshot.
+//! 4. The recording ends, and each slot is locked once: all updates that were begun in it have recorded their keys.
+//! 5. Each recorded key gets what it had before the first update of it.
+
+use super::hooks::Step;
+use super::inner::Inner;
+use super::locked;
+use super::parts::room_for;
+use super::update::Update;
+use crate::ffi::PassHandle;
+use crate::tree::append_listed;
+use crate::{Error, Full, Pair};
+use std::collections::HashMap;
+use std::sync::Mutex;
+use std::sync::atomic::Ordering::SeqCst;
+use std::sync::atomic::{AtomicBool, AtomicU64};
+
+const STRIPES: usize = 64;
+
+// What keys had before, on lines of memory of its own.
+#[repr(align(128))]
+#[derive(Default)]
+struct Stripe {
+    // Held by an update of one of its keys while a snapshot is taken.
+    before: Mutex<HashMap<u64, Option<u64>>>,
+}
+
+/// What updates record while a snapshot is taken.
+pub(super) struct Watch {
+    // Held by the one snapshot that is taken.
+    taker: Mutex<()>,
+    // The snapshot's range, which is written only while updates are stopped.
+    first: AtomicU64,
+    last: AtomicU64,
+    // There was no memory for a record.
+    is_lost: AtomicBool,
+    stripes: Vec<Stripe>,
+}
+
+impl Watch {
+    pub(super) fn new() -> Result<Watch, Error> {
+        let mut stripes = room_for(STRIPES)?;
+        stripes.resize_with(STRIPES, Stripe::default);
+        Ok(Watch {
+            taker: Mutex::new(()),
+            first: AtomicU64::new(0),
+            last: AtomicU64::new(0),
+            is_lost: AtomicBool::new(false),
+            stripes,
+        })
+    }
+
+    /// Makes an update, and records what its key had before.
+    pub(super) fn update(&self, pass: &mut PassHandle, update: &Update) -> Result<Option<u64>, Full> {
+        let key = update.key;
+        if key < self.first.load(SeqCst) || key > self.last.load(SeqCst) || self.is_lost.load(SeqCst) {
+            return update.call(pass);
+        }
+        let mut before = locked(&self.stripes[key as usize % STRIPES].before);
+        let has_room = before.try_reserve(1).is_ok();
+        let had = update.call(pass)?;
+        if update.changes(had) {
+            match has_room {
+                true => _ = before.entry(key).or_insert(had),
+                false => self.is_lost.store(true, SeqCst),
+            }
+        }
+        Ok(had)
+    }
+
+    fn begin(&self, first: u64, last: u64) {
+        self.first.store(first, SeqCst);
+        self.last.store(last, SeqCst);
+        self.is_lost.store(false, SeqCst);
+    }
+
+    // What keys had before, in order, after all updates that recorded it.
+    fn take(&self) -> Result<Vec<(u64, Option<u64>)>, Error> {
+        let mut all = Vec::new();
+        let mut has_room = !self.is_lost.load(SeqCst);
+        for stripe in &self.stripes {
+            let before = std::mem::take(&mut *locked(&stripe.before));
+            has_room = has_room && all.try_reserve(before.len()).is_ok();
+            if has_room {
+                all.extend(before);
+            }
+        }
+        all.sort_unstable();
+        if has_room { Ok(all) } else { Err(Error::Memory) }
+    }
+}
+
+// The pairs, with what some keys had before in place of what was found.
+fn put_back(pairs: Vec<Pair>, before: &[(u64, Option<u64>)]) -> Result<Vec<Pair>, Error> {
+    if before.is_empty() {
+        return Ok(pairs);
+    }
+    let mut all = room_for(pairs.len() + before.len())?;
+    let mut found = pairs.into_iter().peekable();
+    for (key, value) in before {
+        while let Some(pair) = found.next_if(|pair| pair.key < *key) {
+            all.push(pair);
+        }
+        found.next_if(|pair| pair.key == *key);
+        all.extend(value.map(|value| Pair { key: *key, value }));
+    }
+    all.extend(found);
+    Ok(all)
+}
+
+impl Inner {
+    /// The pairs from the first to the last key at one moment of the call.
+    pub(super) fn snapshot(&self, first: u64, last: u64) -> Result<Vec<Pair>, Error> {
+        let taker = locked(&self.watch.taker);
+        let directory = self.hold(|| {
+            self.watch.begin(first, last);
+            self.set_watched(true);
+            self.directory()
+        });
+        self.reached(Step::Watched);
+        let mut pairs = Vec::new();
+        let mut list = || {
+            directory.parts(first, last).try_for_each(|part| {
+                let mut pass = part.pass()?;
+                append_listed(&mut pairs, (first, last), |first, last, room| pass.list(first, last, room))
+            })
+        };
+        let listed = list();
+        self.set_watched(false);
+        self.sweep(|_| {});
+        let before = self.watch.take();
+        drop(taker);
+        listed?;
+        put_back(pairs, &before?)
+    }
+}
+
+#[cfg(test)]
+mod tests {
+    use super::put_back;
+    use crate::Pair;
+
+    #[test]
+    fn first_values_are_put_back() {
+        let pairs = |keys: &[u64]| keys.iter().map(|key| Pair { key: *key, value: 1 }).collect::<Vec<_>>();
+        // the keys found with value 1, what keys had before, and the keys that then have value 1
+        let cases: [(&[u64], &[(u64, Option<u64>)], &[u64]); 6] = [
+            (&[2, 4], &[], &[2, 4]),
+            (&[2, 4], &[(3, None)], &[2, 4]),
+            (&[2, 4], &[(2, None), (4, None)], &[]),
+            (&[2, 4], &[(1, Some(1)), (5, Some(1))], &[1, 2, 4, 5]),
+            (&[], &[(1, Some(1)), (2, None)], &[1]),
+            (&[2, 4], &[(2, Some(1)), (3, Some(1))], &[2, 3, 4]),
+        ];
+        for (found, before, expected) in cases {
+            assert_eq!(put_back(pairs(found), before).unwrap(), pairs(expected), "{found:?} {before:?}");
+        }
+        assert_eq!(put_back(pairs(&[2]), &[(2, Some(7))]).unwrap(), [Pair { key: 2, value: 7 }]);
+    }
+}

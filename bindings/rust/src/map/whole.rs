@@ -1,0 +1,47 @@
+//! What is done with the map as a whole.
+
+use super::directory::Directory;
+use super::inner::Inner;
+use super::parts::{Part, opened, room_for};
+use super::sizes::{FIRST_WORDS, USUAL};
+use crate::shared::Shared;
+use crate::tree::append_listed;
+use crate::{Error, Pair};
+use std::slice::from_ref;
+
+impl Inner {
+    /// The map of these pairs, whose keys are strictly increasing.
+    pub(super) fn with_pairs(pairs: Vec<Pair>) -> Result<Shared<Inner>, Error> {
+        let count = pairs.len().div_ceil(USUAL.most_keys / 2).max(1);
+        let least = if count == 1 { FIRST_WORDS } else { USUAL.least_words };
+        Inner::of(FIRST_WORDS, &opened(0, u64::MAX, pairs, count, least)?, USUAL)
+    }
+
+    /// Removes all pairs at one moment, while no update is under way. A growth under way finds at its end that its parts are gone.
+    pub(super) fn clear(&self) -> Result<(), Error> {
+        let part = Part::open(0, u64::MAX, self.first_words, Vec::new())?;
+        // so that the trees are freed at the end of this call, when it has no lock
+        let old = self.directory();
+        self.hold(|| {
+            let next = |directory: &Directory| Directory::of(directory.version + 1, from_ref(&part)).map(Some);
+            self.replace(next)?;
+            self.count_no_keys();
+            // the parts of a snapshot that is taken don't change any more, so what follows needs no record
+            self.set_watched(false);
+            Ok::<(), Error>(())
+        })?;
+        self.sweep(|passes| passes.seats.leave_all());
+        drop(old);
+        Ok(())
+    }
+
+    /// The pairs of all parts, for a caller who alone has the map.
+    pub(super) fn pairs(&self) -> Result<Vec<Pair>, Error> {
+        let mut pairs = room_for(self.keys() as usize)?;
+        for part in self.directory().parts(0, u64::MAX) {
+            let mut pass = part.pass()?;
+            append_listed(&mut pairs, (part.first, part.last), |first, last, room| pass.list(first, last, room))?;
+        }
+        Ok(pairs)
+    }
+}
