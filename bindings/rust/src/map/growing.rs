@@ -165,10 +165,11 @@ impl Inner {
 
     // Makes the next parts the map's, if these are. No update of these is under way.
     fn switch(&self, run: &[Shared<Part>], next: &Shared<Parts>) -> Result<bool, Error> {
-        let is_replaced = self.replace(|directory: &Directory| match run.iter().all(|part| directory.has(part)) {
+        let replaced = self.replace(|directory: &Directory| match run.iter().all(|part| directory.has(part)) {
             true => directory.with(next, run).map(Some),
             false => Ok(None),
         })?;
+        let is_replaced = replaced.is_some();
         if is_replaced {
             run.iter().for_each(|part| part.set_phase(Phase::Replaced));
             self.reached(Step::Replaced);

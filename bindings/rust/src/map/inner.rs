@@ -170,18 +170,18 @@ impl Inner {
         locked(&self.directory).clone()
     }
 
-    /// Replaces the directory, if `next` makes another of it.
-    pub(super) fn replace(&self, next: impl Fn(&Directory) -> Result<Option<Shared<Directory>>, Error>) -> Result<bool, Error> {
+    /// Replaces the directory, if `next` makes another of it. Returns the one that was replaced.
+    pub(super) fn replace(&self, next: impl Fn(&Directory) -> Result<Option<Shared<Directory>>, Error>) -> Result<Option<Shared<Directory>>, Error> {
         loop {
             // made without the lock, so that nobody waits for that
             let old = self.directory();
-            let Some(next) = next(&old)? else { return Ok(false) };
+            let Some(next) = next(&old)? else { return Ok(None) };
             let mut directory = locked(&self.directory);
             if directory.version == old.version {
                 // nobody gets the next directory before its version is stored, since this call has the lock
                 self.state.version.store(next.version, SeqCst);
                 *directory = next;
-                return Ok(true);
+                return Ok(Some(old));
             }
         }
     }

@@ -194,12 +194,9 @@ impl Seats {
         copied.ok()?.ok()
     }
 
+    /// Gives the pass up of a part that isn't the map's any more, or won't be.
     pub(super) fn leave(&mut self, part: &Part) {
         self.seats.remove(&part.tree);
-    }
-
-    pub(super) fn leave_all(&mut self) {
-        self.seats = HashMap::default();
     }
 }
 

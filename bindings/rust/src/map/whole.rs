@@ -20,18 +20,16 @@ impl Inner {
     /// Removes all pairs at one moment, while no update is under way. A growth under way finds at its end that its parts are gone.
     pub(super) fn clear(&self) -> Result<(), Error> {
         let part = Part::open(0, u64::MAX, self.first_words, Vec::new())?;
-        // so that the trees are freed at the end of this call, when it has no lock
-        let old = self.directory();
-        self.hold(|| {
+        let old = self.hold(|| {
             let next = |directory: &Directory| Directory::of(directory.version + 1, from_ref(&part)).map(Some);
-            self.replace(next)?;
+            let old = self.replace(next)?;
             self.count_no_keys();
             // the parts of a snapshot that is taken don't change any more, so what follows needs no record
             self.set_watched(false);
-            Ok::<(), Error>(())
+            Ok::<_, Error>(old)
         })?;
-        self.sweep(|passes| passes.seats.leave_all());
-        drop(old);
+        let left = || old.iter().flat_map(|old| old.parts(0, u64::MAX));
+        self.sweep(|passes| left().for_each(|part| passes.seats.leave(part)));
         Ok(())
     }
 
