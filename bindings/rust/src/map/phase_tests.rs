@@ -27,10 +27,12 @@ where
     set_hook(map, move |at| {
         if at == step && left.swap(0, SeqCst) == 1 {
             told_by_hook.send(true).unwrap();
-            released.lock().unwrap().recv().unwrap();
+            _ = released.lock().unwrap().recv();
         }
     });
-    scope(|scope| {
+    // moved, so that the call goes on also if an assertion fails
+    scope(move |scope| {
+        let release = release;
         let caller = scope.spawn(move || {
             let reply = call();
             _ = told.send(false);
