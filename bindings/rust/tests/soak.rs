@@ -1,6 +1,7 @@
 //! Threads strain one map for as many minutes as `LUSKADORV_SOAK` names, by hand; without it, for a second. They put, remove and
-//! exchange keys of their own, which only they change, and keys that all share; they read ranges, and the map grows, is cleared of
-//! shared keys, and grows again. Each thread compares its own keys with a `BTreeMap`.
+//! exchange keys of their own, which only they change, and keys that all share; they read ranges, take snapshots and shrink the map, which
+//! grows, is cleared of shared keys, and grows again. Each thread compares its own keys with a `BTreeMap`. Half of the time the map is one
+//! that grows, splits and merges all the time.
 
 mod common;
 
@@ -37,18 +38,28 @@ fn strain(map: &Map, thread: u64, seed: u64, is_over: &AtomicBool, calls: &Atomi
                 _ => _ = map.get(draws.below(50)),
             }
         }
-        assert!(map.range(low..high).eq(model.iter().map(|(key, value)| (*key, *value))), "seed {seed}");
+        let own = || model.iter().map(|(key, value)| (*key, *value));
+        match draws.below(100) {
+            0 => map.shrink_to_fit(),
+            1..10 => assert!(map.snapshot(low..high).unwrap().into_iter().eq(own()), "seed {seed}"),
+            _ => assert!(map.range(low..high).eq(own()), "seed {seed}"),
+        }
         calls.fetch_add(1000, Ordering::Relaxed);
     }
     model
 }
 
 #[test]
-fn threads_strain_a_map() {
+fn threads_strain_maps() {
     let minutes = number("LUSKADORV_SOAK", 0);
     let time = if minutes == 0 { Duration::from_secs(1) } else { Duration::from_secs(60 * minutes) };
     let seed = number("LUSKADORV_SEED", 1);
-    let (map, is_over, calls) = (Map::with_words(1000).unwrap(), AtomicBool::new(false), AtomicU64::new(0));
+    strain_by_threads(Map::with_words(1000).unwrap(), time / 2, seed);
+    strain_by_threads(Map::strained(1000).unwrap(), time / 2, seed);
+}
+
+fn strain_by_threads(map: Map, time: Duration, seed: u64) {
+    let (is_over, calls) = (AtomicBool::new(false), AtomicU64::new(0));
     let models: Vec<_> = scope(|scope| {
         let (map, is_over, calls) = (&map, &is_over, &calls);
         let threads: Vec<_> = (0..THREADS).map(|thread| scope.spawn(move || strain(map, thread, seed, is_over, calls))).collect();

@@ -126,6 +126,9 @@ impl Inner {
         self.reached(Step::Watched);
         let mut pairs = Vec::new();
         let mut list = || {
+            // at once, since other threads may wait for the system while a long list is moved
+            let about = directory.parts(first, last).map(|part| part.pairs.len() + part.pairs.len() / 8).sum();
+            pairs.try_reserve(about).map_err(|_| Error::Memory)?;
             directory.parts(first, last).try_for_each(|part| {
                 let mut pass = part.pass()?;
                 append_listed(&mut pairs, (first, last), |first, last, room| pass.list(first, last, room))
