@@ -8,7 +8,6 @@ use super::slots::{Passes, Slot};
 use super::watch::Watch;
 use crate::Error;
 use crate::shared::Shared;
-use std::iter::repeat_n;
 use std::sync::atomic::Ordering::{Relaxed, SeqCst};
 use std::sync::atomic::{AtomicU8, AtomicU64, AtomicUsize};
 use std::sync::{Mutex, MutexGuard};
@@ -115,12 +114,20 @@ impl Inner {
     /// A slot that no other call has, with the directory as it was at a moment since the slot was locked.
     pub(super) fn slot(&self) -> (&Slot, MutexGuard<'_, Passes>) {
         let own = thread_number() % SLOTS;
-        // the thread's own slot, which a sweep may have for a moment, or the next one that no call has, or its own after waiting for it
-        let tries = repeat_n(own, OWN_TRIES).chain(own + 1..SLOTS).chain(0..own);
-        let free = { tries }.find_map(|at| Some((at, self.slots[at].try_lock()?)));
-        let (at, mut passes) = free.unwrap_or_else(|| (own, self.slots[own].lock()));
+        // a sweep may have it for a moment
+        let (at, mut passes) = match (0..OWN_TRIES).find_map(|_| self.slots[own].try_lock()) {
+            Some(passes) => (own, passes),
+            None => self.other_slot(own),
+        };
         self.turn(&mut passes);
         (&self.slots[at], passes)
+    }
+
+    // The next slot that no call has, or the own one after waiting for it.
+    #[cold]
+    fn other_slot(&self, own: usize) -> (usize, MutexGuard<'_, Passes>) {
+        let free = (own + 1..SLOTS).chain(0..own).find_map(|at| Some((at, self.slots[at].try_lock()?)));
+        free.unwrap_or_else(|| (own, self.slots[own].lock()))
     }
 
     // Lets the slot go by the map's directory.

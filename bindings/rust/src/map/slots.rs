@@ -151,6 +151,7 @@ pub(super) struct Seats {
 
 impl Seats {
     /// The seat at this part's tree.
+    #[inline]
     pub(super) fn seat(&mut self, part: &Part) -> Result<&mut Seat, Error> {
         if !self.seats.contains_key(&part.tree) {
             self.sit(part)?;
