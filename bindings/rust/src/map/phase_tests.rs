@@ -8,6 +8,7 @@ use std::sync::Mutex;
 use std::sync::atomic::{AtomicUsize, Ordering::SeqCst};
 use std::sync::mpsc::{Sender, channel};
 use std::thread::scope;
+use std::time::Duration;
 
 const GROWING: [Step; 5] = [Step::Begun, Step::Opened, Step::Mirroring, Step::Stopped, Step::Replaced];
 
@@ -109,6 +110,44 @@ fn updates_of_a_stopped_part_wait_and_are_then_made() {
     };
     while_held(&map, Step::Stopped, || grow(&map), update_and_read);
     assert!(map.range(8..16).eq([(8, 4), (10, 77), (13, 79), (14, 7)]));
+}
+
+#[test]
+fn the_next_step_waits_for_the_calls_that_have_slots() {
+    // the step before, the next one, and a call that goes from one to the other
+    let cases: [(Option<Step>, Step, fn(&Map)); 5] = [
+        (None, Step::Begun, grow),
+        (Some(Step::Opened), Step::Mirroring, grow),
+        (Some(Step::Mirroring), Step::Stopped, grow),
+        (None, Step::Held, Map::clear),
+        (None, Step::Held, |map| _ = map.snapshot(..)),
+    ];
+    for (before, next, call) in cases {
+        let map = one_part();
+        let ((told, steps), (release, released)) = (channel(), channel());
+        let released = Mutex::new(released);
+        set_hook(&map, move |step| {
+            _ = told.send(step);
+            if Some(step) == before {
+                _ = released.lock().unwrap().recv();
+            }
+        });
+        scope(|scope| {
+            let release = release;
+            let start = || scope.spawn(|| call(&map));
+            let caller = before.map(|_| start());
+            while before.is_some() && steps.recv().ok() != before {}
+            let (_, passes) = map.inner.slot();
+            _ = release.send(());
+            let caller = caller.unwrap_or_else(start);
+            // long enough for a call that doesn't wait
+            assert!(steps.recv_timeout(Duration::from_millis(100)).is_err(), "{before:?} to {next:?}");
+            drop(passes);
+            assert_eq!(steps.recv(), Ok(next));
+            drop(release);
+            caller.join().unwrap();
+        });
+    }
 }
 
 #[test]
