@@ -220,7 +220,7 @@ impl Map {
     }
 
     /// Removes all pairs, at one moment: updates wait meanwhile for some microseconds. (`SkipMap::clear` removes one pair after another.)
-    /// The memory is given back, except for that of an empty map.
+    /// The memory is given back to the allocator, except for that of an empty map.
     ///
     /// # Panics
     ///
@@ -235,8 +235,9 @@ impl Map {
         self.inner.clear().expect("there is memory for an empty map");
     }
 
-    /// Gives memory back that the pairs don't ask for: merges small parts, and moves parts to trees with as few words as they may have. It
-    /// waits as a growing update does, and other calls go on as while the map grows. If memory runs out, some parts stay as they are.
+    /// Gives memory back to the allocator that the pairs don't ask for: merges small parts, and moves parts to trees with as few words as
+    /// they may have. It waits as a growing update does, and other calls go on as while the map grows. If memory runs out, or another call
+    /// grows a part, some parts stay as they are.
     ///
     /// ```
     /// let map: luskadorv::Map = (0..10_000).map(|key| (key, key)).collect();
