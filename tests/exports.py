@@ -69,7 +69,7 @@ def functions(text, kind):
     for it in re.findall(head, text):
         result, name, said = it if kind == "c" else (it[2], it[0], it[1])
         result = word(result, kind) if result else "nothing"
-        parameters = ", ".join(word(it, kind) for _, it in fields_of(said, kind))
+        parameters = ", ".join(word(it, kind) for _, it in fields_of("" if said == "void" else said, kind))
         yield f"{name}({parameters}) -> {result}"
 
 

@@ -50,12 +50,14 @@ class NotBuilt(Exception):
 
 # Held while a line is written, so that no other comes into it.
 SPEAKING = threading.RLock()
+# What each line begins with.
+SPEAKER = "tele"
 
 
 def say(text):
     with SPEAKING:
         clear_line()
-        print(f"tele: {text}", file=sys.stderr, flush=True)
+        print(f"{SPEAKER}: {text}", file=sys.stderr, flush=True)
 
 
 def clear_line():
@@ -108,6 +110,7 @@ class Source:
         self.names = [*below(program, lines), program]
         self.lines = {it: lines[it] for it in self.names}
         self.below = {it: below(it, lines) for it in self.names}
+        self.kind = "program" if (top / "crates" / program / "src" / "main.rt").is_file() else "library"
         handles = top / "HANDLES"
         self.handles = handles.read_bytes() if handles.is_file() else b""
         self.files = {it: files_of(top / "crates" / it) for it in self.names}
@@ -366,7 +369,7 @@ class Proof(threading.Thread):
     def words(self):
         """Returns the words for `rt`: one command proves the crate, says how far it is, and builds its library or program."""
         jobs = ["--jobs", str(self.jobs)]
-        if self.name_of == self.room.source.program:
+        if self.name_of == self.room.source.program and self.room.source.kind == "program":
             # `rt` also runs what it built, here with an argument that most programs refuse at once.
             return ["run", *jobs, "--", "--help"]
         return ["lib", *jobs]
@@ -503,13 +506,13 @@ class Shown:
         self.next, self.width = time.time() + 15, 0
         number, most = build.number, min(build.most, build.processors)
         beside = f", up to {most} side by side" if most > 1 and number > 1 else ""
-        say(f"the program is proved before it is built, once: {number} crate{'s' * (number > 1)}{beside}, up to half an hour")
+        say(f"the {build.source.kind} is proved before it is built, once: {number} crate{'s' * (number > 1)}{beside}, up to half an hour")
         say(f"log: {build.room.logs}")
 
     def text(self):
         build, gone = self.build, int(time.time() - self.build.begun)
         done = build.number - len(build.waiting) - len(build.running)
-        name = lambda it: "the program itself" if it == build.source.program else it
+        name = lambda it: f"the {build.source.kind} itself" if it == build.source.program else it
         parts = [name(it.name_of) + (f" ({it.done} of {it.all})" if it.all else "") for it in build.running]
         return f"{gone // 60}:{gone % 60:02}  {done} of {build.number} crates" + f"; proving {', '.join(parts)}" * bool(parts)
 
@@ -518,7 +521,7 @@ class Shown:
             # A line is left out rather than waited for.
             if SPEAKING.acquire(blocking=False):
                 wide = shutil.get_terminal_size((100, 24)).columns - 1
-                print(f"\r\033[K{('tele: ' + self.text())[:wide]}", end="", file=sys.stderr, flush=True)
+                print(f"\r\033[K{f'{SPEAKER}: {self.text()}'[:wide]}", end="", file=sys.stderr, flush=True)
                 SPEAKING.release()
         elif self.build.running and (is_due or time.time() >= self.next):
             say(self.text())
@@ -534,7 +537,7 @@ def in_turn(room):
     try:
         fcntl.flock(lock, fcntl.LOCK_EX | fcntl.LOCK_NB)
     except BlockingIOError:
-        say("another call is building the program; waiting for it")
+        say("another call is building; waiting for it")
         fcntl.flock(lock, fcntl.LOCK_EX)
     return lock
 
@@ -589,7 +592,7 @@ def ended(call):
     try:
         return call()
     except NotBuilt as why:
-        say(f"not built: {why}".replace("\n", "\ntele: "))
+        say(f"not built: {why}".replace("\n", f"\n{SPEAKER}: "))
         return NOT_BUILT
     except Stopped as why:
         say("stopped; the next call goes on from here")

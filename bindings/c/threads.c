@@ -53,7 +53,7 @@ static void *work(void *argument) {
 
 static void share(void) {
     ist_owner owner = {0};
-    check(ist_open(WORDS, (ist_entry[1]){{0}}, 0, &owner) == IST_DONE, 1);
+    check(ist_open(WORDS, NULL, 0, &owner) == IST_DONE, 1);
     struct worker workers[THREADS] = {0};
     pthread_t threads[THREADS];
     for (int i = 0; i < THREADS; i++) {
@@ -99,7 +99,7 @@ static void *count_up(void *argument) {
 static void raise_one(void) {
     ist_owner owner = {0};
     ist_shortage why;
-    check(ist_open(WORDS, (ist_entry[1]){{0}}, 0, &owner) == IST_DONE, 30);
+    check(ist_open(WORDS, NULL, 0, &owner) == IST_DONE, 30);
     struct worker workers[THREADS] = {0};
     pthread_t threads[THREADS];
     for (int i = 0; i < THREADS; i++) {

@@ -6,8 +6,9 @@
  * ordered by a lock, by the start or the join of a thread, or by a sequentially consistent atomic. Each thread calls the
  * tree by a pass of its own, at the same time as others.
  *
- * Pointers are never null. A call whose comment says `same tree` doesn't test that both handles are of one tree: the
- * caller sees to it. No call may be made in a signal handler, or in a process forked by one that has threads. */
+ * Pointers are never null, except that of a list or a room with 0 elements. A call whose comment says `same tree` doesn't
+ * test that both handles are of one tree: the caller sees to it. No call may be made in a signal handler, or in a process
+ * forked by one that has threads. */
 #ifndef IST_H
 #define IST_H
 
@@ -20,6 +21,13 @@
 #ifdef __cplusplus
 extern "C" {
 #endif
+
+/* The version of this header, as text and as a number: 10000 for the first part, 100 for the second, 1 for the third. */
+#define IST_VERSION "0.1.0"
+#define IST_VERSION_NUMBER 100
+
+/* Returns the IST_VERSION_NUMBER of the library that the program runs with. */
+uint32_t ist_version(void);
 
 /* What a call returns. */
 enum ist_status {
