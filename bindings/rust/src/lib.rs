@@ -31,12 +31,16 @@
 mod errors;
 #[allow(unsafe_code)]
 mod ffi;
+mod keys;
 mod map;
 #[allow(unsafe_code)]
 mod shared;
 mod tree;
+mod typed;
 
 pub use errors::{Error, Full, Kept};
 pub use ffi::{Pair, Stats};
+pub use keys::{Key, Value};
 pub use map::{Map, Range};
 pub use tree::{Exchanged, Note, Pass, Shot, Tree, shot_words, words_for};
+pub use typed::{TypedMap, TypedRange};
