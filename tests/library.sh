@@ -122,6 +122,17 @@ run --wait
 expect "which a call that waits replaces" "$status $(kind "$archive") $(calls lib)" "0 proved 1 2"
 
 fresh
+STUB_HELD=$all/never run
+proof=$(sed -n 's/.*`kill \([0-9]*\)` stops it.*/\1/p' "$all/err")
+for _ in $(seq 100); do [ "$(calls lib)" = 0 ] || break; sleep 0.1; done
+kill "$proof"
+for _ in $(seq 100); do kill -0 "$proof" 2>/dev/null || break; sleep 0.1; done
+has "a proof that is stopped says so" "$(cat "$TELE_BUILD/logs/library.log")" "stopped; the next call goes on from here"
+expect "and leaves what was there" "$(kind "$archive")" "unproved 2"
+run --wait
+expect "a later call proves" "$status $(kind "$archive") $(calls lib)" "0 proved 1 2"
+
+fresh
 LUSKADORV_WAIT=1 run
 expect "a call that waits makes no unproved build" "$status $(kind "$archive") $(calls try)" "0 proved 1 0"
 

@@ -4,7 +4,7 @@ and free that the kit brings, and bindings/c/version.c. All names in it are loca
 
     python3 tools/library.py [--wait | --no-proof] [FOLDER]
 
-FOLDER is out/ at the top if none is named. It is a relative or absolute path, and its last line of standard output is the archive's.
+FOLDER is out/ at the top if none is named. Standard output gets the path of the archive.
 
 A proved library is taken if there is one of these very sources: the one that `rt ci` or `rt lib` left, or one that was proved here.
 If there is none, an unproved build is made in a minute. Then libluskadorv.a is a link to libluskadorv-unproved.a, which has the

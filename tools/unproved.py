@@ -20,6 +20,8 @@ sys.dont_write_bytecode = True
 import build
 
 CRATE = "ist_c"
+# The scripts of a kit are smaller, in bytes, and its programs larger.
+MOST_OF_A_SCRIPT = 1 << 18
 # What `main` passes for a parameter, by its type. Handles alternate between two, which are empty.
 ARGUMENTS = {
     "Global": "alloc", "u32": "0", "u64": "0", "&mut u64": "&mut number", "&mut Shortage": "&mut short", "&mut Piece": "&mut piece",
@@ -129,7 +131,7 @@ def lay_kit(folder, kit):
             if to.exists():
                 continue
             # `rt` looks for its kit from where it is itself.
-            if part == "bin" and (it.suffix == ".py" or it.read_bytes()[:2] == b"#!"):
+            if part == "bin" and it.stat().st_size < MOST_OF_A_SCRIPT:
                 shutil.copy(it, to)
             elif it.name != "clang":
                 to.symlink_to(it)
