@@ -91,6 +91,19 @@ void read_in_order() {
     check(other.find(30) == 3, "a pass that was moved");
 }
 
+/* Passes and shots that are given back serve again. */
+void take_turns() {
+    ist::tree tree(20000, {{5, 50}});
+    for (int turn = 0; turn < 1000; turn++) {
+        ist::pass one(tree), two(tree);
+        check(one.find(5) == 50 && two.put(5, 50).before == 50, "a pass that served before");
+        if (turn % 100 == 0) check(ist::shot(tree, 0).size() == 1, "a shot by such a pass");
+        check(tree.reopen(20000) == IST_BUSY, "a pass that is out");
+    }
+    check(tree.reopen(20000) == IST_DONE && ist::pass(tree).find(5) == 50, "all are back");
+    check(tree.close() == IST_DONE && tree.pairs()->size() == 1, "also the one that was made since");
+}
+
 /* A pass and a shot outlive the object of their tree. */
 void outlive() {
     std::optional<ist::tree> tree(std::in_place, 1000, std::vector<ist::entry>{{5, 50}});
@@ -118,6 +131,7 @@ int main(int count, char **words) {
     share(count > 1 ? std::strtoull(words[1], nullptr, 10) : 1000);
     go_on();
     read_in_order();
+    take_turns();
     outlive();
     refused(IST_SMALL, [] { ist::tree(3); });
     refused(IST_MISUSE, [] { ist::tree(UINT32_MAX); });

@@ -79,8 +79,12 @@ impl Handle {
     }
 }
 
-// SAFETY: that the handle's type can be sent to another thread is proved in `ist_c` (`Opaque`). It isn't `Sync`, and needn't
-// be: each call takes it by `&mut`.
+// SAFETY: that the handle's type can be sent to another thread is proved in `ist_handles` (`Opaque`). A handle is moved and never
+// shared: each call takes it by `&mut`, so it needn't be `Sync`. What it points to is plain memory that only its holder reads and
+// writes, which any move of safe Rust orders, be it by a channel or by an atomic with release and acquire. What threads share
+// besides are words and counts that the library reads and writes by sequentially consistent atomics alone. Their one order has the
+// steps that a thread made before such a move before those made after it (in C++20, on which Rust's atomics rest, they strongly
+// happen before them), as it would have if the move were one of these steps.
 unsafe impl Send for Handle {}
 
 impl Drop for Handle {
@@ -134,7 +138,7 @@ fn replied(called: CallResult, why: Shortage) -> Result<Option<u64>, Full> {
     if called.status == FULL {
         return Err(Full { next: why.next, asked: why.asked, words: why.words });
     }
-    debug_assert_eq!(called.status, DONE);
+    assert_eq!(called.status, DONE, "the status of an update");
     Ok(called.some.then_some(called.value))
 }
 
@@ -144,7 +148,7 @@ pub(crate) fn words_for(pairs: u64) -> u64 {
     unsafe { ist_words_for(pairs) }
 }
 
-/// How many words a shot of this many pairs takes at most, if one pass does all the work; 0 if there are 2^32 or more.
+/// How many words a shot of this many pairs takes by reckoning, if one pass does all the work; 0 if there are 2^32 or more.
 pub(crate) fn shot_words(pairs: u64) -> u64 {
     // SAFETY: it asks for nothing.
     unsafe { ist_shot_words(pairs) }
@@ -165,6 +169,9 @@ pub(crate) struct Owner {
     is_open: bool,
     // The handle holds the pairs that are left.
     is_listed: bool,
+    // How many passes of this tree were made, and those of them that were given back, which serve again.
+    made: u32,
+    spare: Vec<Handle>,
 }
 
 // The pairs in increasing order of keys, of two with one key the later. The library sorts too, but in quadratic time.
@@ -188,7 +195,7 @@ impl Owner {
         let mut handle = Handle::new();
         // SAFETY: pointer and length are those of one slice, and `handle` is the call's alone.
         checked(unsafe { ist_open(words, pairs.as_ptr(), pairs.len(), &mut handle) })?;
-        Ok(Owner { handle, tree: next_number(), is_open: true, is_listed: false })
+        Ok(Owner { handle, tree: next_number(), is_open: true, is_listed: false, made: 0, spare: Vec::new() })
     }
 
     /// The number of its tree.
@@ -196,27 +203,47 @@ impl Owner {
         self.tree
     }
 
-    /// Makes a pass.
+    /// Returns a pass: one that was given back if there is one, and else a new one.
     pub(crate) fn pass(&mut self) -> Result<PassHandle, Error> {
         if !self.is_open {
             return Err(Error::Closed);
         }
-        let mut handle = Handle::new();
-        // SAFETY: both handles are the call's alone.
-        checked(unsafe { ist_new_pass(&mut self.handle, &mut handle) })?;
+        let handle = match self.spare.pop() {
+            Some(handle) => handle,
+            None => self.make()?,
+        };
         Ok(PassHandle { handle, tree: self.tree })
     }
 
-    /// Gives a pass back.
+    fn make(&mut self) -> Result<Handle, Error> {
+        let made = self.made.checked_add(1).ok_or(Error::Passes)?;
+        // so that giving passes back takes no memory
+        self.spare.try_reserve(made as usize - self.spare.len()).map_err(|_| Error::Memory)?;
+        let mut handle = Handle::new();
+        // SAFETY: both handles are the call's alone.
+        checked(unsafe { ist_new_pass(&mut self.handle, &mut handle) })?;
+        self.made = made;
+        Ok(handle)
+    }
+
+    /// Gives a pass back, which serves again.
     ///
     /// # Panics
     ///
     /// If the pass is of another tree.
-    pub(crate) fn give_back(&mut self, mut pass: PassHandle) {
+    pub(crate) fn give_back(&mut self, pass: PassHandle) {
         assert_eq!(self.tree, pass.tree, "the pass is of another tree");
-        // SAFETY: both handles are the call's alone, and of the tree with one number.
-        let status = unsafe { ist_give_back(&mut self.handle, &mut pass.handle) };
-        debug_assert_eq!(status, DONE);
+        self.spare.push(pass.handle);
+    }
+
+    // Gives the library back what was given back, as it wants before it closes the tree.
+    fn give_back_all(&mut self) {
+        for mut pass in self.spare.drain(..) {
+            // SAFETY: both handles are the call's alone, and of one tree: `give_back` compared the numbers, and the owner's changes
+            // only when all passes are back.
+            let status = unsafe { ist_give_back(&mut self.handle, &mut pass) };
+            assert_eq!(status, DONE);
+        }
     }
 
     /// Closes the tree, and opens one of its pairs with this many words. If that fails for want of words or of memory the
@@ -225,11 +252,13 @@ impl Owner {
         if words > MOST_WORDS {
             return Err(Error::Words);
         }
+        self.give_back_all();
         // SAFETY: the handle is the call's alone.
         let status = unsafe { ist_reopen(&mut self.handle, words) };
         match status {
             DONE => {
                 self.tree = next_number();
+                self.made = 0;
                 self.is_open = true;
             }
             MEMORY | SMALL => self.is_open = false,
@@ -241,6 +270,7 @@ impl Owner {
     /// Closes the tree, and returns its pairs in increasing order of keys, and how far it was filled. If that fails, nothing is lost, and
     /// the call may be made again.
     pub(crate) fn close(&mut self) -> Result<(Vec<Pair>, Stats), Error> {
+        self.give_back_all();
         let mut stats = Stats::default();
         if !self.is_listed {
             // SAFETY: the handle is the call's alone, here and in the calls below, and so is `stats`.
@@ -258,7 +288,7 @@ impl Owner {
         let mut count = 0;
         // SAFETY: pointer and length are those of one slice, and `count` is the call's alone.
         checked(unsafe { ist_list(owner, 0, pairs.as_mut_ptr(), pairs.len(), &mut count) })?;
-        debug_assert_eq!(count, stats.keys);
+        assert_eq!(count, stats.keys);
         Ok((pairs, stats))
     }
 }
@@ -273,7 +303,7 @@ impl PassHandle {
     pub(crate) fn find(&mut self, key: u64) -> Option<u64> {
         // SAFETY: the handle is the call's alone.
         let called = unsafe { ist_find(&mut self.handle, key) };
-        debug_assert_eq!(called.status, DONE);
+        assert_eq!(called.status, DONE);
         called.some.then_some(called.value)
     }
 
@@ -312,7 +342,7 @@ impl PassHandle {
         let mut found = Pair::default();
         // SAFETY: the handle is the call's alone, and so is `found`.
         let status = unsafe { ist_at_least(&mut self.handle, key, &mut found) };
-        debug_assert!(status == DONE || status == NO_KEY);
+        assert!(status == DONE || status == NO_KEY);
         (status == DONE).then_some(found)
     }
 
@@ -321,7 +351,7 @@ impl PassHandle {
         let mut found = Pair::default();
         // SAFETY: the handle is the call's alone, and so is `found`.
         let status = unsafe { ist_at_most(&mut self.handle, key, &mut found) };
-        debug_assert!(status == DONE || status == NO_KEY);
+        assert!(status == DONE || status == NO_KEY);
         (status == DONE).then_some(found)
     }
 
@@ -335,7 +365,7 @@ impl PassHandle {
         let (at, rooms) = (room.as_mut_ptr(), room.len());
         // SAFETY: pointer and length are those of one slice, and the handle and `piece` are the call's alone.
         let status = unsafe { ist_list_range(&mut self.handle, first, last, at, rooms, &mut piece) };
-        debug_assert_eq!(status, DONE);
+        assert_eq!(status, DONE);
         (piece.count as usize, piece.more.then_some(piece.next))
     }
 
@@ -344,7 +374,7 @@ impl PassHandle {
         let mut why = Shortage::default();
         // SAFETY: the handle is the call's alone, and so is `why`.
         let status = unsafe { ist_take_shot(&mut self.handle, u64::MAX, &mut why) };
-        debug_assert_eq!(status, FULL);
+        assert_eq!(status, FULL);
         why.next
     }
 
@@ -357,7 +387,7 @@ impl PassHandle {
         if status == FULL {
             return Err((self, Full { next: why.next, asked: why.asked, words: why.words }));
         }
-        debug_assert_eq!(status, DONE);
+        assert_eq!(status, DONE);
         Ok(ShotHandle { handle: self.handle, tree: self.tree })
     }
 
@@ -378,7 +408,7 @@ impl PassHandle {
         assert_eq!(self.tree, note.tree, "the note is of another tree");
         // SAFETY: both handles are the call's alone, and of the tree with one number.
         let status = unsafe { ist_meet(&mut self.handle, &mut note.handle) };
-        debug_assert_eq!(status, DONE);
+        assert_eq!(status, DONE);
     }
 }
 
@@ -394,7 +424,7 @@ impl ShotHandle {
         let mut count = 0;
         // SAFETY: the handle is the call's alone, and so is `count`.
         let status = unsafe { ist_count_shot(&mut self.handle, &mut count) };
-        debug_assert_eq!(status, DONE);
+        assert_eq!(status, DONE);
         count
     }
 
@@ -407,7 +437,7 @@ impl ShotHandle {
         let (at, rooms) = (room.as_mut_ptr(), room.len());
         // SAFETY: pointer and length are those of one slice, and the handle and `piece` are the call's alone.
         let status = unsafe { ist_list_shot(&mut self.handle, first, last, at, rooms, &mut piece) };
-        debug_assert_eq!(status, DONE);
+        assert_eq!(status, DONE);
         (piece.count as usize, piece.more.then_some(piece.next))
     }
 
@@ -415,7 +445,7 @@ impl ShotHandle {
     pub(crate) fn into_pass(mut self) -> PassHandle {
         // SAFETY: the handle is the call's alone.
         let status = unsafe { ist_drop_shot(&mut self.handle) };
-        debug_assert_eq!(status, DONE);
+        assert_eq!(status, DONE);
         PassHandle { handle: self.handle, tree: self.tree }
     }
 }
@@ -424,4 +454,54 @@ impl ShotHandle {
 pub(crate) struct NoteHandle {
     handle: Handle,
     tree: TreeNumber,
+}
+
+#[cfg(test)]
+mod tests {
+    use super::Owner;
+    use crate::Error;
+
+    #[test]
+    fn passes_that_are_given_back_serve_again() {
+        let mut owner = Owner::open(1000, &[]).unwrap();
+        let out: Vec<_> = (0..3).map(|_| owner.pass().unwrap()).collect();
+        out.into_iter().for_each(|pass| owner.give_back(pass));
+        for _ in 0..100 {
+            let (one, two) = (owner.pass().unwrap(), owner.pass().unwrap());
+            owner.give_back(two);
+            owner.give_back(one);
+        }
+        assert_eq!((owner.made, owner.spare.len()), (3, 3));
+        owner.reopen(2000).unwrap();
+        assert_eq!((owner.made, owner.spare.len()), (0, 0));
+        let pass = owner.pass().unwrap();
+        owner.give_back(pass);
+        assert_eq!(owner.close().map(|(pairs, _)| pairs), Ok(vec![]));
+    }
+
+    #[test]
+    fn passes_run_out_with_an_error_of_its_own() {
+        let mut owner = Owner::open(1000, &[]).unwrap();
+        let pass = owner.pass().unwrap();
+        owner.made = u32::MAX;
+        assert_eq!(owner.pass().err(), Some(Error::Passes));
+        owner.give_back(pass);
+        let again = owner.pass().unwrap();
+        owner.give_back(again);
+        assert_eq!(owner.reopen(1000), Ok(()));
+        assert!(owner.pass().is_ok());
+    }
+
+    #[test]
+    fn a_pass_that_is_leaked_keeps_the_tree_open() {
+        let mut owner = Owner::open(1000, &[]).unwrap();
+        let (kept, leaked) = (owner.pass().unwrap(), owner.pass().unwrap());
+        std::mem::forget(leaked);
+        owner.give_back(kept);
+        assert_eq!(owner.reopen(1000), Err(Error::Leaked));
+        let mut pass = owner.pass().unwrap();
+        assert_eq!(pass.update(7, Some(70)), Ok(None));
+        owner.give_back(pass);
+        assert_eq!(owner.close().err(), Some(Error::Leaked));
+    }
 }

@@ -108,7 +108,11 @@ impl Tree {
         self.owner.lock().unwrap_or_else(PoisonError::into_inner)
     }
 
-    /// Makes a pass, for one thread. It is given back when it is dropped.
+    /// Returns a pass, for one thread. It is given back when it is dropped, and then serves again: so a tree hands out any number of
+    /// passes over time, and up to 2^32 - 1 at a time, beyond which this is [`Error::Passes`]. The same goes for shots, which have a
+    /// pass each.
+    ///
+    /// A pass that served before has seen all that it saw then, and so its calls come after those.
     pub fn pass(&self) -> Result<Pass<'_>, Error> {
         let pass = self.owner().pass()?;
         Ok(Pass { tree: self, pass: Some(pass) })

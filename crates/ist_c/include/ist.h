@@ -1,10 +1,12 @@
 /* An ordered map from 64-bit keys to 64-bit values that threads share without locks.
  *
  * A handle starts as zeros:   ist_owner owner = {0};
- * It holds something while `full` is set. Its fields belong to the library: a caller never writes or copies a handle,
- * and never gives one handle to two calls at a time, nor one handle twice to one call. It may go from thread to thread,
- * ordered by a lock, by the start or the join of a thread, or by a sequentially consistent atomic. Each thread calls the
- * tree by a pass of its own, at the same time as others.
+ * It holds something while `full` is set. Its fields belong to the library: a caller never writes them, may move a handle by
+ * copying it and forgetting the old one, and never gives one handle to two calls at a time, nor one handle twice to one call.
+ * It may go from thread to thread by whatever orders their memory: a lock, the start or the join of a thread, a channel, an
+ * atomic with release and acquire. (Only its holder uses what it points to. The words that threads share are sequentially
+ * consistent atomics, and have the steps before such a move before those after it.) Each thread calls the tree by a pass of
+ * its own, at the same time as others.
  *
  * Pointers are never null, except that of a list or a room with 0 elements. A call whose comment says `same tree` doesn't
  * test that both handles are of one tree: the caller sees to it. No call may be made in a signal handler, or in a process
@@ -67,7 +69,8 @@ uint64_t ist_words_for(uint64_t pairs);
  * memory is allocated here. */
 uint32_t ist_open(uint32_t words, const ist_entry *entries, size_t count, ist_owner *out);
 
-/* Makes a new pass. The status is IST_MEMORY also if 2^32 - 1 were made. */
+/* Makes a new pass. The status is IST_MEMORY also if 2^32 - 1 were made since the tree was opened, whether or not they were
+ * given back: so keep a pass for the next thread rather than make one for each task. */
 uint32_t ist_new_pass(ist_owner *owner, ist_pass *out);
 
 /* Finds the key. Like all calls on keys it never blocks, allocates nothing, and always returns. */

@@ -6,8 +6,8 @@
  *     std::optional<std::uint64_t> value = pass.find(7);
  *
  * Objects are moved and never copied. Each thread calls the tree by a pass of its own. A `tree` may be used by several threads at
- * a time, a pass, a note or a shot by one. A pass or a shot gives itself back when it is destroyed; the memory of a tree is freed
- * with the last object of it. An object that was moved from may only be assigned to or destroyed.
+ * a time, a pass, a note or a shot by one. A pass or a shot gives itself back when it is destroyed, and then serves again: up to
+ * 2^32 - 1 may exist at a time. The memory of a tree is freed with the last object of it. An object that was moved from may only be assigned to or destroyed.
  *
  * Only constructors throw ist::error; other calls return what happened. What returns a vector may also throw std::bad_alloc. */
 #ifndef IST_HPP
@@ -68,9 +68,33 @@ inline std::optional<std::uint64_t> value_of(const ist_result &result) {
 struct owner {
     std::mutex lock;
     ist_owner handle = {};
+    std::size_t made = 0;        /* how many passes were made since the tree was opened */
+    std::vector<ist_pass> spare; /* those that were given back, which serve again */
     owner() = default;
     owner(const owner &) = delete;
-    ~owner() { ist_free(&handle); }
+    ~owner() {
+        for (ist_pass &it : spare) ist_free(&it);
+        ist_free(&handle);
+    }
+
+    ist_pass take() {
+        if (!spare.empty()) {
+            ist_pass pass = spare.back();
+            spare.pop_back();
+            return pass;
+        }
+        spare.reserve(made + 1); /* so that giving it back takes no memory */
+        ist_pass pass = {};
+        check(ist_new_pass(&handle, &pass));
+        made++;
+        return pass;
+    }
+
+    /* Gives all passes back to the library, which wants so before it closes the tree. */
+    void give_back_all() noexcept {
+        for (ist_pass &it : spare) ist_give_back(&handle, &it);
+        spare.clear();
+    }
 };
 
 /* A pass's handle, which goes back to its owner in the end. */
@@ -78,7 +102,7 @@ class lent {
 public:
     explicit lent(std::shared_ptr<owner> of) : owner_(std::move(of)) {
         std::lock_guard<std::mutex> guard(owner_->lock);
-        check(ist_new_pass(&owner_->handle, &handle));
+        handle = owner_->take();
     }
     lent(lent &&other) noexcept : handle(std::exchange(other.handle, {})), owner_(std::move(other.owner_)) {}
     lent &operator=(lent &&other) noexcept {
@@ -91,7 +115,7 @@ public:
         if (!owner_) return;
         std::lock_guard<std::mutex> guard(owner_->lock);
         ist_drop_shot(&handle); /* IST_MISUSE of a pass without a shot, which stays as it is */
-        ist_give_back(&owner_->handle, &handle);
+        owner_->spare.push_back(handle);
     }
     bool same_tree(const std::shared_ptr<owner> &other) const noexcept { return owner_ && owner_ == other; }
     const std::shared_ptr<owner> &of() const noexcept { return owner_; }
@@ -136,12 +160,16 @@ public:
      * pass, a note or a shot of it exists; after IST_SMALL or IST_MEMORY the pairs are kept, and it may be called again. */
     [[nodiscard]] std::uint32_t reopen(std::uint32_t words) noexcept {
         std::lock_guard<std::mutex> guard(owner_->lock);
-        return ist_reopen(&owner_->handle, words);
+        owner_->give_back_all();
+        std::uint32_t status = ist_reopen(&owner_->handle, words);
+        if (status == IST_DONE) owner_->made = 0;
+        return status;
     }
 
     /* Closes the tree. Returns IST_BUSY and IST_MEMORY as reopen does; the pairs are then kept. */
     [[nodiscard]] std::uint32_t close() noexcept {
         std::lock_guard<std::mutex> guard(owner_->lock);
+        owner_->give_back_all();
         return ist_close(&owner_->handle);
     }
 
