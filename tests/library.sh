@@ -91,7 +91,7 @@ kind() {
     echo "$name $?"
 }
 wait_for() {
-    for _ in $(seq 300); do [ "$(kind "$2")" != "$1" ] || return 0; sleep 0.1; done
+    for _ in $(seq 600); do [ "$(kind "$2")" != "$1" ] || return 0; sleep 0.1; done
     echo "waited in vain for $1" >&2
 }
 
@@ -124,9 +124,9 @@ expect "which a call that waits replaces" "$status $(kind "$archive") $(calls li
 fresh
 STUB_HELD=$all/never run
 proof=$(sed -n 's/.*`kill \([0-9]*\)` stops it.*/\1/p' "$all/err")
-for _ in $(seq 100); do [ "$(calls lib)" = 0 ] || break; sleep 0.1; done
+for _ in $(seq 600); do [ "$(calls lib)" = 0 ] || break; sleep 0.1; done
 kill "$proof"
-for _ in $(seq 100); do kill -0 "$proof" 2>/dev/null || break; sleep 0.1; done
+for _ in $(seq 600); do kill -0 "$proof" 2>/dev/null || break; sleep 0.1; done
 has "a proof that is stopped says so" "$(cat "$TELE_BUILD/logs/library.log")" "stopped; the next call goes on from here"
 expect "and leaves what was there" "$(kind "$archive")" "unproved 2"
 run --wait
@@ -162,6 +162,8 @@ fresh
 : >"$STUB_LOG"
 run
 expect "the library that rt left is taken" "$status $(kind "$archive") $(calls try) $(calls lib)" "0 proved 1 0 0"
+PYTHONSAFEPATH=1 run
+expect "where Python looks for modules doesn't matter" "$status $out" "0 $archive"
 run --unknown
 expect "an unknown option" "$status" 2
 

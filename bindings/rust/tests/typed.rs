@@ -189,7 +189,7 @@ fn a_typed_map_replies_as_a_btreemap() {
         assert_eq!(format!("{map:?}"), format!("{model:?}"));
         map.extend([(-7, 0.5), (7, 1.5)]);
         model.extend([(-7, 0.5), (7, 1.5)]);
-        assert_eq!(map.iter().collect::<TypedMap<_, _>>().into_pairs(), Ok(model.into_iter().collect::<Vec<_>>()));
+        assert_eq!(map.iter().collect::<TypedMap<_, _>>().into_pairs().unwrap(), model.into_iter().collect::<Vec<_>>());
         map.clear();
         assert!(map.is_empty() && map.into_inner().is_empty());
     }
