@@ -10,11 +10,11 @@ import os
 import subprocess
 import tempfile
 
-from cases import check, end, program, refusals
+from cases import TOP, check, end, program, refusals
+from dump_cases import HIGH, chain, dump_of, half_rebuilt, twenty
 
 DONE, USAGE, BAD_LINE, READ_FAILED, WRITE_FAILED, FLAWED = 0, 2, 3, 4, 5, 8
 MOST = 2**64 - 1
-HIGH = 2**28
 
 
 PROGRAM = program("tele_dump")
@@ -24,11 +24,6 @@ def run(words, data, **environment):
     """The status of a run over these bytes, and what it writes."""
     ran = subprocess.run([PROGRAM, *words], input=data, capture_output=True, timeout=120, env={**os.environ, **environment})
     return ran.returncode, ran.stdout
-
-
-def dump_of(size, words):
-    """The dump of a table of so many words that has these used words."""
-    return b"CISTDUMP" + b"".join(word.to_bytes(8, "little") for word in (size, *words))
 
 
 # The second reading: it keeps the way to each slot whole, and the rows that were read in a list.
@@ -148,6 +143,14 @@ def first_flaws():
     check("no byte", run(["check"], b""), (FLAWED, b"! dump magic\n"))
 
 
+def drawn_dumps():
+    # the dump that docs/ARCHITECTURE.md shows, its keys, used words and words
+    for name, numbers in [("three_pairs", (3, 24, 24)), ("before_the_rebuild", (11, 159, 400)), ("after_the_rebuild", (12, 272, 400))]:
+        data = (TOP / f"tests/drawn/{name}.dump").read_bytes()
+        check(name, run(["check"], data), (DONE, b"keys %d used %d words %d\n" % numbers))
+    check("three pairs", run(["pack"], b"P 10 5\nP 20 7\nP 30 9\n"), (DONE, (TOP / "tests/drawn/three_pairs.dump").read_bytes()))
+
+
 def words_of_a_command_line():
     # the words, the status, what is written of the dump of one pair
     for words, status, text in [
@@ -208,18 +211,6 @@ def packed_lines():
     check("many lines", (status, *run(["list", "100", "600"], dump)), (DONE, DONE, listed))
 
 
-def twenty():
-    """A row over 4 rows over 5 leaves each. Their keys are 0, 10, 20 and so on."""
-    words = [107, 4, 0, 34, 0, 3, 4, 20, 50, 100, 150, 122, 226, 330, 434]
-    for part in range(4):
-        words += [3, 0, 5, 5]
-        words += [(5 * part + j) * 10 for j in range(1, 5)]
-        words += [(67 + (5 * part + j) * 2) * 8 + 1 for j in range(5)]
-    for i in range(20):
-        words += [10 * i, 1000 + i]
-    return words
-
-
 def changed_bytes():
     whole = dump_of(120, twenty())
     check("the dump of twenty pairs", (len(whole), run(ALL, whole)), (872, (DONE, b"".join(b"%d %d\n" % (10 * i, 1000 + i) for i in range(20)))))
@@ -235,16 +226,6 @@ def parts():
     for length in range(len(whole)):
         check(f"{length} bytes", run(["check"], whole[:length]), (FLAWED, b"! dump magic\n" if length < 8 else b"! dump short\n"))
     check("a byte more", run(["check"], whole + b"\0"), (FLAWED, b"! dump long\n"))
-
-
-def chain(rows, last=None):
-    """So many rows over two slots, each in the second slot of the one before. The last slot has this word, or leads to a leaf."""
-    words = [4 + 9 * rows + 2, 0, 0, 34]
-    for i in range(rows):
-        base = 4 + 9 * i
-        below = (base + 9) * 8 + 2 if i + 1 < rows else last or (base + 9) * 8 + 1
-        words += [0, 0, 2, 2, i + 1, (base + 7) * 8 + 1, below, i, 2 * i]
-    return words + [rows, 2 * rows]
 
 
 def intervals():
@@ -263,15 +244,6 @@ def intervals():
     ]:
         status, listed = run(["list", str(first), str(last)], dump)
         check(f"{first} to {last}", (status, [int(line.split()[1]) for line in listed.splitlines()]), (DONE, values))
-
-
-def half_rebuilt(decision, *edits):
-    """A rebuild without a root stands in the anchor's slot. Its target at 8 is finished, and a change of its second leaf to the pair
-    (9, 3) stands in its second slot, decided so. These words are then put at these places."""
-    words = [31, 2, 0, 140, 5, 7, 9, 1, 11, 8, 2, 2, 9, 33, 179, 9, 3, 8, 2, 0, 7, 0, decision, 1, 8, 1, 49, 121, 0, 9, 3]
-    for at, word in edits:
-        words[at] = word
-    return dump_of(33, words)
 
 
 def rows_under_way():
@@ -324,6 +296,7 @@ def refused_calls(library):
 
 
 first_flaws()
+drawn_dumps()
 words_of_a_command_line()
 packed_lines()
 changed_bytes()
