@@ -38,6 +38,8 @@ PARTS = ("src", "specs", "proofs")
 NOT_BUILT = 125
 # How much memory a check may take, in bytes.
 MEMORY_OF_A_JOB = 2_000_000_000
+# How many jobs a check gets that no other can run beside.
+JOBS_ALONE = 4
 # How far a crate gives way to the one that most waits for.
 GIVES_WAY = 10
 # Lines of a log that tell why a crate isn't proved.
@@ -436,8 +438,7 @@ class Build:
         self.waiting = [it for it in self.source.names if it not in self.proved]
         self.number, self.begun, self.running, self.alone = len(self.waiting), time.time(), [], set()
         self.processors = processors()
-        # Twice as many as there are processors: one crate may use all, and others what it leaves.
-        self.most = self.processors if "TELE_JOBS" in os.environ else max(1, min(2 * self.processors, memory() // MEMORY_OF_A_JOB))
+        self.most = self.processors if "TELE_JOBS" in os.environ else max(1, min(self.processors, memory() // MEMORY_OF_A_JOB))
         self.weight = {it: self.source.weight(it) for it in self.source.names}
         above = lambda name: [it for it in self.waiting if name in self.source.below[it]]
         self.chain = {}
@@ -452,22 +453,23 @@ class Build:
         return sorted(able, key=lambda it: -self.chain[it])
 
     def begin(self):
-        """Starts as many crates as there is room for. The one that most waits for has all processors, and the others what it leaves."""
+        """Starts as many crates as there is room for, first the one that most waits for."""
         while True:
             able, free = self.ready(), self.most - sum(it.jobs for it in self.running)
             if not able or free < 1:
                 return
             name = able[0]
             is_first = all(self.chain[name] > self.chain[it.name_of] for it in self.running)
-            others = sum(not it.is_first for it in self.running)
-            used = sum(it.jobs for it in self.running if it.is_first)
-            if not is_first and others >= max(self.most - self.processors, self.processors - used):
-                return
-            jobs = max(1, min(free - (len(able) > 1), self.processors)) if is_first and name not in self.alone else 1
-            proof = Proof(self.room, name, jobs, is_first, self.ended)
+            proof = Proof(self.room, name, self.jobs_of(name, able, free), is_first, self.ended)
             self.waiting.remove(name)
             self.running.append(proof)
             proof.start()
+
+    def jobs_of(self, name, able, free):
+        """Returns how many jobs a check gets: one, since each further job reads again what the crate stands on; or four, if nothing of the
+        repository lies below the crate, and the processors have nothing else to do."""
+        is_alone = not self.running and len(able) == 1 and name not in self.alone
+        return JOBS_ALONE if is_alone and free >= JOBS_ALONE and not self.source.below[name] else 1
 
     def all(self):
         show = Shown(self)
