@@ -30,6 +30,7 @@ sum (other ∷ xs) = other + sum xs
 -- a shape whose size is within the limit. `other` is a name of its own here
 pub record IsSmall (s : Shape) : Type 0 where
   pub other : ℕ
+  -- which is added
   pub within : size_of s + other ≤ limit
 
 -- nothing that a clause names
@@ -137,6 +138,16 @@ impl Bag {
     {
     }
 }
+
+/// A law.
+pub fn seven_is_even()
+    ensures even { IsEven 7 }
+{}
+
+/// Another one.
+pub fn round_is_small(shape: &Shape)
+    ensures small { IsSmall shape.now }
+{}
 RUST
 
 statement() {
@@ -179,6 +190,7 @@ pub fn put<G: Giver>(
 -- a shape whose size is within the limit. `other` is a name of its own here
 pub record IsSmall (s : Shape) : Type 0 where
   pub other : ℕ
+  -- which is added
   pub within : size_of s + other ≤ limit
 
 -- the size of a shape
@@ -224,6 +236,8 @@ shows 'a struct is what contracts see of it' 'Bag BagFace'
 has_value=$(python3 "$here/tools/statement.py" --top "$all" high::Bag::empty none | grep -c 'ghost Value = { BagFace };')
 said=$has_value
 says 'which is shown' 0 1
+statement high::round_is_small small
+shows 'a law after a law' 'IsSmall size_of sum limit Shape'
 statement --count high::Bag::put value high::Bag::put even
 says 'two clauses: what was shown isn'\''t counted again' 0 'high::Bag::put, value: 6 definitions, 17 lines (in specs/: 4 definitions, 11 lines)
 high::Bag::put, even: 4 definitions, 8 lines (in specs/: 3 definitions, 7 lines)

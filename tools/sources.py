@@ -108,12 +108,12 @@ def comment_above(lines, at, mark):
 
 def goes_on(line, indent):
     """Whether a definition with this indent goes on in a line."""
-    head = HEAD.match(line)
-    return bool(line.strip()) and not line.lstrip().startswith("--") and not (head and len(head[1]) <= indent)
+    is_deeper = len(line) - len(line.lstrip()) > indent
+    return bool(line.strip()) and (is_deeper or not (line.startswith("--", indent) or HEAD.match(line)))
 
 
 def definitions(unit):
-    """Returns the definitions of a file of specs/. A definition ends at an empty line, a comment or another head no deeper than its own."""
+    """Returns the definitions of a file of specs/. A definition ends at an empty line, or at a comment or a head no deeper than its own."""
     found, lines = [], unit.lines
     for at, line in enumerate(lines):
         head = HEAD.match(line)
@@ -149,7 +149,7 @@ def end_of(lines, at, indent):
     for end in range(at, len(lines)):
         line = lines[end]
         is_whole = line.endswith(";") and is_closed(lines[at : end + 1])
-        if line.startswith(indent + "}") or is_whole or (end == at and line.endswith("}")):
+        if line.startswith((indent + "}", indent + "{}")) or is_whole or (end == at and line.endswith("}")):
             return end + 1
     return len(lines)
 
@@ -159,8 +159,9 @@ def is_closed(lines):
     return all(text.count(left) == text.count(right) for left, right in ("{}", "()"))
 
 
-def rust_items(unit, first=0, last=None, indent="", owner="", around=()):
-    """Returns the items of a file of src/, and after an `impl` or `trait` those in it."""
+def rust_items(unit, first=0, last=None, indent="", owner="", around=(), within=""):
+    """Returns the items of a file of src/, and after an `impl` or `trait` those in it. What a trait has is as public as the trait; what an
+    `impl` of a trait has is public if it has clauses of its own."""
     found, lines, at = [], unit.lines, first
     last = len(lines) if last is None else last
     while at < last:
@@ -174,27 +175,25 @@ def rust_items(unit, first=0, last=None, indent="", owner="", around=()):
         while above and re.match(r" *#\[", lines[above - 1]):
             above -= 1
         item = Item(unit, name, kind, at + 1, comment_above(lines, above, "///"), [it[len(indent) :] for it in lines[at:end]])
-        item.is_public = head[2] == "pub" and "pub(" not in lines[at] or owner in unit_traits(found)
+        item.is_public = head[2] == "pub" and "pub(" not in lines[at] or within == "pub trait"
         item.owner, item.around = owner, [*around]
         is_test = any("test" in it for it in lines[above:at])
         if kind in ("impl", "trait"):
             head_text = " ".join(it.strip() for it in item.lines[: 1 + next(i for i, it in enumerate(item.lines) if "{" in it)])
             of = name if kind == "trait" else implemented(head_text)
             item.name = of if kind == "trait" else f"impl {of}"
+            inner = "pub trait" if kind == "trait" and item.is_public else "impl of a trait" if " for " in head_text else ""
             found.append(item)
-            found += rust_items(unit, at + 1, end - 1, indent + "    ", of, [*around, "\n".join(item.lines)])
+            found += rust_items(unit, at + 1, end - 1, indent + "    ", of, [*around, "\n".join(item.lines)], inner)
         elif not is_test:
             if kind == "fn":
                 item.clauses = clauses(item.lines)
+                item.is_public |= within == "impl of a trait" and bool(item.clauses)
             if kind == "enum":
                 item.constructors = re.findall(r"(?m)^    ([A-Z]\w*)", "\n".join(item.lines))
             found.append(item)
         at = end
     return found
-
-
-def unit_traits(items):
-    return {it.name for it in items if it.kind == "trait" and it.is_public}
 
 
 def implemented(head):
@@ -206,7 +205,7 @@ def implemented(head):
 def clauses(lines):
     """Returns the clauses of a function's contract."""
     found, comment, at = [], [], 0
-    while at < len(lines) and lines[at] != "{":
+    while at < len(lines) and lines[at] not in ("{", "{}"):
         head = CLAUSE.match(lines[at])
         if head:
             end = at + 1
@@ -215,6 +214,8 @@ def clauses(lines):
             found.append(Clause(head[2], head[3] or "", comment, lines[at:end]))
             comment, at = [], end
             continue
+        if lines[at].endswith(" {"):
+            break
         comment = [*comment, lines[at].strip()] if lines[at].strip().startswith("//") else []
         at += 1
     return found
@@ -227,9 +228,10 @@ class Sources:
     """All crates of a repository."""
 
     def __init__(self, top):
-        self.top, self.units = top, {}
+        self.top, self.units, self.scopes = top, {}, {}
         listed = (it.partition("#")[0].strip() for it in (top / "crates.txt").read_text().split("\n"))
-        self.crates = [re.match(r"\w+", it)[0] for it in listed if it]
+        self.uses = {re.match(r"\w+", it)[0]: it.partition(":")[2].split() for it in listed if it}
+        self.crates = [*self.uses]
         for crate in self.crates:
             for part, kind in (("specs", "antt"), ("src", "rt")):
                 folder = top / "crates" / crate / part
@@ -256,7 +258,7 @@ class Sources:
         return self.in_file(crate, path[:-1], path[-1])
 
     def in_file(self, crate, path, name):
-        for module in (("src", *path), ("src", *path, "mod"), *([("src", "lib"), ("src", "main")] if not path else [])):
+        for module in [("src", *path)] if path else [("src", "lib"), ("src", "main")]:
             unit = self.units.get((crate, module))
             if unit and name in unit.names:
                 return unit.names[name]
@@ -278,9 +280,9 @@ class Sources:
         """Returns the item at a path of Rust, through what a crate's root hands on."""
         crate, where = unit.crate, unit.module[1:]
         if parts[0] == "super":
-            base = where[:-1]
+            base = where
             while parts[0] == "super":
-                parts, base = parts[1:], base
+                parts, base = parts[1:], base[:-1]
         elif parts[0] == "crate":
             parts, base = parts[1:], ()
         elif parts[0] in self.crates:
@@ -297,16 +299,18 @@ class Sources:
                 return self.by_rust(home, parts[-1], seen)
         return None
 
-    def meaning(self, item, word, locals_=()):
+    def scope(self, item):
+        """Returns what each name stands for by the imports that an item sees."""
+        if item not in self.scopes:
+            self.scopes[item] = {**item.unit.imports, **imports_of("\n".join(item.around)), **imports_of("\n".join(item.lines))}
+        return self.scopes[item]
+
+    def meaning(self, item, word):
         """Returns what a word in an item stands for: an item, a leaf, or None."""
         head, _, rest = word.partition(".")
-        if head in locals_:
-            return None
-        imports = {**item.unit.imports, **imports_of("\n".join(item.around)), **imports_of("\n".join(item.lines))}
-        if head in imports:
-            module, name = imports[head]
-            found = self.named(module, name or rest.partition(".")[0]) if name or rest else None
-            return found
+        module, name = self.scope(item).get(head, (None, None))
+        if module:
+            return self.named(module, name or rest.partition(".")[0]) if name or rest else None
         if item.unit.path.endswith(".antt"):
             return item.unit.names.get(head)
         return self.of_trait(item, head, rest) or self.by_rust(item.unit, head)

@@ -37,48 +37,47 @@ def bound_in(text):
     return {name for it in found for name in re.findall(r"[A-Za-z_][\w']*", it)}
 
 
-def words_in(text, own=()):
-    """Returns the words of a text in order, without texts in quotes, fields' names, and what it binds itself."""
-    text = re.sub(r'"(?:[^"\\]|\\.)*"|--.*|//.*', " ", text)
+def places_in(text, own=()):
+    """Returns where the words of a text are, in order, without texts in quotes, fields' names, and what it binds itself."""
+    text = re.sub(r'"(?:[^"\\]|\\.)*"|--.*|//.*', lambda it: " " * len(it[0]), text)
     bound = bound_in(text) | {*own}
-    for found in WORD.finditer(text):
-        head = found[0].partition(".")[0]
-        is_field = text[: found.start()].endswith(".") or re.match(r"\s+=\s", text[found.end() :])
-        if head not in bound and not is_field:
-            yield found[0]
+    is_field = lambda it: text[: it.start()].endswith(".") or re.match(r"\s+=\s", text[it.end() :])
+    return [it for it in WORD.finditer(text) if it[0].partition(".")[0] not in bound and not is_field(it)]
 
 
-def equations(item):
-    """Returns the head of a definition, and its equations as pairs of the left side and the right side."""
-    heads = [number for number, line in enumerate(item.lines) if number and re.match(rf"{re.escape(item.name)}(?=\s)", line)]
-    parts = ["\n".join(item.lines[begin:end]) for begin, end in zip([0, *heads], [*heads, len(item.lines)])]
-    return parts[0], [re.split(r"\s=(?=\s)", part, maxsplit=1) for part in parts[1:]]
+def references_in(sources, item, text, own=(), at=0):
+    """Returns what the words of a text in an item stand for, each with where it begins and ends."""
+    return [(at + it.start(), at + it.end(), sources.meaning(item, it[0])) for it in places_in(text, own)]
 
 
-def used_by_definition(sources, item):
-    """Returns what a definition of specs/ uses, in order."""
-    head, rules = equations(item)
+def in_definition(sources, item):
+    """Returns what the words of a definition of specs/ stand for. A variable of a pattern stands for itself in its equation."""
+    text = "\n".join(item.lines)
+    heads = [it.start() for it in re.finditer(rf"(?m)^{re.escape(item.name)}(?=\s)", text) if it.start()]
+    head, rules = text[: (heads + [None])[0]], zip(heads, [*heads[1:], len(text)])
     fields = re.findall(r"(?m)^  pub ([A-Za-z_][\w-]*) :", head) if head.startswith("pub record") else []
     own = {item.name, *fields, *item.constructors, *bound_in("\n".join(item.around))}
-    found = [sources.meaning(item, word) for word in words_in(head, own)]
-    for left, right in rules:
-        patterns = [(word, sources.meaning(item, word)) for word in WORD.findall(left) if word != item.name]
-        found += [it for word, it in patterns if is_case(word, it)]
-        variables = {word for word, it in patterns if not is_case(word, it)}
-        found += [sources.meaning(item, word) for word in words_in(right, own | variables)]
+    found = references_in(sources, item, head, own)
+    for begin, end in rules:
+        middle = begin + re.search(r"\s=\s|$", text[begin:end]).start()
+        patterns = [(it, sources.meaning(item, it[0])) for it in WORD.finditer(text, begin + len(item.name), middle)]
+        found += [(it.start(), it.end(), of) for it, of in patterns if is_case(of)]
+        variables = {it[0] for it, of in patterns if not is_case(of)}
+        found += references_in(sources, item, text[middle + 2 : end], own | variables, middle + 2)
     return found
 
 
-def is_case(word, it):
-    """Whether a word of a pattern is a constructor, and not a variable."""
+def is_case(it):
+    """Whether what a word of a pattern stands for is a constructor, so that the word isn't a variable."""
     if isinstance(it, Leaf):
         return it.name[0].isupper() or it.name in ("true", "false", "zero", "suc")
     return it is not None and it.kind in ("definition", "enum") and bool(it.constructors)
 
 
 def model_of(item):
-    """Returns the `impl Model` of a struct, if it has one."""
+    """Returns the `impl Model` of a struct, if it has one that names a value."""
     of = [it for it in item.unit.items if it.kind == "impl" and it.name == f"impl {item.name}" and "Model for" in it.lines[0]]
+    of = [it for it in of if any(line.startswith("    ghost Value = ") for line in it.lines)]
     return of[0] if of else None
 
 
@@ -95,13 +94,19 @@ def shown(item):
     return [it for it in item.lines if not it.lstrip().startswith("#[")]
 
 
+def references(sources, item):
+    """Returns what the words stand for in the lines in which an item is shown, each with where it begins and ends."""
+    if item.kind == "definition":
+        return in_definition(sources, item)
+    model = item.kind in ("struct", "enum") and model_of(item)
+    lines = shown(item)
+    first = len(lines[0]) + 1 if model else 0
+    return references_in(sources, model or item, "\n".join(lines)[first:], {item.name, *item.constructors}, first)
+
+
 def used_by(sources, item):
     """Returns the items and leaves that an item uses, in order."""
-    if item.kind == "definition":
-        return used_by_definition(sources, item)
-    model = item.kind in ("struct", "enum") and model_of(item)
-    lines = shown(item)[1:] if model else shown(item)
-    return [sources.meaning(model or item, word) for word in words_in("\n".join(lines), {item.name, *item.constructors})]
+    return [it for _, _, it in references(sources, item)]
 
 
 # ---- statements
@@ -149,7 +154,7 @@ def of_clause(sources, path, name):
     types = types_of(item, text)
     body = re.sub(r"(?m)^\s*(?:requires|ensures)(?: \w+)? \{", "", text)
     own_names = {"self", "result", *parameters(item)}
-    uses = [sources.meaning(item, word) for word in [*words_in(body, own_names), *types]]
+    uses = [it for _, _, it in references_in(sources, item, body, own_names)] + [sources.meaning(item, word) for word in types]
     return Statement(f"{path}, {name}", lines, uses)
 
 

@@ -1,0 +1,99 @@
+#!/usr/bin/env python3
+"""tools/reference.py over the sources: each link leads somewhere, each public clause and each definition is there once.
+
+    python3 tests/reference.py
+
+The last line is 'N passed, M failed'.
+"""
+import re
+import subprocess
+import sys
+import tempfile
+import xml.etree.ElementTree as xml
+from collections import Counter
+from pathlib import Path
+
+from cases import TOP, check, end, holds
+
+DEFINED = re.compile(r"(?m)^(?: *(?:abbrev pub|unfoldable pub|pub record|pub data)|pub(?! (?:mod|use|record|data))) ([A-Za-z_][\w-]*)")
+
+
+def texts_of(section):
+    return ["".join(it.itertext()) for it in section.iter("pre")]
+
+
+def links_of(section):
+    return {it.get("href"): "".join(it.itertext()) for it in section.iter("a")}
+
+
+def pages_in(folder):
+    """The pages by their names, as trees."""
+    return {path.name: xml.fromstring(path.read_text().partition("\n")[2]) for path in sorted(Path(folder).glob("*.html"))}
+
+
+def all_links(pages):
+    places = {name: Counter(it.get("id") for it in page.iter() if it.get("id")) for name, page in pages.items()}
+    for name, page in pages.items():
+        check(f"{name}: addresses that are there twice", [it for it, number in places[name].items() if number > 1], [])
+        dead = []
+        for link in page.iter("a"):
+            to, _, place = link.get("href").partition("#")
+            if to not in pages or place and place not in places[to]:
+                dead.append(link.get("href"))
+        check(f"{name}: links that lead nowhere", dead, [])
+
+
+def definitions(pages):
+    """Each definition of specs/ is on its crate's page once, with its own lines."""
+    for crate in sorted({path.parts[-3] for path in TOP.glob("crates/*/specs/*.antt")}):
+        files = sorted((TOP / "crates" / crate / "specs").rglob("*.antt"))
+        wanted = Counter(name for path in files for name in DEFINED.findall(path.read_text()))
+        found = Counter(it.get("id").rpartition(".")[2] for it in pages[f"{crate}.html"].iter("section") if it.get("id").startswith("specs."))
+        check(f"{crate}: definitions", found, wanted)
+
+
+def one_call(pages):
+    """A call whose clauses are known: what its page says, and where it leads."""
+    page = pages["ist_tree.html"]
+    of = {it.get("id"): it for it in page.iter("section")}
+    close = of["src.trees.Tree.close"]
+    written = (TOP / "crates/ist_tree/src/trees.rt").read_text()
+    own = written[written.index("    pub fn close(") :].partition("\n    {\n")[0]
+    for it in re.findall(r"(?:requires|ensures) \w+ \{.*\}", own):
+        holds(any(it in text for text in texts_of(close)), f"Tree::close: {it}")
+    check("a name in its clause", links_of(close).get("ist_tree.html#specs.Closing.ClosesWith"), "ClosesWith")
+    closes = of["specs.Closing.ClosesWith"]
+    check("the definition leads to what it uses", links_of(closes).get("ist_core.html#specs.Resting.StandsFor"), "StandsFor")
+    check("and to the clause that uses it", links_of(closes).get("ist_tree.html#src.trees.Tree.close.stands"), "stands")
+    stands = {it.get("id"): it for it in pages["ist_core.html"].iter("section")}["specs.Resting.StandsFor"]
+    check("and back", links_of(stands).get("ist_tree.html#specs.Closing.ClosesWith"), "ClosesWith")
+    check("a type as contracts see it", texts_of(of["src.trees.Tree"]), ["pub struct Tree, as contracts see it\n    ghost Value = { TreeFace };"])
+    holds("src.updating.update" not in of, "a function that isn't public is shown")
+    read = {it.get("id"): it for it in pages["tele_io.html"].iter("section")}["src.sources.Source.read"]
+    check("a method of a trait", links_of(read).get("tele_io.html#specs.Bytes.GivesBytes"), "GivesBytes")
+    keep = {it.get("id"): it for it in pages["tele_generations.html"].iter("section")}["src.shelves.Kept.keep"]
+    check("a method that has its clauses for a type", links_of(keep).get("tele_generations.html#specs.Shelves.IsShelved"), "IsShelved")
+
+
+def every_call(pages):
+    """Each public method of a type that a crate hands on is there, with as many clauses as it has."""
+    text = (TOP / "crates/ist_tree/src/trees.rt").read_text()
+    of = {it.get("id"): it for it in pages["ist_tree.html"].iter("section")}
+    for part in re.split(r"(?m)^    pub fn ", text)[1:]:
+        name, head = re.match(r"\w+", part)[0], part.partition("\n    {\n")[0]
+        clauses = re.findall(r"(?m)^        (?:requires|ensures) ", head)
+        found = [it for it in texts_of(of[f"src.trees.Tree.{name}"]) if re.match(r"\s*(?:requires|ensures) ", it)]
+        check(f"Tree::{name}: clauses", len(found), len(clauses))
+
+
+with tempfile.TemporaryDirectory() as folder:
+    ran = subprocess.run([sys.executable, TOP / "tools/reference.py", folder], capture_output=True, text=True)
+    check("the status", (ran.returncode, ran.stderr), (0, ""))
+    made = pages_in(folder)
+    crates = [re.match(r"\w+", it)[0] for it in (TOP / "crates.txt").read_text().split("\n") if re.match(r"\w", it)]
+    check("the pages", sorted(made), sorted([f"{it}.html" for it in crates] + ["index.html", "names.html"]))
+    all_links(made)
+    definitions(made)
+    one_call(made)
+    every_call(made)
+end()
