@@ -1,12 +1,15 @@
-//! An ordered map from `u64` keys to `u64` values that threads share without blocking each other.
+//! An ordered map from `u64` keys to `u64` values that threads share.
 //!
 //! Safe Rust over a static library that is proved (`crates/ist_c`). `docs/LIBRARY.md` says what the proofs state of each call. This
 //! package itself is only tested: its `unsafe` calls are all in `ffi.rs` and `shared.rs`, each with its reason.
 //!
 //! - [`Map`] is for those who come from `crossbeam_skiplist::SkipMap` or from a `BTreeMap` under a lock: its calls take `&self`,
 //!   and it grows.
-//! - [`Tree`] with a [`Pass`] for each thread is closer to the library: no call takes a lock, and a call that finds no words left
+//! - [`Tree`] with a [`Pass`] for each thread is closer to the library: no call on keys takes a lock, and one that finds no words left
 //!   returns [`Full`].
+//!
+//! Calls on one key are linearizable. That is proved of a [`Tree`], also over [`Tree::reopen`], and tested of a [`Map`], also while it
+//! grows.
 //!
 //! ```
 //! use luskadorv::Tree;

@@ -1,7 +1,7 @@
 //! A map with keys and values of types that fit 64 bits.
 
 use crate::keys::{Key, Value};
-use crate::{Error, Map, Range};
+use crate::{Error, Kept, Map, Range};
 use std::fmt::{Debug, Formatter};
 use std::iter::FusedIterator;
 use std::marker::PhantomData;
@@ -69,6 +69,11 @@ impl<K: Key, V: Value> TypedMap<K, V> {
     /// As [`Map::get`].
     pub fn get(&self, key: K) -> Option<V> {
         value(self.map.get(key.encode()))
+    }
+
+    /// As [`Map::try_get`].
+    pub fn try_get(&self, key: K) -> Result<Option<V>, Error> {
+        Ok(value(self.map.try_get(key.encode())?))
     }
 
     /// As [`Map::contains_key`].
@@ -171,9 +176,17 @@ impl<K: Key, V: Value> TypedMap<K, V> {
         self.map.clear();
     }
 
+    /// As [`Map::shrink_to_fit`].
+    pub fn shrink_to_fit(&self) {
+        self.map.shrink_to_fit();
+    }
+
     /// As [`Map::into_pairs`].
-    pub fn into_pairs(self) -> Result<Vec<(K, V)>, Error> {
-        Ok(self.map.into_pairs()?.into_iter().map(|pair| typed((pair.key, pair.value))).collect())
+    pub fn into_pairs(self) -> Result<Vec<(K, V)>, Kept<TypedMap<K, V>>> {
+        match self.map.into_pairs() {
+            Ok(pairs) => Ok(pairs.into_iter().map(|pair| typed((pair.key, pair.value))).collect()),
+            Err(Kept { kept, error }) => Err(Kept { kept: TypedMap { map: kept, kind: PhantomData }, error }),
+        }
     }
 }
 

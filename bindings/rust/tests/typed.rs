@@ -146,7 +146,10 @@ fn call(draws: &mut Draws, map: &TypedMap<i16, f64>, model: &mut BTreeMap<i16, f
         0 => assert_eq!(map.insert(key, new), model.insert(key, new)),
         1 => assert_eq!(map.try_insert(key, new), Ok(model.insert(key, new))),
         2 | 3 => assert_eq!(map.remove(key), model.remove(&key)),
-        4 => assert_eq!((map.get(key), map.contains_key(key), map.len()), (had, had.is_some(), model.len())),
+        4 => {
+            assert_eq!((map.get(key), map.try_get(key)), (had, Ok(had)));
+            assert_eq!((map.contains_key(key), map.len()), (had.is_some(), model.len()));
+        }
         5 => {
             assert_eq!(map.compare_exchange(key, Some(9.5), None), Err(had));
             assert_eq!(map.compare_exchange(key, had, Some(new)), Ok(had));
@@ -187,6 +190,7 @@ fn a_typed_map_replies_as_a_btreemap() {
             call(&mut draws, &map, &mut model);
         }
         assert_eq!(format!("{map:?}"), format!("{model:?}"));
+        map.shrink_to_fit();
         map.extend([(-7, 0.5), (7, 1.5)]);
         model.extend([(-7, 0.5), (7, 1.5)]);
         assert_eq!(map.iter().collect::<TypedMap<_, _>>().into_pairs().unwrap(), model.into_iter().collect::<Vec<_>>());

@@ -8,6 +8,10 @@
  * consistent atomics, and have the steps before such a move before those after it.) Each thread calls the tree by a pass of
  * its own, at the same time as others.
  *
+ * The calls on one key are linearizable, those of all passes together: they have one order in which each replies as a map would,
+ * and in which a call that returned before another began comes first. That is proved of the tree, also over ist_reopen. A pair
+ * that a call on several keys reports was in the map at a moment of that call; only a shot has one moment for all.
+ *
  * Pointers are never null, except that of a list or a room with 0 elements. A call whose comment says `same tree` doesn't
  * test that both handles are of one tree: the caller sees to it. No call may be made in a signal handler, or in a process
  * forked by one that has threads. */
@@ -99,8 +103,8 @@ uint32_t ist_at_most(ist_pass *pass, uint64_t key, ist_entry *found);
  * to go on: also later, and by another pass. It allocates nothing. */
 uint32_t ist_list_range(ist_pass *pass, uint64_t first, uint64_t last, ist_entry *room, size_t rooms, ist_piece *piece);
 
-/* How many words a shot of this many pairs takes at most, if one pass does all the work; 0 for 2^32 pairs or more. Passes that
- * help at the same time may take more together. */
+/* How many words a shot of this many pairs takes by reckoning, if one pass does all the work; 0 for 2^32 pairs or more. Passes
+ * that help at the same time may take more together. */
 uint64_t ist_shot_words(uint64_t pairs);
 
 /* Takes a shot: the map as it was at one moment of the call, whatever others do from then on. The handle then holds the shot with

@@ -12,8 +12,8 @@ use ist_layout::{CHANGE_WORDS, LEAF_WORDS, REBUILD_WORDS};
 use ist_math::ideal_words;
 use ist_tree::{Pass, Tree};
 
-/// Returns how many words a shot of this many keys takes at most, if one pass does all the work:
-/// the inner rows of the ideal tree of the keys, the row of the rebuild, and the changes of its
+/// Returns how many words a shot of this many keys takes if one pass does all the work: the inner
+/// rows of the ideal tree of the keys, the row of the rebuild, and the changes of its
 /// start and its finish. The new tree uses the old leaves.
 ///
 /// An empty tree and a single leaf take none. If other passes help with the rebuild at the same

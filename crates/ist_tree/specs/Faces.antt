@@ -18,10 +18,10 @@ pub record TreeFace : Type 0 where
   pub words : ℕ
 
 -- a pass, or what a note keeps of one: its tree and its number, the log that it has seen, its
--- stamp, its calls with their replies, the oldest first, and the moments of all calls that it has seen
--- at its last one. `loaded` counts its loads, `searches`
--- the walks that it began from the anchor, and `refused` is the first refusal of a rebuild that one
--- of its calls met after its own change, or that a freeze met after a rebuild was in place
+-- stamp, its calls with their replies, the oldest first, and the moments of all calls that it has
+-- heard of, the newest first. `loaded` counts its loads, `searches` the walks that it began from the
+-- anchor, and `refused` is the first refusal of a rebuild that one of its calls met after its own
+-- change, or that a freeze met after a rebuild was in place
 pub record PassFace : Type 0 where
   pub tree : TreeFace
   pub number : ℕ
@@ -34,7 +34,8 @@ pub record PassFace : Type 0 where
   pub refused : Option Full
 
 -- a maker: its tree, how many passes it made, the log that it has seen, its stamp, the moments that
--- it has seen, and the passes that it took back, the last first. `refused` says whether one of these had met a refused rebuild
+-- it has heard of, and the passes that it took back, the last first. `refused` says whether one of
+-- these had met a refused rebuild
 pub record MakerFace : Type 0 where
   pub tree : TreeFace
   pub made : ℕ

@@ -22,7 +22,7 @@ pub(crate) struct Spent {
     pub processor: u64,
 }
 
-/// The ticks in a line of `/proc/self/stat`: its fields 14 and 15, of which the second is in brackets.
+/// The ticks in a line of `/proc/self/stat`: its fields 14 and 15. Field 2, which is in brackets, may have blanks.
 pub(crate) fn ticks_in(line: &str) -> Option<u64> {
     let (_, behind) = line.rsplit_once(')')?;
     let mut fields = behind.split_whitespace().skip(11);

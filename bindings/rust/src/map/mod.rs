@@ -4,7 +4,7 @@
 //! directory says which part has a key. It is never changed: another one replaces it, and the version says so.
 //!
 //! The library's tree has passes, each for one call at a time. The map keeps them in slots, and a call locks a slot: its thread's own, or
-//! the next one that is free. So threads write no memory that another thread reads, as long as there are no more of them than slots.
+//! the next one that is free. So threads share no lock, as long as there are no more of them than slots.
 //!
 //! A part keeps the pairs with which its tree was opened, and each update that changes a key records the key in its slot. When few words
 //! of a part are left, the update that finds so claims the part, gives its slot up, and makes the parts that follow:
@@ -23,8 +23,8 @@
 //!
 //! # Why the calls are linearizable
 //!
-//! The calls on one tree are one legal history, as is proved, and its steps on words are sequentially consistent: so its calls are
-//! linearizable. What follows is why those of the map are. `S` is the moment at which a version is stored.
+//! The calls on one tree are linearizable, as is proved. What follows is why those of the map are. `S` is the moment at which a version is
+//! stored.
 //!
 //! 1. *A sweep parts all calls in two.* An update reads the phase after it has locked its slot. If it locks it before the sweep does, the
 //!    sweep waits for its end. If it locks it later, it reads the phase that was stored before the sweep. (A slot that no call had isn't
@@ -100,7 +100,7 @@ fn unreadable<T>(error: Error) -> T {
 /// An ordered map from `u64` keys to `u64` values that threads share by reference. It grows when it is full.
 ///
 /// Calls have the names and the meaning that they have in `crossbeam_skiplist::SkipMap` and in `BTreeMap`, except that keys and
-/// values are passed and returned by value. [Calls on one key](Map::insert) are atomic. Reads of several keys
+/// values are passed and returned by value. [Calls on one key](Map::insert) are linearizable. Reads of several keys
 /// ([`range`](Map::range), [`first`](Map::first), [`len`](Map::len)) aren't: others may change the map between two keys. A
 /// [`snapshot`](Map::snapshot) is.
 ///
@@ -126,7 +126,7 @@ fn unreadable<T>(error: Error) -> T {
 ///
 /// Who waits for a call also waits while the system doesn't run its thread.
 ///
-/// That the calls on each tree are one legal history is proved of the library. The locks and the growing here are tested, not proved; the
+/// That the calls on each tree are linearizable is proved of the library. The locks and the growing here are tested, not proved; the
 /// sources of this module say step by step why the calls stay linearizable.
 ///
 /// ```
@@ -188,8 +188,8 @@ impl Map {
         Ok(Map { inner: Inner::of(words, from_ref(&part), sizes)? })
     }
 
-    /// Returns the pairs with keys in the range as they all were at one moment of the call, in increasing order of keys. Other calls go on
-    /// meanwhile: updates wait for some microseconds at that moment, and then record what their keys had before, until all pairs are listed.
+    /// Returns the pairs with keys in the range as they all were at one moment of the call, in increasing order of keys. Reads go on
+    /// meanwhile. Updates wait while each slot is locked once, and then record what their keys had before, until all pairs are listed.
     ///
     /// It fails only if memory runs out. One snapshot is taken at a time.
     ///
