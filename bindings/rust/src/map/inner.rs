@@ -130,8 +130,8 @@ impl Inner {
         free.unwrap_or_else(|| (own, self.slots[own].lock()))
     }
 
-    // Lets the slot go by the map's directory.
-    fn turn(&self, passes: &mut Passes) {
+    /// Lets the slot go by the map's directory.
+    pub(super) fn turn(&self, passes: &mut Passes) {
         let version = self.state.version.load(SeqCst);
         if passes.directory.as_ref().is_none_or(|directory| directory.version != version) {
             passes.directory = Some(self.directory());

@@ -50,13 +50,14 @@
 //!    What it finds later is what the old tree ends with: the map's from the stop until `S`. The later one of the stop and the moment
 //!    at which it took the version is a moment of the call, between these. So a read never waits and never goes back.
 //! 7. *Ordered reads* go from part to part by one directory, and find each key by 6, at a moment of its own.
-//! 8. *`clear`* stops all updates (`hold`), and replaces the directory: `S` is its moment. A growth under way can't replace a directory that
-//!    doesn't have its parts, and is given up.
+//! 8. *`clear`* stops all updates (`hold`), and replaces the directory: `S` is its moment. An update takes the version after the mode: if it
+//!    finds that updates go on, a `clear` either has ended, and so it has the next directory, or waits for its slot. A growth under way can't
+//!    replace a directory that doesn't have its parts, and is given up.
 //! 9. *A snapshot* has its moment while all updates are stopped. A key that isn't recorded for it isn't changed until the listing is
 //!    over: by 6 it is found as it was, in the directory of that moment. The first record of another key is what the key had at that moment,
-//!    since each update finds what the one before left, and updates of one key are made one after another. An update that changed
-//!    the key before it was listed had locked its slot before the last sweep, which waits until it has recorded. After a `clear` the
-//!    parts of the snapshot don't change, so nothing is to be recorded.
+//!    since each update finds what the one before left, updates of one key are made one after another, and until the records are taken none
+//!    is made that records nothing. An update that changed the key before it was listed had locked its slot before the last sweep, which
+//!    waits until it has recorded. After a `clear` the parts of the snapshot don't change, so nothing is to be recorded.
 
 mod directory;
 mod growing;

@@ -66,11 +66,14 @@ impl Inner {
         }
     }
 
-    // The phase and the mode are read under the slot's lock: see `sweep`.
+    // The phase and the mode are read under the slot's lock: see `sweep`. The version is read after the mode, so that an update which finds
+    // that a `clear` is over goes by the directory that it left.
     fn try_update(&self, slot: &Slot, passes: &mut Passes, update: &Update) -> Result<Tried, Error> {
+        let mode = self.mode();
+        self.turn(passes);
         let (directory, seats, unseen) = passes.parts();
         let part = directory.part(update.key);
-        let (phase, mode) = (part.phase(), self.mode());
+        let phase = part.phase();
         if matches!(phase, Phase::Stopped | Phase::Replaced) || mode == Mode::Held {
             return Ok(Tried::Stopped);
         }

@@ -5,8 +5,10 @@
 //!    of a key, each is made under a lock, one of 64 by the key.
 //! 3. The parts of the moment's directory are listed while all calls go on. A key that wasn't changed since is found as it was then. A
 //!    part that is replaced meanwhile doesn't change any more, and stays as it is for the snapshot.
-//! 4. The recording ends, and each slot is locked once: all updates that were begun in it have recorded their keys.
-//! 5. Each recorded key gets what it had before the first update of it.
+//! 4. Each slot is locked once: all updates that may have been made before their keys were listed have recorded them.
+//! 5. The records are taken, and then the recording ends. (Not before: beside an update that records nothing, another could take what that one
+//!    left for what the key had first.)
+//! 6. Each recorded key gets what it had before the first update of it.
 
 use super::hooks::Step;
 use super::inner::Inner;
@@ -74,7 +76,10 @@ impl Watch {
         Ok(had)
     }
 
+    // Begins anew, while no update is under way.
     fn begin(&self, first: u64, last: u64) {
+        // what was recorded after the last snapshot took its records
+        self.stripes.iter().for_each(|stripe| locked(&stripe.before).clear());
         self.first.store(first, SeqCst);
         self.last.store(last, SeqCst);
         self.is_lost.store(false, SeqCst);
@@ -135,9 +140,9 @@ impl Inner {
             })
         };
         let listed = list();
-        self.set_watched(false);
         self.sweep(|_| {});
         let before = self.watch.take();
+        self.set_watched(false);
         drop(taker);
         listed?;
         put_back(pairs, &before?)
