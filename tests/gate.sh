@@ -123,7 +123,7 @@ expect 'a wrong option' "$status$err$calls" '2check: the arguments are --plan an
 gate=$all/gate
 mkdir -p "$gate"/{tools,tests}
 cp "$here/check" "$gate"
-cp "$here/tools/gate_jobs.py" "$here/tools/once.py" "$gate/tools"
+cp "$here/tools/gate_jobs.py" "$gate/tools"
 printf 'import os\nprocessors = lambda: int(os.environ["PROCESSORS"])\nmemory = lambda: int(os.environ["FREE"]) * 10**9\n' >"$gate/tools/build.py"
 for it in $(sed -n 's/^part \(bash\|python3\) \([^ ]*\).*/\2/p' "$here/check"); do
     case $it in *.sh) echo 'echo "2 passed, 0 failed"' ;; *) echo 'print("2 passed, 0 failed")' ;; esac >"$gate/$it"
