@@ -175,6 +175,7 @@ in_rust() {
 
 package_in_rust() {
     there 'the package in Rust' cargo cc || return
+    local it
     cp -rL "$here/bindings/rust" "$all/rust-package"
     export LUSKADORV_LIB="$all/nowhere"
     well 'without the library the package is checked' in_rust check --all-targets
@@ -183,6 +184,9 @@ package_in_rust() {
     in_rust package --allow-dirty --list 2>/dev/null | grep -E '^(README|LICENSE|examples/)' >"$all/packaged"
     (cd "$here/bindings/rust" && ls README.md LICENSE-* examples/*.rs | sort) >"$all/paths"
     same 'the package has its README, licenses and examples' "$all/paths" "$all/packaged"
+    for it in LICENSE-APACHE LICENSE-MIT; do
+        same "$it of the package is that of the repository" "$here/$it" "$here/bindings/rust/$it"
+    done
     in_rust build --examples >"$all/linking" 2>&1
     well 'what is linked without it says what to do' grep -q 'Make-it-by-tools/library.sh' "$all/linking"
     LUSKADORV_LIB=$all/$(printf 'not-utf8-\377')
@@ -190,7 +194,6 @@ package_in_rust() {
     well 'a path of any bytes is taken' in_rust build --examples
     LUSKADORV_LIB=$made
     well 'the package in Rust passes its tests' in_rust test --release
-    local it
     for it in "$here"/bindings/rust/examples/*.rs; do
         it=$(basename "$it" .rs)
         well "the example $it runs" in_rust run --release --example "$it"
