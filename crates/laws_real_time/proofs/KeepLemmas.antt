@@ -26,8 +26,9 @@ use Rattle.laws_real_time.specs.Timing.{IsInTime}
 use Rattle.laws_real_time.specs.Making.{calls_returned, changes_by, HasMadeChanges}
 use Rattle.laws_real_time.specs.Keeping.{moment_now, NotesPrefix, KeepsTime, IsPlacedCall}
 use Rattle.laws_real_time.proofs.PairLemmas.{each_of}
-use Rattle.laws_real_time.proofs.MomentLemmas.{changes_low, ended_in, begun_in, IsInCall, begun_now, begun_before, in_call_cases}
-use Rattle.laws_real_time.proofs.MadeLemmas.{accounted_linearizes}
+use Rattle.laws_real_time.proofs.MomentLemmas.{ended_in, begun_in, IsInCall, begun_now, begun_before, in_call_cases}
+use Rattle.laws_real_time.proofs.AccountLemmas.{accounted_linearizes}
+use Rattle.laws_real_time.proofs.ChangeCountLemmas.{changes_low}
 use Rattle.laws_real_time.proofs.DeedLemmas.{in_call_own, in_call_other, ended_same, begins_ends_none, gives_up_ends_none, calls_of_other, calls_of_same, ended_now, ended_last}
 
 -- no moment notes more changes than a bound of all

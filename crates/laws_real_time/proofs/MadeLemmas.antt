@@ -1,47 +1,24 @@
 -- Each change of a caller is that of a call that returned, or of the call that it is in. Serves
 -- `laws.made_calls_are_linearizable`.
-use Rattle.std.proofs.Common.{◌≡◌, ◌≢◌, ◌⊎◌, ℕ, zero, suc, ◌+◌, ◌-◌, ◌<◌, ◌≤◌, ◌==◌, Bool, true, false, List, [], ◌∷◌, ◌++◌, filter, take, drop, length, slice_get, Option, Some, None, refl, sym, ap, ◌∙◌, subst, inl, inr, ⊎_elim, arith, length-append}
-use Rattle.std.proofs.lemmas.Bool.Decides.{eqb_tells, leb_tells}
+use Rattle.std.proofs.Common.{◌≡◌, ◌⊎◌, ℕ, zero, suc, ◌+◌, ◌-◌, ◌<◌, ◌≤◌, ◌==◌, true, List, [], ◌∷◌, ◌++◌, filter, take, drop, length, slice_get, Option, Some, None, refl, sym, ap, ◌∙◌, subst, inl, inr, ⊎_elim, arith, length-append}
 use Rattle.std.proofs.lemmas.List.{append_cancel_left, take-append-drop, length-map}
 use Rattle.std.proofs.lemmas.List.Elements.{filter-append}
 use Rattle.ist_core.specs.declared.calls.Call.{Call}
 use Rattle.ist_core.specs.Map.{Map}
 use Rattle.ist_core.specs.Elements.{Among, Each}
-use Rattle.ist_core.specs.Changes.{Entry, map_behind}
+use Rattle.ist_core.specs.Changes.{Entry}
 use Rattle.ist_core.specs.Standing.{is_change, entry_by, entries_by}
 use Rattle.ist_core.proofs.ElementLemmas.{each-among, among-filter, among_filter}
 use Rattle.ist_core.proofs.PieceLemmas.{slice_get-drop, slice_get-take}
 use Rattle.laws_real_time.specs.Moments.{Moments, Begun, in_call, Ended, ended}
-use Rattle.laws_real_time.specs.Joining.{LinearizesTo}
-use Rattle.laws_real_time.specs.Timing.{IsInTime, IsOfEnded, IsOfBegun, AreInTime}
+use Rattle.laws_real_time.specs.Timing.{IsInTime, IsOfEnded, IsOfBegun}
 use Rattle.laws_real_time.specs.Making.{calls_returned, changes_by, HasMadeChanges, none_since, one_since, AreAccounted}
 use Rattle.laws_real_time.proofs.PairLemmas.{Pairwise, each_of, pairwise_filter, pairwise_map, pairwise_gives, among-map}
-use Rattle.laws_real_time.proofs.MomentLemmas.{changes_rise, begun_in, ended_in, ended_before, AreApartInTime, same_call, comes_first, comes_later, ended_apart, ended_in_order}
+use Rattle.laws_real_time.proofs.MomentLemmas.{begun_in, ended_in, ended_before, AreApartInTime, same_call, comes_first, comes_later, ended_apart, ended_in_order}
 use Rattle.laws_real_time.proofs.CountLemmas.{IsAtIndex, IsFound, only_one, entry_found}
-use Rattle.laws_real_time.proofs.OrderLemmas.{linearizes}
-
--- a test that is passed
-passed : (a b : ℕ) → (a == b) ≡ true → a ≡ b
-passed a b h = at (eqb_tells a b)
-  where
-    clash : (t : Bool) → t ≡ true → t ≡ false → ⊥
-    clash t p q = cc
-
-    at : (((a == b) ≡ true) × (a ≡ b)) ⊎ (((a == b) ≡ false) × (a ≢ b)) → a ≡ b
-    at (inl e) = e.1
-    at (inr e) = absurd (clash (a == b) h e.0)
-
--- a test that is to be passed
-passes : (a b : ℕ) → a ≡ b → (a == b) ≡ true
-passes a b h = at (eqb_tells a b)
-  where
-    at : (((a == b) ≡ true) × (a ≡ b)) ⊎ (((a == b) ≡ false) × (a ≢ b)) → (a == b) ≡ true
-    at (inl e) = e.0
-    at (inr e) = absurd (e.1 h)
-
--- below, or not
-low_or_high : (a b : ℕ) → (a < b) ⊎ (b ≤ a)
-low_or_high a b = ⊎_elim (λ e. inr e.1) (λ e. inl e.1) (leb_tells b a)
+use Rattle.laws_real_time.proofs.ChangeCountLemmas.{changes_rise}
+use Rattle.std.proofs.lemmas.Bool.{eqb-true, eq-eqb}
+use Rattle.std.proofs.lemmas.Bool.Decides.{leb_tells}
 
 -- what is at a place is an element
 among_get : (xs : List Entry) (j : ℕ) (x : Entry) → slice_get xs j ≡ Some x → Among x xs
@@ -81,7 +58,7 @@ module _ (m : Map) (entries : List Entry) (moments : Moments)
       record {
         of = b.0;
         among = c.0;
-        caller = passed b.0.caller number c.1;
+        caller = eqb-true b.0.caller number c.1;
         is = b.2;
         change = a.1;
       }
@@ -121,7 +98,7 @@ module _ (m : Map) (entries : List Entry) (moments : Moments)
   own_of : (x : Ended) → Among x own_calls → Among x (ended moments) × (x.caller ≡ number)
   own_of x i =
       let it = among-filter (λ y. y.caller == number) x (ended moments) i in
-      (it.0, passed x.caller number it.1)
+      (it.0, eqb-true x.caller number it.1)
 
   rising : Pairwise (λ a b. a.position < b.position) changing
   rising =
@@ -273,7 +250,7 @@ module _ (m : Map) (entries : List Entry) (moments : Moments)
       kept : Among entry (entries_by number (since begun))
       kept =
           among_filter (λ e. e.owner == number) entry (since begun)
-          (among_get (since begun) j entry at) (passes entry.owner number o)
+          (among_get (since begun) j entry at) (eq-eqb entry.owner number o)
 
       near : HasSince begun → begun.command ≡ Some entry.command
       near (nothing e) = absurd (subst (Among entry) e kept)
@@ -282,7 +259,7 @@ module _ (m : Map) (entries : List Entry) (moments : Moments)
           (λ s. absurd s) (subst (Among entry) e kept)
 
   -- each change of the caller is that of a call
-  owned : (position : ℕ) (entry : Entry) → slice_get entries position ≡ Some entry
+  pub owned : (position : ℕ) (entry : Entry) → slice_get entries position ≡ Some entry
       → entry.owner ≡ number → IsOfEnded moments position ⊎ IsOfBegun moments position entry
   owned position entry at o = near (in_call number moments) refl (all.callers number).made
     where
@@ -293,8 +270,9 @@ module _ (m : Map) (entries : List Entry) (moments : Moments)
           inl (found position
           (entry_found number entries 0 changing rising all_at (few_by entries e) position entry at o))
       near (Some begun) is made =
-          ⊎_elim (λ l. inl (before begun is position entry at o l))
-          (λ l. (let since = since_at begun position entry at l in
+          ⊎_elim
+          (λ e. (let l = e.1 in
+          let since = since_at begun position entry at l in
           let command =
           command_since begun (since_of begun (Some begun) is refl made) since.0 entry since.2 o in
           inr record {
@@ -302,10 +280,11 @@ module _ (m : Map) (entries : List Entry) (moments : Moments)
             in_it = subst (λ n. in_call n moments ≡ Some begun) (sym o) is;
             command = command;
             from = l;
-          })) (low_or_high position begun.changes)
+          })) (λ e. inl (before begun is position entry at o e.1))
+          (leb_tells begun.changes position)
 
   -- two changes of the caller since its call in progress began are one
-  one_of : (begun : Begun) → in_call number moments ≡ Some begun → (p q : ℕ) (e f : Entry)
+  pub one_of : (begun : Begun) → in_call number moments ≡ Some begun → (p q : ℕ) (e f : Entry)
       → slice_get entries p ≡ Some e → slice_get entries q ≡ Some f
       → e.owner ≡ number → f.owner ≡ number
       → begun.changes ≤ p → begun.changes ≤ q → p ≡ q
@@ -318,32 +297,3 @@ module _ (m : Map) (entries : List Entry) (moments : Moments)
       let same = only_one number (since begun) few a.0 b.0 e f a.2 b.2 o r in
       let left = a.1 in
       let right = b.1 in omega arith
-
--- calls whose changes are accounted for are placed in their time
-in_time : (m : Map) (entries : List Entry) (moments : Moments) → AreAccounted m entries moments
-    → AreInTime m entries moments
-in_time m entries moments all =
-    record {
-      well_formed = all.well_formed;
-      never_fall = all.never_fall;
-      legal = all.legal;
-      placed = all.placed;
-      owned = λ position entry at.
-          owned m entries moments all entry.owner position entry at refl;
-      once = λ p q e f at bt same a b.
-          (let begun : in_call e.owner moments ≡ Some b.begun =
-          subst (λ n. in_call n moments ≡ Some b.begun) (sym same) b.in_it in
-          let low : a.begun.changes ≡ b.begun.changes =
-          ap (λ (x : Begun). x.changes) (one_begun a.begun b.begun (sym a.in_it ∙ begun)) in
-          one_of m entries moments all e.owner b.begun begun p q e f at bt refl (sym same)
-          (omega (arith, low, a.from)) b.from);
-    }
-  where
-    one_begun : (x y : Begun) → Some x ≡ Some y → x ≡ y
-    one_begun x y h = cc
-
--- so they are linearizable, and lead to the map after the changes
-pub accounted_linearizes : (m : Map) (entries : List Entry) (moments : Moments)
-    → AreAccounted m entries moments → LinearizesTo m moments (map_behind m entries)
-accounted_linearizes m entries moments all =
-    linearizes m entries moments (in_time m entries moments all)

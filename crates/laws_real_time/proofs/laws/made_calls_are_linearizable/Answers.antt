@@ -1,4 +1,4 @@
-use Rattle.laws_real_time.proofs.MadeLemmas.{accounted_linearizes}
+use Rattle.laws_real_time.proofs.AccountLemmas.{accounted_linearizes}
 use Rattle.laws_real_time.proofs.laws.made_calls_are_linearizable.Goals as goal
 
 pub returns : goal.returns
