@@ -2,11 +2,12 @@
 # Tests of tools/citations.py: what it takes, and what it must refuse. The last line is 'N passed, M failed'.
 . "$(dirname -- "$0")/head.sh"
 
-mkdir -p "$all"/{docs,crates/{low,high}/{src,specs,proofs}}
+mkdir -p "$all"/{docs,crates/{low,high}/{src,specs,proofs,must-fail}}
 printf 'low:\nhigh: low clap\n' >"$all/crates.txt"
 printf '/// What it does.\npub fn go(x: u64)\n    requires small { x < 9 }\n    ensures value { result ≡ x }\n{\n}\n\npub fn stay()\n    ensures still { Stays }\n{}\n' \
     >"$all/crates/low/src/lib.rt"
 printf 'pub struct Thing;\n' >"$all/crates/high/src/lib.rt"
+touch "$all"/crates/low/must-fail/{goes_on,goes_back}.edit
 printf -- '-- it stays\nabbrev pub Stays : Type 0\n' >"$all/crates/low/specs/Staying.antt"
 printf 'pub stays_on : Stays\n' >"$all/crates/low/proofs/StayLemmas.antt"
 
@@ -50,6 +51,9 @@ says 'a lemma and a definition in their files' 0 "$good" 'By `stays_on` in `Stay
 says 'a lemma that is gone' 1 "$good" 'By `stays_off` in `StayLemmas`.'
 says 'a file of lemmas that is gone' 1 "$good" 'By `stays_on` in `LeaveLemmas`.'
 says 'a path that is gone' 1 "$good" 'In `crates/low/src/main.rt`.'
+says 'an edit that is there' 0 "$good" 'Refused: `low`, edits `goes_on` and `goes_back`.'
+says 'an edit that is gone' 1 "$good" 'Refused: `low`, edits `goes_on`, `goes_off`.'
+says 'a crate of the kit beside one of this repository' 0 "$good" 'By `low::go`, `value`, and `clap`, `value`.'
 says 'a crate without a row in the map' 1 "$good" '' '| `low` | low |'
 says 'a crate with two rows in the map' 1 "$good" '' "$rows
 | \`low\` | low |"
@@ -64,6 +68,17 @@ printf 'pub fn pass(x: u64)\n    ensures value { result ≡ x }\n{\n    go(x)\n}
 says 'a function on a way that changes what it hands on' 0 "$good" '    more    crates/low/src/lib.rt    it goes on'
 says 'a function on a way that only forwards' 1 "$good" '    pass    crates/low/src/lib.rt    it passes'
 says 'one that forwards case by case' 1 "$good" '    hand    crates/low/src/lib.rt    it hands on'
+
+printf '| claim | clause |\n|---|---|\n| it gives | `go`, `value` |\n\nSee `high::Thing`.\n' >"$all/crates/low/README.md"
+says 'the README of a crate, with a clause of its own' 0 "$good" ''
+printf '| claim | clause |\n|---|---|\n| it gives | `go`, `values` |\n' >"$all/crates/low/README.md"
+says 'the README of a crate, with a clause that is gone' 1 "$good" ''
+printf 'See `high::Things`.\n' >"$all/crates/low/README.md"
+says 'the README of a crate, with an item of another that is gone' 1 "$good" ''
+rm "$all/crates/low/README.md"
+printf 'See `low::go`, `values`.\n' >"$all/docs/OTHER.md"
+says 'any other page, with a clause that is gone' 1 "$good" ''
+rm "$all/docs/OTHER.md"
 
 mkdir "$all/crates/high/specs/inner"
 printf -- '-- it goes\nabbrev pub Goes : Type 0\n' >"$all/crates/high/specs/inner/Going.antt"

@@ -3,10 +3,12 @@
 
     python3 tools/citations.py [TOP]
 
-- A column of README.md or docs/PROOFS.md that is headed `clause`, `law`, `decision`, `stays enabled`, `comes` or `made by` has
+- A column that is headed `clause`, `law`, `decision`, `stays enabled`, `comes` or `made by` has
   citations alone, as `crate::function`, `clause`, `clause`; `other_function`, `clause`
-  or `crate`, `laws.function`, `clause`. What follows a function is a clause of it, or a further function of the crate.
-- In prose there `crate::item` is an item of the crate, and a word behind it in the same way.
+  or `crate`, `laws.function`, `clause`. What follows a function is a clause of it, or a further function of the crate. In the README of a
+  crate, a citation that names no crate is of that one.
+- In prose `crate::item` is an item of the crate, and a word behind it in the same way.
+- `crate`, edit `name` is in the crate's must-fail folder, and so is each further name.
 - `SomethingLemmas` is a file, `lemma` in `SomethingLemmas` a lemma of it, and `Definition` in `Something.antt` a definition of that one.
 - A path that begins with crates/, docs/, bench/, tools/ or tests/ is there, and a function that stands before one in a way
   through the code is in that file, and does more than one call with its own parameters.
@@ -29,6 +31,7 @@ LEMMA = re.compile(r"((?:`[^`\s]+`(?:, | and )?)+) in `(?:[^`]*/)?(\w+)(?:\.(ant
 # what a file of definitions defines, and what a file of lemmas defines with a capital
 DEFINED = re.compile(r"(?m)^(?:abbrev pub|unfoldable pub|pub record|pub data|pub(?! (?:mod|use|record|data))) ([A-Za-z_][\w-]*)")
 RECORD = re.compile(r"(?m)^ *(?:abbrev pub|abbrev|pub record|record|pub data|data) ([A-Z][\w-]*)")
+EDITS = re.compile(r"`(\w+)`, edits? ((?:`\w+`(?:, | and )?)+)")
 CLAUSE = re.compile(r"^\s*(?:ensures|requires) (\w+) \{")
 
 
@@ -81,6 +84,7 @@ class Citations:
         self.top, self.faults, self.number = top, [], 0
         lines = (it.partition("#")[0].strip() for it in (top / "crates.txt").read_text().split("\n"))
         self.listed = {re.match(r"\w+", it)[0]: it.partition(":")[2].split() for it in lines if it}
+        self.kit = {it for names in self.listed.values() for it in names} - {*self.listed}
         self.crates = {it: Crate(top / "crates" / it) for it in self.listed}
 
     def fault(self, where, what):
@@ -91,9 +95,9 @@ class Citations:
         if not found:
             self.fault(where, what)
 
-    def cited(self, where, text, is_strict):
+    def cited(self, where, text, is_strict, home=None):
         """Follows the citations of a cell or a line of prose: a crate, its functions, and their clauses."""
-        crate = function = None
+        crate, function = home, None
         text, end = LEMMA.sub("", text), 0
         for span in SPAN.finditer(text):
             between, end = text[end : span.start()], span.end()
@@ -106,6 +110,8 @@ class Citations:
                 for it in path[1:]:
                     self.is_good(where, it in self.crates[crate].items, f"{crate} has no item {it}")
                 function = path[-1] if path[-1] in self.crates[crate].clauses else None
+            elif word in self.kit:
+                crate = function = None
             elif crate:
                 function = self.further(where, crate, function, word)
             elif is_strict:
@@ -144,6 +150,11 @@ class Citations:
                 elif kind:
                     self.is_good(where, False, f"there is no file {of}")
 
+    def edits(self, where, text):
+        for crate, names in EDITS.findall(text):
+            for name in SPAN.findall(names):
+                self.is_good(where, (self.top / "crates" / crate / "must-fail" / f"{name}.edit").exists(), f"{crate} has no edit {name}")
+
     def paths(self, where, text):
         for word in SPAN.findall(text):
             if re.match(r"(crates|docs|bench|tools|tests)/[\w./-]+\Z", word):
@@ -160,7 +171,7 @@ class Citations:
             self.is_good(where, re.search(rf"\bfn {name}\b", text), f"{step[2]} has no function {name}")
             self.is_good(where, not forwards(text, name), f"{name} of {step[2]} only forwards to another function")
 
-    def document(self, name, has_claims):
+    def document(self, name, home=None):
         columns, is_code = [], False
         for number, line in enumerate((self.top / name).read_text().split("\n"), 1):
             where = f"{name}:{number}"
@@ -171,8 +182,7 @@ class Citations:
                 continue
             self.lemmas(where, line)
             self.paths(where, line)
-            if not has_claims:
-                continue
+            self.edits(where, line)
             cells = [it.strip() for it in line.strip("|").split("|")] if line.startswith("|") else []
             if not cells:
                 columns = []
@@ -181,7 +191,7 @@ class Citations:
                 columns = cells
             for head, cell in zip(columns, cells):
                 if head in CITING and cell not in CITING:
-                    self.cited(where, cell, True)
+                    self.cited(where, cell, True, home)
 
     def drawing(self):
         """What a put line passes is drawn so that each crate is above those that it uses."""
@@ -240,7 +250,10 @@ def main():
     top = Path(sys.argv[1] if len(sys.argv) > 1 else Path(__file__).resolve().parent.parent)
     found = Citations(top)
     for name in ["README.md", "CONTRIBUTING.md", *sorted(str(it.relative_to(top)) for it in (top / "docs").glob("*.md"))]:
-        found.document(name, name in ("README.md", "docs/PROOFS.md"))
+        found.document(name)
+    for crate in found.crates:
+        if (top / "crates" / crate / "README.md").is_file():
+            found.document(f"crates/{crate}/README.md", crate)
     found.map_of_crates()
     found.drawing()
     found.index()
