@@ -75,6 +75,10 @@ printf '| claim | clause |\n|---|---|\n| it gives | `go`, `values` |\n' >"$all/c
 says 'the README of a crate, with a clause that is gone' 1 "$good" ''
 printf 'See `high::Things`.\n' >"$all/crates/low/README.md"
 says 'the README of a crate, with an item of another that is gone' 1 "$good" ''
+printf 'It goes so:\n\n    go      src/lib.rt    it goes\n' >"$all/crates/low/README.md"
+says 'the README of a crate, with a way' 0 "$good" ''
+printf 'It goes so:\n\n    goes    src/lib.rt    it goes\n' >"$all/crates/low/README.md"
+says 'the README of a crate, with a way through a function that is gone' 1 "$good" ''
 rm "$all/crates/low/README.md"
 printf 'See `low::go`, `values`.\n' >"$all/docs/OTHER.md"
 says 'any other page, with a clause that is gone' 1 "$good" ''

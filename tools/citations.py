@@ -162,11 +162,11 @@ class Citations:
             elif re.fullmatch(r"\w+Lemmas", word):
                 self.is_good(where, any(word in it.files for it in self.crates.values()), f"there is no file {word}")
 
-    def way(self, where, line):
-        """Checks a line of a way through the code: a function, and the file in which it stands."""
-        step = re.match(r"\s+([\w:]+)\s+(crates/[\w/]+\.rt)\b", line)
-        if step:
-            path, name = self.top / step[2], step[1].split("::")[-1]
+    def way(self, where, line, home):
+        """Checks a line of a way through the code: a function, and the file in which it stands. Of a crate's README it may be a file of src/."""
+        step = re.match(r"\s+([\w:]+)\s+((?:crates|src)/[\w/]+\.rt)\b", line)
+        if step and (home or step[2].startswith("crates")):
+            path, name = self.top / ("" if step[2].startswith("crates") else f"crates/{home}") / step[2], step[1].split("::")[-1]
             text = path.read_text() if path.is_file() else ""
             self.is_good(where, re.search(rf"\bfn {name}\b", text), f"{step[2]} has no function {name}")
             self.is_good(where, not forwards(text, name), f"{name} of {step[2]} only forwards to another function")
@@ -178,7 +178,7 @@ class Citations:
             if line.startswith("```"):
                 is_code = not is_code
             if is_code or line.startswith("    "):
-                self.way(where, line)
+                self.way(where, line, home)
                 continue
             self.lemmas(where, line)
             self.paths(where, line)
