@@ -1,0 +1,66 @@
+#!/bin/bash
+# Takes all figures of docs/PERFORMANCE.md and of README's tables in one go, on a machine that does nothing else. It takes some 40 minutes, and
+# first proves and builds what isn't built.
+#
+#     bench/all.sh [--plan] OUT
+#
+# Each part writes OUT/NAME.md, and what it says on standard error into OUT/NAME.log; a part that fails is named, and the others go on.
+# OUT/machine.md says where and when. With --plan the commands are printed and nothing is run.
+set -u
+plan='' && [ "${1:-}" = --plan ] && plan=1 && shift
+[ $# = 1 ] || { sed -n 's,^#     ,usage: ,p' "$0" >&2 && exit 2; }
+top=$(cd -P -- "$(dirname -- "$0")/.." && pwd)
+cd -- "$top" || exit
+[ -n "$plan" ] || mkdir -p -- "$1"
+out=$(realpath -m -- "$1") failed=0
+
+# Runs a command, whose output is the part with this name.
+part() {
+    local name=$1
+    shift
+    if [ -n "$plan" ]; then
+        printf '%s: %s\n' "$name" "$*"
+    elif ! "$@" >"$out/$name.md" 2>"$out/$name.log"; then
+        printf 'failed: %s (%s)\n' "$name" "$out/$name.log"
+        failed=$((failed + 1))
+    fi
+}
+
+machine() {
+    date -u '+%Y-%m-%d %H:%M UTC' && rt version && git log -1 --format=%h && uptime && lscpu | grep -E '^(Model name|CPU\(s\)|L2|L3)'
+}
+
+# A log of a million events in each of four shapes: seconds on the clock, own and system, and memory in KiB.
+logs() {
+    local shape
+    python3 tools/build.py log_check || return
+    for shape in 'turns 30000' 'chain 143000' 'root 90000' 'callers 500000'; do
+        # shellcheck disable=SC2086
+        python3 bench/logs.py $shape >"$out/a.log-of-events" || return
+        printf '%s: ' "$shape"
+        (ulimit -s 256 && python3 -c 'import resource, subprocess, sys, time
+start = time.monotonic()
+code = subprocess.run(sys.argv[1:], stdout=subprocess.DEVNULL).returncode
+used = resource.getrusage(resource.RUSAGE_CHILDREN)
+print(f"{time.monotonic() - start:.2f}; {used.ru_utime:.2f}, {used.ru_stime:.2f}; {used.ru_maxrss}")
+sys.exit(code)' out/log_check "$out/a.log-of-events") || return
+    done
+    rm -f "$out/a.log-of-events"
+}
+
+part machine machine
+part built python3 tools/build.py try_bench
+part library bash tools/library.sh
+part tree bash bench/tree.sh out/try_bench --peers --figures "$out/figures"
+part charts python3 bench/charts.py "$out/figures" "$(date -u +%Y-%m-%d)"
+part lines python3 bench/lines.py --turns 5
+part words python3 bench/lines.py --turns 5 --options '--words 2097152' --options '' --options '--words 4194304'
+part lanes python3 bench/lanes.py --options '--words 1048576' 300000
+part calls env -C bindings/rust cargo bench --offline --bench calls
+part maps env -C bindings/rust cargo bench --offline --bench maps
+for keys in 1000 1000000; do
+    part "service-$keys" env -C bindings/rust cargo bench --offline --bench service -- "$keys" 4 25 25 2
+done
+part logs logs
+[ -n "$plan" ] || printf '%s failed\n' "$failed"
+exit "$((failed > 0))"
