@@ -294,6 +294,14 @@ sed -i 's/ensures evens/ensures even/' "$all/crates/high/src/bags.rt"
 headline
 headline --check
 says 'written again' 0 '2 statements, 0 faults'
+printf '# High\n\n## What is proved\n\nIts `put` (`high::Bag::put`, `value`; `docs/HEADLINE.md`).\n\n    ensures even { IsEven self.now }\n\n## Else\n\n`shake`.\n' >"$all/README.md"
+headline --check
+says 'README names what the page has' 0 '2 statements, 0 faults'
+sed -i 's/`value`;/`value`, `worth`;/' "$all/README.md"
+headline --check
+says 'README names what the page has not' 1 "docs/HEADLINE.md: README's worth isn't explained
+2 statements, 1 faults"
+rm "$all/README.md"
 sed -i 's/^<!-- end of statement -->/<!-- end -->/' "$all/docs/HEADLINE.md"
 headline --check
 says 'a place without an end' 1 'docs/HEADLINE.md: a statement has no place between its two lines

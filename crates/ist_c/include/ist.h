@@ -98,22 +98,21 @@ ist_result ist_remove_if(ist_pass *pass, uint64_t key, uint64_t expected, ist_sh
 uint32_t ist_at_least(ist_pass *pass, uint64_t key, ist_entry *found);
 uint32_t ist_at_most(ist_pass *pass, uint64_t key, ist_entry *found);
 
-/* Writes the pairs with keys from `first` to `last`, both included, in increasing order of keys: as many as there is room for,
- * which is at least one. Each key has what the list says at a moment of its own. `piece` says how many were written, and where
- * to go on: also later, and by another pass. It allocates nothing. */
+/* Writes the pairs with keys from `first` to `last`, both included, in increasing order: as many as fit into the room, which has at
+ * least one place. Each key has what the list says at a moment of its own. `piece` says how many were written, and at which key to
+ * go on, at any time and by any pass. It allocates nothing. */
 uint32_t ist_list_range(ist_pass *pass, uint64_t first, uint64_t last, ist_entry *room, size_t rooms, ist_piece *piece);
 
 /* How many words a shot of this many pairs takes by reckoning, if one pass does all the work; 0 for 2^32 pairs or more. Passes
  * that help at the same time may take more together. */
 uint64_t ist_shot_words(uint64_t pairs);
 
-/* Takes a shot: the map as it was at one moment of the call, whatever others do from then on. The handle then holds the shot with
- * its pass, and other calls of a pass by it are IST_MISUSE until ist_drop_shot; to go on meanwhile, make a second pass. The whole
- * tree is rebuilt for those who go on. If fewer than `words` words are left at a moment of the call, no shot is taken: the status
- * is IST_FULL, `why` is written, and the handle holds the pass still.
+/* Takes a shot: the map as it was at one moment of the call, whatever others do after it. The handle then holds the shot with its
+ * pass. Until ist_drop_shot, other calls of a pass by it are IST_MISUSE; to go on meanwhile, make a second pass.
  *
- * A shot that runs out of words makes the tree read-only: each later update is IST_FULL. So ask for the ist_shot_words of its
- * pairs and for the words of updates that are made meanwhile. */
+ * The whole tree is rebuilt for those who go on. If fewer than `words` words are left, no shot is taken: the status is IST_FULL,
+ * `why` is written, and the handle still holds the pass. If the rebuild runs out of words, the tree is read-only: each later update
+ * is IST_FULL. So ask for the ist_shot_words of its pairs, and for the words of updates that are made meanwhile. */
 uint32_t ist_take_shot(ist_pass *pass, uint64_t words, ist_shortage *why);
 
 /* Writes how many pairs the shot has. */
