@@ -86,6 +86,32 @@ def every_call(pages):
         check(f"Tree::{name}: clauses", len(found), len(clauses))
 
 
+def exports_and_programs(pages):
+    """What a crate exports to C is there with its clauses, and so is what is public in a program."""
+    text = "\n".join(it.read_text() for it in (TOP / "crates/ist_c/src").glob("*.rt"))
+    places = {it.get("id") for it in pages["ist_c.html"].iter() if it.get("id")}
+    for part in re.split(r'(?m)^pub extern "C" fn ', text)[1:]:
+        name, head = re.match(r"\w+", part)[0], part.partition("\n{\n")[0]
+        clauses = re.findall(r"(?m)^    ensures (\w+) ", head)
+        check(f"{name}: clauses", [it for it in clauses if not any(place.endswith(f".{name}.{it}") for place in places)], [])
+    holds("src.exchange.exchange" in {it.get("id") for it in pages["try_example.html"].iter("section")}, "exchange of try_example is there")
+    check("ist_find leads to its contents", links_of(pages["ist_find.html"]).get("ist_find.html#specs/Sweeps"), "Sweeps")
+
+
+def cited(pages):
+    """Each clause that a document cites right after its function is on the page of the crate."""
+    places = {name: {it.get("id") for it in page.iter("pre") if it.get("id")} for name, page in pages.items()}
+    items = {name: {it.get("id") for it in page.iter("section")} for name, page in pages.items()}
+    for document in ["README.md", "CHANGELOG.md", *(f"docs/{it}.md" for it in ("HEADLINE", "LIBRARY", "PROOFS"))]:
+        for crate, path, clause in re.findall(r"`(\w+)::([\w:]+)`, `(\w+)`", (TOP / document).read_text()):
+            name, page = path.split("::")[-1], f"{crate}.html"
+            if page in pages:
+                found = any(re.search(rf"\.{name}\.{clause}(\.requires)?$", it) for it in places[page])
+                # (a word after a function may be a further function)
+                found = found or any(it.endswith(f".{clause}") for it in items[page])
+                holds(found, f"{document}: {crate}::{path}, {clause} is in the reference")
+
+
 with tempfile.TemporaryDirectory() as folder:
     ran = subprocess.run([sys.executable, TOP / "tools/reference.py", folder], capture_output=True, text=True)
     check("the status", (ran.returncode, ran.stderr), (0, ""))
@@ -96,4 +122,6 @@ with tempfile.TemporaryDirectory() as folder:
     definitions(made)
     one_call(made)
     every_call(made)
+    exports_and_programs(made)
+    cited(made)
 end()

@@ -21,7 +21,7 @@ TOP = Path(__file__).resolve().parent.parent
 STYLE = """body{font:16px/1.45 sans-serif;max-width:60em;margin:2em auto;padding:0 1em;color:#222}pre{font:14px/1.4 monospace;background:#f5f5f2;
 padding:.6em .8em;overflow-x:auto;margin:.4em 0}pre+pre{margin-top:-.6em;padding-top:0}code{font:14px monospace;background:#f5f5f2}a{color:#14508c;text-decoration:none}a:hover{text-decoration:
 underline}section{margin:1.4em 0;border-top:1px solid #ddd}section:target{background:#fff8dc}h3{margin:.6em 0 .2em}.s{font-size:14px;color:#555}
-h2{margin-top:2em;border-bottom:2px solid #888}table{border-collapse:collapse}td{padding:.15em 1em .15em 0;vertical-align:top}.k{color:#777}"""
+h2{margin-top:2em;border-bottom:2px solid #888}table{border-collapse:collapse}td,th{padding:.15em 1em .15em 0;vertical-align:top;text-align:left}td:nth-child(n+3){text-align:right}.k{color:#777}"""
 
 
 def page_of(title, parts, up=True):
@@ -54,12 +54,14 @@ def exported(sources, crate):
 
 
 def public_items(sources, crate):
-    """Returns the public items of a crate's sources, by their files."""
+    """Returns the public items of a crate's sources, by their files: what its root hands on, and what it exports to C. Of a program, all that
+    is public in a file, since nothing is handed on."""
     modules, names = exported(sources, crate)
-    found = {}
+    is_program, found = (crate, ("src", "main")) in sources.units, {}
     for unit in sources.of_crate(crate):
-        is_open = unit.module[1:2] == ("lib",) or unit.module[1] in modules
-        items = [it for it in unit.items if it.kind != "impl" and it.is_public and (is_open or (it.owner or it.name) in names)]
+        is_open = is_program or unit.module[1:2] == ("lib",) or unit.module[1] in modules
+        items = [it for it in unit.items if it.kind != "impl" and it.is_public]
+        items = [it for it in items if is_open or (it.owner or it.name) in names or it.lines[0].startswith('pub extern "C"')]
         if unit.module[0] == "src" and items:
             found[unit] = items
     return found
@@ -131,7 +133,7 @@ class Reference:
             name = f' id="{at}"' if clause.name else ""
             comment = comment_html(clause.comment) if clause.comment else ""
             parts.append(f"{comment}<pre{name}>{self.linked(said, self.in_clause(item, clause))}</pre>")
-        return self.section(item, f"{item.owner}::{item.name}" if item.owner else item.name, "\n".join(parts))
+        return self.section(item, own_name(item), "\n".join(parts))
 
     def users(self, item):
         """Returns which clauses and definitions use an item."""
@@ -149,17 +151,25 @@ class Reference:
 
     def crate(self, crate):
         """Returns the page of a crate."""
-        parts = [comment_html(self.summary(crate)), self.stands_on(crate)]
+        parts = [comment_html(self.summary(crate)), self.stands_on(crate), self.contents(crate)]
         for unit, items in self.public[crate].items():
-            parts.append(f"<h2>src: {escape('/'.join(unit.module[1:]))}</h2>")
+            parts.append(title_of(unit))
             parts.append(comment_html([it for it in unit.lines if it.startswith("//!")]))
             parts += [self.call(it) if it.kind == "fn" else self.definition(it) for it in items]
         for unit in self.sources.of_crate(crate):
             if unit.module[0] == "specs" and unit.items:
-                parts.append(f"<h2>specs: {escape('/'.join(unit.module[1:]))}</h2>")
+                parts.append(title_of(unit))
                 parts.append(comment_html(head_of(unit)))
                 parts += [self.definition(it) for it in unit.items]
         return page_of(crate, parts)
+
+    def contents(self, crate):
+        """Returns links to what the page has: each public item, and each file of definitions."""
+        public = [self.link(it, own_name(it)) for items in self.public[crate].values() for it in items]
+        files = [it for it in self.sources.of_crate(crate) if it.module[0] == "specs" and it.items]
+        links = [f'<a href="{crate}.html#{place_of(it)}">{escape("/".join(it.module[1:]))}</a>' for it in files]
+        said = [f"Public: {', '.join(public)}."] * bool(public) + [f"Definitions: {', '.join(links)}."] * bool(links)
+        return "\n".join(f'<p class="s">{it}</p>' for it in said)
 
     def summary(self, crate):
         root = self.sources.units.get((crate, ("src", "lib"))) or self.sources.units.get((crate, ("src", "main")))
@@ -179,7 +189,7 @@ class Reference:
             own = sum(len(it.items) for it in self.sources.of_crate(crate) if it.module[0] == "specs")
             said = re.sub(r"`([^`]*)`", r"<code>\1</code>", escape(first))
             rows.append(f'<tr><td><a href="{crate}.html">{crate}</a></td><td>{said}</td><td>{calls}</td><td>{own}</td></tr>')
-        head = "<tr><td>crate</td><td></td><td>public calls</td><td>definitions</td></tr>"
+        head = "<tr><th>crate</th><th></th><th>public calls</th><th>definitions</th></tr>"
         return page_of("Reference", ["<p>The crates, lowest first.</p>", f"<table>{head}{''.join(rows)}</table>"])
 
     def names(self):
@@ -189,6 +199,18 @@ class Reference:
             for it in sorted(self.known, key=lambda it: (it.name.lower(), str(it)))
         ]
         return page_of("All names", [f"<table>{''.join(rows)}</table>"])
+
+
+def own_name(item):
+    return f"{item.owner}::{item.name}" if item.owner else item.name
+
+
+def place_of(unit):
+    return "/".join(unit.module)
+
+
+def title_of(unit):
+    return f'<h2 id="{place_of(unit)}">{unit.module[0]}: {escape("/".join(unit.module[1:]))}</h2>'
 
 
 def head_of(unit):
