@@ -255,8 +255,8 @@ def words_of(table):
 
 
 def drawn_words(table, left, top):
-    """Returns the words of a table in lines, each with its place above and its field below."""
-    parts, begins = [], {row.base: f"{row.kind} {row.base}" for row in table.rows if row.words}
+    """Returns the words of a table in lines, each with its place above and its field below; a row that goes on in a line is named there again."""
+    parts, begins, row = [], {2: "anchor", **{it.base: f"{it.kind} {it.base}" for it in table.rows if it.words}}, ""
     for place, (word, (kind, name)) in enumerate(zip(table.words, words_of(table))):
         down, across = divmod(place, WORDS_A_LINE)
         x, y = left + across * WORD_WIDTH, top + down * WORDS_HEIGHT
@@ -267,6 +267,9 @@ def drawn_words(table, left, top):
         if place in begins:
             parts.append(f'<line x1="{x:.1f}" y1="{y - 2:.1f}" x2="{x:.1f}" y2="{y + 48:.1f}" stroke="#333" stroke-width="2.5"/>')
             parts.append(text(x + WORD_WIDTH / 2, y + 46, begins[place], "b"))
+            row = begins[place]
+        elif across == 0 and kind != "unused" and row:
+            parts.append(text(x + WORD_WIDTH / 2, y + 46, f"({row})"))
     return parts
 
 
