@@ -207,6 +207,7 @@ expect "--words=.. is seen" "$out" "${answer/$preset/--seed 5 --words=64}"
 run --words
 expect "and --words without a number" "$out" "${answer/$preset/--words}"
 has "docs/LINES.md says which number that is" "$(cat "$here/docs/LINES.md")" "${preset#*=}"
+has "and README does" "$(tr -d , <"$here/README.md")" "${preset#*=}"
 
 fresh
 TELE_RT=none-such run
@@ -405,6 +406,18 @@ a connection that is reset while its input is kept|1|two lines
 a connection that is reset at once|0|
 a connection that is reset when its input is handed on|7|two lines
 CASES
+
+# The same of what can't be read at all.
+fresh
+"$top/tele" </ >"$dir/first" 2>"$dir/err"
+expect "a folder for standard input: the program finds that its input failed" "$?$(cat "$dir/first")$(calls tried)" "4${answer%
+input}0"
+"$top/tele" </ >"$dir/first" 2>"$dir/err"
+expect "and once it is built" "$?$(cat "$dir/first" "$dir/err")" "4${answer%input}cat: -: Is a directory"
+fresh
+"$top/tele" 0>"$dir/written" >"$dir/first" 2>"$dir/err"
+expect "a file that is open for writing only" "$?$(cat "$dir/first")$(calls tried)" "4${answer%
+input}0"
 
 # An input that doesn't end: a pipe that this script keeps open.
 fresh
