@@ -76,14 +76,33 @@ def one_call(pages):
 
 
 def every_call(pages):
-    """Each public method of a type that a crate hands on is there, with as many clauses as it has."""
+    """Each public method of a type that a crate hands on is there, and each call that is there has as many clauses as in its source."""
     text = (TOP / "crates/ist_tree/src/trees.rt").read_text()
     of = {it.get("id"): it for it in pages["ist_tree.html"].iter("section")}
-    for part in re.split(r"(?m)^    pub fn ", text)[1:]:
-        name, head = re.match(r"\w+", part)[0], part.partition("\n    {\n")[0]
-        clauses = re.findall(r"(?m)^        (?:requires|ensures) ", head)
-        found = [it for it in texts_of(of[f"src.trees.Tree.{name}"]) if re.match(r"\s*(?:requires|ensures) ", it)]
-        check(f"Tree::{name}: clauses", len(found), len(clauses))
+    for name in re.findall(r"(?m)^    pub fn (\w+)", text):
+        holds(f"src.trees.Tree.{name}" in of, f"Tree::{name} is there")
+    for name, page in pages.items():
+        wrong = []
+        for section in page.iter("section"):
+            said = "".join("".join(it.itertext()) for it in section.iter("p") if it.get("class") == "s k")
+            place = re.fullmatch(r"fn, (\S+), line (\d+)", said)
+            if place:
+                found = [it for it in texts_of(section) if re.match(r"\s*(?:requires|ensures) ", it)]
+                wrong += [said] * (len(found) != clauses_at(place[1], int(place[2])))
+        check(f"{name}: calls with fewer clauses, or more", wrong, [])
+
+
+def clauses_at(file, line):
+    """Returns how many clauses the function has that begins at a line of a file."""
+    lines = (TOP / file).read_text().split("\n")[line - 1 :]
+    indent = len(lines[0]) - len(lines[0].lstrip())
+    ends = (" " * indent + "{", " " * indent + "{}")
+    number = 0
+    for at, it in enumerate(lines):
+        number += bool(re.match(r"\s*(?:requires|ensures) ", it))
+        if it in ends or (number == 0 and it.endswith((" {", ";"))) or (at and it.startswith(" " * indent + "}")) or it.endswith(";"):
+            return number
+    return number
 
 
 def exports_and_programs(pages):
