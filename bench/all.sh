@@ -50,7 +50,7 @@ sys.exit(code)' out/log_check "$out/a.log-of-events") || return
 
 part machine machine
 part built python3 tools/build.py try_bench
-part library bash tools/library.sh
+part library bash tools/library.sh --wait
 part tree bash bench/tree.sh out/try_bench --peers --figures "$out/figures"
 part charts python3 bench/charts.py "$out/figures" "$(date -u +%Y-%m-%d)"
 part lines python3 bench/lines.py --turns 5
