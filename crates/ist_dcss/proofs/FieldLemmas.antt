@@ -4,7 +4,7 @@ use Rattle.std.proofs.lemmas.Option.{slice_get-get_or}
 use Rattle.std.specs.Prelude.{get_or}
 use Rattle.ist_core.specs.declared.states.InnerRow.{InnerRow}
 use Rattle.ist_core.specs.declared.states.ChangeRow.{ChangeRow}
-use Rattle.ist_core.specs.RowLayout.{place_limit, anchor, change_words, change_node_offset, change_index_offset, inner_degree_offset, slot_place}
+use Rattle.ist_core.specs.RowLayout.{first_row, place_limit, anchor, change_words, change_node_offset, change_index_offset, inner_degree_offset, slot_place}
 use Rattle.ist_core.specs.Pieces.{Piece, Inner, Change, words_of, size_of}
 use Rattle.ist_core.specs.References.{IsGoodBase}
 use Rattle.ist_core.specs.Writing.{place_of_slot}
@@ -36,6 +36,13 @@ row_low v s base p there k less =
     let low = next_within v.start v.words s.lawful.opens v.log s.lawful.enabled in
     let all = words_same v.start v.words s.lawful.opens v.log in
     (omega arith, s.lawful.opens.within)
+
+-- a published row lies after the fixed words
+pub row_above : (v : View) → IsSound v → (base : ℕ) (p : Piece) → (now v).pieces base ≡ Some p
+    → first_row ≤ base
+row_above v s base p there =
+    (claimed_within v.start v.words v.log base (size_of p) s.lawful.enabled
+    ((placed v.start v.words v.log s.lawful.enabled).published base p there)).behind_fixed
 
 -- a load of such a word gives it
 pub looked_row : (v : View) (place word : ℕ) (w : View) → Looked v place word w

@@ -1,5 +1,5 @@
 -- Installing: when it may be made, whatever others do meanwhile. Serves `install`.
-use Rattle.std.proofs.Common.{◌≡◌, ◌≢◌, ℕ, ◌+◌, ◌<◌, List, length, slice_get, Some, refl, sym, ap, ap₂, ◌∙◌, subst, arith}
+use Rattle.std.proofs.Common.{◌≡◌, ◌≢◌, ℕ, ◌+◌, ◌<◌, ◌≤◌, List, length, slice_get, Some, refl, sym, ap, ap₂, ◌∙◌, subst, arith}
 use Rattle.ist_core.specs.declared.pairs.Pair.{Pair}
 use Rattle.ist_core.specs.declared.lists.HeldRow.{HeldRow}
 use Rattle.ist_core.specs.declared.states.ChangeRow.{ChangeRow}
@@ -8,6 +8,7 @@ use Rattle.ist_core.specs.declared.events.Event.TheVariants.{Install}
 use Rattle.ist_core.specs.References.{ChangeAt, word_of}
 use Rattle.ist_core.specs.Statuses.{undecided}
 use Rattle.ist_core.specs.Elements.{Among}
+use Rattle.ist_core.specs.RowLayout.{first_row}
 use Rattle.ist_core.specs.Pieces.{Change, words_of}
 use Rattle.ist_core.specs.Snapshots.{HoldsRow, HoldsRows}
 use Rattle.ist_core.specs.StartLayout.{start}
@@ -89,6 +90,13 @@ own_low v s base words f k less =
     let low = next_within v.start v.words s.lawful.opens v.log s.lawful.enabled in
     let all = words_same v.start v.words s.lawful.opens v.log in
     omega arith
+
+-- and after the fixed words
+pub own_above : (v : View) → IsSound v → (base : ℕ) (words : List ℕ) → HasFilled v base words → (k : ℕ)
+    → k < length words → first_row ≤ base + k
+own_above v s base words f k less =
+    (held_loose v.start v.words v.log s.lawful.enabled
+    record { caller = f.number; base = base; size = length words } f.held k less).low
 
 -- the change's row is filled
 pub filled : (v : View) (base : ℕ) (f : Filling) → IsInstallable v base f

@@ -1,10 +1,11 @@
 -- Whether a node is open, as a load of its status says. Serves `is_open` and
 -- `laws.nodes_close_once`.
-use Rattle.std.proofs.Common.{◌≡◌, ℕ, ◌<◌, List, refl, sym, ◌∙◌, subst, arith}
+use Rattle.std.proofs.Common.{◌≡◌, ◌≢◌, ℕ, ◌<◌, List, refl, sym, ◌∙◌, subst, arith}
 use Rattle.ist_core.specs.declared.pairs.Pair.{Pair}
 use Rattle.ist_core.specs.Lawful.{Lawful, state_of}
 use Rattle.ist_core.specs.Logs.{Log, GoesOn}
 use Rattle.ist_core.specs.Pieces.{Inner}
+use Rattle.ist_core.specs.RowLayout.{anchor_slot_place}
 use Rattle.ist_core.specs.Slots.{IsOpen, anchor_is, row_is}
 use Rattle.ist_core.specs.Statuses.{open_word}
 use Rattle.ist_core.specs.Writing.{place_of_status}
@@ -21,7 +22,7 @@ use Rattle.ist_rule.proofs.GoingOnLemmas.{looked_goes_on}
 use Rattle.ist_rule.proofs.WatchLemmas.{status_place_inner, status_place_anchor}
 use Rattle.ist_rule.proofs.WentOnLemmas.{goes_on_grow}
 use Rattle.ist_dcss.proofs.DecideLemmas.{open_before, open_shown}
-use Rattle.ist_dcss.proofs.FieldLemmas.{row_low, looked_row}
+use Rattle.ist_dcss.proofs.FieldLemmas.{row_low, row_above, looked_row}
 use Rattle.ist_dcss.proofs.SlotPlaceLemmas.{no_anchor}
 
 -- ---- a load of a status
@@ -39,6 +40,17 @@ status_low v s node (is_inner r e) =
     let at = status_place_inner node (no_anchor v.start v.words v.log s.lawful.enabled node r e) in
     let low = (row_low v s node (Inner r) e 0 (omega arith)).0 in
     omega arith
+
+-- and isn't the anchor's slot
+pub status_off : (v : View) → IsSound v → (node : ℕ) → IsNode (now v) node
+    → place_of_status node ≢ anchor_slot_place
+status_off v s node (is_anchor e) same =
+    let at = status_place_anchor node e in
+    absurd (omega arith)
+status_off v s node (is_inner r e) same =
+    let at = status_place_inner node (no_anchor v.start v.words v.log s.lawful.enabled node r e) in
+    let above = row_above v s node (Inner r) e in
+    absurd (omega arith)
 
 -- a load of it that gives the word of open shows the node open
 pub shows_open : (v : View) → IsSound v → (node place word : ℕ) (w : View) → Looked v place word w

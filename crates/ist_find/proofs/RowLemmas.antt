@@ -1,9 +1,9 @@
 -- Published rows stay when a caller goes on by loads, and where their words lie. Serves `keys` and
 -- `children`.
-use Rattle.std.proofs.Common.{◌≡◌, ℕ, zero, suc, ◌+◌, ◌<◌, ◌≤◌, List, [], ◌∷◌, ◌++◌, length, slice_get, get_or, Some, refl, sym, ap, ◌∙◌, subst, arith, length-append}
+use Rattle.std.proofs.Common.{◌≡◌, ◌≢◌, ℕ, zero, suc, ◌+◌, ◌<◌, ◌≤◌, List, [], ◌∷◌, ◌++◌, length, slice_get, get_or, Some, refl, sym, ap, ◌∙◌, subst, arith, length-append}
 use Rattle.std.proofs.lemmas.Option.{slice_get-get_or}
 use Rattle.std.specs.List.Sorted.{IsStrictlyIncreasing}
-use Rattle.ist_core.specs.RowLayout.{place_limit, inner_degree_offset, key_place, slot_place}
+use Rattle.ist_core.specs.RowLayout.{anchor, first_row, place_limit, inner_degree_offset, key_place, slot_place}
 use Rattle.ist_core.specs.Arithmetic.{child_count}
 use Rattle.ist_core.specs.Pieces.{Inner, size_of, as_inner}
 use Rattle.ist_core.specs.Slots.{SlotHolds, in_row, IsChildFor, of_row}
@@ -11,6 +11,8 @@ use Rattle.ist_core.proofs.GrowingLemmas.{inner_there}
 use Rattle.ist_core.proofs.ImageLemmas.{get-words_of_slot}
 use Rattle.ist_core.proofs.KeyLemmas.{keys_rising}
 use Rattle.ist_core.proofs.LeafOrderLemmas.{next_from_rising}
+use Rattle.ist_core.proofs.PlaceLemmas.{anchor_free}
+use Rattle.ist_core.proofs.SlotLemmas.{no_row}
 use Rattle.ist_math.specs.Guess.{guess_in, distance}
 use Rattle.ist_rule.specs.declared.view.View.{View}
 use Rattle.ist_rule.specs.Rule.{IsSound}
@@ -18,7 +20,7 @@ use Rattle.ist_rule.specs.Learning.{now, GoesOnTo, Looked}
 use Rattle.ist_rule.proofs.GoingOnLemmas.{looked_goes_on}
 use Rattle.ist_rule.proofs.WentOnLemmas.{goes_on_grow}
 use Rattle.ist_dcss.proofs.SlotPlaceLemmas.{has_degree}
-use Rattle.ist_dcss.proofs.FieldLemmas.{row_low, looked_row}
+use Rattle.ist_dcss.proofs.FieldLemmas.{row_low, row_above, looked_row}
 use Rattle.ist_find.specs.Searches.{IsRow, keys_in, keys_at}
 
 -- a published inner row is published still
@@ -26,6 +28,11 @@ pub row_on : (v w : View) → GoesOnTo v w → (node : ℕ) → IsRow v node →
 row_on v w g node r =
     let on = inner_there (now v).pieces (now w).pieces (goes_on_grow v w g) node r.row r.published in
     record { row = on.0; published = on.1 }
+
+-- a published row isn't the anchor
+pub not_anchor : (v : View) → IsSound v → (base : ℕ) → IsRow v base → base ≢ anchor
+not_anchor v s base r e =
+    no_row (now v).pieces base r.row (anchor_free v.start v.words v.log s.lawful.enabled) e r.published
 
 -- the keys of a node are its row's
 pub keys_are : (v : View) (node : ℕ) (r : IsRow v node) → keys_at v node ≡ r.row.keys
@@ -51,6 +58,7 @@ pub record KnowsRow (v : View) (node count : ℕ) : Type 0 where
   pub count_is : count ≡ length row.row.keys
   pub degree : row.row.degree ≡ count + 1
   pub slots : length row.row.slots ≡ count + 1
+  pub above : first_row ≤ node
   pub low : node + (5 + count + count) ≤ v.words
   pub small : v.words ≤ place_limit
 
@@ -73,6 +81,7 @@ knows_row v s node r =
       count_is = same;
       degree = omega arith;
       slots = omega arith;
+      above = row_above v s node (Inner r.row) r.published;
       low = omega arith;
       small = low.1;
     }

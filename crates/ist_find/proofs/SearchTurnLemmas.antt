@@ -1,5 +1,5 @@
 -- A search for a key, look after look, and what it ends with. Serves `finding`.
-use Rattle.std.proofs.Common.{◌≡◌, ℕ, ◌+◌, ◌<◌, ◌≤◌, ◌^◌, [], ◌∷◌, ◌++◌, Option, ap, subst, refl, arith}
+use Rattle.std.proofs.Common.{◌≡◌, ◌≢◌, ℕ, ◌+◌, ◌<◌, ◌≤◌, ◌^◌, [], ◌∷◌, ◌++◌, Option, ap, subst, refl, arith}
 use Rattle.ist_core.specs.Pieces.{Inner}
 use Rattle.ist_core.specs.References.{Ref, InnerAt}
 use Rattle.ist_core.specs.RowLayout.{anchor}
@@ -13,11 +13,14 @@ use Rattle.ist_find.specs.Reads.{IsReached, LooksFew, TellsValue}
 use Rattle.ist_find.specs.Looks.{LooksAtChild, SearchIsAt}
 use Rattle.ist_find.proofs.CostLemmas.{looks_first, looks_on, few_loads, spent_on}
 use Rattle.ist_find.proofs.LookLemmas.{look_comes}
+use Rattle.ist_find.proofs.RowLemmas.{not_anchor}
 use Rattle.ist_find.proofs.SearchLemmas.{begun_comes, has_found}
 
--- a row that a search has reached lies above the node, and within the table, which is small
+-- a row that a search has reached lies above the node, and within the table, which is small. It isn't
+-- the anchor
 pub record LiesAbove (v : View) (node base : ℕ) : Type 0 where
   pub up : node < base
+  pub below_anchor : base ≢ anchor
   pub inside : base < v.words
   pub small : base < 2 ^ 28
 
@@ -28,7 +31,12 @@ row_above v s node base r =
     let low = row_low v s base (Inner r.1.row) r.1.published 0 (omega arith) in
     let place = low.0 in
     let small = low.1 in
-    record { up = r.0; inside = omega arith; small = omega arith }
+    record {
+      up = r.0;
+      below_anchor = not_anchor v s base r.1;
+      inside = omega arith;
+      small = omega arith;
+    }
 
 -- it begins with a look at the anchor's slot
 pub search_begins : (v b w : View) → Turned v (searching v) b → (key i n : ℕ) (ref : Ref)

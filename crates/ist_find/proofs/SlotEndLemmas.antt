@@ -4,6 +4,7 @@ use Rattle.std.proofs.lemmas.Bool.{cases_lt}
 use Rattle.std.specs.List.Sorted.{IsStrictlyIncreasing}
 use Rattle.ist_core.specs.Arithmetic.{child_count}
 use Rattle.ist_core.specs.RowLayout.{anchor}
+use Rattle.ist_core.specs.Elements.{Among}
 use Rattle.ist_core.specs.Pieces.{as_inner}
 use Rattle.ist_core.specs.Slots.{IsChildFor, of_anchor, of_row}
 use Rattle.ist_core.proofs.PlaceLemmas.{anchor_free}
@@ -24,6 +25,11 @@ pub no_keys : (v : View) → IsSound v → (node : ℕ) → node ≡ anchor → 
 no_keys v s node e =
     ap (λ p. keys_in (as_inner p))
     (ap (now v).pieces e ∙ anchor_free v.start v.words v.log s.lawful.enabled)
+
+-- so no key is an edge between its slots
+pub one_slot : (v : View) → IsSound v → (node : ℕ) → node ≡ anchor → (key : ℕ)
+    → ¬ (Among key (keys_at v node))
+one_slot v s node e key among = absurd (subst (Among key) (no_keys v s node e) among)
 
 -- a node's keys stay when the caller goes on by loads
 pub node_keys_on : (v w : View) → IsSound v → GoesOnTo v w → (node : ℕ) → IsNode (now v) node

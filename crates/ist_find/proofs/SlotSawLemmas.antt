@@ -8,7 +8,7 @@ use Rattle.ist_core.specs.declared.states.InnerRow.{InnerRow}
 use Rattle.ist_core.specs.Elements.{Among}
 use Rattle.ist_core.specs.RowLayout.{anchor}
 use Rattle.ist_core.specs.References.{Ref, Empty, Unset, LeafAt, InnerAt, ChangeAt, RebuildAt}
-use Rattle.ist_core.specs.Pieces.{Inner}
+use Rattle.ist_core.specs.Pieces.{Inner, as_inner}
 use Rattle.ist_core.specs.StartLayout.{start}
 use Rattle.ist_core.specs.Logs.{Log, GoesOn}
 use Rattle.ist_core.specs.Slots.{IsChildFor}
@@ -29,7 +29,7 @@ use Rattle.ist_rule.specs.declared.view.View.{View}
 use Rattle.ist_rule.specs.Learning.{now, GoesOnTo}
 use Rattle.ist_rule.specs.Rule.{IsSound}
 use Rattle.ist_rule.specs.Watching.{IsNode, is_anchor, is_inner}
-use Rattle.ist_find.specs.Searches.{keys_at}
+use Rattle.ist_find.specs.Searches.{keys_at, keys_in}
 use Rattle.ist_find.specs.Reads.{IsFoundAs, IsEnd, TellsValue}
 use Rattle.ist_find.specs.Spans.{pair_value, IsEdge}
 use Rattle.ist_find.specs.Sweeps.{SlotWasRead, AllLed, WereLed, LookedSince}
@@ -203,6 +203,21 @@ saw_pair w x g floor first last low high node ref from some to h pair own tells 
         ((tells k).has h.load h.within)
 
 -- ---- edges
+
+-- a key of the node's row was one wherever some key led to the node
+pub key_then : (v : View) → IsSound v → (at : Log) → GoesOn at v.log → (one node key : ℕ)
+    → Leads (state_of v.start v.words at) one node → Among key (keys_at v node)
+    → Among key (keys_in (as_inner ((state_of v.start v.words at).pieces node)))
+key_then v s at g one node key led among =
+    ⊎_elim
+    (λ (e : node ≡ anchor). absurd (subst (Among key) (no_keys v s node e) among))
+    (λ r. let on = inner_there (state_of v.start v.words at).pieces (now v).pieces
+    (grow_between v.start v.words at v.log s.lawful.enabled g) node r.0 r.1 in
+    subst (Among key)
+    (keys_are v node record { row = on.0; published = on.1 } ∙ on.2.keys
+    ∙ sym (ap (λ p. keys_in (as_inner p)) r.1)) among)
+    (leads_there v.start v.words s.lawful.opens one at
+    (enabled_before (start v.start v.words) at v.log g s.lawful.enabled) node led)
 
 -- a key of the node's row is an edge wherever some key led to the node
 pub edge_then : (v : View) → IsSound v → (at : Log) → GoesOn at v.log → (one node key : ℕ)

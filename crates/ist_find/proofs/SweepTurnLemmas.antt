@@ -27,23 +27,18 @@ use Rattle.ist_rule.proofs.GoingOnLemmas.{goes_on_more}
 use Rattle.ist_find.specs.Searches.{IsRow, keys_at}
 use Rattle.ist_find.specs.Reads.{IsFoundAs}
 use Rattle.ist_find.specs.Spans.{IsEdge}
-use Rattle.ist_find.specs.Sweeps.{Swept, later_swept, row_swept, slot_swept, entering_loads, starting, AllLed, HasSwept, one_of}
+use Rattle.ist_find.specs.Sweeps.{Swept, later_swept, row_swept, slot_swept, IsEnteredAt, entering_loads, starting, AllLed, HasSwept, one_of}
 use Rattle.ist_find.specs.Turns.{HasReadSlot, LeadsBelow, HasReadEnd, HasSweptSlot, row_below, end_there, HasSweptTo}
 use Rattle.ist_find.proofs.LoadLemmas.{by_table, goes_log}
 use Rattle.ist_find.proofs.PlaceLemmas.{row_starts}
-use Rattle.ist_find.proofs.RowLemmas.{keys_are}
+use Rattle.ist_find.proofs.RowLemmas.{keys_are, not_anchor}
 use Rattle.ist_find.proofs.SlotEndLemmas.{node_keys_on}
 use Rattle.ist_find.proofs.SpanLemmas.{node_later, child_on}
 use Rattle.ist_find.proofs.SweepLemmas.{leads_later, leads_above}
-use Rattle.ist_find.proofs.SweptLemmas.{swept_on, swept_more, later_edge}
-use Rattle.ist_find.proofs.SlotSawLemmas.{SlotSaw, slot_saw, led_on, were_led_on, saw_until, saw_led, saw_child, saw_above, saw_set, saw_end, saw_pair, edge_then}
+use Rattle.ist_find.proofs.SweptLemmas.{swept_on, swept_above, swept_more, later_edge}
+use Rattle.ist_find.proofs.SlotSawLemmas.{SlotSaw, slot_saw, led_on, were_led_on, saw_until, saw_led, saw_child, saw_above, saw_set, saw_end, saw_pair, edge_then, key_then}
 
 -- ---- one slot more
-
--- a published row isn't the anchor
-not_anchor : (v : View) → IsSound v → (base : ℕ) → IsRow v base → base ≢ anchor
-not_anchor v s base r e =
-    no_row (now v).pieces base r.row (anchor_free v.start v.words v.log s.lawful.enabled) e r.published
 
 -- a slot begins at the first key or at an edge
 begins_at : (v : View) → IsSound v → (at : Log) → GoesOn at v.log → (first last low node : ℕ)
@@ -85,6 +80,7 @@ module _ (v u w : View) (node first low high last i count spent : ℕ) (ref : Re
       record {
         inner = λ base e. (
           saw_above w s h.led.at first last low high node ref h.from r.ends.some r.ends.top saw base e,
+          not_anchor w s base (subst (IsFoundAs w) e r.found),
           record {
             at = saw.at;
             until = saw_until w s h.led.at first last low high node ref h.from r.ends.some r.ends.top saw;
@@ -181,6 +177,22 @@ module _ (v u w : View) (node first low high last i count spent : ℕ) (ref : Re
               let few = s.few in
               let five = r.loads in
               let more = y.few in
+              let least = (swept_above u.start u.words first node began s.at low s.row s.loads
+              h.swept.found s.swept).1 in
+              let way = by_table w x d (λ p n. IsEnteredAt (state_of p n saw.at) low s.row base)
+              record {
+                parent = node;
+                led = saw.led low h.from (le_trans r.ends.some r.ends.top);
+                index = saw.index;
+                for = saw.for low (le_refl low) r.ends.some;
+                child = saw_child w r.seen.sound s.at first last low high node ref h.from r.ends.some
+                    r.ends.top saw base is;
+                begins = ⊎_elim (λ f. inl (let some = least f in omega arith))
+                    (λ a. inr (key_then w r.seen.sound saw.at until low node low
+                    (saw.led low h.from (le_trans r.ends.some r.ends.top))
+                    (subst (Among low) (sym (node_keys_on u w h.seen.sound r.seen node h.at.node_is)) a)))
+                    h.begins;
+              } in
               record {
                 at = y.at;
                 until = y.until;
@@ -192,7 +204,7 @@ module _ (v u w : View) (node first low high last i count spent : ℕ) (ref : Re
                 few = omega arith;
                 swept = swept_more x.start x.words first node began saw.at low base
                     (s.loads + entering_loads keys.0.keys low) h.swept.found
-                    (row_swept base keys.0 (later_swept before saw.since) there (omega arith))
+                    (row_swept base keys.0 (later_swept before saw.since) there (omega arith) way)
                     (later_edge x.start x.words s.at saw.at saw.since was low first edge)
                     y.at (high + 1) y.row y.loads below.found enabled y.swept;
               };

@@ -1,5 +1,5 @@
 -- What was read slot after slot: where it ends, and how one sweep goes on with another. Serves `sweeping`.
-use Rattle.std.proofs.Common.{◌≡◌, ℕ, ◌+◌, ◌⊎◌, List, [], ◌++◌, sym, ◌∙◌, subst, inl, inr, ⊎_elim, append-nil, append_assoc, arith}
+use Rattle.std.proofs.Common.{◌≡◌, ℕ, ◌+◌, ◌≤◌, ◌⊎◌, List, [], ◌++◌, sym, ◌∙◌, subst, inl, inr, ⊎_elim, append-nil, append_assoc, le_refl, arith}
 use Rattle.ist_core.specs.declared.pairs.Pair.{Pair}
 use Rattle.ist_core.specs.Elements.{Among}
 use Rattle.ist_core.specs.Snapshots.{Snapshot}
@@ -31,10 +31,25 @@ module _ (opened : List Pair) (words : ℕ) where
   swept_on first above from _ _ _ _ _ none_swept = same_log
   swept_on first above from _ behind row loads found (later_swept {at = at} {later = later} s g) =
       on_trans from at later (swept_on first above from at behind row loads found s) g
-  swept_on first above from at behind _ _ found (row_swept {row = row} {loads = loads} base r s p up) =
+  swept_on first above from at behind _ _ found (row_swept {row = row} {loads = loads} base r s p up way) =
       swept_on first above from at behind row loads found s
   swept_on first above from _ _ _ _ _ (slot_swept {at = at} {later = later} {low = low} {row = row} {loads = loads} {found = found} pair s b r) =
       on_trans from at later (swept_on first above from at low row loads found s) r.on
+
+  -- until a slot that held no row was read, the last row that was entered is the first one or one above
+  pub swept_above : (first above : ℕ) (from at : Log) (low row loads : ℕ) (found : List Pair)
+      → Swept opened words first above from at low row loads found
+      → (first ≤ low) × (low ≡ first → above ≤ row)
+  swept_above first above from _ _ _ _ _ none_swept = (le_refl first, λ same. le_refl above)
+  swept_above first above from _ low row loads found (later_swept {at = at} s g) =
+      swept_above first above from at low row loads found s
+  swept_above first above from at low _ _ found (row_swept {row = row} {loads = loads} base r s p up way) =
+      let before = swept_above first above from at low row loads found s in
+      (before.0, λ same. let least = before.1 same in omega arith)
+  swept_above first above from _ _ _ _ _ (slot_swept {at = at} {low = low} {row = row} {loads = loads} {found = found} pair s b r) =
+      let before = (swept_above first above from at low row loads found s).0 in
+      let some = r.some in
+      (omega arith, λ same. absurd (omega arith))
 
   -- a sweep from the key at which another one ended goes on with it
   module _ (first above : ℕ) (from middle : Log) (low middle_row loads : ℕ) (before : List Pair)
@@ -53,10 +68,10 @@ module _ (opened : List Pair) (words : ℕ) where
     swept_more _ behind row more found h (later_swept {at = at} {later = later} s g) =
         later_swept
         (swept_more at behind row more found (enabled_before (start opened words) at later g h) s) g
-    swept_more at to _ _ found h (row_swept {row = row} {loads = more} base r s p up) =
+    swept_more at to _ _ found h (row_swept {row = row} {loads = more} base r s p up way) =
         let same : loads + more + entering_loads r.keys to ≡ loads + (more + entering_loads r.keys to) = omega arith in
         subst (λ n. Swept opened words first above from at to base n (before ++ found)) same
-        (row_swept base r (swept_more at to row more found h s) p up)
+        (row_swept base r (swept_more at to row more found h s) p up way)
     swept_more _ _ _ _ _ h (slot_swept {at = at} {later = later} {low = to} {behind = behind} {row = row} {loads = more} {found = found} pair s begins r) =
         let enabled = enabled_before (start opened words) at later r.on h in
         let on = swept_on low middle_row middle at to row more found s in

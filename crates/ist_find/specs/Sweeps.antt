@@ -4,16 +4,19 @@ use Rattle.std.specs.Prelude.{◌≡◌, ℕ, ◌+◌, ◌<◌, ◌≤◌, ◌�
 use Rattle.ist_core.specs.declared.pairs.Pair.{Pair}
 use Rattle.ist_core.specs.declared.states.InnerRow.{InnerRow}
 use Rattle.ist_core.specs.Arithmetic.{child_count}
+use Rattle.ist_core.specs.Elements.{Among}
 use Rattle.ist_core.specs.Lawful.{state_of}
-use Rattle.ist_core.specs.Links.{Leads}
+use Rattle.ist_core.specs.Links.{IsChild, Leads}
 use Rattle.ist_core.specs.Logs.{Log, GoesOn}
-use Rattle.ist_core.specs.Pieces.{Inner}
+use Rattle.ist_core.specs.Pieces.{Inner, as_inner}
 use Rattle.ist_core.specs.RowLayout.{anchor}
 use Rattle.ist_core.specs.References.{Ref}
+use Rattle.ist_core.specs.Slots.{IsChildFor}
+use Rattle.ist_core.specs.Snapshots.{Snapshot}
 use Rattle.ist_math.specs.Guess.{guess_in, distance}
 use Rattle.ist_rule.specs.declared.view.View.{View}
 use Rattle.laws_histories.specs.Searching.{HasPosition, LooksAt}
-use Rattle.ist_find.specs.Searches.{keys_at}
+use Rattle.ist_find.specs.Searches.{keys_at, keys_in}
 use Rattle.ist_find.specs.Spans.{pair_value, IsEdge}
 
 -- the pair as a list
@@ -38,11 +41,23 @@ pub record SlotWasRead (opened : List Pair) (words : ℕ) (earlier later : Log) 
   pub values : (k : ℕ) → first ≤ k → k < behind
       → HasPosition opened words earlier later k (pair_value pair k)
 
+-- the row is entered at the key on the key's way: the key leads to its parent, and the row is in the
+-- parent's slot for the key. The parent was entered last, or this slot begins at the key: so a sweep
+-- enters no row again
+pub record IsEnteredAt (t : Snapshot) (key last row : ℕ) : Type 0 where
+  pub parent : ℕ
+  pub led : Leads t key parent
+  pub index : ℕ
+  pub for : IsChildFor t parent key index
+  pub child : IsChild t parent index row
+  pub begins : (last ≡ parent) ⊎ Among key (keys_in (as_inner (t.pieces parent)))
+
 -- the keys from the first up to a slot's end were read upwards, slot after slot, and the pairs were
 -- found, by this many loads at most: 7 for each slot that held no row, and for each row that was
 -- entered 11 and the distance of the guess from the child. What a later slot held isn't older than
 -- what an earlier one held, and a slot begins at the first key or at an edge. `row` is the last row
--- that was entered since the last such slot: below it only greater ones are entered
+-- that was entered since the last such slot: below it only greater ones are entered, each on the way
+-- of the next slot's key, and none twice
 pub data Swept (opened : List Pair) (words first above : ℕ) (from : Log)
     : Log → ℕ → ℕ → ℕ → List Pair → Type 0 where
   none_swept : Swept opened words first above from from first above 0 []
@@ -52,6 +67,7 @@ pub data Swept (opened : List Pair) (words first above : ℕ) (from : Log)
   row_swept : {at : Log} {low row loads : ℕ} {found : List Pair} (base : ℕ) (r : InnerRow)
       → Swept opened words first above from at low row loads found
       → (state_of opened words at).pieces base ≡ Some (Inner r) → row < base
+      → IsEnteredAt (state_of opened words at) low row base
       → Swept opened words first above from at low base (loads + entering_loads r.keys low) found
   slot_swept : {at later : Log} {low behind row loads : ℕ} {found : List Pair} (pair : Option Pair)
       → Swept opened words first above from at low row loads found

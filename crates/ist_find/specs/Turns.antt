@@ -4,6 +4,7 @@ use Rattle.std.specs.Prelude.{◌≡◌, ◌≢◌, ℕ, ◌+◌, ◌<◌, ◌�
 use Rattle.ist_core.specs.declared.pairs.Pair.{Pair}
 use Rattle.ist_core.specs.Elements.{Among}
 use Rattle.ist_core.specs.References.{Ref, InnerAt}
+use Rattle.ist_core.specs.RowLayout.{anchor}
 use Rattle.ist_core.specs.Slots.{IsChildFor}
 use Rattle.ist_rule.specs.declared.view.View.{View}
 use Rattle.ist_rule.specs.Learning.{now, GoesOnTo}
@@ -41,9 +42,11 @@ pub record HasReadSlot (v w : View) (node key end last index count : ℕ) (ref :
       → LookedSince w k least node index ref
   pub found : IsFoundAs w ref
 
--- the slot's keys led to the row that it holds, which lies above the node, or else it holds an end
+-- the slot's keys led to the row that it holds, which lies above the node and isn't the anchor, or
+-- else it holds an end
 pub record LeadsBelow (v : View) (node first last : ℕ) (ref : Ref) : Type 0 where
-  pub inner : (base : ℕ) → ref ≡ InnerAt base → (node < base) × WereLed v first last base
+  pub inner : (base : ℕ) → ref ≡ InnerAt base
+      → (node < base) × (base ≢ anchor) × WereLed v first last base
   pub end : ((base : ℕ) → ref ≢ InnerAt base) → IsEnd v ref
 
 -- ---- what its keys gave

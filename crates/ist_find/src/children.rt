@@ -3,6 +3,7 @@ ghost use Rattle.std.specs.Prelude.{◌≡◌, ℕ, ◌+◌, ◌*◌, ◌<◌, �
 ghost use Rattle.ist_core.specs.RowLayout.{anchor};
 ghost use Rattle.ist_core.specs.Slots.{SlotHolds, IsChildFor};
 ghost use Rattle.ist_layout.specs.Meanings.{ref_meant};
+ghost use Rattle.ist_rule.specs.Conditions.{MayWalk};
 ghost use Rattle.ist_rule.specs.Learning.{now, GoesOnTo};
 ghost use Rattle.ist_math.specs.Guess.{guess_in, distance};
 ghost use Rattle.ist_rule.specs.Watching.{IsNode};
@@ -13,8 +14,8 @@ ghost use Rattle.ist_find.specs.Turns.{IsSlotForKey};
 use crate::answers::{Child, Counted, Look, Place};
 use crate::keys::{child_for, key_count};
 use crate::reading::{past_change, past_rebuild};
-use ist_layout::{ANCHOR, ANCHOR_SLOT_PLACE, slot_place};
-use ist_rule::{TreeTable, TreeToken, know, load};
+use ist_layout::{ANCHOR, slot_place};
+use ist_rule::{TreeTable, TreeToken, know, load, load_top};
 
 /// Returns the slot for the key of an inner row, and how many loads this took.
 #[inline(always)]
@@ -121,7 +122,7 @@ fn child_and_loads(table: &TreeTable, token: &mut TreeToken, node: u32, key: u64
     }
 }
 
-/// The same, also for the anchor, whose one child is for all keys.
+/// The same, also for the anchor, whose one child is for all keys. A walk begins there.
 #[inline(always)]
 pub(crate) fn slot_for(
     table: &TreeTable,
@@ -131,6 +132,7 @@ pub(crate) fn slot_for(
 ) -> Counted<Child>
     requires same_table { token.old.table ≡ table.now.table }
     requires node { IsNode (now token.old.view) node }
+    requires top { node ≡ anchor → MayWalk token.old.view }
     ensures same_table { token.new.table ≡ token.old.table }
     ensures index { IsChildFor (now token.new.view) node key result.value.index }
     ensures word { SlotHolds (now token.new.view) node result.value.index result.value.word }
@@ -144,7 +146,7 @@ pub(crate) fn slot_for(
 {
     if node == ANCHOR {
         know(token);
-        let word = load(table, token, ANCHOR_SLOT_PLACE);
+        let word = load_top(table, token);
         return Counted {
             value: Child { index: 0, word },
             loads: 1,
@@ -163,6 +165,7 @@ pub(crate) fn read_child(
 ) -> Counted<Look>
     requires same_table { token.old.table ≡ table.now.table }
     requires node { IsNode (now token.old.view) node }
+    requires top { node ≡ anchor → MayWalk token.old.view }
     ensures same_table { token.new.table ≡ token.old.table }
     ensures read { let look = result.value in ReadsChild token.old.view token.new.view node key
         look.index result.loads (ref_meant look.reference) }

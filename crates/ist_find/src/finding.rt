@@ -1,9 +1,11 @@
 //! The search for a key from the anchor down.
 ghost use Rattle.std.specs.Prelude.{◌≡◌, ◌+◌};
+ghost use Rattle.ist_core.specs.RowLayout.{anchor};
 ghost use Rattle.ist_core.specs.StartLayout.{start};
 ghost use Rattle.ist_core.specs.Slots.{IsChildFor};
 ghost use Rattle.ist_core.specs.Links.{WasLinked};
 ghost use Rattle.ist_layout.specs.Meanings.{ref_meant};
+ghost use Rattle.ist_rule.specs.Conditions.{MayWalk};
 ghost use Rattle.ist_rule.specs.Learning.{now};
 ghost use Rattle.laws_histories.specs.Searching.{HasPosition};
 ghost use Rattle.ist_find.specs.Searches.{Came, HasSearched, HasFound, HasFewLoads};
@@ -21,6 +23,7 @@ use ist_rule::{TreeTable, TreeToken, begin_search, know};
 fn look_at(table: &TreeTable, token: &mut TreeToken, node: u32, key: u64) -> Counted<Look>
     requires same_table { token.old.table ≡ table.now.table }
     requires come { Came token.old.view key node }
+    requires top { node ≡ anchor → MayWalk token.old.view }
     ensures same_table { token.new.table ≡ token.old.table }
     ensures looked { let look = result.value in LooksAtChild token.old.view token.new.view node key
         look.index result.loads (ref_meant look.reference) }

@@ -7,6 +7,7 @@ ghost use Rattle.ist_core.specs.Arithmetic.{child_count};
 ghost use Rattle.ist_core.specs.References.{LeafAt};
 ghost use Rattle.ist_core.specs.Slots.{IsChildFor};
 ghost use Rattle.ist_layout.specs.Meanings.{ref_meant};
+ghost use Rattle.ist_rule.specs.Conditions.{MayWalk};
 ghost use Rattle.ist_rule.specs.Learning.{now, GoesOnTo};
 ghost use Rattle.ist_rule.specs.Watching.{IsNode};
 ghost use Rattle.laws_histories.specs.Searching.{HasPosition};
@@ -160,6 +161,7 @@ fn shared_ends(
 fn look_for_all(table: &TreeTable, token: &mut TreeToken, node: u32, key: u64, ends: Ends) -> Shared
     requires same_table { token.old.table ≡ table.now.table }
     requires come { AllCome token.old.view ends.first ends.last node }
+    requires top { node ≡ anchor → MayWalk token.old.view }
     requires first { ends.first ≤ key }
     requires last { key ≤ ends.last }
     requires edges { EndAtEdges (now token.old.view) ends.first ends.last }
@@ -243,6 +245,7 @@ pub(crate) fn pair_within(pair: Option<Pair>, ends: Ends) -> Option<Pair>
 pub fn find_span(table: &TreeTable, token: &mut TreeToken, key: u64) -> Span
     requires same_table { token.old.table ≡ table.now.table }
     requires begun { HasBegunSearch token.old.view }
+    requires may_walk { MayWalk token.old.view }
     ensures same_table { token.new.table ≡ token.old.table }
     ensures seen { GoesOnTo token.old.view token.new.view }
     ensures first { result.first ≤ key }

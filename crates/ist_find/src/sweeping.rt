@@ -1,7 +1,9 @@
 //! A sweep: it reads the slots of a range of keys in order, each inner row once.
 ghost use Rattle.std.specs.Prelude.{◌≡◌, ℕ, ◌+◌, ◌≤◌, ◌++◌, length, OnOk};
+ghost use Rattle.ist_core.specs.RowLayout.{anchor};
 ghost use Rattle.ist_core.specs.Slots.{SlotHolds, IsChildFor};
 ghost use Rattle.ist_layout.specs.Meanings.{ref_meant};
+ghost use Rattle.ist_rule.specs.Conditions.{MayWalk};
 ghost use Rattle.ist_rule.specs.Learning.{now, GoesOnTo};
 ghost use Rattle.ist_rule.specs.Watching.{IsNode};
 ghost use Rattle.ist_find.specs.Searches.{keys_at};
@@ -14,8 +16,8 @@ use crate::children::{place_in_row, slot_of_row};
 use crate::reading::{past_change, past_rebuild};
 use crate::spans::{end_pair, last_of, pair_within};
 use ist_core::Pair;
-use ist_layout::{ANCHOR, ANCHOR_SLOT_PLACE, Ref};
-use ist_rule::{TreeTable, TreeToken, know, load};
+use ist_layout::{ANCHOR, Ref};
+use ist_rule::{TreeTable, TreeToken, know, load_top};
 use std::alloc::AllocError;
 
 // What a slot of a node read as, and the last of its keys.
@@ -33,6 +35,7 @@ fn first_slot(table: &TreeTable, token: &mut TreeToken, node: u32, key: u64) -> 
     ensures seen { GoesOnTo token.old.view token.new.view }
     ensures loads { token.new.view.loaded ≤ token.old.view.loaded + starting token.old.view node key }
     ensures at { IsSlotForKey token.new.view node key result.index result.count }
+    ensures stays { node ≡ anchor → token.new.view ≡ token.old.view }
 {
     know(token);
     if node == ANCHOR {
@@ -57,6 +60,7 @@ fn slot_end(
     ensures seen { GoesOnTo token.old.view token.new.view }
     ensures loads { token.new.view.loaded ≤ token.old.view.loaded + 1 }
     ensures ends { SlotEnds token.old.view node from result last place.index place.count }
+    ensures stays { node ≡ anchor → token.new.view ≡ token.old.view }
 {
     know(token);
     if node == ANCHOR {
@@ -71,6 +75,7 @@ fn slot_word(table: &TreeTable, token: &mut TreeToken, node: u32, place: Place) 
     requires node { IsNode (now token.old.view) node }
     requires count { place.count ≡ length (keys_at token.old.view node) }
     requires within { place.index ≤ place.count }
+    requires top { node ≡ anchor → MayWalk token.old.view }
     ensures same_table { token.new.table ≡ token.old.table }
     ensures seen { GoesOnTo token.old.view token.new.view }
     ensures loads { token.new.view.loaded ≡ token.old.view.loaded + 1 }
@@ -78,7 +83,7 @@ fn slot_word(table: &TreeTable, token: &mut TreeToken, node: u32, place: Place) 
 {
     know(token);
     if node == ANCHOR {
-        return load(table, token, ANCHOR_SLOT_PLACE);
+        return load_top(table, token);
     }
     slot_of_row(table, token, node, place.count, place.index)
 }
@@ -89,6 +94,7 @@ fn read_slot(table: &TreeTable, token: &mut TreeToken, node: u32, place: Place) 
     requires node { IsNode (now token.old.view) node }
     requires count { place.count ≡ length (keys_at token.old.view node) }
     requires within { place.index ≤ place.count }
+    requires top { node ≡ anchor → MayWalk token.old.view }
     ensures same_table { token.new.table ≡ token.old.table }
     ensures seen { GoesOnTo token.old.view token.new.view }
     ensures loads { token.new.view.loaded ≤ token.old.view.loaded + 4 }
@@ -117,6 +123,7 @@ fn read_from(
     requires same_table { token.old.table ≡ table.now.table }
     requires at { IsSlotForKey token.old.view node from place.index place.count }
     requires some { from ≤ last }
+    requires top { node ≡ anchor → MayWalk token.old.view }
     ensures same_table { token.new.table ≡ token.old.table }
     ensures read { HasReadSlot token.old.view token.new.view node from result.to last
         place.index place.count (ref_meant result.reference) }
@@ -201,6 +208,7 @@ fn sweep_below(
     requires same_table { token.old.table ≡ table.now.table }
     requires led { WereLed token.old.view first last node }
     requires some { first ≤ last }
+    requires top { node ≡ anchor → MayWalk token.old.view }
     ensures same_table { token.new.table ≡ token.old.table }
     ensures seen { GoesOnTo token.old.view token.new.view }
     ensures swept { OnOk result (HasSwept token.old.view token.new.view first (last + 1) last node 0
@@ -225,7 +233,7 @@ fn sweep_below(
 
 /// Reads the keys from `first` to `last` upwards by loads only, and appends their pairs to `found`.
 ///
-/// It goes down from the anchor once, and reads each slot of these keys once, in their order. Each key
+/// Right after a read was begun it goes down from the anchor, once, and reads each slot of these keys once, in their order. Each key
 /// has the value that the pairs give it at a position of its own during the call, and none at an earlier
 /// one than a lesser key: also where a row is replaced meanwhile. Never blocks. If allocation fails
 /// it returns an error; `found` then has some of the pairs.
@@ -237,6 +245,7 @@ pub fn sweep(
     found: &mut Vec<Pair>,
 ) -> Result<(), AllocError>
     requires same_table { token.old.table ≡ table.now.table }
+    requires may_walk { MayWalk token.old.view }
     requires some { first ≤ last }
     ensures same_table { token.new.table ≡ token.old.table }
     ensures seen { GoesOnTo token.old.view token.new.view }

@@ -91,7 +91,7 @@ module _ (p q : PassFace) (r : HasOnlyRead p q) (began : Log) (step : StepsIn p 
   slots_at first above _ _ _ _ _ none_swept = later_up none_up to_step
   slots_at first above _ behind row loads pairs (later_swept {at = at} {later = later} s g) =
       later_up (slots_at first above at behind row loads pairs s) (to_later at later g)
-  slots_at first above at behind _ _ pairs (row_swept {row = row} {loads = loads} base r s e up) =
+  slots_at first above at behind _ _ pairs (row_swept {row = row} {loads = loads} base r s e up way) =
       slots_at first above at behind row loads pairs s
   slots_at first above _ behind _ _ _ (slot_swept {at = at} {later = later} {low = low} {row = row} {loads = loads} {found = found} pair s begins o) =
       let on = swept_on p.tree.start p.tree.words first above began at low row loads found s in

@@ -1,11 +1,12 @@
 -- What a load of a rebuild's slot says of the rebuild. Serves `slot_word`, `settle` and `conclude`.
 use Rattle.std.proofs.Common.{◌≡◌, ◌≢◌, ℕ, ◌<◌, Option, None, Some, refl, sym, ap, ◌∙◌, subst, ⊎_elim, arith}
 use Rattle.ist_core.specs.declared.events.Event.{Event}
-use Rattle.ist_core.specs.Pieces.{Pieces, size_of, words_of}
+use Rattle.ist_core.specs.RowLayout.{anchor, anchor_slot_place}
+use Rattle.ist_core.specs.Pieces.{Inner, Pieces, size_of, words_of}
 use Rattle.ist_core.specs.Rebuilding.{IsReplaced}
 use Rattle.ist_core.specs.References.{Ref, Empty, Unset, LeafAt, InnerAt, ChangeAt, RebuildAt, ref_of, word_of}
 use Rattle.ist_core.specs.Shown.{IsShown, shown_next, shown_callers, shown_status, shown_slot, shown_row, shown_free}
-use Rattle.ist_core.specs.Slots.{SlotHolds, IsOpen, past_change}
+use Rattle.ist_core.specs.Slots.{SlotHolds, IsOpen, in_anchor, in_row, past_change}
 use Rattle.ist_core.specs.Writing.{place_of_slot}
 use Rattle.ist_core.proofs.ImageLemmas.{get_below}
 use Rattle.ist_core.proofs.PlaceLemmas.{anchor_free, placed, claimed_within}
@@ -19,7 +20,9 @@ use Rattle.ist_rule.specs.Learning.{now, GoesOnTo, Looked}
 use Rattle.ist_rule.specs.Rule.{IsSound}
 use Rattle.ist_rule.proofs.GoingOnLemmas.{looked_goes_on}
 use Rattle.ist_rule.proofs.WentOnLemmas.{went_now, went_lawful, later_by-goes_on}
+use Rattle.ist_rule.proofs.WatchLemmas.{place_inner}
 use Rattle.ist_dcss.specs.Naming.{IsSlot}
+use Rattle.ist_dcss.proofs.FieldLemmas.{row_above}
 use Rattle.ist_dcss.proofs.InstallLemmas.{slot_on}
 use Rattle.ist_dcss.proofs.InstalledLemmas.{place_on}
 use Rattle.ist_dcss.proofs.OpeningLemmas.{closed_node_stays}
@@ -56,6 +59,18 @@ slot_low v s node i place slot at =
     (shown_low v s (place_of_slot (now v) node i) slot.word
     (slot_shown v.start v.words v.log s.lawful.enabled node i slot.word slot.holds))
 
+-- and isn't the anchor's slot, unless the node is the anchor
+pub slot_off : (v : View) → IsSound v → (node i place : ℕ) → IsSlot v node i → node ≢ anchor
+    → place ≡ place_of_slot (now v) node i → place ≢ anchor_slot_place
+slot_off v s node i place slot ne at = off slot.word slot.holds
+  where
+    off : (word : ℕ) → SlotHolds (now v) node i word → place ≢ anchor_slot_place
+    off word (in_anchor e f g) same = absurd (ne e)
+    off word (in_row r e got) same =
+        let is = place_inner (now v) node i r e ne in
+        let above = row_above v s node (Inner r) e in
+        absurd (omega arith)
+
 -- a load of the slot gives its word
 pub slot_told : (v : View) → IsSound v → (node i place : ℕ) → IsSlot v node i
     → place ≡ place_of_slot (now v) node i → (word : ℕ) (w : View) → Looked v place word w
@@ -83,6 +98,10 @@ module _ (u v : View) (s : IsSound v) (plan : PlannedFinish) (p : IsPlan u plan)
     -- it lies in the table
     pub plan_slot_low : place < v.words
     plan_slot_low = slot_low v s plan.parent plan.index place slot place_is
+
+    -- and isn't the anchor's slot, unless the parent is the anchor
+    pub plan_slot_off : plan.parent ≢ anchor → place ≢ anchor_slot_place
+    plan_slot_off other = slot_off v s plan.parent plan.index place slot other place_is
 
     -- a load of it gives what the slot holds
     pub plan_slot_told : (word : ℕ) (w : View) → Looked v place word w

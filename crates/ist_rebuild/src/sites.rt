@@ -2,7 +2,7 @@
 ghost use Rattle.std.specs.Prelude.{◌≡◌, ◌≢◌, ℕ, ◌<◌, Some};
 ghost use Rattle.ist_core.specs.Rebuilding.{IsStarted, IsReplaced};
 ghost use Rattle.ist_core.specs.References.{ChangeAt, RebuildAt, ref_of};
-ghost use Rattle.ist_core.specs.RowLayout.{rebuild_words};
+ghost use Rattle.ist_core.specs.RowLayout.{anchor, rebuild_words};
 ghost use Rattle.ist_core.specs.Slots.{SlotHolds, IsOpen};
 ghost use Rattle.ist_rule.specs.Learning.{now, GoesOnTo};
 ghost use Rattle.ist_build.specs.Calls.{IsBuiltOut};
@@ -100,10 +100,11 @@ pub(crate) fn meet(word: u64, rebuild: u32) -> Met
     }
 }
 
-// Loads the word in the slot of the rebuild.
+// Loads the word in the slot of the rebuild, which isn't the anchor's.
 fn slot_word(table: &TreeTable, token: &mut TreeToken, plan: PlannedFinish) -> u64
     requires same_table { token.old.table ≡ table.now.table }
     requires plan { IsPlan token.old.view plan }
+    requires other { plan.parent ≢ anchor }
     ensures same_table { token.new.table ≡ token.old.table }
     ensures seen { GoesOnTo token.old.view token.new.view }
     ensures holds { SlotHolds (now token.new.view) plan.parent plan.index result }

@@ -1,5 +1,5 @@
 -- Loads that turn the view of their seat keep the rule. Serves the plays.
-use Rattle.std.proofs.Common.{◌≡◌, ◌≢◌, ◌⊎◌, ℕ, ◌+◌, List, [], ◌∷◌, ◌++◌, ◌≤◌, map, length, slice_index, slice_set, Option, Some, None, refl, sym, ap, ◌∙◌, subst, inl, inr, ⊎_elim}
+use Rattle.std.proofs.Common.{◌≡◌, ◌≢◌, ◌⊎◌, ℕ, ◌+◌, List, [], ◌∷◌, ◌++◌, ◌≤◌, map, length, slice_index, slice_set, Option, Some, None, refl, sym, ap, ◌∙◌, subst, inl, inr, ⊎_elim, arith}
 use mathlib.Core.Option as maybe
 use Rattle.atomic_table.specs.Table.{step, keeps, Allows}
 use Rattle.atomic_table.proofs.Lists.{at_set}
@@ -28,7 +28,7 @@ use Rattle.ist_rule.specs.Speaking.{number_of, pending_of, HasSpoken, IsSilent, 
 use Rattle.ist_rule.specs.Rule.{IsNamed, IsMet, IsRetired, IsHeard, IsTimed, HasView, Fits, Kept, IsSound}
 use Rattle.ist_rule.specs.Playing.{Seated, begins, searches, reads, ends, gives_up}
 use Rattle.ist_rule.specs.Learning.{moment_seen, TurnedAt, beginning, searching, beginning_read, ending, giving_up}
-use Rattle.ist_rule.specs.Conditions.{CanBegin, CanEnd, CanGiveUp}
+use Rattle.ist_rule.specs.Conditions.{CanBegin, CanEnd, CanGiveUp, MayWalk}
 use Rattle.laws_real_time.proofs.KeepLemmas.{ended_low}
 use Rattle.ist_rule.proofs.WhoLemmas.{caller_maker, same_number}
 use Rattle.ist_rule.proofs.FitLemmas.{each_map, well_made_on}
@@ -272,6 +272,10 @@ begins_moves k slots id me command live can s r _ mine fits =
     v.stamp (Some record { command = command; length = length r.log })
     (can_begin k s r v can.number command can.mine can.in_none (r.seats id v mine live)
     (r.timed.heard id v mine live)) (beginning v command) refl
+
+-- right after a search or a read began, a walk may begin
+pub may_walk : (n : ℕ) (w : View) → w.searches ≡ n + 1 → w.loads.list ≡ [] → MayWalk w
+may_walk n w one none = record { begun = omega arith; none = none }
 
 -- a load that begins a search keeps the rule
 pub searches_moves : (k : About) (slots id : ℕ) (me : Seated) → me.0.who ≢ Spent

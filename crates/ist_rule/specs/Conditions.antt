@@ -132,6 +132,14 @@ pub record CanExchangeOrLose (v : View) (place old new : ℕ) (event lost : Even
       → IsShown (state_of v.start v.words log) place found
       → found ≢ old → LeavesAt v log lost place found
 
+-- ---- walks
+
+-- the seat has begun a search, and has made no load since: a walk may begin
+-- Who meets it: each walk from the anchor, right after `begin_search` or `begin_read`
+pub record MayWalk (v : View) : Type 0 where
+  pub begun : 0 < v.searches
+  pub none : v.loads.list ≡ []
+
 -- ---- own rows
 
 -- the place lies in a row that the seat's caller holds

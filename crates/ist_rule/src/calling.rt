@@ -4,7 +4,7 @@ ghost use Rattle.std.specs.Prelude.{◌≡◌, Option};
 ghost use Rattle.ist_core.specs.declared.calls.Call.{Call as CallOf};
 ghost use Rattle.ist_core.specs.declared.commands.Command.{Command as CommandOf};
 ghost use Rattle.ist_rule.specs.Learning.{Turned, TurnedAt, beginning, searching, beginning_read, ending, giving_up};
-ghost use Rattle.ist_rule.specs.Conditions.{CanBegin, CanEnd, CanGiveUp};
+ghost use Rattle.ist_rule.specs.Conditions.{CanBegin, CanEnd, CanGiveUp, MayWalk};
 
 use crate::plays::{GivesUp, Reads, Searches};
 use crate::table::{TreeTable, TreeToken};
@@ -25,11 +25,13 @@ pub fn begin_call(table: &TreeTable, token: &mut TreeToken, command: Option<Comm
     table.table.shared.load::<Brand>(&mut token.seat, 0);
 }
 
-/// Begins a search: clears the view's loads, notes the log's length and adds 1 to its `searches`.
+/// Begins a search: clears the view's loads, notes the log's length and adds 1 to its `searches`. A
+/// walk may begin then, by `load_top`.
 pub fn begin_search(table: &TreeTable, token: &mut TreeToken)
     requires same_table { token.old.table ≡ table.now.table }
     ensures same_table { token.new.table ≡ token.old.table }
     ensures begun { Turned token.old.view (searching token.old.view) token.new.view }
+    ensures may_walk { MayWalk token.new.view }
 {
     // No event: a load of word 0, to begin a search. It sees what others did up to here.
     table.table.shared.load::<Searches>(&mut token.seat, 0);
@@ -42,6 +44,7 @@ pub fn begin_read(table: &TreeTable, token: &mut TreeToken)
     requires may_begin { CanBegin token.old.view }
     ensures same_table { token.new.table ≡ token.old.table }
     ensures begun { TurnedAt token.old.view (beginning_read token.old.view) token.new.view }
+    ensures may_walk { MayWalk token.new.view }
 {
     // No event: a load of word 0, to begin a read. It sees what others did up to here.
     table.table.shared.load::<Reads>(&mut token.seat, 0);

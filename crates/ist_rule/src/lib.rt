@@ -17,7 +17,7 @@ mod watching;
 pub use calling::{begin_call, begin_read, begin_search, end_call, give_up};
 pub use opening::{close, know, open_table, open_table_over};
 pub use seating::{join, split};
-pub use steps::{add, exchange, exchange_all, exchange_or_lose, load, store};
+pub use steps::{add, exchange, exchange_all, exchange_or_lose, load, load_top, store};
 pub use table::{TreeTable, TreeToken, word_count};
 pub use view::{About, Loads, Met, OwnWord, Pending, Taken, TreeRule, View};
 pub use watching::{load_okay, load_pass, load_past};

@@ -1,19 +1,22 @@
 //! The steps on words.
-ghost use Rattle.std.specs.Prelude.{◌≡◌, ◌<◌, ℕ, List};
+ghost use Rattle.std.specs.Prelude.{◌≡◌, ◌≢◌, ◌<◌, ℕ, List};
+ghost use Rattle.ist_core.specs.RowLayout.{anchor_slot_place};
 ghost use Rattle.ist_core.specs.declared.events.Event.{Event};
 ghost use Rattle.ist_rule.specs.Faces.{word_count_of};
 ghost use Rattle.ist_rule.specs.Learning.{Looked, LoggedAdd, Exchanged, ExchangedEitherWay, storing};
-ghost use Rattle.ist_rule.specs.Conditions.{IsOwn, CanExchange, CanAdd, CanExchangeOrLose};
+ghost use Rattle.ist_rule.specs.Conditions.{IsOwn, MayWalk, CanExchange, CanAdd, CanExchangeOrLose};
 ghost use Rattle.ist_rule.specs.Several.{CanExchangeAll, ExchangedAll};
 
 use crate::plays::{Looks, Stores};
 use crate::table::{TreeTable, TreeToken};
+use ist_layout::ANCHOR_SLOT_PLACE;
 use std::marker::Brand;
 
-/// Returns the word at the place at this step.
+/// Returns the word at the place at this step. The place isn't the anchor's slot.
 pub fn load(table: &TreeTable, token: &mut TreeToken, place: u64) -> u64
     requires same_table { token.old.table ≡ table.now.table }
     requires within { place < word_count_of table.now }
+    requires no_walk { place ≢ anchor_slot_place }
     ensures same_table { token.new.table ≡ token.old.table }
     ensures looked { Looked token.old.view place result token.new.view }
 {
@@ -22,6 +25,23 @@ pub fn load(table: &TreeTable, token: &mut TreeToken, place: u64) -> u64
         .table
         .shared
         .load::<Looks>(&mut token.seat, place as usize)
+}
+
+/// Returns the word in the anchor's slot at this step: a walk begins.
+///
+/// It is the first load since a search or a read was begun, which the view's `searches` counts. So no
+/// walk begins uncounted.
+pub fn load_top(table: &TreeTable, token: &mut TreeToken) -> u64
+    requires same_table { token.old.table ≡ table.now.table }
+    requires may_walk { MayWalk token.old.view }
+    ensures same_table { token.new.table ≡ token.old.table }
+    ensures looked { Looked token.old.view anchor_slot_place result token.new.view }
+{
+    // No event. Meets an install in the slot, and what a helper leaves there.
+    table
+        .table
+        .shared
+        .load::<Looks>(&mut token.seat, ANCHOR_SLOT_PLACE as usize)
 }
 
 /// Stores a word into a row that the token's caller holds.

@@ -5,7 +5,7 @@ use Rattle.ist_core.specs.declared.pairs.Pair.{Pair}
 use Rattle.ist_core.specs.declared.ports.Full.{Full}
 use Rattle.ist_core.specs.Deciding.{AllResolvedOf}
 use Rattle.ist_core.specs.Lawful.{Lawful, state_of}
-use Rattle.ist_core.specs.Logs.{GoesOn}
+use Rattle.ist_core.specs.Logs.{GoesOn, Log}
 use Rattle.ist_core.specs.StartLayout.{start}
 use Rattle.ist_rule.specs.declared.view.View.{View}
 use Rattle.ist_core.specs.Authors.{Later}
@@ -27,6 +27,7 @@ use Rattle.ist_tree.proofs.UpdateKeptLemmas.{rebuilt_no_entry}
 use Rattle.ist_tree.proofs.EventLemmas.{rebuilds_count_none}
 use Rattle.ist_tree.proofs.GoingLemmas.{IsLaterView, caller_on, lawful_behind}
 use Rattle.laws_real_time.specs.declared.moments.Deed.TheVariants.{Begins}
+use Rattle.laws_real_time.specs.Moments.{Moments}
 use Rattle.ist_rule.specs.Speaking.{MomentsGoOn, number_of}
 use Rattle.ist_rule.proofs.SpeakLemmas.{go_on_more, later_goes_on}
 use Rattle.ist_tree.specs.RealTime.{StepsIn}
@@ -36,8 +37,12 @@ use Rattle.ist_tree.proofs.SettlingLemmas.{settled_later}
 
 -- ---- the beginning
 
+-- the view that has begun a call without a command, as if it had begun this many searches before
+abbrev pub beginning_as : View → ℕ → Log → Moments → View
+beginning_as v n = beginning (record v { searches = n }) None
+
 module _ (who : Caller) (token : TokenFace) (s : IsSound who.token.view) (p : IsPass who)
-    (begun : TurnedAt who.token.view (beginning who.token.view None) token.view) where
+    (n : ℕ) (begun : TurnedAt who.token.view (beginning_as who.token.view n) token.view) where
   begun_view : IsLaterView who.token.view token.view
   begun_view =
       record {
@@ -79,27 +84,30 @@ module _ (who : Caller) (token : TokenFace) (s : IsSound who.token.view) (p : Is
 
 -- ---- the way of a freeze
 
--- the pass began a call, worked in it by steps of rebuilding, and gave it up
+-- the pass began a call, worked in it by steps of rebuilding, and gave it up. It is told as if all the
+-- searches of the call had been begun before it
 pub record IsFreezeCall (who began new : Caller) (token : TokenFace) : Type 0 where
   pub sound : IsSound who.token.view
   pub pass : IsPass who
   pub began_number : began.number ≡ who.number
-  pub begun : TurnedAt who.token.view (beginning who.token.view None) began.token.view
+  pub n : ℕ
+  pub begun : TurnedAt who.token.view (beginning_as who.token.view n) began.token.view
   pub ready : IsReady began
   pub on : StaysReady Rebuilds began new
   pub given : TurnedAt new.token.view (giving_up new.token.view) token.view
 
 -- so it goes
 pub way_of : (who began new : Caller) (token : TokenFace) → IsSound who.token.view → IsPass who
-    → began.number ≡ who.number
-    → TurnedAt who.token.view (beginning who.token.view None) began.token.view → IsReady began
+    → began.number ≡ who.number → (n : ℕ)
+    → TurnedAt who.token.view (beginning_as who.token.view n) began.token.view → IsReady began
     → StaysReady Rebuilds began new → TurnedAt new.token.view (giving_up new.token.view) token.view
     → IsFreezeCall who began new token
-way_of who began new token s p number begun ready on given =
+way_of who began new token s p number n begun ready on given =
     record {
       sound = s;
       pass = p;
       began_number = number;
+      n = n;
       begun = begun;
       ready = ready;
       on = on;
@@ -108,16 +116,16 @@ way_of who began new token s p number begun ready on given =
 
 -- its call may be given up: nothing of it is an entry
 pub may_give_up : (who began new : Caller) → IsSound who.token.view → IsPass who
-    → began.number ≡ who.number
-    → TurnedAt who.token.view (beginning who.token.view None) began.token.view → IsReady began
+    → began.number ≡ who.number → (n : ℕ)
+    → TurnedAt who.token.view (beginning_as who.token.view n) began.token.view → IsReady began
     → StaysReady Rebuilds began new → CanGiveUp new.token.view
-may_give_up who began new s p number begun ready on =
+may_give_up who began new s p number n begun ready on =
     let b = began.token.view in
     let w = new.token.view in
     let mine_b = ready.caller.mine in
     let none = rebuilt_no_entry b w began.number mine_b ready.quiet.resolved on.gone.went in
     let made = subst (λ n. HasMade b.start b.words b.log n b.calls) (sym number)
-    (begun_made who began.token s p begun) in
+    (begun_made who began.token s p n begun) in
     record {
       number = new.number;
       mine = on.gone.caller.mine;
@@ -149,7 +157,7 @@ module _ (who began new : Caller) (token : TokenFace) (it : IsFreezeCall who beg
 
   -- the begun view is later than the first
   pub b_view : IsLaterView v b
-  b_view = begun_view who began.token it.sound it.pass it.begun
+  b_view = begun_view who began.token it.sound it.pass it.n it.begun
 
   -- the last view is later than the view after the work
   pub x_view : IsLaterView w x

@@ -43,6 +43,7 @@ pub mod FreezeReadLemmas
 pub mod FreezeMarkLemmas
 pub mod FurtherLemmas
 pub mod WalkCountLemmas
+pub mod SearchCountLemmas
 pub mod UpdateCallLemmas
 mod AttemptLemmas
 mod MeetLemmas

@@ -21,6 +21,7 @@ pub record SweepEnds {A E : Type 0} (old : PassFace) (who : Caller) (refused : O
   pub pass : IsPassWith (record who { token = token }) refused
   pub seen : HasSeenMore old (face_as token who.number refused)
   pub swept : OnOk r (HasSweptOver old (face_as token who.number refused) first last before after)
+  pub once : token.view.searches ≡ old.searches + 1
   pub calls : token.view.calls ≡ old.calls
   pub stamp : token.view.stamp ≡ old.stamp
 
@@ -71,6 +72,7 @@ sweep_ends {A} {E} who refused b token all t g table first last before after r s
           pass = read_pass who refused b token all t g table;
           seen = read_seen who refused b token all t g table;
           swept = over r swept;
+          once = read_once who refused b token all t g table;
           calls = read_calls who refused b token all t g table;
           stamp = read_stamp who refused b token all t g table;
         }

@@ -107,6 +107,11 @@ HasStarted old new target (Some rebuild) = StaysReady Rebuilds old new
     × IsRebuildOf (now new.token.view) rebuild target × KeepsDoneBut old new (Some rebuild)
 HasStarted old new target None = GoesIdle old new
 
+-- the caller as if it had begun this many searches
+abbrev pub counted_as : Caller → ℕ → Caller
+counted_as who n =
+    record who { token = record who.token { view = record who.token.view { searches = n } } }
+
 -- ---- what it results in
 
 -- the caller was refused a row for the start of a rebuild of an inner row that the anchor's slot

@@ -28,6 +28,7 @@ impl Tree {
         ensures left { HasLeft pass.new result }
         ensures none { HasMadeNone pass.old pass.new }
         ensures unstarted { HasStartedNone pass.old pass.new }
+        ensures no_walk { pass.new.searches ≡ pass.old.searches }
         ensures loads { pass.new.loaded ≡ pass.old.loaded + 1 }
         ensures calls { pass.new.calls ≡ pass.old.calls }
         ensures stamp { pass.new.stamp ≡ pass.old.stamp }

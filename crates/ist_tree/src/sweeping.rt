@@ -1,5 +1,5 @@
 //! The pairs of a range of keys, read in their order.
-ghost use Rattle.std.specs.Prelude.{◌≡◌, ◌≤◌, OnOk};
+ghost use Rattle.std.specs.Prelude.{◌≡◌, ◌+◌, ◌≤◌, OnOk};
 ghost use Rattle.ist_tree.specs.Calls.{HasSeenMore};
 ghost use Rattle.ist_tree.specs.Sweeps.{HasSweptOver};
 
@@ -28,6 +28,7 @@ impl Tree {
         requires same_tree { pass.old.tree ≡ self.now }
         requires some { first ≤ last }
         ensures seen { HasSeenMore pass.old pass.new }
+        ensures once { pass.new.searches ≡ pass.old.searches + 1 }
         ensures swept { OnOk result (HasSweptOver pass.old pass.new first last
             found.old.items found.new.items) }
         ensures calls { pass.new.calls ≡ pass.old.calls }

@@ -171,6 +171,7 @@ impl Tree {
         requires same_tree { pass.old.tree ≡ self.now }
         requires its_tree { note.tree ≡ self.now }
         ensures seen { HasSeenMore pass.old pass.new }
+        ensures no_walk { pass.new.searches ≡ pass.old.searches }
         ensures calls { pass.new.calls ≡ pass.old.calls }
         ensures learnt { HasLearnt pass.new note }
         ensures woven { WeavesWith pass.new note }

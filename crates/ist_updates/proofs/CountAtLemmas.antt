@@ -1,5 +1,5 @@
 -- What an add to the count of a row shows, and then a load of its size. Serves `count_at`.
-use Rattle.std.proofs.Common.{◌≡◌, ℕ, ◌+◌, ◌-◌, ◌^◌, ◌<◌, ◌≤◌, nat_le, false, ◌∷◌, Some, refl, sym, ap, ◌∙◌, subst, arith}
+use Rattle.std.proofs.Common.{◌≡◌, ◌≢◌, ℕ, ◌+◌, ◌-◌, ◌^◌, ◌<◌, ◌≤◌, nat_le, false, ◌∷◌, Some, refl, sym, ap, ◌∙◌, subst, arith}
 use Rattle.std.proofs.lemmas.Bool.Decides.{nat_tests}
 use Rattle.ist_core.specs.declared.events.Event.TheVariants.{Count}
 use Rattle.ist_core.specs.declared.states.InnerRow.{InnerRow}
@@ -7,7 +7,7 @@ use Rattle.ist_core.specs.Arithmetic.{limit}
 use Rattle.ist_core.specs.Growing.{InnerGrows}
 use Rattle.ist_core.specs.Lawful.{Lawful, state_of}
 use Rattle.ist_core.specs.Pieces.{Inner}
-use Rattle.ist_core.specs.RowLayout.{inner_count_offset, inner_size_offset}
+use Rattle.ist_core.specs.RowLayout.{anchor_slot_place, inner_count_offset, inner_size_offset}
 use Rattle.ist_core.specs.Shown.{IsShown, shown_row}
 use Rattle.ist_core.proofs.ChainLemmas.{on_chain_inner}
 use Rattle.ist_core.proofs.FateLemmas.{grow_between}
@@ -23,7 +23,7 @@ use Rattle.ist_rule.specs.Rule.{IsSound}
 use Rattle.ist_rule.specs.Watching.{number_of}
 use Rattle.ist_rule.proofs.LaterLemmas.{later-goes_on}
 use Rattle.ist_rule.proofs.WentOnLemmas.{logged_went, looked_went, went_more, went_grow}
-use Rattle.ist_dcss.proofs.FieldLemmas.{looked_row, row_low}
+use Rattle.ist_dcss.proofs.FieldLemmas.{looked_row, row_above, row_low}
 use Rattle.laws_coming.proofs.AddingLemmas.{count_comes}
 use Rattle.ist_updates.specs.Walking.{MayCount, counting, IsCountAt, HasCountedAt}
 
@@ -42,6 +42,11 @@ module _ (v : View) (s : IsSound v) (row : ℕ) (m : MayCount v row) where
   -- the size of the row lies within the table
   pub size_low : row + inner_size_offset < v.words
   size_low = (row_low v s row (Inner there.0) there.1 3 (omega arith)).0
+
+  -- and after the anchor's slot
+  pub size_off : row + inner_size_offset ≢ anchor_slot_place
+  size_off same =
+      let above = row_above v s row (Inner there.0) there.1 in absurd (omega arith)
 
   -- the add may be the Count
   pub can_count : (place : ℕ) → place ≡ row + inner_count_offset

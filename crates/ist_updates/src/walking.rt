@@ -1,6 +1,8 @@
 //! The walk of an update: down to the slot of its key, and back up, counting.
 ghost use Rattle.std.specs.Prelude.{◌≡◌, ◌≢◌, ℕ, None, Some, Ok, IfOk};
 ghost use Rattle.ist_core.specs.References.{InnerAt, ref_of};
+ghost use Rattle.ist_core.specs.RowLayout.{anchor};
+ghost use Rattle.ist_rule.specs.Conditions.{MayWalk};
 ghost use Rattle.ist_rule.specs.Faces.{word_count_of};
 ghost use Rattle.ist_find.specs.Searches.{Came};
 ghost use Rattle.ist_rows.specs.Going.{StaysReady};
@@ -79,7 +81,7 @@ fn try_at(
 /// Goes down from a node that the caller's search has reached, and tries the update at the slot of
 /// its key. If the update took effect, it is counted at each row on the way back.
 ///
-/// The walk ends, since bases rise on the way down. It takes no memory.
+/// From the anchor it goes right after a search was begun, which counts the walk. It ends, since bases rise on the way down. It takes no memory.
 pub(crate) fn descend(
     table: &TreeTable,
     who: &mut Caller,
@@ -91,6 +93,7 @@ pub(crate) fn descend(
     requires same_table { who.old.token.table ≡ table.now.table }
     requires asked { IsAsked who.old (command_for key value) }
     requires came { Came who.old.token.view key node }
+    requires top { node ≡ anchor → MayWalk who.old.token.view }
     ensures same_table { who.new.token.table ≡ table.now.table }
     ensures walk { IsWalk who.old key value when node (word_count_of table.now) result who.new }
 {

@@ -2,6 +2,7 @@ pub mod TableLemmas
 pub mod PutLemmas
 pub mod NewStartLemmas
 pub mod KeptLemmas
+pub mod TopLemmas
 pub mod LeafLemmas
 pub mod StartLemmas
 pub mod RaceLemmas

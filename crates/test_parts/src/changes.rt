@@ -9,9 +9,9 @@ ghost use Rattle.test_parts.specs.Samples.{sample_put};
 
 use ist_core::Command;
 use ist_dcss::{Installed, install};
-use ist_layout::{ANCHOR_SLOT_PLACE, PUT_KIND, Ref, START_KIND, UNDECIDED};
+use ist_layout::{PUT_KIND, Ref, START_KIND, UNDECIDED};
 use ist_rows::{Caller, Kind, fill_row};
-use ist_rule::{TreeTable, begin_call, know, load};
+use ist_rule::{TreeTable, begin_call, begin_search, know, load_top};
 
 /// Fills a put of the value at the key 1 into both rows, and installs it in the anchor's slot, if that slot
 /// is empty.
@@ -60,6 +60,7 @@ pub fn install_start(table: &TreeTable, who: &mut Caller) -> Installed
     ensures same_table { who.new.token.table ≡ table.now.table }
     ensures may_help { result ≡ Yes → MayHelp who.new.token.view 20 }
 {
+    begin_search(table, &mut who.token);
     let from = Ref::Inner { base: 4 }.to_word();
     let to = Ref::Rebuild { base: 15 }.to_word();
     let unset = Ref::Unset.to_word();
@@ -72,7 +73,7 @@ pub fn install_start(table: &TreeTable, who: &mut Caller) -> Installed
         &[UNDECIDED, START_KIND, 2, 0, from, to, 0, 0, 0],
     );
     know(&who.token);
-    let met = load(table, &mut who.token, ANCHOR_SLOT_PLACE);
+    let met = load_top(table, &mut who.token);
     if met != from {
         return Installed::Other(met);
     }

@@ -9,7 +9,7 @@ use crate::tables::empty_table;
 use ist_dcss::{Decision, Installed, help};
 use ist_layout::{ANCHOR_SLOT_PLACE, Ref};
 use ist_rows::{Caller, Kind, enter, reserve};
-use ist_rule::{TreeTable, TreeToken, know, load};
+use ist_rule::{TreeTable, TreeToken, begin_search, load_top};
 use std::alloc::{AllocError, Global};
 use std::test::Fail;
 use std::thread::{Threads, join};
@@ -23,8 +23,8 @@ pub(crate) fn help_met(table: &TreeTable, who: &mut Caller) -> Option<Decision>
     ensures same_rows { spares_of who.new ≡ spares_of who.old }
     ensures in_same_call { who.new.token.view.pending ≡ who.old.token.view.pending }
 {
-    know(&who.token);
-    let met = load(table, &mut who.token, ANCHOR_SLOT_PLACE);
+    begin_search(table, &mut who.token);
+    let met = load_top(table, &mut who.token);
     if met == (Ref::Change { base: 6 }).to_word() {
         return Some(help(table, &mut who.token, 6));
     }

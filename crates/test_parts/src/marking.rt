@@ -8,10 +8,10 @@ use crate::beginnings::{begin_start, reserve_start};
 use crate::races::follow;
 use crate::samples::word_at;
 use crate::table_of_two;
-use ist_layout::{ANCHOR_SLOT_PLACE, Ref, Status};
+use ist_layout::{Ref, Status};
 use ist_mark::mark_and_count;
 use ist_rows::{Caller, enter};
-use ist_rule::{TreeTable, TreeToken, know, load};
+use ist_rule::{TreeTable, TreeToken, begin_search, know, load, load_top};
 use std::alloc::{AllocError, Global};
 use std::test::Fail;
 use std::thread::{Threads, join};
@@ -33,8 +33,8 @@ fn meet(table: &TreeTable, who: &mut Caller) -> bool
     ensures same_table { who.new.token.table ≡ table.now.table }
     ensures may_mark { result ≡ true → MayMark who.new.token.view 4 }
 {
-    know(&who.token);
-    let met = load(table, &mut who.token, ANCHOR_SLOT_PLACE);
+    begin_search(table, &mut who.token);
+    let met = load_top(table, &mut who.token);
     if met != (Ref::Change { base: 20 }).to_word() {
         return false;
     }

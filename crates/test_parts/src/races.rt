@@ -20,7 +20,9 @@ use ist_dcss::{Decision, help};
 use ist_layout::{ANCHOR_SLOT_PLACE, Ref};
 use ist_mark::mark_and_count;
 use ist_rows::{Caller, Kind, drop_pair, enter, fill_row, reserve};
-use ist_rule::{TreeTable, TreeToken, exchange_or_lose, know, load, word_count};
+use ist_rule::{
+    TreeTable, TreeToken, begin_search, exchange_or_lose, know, load, load_top, word_count,
+};
 use std::alloc::{AllocError, Global};
 use std::test::Fail;
 
@@ -52,8 +54,8 @@ fn meet(table: &TreeTable, token: &mut TreeToken, number: u32, base: u32) -> boo
     ensures filled { HasPrepared token.new.view number base }
     ensures may_help { result ≡ true → MayHelp token.new.view 20 }
 {
-    know(token);
-    let met = load(table, token, ANCHOR_SLOT_PLACE);
+    begin_search(table, token);
+    let met = load_top(table, token);
     if met != (Ref::Change { base: 20 }).to_word() {
         return false;
     }
@@ -239,11 +241,11 @@ fn give_up_low(table: &TreeTable, who: &mut Caller) -> bool
     ensures same_table { who.new.token.table ≡ table.now.table }
     ensures caller { IsCaller who.new }
 {
-    know(&who.token);
     if word_count(table) < 44 {
         return false;
     }
-    let slot = load(table, &mut who.token, ANCHOR_SLOT_PLACE);
+    begin_search(table, &mut who.token);
+    let slot = load_top(table, &mut who.token);
     if slot != (Ref::Rebuild { base: 15 }).to_word() {
         return false;
     }

@@ -4,7 +4,8 @@ ghost use Rattle.ist_core.specs.Lawful.{CanOpen};
 ghost use Rattle.ist_core.specs.RowLayout.{place_limit};
 
 use ist_core::Pair;
-use ist_rule::{TreeTable, TreeToken, load, word_count};
+use ist_layout::ANCHOR_SLOT_PLACE;
+use ist_rule::{TreeTable, TreeToken, begin_search, load, load_top, word_count};
 use std::alloc::{AllocError, Global};
 
 /// Returns the pairs with the keys from 0 on, each with a value that is one more than its key.
@@ -29,6 +30,10 @@ pub(crate) fn word_at(table: &TreeTable, token: &mut TreeToken, place: u64) -> u
     requires same_table { token.old.table ≡ table.now.table }
     ensures same_table { token.new.table ≡ table.now.table }
 {
+    if place == ANCHOR_SLOT_PLACE {
+        begin_search(table, token);
+        return load_top(table, token);
+    }
     if place < word_count(table) {
         load(table, token, place)
     } else {

@@ -1,13 +1,14 @@
 -- What a caller knows of a rebuild over further steps. Serves the steps of the tests.
-use Rattle.std.proofs.Common.{ℕ, ◌+◌, ◌<◌, arith}
+use Rattle.std.proofs.Common.{ℕ, ◌+◌, ◌<◌, ◌≤◌, arith}
 use Rattle.ist_core.specs.Marking.{HasTarget}
 use Rattle.ist_core.specs.Pieces.{Rebuild}
+use Rattle.ist_core.specs.RowLayout.{first_row}
 use Rattle.ist_core.specs.Rebuilding.{IsFinishedWith, IsStarted}
 use Rattle.laws_links.proofs.FinishedLemmas.{target_grows}
 use Rattle.laws_links.proofs.FormLemmas.{finished_with_grows}
 use Rattle.test_rebuilds.specs.Races.{HasLaid}
 use Rattle.test_rebuilds.specs.Steps.{HasMarkedTarget}
-use Rattle.ist_dcss.proofs.FieldLemmas.{row_low}
+use Rattle.ist_dcss.proofs.FieldLemmas.{row_above, row_low}
 use Rattle.ist_mark.specs.Marking.{Marks}
 use Rattle.ist_rows.specs.Going.{IsReady}
 use Rattle.ist_rebuild.specs.Going.{ServesRebuild}
@@ -52,3 +53,8 @@ pub laid_low : (v : View) (number rebuild word : ℕ) → IsSound v → HasLaid 
     → rebuild + 3 < v.words
 laid_low v number rebuild word s h =
     (row_low v s rebuild (Rebuild h.built.row) h.built.published 3 (omega arith)).0
+
+-- and after the anchor's slot
+pub laid_above : (v : View) (number rebuild word : ℕ) → IsSound v → HasLaid v number rebuild word
+    → first_row ≤ rebuild
+laid_above v number rebuild word s h = row_above v s rebuild (Rebuild h.built.row) h.built.published

@@ -15,11 +15,11 @@ ghost use Rattle.ist_rule.specs.Learning.{now};
 use ist_build::{fill_parts, set_root};
 use ist_core::Full;
 use ist_dcss::target_of;
-use ist_layout::{ANCHOR, ANCHOR_SLOT_PLACE, Ref};
+use ist_layout::{ANCHOR, Ref};
 use ist_mark::mark_and_count;
 use ist_rebuild::{Helped, Started, help_rebuild, start};
 use ist_rows::{Caller, enter};
-use ist_rule::{TreeTable, TreeToken, begin_call, know, load};
+use ist_rule::{TreeTable, TreeToken, begin_call, begin_search, know, load_top};
 
 /// A finished row, and how many keys it has.
 #[derive(Clone, Copy, Drop)]
@@ -55,7 +55,8 @@ fn slot_word(table: &TreeTable, who: &mut Caller) -> u64
     ensures holds { SlotHolds (now who.new.token.view) anchor 0 result }
 {
     know(&who.token);
-    load(table, &mut who.token, ANCHOR_SLOT_PLACE)
+    begin_search(table, &mut who.token);
+    load_top(table, &mut who.token)
 }
 
 /// Returns the inner row below the anchor, if there is one: a rebuild of it may be started.

@@ -6,9 +6,9 @@ ghost use Rattle.ist_tree.specs.Insides.{IsPass};
 use crate::tables::{Opened, open};
 use crate::updates::{enter_idle, update_all};
 use ist_core::{Full, Pair};
-use ist_layout::{ANCHOR_SLOT_PLACE, Ref};
+use ist_layout::Ref;
 use ist_rows::{Caller, Kind, drop_pair, enter, reserve};
-use ist_rule::{TreeTable, know, load};
+use ist_rule::{TreeTable, begin_search, load_top};
 use ist_tree::OpenFault;
 use std::alloc::Global;
 use std::test::Fail;
@@ -21,8 +21,8 @@ fn give_up(table: &TreeTable, who: &mut Caller) -> Option<u32>
     ensures same_table { who.new.token.table ≡ table.now.table }
     ensures caller { IsCaller who.new }
 {
-    know(&who.token);
-    let word = load(table, &mut who.token, ANCHOR_SLOT_PLACE);
+    begin_search(table, &mut who.token);
+    let word = load_top(table, &mut who.token);
     let base = match Ref::from_word(word) {
         Some(Ref::Inner { base }) => base,
         _ => return None,

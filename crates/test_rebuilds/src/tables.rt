@@ -6,7 +6,8 @@ ghost use Rattle.ist_core.specs.RowLayout.{place_limit};
 
 use ist_core::{Command, Pair};
 use ist_image::{lay_image, needed_words};
-use ist_rule::{TreeTable, TreeToken, load, open_table, word_count};
+use ist_layout::ANCHOR_SLOT_PLACE;
+use ist_rule::{TreeTable, TreeToken, begin_search, load, load_top, open_table, word_count};
 use ist_tree::OpenFault;
 use plain_map::Plain;
 use std::alloc::{AllocError, Global};
@@ -92,6 +93,10 @@ pub(crate) fn word_at(table: &TreeTable, token: &mut TreeToken, place: u64) -> u
     requires same_table { token.old.table ≡ table.now.table }
     ensures same_table { token.new.table ≡ table.now.table }
 {
+    if place == ANCHOR_SLOT_PLACE {
+        begin_search(table, token);
+        return load_top(table, token);
+    }
     if place < word_count(table) {
         load(table, token, place)
     } else {

@@ -1,6 +1,6 @@
 use Rattle.std.proofs.Common.{◌+◌, ap, ◌∙◌, arith}
 use Rattle.ist_build.proofs.FillLemmas.{MayDraw, may_draw}
-use Rattle.ist_build.proofs.RootBuiltLemmas.{rebuild_within}
+use Rattle.ist_build.proofs.RootBuiltLemmas.{rebuild_within, rebuild_off}
 use Rattle.ist_build.proofs.filling.draw.Goals as goal
 use Rattle.ist_build.proofs.filling.draw.Goals.{After-load-next}
 
@@ -9,6 +9,11 @@ load-next-requires-clause-within c =
     rebuild_within _ _ c.know.ensures.sound
     (c.know.ensures.words ∙ ap (λ t. t.words) c.requires.same_table) c.args.shared.rebuild _
     c.requires.shared.is.published 4 _ (omega arith) (omega (arith, c.from-place.ensures))
+
+pub load-next-requires-clause-no_walk : goal.load-next-requires-clause-no_walk
+load-next-requires-clause-no_walk c =
+    rebuild_off _ c.know.ensures.sound c.args.shared.rebuild _ c.requires.shared.is.published 4 _
+    (omega (arith, c.from-place.ensures))
 
 -- the part that the draw word names may be drawn
 may : (c : After-load-next)

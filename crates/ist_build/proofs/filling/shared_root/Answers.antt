@@ -2,7 +2,7 @@ use Rattle.std.proofs.Common.{◌+◌, ap, ◌∙◌, arith}
 use Rattle.ist_rule.proofs.GoingOnLemmas.{looked_goes_on}
 use Rattle.ist_build.proofs.BackLemmas.{back_loads}
 use Rattle.ist_build.proofs.FilledLemmas.{NamesRoot, names_root}
-use Rattle.ist_build.proofs.RootBuiltLemmas.{rebuild_within}
+use Rattle.ist_build.proofs.RootBuiltLemmas.{rebuild_within, rebuild_off}
 use Rattle.ist_build.proofs.TopLeafLemmas.{many_two, target_few}
 use Rattle.ist_build.proofs.filling.shared_root.Goals as goal
 use Rattle.ist_build.proofs.filling.shared_root.Goals.{After-load-root}
@@ -12,6 +12,11 @@ load-root-requires-clause-within c =
     rebuild_within _ _ c.know.ensures.sound
     (c.know.ensures.words ∙ ap (λ t. t.words) c.requires.same_table) c.args.rebuild _
     c.requires.told.published 3 _ (omega arith) (omega (arith, c.from.ensures))
+
+pub load-root-requires-clause-no_walk : goal.load-root-requires-clause-no_walk
+load-root-requires-clause-no_walk c =
+    rebuild_off _ c.know.ensures.sound c.args.rebuild _ c.requires.told.published 3 _
+    (omega (arith, c.from.ensures))
 
 names : (c : After-load-root)
     → NamesRoot c.load-root.new.token.view c.args.rebuild c.args.target.base c.args.target.keys

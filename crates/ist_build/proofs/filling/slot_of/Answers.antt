@@ -1,5 +1,7 @@
 use Rattle.std.proofs.Common.{ap, arith}
+use Rattle.ist_core.specs.Pieces.{Inner}
 use Rattle.ist_rule.proofs.GoingOnLemmas.{looked_goes_on}
+use Rattle.ist_dcss.proofs.FieldLemmas.{row_above}
 use Rattle.ist_build.proofs.BackLemmas.{back_loads}
 use Rattle.ist_build.proofs.PartSlotLemmas.{degree_low, shared_slots, slot_looked, slot_unset}
 use Rattle.ist_build.proofs.filling.slot_of.Goals as goal
@@ -16,6 +18,13 @@ load-requires-clause-within c =
     let known = c.know.ensures.words in
     let same = ap (λ t. t.words) c.requires.same_table in
     omega arith
+
+pub load-requires-clause-no_walk : goal.load-requires-clause-no_walk
+load-requires-clause-no_walk c at =
+    let it = shared_slots _ _ c.requires.shared in
+    let above = row_above _ c.know.ensures.sound _ (Inner it.row) it.published in
+    let place = c.slot_place.ensures.value in
+    absurd (omega arith)
 
 pub returns-clause-back : goal.returns-clause-back
 returns-clause-back c =

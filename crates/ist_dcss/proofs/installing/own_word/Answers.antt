@@ -1,6 +1,6 @@
 use Rattle.std.proofs.Common.{◌+◌, ◌<◌, ◌^◌, ap, arith}
 use Rattle.ist_rule.proofs.GoingOnLemmas.{looked_goes_on}
-use Rattle.ist_dcss.proofs.InstallLemmas.{own_low, own_tells}
+use Rattle.ist_dcss.proofs.InstallLemmas.{own_low, own_above, own_tells}
 use Rattle.ist_dcss.proofs.installing.own_word.Goals as goal
 
 -- the row lies within the table, which is small
@@ -21,6 +21,13 @@ load-requires-clause-within g c =
     let known = c.know.ensures.words in
     let same = ap (λ t. t.words) c.requires.0 in
     omega arith
+
+pub load-requires-clause-no_walk : goal.load-requires-clause-no_walk
+load-requires-clause-no_walk g c at =
+    let above = own_above _ c.know.ensures.sound c.args.base g.words c.requires.1.0 c.args.offset
+    c.requires.1.1 in
+    let from = c.from.ensures in
+    absurd (omega arith)
 
 -- one load was made
 pub returns-clause-seen : goal.returns-clause-seen

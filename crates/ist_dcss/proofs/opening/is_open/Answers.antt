@@ -3,7 +3,7 @@ use Rattle.std.proofs.lemmas.Bool.{eqb-true}
 use Rattle.ist_core.specs.Writing.{place_of_status}
 use Rattle.ist_rule.proofs.GoingOnLemmas.{looked_goes_on}
 use Rattle.ist_dcss.proofs.CallingLemmas.{open_unrefused}
-use Rattle.ist_dcss.proofs.OpeningLemmas.{status_low, shows_open, open_shows}
+use Rattle.ist_dcss.proofs.OpeningLemmas.{status_low, status_off, shows_open, open_shows}
 use Rattle.ist_dcss.proofs.opening.is_open.Goals as goal
 
 -- the status lies within the table
@@ -15,6 +15,12 @@ load-requires-clause-within c =
     let known = c.know.ensures.words in
     let same = ap (λ t. t.words) c.requires.same_table in
     omega arith
+
+-- and isn't the anchor's slot
+pub load-requires-clause-no_walk : goal.load-requires-clause-no_walk
+load-requires-clause-no_walk c at =
+    status_off _ c.know.ensures.sound c.args.node c.requires.node
+    (sym (c.status_place.ensures.value ∙ ap place_of_status c.from.ensures) ∙ at)
 
 -- a load was made
 pub returns-clause-seen : goal.returns-clause-seen

@@ -1,8 +1,9 @@
 use Rattle.std.proofs.Common.{◌+◌, ◌<◌, ◌^◌, ◌∙◌, sym, ap, arith}
 use Rattle.ist_rule.specs.Learning.{now}
+use Rattle.ist_core.specs.Pieces.{Inner}
 use Rattle.ist_core.specs.Writing.{place_of_slot}
 use Rattle.ist_rule.proofs.GoingOnLemmas.{goes_on_same, looked_goes_on}
-use Rattle.ist_dcss.proofs.FieldLemmas.{has_place, tells_slot}
+use Rattle.ist_dcss.proofs.FieldLemmas.{has_place, row_above, tells_slot}
 use Rattle.ist_dcss.proofs.slots.slot_at.Goals as goal
 
 -- nothing was loaded
@@ -32,6 +33,13 @@ load-degree-requires-clause-within c =
     let known = c.know.ensures.words in
     let same = ap (λ t. t.words) c.requires.same_table in
     omega arith
+
+pub load-degree-requires-clause-no_walk : goal.load-degree-requires-clause-no_walk
+load-degree-requires-clause-no_walk c at =
+    let k = has_place _ c.know.ensures.sound c.args.node c.args.index c.requires.slot
+    (λ e. c.if-node-from.false (e ∙ sym c.from.ensures)) in
+    let above = row_above _ c.know.ensures.sound c.args.node (Inner k.row) k.published in
+    absurd (omega arith)
 
 pub overflow_cast-node : goal.overflow_cast-node
 overflow_cast-node c =

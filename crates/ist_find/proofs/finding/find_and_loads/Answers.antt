@@ -21,6 +21,12 @@ look_at-look-requires-in-Inner-clause-come c =
     search_came _ _ c.args.key c.loop-look.node _ _ _ c.loop-look.invariant.here c.in-Inner.base
     (ap ref_meant c.in-Inner.is)
 
+pub look_at-look-requires-in-Inner-clause-top : goal.look_at-look-requires-in-Inner-clause-top
+look_at-look-requires-in-Inner-clause-top c is =
+    let lies = search_rises _ c.loop-look.token.view c.args.key c.loop-look.node _ _ _
+    c.loop-look.invariant.here c.in-Inner.base (ap ref_meant c.in-Inner.is) in
+    absurd (lies.below_anchor is)
+
 -- which lies above the last one, and within the table
 pub loop-look-smaller : goal.loop-look-smaller
 loop-look-smaller c =

@@ -21,6 +21,13 @@ load-requires-clause-within c =
     let same = ap (λ t. t.words) c.requires.same_table in
     omega arith
 
+pub load-requires-clause-no_walk : goal.load-requires-clause-no_walk
+load-requires-clause-no_walk c at =
+    let k = knows_row c.args.token.now.view c.know.ensures.sound c.args.node c.requires.row in
+    let above = k.above in
+    let place = c.key_place.ensures.value in
+    absurd (omega arith)
+
 -- one load was made, and it gives the key
 pub returns-clause-seen : goal.returns-clause-seen
 returns-clause-seen c = looked_goes_on _ _ _ _ c.load.ensures.looked

@@ -13,6 +13,13 @@ load-degree-requires-clause-within c =
     let same = ap (λ t. t.words) c.requires.same_table in
     omega arith
 
+pub load-degree-requires-clause-no_walk : goal.load-degree-requires-clause-no_walk
+load-degree-requires-clause-no_walk c at =
+    let k = knows_row _ c.know.ensures.sound c.args.node c.requires.row in
+    let above = k.above in
+    let from = c.from.ensures in
+    absurd (omega arith)
+
 -- the degree is one more than the number of keys
 pub overflow_sub-result : goal.overflow_sub-result
 overflow_sub-result c =

@@ -1,7 +1,7 @@
 use Rattle.std.proofs.Common.{◌+◌, ◌∙◌, ap, arith}
 use Rattle.ist_core.specs.Pieces.{Leaf}
 use Rattle.ist_rule.proofs.GoingOnLemmas.{looked_goes_on}
-use Rattle.ist_dcss.proofs.FieldLemmas.{row_low}
+use Rattle.ist_dcss.proofs.FieldLemmas.{row_low, row_above}
 use Rattle.ist_find.proofs.ReadLemmas.{leaf_on, other_told, value_told}
 use Rattle.ist_find.proofs.reading.leaf_value.Goals as goal
 
@@ -22,6 +22,20 @@ load-value-requires-clause-within c =
     (omega arith)).0 in
     let same = ap (λ t. t.words) (c.load.ensures.same_table ∙ c.requires.same_table) in
     omega arith
+
+pub load-requires-clause-no_walk : goal.load-requires-clause-no_walk
+load-requires-clause-no_walk c at =
+    let r = c.requires.leaf in
+    let above = row_above _ c.know.ensures.sound c.args.base (Leaf r.row) r.published in
+    let from = c.from.ensures in
+    absurd (omega arith)
+
+pub load-value-requires-clause-no_walk : goal.load-value-requires-clause-no_walk
+load-value-requires-clause-no_walk c at =
+    let r = c.requires.leaf in
+    let above = row_above _ c.know.ensures.sound c.args.base (Leaf r.row) r.published in
+    let from = c.from-2.ensures in
+    absurd (omega arith)
 
 -- another key gives no value
 pub returns-then-load-key-clause-value : goal.returns-then-load-key-clause-value

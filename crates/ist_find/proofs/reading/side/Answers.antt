@@ -1,7 +1,7 @@
 use Rattle.std.proofs.Common.{◌+◌, ◌∙◌, ap, arith}
 use Rattle.ist_core.specs.Pieces.{Change}
 use Rattle.ist_rule.proofs.GoingOnLemmas.{looked_goes_on}
-use Rattle.ist_dcss.proofs.FieldLemmas.{row_low}
+use Rattle.ist_dcss.proofs.FieldLemmas.{row_low, row_above}
 use Rattle.ist_find.proofs.ReadLemmas.{change_on, side_told}
 use Rattle.ist_find.proofs.reading.side.Goals as goal
 
@@ -26,6 +26,20 @@ load-requires-clause-within c =
     let known = c.know-2.ensures.words in
     let same = ap (λ t. t.words) (c.load-decision.ensures.same_table ∙ c.requires.same_table) in
     omega arith
+
+pub load-decision-requires-clause-no_walk : goal.load-decision-requires-clause-no_walk
+load-decision-requires-clause-no_walk c at =
+    let r = c.requires.row in
+    let above = row_above _ c.know.ensures.sound c.args.base (Change r.row) r.published in
+    let from = c.from.ensures in
+    absurd (omega arith)
+
+pub load-requires-clause-no_walk : goal.load-requires-clause-no_walk
+load-requires-clause-no_walk c at =
+    let r = c.requires.row in
+    let above = row_above _ c.know.ensures.sound c.args.base (Change r.row) r.published in
+    let from = c.from-2.ensures in
+    absurd (omega arith)
 
 -- the loads show how the slot reads
 pub returns-clause-side : goal.returns-clause-side

@@ -1,6 +1,6 @@
 use Rattle.std.proofs.Common.{◌+◌, ◌<◌, ◌^◌, ap, arith}
 use Rattle.ist_core.specs.Pieces.{Inner, Rebuild}
-use Rattle.ist_dcss.proofs.FieldLemmas.{row_low}
+use Rattle.ist_dcss.proofs.FieldLemmas.{row_low, row_above}
 use Rattle.ist_find.proofs.ReadLemmas.{target_told}
 use Rattle.ist_find.proofs.reading.target.Goals as goal
 
@@ -14,6 +14,13 @@ load-target-requires-clause-within c =
     let known = c.know.ensures.words in
     let same = ap (λ t. t.words) c.requires.same_table in
     omega arith
+
+pub load-target-requires-clause-no_walk : goal.load-target-requires-clause-no_walk
+load-target-requires-clause-no_walk c at =
+    let r = c.requires.row in
+    let above = row_above _ c.know.ensures.sound c.args.base (Rebuild r.row) r.published in
+    let from = c.from.ensures in
+    absurd (omega arith)
 
 -- so does its target, and the table is small
 pub overflow_cast-result : goal.overflow_cast-result

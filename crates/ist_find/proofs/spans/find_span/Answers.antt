@@ -30,6 +30,10 @@ look_for_all-look-requires-in-Inner c =
       first = here.below;
       last = here.above;
       edges = here.edges;
+      top = λ is.
+          let lies = span_rises _ c.loop-look.token.view c.args.key c.loop-look.node _ _ _ _ here
+          c.in-Inner.base (ap ref_meant c.in-Inner.is) in
+          absurd (lies.below_anchor is);
     }
 
 -- which lies above the last one, and within the table

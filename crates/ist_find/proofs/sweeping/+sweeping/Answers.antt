@@ -1,8 +1,9 @@
-use Rattle.std.proofs.Common.{◌∙◌, ◌+◌, ap, subst, arith}
+use Rattle.std.proofs.Common.{◌∙◌, ◌+◌, sym, ap, subst, arith}
 use Rattle.ist_layout.specs.Meanings.{ref_meant}
 use Rattle.ist_rule.proofs.GoingOnLemmas.{goes_on_more}
+use Rattle.ist_rule.specs.Conditions.{MayWalk}
 use Rattle.ist_find.specs.Sweeps.{HasSwept, starting}
-use Rattle.ist_find.proofs.SlotEndLemmas.{not_inner}
+use Rattle.ist_find.proofs.SlotEndLemmas.{not_inner, one_slot}
 use Rattle.ist_find.proofs.SlotSawLemmas.{led_node}
 use Rattle.ist_find.proofs.SweepTurnLemmas.{slot_leads, one_more, goes_on_after}
 use Rattle.ist_find.proofs.SweepingLemmas.{sweeps_none, row_is_swept, end_is_swept}
@@ -17,7 +18,7 @@ sweep_slot-sweep_below-requires t c =
     let up = below.0 in
     let falls = c.decreases in
     let small = c.ranges.node.fits in
-    (omega arith, (c.requires.same_table, (below.1, c.requires.some)))
+    (omega arith, (c.requires.same_table, (below.2, (c.requires.some, λ is. absurd (below.1 is)))))
 
 pub sweep_slot-returns-in-Inner-clause-swept : goal.sweep_slot-returns-in-Inner-clause-swept
 sweep_slot-returns-in-Inner-clause-swept t c =
@@ -43,6 +44,7 @@ sweep_below-slots-init t c = record {
   table = c.first_slot-place.ensures.same_table;
   here = sweeps_none _ _ c.first_slot-place.ensures.seen c.args.node c.args.first c.args.last _ _ _ _
       c.first_slot-place.ensures.loads c.first_slot-place.ensures.at c.requires.some c.requires.led;
+  top = λ is. subst MayWalk (sym (c.first_slot-place.ensures.stays is)) (c.requires.top is);
 }
 
 -- what the slot holds was led to
@@ -84,11 +86,13 @@ sweep_below-returns-then-read-last-clause-swept t c =
 -- or the next key begins the next slot
 pub sweep_below-slots-preserved : goal.sweep_below-slots-preserved
 sweep_below-slots-preserved t c =
-    let top = c.read_from-read.ensures.read.ends.top in
+    let ends = c.read_from-read.ensures.read.ends in
+    let top = ends.top in
     let other = c.if-read-last.false in
     record {
       table = c.sweep_slot.ensures.same_table ∙ c.read_from-read.ensures.same_table ∙ c.slots.invariant.table;
       here = goes_on_after _ _ _ c.args.node c.args.first c.slots.from c.read_from-read.result.to c.args.last _ _ _
           _ _ _ c.slots.invariant.here c.read_from-read.ensures.read _ _ c.sweep_slot.ensures.seen
           c.in_ok-sweep_slot.ensures.swept (omega arith);
+      top = λ is. absurd (one_slot _ c.slots.invariant.here.seen.sound c.args.node is _ (ends.edge (omega arith)));
     }

@@ -1,4 +1,6 @@
 use Rattle.std.proofs.Common.{◌≡◌, ◌+◌, ◌*◌, ◌-◌, ◌^◌}
+use Rattle.ist_core.specs.RowLayout.{anchor}
+use Rattle.ist_rule.specs.Conditions.{MayWalk}
 use Rattle.ist_find.specs.Sweeps.{starting}
 use Rattle.ist_find.specs.Turns.{HasSweptTo}
 use Rattle.ist_find.proofs.sweeping.+sweeping.Given as goal
@@ -16,6 +18,7 @@ invariant-sweep_below-slots l = record {
   table : l.token.table ≡ l.fn.token.table;
   here : HasSweptTo l.fn.token.view l.token.view l.node l.first l.from l.last l.place.index l.place.count
       (starting l.fn.token.view l.node l.first) l.fn.found.items l.found.items;
+  top : l.node ≡ anchor → MayWalk l.token.view;
 }
 
 -- the next key rises

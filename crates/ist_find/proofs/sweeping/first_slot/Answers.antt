@@ -17,6 +17,10 @@ pub place_in_row-requires-clause-row : goal.place_in_row-requires-clause-row
 place_in_row-requires-clause-row c =
     node_row c.args.token.now.view c.args.node c.if-node-eq-ANCHOR.false c.requires.node
 
+-- which has another slot
+pub returns-clause-stays : goal.returns-clause-stays
+returns-clause-stays c is = absurd (c.if-node-eq-ANCHOR.false is)
+
 pub returns-clause-loads : goal.returns-clause-loads
 returns-clause-loads c =
     let v = c.args.token.now.view in

@@ -1,6 +1,7 @@
+use Rattle.ist_rule.specs.Conditions.{MayWalk}
 use Rattle.ist_find.proofs.PlaceLemmas.{at_on, slot_read}
 use Rattle.ist_find.proofs.SlotEndLemmas.{slot_within}
-use Rattle.std.proofs.Common.{arith}
+use Rattle.std.proofs.Common.{arith, subst, sym}
 use Rattle.ist_find.proofs.sweeping.read_from.Goals as goal
 
 -- the slot is the key's still
@@ -20,6 +21,11 @@ read_slot-reference-requires-clause-within c =
     c.requires.at.child in
     let long = c.requires.at.count_is in
     omega arith
+
+-- and a walk may begin still, if one is to begin
+pub read_slot-reference-requires-clause-top : goal.read_slot-reference-requires-clause-top
+read_slot-reference-requires-clause-top c is =
+    subst MayWalk (sym (c.slot_end-to.ensures.stays is)) (c.requires.top is)
 
 pub returns-clause-read : goal.returns-clause-read
 returns-clause-read c =

@@ -31,6 +31,9 @@ last_of-requires c =
           c.args.from _ (row_child v c.args.node c.args.from _ other c.requires.at.child);
     }
 
+pub returns-clause-stays : goal.returns-clause-stays
+returns-clause-stays c is = absurd (c.if-node-eq-ANCHOR.false is)
+
 pub returns-clause-ends : goal.returns-clause-ends
 returns-clause-ends c =
     keys_end _ c.know.ensures.sound c.args.node c.args.from _ c.args.last _ _ c.if-node-eq-ANCHOR.false

@@ -1,7 +1,7 @@
 use Rattle.std.proofs.Common.{◌+◌, ap, subst, arith}
 use Rattle.ist_rule.specs.Learning.{Looked}
 use Rattle.ist_core.specs.Pieces.{Inner}
-use Rattle.ist_dcss.proofs.FieldLemmas.{row_low}
+use Rattle.ist_dcss.proofs.FieldLemmas.{row_low, row_above}
 use Rattle.ist_mark.proofs.MarkLemmas.{mark_row}
 use Rattle.ist_mark.proofs.statuses.own_word.Goals as goal
 
@@ -16,6 +16,13 @@ load-requires-clause-within c =
     let known = c.know.ensures.words in
     let same = ap (λ t. t.words) c.requires.same_table in
     omega arith
+
+pub load-requires-clause-no_walk : goal.load-requires-clause-no_walk
+load-requires-clause-no_walk c at =
+    let it = mark_row _ c.know.ensures.sound c.args.node c.requires.may_mark in
+    let above = row_above _ c.know.ensures.sound c.args.node (Inner it.0) it.1 in
+    let from = c.from.ensures in
+    absurd (omega arith)
 
 pub returns-clause-looked : goal.returns-clause-looked
 returns-clause-looked c =

@@ -1,4 +1,5 @@
 use Rattle.std.proofs.Common.{refl, ◌∙◌}
+use Rattle.ist_core.specs.Slots.{anchor_is}
 use Rattle.ist_dcss.proofs.CallingLemmas.{met_change}
 use Rattle.ist_dcss.specs.Helping.{Serves as HelpsWith}
 use Rattle.ist_rule.proofs.WentOnLemmas.{goes_on_went}
@@ -19,6 +20,10 @@ turns-init c =
 pub slot_word-word-requires-clause-plan : goal.slot_word-word-requires-clause-plan
 slot_word-word-requires-clause-plan c =
     plan_went ServesRebuild _ _ c.turns.invariant.1.on.gone.went c.args.plan c.requires.plan
+
+-- the parent isn't the anchor, which is always open
+pub slot_word-word-requires-clause-other : goal.slot_word-word-requires-clause-other
+slot_word-word-requires-clause-other c is = c.requires.closed (anchor_is is)
 
 -- the change that was met may be helped
 pub help-requires-clause-may_help : goal.help-requires-clause-may_help

@@ -2,7 +2,7 @@ use Rattle.std.proofs.Common.{ap, arith, subst, sym, ◌∙◌}
 use Rattle.ist_rule.proofs.GoingOnLemmas.{goes_on_more, looked_goes_on}
 use Rattle.ist_dcss.specs.Naming.{IsSlot}
 use Rattle.ist_rebuild.proofs.SiteLemmas.{parent_slot}
-use Rattle.ist_rebuild.proofs.SlotLemmas.{plan_slot_low, plan_slot_told}
+use Rattle.ist_rebuild.proofs.SlotLemmas.{plan_slot_low, plan_slot_off, plan_slot_told}
 use Rattle.ist_rebuild.proofs.sites.slot_word.Goals as goal
 
 -- the parent has the slot
@@ -19,6 +19,11 @@ load-requires-clause-within c =
     let known = c.know-2.ensures.words in
     let same = ap (λ t. t.words) (c.slot_at-place.ensures.same_table ∙ c.requires.same_table) in
     omega arith
+
+pub load-requires-clause-no_walk : goal.load-requires-clause-no_walk
+load-requires-clause-no_walk c =
+    plan_slot_off _ _ c.know-2.ensures.sound c.args.plan c.requires.plan
+    c.slot_at-place.ensures.seen _ _ c.from.ensures c.slot_at-place.ensures.place c.requires.other
 
 pub returns-clause-seen : goal.returns-clause-seen
 returns-clause-seen c =

@@ -1,7 +1,7 @@
 use Rattle.std.proofs.Common.{sym, ap, subst, ◌∙◌, arith}
 use Rattle.ist_rule.specs.Faces.{TokenFace, TableFace}
 use Rattle.ist_rule.specs.Conditions.{CanBegin}
-use Rattle.ist_rule.proofs.CallPlayLemmas.{reads_moves}
+use Rattle.ist_rule.proofs.CallPlayLemmas.{reads_moves, may_walk}
 use Rattle.ist_rule.proofs.calling.begin_read.Goals as goal
 
 -- a load that begins a read keeps the rule
@@ -15,3 +15,8 @@ load-requires c =
       omega arith,
       reads_moves _ _ _ _ c.token.invariant.1.live can,
     )
+
+-- a walk may begin then
+pub returns-clause-may_walk : goal.returns-clause-may_walk
+returns-clause-may_walk c = may_walk _ _ (ap (λ x. x.searches) c.load.ensures.2.0.view)
+    (ap (λ x. x.loads.list) c.load.ensures.2.0.view)

@@ -1,6 +1,6 @@
 use Rattle.std.proofs.Common.{sym, ap, ◌∙◌, arith}
 use Rattle.ist_rule.specs.Faces.{TokenFace, TableFace}
-use Rattle.ist_rule.proofs.CallPlayLemmas.{searches_moves}
+use Rattle.ist_rule.proofs.CallPlayLemmas.{searches_moves, may_walk}
 use Rattle.ist_rule.proofs.calling.begin_search.Goals as goal
 
 -- a load that begins a search keeps the rule
@@ -12,3 +12,8 @@ load-requires c =
       omega arith,
       searches_moves _ _ _ _ c.token.invariant.1.live,
     )
+
+-- a walk may begin then
+pub returns-clause-may_walk : goal.returns-clause-may_walk
+returns-clause-may_walk c = may_walk _ _ (ap (λ x. x.searches) c.load.ensures.2.0.view)
+    (ap (λ x. x.loads.list) c.load.ensures.2.0.view)

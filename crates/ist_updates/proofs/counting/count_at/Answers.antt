@@ -1,6 +1,6 @@
-use Rattle.std.proofs.Common.{◌+◌, ap, arith}
+use Rattle.std.proofs.Common.{◌+◌, ◌∙◌, sym, ap, arith}
 use Rattle.ist_rule.proofs.KnownPlaceLemmas.{known_low}
-use Rattle.ist_updates.proofs.CountAtLemmas.{size_low, can_count, found_fits, all_went, counted_at}
+use Rattle.ist_updates.proofs.CountAtLemmas.{size_low, size_off, can_count, found_fits, all_went, counted_at}
 use Rattle.ist_updates.proofs.counting.count_at.Goals as goal
 
 -- the add may be the Count
@@ -20,6 +20,11 @@ load-size-requires-clause-within c =
     let from = c.from.ensures in let known = c.know.ensures.words in
     let same = ap (λ t. t.words) c.requires.same_table in
     omega arith
+
+pub load-size-requires-clause-no_walk : goal.load-size-requires-clause-no_walk
+load-size-requires-clause-no_walk c at =
+    size_off _ c.know.ensures.sound c.args.row c.requires.may_count
+    (ap (λ n. n + 3) (sym c.from.ensures) ∙ at)
 
 -- the count is no great number
 pub overflow_add-result : goal.overflow_add-result

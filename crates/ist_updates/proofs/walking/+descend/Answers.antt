@@ -1,7 +1,9 @@
 use borrow.Author.Gap.{counting}
 use borrow.Author.Rules.{rules}
-use Rattle.std.proofs.Common.{ℕ, ◌∙◌}
+use Rattle.std.proofs.Common.{ℕ, subst, ◌∙◌}
 use Rattle.ist_rule.proofs.WentOnLemmas.{goes_on_went}
+use Rattle.ist_find.specs.Searches.{Names}
+use Rattle.ist_find.proofs.RowLemmas.{not_anchor}
 use Rattle.ist_updates.proofs.AskedStillLemmas.{NoEvent, asked_went}
 use Rattle.ist_updates.proofs.DescentLemmas.{IsDown, at_slot, below_walk, come_back, here_walk, refused_walk}
 use Rattle.ist_updates.proofs.walking.+descend.Goals as goal
@@ -54,7 +56,14 @@ descend-requires t c =
       search (rules, counting),
       (
         c.step_down-child.ensures.same_table ∙ c.requires.same_table,
-        (d.asked, (_, d.down d.came.0 c.in-Some.row d.came.1 is)),
+        (
+          d.asked,
+          (
+            (_, d.down d.came.0 c.in-Some.row d.came.1 is),
+            λ same. absurd (not_anchor _ c.step_down-child.ensures.seen.sound c.in-Some.row
+                (subst (Names c.step_down-child.new.token.view) is c.step_down-child.ensures.named) same),
+          ),
+        ),
       ),
     )
 

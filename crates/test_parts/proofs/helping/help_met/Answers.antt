@@ -1,28 +1,44 @@
-use Rattle.std.proofs.Common.{◌∙◌}
+use Rattle.std.proofs.Common.{◌∙◌, ap}
+use Rattle.ist_rule.specs.declared.view.View.{View}
 use Rattle.ist_rule.proofs.GoingOnLemmas.{looked_goes_on}
 use Rattle.ist_rule.proofs.WentOnLemmas.{went_all}
+use Rattle.ist_rows.specs.Rows.{IsCaller}
 use Rattle.ist_rows.proofs.CallerGoingLemmas.{caller_goes_on}
 use Rattle.ist_rows.proofs.CallerLawLemmas.{caller_went}
 use Rattle.ist_dcss.proofs.HelperLemmas.{serves_keep}
 use Rattle.test_parts.proofs.PutLemmas.{put_met}
+use Rattle.test_parts.proofs.TopLemmas.{caller_begun}
 use Rattle.test_parts.proofs.helping.help_met.Goals as goal
+use Rattle.test_parts.proofs.helping.help_met.Goals.{After-begin_search}
+
+-- a caller that began a search is still a caller
+begun : (c : After-begin_search) → IsCaller (record c.args.who.now { token = c.begin_search.new.token })
+begun c =
+    caller_begun c.args.who.now c.begin_search.new.token c.requires.caller c.begin_search.ensures.begun
 
 -- the caller has met the change
 pub help-requires-clause-may_help : goal.help-requires-clause-may_help
 help-requires-clause-may_help c =
-    put_met _ _ _ _ c.requires.caller.mine c.load-met.ensures.looked
+    put_met _ _ _ _ (begun (goal.at.help-requires-clause-may_help c).After-begin_search).mine c.load_top-met.ensures.looked
     (c.if-met-to_word.true ∙ c.to_word.ensures.value)
 
 -- a caller that made a load is still a caller
 pub returns-clause-caller : goal.returns-clause-caller
 returns-clause-caller c =
-    caller_goes_on c.args.who.now c.load-met.new.token c.requires.caller
-    (looked_goes_on _ _ _ _ c.load-met.ensures.looked)
+    caller_goes_on _ c.load_top-met.new.token (begun (goal.at.returns-clause-caller c).After-begin_search)
+    (looked_goes_on _ _ _ _ c.load_top-met.ensures.looked)
 
 -- and so it is when it has helped
 pub returns-then-met-to_word-clause-caller : goal.returns-then-met-to_word-clause-caller
 returns-then-met-to_word-clause-caller c =
     caller_went _ c.help.new.token
-    (caller_goes_on c.args.who.now c.load-met.new.token c.requires.caller
-    (looked_goes_on _ _ _ _ c.load-met.ensures.looked))
+    (caller_goes_on _ c.load_top-met.new.token
+    (begun (goal.at.returns-then-met-to_word-clause-caller c).After-begin_search)
+    (looked_goes_on _ _ _ _ c.load_top-met.ensures.looked))
     (went_all _ _ (serves_keep 6) _ _ c.help.ensures.went)
+
+-- it is in the same call
+pub returns-clause-in_same_call : goal.returns-clause-in_same_call
+returns-clause-in_same_call c =
+    ap (λ (v : View). v.pending) c.load_top-met.ensures.looked.view
+    ∙ ap (λ (v : View). v.pending) c.begin_search.ensures.begun.view

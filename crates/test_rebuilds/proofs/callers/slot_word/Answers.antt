@@ -4,13 +4,17 @@ use Rattle.ist_core.specs.Slots.{in_anchor}
 use Rattle.ist_rebuild.proofs.HelpedLemmas.{loads_helped}
 use Rattle.ist_rule.proofs.GoingOnLemmas.{looked_goes_on}
 use Rattle.ist_rows.proofs.GoneLemmas.{still_ready}
+use Rattle.ist_tree.proofs.FreezeGoingLemmas.{idle_same}
+use Rattle.ist_tree.proofs.SearchCountLemmas.{idle_begun}
 use Rattle.test_rebuilds.proofs.callers.slot_word.Goals as goal
 
 pub returns-clause-ready : goal.returns-clause-ready
 returns-clause-ready c =
-    still_ready (loads_helped c.args.who.now c.load.new.token c.requires.ready
-    (looked_goes_on _ _ _ _ c.load.ensures.looked)).on
+    still_ready (loads_helped _ c.load_top.new.token
+    (still_ready (idle_begun c.args.who.now c.args.who.now c.begin_search.new.token
+    (idle_same c.args.who.now c.know.ensures.sound c.requires.ready) c.begin_search.ensures.begun).on)
+    (looked_goes_on _ _ _ _ c.load_top.ensures.looked)).on
 
 -- the slot held the word that was loaded
 pub returns-clause-holds : goal.returns-clause-holds
-returns-clause-holds c = in_anchor refl refl (sym (c.load.ensures.looked.stood _ shown_slot))
+returns-clause-holds c = in_anchor refl refl (sym (c.load_top.ensures.looked.stood _ shown_slot))

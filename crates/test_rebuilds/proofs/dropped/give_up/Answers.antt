@@ -2,39 +2,40 @@ use Rattle.ist_mark.proofs.BelowLemmas.{read_as}
 use Rattle.ist_rule.proofs.GoingOnLemmas.{looked_goes_on}
 use Rattle.ist_rows.specs.Rows.{IsCaller}
 use Rattle.ist_rows.proofs.CallerGoingLemmas.{caller_goes_on}
-use Rattle.test_rebuilds.proofs.DroppedLemmas.{below_row_in_slot}
+use Rattle.test_rebuilds.proofs.DroppedLemmas.{below_row_in_slot, caller_begun}
 use Rattle.test_rebuilds.proofs.dropped.give_up.Goals as goal
-use Rattle.test_rebuilds.proofs.dropped.give_up.Goals.{After-load-word}
+use Rattle.test_rebuilds.proofs.dropped.give_up.Goals.{After-load_top-word}
 
--- a caller that has made a load is still a caller
-still : (c : After-load-word) → IsCaller (record c.args.who.now { token = c.load-word.new.token })
+-- a caller that has begun a search and made a load is still a caller
+still : (c : After-load_top-word) → IsCaller (record c.args.who.now { token = c.load_top-word.new.token })
 still c =
-    caller_goes_on c.args.who.now c.load-word.new.token c.requires.caller
-    (looked_goes_on _ _ _ _ c.load-word.ensures.looked)
+    caller_goes_on (record c.args.who.now { token = c.begin_search.new.token }) c.load_top-word.new.token
+    (caller_begun c.args.who.now c.begin_search.new.token c.requires.caller c.begin_search.ensures.begun)
+    (looked_goes_on _ _ _ _ c.load_top-word.ensures.looked)
 
 pub returns-in_default-clause-caller : goal.returns-in_default-clause-caller
 returns-in_default-clause-caller c =
-    still (goal.at.returns-in_default-clause-caller c).After-load-word
+    still (goal.at.returns-in_default-clause-caller c).After-load_top-word
 
 pub returns-in_default-2-clause-caller : goal.returns-in_default-2-clause-caller
 returns-in_default-2-clause-caller c =
-    still (goal.at.returns-in_default-2-clause-caller c).After-load-word
+    still (goal.at.returns-in_default-2-clause-caller c).After-load_top-word
 
 pub drop_pair-requires-clause-caller : goal.drop_pair-requires-clause-caller
 drop_pair-requires-clause-caller c =
-    still (goal.at.drop_pair-requires-clause-caller c).After-load-word
+    still (goal.at.drop_pair-requires-clause-caller c).After-load_top-word
 
 -- its pair row lies below the row in the slot
 pub drop_pair-requires-clause-below : goal.drop_pair-requires-clause-below
 drop_pair-requires-clause-below c =
-    below_row_in_slot c.args.who.now c.load-word.new.token _ _ _ c.load-word.ensures.looked
+    below_row_in_slot (record c.args.who.now { token = c.begin_search.new.token }) c.load_top-word.new.token _ _ _ c.load_top-word.ensures.looked
     (read_as _ _ _ _ c.from_word.ensures.value c.in-Some-Inner.is c.in-Some-Inner.field-0-is)
     c.in-Some.is c.if-pair-base.true
 
 pub returns-in_default-pair-clause-caller : goal.returns-in_default-pair-clause-caller
 returns-in_default-pair-clause-caller c =
-    still (goal.at.returns-in_default-pair-clause-caller c).After-load-word
+    still (goal.at.returns-in_default-pair-clause-caller c).After-load_top-word
 
 pub returns-in_default-pair-2-clause-caller : goal.returns-in_default-pair-2-clause-caller
 returns-in_default-pair-2-clause-caller c =
-    still (goal.at.returns-in_default-pair-2-clause-caller c).After-load-word
+    still (goal.at.returns-in_default-pair-2-clause-caller c).After-load_top-word

@@ -1,4 +1,4 @@
-use Rattle.std.proofs.Common.{[]}
+use Rattle.std.proofs.Common.{[], arith}
 use Rattle.ist_rule.proofs.SearchedOnLemmas.{searched_more, searching_on, went_searched}
 use Rattle.ist_rule.proofs.WentOnLemmas.{goes_on_went, went_more}
 use Rattle.ist_find.proofs.SearchLemmas.{begun_comes}
@@ -16,6 +16,13 @@ step_down-child-requires-clause-come c = (
       (begun_comes _ _ c.args.key c.begin_search.ensures.begun)
       (c.inner_in.ensures.inner c.in-Some.node c.in-Some.is),
 )
+
+-- which isn't the anchor
+pub step_down-child-requires-clause-top : goal.step_down-child-requires-clause-top
+step_down-child-requires-clause-top c is =
+    let up = c.step_down-top.ensures.above c.in-Some.node (c.inner_in.ensures.inner c.in-Some.node c.in-Some.is)
+    in
+    absurd (omega arith)
 
 -- whose slot holds no row
 pub returns-in-None-clause-walked : goal.returns-in-None-clause-walked

@@ -5,7 +5,7 @@ use Rattle.ist_layout.specs.Meanings.{ref_meant}
 use Rattle.ist_rule.specs.Learning.{now}
 use Rattle.test_rebuilds.specs.Races.{HasLaid}
 use Rattle.test_rebuilds.proofs.RaceLemmas.{may_build, has_laid, has_built}
-use Rattle.test_rebuilds.proofs.ReadyLemmas.{laid_low}
+use Rattle.test_rebuilds.proofs.ReadyLemmas.{laid_above, laid_low}
 use Rattle.test_rebuilds.proofs.races.build.Goals as goal
 use Rattle.test_rebuilds.proofs.races.build.Goals.{After-know-2}
 
@@ -31,6 +31,12 @@ load-stood-requires-clause-within c =
     (laid (goal.at.load-stood-requires-clause-within c).After-know-2) in
     let same = ap (λ t. t.words) c.build_part.ensures.same_table in
     omega (arith, c.from.ensures, c.know-2.ensures.words)
+
+pub load-stood-requires-clause-no_walk : goal.load-stood-requires-clause-no_walk
+load-stood-requires-clause-no_walk c at =
+    let above = laid_above _ _ _ _ c.know-2.ensures.sound
+    (laid (goal.at.load-stood-requires-clause-no_walk c).After-know-2) in
+    absurd (omega (arith, c.from.ensures))
 
 -- and it has no root
 pub returns-clause-built : goal.returns-clause-built

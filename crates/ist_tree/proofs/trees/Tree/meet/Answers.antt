@@ -1,5 +1,6 @@
 -- A meeting is a join.
 use Rattle.std.proofs.Common.{◌∙◌, sym, ap, subst}
+use Rattle.ist_rule.specs.declared.view.View.{View}
 use Rattle.ist_rule.specs.Speaking.{MomentsGoOn}
 use Rattle.ist_tree.specs.Faces.{PassFace}
 use Rattle.ist_tree.proofs.MeetingLemmas.{MeetEnds, meet_ends}
@@ -26,6 +27,8 @@ returns c =
     let e = ends c in
     record {
       seen = e.seen;
+      no_walk = ap (λ (y : View). y.searches) c.join.ensures.joined.1.view
+          ∙ ap (λ (p : PassFace). p.searches) c.pass.view_is;
       calls = e.calls;
       learnt = e.learnt;
       woven = e.woven;

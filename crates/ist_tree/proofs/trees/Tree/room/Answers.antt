@@ -35,3 +35,7 @@ returns-clause-left c = (ends c).left_is
 
 pub returns-clause-unstarted : goal.returns-clause-unstarted
 returns-clause-unstarted c = (ends c).unstarted
+
+pub returns-clause-no_walk : goal.returns-clause-no_walk
+returns-clause-no_walk c =
+    ap (λ (y : View). y.searches) c.load-next.ensures.looked.view ∙ ap (λ p. p.searches) c.pass.view_is

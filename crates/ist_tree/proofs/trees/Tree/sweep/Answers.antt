@@ -28,3 +28,6 @@ returns-clause-calls c = (ends c).calls
 
 pub returns-clause-stamp : goal.returns-clause-stamp
 returns-clause-stamp c = (ends c).stamp
+
+pub returns-clause-once : goal.returns-clause-once
+returns-clause-once c = (ends c).once
