@@ -158,19 +158,20 @@ can_begin k s r v number command who none f h =
       spoken = spoken_begins k.start.value.items k.words r.log r.moments number v.calls command free;
     }
 
--- a caller between calls may begin a read
-pub can_read : (k : About) (s : Table) (r : Kept k s) (v : View) (number : ℕ)
+-- a caller between calls may read, and keep these loads
+pub can_read : (k : About) (s : Table) (r : Kept k s) (v : View) (number : ℕ) (loads : Loads)
+    → Each (Recalls k.start.value.items k.words r.log) loads.list
+    → NeverFall loads.since loads.list → loads.since ≤ length r.log
     → v.who ≡ Caller number → v.pending ≡ None → Fits k r.log s.words v → IsHeard r.moments v
-    → TurnsCall k r.log v r.moments number (GivesUp ∷ Begins None ∷ [])
-    (record { since = length r.log; list = [] }) v.calls v.stamp None
-can_read k s r v number who none f h =
+    → TurnsCall k r.log v r.moments number (GivesUp ∷ Begins None ∷ []) loads v.calls v.stamp None
+can_read k s r v number loads recalls in_order since who none f h =
     let ps = k.start.value.items in
     let b = can_begin k s r v number None who none f h in
     let moment = moment_now ps k.words r.log number (Begins None) in
     record {
-      recalls = tt;
-      in_order = tt;
-      since = omega arith;
+      recalls = recalls;
+      in_order = in_order;
+      since = since;
       stands = b.stands;
       stamps = b.stamps;
       call = λ n is. subst (CallStands ps k.words r.log n v.calls) none (f.is_true.call n is);
@@ -178,6 +179,14 @@ can_read k s r v number who none f h =
           (in_call_own number moment r.moments refl) b.keeps;
       spoken = spoken_gives_up ps k.words r.log (moment ∷ r.moments) number v.calls _ b.spoken;
     }
+
+-- its loads may stay as they are
+pub can_glance : (k : About) (s : Table) (r : Kept k s) (v : View) (number : ℕ)
+    → v.who ≡ Caller number → v.pending ≡ None → Fits k r.log s.words v → IsHeard r.moments v
+    → TurnsCall k r.log v r.moments number (GivesUp ∷ Begins None ∷ []) v.loads v.calls v.stamp None
+can_glance k s r v number who none f h =
+    let m = well_made_on k.start.value.items k.words v r.log (goes_on_by f.later) f.well_made in
+    can_read k s r v number v.loads m.recalls m.in_order m.since who none f h
 
 -- a prefix that is no shorter is the log itself
 same_length : {a b : Log} → GoesOn a b → length a ≡ length b → a ≡ b

@@ -1,5 +1,5 @@
 -- Loads that turn the view of their seat keep the rule. Serves the plays.
-use Rattle.std.proofs.Common.{◌≡◌, ◌≢◌, ◌⊎◌, ℕ, ◌+◌, List, [], ◌∷◌, ◌++◌, ◌≤◌, map, length, slice_index, slice_set, Option, Some, None, refl, sym, ap, ◌∙◌, subst, inl, inr, ⊎_elim, arith}
+use Rattle.std.proofs.Common.{◌≡◌, ◌≢◌, ◌⊎◌, ℕ, ◌+◌, List, [], ◌∷◌, ◌++◌, ◌≤◌, map, length, slice_index, slice_set, Option, Some, None, refl, sym, ap, ◌∙◌, subst, inl, inr, ⊎_elim, arith, le_refl}
 use mathlib.Core.Option as maybe
 use Rattle.atomic_table.specs.Table.{step, keeps, Allows}
 use Rattle.atomic_table.proofs.Lists.{at_set}
@@ -27,6 +27,7 @@ use Rattle.ist_rule.specs.Standings.{CallStands}
 use Rattle.ist_rule.specs.Speaking.{number_of, pending_of, HasSpoken, IsSilent, MomentsGoOn, one_moment, MomentsLater, no_later, one_later}
 use Rattle.ist_rule.specs.Rule.{IsNamed, IsMet, IsRetired, IsHeard, IsTimed, HasView, Fits, Kept, IsSound}
 use Rattle.ist_rule.specs.Playing.{Seated, begins, searches, reads, ends, gives_up}
+use Rattle.ist_rule.specs.Glancing.{glancing, glances}
 use Rattle.ist_rule.specs.Learning.{moment_seen, TurnedAt, beginning, searching, beginning_read, ending, giving_up}
 use Rattle.ist_rule.specs.Conditions.{CanBegin, CanEnd, CanGiveUp, MayWalk}
 use Rattle.laws_real_time.proofs.KeepLemmas.{ended_low}
@@ -36,8 +37,8 @@ use Rattle.ist_rule.proofs.ViewPartLemmas.{well_made_but, true_but}
 use Rattle.ist_rule.proofs.SoundViewLemmas.{as_view, sound_of}
 use Rattle.ist_rule.proofs.FrameLemmas.{Table}
 use Rattle.ist_rule.proofs.SpeakLemmas.{go_on_more, later_goes_on, caller_or, spoken_other, spoken_stands, working_linear}
-use Rattle.ist_rule.proofs.LookLemmas.{GoesAtStep, quiet, turns_moves}
-use Rattle.ist_rule.proofs.CallLoadLemmas.{TurnsCall, with_deeds, can_begin, can_search, can_read, can_end, can_give_up}
+use Rattle.ist_rule.proofs.LookLemmas.{GoesAtStep, quiet, looked, turns_moves}
+use Rattle.ist_rule.proofs.CallLoadLemmas.{TurnsCall, with_deeds, can_begin, can_search, can_read, can_glance, can_end, can_give_up}
 
 -- ---- a step of a call
 
@@ -289,11 +290,34 @@ pub reads_moves : (k : About) (slots id : ℕ) (me : Seated) → me.0.who ≢ Sp
     → Allows (Kept k) slots id me 0 (λ n. n) (reads (step slots 0 0 0 maybe.none) me)
 reads_moves k slots id me live can s r _ mine fits =
     let v = me.0 in
+    let loads : Loads = record { since = length r.log; list = [] } in
     turns_call k s r id me live mine can.number can.mine (GivesUp ∷ Begins None ∷ [])
-    record { since = length r.log; list = [] } (v.searches + 1) v.calls v.stamp None
-    (can_read k s r v can.number can.mine can.in_none (r.seats id v mine live)
-    (r.timed.heard id v mine live)) (beginning_read v)
+    loads (v.searches + 1) v.calls v.stamp None
+    (can_read k s r v can.number loads tt tt (le_refl (length r.log)) can.mine can.in_none
+    (r.seats id v mine live) (r.timed.heard id v mine live)) (beginning_read v)
     (ap (λ p. record (beginning_read v r.log r.moments) { pending = p }) (sym can.in_none))
+
+-- a load that is a read of its own keeps the rule
+pub glances_moves : (k : About) (slots id : ℕ) (me : Seated) → me.0.who ≢ Spent → CanBegin me.0
+    → Allows (Kept k) slots id me 0 (λ n. n) (glances (step slots 0 0 0 maybe.none) me)
+unfolding turns_call
+glances_moves k slots id me live can s r _ mine fits =
+    let v = me.0 in
+    let f = r.seats id v mine live in
+    let turned =
+    turns_call k s r id me live mine can.number can.mine (GivesUp ∷ Begins None ∷ []) v.loads v.searches
+    v.calls v.stamp None
+    (can_glance k s r v can.number can.mine can.in_none f (r.timed.heard id v mine live)) (glancing v)
+    (ap (λ p. record (glancing v r.log r.moments) { pending = p }) (sym can.in_none)) in (
+      turned.0,
+      turned.1,
+      turned.2,
+      turned.3,
+      (
+        record { turned = turned.4.0; stood = (looked k s r v f 0 live fits).stood },
+        turned.4.1,
+      ),
+    )
 
 -- a load that ends a call keeps the rule
 pub ends_moves : (k : About) (slots id : ℕ) (me : Seated) (call : Call) → me.0.who ≢ Spent

@@ -5,8 +5,10 @@ ghost use Rattle.ist_core.specs.declared.calls.Call.{Call as CallOf};
 ghost use Rattle.ist_core.specs.declared.commands.Command.{Command as CommandOf};
 ghost use Rattle.ist_rule.specs.Learning.{Turned, TurnedAt, beginning, searching, beginning_read, ending, giving_up};
 ghost use Rattle.ist_rule.specs.Conditions.{CanBegin, CanEnd, CanGiveUp, MayWalk};
+ghost use Rattle.ist_rule.specs.Glancing.{Glanced};
+ghost use Rattle.ist_core.specs.RowLayout.{next_place};
 
-use crate::plays::{GivesUp, Reads, Searches};
+use crate::plays::{GivesUp, Glances, Reads, Searches};
 use crate::table::{TreeTable, TreeToken};
 use ist_core::{Command, Reply};
 use std::marker::Brand;
@@ -48,6 +50,18 @@ pub fn begin_read(table: &TreeTable, token: &mut TreeToken)
 {
     // No event: a load of word 0, to begin a read. It sees what others did up to here.
     table.table.shared.load::<Reads>(&mut token.seat, 0);
+}
+
+/// Returns the first free word at this step, which has its place among the moments of all calls. The
+/// token's caller is in no call.
+pub fn glance(table: &TreeTable, token: &mut TreeToken) -> u64
+    requires same_table { token.old.table ≡ table.now.table }
+    requires may_begin { CanBegin token.old.view }
+    ensures same_table { token.new.table ≡ token.old.table }
+    ensures glanced { Glanced token.old.view next_place result token.new.view }
+{
+    // No event: a load of word 0, which is a read of its own. Meets whoever reserves a row.
+    table.table.shared.load::<Glances>(&mut token.seat, 0)
 }
 
 /// Ends the token's call with this reply. The call is then the last of the token's calls, with the

@@ -14,7 +14,7 @@ mod table;
 mod view;
 mod watching;
 
-pub use calling::{begin_call, begin_read, begin_search, end_call, give_up};
+pub use calling::{begin_call, begin_read, begin_search, end_call, give_up, glance};
 pub use opening::{close, know, open_table, open_table_over};
 pub use seating::{join, split};
 pub use steps::{add, exchange, exchange_all, exchange_or_lose, load, load_top, store};

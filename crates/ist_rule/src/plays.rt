@@ -39,6 +39,15 @@ impl Play<(), View> for Reads {
     ghost then = { reads };
 }
 
+// A load that is a read of its own.
+pub(crate) struct Glances;
+
+impl Play<(), View> for Glances {
+    ghost use Rattle.ist_rule.specs.Glancing.{glances};
+
+    ghost then = { glances };
+}
+
 // A load that gives up a call.
 pub(crate) struct GivesUp;
 

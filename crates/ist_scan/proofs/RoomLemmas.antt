@@ -14,9 +14,10 @@ use Rattle.ist_tree.specs.declared.freezing.Frozen.{Frozen}
 use Rattle.ist_tree.specs.Calls.{HasSeenMore}
 use Rattle.ist_tree.specs.Faces.{TreeFace, PassFace}
 use Rattle.ist_tree.specs.Freezing.{IsFreezeRefused}
+use Rattle.ist_tree.specs.RealTime.{StepsIn}
 use Rattle.ist_tree.specs.Refusals.{HadTooFew, IsTopRefused, KeepsRefusal}
 use Rattle.ist_tree.specs.Room.{HasLeft, HasMadeNone}
-use Rattle.ist_tree.proofs.HeardLemmas.{seen_more_then, steps_from}
+use Rattle.ist_tree.proofs.HeardLemmas.{seen_more_then, steps_from, steps_until}
 use Rattle.ist_scan.specs.Room.{HadRoom, HadNoRoom, IsShotRefused, for_start}
 use Rattle.ist_scan.specs.Shots.{HasTakenShot}
 use Rattle.ist_scan.proofs.ShotLemmas.{further}
@@ -24,18 +25,19 @@ use Rattle.ist_scan.proofs.ShotLemmas.{further}
 -- ---- the look
 
 -- enough words were left
-pub had_room : (p q : PassFace) (left words : ℕ) → HasSeenMore p q → HasLeft q left → words ≤ left
-    → HadRoom p q words
-had_room p q left words seen has enough =
+pub had_room : (p q : PassFace) (left words : ℕ) → HasSeenMore p q → HasLeft q left
+    → StepsIn p q q.seen → words ≤ left → HadRoom p q words
+had_room p q left words seen has step enough =
     let sum : spent p.tree.start q.seen + left ≡ p.tree.words
     = subst (λ (t : TreeFace). spent t.start q.seen + left ≡ t.words) seen.tree has in
-    record { at = q.seen; since = seen.seen; until = same_log; enough = omega arith }
+    record { at = q.seen; step = step; enough = omega arith }
 
 -- too few were left
 pub had_no_room : (p q : PassFace) (left words : ℕ) (full : Full) → HasSeenMore p q
-    → HasLeft q left → HasMadeNone p q → left < words → full.next + left ≡ p.tree.words
+    → HasLeft q left → StepsIn p q q.seen → HasMadeNone p q → left < words
+    → full.next + left ≡ p.tree.words
     → full.asked ≡ words → full.words ≡ p.tree.words → HadNoRoom p q words full
-had_no_room p q left words full seen has none few next asked all =
+had_no_room p q left words full seen has step none few next asked all =
     let sum : spent p.tree.start q.seen + left ≡ p.tree.words
     = subst (λ (t : TreeFace). spent t.start q.seen + left ≡ t.words) seen.tree has in
     record {
@@ -45,6 +47,7 @@ had_no_room p q left words full seen has none few next asked all =
         until = same_log;
         few = record { next_is = omega arith; words_is = all; small = omega arith };
       };
+      step = step;
       asked = asked;
       none = none;
     }
@@ -61,8 +64,7 @@ module _ (p m q : PassFace) (look : HasSeenMore p m) (after : HasSeenMore m q) w
   room_both words h =
       record {
         at = h.at;
-        since = h.since;
-        until = further h.at m.seen q.seen h.until after.seen;
+        step = steps_until p m q h.at h.step after;
         enough = h.enough;
       }
 

@@ -2,12 +2,13 @@
 use Rattle.std.specs.Prelude.{◌≡◌, ℕ, ◌+◌, ◌*◌, ◌≤◌}
 use Rattle.std.specs.List.{sum}
 use Rattle.ist_core.specs.declared.ports.Full.{Full}
-use Rattle.ist_core.specs.Logs.{Log, GoesOn}
+use Rattle.ist_core.specs.Logs.{Log}
 use Rattle.ist_core.specs.RowLayout.{change_words, rebuild_words}
 use Rattle.ist_core.specs.Shapes.{shape}
 use Rattle.ist_core.specs.Spending.{spent}
 use Rattle.ist_tree.specs.Faces.{PassFace}
 use Rattle.ist_tree.specs.Freezing.{IsFreezeRefused}
+use Rattle.ist_tree.specs.RealTime.{StepsIn}
 use Rattle.ist_tree.specs.Refusals.{HadTooFew}
 use Rattle.ist_tree.specs.Room.{HasMadeNone}
 
@@ -16,17 +17,17 @@ use Rattle.ist_tree.specs.Room.{HasMadeNone}
 abbrev pub words_of_shot : ℕ → ℕ
 words_of_shot keys = sum (shape keys) + rebuild_words + 2 * change_words
 
--- after a log that the pass has seen in the call, at least this many words were left
+-- at a step of the pass in this call, at least this many words were left
 pub record HadRoom (p q : PassFace) (words : ℕ) : Type 0 where
   pub at : Log
-  pub since : GoesOn p.seen at
-  pub until : GoesOn at q.seen
+  pub step : StepsIn p q at
   pub enough : spent p.tree.start at + words ≤ p.tree.words
 
--- fewer words than these were left after such a log; the pass made no event in the call, so that
+-- fewer words than these were left at such a step; the pass made no event in the call, so that
 -- nothing was frozen by it
 pub record HadNoRoom (p q : PassFace) (words : ℕ) (full : Full) : Type 0 where
   pub had : HadTooFew p q full
+  pub step : StepsIn p q had.at
   pub asked : full.asked ≡ words
   pub none : HasMadeNone p q
 

@@ -2,12 +2,12 @@
 ghost use Rattle.std.specs.Prelude.{◌≡◌, ◌+◌};
 ghost use Rattle.ist_tree.specs.Calls.{HasSeenMore};
 ghost use Rattle.ist_tree.specs.Freezing.{HasStartedNone};
+ghost use Rattle.ist_tree.specs.RealTime.{StepsIn};
 ghost use Rattle.ist_tree.specs.Room.{HasLeft, HasMadeNone};
 
 use crate::passes::Pass;
 use crate::trees::Tree;
-use ist_layout::NEXT_PLACE;
-use ist_rule::{know, load, word_count};
+use ist_rule::{glance, know, word_count};
 
 impl Tree {
     /// Returns how many words the tree was opened with.
@@ -17,7 +17,7 @@ impl Tree {
         word_count(&self.table)
     }
 
-    /// Returns how many words are left: those that no one had taken at one moment of the call. One
+    /// Returns how many words are left: those that no one had taken at the one step of this call, a
     /// load. Never blocks, never allocates, always returns.
     ///
     /// The pass makes no event and no call. Other passes may take words from then on, so this many
@@ -26,6 +26,7 @@ impl Tree {
         requires same_tree { pass.old.tree ≡ self.now }
         ensures seen { HasSeenMore pass.old pass.new }
         ensures left { HasLeft pass.new result }
+        ensures step { StepsIn pass.old pass.new pass.new.seen }
         ensures none { HasMadeNone pass.old pass.new }
         ensures unstarted { HasStartedNone pass.old pass.new }
         ensures no_walk { pass.new.searches ≡ pass.old.searches }
@@ -36,7 +37,7 @@ impl Tree {
     {
         know(&pass.caller.token);
         // A load. Meets whoever reserves a row.
-        let next = load(&self.table, &mut pass.caller.token, NEXT_PLACE);
+        let next = glance(&self.table, &mut pass.caller.token);
         word_count(&self.table) - next
     }
 }

@@ -12,10 +12,11 @@ returns-then-left-words-clause-full c =
     let same = ap (λ (t : TreeFace). t.words) c.room-left.ensures.seen.tree in
     let sum : spent m.tree.start m.seen + c.room-left.result ≡ m.tree.words = c.room-left.ensures.left in
     had_no_room c.args.pass.now m c.room-left.result c.args.words _ c.room-left.ensures.seen
-    c.room-left.ensures.left c.room-left.ensures.none c.if-left-words.true (omega arith) refl all
+    c.room-left.ensures.left c.room-left.ensures.step c.room-left.ensures.none c.if-left-words.true
+    (omega arith) refl all
 
 pub returns-clause-room : goal.returns-clause-room
 returns-clause-room c =
     let few = c.if-left-words.false in
     had_room c.args.pass.now c.room-left.new.pass c.room-left.result c.args.words
-    c.room-left.ensures.seen c.room-left.ensures.left (omega arith)
+    c.room-left.ensures.seen c.room-left.ensures.left c.room-left.ensures.step (omega arith)
