@@ -50,17 +50,10 @@ says 'in prose, an item that is gone' 1 "$good" 'See `high::Things`.'
 says 'a lemma and a definition in their files' 0 "$good" 'By `stays_on` in `StayLemmas`, of `Stays` in `Staying.antt`.'
 says 'a lemma that is gone' 1 "$good" 'By `stays_off` in `StayLemmas`.'
 says 'a file of lemmas that is gone' 1 "$good" 'By `stays_on` in `LeaveLemmas`.'
-mkdir "$all/crates/low/must-fail"
-touch "$all/crates/low/must-fail/"{stays,goes}.edit
-edits='| body | refused by |
-|---|---|
-| it stays |'
-says 'edits that are there' 0 "$good" "$edits \`low\`, edits \`stays\`, \`goes\`; \`low::go\`, \`value\` |"
-says 'an edit that is gone' 1 "$good" "$edits \`low\`, edits \`stays\`, \`comes\` |"
-says 'an edit of another crate' 1 "$good" "$edits \`low\`, edit \`stays\`; \`high\`, edit \`goes\` |"
 says 'a path that is gone' 1 "$good" 'In `crates/low/src/main.rt`.'
 says 'an edit that is there' 0 "$good" 'Refused: `low`, edits `goes_on` and `goes_back`.'
 says 'an edit that is gone' 1 "$good" 'Refused: `low`, edits `goes_on`, `goes_off`.'
+says 'an edit of another crate' 1 "$good" 'Refused: `low`, edit `goes_on`; `high`, edit `goes_back`.'
 says 'a crate of the kit beside one of this repository' 0 "$good" 'By `low::go`, `value`, and `clap`, `value`.'
 says 'a crate without a row in the map' 1 "$good" '' '| `low` | low |'
 says 'a crate with two rows in the map' 1 "$good" '' "$rows

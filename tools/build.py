@@ -146,9 +146,9 @@ class Kit:
         # How far the proofs give way to what else the machine does, as for the command `nice`.
         self.gives_way = 0
 
-    def command(self, *options):
+    def command(self):
         """Returns `rt`, as a command for folders in which nothing is edited. No setting of the caller's changes what Python does."""
-        return [sys.executable, "-I", str(Path(__file__).resolve().parent / "once.py"), "--still", *options, self.rt]
+        return [sys.executable, "-I", str(Path(__file__).resolve().parent / "once.py"), self.rt]
 
 
 class Made:

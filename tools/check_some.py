@@ -120,7 +120,7 @@ class Run:
         rt = shutil.which(os.environ.get("TELE_RT", "rt"))
         if rt is None:
             raise ValueError("there is no command rt on the path")
-        return [sys.executable, str(Path(__file__).resolve().parent / "once.py"), rt]
+        return [rt]
 
     def run(self, step):
         """Runs a step, and returns its status and what it said."""

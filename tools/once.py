@@ -1,19 +1,16 @@
 #!/usr/bin/env python3
-"""Runs the kit's command `rt`, so that it sums up the files of a crate once, where by itself it does so once for each way
-through crates.txt that leads to the crate.
+"""Runs the kit's command `rt` over folders in which nothing is edited meanwhile, so that it sums up the files of a crate once. By
+itself it does so each time that it asks for the sum, some three times for each crate below.
 
-    python3 tools/once.py [--still] RT WORDS..
+    python3 tools/once.py RT WORDS..
 
-A crate at the top is reached on some 1,500 ways, and each sum is asked for several times a command: minutes, in which nothing is
-proved. What `rt` does and says is otherwise the same. Where RT isn't a program of the form that is known here, it runs as it is.
-
-    --still   no file changes while the command runs: a sum is computed once a command
+`docs/PERFORMANCE.md` says what that spares. What `rt` does and says is otherwise the same. If RT isn't a program of the form that is
+known here, it runs as it is.
 """
 import importlib.machinery
 import importlib.util
 import os
 import sys
-import threading
 
 
 def module_of(path):
@@ -29,29 +26,19 @@ def module_of(path):
     return found if callable(getattr(crate, "stamp", None)) and callable(getattr(found, "main", None)) else None
 
 
-def keep_sums(crate, is_still):
-    """Has one question for a sum keep the sums that it comes by; the next one reads the files again, unless they stay as they are."""
-    plain, local, always = crate.stamp, threading.local(), {}
+def keep_sums(crate):
+    """Has each sum computed once."""
+    plain, known = crate.stamp, {}
 
     def stamp(self):
-        if is_still:
-            if self.folder not in always:
-                always[self.folder] = plain(self)
-            return always[self.folder]
-        if getattr(local, "known", None) is None:
-            local.known = {}
-            try:
-                return stamp(self)
-            finally:
-                local.known = None
-        if self.folder not in local.known:
-            local.known[self.folder] = plain(self)
-        return local.known[self.folder]
+        if self.folder not in known:
+            known[self.folder] = plain(self)
+        return known[self.folder]
 
     crate.stamp = stamp
 
 
-def main(rt, words, options):
+def main(rt, *words):
     sys.dont_write_bytecode = True
     path = os.path.realpath(rt)
     try:
@@ -60,12 +47,9 @@ def main(rt, words, options):
         found = None
     if found is None:
         os.execv(rt, [rt, *words])
-    keep_sums(found.rtlib.Crate, "--still" in options)
+    keep_sums(found.rtlib.Crate)
     sys.argv = [path, *words]
-    sys.exit(found.main(words))
+    sys.exit(found.main([*words]))
 
 
-given, options = sys.argv[1:], []
-while given[0] == "--still":
-    options.append(given.pop(0))
-main(given[0], given[1:], options)
+main(*sys.argv[1:])
