@@ -1,5 +1,5 @@
 #!/usr/bin/env python3
-"""Runs try_growth again and again for so many minutes, with first trees of 64 to 10,000 words.
+"""Runs try_growth again and again for this many minutes, with first trees of 64 to 10,000 words.
 
     python3 bench/growth.py PROGRAM MINUTES [SEED]
 

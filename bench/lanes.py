@@ -3,7 +3,7 @@
 
     python3 bench/lanes.py [--program PATH] [--options "WORD WORD.."] [LINES]
 
-So many lines, 1,000,000 where it isn't said, half of them puts and half gets by turns. Of 64 lanes, by the timestamp modulo 64: `equal`
+LINES lines (1,000,000), puts and gets alternating. Of 64 lanes, by the timestamp modulo 64: `equal`
 has as many lines for each, `one long` a hundred times as many for lane 0 as for each other; `minutes` has timestamps that are multiples
 of 60. Each is run by 2 and by 4 workers, three times from a file into a file; the seconds are those on the clock. The program is
 `./tele` where no path is given. All runs over one input have to write the same.

@@ -41,7 +41,7 @@ class Log:
             self.say(line)
 
     def put(self, node, index, stood, key, pair):
-        """A put of a key above all others, which makes a pair row where a leaf stands; answers the words in its slots, and its base."""
+        """A put of a key above all others, which makes a pair row if a leaf is there; returns the words in its slots, and its base."""
         leaf = self.reserve(0, 2)
         row = self.reserve(0, 7) if pair else None
         change = self.reserve(0, 9)
@@ -152,13 +152,13 @@ def losses(log, number):
 
 
 def lens(keys):
-    """How many keys each part of so many has."""
+    """How many keys each part of this many has."""
     degree = max(2, math.isqrt(keys))
     return [keys // degree + (part < keys % degree) for part in range(degree)]
 
 
 def laid(base, keys, rows):
-    """The word of the ideal tree over so many keys at a base, and where it ends. Adds each of its rows: base, words in slots, keys."""
+    """The word of the ideal tree over this many keys at a base, and where it ends. Adds each of its rows: base, words in slots, keys."""
     if keys == 1:
         return base * 8 + 1, base + 2
     words, parts = [], lens(keys)
@@ -187,7 +187,7 @@ def built(log, leaves, first, rows):
 
 
 def root(log, row, keys, first):
-    """Puts the shared root of a rebuild over so many keys from the first one on in place, and answers the bounds of its parts."""
+    """Puts the shared root of a rebuild over this many keys from the first one on in place, and returns the bounds of its parts."""
     ends = [sum(lens(keys)[:part]) for part in range(len(lens(keys)) + 1)]
     base = log.reserve(0, 2 * len(ends) + 1)
     words = [0, 0, len(ends) - 1, keys, *(first + end for end in ends[1:-1]), *[7] * (len(ends) - 1)]
@@ -213,7 +213,7 @@ def started(log, rows, node, index, number):
 
 
 def shape(keys):
-    """The sizes of the rows of the ideal tree over so many keys."""
+    """The sizes of the rows of the ideal tree over this many keys."""
     return [2 * len(lens(keys)) + 3] + [size for part in lens(keys) for size in shape(part)] if keys > 1 else []
 
 
@@ -266,7 +266,7 @@ def parts(number):
             log.say(f"Pass 0 {base} {i} {word}")
     for base, _, keys in reversed(rows):
         log.say(f"Finish 0 {base} {keys}")
-    # a leaf lies behind those with lower keys
+    # a leaf is after those with lower keys
     leaves = sorted(word for _, words, _ in rows for word in words if word % 8 == 1)
     ends = root(log, row, number, 1)
     for part in range(len(ends) - 1):
@@ -275,7 +275,7 @@ def parts(number):
 
 
 def sizes(log, number):
-    """Each row that was counted eight times is due. Its rebuild stands in the slot of the row above it."""
+    """Each row that was counted eight times is due. Its rebuild is in the slot of the row above it."""
     rows = chain(log, number, 8)
     started(log, rows, 2, 0, len(rows) - 8)
     freeze(log, rows)

@@ -1,5 +1,5 @@
 #!/usr/bin/env python3
-"""Runs try_stress again and again for so many minutes, in trees that are ample and in trees that run full by turns.
+"""Runs try_stress again and again for this many minutes, alternately in trees that are ample and in trees that run full.
 
     python3 bench/stress.py PROGRAM MINUTES [SEED]
 

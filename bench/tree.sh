@@ -1,5 +1,5 @@
 #!/bin/bash
-# Measures try_bench beside the same calls on a BTreeMap under a lock, by turns, and prints tables in Markdown. A cell has millions of
+# Measures try_bench beside the same calls on a BTreeMap under a lock, alternately, and prints tables in Markdown. A cell has millions of
 # calls a second of all threads together, and processor nanoseconds a call, each the median of the turns.
 #
 #     bench/tree.sh PROGRAM [--beside OLD] [--peers] [--only TABLE] [--turns N] [--seed SEED] [--figures FILE]

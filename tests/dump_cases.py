@@ -4,7 +4,7 @@ HIGH = 2**28
 
 
 def dump_of(size, words):
-    """The dump of a table of so many words that has these used words."""
+    """The dump of a table of this many words that has these used words."""
     return b"CISTDUMP" + b"".join(word.to_bytes(8, "little") for word in (size, *words))
 
 
@@ -31,8 +31,8 @@ def chain(rows, last=None):
 
 
 def half_rebuilt(decision, *edits):
-    """A rebuild without a root stands in the anchor's slot. Its target at 8 is finished, and a change of its second leaf to the pair
-    (9, 3) stands in its second slot, decided so. These words are then put at these places."""
+    """A rebuild without a root is in the anchor's slot. Its target at 8 is finished, and a change of its second leaf to the pair
+    (9, 3) is in its second slot, decided so. These words are then put at these places."""
     words = [31, 2, 0, 140, 5, 7, 9, 1, 11, 8, 2, 2, 9, 33, 179, 9, 3, 8, 2, 0, 7, 0, decision, 1, 8, 1, 49, 121, 0, 9, 3]
     for at, word in edits:
         words[at] = word

@@ -3,7 +3,7 @@
 
     python3 tests/dumps.py
 
-Run behind `rt ci`, which leaves the program; elsewhere it is built first. Each byte of a dump of twenty pairs is changed to six
+Run after `rt ci`, which leaves the program; otherwise it is built first. Each byte of a dump of twenty pairs is changed to six
 others, and what is said of it is compared with a second reading, in this file. The last line is 'N passed, M failed'.
 """
 import os

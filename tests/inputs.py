@@ -3,7 +3,7 @@
 
     python3 tests/inputs.py
 
-Run behind `rt ci`, which leaves the program; elsewhere it is built first. Forms of lines and causes of bad ones; words; each prefix
+Run after `rt ci`, which leaves the program; otherwise it is built first. Forms of lines and causes of bad ones; words; each prefix
 of an input; each read of one byte refused in its turn; how many lines a round has; trees of each size by several numbers of workers,
 with and without stealing; made lines. The last line is 'N passed, M failed'.
 """
@@ -60,7 +60,7 @@ ANSWERS = [
     (b"# first\nV 02\nP -0 --1\n", b"! 3 number\n", 3),
 ]
 
-# How many zeros stand before the key, the end of the line, the output, the status: a line has at most 80 bytes.
+# How many zeros precede the key, the end of the line, the output, the status: a line has at most 80 bytes.
 LONG_LINES = [
     (75, b"", b"1 -\n", 0),
     (76, b"", b"! 1 long\n", 3),
@@ -98,7 +98,7 @@ WORDS = [
     ("--generate=1 --seed=0 --workers=1", "made 1 keys 1 found 0 sum 26497\n", ANSWERED),
 ]
 
-# Four point lines on two lanes, and an interval line behind them; what a map of one thread answers: seven lines of four bytes.
+# Four point lines on two lanes, and an interval line after them; what a map of one thread replies: seven lines of four bytes.
 INPUT = b"P 2 1\nP 3 1\nP 2 5\nG 2\nI 0 9\n"
 OUTPUT = b"1 -\n2 -\n3 1\n4 5\n5 2\n2 5\n3 1\n"
 
@@ -117,7 +117,7 @@ PREFIXES = [
     (27, 28, 7, b"", 0),
 ]
 
-# Two rounds, and a line behind them. Behind how many bytes so many of the output are written.
+# Two rounds, and a line after them. After how many bytes of input how many of the output are written.
 ROUNDS = b"P 1 1\nP 2 2\nI 0 9\nP 3 3\nP 4 4\nI 3 3\nP 5 5\n"
 REPLIED = b"1 -\n2 -\n3 2\n1 1\n2 2\n4 -\n5 -\n6 1\n3 3\n7 -\n"
 WRITTEN = [(0, 0), (18, 20), (36, 36)]
@@ -168,7 +168,7 @@ def small_inputs():
 def many_lines():
     """No more lines are read than a run may have."""
     most = 16_777_216
-    check("so many empty lines", run([], most * b"\n"), (b"", ANSWERED))
+    check("the most empty lines", run([], most * b"\n"), (b"", ANSWERED))
     check("one more", run([], most * b"\n" + b"G 1\n"), (b"! %d lines\n" % (most + 1), BAD_LINE))
     told = run([], (most - 1) * b"\n" + b"P 1 1\nP 2 2\n")
     check("the last one", told, (b"%d -\n! %d lines\n" % (most, most + 1), BAD_LINE))

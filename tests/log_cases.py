@@ -111,13 +111,13 @@ FORMS = [
 
 IDEAL = "the word and the rows are the ideal subtree over the part's leaves, each row once"
 
-# How many parts of a shared root are drawn, the event behind that, the condition that it fails.
+# How many parts of a shared root are drawn, the event after that, the condition that it fails.
 SHARES = [
     (0, "Draw 0 2071 1", "the part is the rebuild's draw word"),
     (3, "Draw 0 2071 2", "the part is the rebuild's draw word"),
     (17, "Draw 0 2071 16", "the part is the rebuild's draw word"),
     (17, "Draw 0 2071 17", "no part that the caller drew before lay past the last"),
-    # part 0 has sixteen leaves, of which the first lies at 64
+    # part 0 has sixteen leaves, of which the first is at 64
     (1, "Place 0 2071 0 0 -", IDEAL),
     (1, "Place 0 2071 0 513 -", IDEAL),
     (1, "Place 0 2071 15 7 -", IDEAL),
@@ -132,8 +132,8 @@ def marked(above, row_index, row):
 
 
 def drawn(parts):
-    """A table of the pairs from 1:1 to 256:256, of which just so many make the root of a rebuild a shared one: the rebuild of its
-    top row is started at 2071, each row is marked, passed and finished, the root stands at 2085, and so many parts are drawn."""
+    """A table of the pairs from 1:1 to 256:256, just enough to make the root of a rebuild a shared one: the rebuild of its
+    top row is started at 2071, each row is marked, passed and finished, the root is at 2085, and this many parts are drawn."""
     text = "start 3000" + "".join(f" {key}:{key}" for key in range(1, 257))
     text += "\nEnter 0\nReserve 0 2071 5\nReserve 0 2076 9\nInstall 0 2076 2076=0,3,2,0,34,16572,0,0,0;2071=4,2,0,7,0\n"
     text += "Okay 0 2076\nDecide 0 2076 yes\nResolve 0 2076\nMark 0 4\n"
@@ -155,7 +155,7 @@ def drawn(parts):
 
 
 def large_tables():
-    """Tables of many pairs, in just so many words as they need and in one too few."""
+    """Tables of many pairs, in just as many words as they need and in one too few."""
     for keys in (255, 256, 20_000):
         words = logs.laid(4, keys, [])[1]
         pairs = "".join(f" {key}:{key}" for key in range(keys))
@@ -181,7 +181,7 @@ LATE = "the rows are a pair row that may be too low, or a build that comes too l
 
 
 def two_pairs(keys, words=268435456):
-    """A log in which the row over two pairs is rebuilt, so many keys are put in, and a rebuild of all of them is under way."""
+    """A log in which the row over two pairs is rebuilt, this many keys are put in, and a rebuild of all of them is under way."""
     log = logs.Log(("1:1", "2:2"), 15, words)
     log.say("Enter 0")
     logs.rebuild(log, logs.grown(log, 1, keys))
@@ -251,7 +251,7 @@ def late_rows():
 
 
 def other_rows():
-    """Who gives up a row behind the shared root of 256 keys that caller 0 has put in place, and of which size: that of such a root, or
+    """Who gives up a row after the shared root of 256 keys that caller 0 has put in place, and of which size: that of such a root, or
     that with which the build of a part begins."""
     for caller, size, why in [(0, 35, LATE), (1, 35, None), (1, 11, LATE)]:
         log = two_pairs(256)

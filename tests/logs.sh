@@ -62,7 +62,7 @@ check "ok next 3275384 callers 1 anchor 14885500"
 # The puts of a chain, and of each of 25 rebuilds 14 words, its shared root and the rows of its parts.
 make_log turns 30000
 check "ok next 5247697 callers 1 anchor 4319980"
-# As the chain, but for a table of two pairs in the place of its first two puts: its row may jump only where its way is known.
+# As the chain, but for a table of two pairs in place of its first two puts: its row may jump only where its way is known.
 make_log below 143000
 check "ok next 2573979 callers 1 anchor 34"
 # Each of 1,000 callers holds 211 rows, and 300 times a pair row, of 7 words, while a put takes 18.

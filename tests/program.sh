@@ -64,7 +64,7 @@ done
 head -c 8000000 /dev/zero | tr '\0' 'P' | "$program" "${small[@]}" >"$all/out"
 wanted "a line of eight million bytes" "3" $? is "! 1 long"
 { echo "P 1 2" && head -c 8000000 /dev/zero; } | "$program" "${small[@]}" >"$all/out"
-wanted "bytes of zero behind a line" "3" $? is $'1 -\n! 2 long'
+wanted "bytes of zero after a line" "3" $? is $'1 -\n! 2 long'
 
 # A reply comes out of a pipe before the next line is sent.
 coproc pair { exec "$program" "${small[@]}"; }
@@ -109,8 +109,8 @@ done
 (ulimit -s 256 && exec "$program" "${small[@]}" <"$all/lines" >"$all/out")
 wanted "a stack of 256 kB" "0" $? cmp -s "$all/out" "$all/replies"
 
-# Each call of a kind refused in its turn, by a library that stands before the C library: the statuses that are wanted, what else
-# is asked of the text, and the words behind. How often each status came is left in `came`.
+# Each call of a kind refused, one after another, by a library that precedes the C library: the statuses that are wanted, what else
+# is asked of the text, and the arguments. How often each status came is left in `came`.
 declare -A came
 refusing() {
     local kind=$1 number=$2 statuses=$3 status
@@ -121,7 +121,7 @@ refusing() {
     wanted "$kind $number refused" "$statuses" "$status" is_prefix "$all/whole"
     [ "$status" != 0 ] || wanted "$kind $number refused, the whole text" "0" 0 cmp -s "$all/out" "$all/whole"
 }
-# Says whether so many bytes are written.
+# Says whether this many bytes are written.
 has() { wanted "$1, how much is written" "0" 0 [ "$(stat -c %s "$all/out")" = "$2" ]; }
 
 cc -O1 -shared -fPIC -o "$all/refuse.so" "$here/tests/refuse.c" -ldl || failed=$((failed + 1))

@@ -3,7 +3,7 @@
 
     python3 tests/tree_programs.py
 
-Run behind `rt ci`, which leaves the programs; elsewhere they are built first. The last line is 'N passed, M failed'.
+Run after `rt ci`, which leaves the programs; otherwise they are built first. The last line is 'N passed, M failed'.
 """
 import re
 import shutil
@@ -36,7 +36,7 @@ RUNS = [
     (8, 2, 500, 2, 5_000, True),
 ]
 
-# Words that name no plan, and where a table is too small.
+# Arguments that name no plan, or a table that is too small.
 UNFIT = [
     {"passes": 0},
     {"passes": 65},

@@ -7,10 +7,10 @@
   citations alone, as `crate::function`, `clause`, `clause`; `other_function`, `clause`
   or `crate`, `laws.function`, `clause`. What follows a function is a clause of it, or a further function of the crate. In the README of a
   crate, a citation that names no crate is of that one.
-- In prose `crate::item` is an item of the crate, and a word behind it in the same way.
+- In prose `crate::item` is an item of the crate, and so is each word that follows it.
 - `crate`, edit `name` is in the crate's must-fail folder, and so is each further name.
 - `SomethingLemmas` is a file, `lemma` in `SomethingLemmas` a lemma of it, and `Definition` in `Something.antt` a definition of that one.
-- A path that begins with crates/, docs/, bench/, tools/ or tests/ is there, and a function that stands before one in a way
+- A path that begins with crates/, docs/, bench/, tools/ or tests/ is there, and a function that precedes one in a way
   through the code is in that file, and does more than one call with its own parameters.
 - The index of docs/DECISIONS.md has its titles.
 - docs/ARCHITECTURE.md has one row for each crate, in the order of crates.txt, and draws what a put line passes above what it uses.
@@ -118,7 +118,7 @@ class Citations:
                 self.fault(where, f"`{word}` is cited without its crate")
 
     def further(self, where, crate, function, word):
-        """Checks a word behind a crate or a function, and returns the function that clauses behind it belong to."""
+        """Checks a word that follows a crate or a function, and returns the function that the next clauses belong to."""
         has = self.crates[crate]
         word = re.sub(r"\A(?:laws|examples)\.", "", word)
         if word.endswith("…"):
@@ -163,7 +163,7 @@ class Citations:
                 self.is_good(where, any(word in it.files for it in self.crates.values()), f"there is no file {word}")
 
     def way(self, where, line, home):
-        """Checks a line of a way through the code: a function, and the file in which it stands. Of a crate's README it may be a file of src/."""
+        """Checks a line of a way through the code: a function, and the file that has it. Of a crate's README it may be a file of src/."""
         step = re.match(r"\s+([\w:]+)\s+((?:crates|src)/[\w/]+\.rt)\b", line)
         if step and (home or step[2].startswith("crates")):
             path, name = self.top / ("" if step[2].startswith("crates") else f"crates/{home}") / step[2], step[1].split("::")[-1]
@@ -209,7 +209,7 @@ class Citations:
                     self.is_good(name, place[it] < place[of], f"{it} is drawn no higher than {of}")
 
     def index(self):
-        """Each decision stands in the index of its page, and each line of the index leads to one."""
+        """Each decision is in the index of its page, and each line of the index leads to one."""
         name = "docs/DECISIONS.md"
         if (self.top / name).is_file():
             text = (self.top / name).read_text()
