@@ -1,3 +1,4 @@
+pub mod LackLemmas
 pub mod StartGoingLemmas
 pub mod StartReserveLemmas
 pub mod StartPutLemmas

@@ -6,6 +6,7 @@ ghost use Rattle.ist_rule.specs.Faces.{word_count_of};
 ghost use Rattle.ist_rule.specs.Learning.{now};
 ghost use Rattle.ist_rows.specs.Rows.{IsCaller};
 ghost use Rattle.ist_rows.specs.Going.{IsQuiet};
+ghost use Rattle.ist_rebuild.specs.Lacking.{LacksKind};
 ghost use Rattle.ist_rebuild.specs.Starting.{MayStart, IsStartRefused};
 ghost use Rattle.ist_rebuild.specs.StartSteps.{HasReserved, HasStartRows, IsStartReady};
 ghost use Rattle.ist_rebuild.specs.StartSteps.{filled_start, start_filling};
@@ -32,6 +33,7 @@ fn reserve_rows(table: &TreeTable, who: &mut Caller) -> Result<StartRows, Full>
     ensures rows { IfOk result (λ rows. HasStartRows who.new rows.rebuild rows.change) }
     ensures full { IfErr result (λ full.
         IsStartRefused who.old.token.view (word_count_of table.now) full who.new.token.view) }
+    ensures lacks { IfErr result (λ full. LacksKind who.new full.asked) }
 {
     know(&who.token);
     // Reserve. Meets another caller's.
@@ -91,6 +93,7 @@ pub(crate) fn prepare(
         (start_filling number parent index target rows.rebuild)) }
     ensures full { IfErr result (λ full.
         IsStartRefused who.old.token.view (word_count_of table.now) full who.new.token.view) }
+    ensures lacks { IfErr result (λ full. LacksKind who.new full.asked) }
 {
     know(&who.token);
     let rows = reserve_rows(table, who)?;

@@ -11,6 +11,7 @@ ghost use Rattle.ist_rows.specs.Building.{HasRefused};
 ghost use Rattle.ist_rows.specs.Rows.{IsCaller};
 ghost use Rattle.laws_calls.specs.Settling.{StartsAreDone};
 ghost use Rattle.ist_rebuild.specs.Going.{Begins, KeepsFresh, StartsAt};
+ghost use Rattle.ist_rebuild.specs.Lacking.{LacksKind};
 ghost use Rattle.ist_rows.specs.Going.{IsQuiet};
 ghost use Rattle.ist_rebuild.specs.Starting.{MayStart, IsStartedAt, StoodInstead, LeavesDone};
 ghost use Rattle.ist_rebuild.specs.Starting.{IsStartRefused, LeavesUninstalled, LeavesUnstarted};
@@ -95,6 +96,7 @@ fn start_open(
     ensures told { TellsStart who.old who.new parent index target result }
     ensures full { IfErr result (λ full.
         IsStartRefused who.old.token.view (word_count_of table.now) full who.new.token.view) }
+    ensures lacks { IfErr result (λ full. LacksKind who.new full.asked) }
 {
     let rows = prepare(table, who, parent, index, target)?;
     let plan = FilledStart {
@@ -112,9 +114,9 @@ fn start_open(
 /// It loads the parent's status first. Returns `Yes` if the change was decided yes; `Other` if the
 /// slot held that word and not the target when the change was about to be installed; `Marked` only
 /// if the parent isn't open. Returns `Full` if a load of the first word in this call left too few
-/// words for the rebuild's row or the change's. With `Other` and `Full` nothing was installed, and
-/// with `Marked` no rebuild was started; a rebuild row that was reserved stays held for the next
-/// start. Allocates nothing, and always returns.
+/// words for the rebuild's row or the change's, of which the caller held none. With `Other` and
+/// `Full` nothing was installed, and with `Marked` no rebuild was started; a rebuild row that was
+/// reserved stays held for the next start. Allocates nothing, and always returns.
 ///
 /// Source: Brown, Prokopec and Alistarh, "Non-Blocking Interpolation Search Trees with
 /// Doubly-Logarithmic Running Time", PPoPP 2020.
@@ -144,6 +146,7 @@ pub fn start(
     ensures marked { result ≡ Ok Marked → ¬ (IsOpen (now who.new.token.view) parent) }
     ensures full { IfErr result (λ full.
         IsStartRefused who.old.token.view (word_count_of table.now) full who.new.token.view) }
+    ensures lacks { IfErr result (λ full. LacksKind who.new full.asked) }
     ensures done { StartsAreDone (now who.old.token.view) who.old.number
         → LeavesDone (now who.new.token.view) who.old.number result }
     ensures unstarted { let old = now who.old.token.view in

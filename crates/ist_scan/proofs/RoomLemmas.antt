@@ -81,7 +81,7 @@ module _ (p m q : PassFace) (look : HasSeenMore p m) (after : HasSeenMore m q) w
       }
 
   -- too few words after the look were too few in the call
-  short_both : (full : Full) → HadTooFew m q full → HadTooFew p q full
+  abbrev short_both : (full : Full) → HadTooFew m q full → HadTooFew p q full
   short_both full h =
       record {
         at = h.at;
@@ -100,6 +100,7 @@ module _ (p m q : PassFace) (look : HasSeenMore p m) (after : HasSeenMore m q) w
       record {
         had = short_both full h.had;
         asked = h.asked;
+        lacked = h.lacked;
         held = record {
           at = h.held.at;
           since = further p.seen m.seen h.held.at look.seen h.held.since;

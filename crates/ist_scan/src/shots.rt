@@ -5,8 +5,8 @@ ghost use Rattle.ist_tree.specs.Faces.{PassFace};
 ghost use Rattle.ist_scan.specs.Walks.{IsWalkOfPass};
 ghost use Rattle.ist_core.specs.Map.{listed, pairs_between};
 ghost use Rattle.ist_tree.specs.Calls.{HasSeenMore};
-ghost use Rattle.ist_tree.specs.Freezing.{IsFrozenFor, IsFreezeRefused, HasStartedNone};
-ghost use Rattle.ist_tree.specs.Refusals.{KeepsRefusal};
+ghost use Rattle.ist_tree.specs.Freezing.{IsFrozenFor, IsFreezeRefused, HasStartedNone, LeavesRebuilt};
+ghost use Rattle.ist_tree.specs.Refusals.{HasStartsDone, KeepsRefusal};
 ghost use Rattle.ist_scan.specs.Cuts.{slice_of};
 ghost use Rattle.ist_scan.specs.Shots.{ArePairsOf, IsOf, HasTakenShot, HasOnlyLooked, map_seen};
 ghost use Rattle.ist_scan.specs.Totals.{total_of, in_bin, pairs_in_bin};
@@ -106,11 +106,13 @@ impl Shot {
         ensures seen { HasSeenMore pass.old pass.new }
         ensures frozen { IfOk result (IsFrozenFor pass.new) }
         ensures taken { IfOk result (HasTakenShot pass.old pass.new) }
+        ensures rebuilt { IfOk result (LeavesRebuilt pass.old pass.new) }
         ensures full { IfErr result (IsFreezeRefused pass.old pass.new) }
         ensures unstarted { OnErr result (HasStartedNone pass.old pass.new) }
         ensures calls { pass.new.calls ≡ pass.old.calls }
         ensures unrefused { OnErr result (pass.new.refused ≡ pass.old.refused) }
         ensures refused { KeepsRefusal pass.old pass.new }
+        ensures done { HasStartsDone pass.new }
     {
         let frozen = tree.freeze(pass)?;
         pass.know();

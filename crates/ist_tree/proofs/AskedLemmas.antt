@@ -1,16 +1,27 @@
 -- What helping a rebuild asks for stays so as rows grow, and what was in the anchor's slot over longer
 -- logs. Serves `update_when` and `freeze`.
-use Rattle.std.proofs.Common.{ℕ, List, sym, subst}
+use Rattle.std.proofs.Common.{ℕ, List, Option, sym, ap, subst}
 use Rattle.ist_core.specs.declared.pairs.Pair.{Pair}
 use Rattle.ist_core.specs.Growing.{AllGrow}
+use Rattle.ist_core.specs.declared.ports.Full.{Full}
+use Rattle.ist_core.specs.Lawful.{state_of}
 use Rattle.ist_core.specs.Logs.{GoesOn, Log}
 use Rattle.ist_core.specs.Rebuilding.{IsFinishedWith}
 use Rattle.ist_core.specs.Snapshots.{Snapshot}
 use Rattle.ist_core.proofs.GrowingLemmas.{rebuild_there}
 use Rattle.laws_links.proofs.FormLemmas.{finished_with_grows}
 use Rattle.ist_rule.proofs.LaterLemmas.{goes_on_more}
+use Rattle.ist_rule.specs.Faces.{TokenFace}
+use Rattle.ist_rule.specs.Learning.{now}
+use Rattle.ist_rule.specs.Speaking.{number_of}
+use Rattle.ist_rows.specs.declared.callers.Caller.{Caller}
+use Rattle.ist_rows.specs.Rows.{IsCaller}
 use Rattle.ist_rebuild.specs.Helping.{IsAskedFor, for_change, for_row}
+use Rattle.ist_rebuild.specs.Lacking.{LacksNow, LacksRow}
 use Rattle.ist_tree.specs.Freezing.{HeldInnerRow}
+use Rattle.ist_tree.specs.Insides.{face_as}
+use Rattle.ist_tree.specs.Refusals.{LackedAt}
+use Rattle.ist_tree.proofs.GoingLemmas.{IsLaterView}
 
 -- what helping a rebuild asked for is what it asks for as rows grow
 pub asked_grows : (t u : Snapshot) → AllGrow t.pieces u.pieces → (rebuild asked : ℕ)
@@ -21,6 +32,19 @@ asked_grows t u grow rebuild asked (for_row row k some e f least le is) =
     for_row it.0 k some it.1
     (subst (λ n. IsFinishedWith u n k) (sym it.2.target)
     (finished_with_grows t u grow row.target k f)) least le is
+
+-- a row that a caller lacked at the end of its work was lacked then by its pass, whatever others did
+-- since
+pub lacked_then : (new : Caller) (token : TokenFace) → IsCaller new
+    → IsLaterView new.token.view token.view → (q : Option Full) (asked : ℕ)
+    → LacksNow new.token.view asked
+    → LackedAt (face_as token new.number q) new.token.view.log asked
+lacked_then new token c l q asked lacks =
+    subst (λ n. LacksRow (state_of token.view.start n new.token.view.log) new.number asked)
+    (sym l.words_is)
+    (subst (λ pairs. LacksRow (state_of pairs new.token.view.words new.token.view.log) new.number asked)
+    (sym l.start_is)
+    (subst (λ n. LacksRow (now new.token.view) n asked) (ap number_of c.mine) lacks))
 
 -- an inner row that the anchor's slot held between two logs it held between two wider ones
 pub held_on : (pairs : List Pair) (words : ℕ) (a b c d : Log) → GoesOn a b → GoesOn c d

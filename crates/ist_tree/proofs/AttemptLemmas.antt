@@ -58,8 +58,8 @@ module _ (old new : Caller) (due : Due) (words rebuild : ℕ) (h : HasHelped old
         on = helped_for old new due.target h;
         shut = tt;
         done = tt;
-        full = own_refused (now old.token.view) old.token.view new.token.view rebuild due.parent
-            due.index due.target words full at h.on.gone.went refused;
+        full = own_refused (now old.token.view) old.token.view new.token.view rebuild due words full at
+            h.on.gone.went refused;
       }
 
 -- ---- helping what the slot holds instead of the row
@@ -88,8 +88,8 @@ module _ (old new : Caller) (due : Due) (words word base : ℕ) (h : HasHelped o
         on = helped_for old new due.target h;
         done = tt;
         settled = tt;
-        full = other_refused old.token.view new.token.view s due.parent due.index due.target word base
-            words full stood is h.on.gone.went refused;
+        full = other_refused old.token.view new.token.view s due word base words full stood is
+            h.on.gone.went refused;
       }
 
 -- a change was helped
@@ -122,7 +122,7 @@ other_none who due words word s r is =
 -- an attempt that was refused, which is handed on
 pub tried_short : (old new : Caller) (due : Due) (words : ℕ) (answer : Result Bool Full)
     (full : Full) → IsErrAnd answer (λ x. x ≡ full) → GoesFor old new due.target
-    → IsDueRefused (now old.token.view) new.token.view due.target words full
+    → IsDueRefused (now old.token.view) new.token.view due words full
     → TriesOnce old new due words answer
 tried_short old new due words (Ok a) full same on refused = absurd same
 tried_short old new due words (Err e) full same on refused =
@@ -131,18 +131,18 @@ tried_short old new due words (Err e) full same on refused =
       last = tt;
       further = λ is. absurd (cc);
       done = tt;
-      full = subst (IsDueRefused (now old.token.view) new.token.view due.target words) (sym same) refused;
+      full = subst (IsDueRefused (now old.token.view) new.token.view due words) (sym same) refused;
     }
 
 -- the same, after a start that wasn't refused
 pub later_short : (a b c : Caller) (due : Due) (words : ℕ) (answer : Result Bool Full)
     (full : Full) → IsErrAnd answer (λ x. x ≡ full) → GoesFor a b due.target
-    → GoesFor b c due.target → IsDueRefused (now b.token.view) c.token.view due.target words full
+    → GoesFor b c due.target → IsDueRefused (now b.token.view) c.token.view due words full
     → TriesOnce a c due words answer
 later_short a b c due words answer full same one two refused =
     tried_short a c due words answer full same (goes_more a b c due.target one two)
     (due_refused_more (now a.token.view) (now b.token.view)
-    (went_grow Rebuilds a.token.view b.token.view one.on.gone.went) c.token.view due.target words full
+    (went_grow Rebuilds a.token.view b.token.view one.on.gone.went) c.token.view due words full
     refused)
 
 -- the rebuild that was started was helped to its end
@@ -211,10 +211,10 @@ module _ (a b c : Caller) (due : Due) (words : ℕ) (one : GoesFor a b due.targe
         on = goes_more a b c due.target one t.on;
         shut = tt;
         done = tt;
-        full = subst (IsDueRefused (now a.token.view) c.token.view due.target words) (sym same)
+        full = subst (IsDueRefused (now a.token.view) c.token.view due words) (sym same)
             (due_refused_more (now a.token.view) (now b.token.view)
-            (went_grow Rebuilds a.token.view b.token.view one.on.gone.went) c.token.view due.target
-            words full t.full);
+            (went_grow Rebuilds a.token.view b.token.view one.on.gone.went) c.token.view due words full
+            t.full);
       }
 
   -- the last attempt found the row or its parent not open

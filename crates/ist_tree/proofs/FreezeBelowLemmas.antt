@@ -1,6 +1,6 @@
 -- What is frozen below the anchor: what was met there as it is, or the target of a rebuild. Serves
 -- `freeze_below`.
-use Rattle.std.proofs.Common.{◌≡◌, ℕ, Option, Some, None, IfSome, sym, ap, ◌∙◌, subst}
+use Rattle.std.proofs.Common.{◌≡◌, ℕ, Option, Some, None, IfSome, refl, sym, ap, ◌∙◌, subst}
 use Rattle.ist_core.specs.declared.ports.Full.{Full}
 use Rattle.ist_core.specs.Lawful.{Lawful}
 use Rattle.ist_core.specs.Logs.{same_log}
@@ -17,7 +17,7 @@ use Rattle.laws_calls.specs.Settling.{StartsAreDone}
 use Rattle.ist_tree.specs.declared.freezing.Frozen.{Frozen}
 use Rattle.ist_tree.specs.declared.freezing.Outcome.{Outcome}
 use Rattle.ist_tree.specs.declared.freezing.Site.TheVariants.{Rebuilt, Still}
-use Rattle.ist_tree.specs.FreezeSteps.{Freezes, FreezesTarget, HasMet, IsHelpShort, IsRebuiltIn, IsTopShort}
+use Rattle.ist_tree.specs.FreezeSteps.{Freezes, FreezesTarget, HasMet, IsHelpShort, IsRebuiltIn, IsTargetShort, IsTopShort}
 use Rattle.ist_tree.specs.Working.{Rebuilds}
 use Rattle.ist_rows.specs.Going.{StaysReady}
 use Rattle.ist_tree.proofs.FreezingLemmas.{row_was_frozen, was_frozen_on}
@@ -60,20 +60,20 @@ target_frozen a b c words rebuild target outcome m f =
           (subst (λ n. StartsAreDoneBut (now b.token.view) n rebuild) (sym m.on.gone.number)
           (m.done done)));
       rebuilt = λ row e.
-          subst (λ n. IsRebuiltIn (now w) n outcome.refused)
+          subst (λ n. IsRebuiltIn v w words n outcome.refused)
           (one_inner target row (sym (ap ref_meant f.root_is) ∙ e))
           record {
             rebuild = rebuild;
             of = rebuild_on Rebuilds b.token.view c.token.view f.on.gone.went rebuild target m.is.0;
             replaced = f.replaced;
+            short = its outcome.refused f.refused;
           };
       refused = cause outcome.refused f.refused;
     }
   where
-    cause : (o : Option Full) → IfSome o (IsHelpShort c.token.view rebuild words)
-        → IfSome o (IsTopShort a.token.view c.token.view words)
-    cause None h = tt
-    cause (Some full) h =
+    top : (full : Full) → IsHelpShort c.token.view rebuild words full
+        → IsTopShort a.token.view c.token.view words full
+    top full h =
         record {
           rebuild = rebuild;
           target = target;
@@ -86,6 +86,16 @@ target_frozen a b c words rebuild target outcome m f =
           };
           help = h;
         }
+
+    cause : (o : Option Full) → IfSome o (IsHelpShort c.token.view rebuild words)
+        → IfSome o (IsTopShort a.token.view c.token.view words)
+    cause None h = tt
+    cause (Some full) h = top full h
+
+    its : (o : Option Full) → IfSome o (IsHelpShort c.token.view rebuild words)
+        → IfSome o (IsTargetShort a.token.view c.token.view words target rebuild)
+    its None h = tt
+    its (Some full) h = record { top = top full h; row_is = refl; rebuild_is = refl }
 
     v : View
     v = a.token.view

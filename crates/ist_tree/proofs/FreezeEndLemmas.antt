@@ -21,6 +21,7 @@ use Rattle.laws_calls.specs.Finishing.{is_put, puts_in}
 use Rattle.laws_calls.proofs.NumberLemmas.{finished_few}
 use Rattle.laws_histories.proofs.ChangeLemmas.{changes_on}
 use Rattle.ist_rebuild.specs.Helping.{IsAskedFor, for_change, for_row}
+use Rattle.ist_rebuild.specs.Lacking.{LacksNow}
 use Rattle.ist_rebuild.specs.Starting.{StartsNone}
 use Rattle.ist_rule.specs.declared.view.View.{View}
 use Rattle.ist_rule.specs.Faces.{TokenFace}
@@ -32,7 +33,7 @@ use Rattle.ist_tree.specs.FreezeSteps.{IsTopShort}
 use Rattle.ist_tree.specs.Freezing.{HasFrozen, HeldInnerRow, IsFreezeRefused, IsFrozenIn, IsFrozenFor, WasFrozen}
 use Rattle.ist_tree.specs.Insides.{face_as, pass_face}
 use Rattle.ist_tree.specs.Refusals.{HadTooFew, IsForRebuild, IsTopRefused, KeepsRefusal, LeavesTooFew}
-use Rattle.ist_tree.proofs.AskedLemmas.{asked_grows, held_on}
+use Rattle.ist_tree.proofs.AskedLemmas.{asked_grows, held_on, lacked_then}
 use Rattle.ist_tree.proofs.FreezingLemmas.{was_frozen_on}
 use Rattle.ist_tree.proofs.FreezeCallLemmas.{IsFreezeCall}
 use Rattle.ist_tree.proofs.FreezeCallLemmas as way
@@ -102,14 +103,16 @@ module _ (who began new : Caller) (token : TokenFace) (it : IsFreezeCall who beg
   -- a start that was refused in the work was refused in the call
   pub freeze_refused : (r q : Option Full) (words : ℕ) (full : Full) → words ≡ v.words
       → LeavesTooFew w.start words w.log full
-      → (full.asked ≡ rebuild_words) ⊎ (full.asked ≡ change_words)
+      → (full.asked ≡ rebuild_words) ⊎ (full.asked ≡ change_words) → LacksNow w full.asked
       → HeldInnerRow b.start b.words b.log w.log
       → IsFreezeRefused (pass_face who r) (face_as token new.number q) full
-  freeze_refused r q words full same s asked held =
+  freeze_refused r q words full same s asked lacks held =
       let l = way.b_view who began new token it in
       record {
         had = had_too_few r q words full same s;
         asked = asked;
+        lacked = lacked_then new token it.on.gone.caller (way.x_view who began new token it) q
+            full.asked lacks;
         held = held_on v.start v.words v.log b.log w.log x.log (way.v_to_b who began new token it)
             (way.w_to_x who began new token it)
             (subst (λ pairs. HeldInnerRow pairs v.words b.log w.log) l.start_is
@@ -139,7 +142,7 @@ module _ (who began new : Caller) (token : TokenFace) (it : IsFreezeCall who beg
       it.on.gone.caller.mine it.on.quiet.resolved)))
 
   -- what helping a rebuild took
-  asked_for_rebuild : (r q : Option Full) (rebuild asked : ℕ) → IsAskedFor (now w) rebuild asked
+  pub asked_for_rebuild : (r q : Option Full) (rebuild asked : ℕ) → IsAskedFor (now w) rebuild asked
       → IsForRebuild (face_as token new.number q) asked
   asked_for_rebuild r q rebuild asked (for_change e) = inl e
   asked_for_rebuild r q rebuild asked (for_row row k some e fin least le is) =
@@ -173,7 +176,7 @@ module _ (who began new : Caller) (token : TokenFace) (it : IsFreezeCall who beg
       (way.by_middle who began new token it (λ pairs words. Q (state_of pairs words w.log)) h)))
 
   -- helping the rebuild of what was below the anchor was refused
-  top_refused : (r q : Option Full) (words : ℕ) (full : Full) → words ≡ v.words
+  abbrev pub top_refused : (r q : Option Full) (words : ℕ) (full : Full) → words ≡ v.words
       → IsTopShort b w words full
       → IsTopRefused (pass_face who r) (face_as token new.number q) full
   top_refused r q words full same d =

@@ -16,7 +16,9 @@ use Rattle.laws_links.proofs.FormLemmas.{started_grows}
 use Rattle.ist_rebuild.specs.declared.answers.Started.{Started}
 use Rattle.ist_rebuild.specs.declared.answers.Started.TheVariants.{Marked, Other}
 use Rattle.ist_rebuild.specs.Going.{Begins}
+use Rattle.ist_rebuild.specs.Lacking.{LacksKind}
 use Rattle.ist_rebuild.specs.Starting.{IsStartedAt, IsStartRefused, LeavesUnstarted, StartsAreDoneBut, StartsNone}
+use Rattle.ist_rebuild.proofs.LackLemmas.{lacks_now}
 use Rattle.ist_rule.specs.declared.view.View.{View}
 use Rattle.ist_rule.specs.Going.{WentOn}
 use Rattle.ist_rule.specs.Faces.{TokenFace}
@@ -182,6 +184,7 @@ stopped_more a b c words full g s =
       idle = idle_more a b c g s.idle;
       short = s.short;
       asked = s.asked;
+      lacks = s.lacks;
       held = by_table Rebuilds a.token.view b.token.view g.on.gone.went
           (λ pairs words. HeldInnerRow pairs words a.token.view.log c.token.view.log)
           (held_on b.token.view.start b.token.view.words a.token.view.log b.token.view.log
@@ -191,12 +194,14 @@ stopped_more a b c words full g s =
 -- a start was refused
 pub start_stopped : (old new : Caller) (words : ℕ) (full : Full) → GoesIdle old new
     → HeldInnerRow old.token.view.start old.token.view.words old.token.view.log old.token.view.log
-    → IsStartRefused old.token.view words full new.token.view → IsFreezeStopped old new words full
-start_stopped old new words full g held r =
+    → IsStartRefused old.token.view words full new.token.view → LacksKind new full.asked
+    → IsFreezeStopped old new words full
+start_stopped old new words full g held r lacks =
     record {
       idle = g;
       short = short_now Begins old.token.view words full new.token.view r.short;
       asked = r.asked;
+      lacks = lacks_now new g.on.gone.went.sound g.on.gone.caller g.on.gone.refused full.asked lacks;
       held = held_on old.token.view.start old.token.view.words old.token.view.log old.token.view.log
           old.token.view.log new.token.view.log same_log (later_by-goes_on g.on.gone.went.later) held;
     }
@@ -244,6 +249,12 @@ pub err_map : {A : Type 0} (P Q : Full → Type 0) (answer : Result A Full)
     → ((full : Full) → P full → Q full) → IfErr answer P → IfErr answer Q
 err_map P Q (Ok a) all h = tt
 err_map P Q (Err full) all h = all full h
+
+-- so may two facts about it
+pub err_both : {A : Type 0} (P R Q : Full → Type 0) (answer : Result A Full)
+    → ((full : Full) → P full → R full → Q full) → IfErr answer P → IfErr answer R → IfErr answer Q
+err_both P R Q (Ok a) all h k = tt
+err_both P R Q (Err full) all h k = all full h k
 
 -- if no site was met, the caller has only gone on
 pub none_met : (old new : Caller) (o : Option Site) → ((site : Site) → o ≢ Some site)

@@ -1,32 +1,35 @@
 -- What a freeze returns, put together: if it returns a tree, and if it is refused. Serves `freeze`.
-use Rattle.std.proofs.Common.{◌≡◌, ℕ, Option, Some, None, refl, sym, subst, inl}
+use Rattle.std.proofs.Common.{◌≡◌, ℕ, ◌⊎◌, Option, Some, None, IfSome, refl, sym, subst, inl, inr}
 use Rattle.std.specs.Option.{option_or}
 use Rattle.ist_core.specs.declared.ports.Full.{Full}
 use Rattle.ist_core.specs.Marking.{HasTarget}
 use Rattle.ist_core.specs.Rebuilding.{IsReplaced, IsStarted}
 use Rattle.laws_links.proofs.FinishedLemmas.{target_grows}
 use Rattle.laws_links.proofs.FormLemmas.{replaced_grows, started_grows}
+use Rattle.ist_core.specs.Lawful.{state_of}
 use Rattle.ist_rule.specs.Faces.{TokenFace}
+use Rattle.ist_rule.specs.Learning.{now}
 use Rattle.ist_rows.specs.declared.callers.Caller.{Caller}
 use Rattle.ist_tree.specs.declared.freezing.Frozen.{Frozen}
 use Rattle.ist_tree.specs.declared.freezing.Outcome.{Outcome}
-use Rattle.ist_tree.specs.FreezeSteps.{Freezes, IsFreezeStopped}
+use Rattle.ist_tree.specs.DueRows.{kept_refusal}
+use Rattle.ist_tree.specs.FreezeSteps.{Freezes, IsFreezeStopped, IsTargetShort}
 use Rattle.ist_tree.specs.Calls.{HasSeenMore}
 use Rattle.ist_tree.specs.Faces.{PassFace}
-use Rattle.ist_tree.specs.Freezing.{HasFrozen, HasStartedNone, IsFreezeRefused, IsFrozenFor, LeavesRebuilt}
+use Rattle.ist_tree.specs.Freezing.{HasFrozen, HasStartedNone, IsFreezeRefused, IsFrozenFor, IsLeftShort, LeavesRebuilt}
 use Rattle.ist_tree.specs.Insides.{IsPassWith, face_as, pass_face}
 use Rattle.ist_tree.specs.Refusals.{HasStartsDone, KeepsRefusal}
 use Rattle.ist_tree.proofs.FreezeCallLemmas.{IsFreezeCall}
 use Rattle.ist_tree.proofs.FreezeCallLemmas as way
-use Rattle.ist_tree.proofs.FreezeEndLemmas.{freeze_refused, frozen_for, has_frozen, has_started_none, in_last, keeps_refusal}
+use Rattle.ist_tree.proofs.FreezeEndLemmas.{freeze_refused, frozen_for, has_frozen, has_started_none, in_last, keeps_refusal, top_refused}
 
 -- the tree was frozen in the call, with the map's pairs of that moment, and stays so; its rebuild
--- was replaced, if the pass keeps no refusal
+-- was replaced, or refused in the call
 pub record FreezesAll (p q : PassFace) (frozen : Frozen) : Type 0 where
   pub seen : HasSeenMore p q
   pub still : IsFrozenFor q frozen
   pub pairs : HasFrozen p q frozen
-  pub rebuilt : LeavesRebuilt q frozen
+  pub rebuilt : LeavesRebuilt p q frozen
   pub calls : q.calls ≡ p.calls
   pub refused : KeepsRefusal p q
   pub done : HasStartsDone q
@@ -74,10 +77,7 @@ freeze_ends who began new token it r q all words same table outcome f is old vie
                   (λ t u g. started_grows t u g k.rebuild) k.of.started;
               target = in_last who began new token it (λ t. HasTarget t k.rebuild row)
                   (λ t u g. target_grows t u g k.rebuild row) k.of.target_is;
-              replaced = λ none.
-                  in_last who began new token it (λ t. IsReplaced t k.rebuild)
-                  (λ t u g. replaced_grows t u g k.rebuild)
-                  (k.replaced (both r outcome.refused none).1);
+              replaced = either row k.rebuild outcome.refused k.replaced k.short;
             });
         calls = way.calls_are who began new token it;
         refused = keeps_refusal who began new token it r outcome.refused words same f.refused;
@@ -88,6 +88,26 @@ freeze_ends who began new token it r q all words same table outcome f is old vie
     both : (a c : Option Full) → option_or a c ≡ None → (a ≡ None) × (c ≡ None)
     both None c e = (refl, e)
     both (Some full) c e = absurd (cc)
+
+    first : (o : Option Full) (full : Full) → option_or o (Some full) ≡ kept_refusal o full
+    first None full = refl
+    first (Some f) full = refl
+
+    either : (row rebuild : ℕ) (o : Option Full) → (o ≡ None → IsReplaced (now new.token.view) rebuild)
+        → IfSome o (IsTargetShort began.token.view new.token.view words row rebuild)
+        → IsReplaced (state_of token.view.start token.view.words token.view.log) rebuild
+        ⊎ IsLeftShort (pass_face who r) (face_as token new.number (option_or r o)) row rebuild
+    either row rebuild None replaced s =
+        inl (in_last who began new token it (λ t. IsReplaced t rebuild)
+        (λ t u g. replaced_grows t u g rebuild) (replaced refl))
+    either row rebuild (Some full) replaced s =
+        inr record {
+          full = full;
+          cause = top_refused who began new token it r (option_or r (Some full)) words full same s.top;
+          row_is = s.row_is;
+          rebuild_is = s.rebuild_is;
+          kept = first r full;
+        }
 
 -- it was refused
 pub record StopEnds (old : PassFace) (new : Caller) (token : TokenFace) (r : Option Full) (full : Full)
@@ -107,7 +127,8 @@ stop_ends who began new token it r all words same table full s old view =
       pass = all_now;
       stopped = record {
         seen = way.has_seen_more who began new token it r r table;
-        cause = freeze_refused who began new token it r r words full same s.short s.asked s.held;
+        cause = freeze_refused who began new token it r r words full same s.short s.asked s.lacks
+            s.held;
         unstarted = has_started_none who began new token it s.idle.none;
         calls = way.calls_are who began new token it;
         unrefused = refl;

@@ -3,6 +3,7 @@ use Rattle.std.proofs.Common.{◌≡◌, ◌≢◌, ℕ, ◌+◌, ◌≤◌, len
 use Rattle.ist_core.specs.declared.commands.Command.{Command}
 use Rattle.ist_core.specs.declared.commands.Command.TheVariants.{Get, Put, Remove}
 use Rattle.ist_core.specs.declared.ports.Full.{Full}
+use Rattle.ist_core.specs.Logs.{Log}
 use Rattle.ist_core.specs.Replies.{Refused, refusal}
 use Rattle.ist_rule.proofs.LaterLemmas.{goes_on_more}
 use Rattle.laws_calls.specs.Finishing.{puts_in}
@@ -52,13 +53,13 @@ refused_more p q said m r =
     }
 
 -- what was asked for in a call
-asked_then : (p q : PassFace) (key : ℕ) (value : Option ℕ) (asked : ℕ)
-    → IsAskedIn p q key value asked → MayBeAsked q asked
-asked_then p q key _ asked (for_leaf e) = inl e
-asked_then p q key _ asked (for_pair e) = inr (inl e)
-asked_then p q key _ asked (for_put e) = inr (inr (inl e))
-asked_then p q key _ asked (for_remove found has e) = inr (inr (inl e))
-asked_then p q key value asked (for_rebuild met a help) =
+asked_then : (p q : PassFace) (at : Log) (key : ℕ) (value : Option ℕ) (asked : ℕ)
+    → IsAskedIn p q at key value asked → MayBeAsked q asked
+asked_then p q at key _ asked (for_leaf e lacked) = inl e
+asked_then p q at key _ asked (for_pair e lacked met) = inr (inl e)
+asked_then p q at key _ asked (for_put e lacked) = inr (inr (inl e))
+asked_then p q at key _ asked (for_remove found has e lacked) = inr (inr (inl e))
+asked_then p q at key value asked (for_rebuild met way a help) =
     inr (inr (⊎_elim (λ e. inl e) (λ n. inr n) a))
 
 -- a refusal of this call
@@ -72,7 +73,7 @@ refused_now p q key value command full m update is r =
       until = r.had.until;
       few = subst (λ (t : TreeFace). LeavesTooFew t.start t.words r.had.at full)
           (sym m.tree) r.had.few;
-      asked = asked_then p q key value full.asked r.asked;
+      asked = asked_then p q r.had.at key value full.asked r.asked;
       began = p;
       ended = q;
       call = m;

@@ -8,7 +8,8 @@ use Rattle.ist_core.specs.declared.ports.Full.{Full}
 use Rattle.ist_core.specs.Changes.{Entry, changes_of}
 use Rattle.ist_core.specs.Lawful.{state_of}
 use Rattle.ist_core.specs.Growing.{AllGrow}
-use Rattle.ist_core.specs.Logs.{GoesOn, Log}
+use Rattle.ist_core.specs.Links.{IsChild}
+use Rattle.ist_core.specs.Logs.{Ever, GoesOn, Log}
 use Rattle.ist_core.specs.Marking.{HasTarget}
 use Rattle.ist_core.specs.Rebuilding.{IsFinishedWith, IsReplaced, IsStarted}
 use Rattle.ist_core.specs.Snapshots.{Snapshot}
@@ -26,18 +27,22 @@ use Rattle.ist_rule.specs.Faces.{TokenFace}
 use Rattle.ist_rule.specs.Learning.{now}
 use Rattle.ist_rule.proofs.LaterLemmas.{goes_on_more}
 use Rattle.ist_rows.specs.declared.callers.Caller.{Caller}
+use Rattle.laws_stability.proofs.LaterLemmas.{ever_later}
 use Rattle.ist_rebuild.specs.Helping.{IsAskedFor, for_change, for_row}
+use Rattle.ist_rebuild.specs.Lacking.{LacksNow}
+use Rattle.ist_updates.specs.declared.updates.Due.{Due}
 use Rattle.ist_updates.specs.Asking.{Updates}
 use Rattle.ist_updates.specs.Counting.{CameToLimit}
 use Rattle.ist_updates.specs.Refusals as updates
+use Rattle.ist_updates.proofs.WayLemmas.{met_wider, way_longer}
 use Rattle.ist_tree.specs.Faces.{PassFace}
 use Rattle.ist_tree.specs.Insides.{face_as, pass_face}
-use Rattle.ist_tree.specs.Refusals.{HadTooFew, IsAskedForRow, IsAskedIn, IsForHelp, IsForRebuild, IsRefused, IsRowRefused, KeepsRowRefusal, for_leaf, for_other, for_own, for_pair, for_put, for_remove, for_rebuild, for_start, LeavesTooFew}
+use Rattle.ist_tree.specs.Refusals.{HadTooFew, IsAskedForRow, IsAskedIn, IsForHelp, IsForRebuild, IsInSlotOf, IsOnKeysWay, IsRefused, IsRowRefused, KeepsRowRefusal, LackedAt, LeavesTooFew, for_leaf, for_other, for_own, for_pair, for_put, for_remove, for_rebuild, for_start}
 use Rattle.ist_tree.specs.Working as working
 use Rattle.laws_histories.proofs.PositionOnLemmas.{position_on}
-use Rattle.ist_tree.proofs.AskedLemmas.{asked_grows}
+use Rattle.ist_tree.proofs.AskedLemmas.{asked_grows, lacked_then}
 use Rattle.ist_tree.proofs.GoingLemmas.{lawful_behind}
-use Rattle.ist_tree.proofs.ShortLemmas.{short_now}
+use Rattle.ist_tree.proofs.ShortLemmas.{due_slot_grows, short_now}
 use Rattle.ist_tree.proofs.UpdateSeenLemmas.{IsUpdateCall, b_start, b_view, b_words, b_to_w, lawful_w, lawful_x, v_to_b, w_start, w_to_x, w_words, x_start, x_words}
 
 -- a longer log has no fewer puts
@@ -153,12 +158,42 @@ module _ (who began new : Caller) (token : TokenFace) (command : Command)
           ap₂ (λ pairs words. state_of pairs words began.token.view.log)
           (b_start who began new token command it) (b_words who began new token command it)
 
+  -- a row that the caller lacked after the work
+  lacked_last : (asked : ℕ) → LacksNow w asked → LackedAt behind w.log asked
+  lacked_last asked lacks = lacked_then new token it.caller it.last q asked lacks
+
+  -- a rebuild that was started in the slot of the due row
+  in_slot : (due : Due)
+      → Ever (start v.start v.words) (λ t. IsChild t due.parent due.index due.target) w.log
+      → (rebuild : ℕ) → working.IsInDueSlot (now w) rebuild due
+      → IsInSlotOf behind rebuild due.target
+  in_slot due child rebuild slot =
+      let s = in_last (λ t. working.IsInDueSlot t rebuild due)
+      (λ t u g. due_slot_grows t u g rebuild due) slot in
+      record {
+        site = s.site;
+        published = s.published;
+        was_child =
+            subst (λ n. Ever (start x.start x.words) (λ t. IsChild t n s.site.index due.target) x.log)
+            (sym s.parent_is)
+            (subst (λ i. Ever (start x.start x.words) (λ t. IsChild t due.parent i due.target) x.log)
+            (sym s.index_is)
+            (subst (λ n. Ever (start x.start n) (λ t. IsChild t due.parent due.index due.target) x.log)
+            (sym (x_words who began new token command it))
+            (subst (λ pairs. Ever (start pairs v.words)
+            (λ t. IsChild t due.parent due.index due.target) x.log)
+            (sym (x_start who began new token command it))
+            (ever_later (start v.start v.words) (λ t. IsChild t due.parent due.index due.target)
+            (w_to_x who began new token command it) child))));
+      }
+
   -- the rebuild of a row that reached its limit in the work was refused
-  pub row_was_refused : (words : ℕ) (full : Full) → words ≡ v.words → (row : ℕ)
-      → CameToLimit v.start v.words began.token.view.log w.log who.number row
-      → working.IsDueRefused (now began.token.view) w row words full
-      → IsRowRefused before behind row full
-  row_was_refused words full same row c d =
+  pub row_was_refused : (words : ℕ) (full : Full) → words ≡ v.words → (due : Due)
+      → CameToLimit v.start v.words began.token.view.log w.log who.number due.target
+      → Ever (start v.start v.words) (λ t. IsChild t due.parent due.index due.target) w.log
+      → working.IsDueRefused (now began.token.view) w due words full
+      → IsRowRefused before behind due.target full
+  row_was_refused words full same due c child d =
       record {
         came = record {
           at = c.at;
@@ -173,26 +208,27 @@ module _ (who began new : Caller) (token : TokenFace) (command : Command)
         asked = asked d.asked;
       }
     where
-      asked : working.IsAskedToRebuild (now began.token.view) (now w) row full.asked
-          → IsAskedForRow before behind row full.asked
-      asked (working.for_start e) = for_start e
+      asked : working.IsAskedToRebuild (now began.token.view) w due full.asked
+          → IsAskedForRow before behind w.log due.target full.asked
+      asked (working.for_start e lacks) = for_start e (lacked_last full.asked lacks)
       asked (working.for_own rebuild started of a) =
           for_own
           record {
             rebuild = rebuild;
             started = started_last rebuild started;
-            target = in_last (λ t. HasTarget t rebuild row)
-                (λ t u g. target_grows t u g rebuild row) of;
+            target = in_last (λ t. HasTarget t rebuild due.target)
+                (λ t u g. target_grows t u g rebuild due.target) of;
             size = asked_for_rebuild rebuild full.asked a;
             help = for_help rebuild full.asked a;
           }
-      asked (working.for_other rebuild started unreplaced a) =
+      asked (working.for_other rebuild started unreplaced slot a) =
           for_other
           record {
             rebuild = rebuild;
             started = started_last rebuild started;
             unreplaced = unreplaced_first rebuild unreplaced;
           }
+          (in_slot due child rebuild slot)
           (asked_for_rebuild rebuild full.asked a) (for_help rebuild full.asked a)
 
   -- the update itself was
@@ -207,11 +243,18 @@ module _ (who began new : Caller) (token : TokenFace) (command : Command)
     where
       asked : (value : Option ℕ) (n : ℕ)
           → updates.IsAskedBy (record began.token.view { searches = w.searches }) w key value n
-          → IsAskedIn before behind key value n
-      asked _ n (updates.for_leaf e) = for_leaf e
-      asked _ n (updates.for_pair e) = for_pair e
-      asked _ n (updates.for_put e) = for_put e
-      asked _ n (updates.for_remove found has e) =
+          → IsAskedIn before behind w.log key value n
+      asked _ n (updates.for_leaf e lacks) = for_leaf e (lacked_last n lacks)
+      asked _ n (updates.for_pair e lacks met) =
+          for_pair e (lacked_last n lacks)
+          (met_wider v.start v.words v.log began.token.view.log w.log x.log
+          (v_to_b who began new token command it) (w_to_x who began new token command it) key
+          (subst (λ pairs. updates.MetOtherLeaf pairs v.words began.token.view.log w.log key)
+          (b_start who began new token command it)
+          (subst (λ words. updates.MetOtherLeaf began.token.view.start words began.token.view.log w.log
+          key) (b_words who began new token command it) met)))
+      asked _ n (updates.for_put e lacks) = for_put e (lacked_last n lacks)
+      asked _ n (updates.for_remove found has e lacks) =
           for_remove found
           (position_on v.start v.words v.log began.token.view.log w.log x.log
           (v_to_b who began new token command it) (w_to_x who began new token command it) key
@@ -220,15 +263,29 @@ module _ (who began new : Caller) (token : TokenFace) (command : Command)
           (b_start who began new token command it)
           (subst (λ words. HasPosition began.token.view.start words began.token.view.log w.log key
           (Some found)) (b_words who began new token command it) has)))
-          e
-      asked value n (updates.for_rebuild rebuild started unreplaced a) =
+          e (lacked_last n lacks)
+      asked value n (updates.for_rebuild rebuild started unreplaced way a) =
           for_rebuild
           record {
             rebuild = rebuild;
             started = started_last rebuild started;
             unreplaced = unreplaced_first rebuild unreplaced;
           }
-          (asked_for_rebuild rebuild n a) (for_help rebuild n a)
+          (on_its_way way) (asked_for_rebuild rebuild n a) (for_help rebuild n a)
+        where
+          on_its_way : updates.IsOnWay began.token.view.start began.token.view.words w.log key rebuild
+              → IsOnKeysWay behind key rebuild
+          on_its_way way =
+              subst (λ words. updates.IsOnWay x.start words x.log key rebuild)
+              (sym (x_words who began new token command it))
+              (subst (λ pairs. updates.IsOnWay pairs v.words x.log key rebuild)
+              (sym (x_start who began new token command it))
+              (way_longer v.start v.words w.log x.log (lawful_x who began new token command it)
+              (w_to_x who began new token command it) key rebuild
+              (subst (λ pairs. updates.IsOnWay pairs v.words w.log key rebuild)
+              (b_start who began new token command it)
+              (subst (λ words. updates.IsOnWay began.token.view.start words w.log key rebuild)
+              (b_words who began new token command it) way))))
 
   -- the first refusal of a rebuild is kept
   pub keeps_first : (met : Option Full) → q ≡ option_or r met

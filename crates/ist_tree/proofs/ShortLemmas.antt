@@ -9,6 +9,7 @@ use Rattle.ist_core.specs.References.{RebuildAt, ref_of}
 use Rattle.ist_core.specs.Shown.{shown_next}
 use Rattle.ist_core.specs.Slots.{SlotHolds, past_change}
 use Rattle.ist_core.specs.Snapshots.{Snapshot}
+use Rattle.ist_core.proofs.GrowingLemmas.{rebuild_there}
 use Rattle.ist_core.proofs.NamingLemmas.{IsRebuildFor, SlotNames, slot_names}
 use Rattle.ist_core.proofs.OrderLemmas.{names}
 use Rattle.laws_links.proofs.FinishedLemmas.{target_grows}
@@ -23,8 +24,10 @@ use Rattle.ist_rule.specs.Rule.{IsSound}
 use Rattle.ist_rebuild.specs.Going.{Begins, ServesRebuild}
 use Rattle.ist_rows.specs.Rows.{RanShort}
 use Rattle.ist_rebuild.specs.Helping.{IsHelpRefused}
+use Rattle.ist_rebuild.specs.Lacking.{LacksNow}
 use Rattle.ist_rebuild.specs.Starting.{IsStartRefused, IsStartedAt, StoodInstead}
-use Rattle.ist_tree.specs.Working.{IsAskedToRebuild, IsDueRefused, for_other, for_own, for_start}
+use Rattle.ist_updates.specs.declared.updates.Due.{Due}
+use Rattle.ist_tree.specs.Working.{IsAskedToRebuild, IsDueRefused, IsInDueSlot, for_other, for_own, for_start}
 use Rattle.ist_tree.specs.Refusals.{LeavesTooFew}
 use Rattle.ist_tree.proofs.HelpedRebuildLemmas.{other_started}
 
@@ -42,65 +45,84 @@ short_now P v words full w s =
     }
 
 -- a start was refused
-pub start_refused : (s : Snapshot) (v : View) (target words : ℕ) (full : Full) (w : View)
-    → IsStartRefused v words full w → IsDueRefused s w target words full
-start_refused s v target words full w r =
-    record { short = short_now Begins v words full w r.short; asked = for_start r.asked }
+pub start_refused : (s : Snapshot) (v : View) (due : Due) (words : ℕ) (full : Full) (w : View)
+    → IsStartRefused v words full w → LacksNow w full.asked → IsDueRefused s w due words full
+start_refused s v due words full w r lacks =
+    record { short = short_now Begins v words full w r.short; asked = for_start r.asked lacks }
 
 -- helping the rebuild that was started was refused
-pub own_refused : (s : Snapshot) (v w : View) (rebuild parent index target words : ℕ) (full : Full)
-    → IsStartedAt (now v) rebuild parent index target → WentOn ServesRebuild v w
-    → IsHelpRefused v rebuild words full w → IsDueRefused s w target words full
-own_refused s v w rebuild parent index target words full at went r =
+pub own_refused : (s : Snapshot) (v w : View) (rebuild : ℕ) (due : Due) (words : ℕ) (full : Full)
+    → IsStartedAt (now v) rebuild due.parent due.index due.target → WentOn ServesRebuild v w
+    → IsHelpRefused v rebuild words full w → IsDueRefused s w due words full
+own_refused s v w rebuild due words full at went r =
     let grow = went_grow ServesRebuild v w went in
     record {
       short = short_now ServesRebuild v words full w r.short;
       asked = for_own rebuild (started_grows (now v) (now w) grow rebuild at.started)
-          (target_grows (now v) (now w) grow rebuild target
+          (target_grows (now v) (now w) grow rebuild due.target
           record { row = at.row; published = at.published; target_is = at.target_is })
           r.asked;
     }
 
+-- a rebuild that was started in a slot was started there as rows grow
+pub due_slot_grows : (t u : Snapshot) → AllGrow t.pieces u.pieces → (rebuild : ℕ) (due : Due)
+    → IsInDueSlot t rebuild due → IsInDueSlot u rebuild due
+due_slot_grows t u grow rebuild due b =
+    let it = rebuild_there t.pieces u.pieces grow rebuild b.site b.published in
+    record {
+      site = it.0;
+      published = it.1;
+      parent_is = it.2.parent ∙ b.parent_is;
+      index_is = it.2.index ∙ b.index_is;
+    }
+
 -- helping another rebuild, which stood in the slot, was refused
-pub other_refused : (v w : View) → IsSound v → (parent index target word rebuild words : ℕ)
-    (full : Full) → StoodInstead v parent index target word → ref_of word ≡ Some (RebuildAt rebuild)
+pub other_refused : (v w : View) → IsSound v → (due : Due) (word rebuild words : ℕ)
+    (full : Full) → StoodInstead v due.parent due.index due.target word
+    → ref_of word ≡ Some (RebuildAt rebuild)
     → WentOn ServesRebuild v w → IsHelpRefused v rebuild words full w
-    → IsDueRefused (now v) w target words full
-other_refused v w s parent index target word rebuild words full stood is went r =
+    → IsDueRefused (now v) w due words full
+other_refused v w s due word rebuild words full stood is went r =
     record {
       short = short_now ServesRebuild v words full w r.short;
       asked = for_other rebuild
           (started_grows (now v) (now w) (went_grow ServesRebuild v w went) rebuild
-          (other_started v s parent index target word rebuild stood is))
+          (other_started v s due.parent due.index due.target word rebuild stood is))
           (λ replaced.
           read_unreplaced v.start v.words s.lawful.opens v.log s.lawful.enabled rebuild named.row
           named.published record {
             word = word;
             holds = subst (λ m. SlotHolds (now v) m named.row.index word) (sym named.parent)
-                (subst (λ i. SlotHolds (now v) parent i word) (sym named.index) stood.holds);
+                (subst (λ i. SlotHolds (now v) due.parent i word) (sym named.index) stood.holds);
             reads = ap (past_change (now v).pieces) is;
           } replaced)
+          (due_slot_grows (now v) (now w) (went_grow ServesRebuild v w went) rebuild due record {
+            site = named.row;
+            published = named.published;
+            parent_is = named.parent;
+            index_is = named.index;
+          })
           r.asked;
     }
   where
-    named : IsRebuildFor (now v).pieces parent index rebuild
+    named : IsRebuildFor (now v).pieces due.parent due.index rebuild
     named =
-        subst (SlotNames (now v).pieces parent index) is
-        (slot_names (now v) parent index word
+        subst (SlotNames (now v).pieces due.parent due.index) is
+        (slot_names (now v) due.parent due.index word
         (names v.start v.words s.lawful.opens v.log s.lawful.enabled) stood.holds)
 
 -- a rebuild that was refused since a state was refused since an earlier one
 pub due_refused_more : (s t : Snapshot) → AllGrow s.pieces t.pieces → (w : View)
-    (target words : ℕ) (full : Full) → IsDueRefused t w target words full
-    → IsDueRefused s w target words full
-due_refused_more s t grow w target words full d =
+    (due : Due) (words : ℕ) (full : Full) → IsDueRefused t w due words full
+    → IsDueRefused s w due words full
+due_refused_more s t grow w due words full d =
     record { short = d.short; asked = asked d.asked }
   where
-    asked : IsAskedToRebuild t (now w) target full.asked → IsAskedToRebuild s (now w) target full.asked
-    asked (for_start e) = for_start e
+    asked : IsAskedToRebuild t w due full.asked → IsAskedToRebuild s w due full.asked
+    asked (for_start e lacks) = for_start e lacks
     asked (for_own rebuild started of a) = for_own rebuild started of a
-    asked (for_other rebuild started unreplaced a) =
-        for_other rebuild started (λ k. unreplaced (replaced_grows s t grow rebuild k)) a
+    asked (for_other rebuild started unreplaced slot a) =
+        for_other rebuild started (λ k. unreplaced (replaced_grows s t grow rebuild k)) slot a
 
 -- ---- results
 

@@ -8,7 +8,7 @@ use Rattle.ist_core.specs.declared.ports.Full.{Full}
 use Rattle.ist_core.specs.Elements.{Among}
 use Rattle.ist_core.specs.Lawful.{state_of}
 use Rattle.ist_core.specs.Links.{Chain, IsChild, WasOnChain}
-use Rattle.ist_core.specs.Logs.{GoesOn, Log, one_event, same_log}
+use Rattle.ist_core.specs.Logs.{Ever, GoesOn, Log, one_event, same_log}
 use Rattle.ist_core.specs.Slots.{IsOpen, SlotHolds, in_anchor, in_row}
 use Rattle.ist_core.specs.Snapshots.{Snapshot}
 use Rattle.ist_core.specs.Standing.{IsFresh}
@@ -34,6 +34,7 @@ use Rattle.ist_rule.specs.Learning.{moment_seen, TurnedAt, beginning, ending, no
 use Rattle.ist_rule.specs.Watching.{IsNode, is_anchor, is_inner}
 use Rattle.ist_rule.proofs.LaterLemmas.{between, goes_on_length, goes_on_more}
 use Rattle.ist_rows.specs.declared.callers.Caller.{Caller}
+use Rattle.ist_updates.specs.declared.updates.Due.{Due}
 use Rattle.ist_updates.specs.Counting.{CameToLimit, IsCounted}
 use Rattle.ist_tree.specs.Calls.{AddsCall}
 use Rattle.ist_tree.specs.DueRows.{CameDue, HasCountedInCall, IsClosedAt, IsTopmostDue, LeavesNoneDue, kept_refusal, is_closed, none_came, was_refused}
@@ -196,22 +197,26 @@ module _ (who began new : Caller) (token : TokenFace) (command : Command)
       it.begun.view t
 
   -- its rebuild was refused in the call, if it was in the work
-  pub row_refused : (words : ℕ) (full : Full) → words ≡ v.words → (row : ℕ)
-      → working.IsTopCame b w began.number row
-      → working.IsDueRefused (now b) w row words full → IsRowRefused before behind row full
-  row_refused words full same row t d =
-      row_was_refused who began new token command it r q words full same row
-      (subst (λ n. CameToLimit v.start v.words b.log w.log n row) it.began_number
-      (top_here row t).came)
+  pub row_refused : (words : ℕ) (full : Full) → words ≡ v.words → (due : Due)
+      → working.IsTopCame b w began.number due.target
+      → Ever (start b.start b.words) (λ s. IsChild s due.parent due.index due.target) w.log
+      → working.IsDueRefused (now b) w due words full → IsRowRefused before behind due.target full
+  row_refused words full same due t child d =
+      row_was_refused who began new token command it r q words full same due
+      (subst (λ n. CameToLimit v.start v.words b.log w.log n due.target) it.began_number
+      (top_here due.target t).came)
+      (subst (λ (y : View). Ever (start y.start y.words)
+      (λ s. IsChild s due.parent due.index due.target) w.log) it.begun.view child)
       d
 
   -- what became of the rows that reached their limits
   pub leaves_none_due : (words : ℕ) (met : Option Full) → words ≡ v.words → q ≡ option_or r met
       → working.LeavesShut b w began.number words met → LeavesNoneDue before behind
   leaves_none_due words _ same is (working.none_came none) = none_came (came_nowhere none)
-  leaves_none_due words _ same is (working.was_refused full row t d) =
-      was_refused row full (topmost row (top_here row t).came (top_here row t).top)
-      (row_refused words full same row t d) (is ∙ first r)
+  leaves_none_due words _ same is (working.was_refused full due t child d) =
+      was_refused due.target full
+      (topmost due.target (top_here due.target t).came (top_here due.target t).top)
+      (row_refused words full same due t child d) (is ∙ first r)
     where
       first : (o : Option Full) → option_or o (Some full) ≡ kept_refusal o full
       first None = refl

@@ -224,6 +224,17 @@ module _ (old mid new : Caller) (words : ℕ) (command : Command) (reply : Optio
             × Among due.target rows) longer (a.due.top other (came_before other c));
       }
 
+  -- the row was in the slot of its parent
+  due_child : Ever (start v.start v.words) (λ t. IsChild t due.parent due.index due.target) x.log
+  due_child =
+      subst (λ pairs. Ever (start pairs v.words) (λ t. IsChild t due.parent due.index due.target)
+      x.log) (ap (λ (y : View). y.start) a.went.went.same)
+      (subst (λ words. Ever (start w.start words) (λ t. IsChild t due.parent due.index due.target)
+      x.log) (ap (λ (y : View). y.words) a.went.went.same)
+      (stood_child w.start w.words a.due.may.prefix w.log x.log a.went.went.sound.lawful
+      a.due.may.goes_on longer due.parent due.index due.target a.due.may.row a.due.may.published
+      a.due.may.stood))
+
   -- the row or its parent isn't open
   top_shut : IsShut (now x) due.parent due.target → IsTopShut old.token.view x old.number due.target
   top_shut shut =
@@ -232,14 +243,7 @@ module _ (old mid new : Caller) (words : ℕ) (command : Command) (reply : Optio
         top = top_came.top;
         parent = due.parent;
         index = due.index;
-        was_child =
-            subst (λ pairs. Ever (start pairs v.words) (λ t. IsChild t due.parent due.index due.target)
-            x.log) (ap (λ (y : View). y.start) a.went.went.same)
-            (subst (λ words. Ever (start w.start words) (λ t. IsChild t due.parent due.index due.target)
-            x.log) (ap (λ (y : View). y.words) a.went.went.same)
-            (stood_child w.start w.words a.due.may.prefix w.log x.log a.went.went.sound.lawful
-            a.due.may.goes_on longer due.parent due.index due.target a.due.may.row a.due.may.published
-            a.due.may.stood));
+        was_child = due_child;
         shut = subst (λ t. IsShut t due.parent due.target) (went_now Works v x all_went) shut;
       }
 
@@ -256,7 +260,7 @@ module _ (old mid new : Caller) (words : ℕ) (command : Command) (reply : Optio
   pub carried_some : (answer : Result (Unit {0}) Full) (refused : Option Full)
       → refused ≡ result_err answer
       → OnOk answer (IsShut (now x) due.parent due.target) → OnOk answer (KeepsDone mid new)
-      → IfErr answer (λ full. IsDueRefused (now w) x due.target words full)
+      → IfErr answer (λ full. IsDueRefused (now w) x due words full)
       → CarriesOut old new words command reply refused
   carried_some answer refused is shut done full =
       record {
@@ -276,12 +280,12 @@ module _ (old mid new : Caller) (words : ℕ) (command : Command) (reply : Optio
       }
     where
       outcome : (r : Result (Unit {0}) Full) → OnOk r (IsShut (now x) due.parent due.target)
-          → IfErr r (λ f. IsDueRefused (now w) x due.target words f)
+          → IfErr r (λ f. IsDueRefused (now w) x due words f)
           → LeavesShut old.token.view x old.number words (result_err r)
       outcome (Ok u) s f = is_shut due.target (top_shut s)
       outcome (Err e) s f =
-          was_refused e due.target top_came
-          (due_refused_more (now v) (now w) (went_grow Updates v w a.went.went) x due.target words e f)
+          was_refused e due top_came due_child
+          (due_refused_more (now v) (now w) (went_grow Updates v w a.went.went) x due words e f)
 
       starts_done : (r : Result (Unit {0}) Full) → result_err r ≡ None → OnOk r (KeepsDone mid new)
           → KeepsDone old new

@@ -200,10 +200,10 @@ module _ (who began new : Caller) (token : TokenFace) (command : Command) (s : I
             → working.LeavesShut began.token.view new.token.view began.number words o
             → (full : Full) → o ≡ Some full
             → (row : ℕ) × IsRowRefused (pass_face who r) (face_as token new.number q) row full
-        cause _ (working.was_refused f row t d) full e = (
-          row,
-          subst (IsRowRefused (pass_face who r) (face_as token new.number q) row) (one f full e)
-              (row_refused who began new token command it r q words f same_words row t d),
+        cause _ (working.was_refused f due t child d) full e = (
+          due.target,
+          subst (IsRowRefused (pass_face who r) (face_as token new.number q) due.target) (one f full e)
+              (row_refused who began new token command it r q words f same_words due t child d),
         )
           where
             one : (a d : Full) → Some a ≡ Some d → a ≡ d

@@ -24,7 +24,7 @@ pub record HelpsOwn (old new : Caller) (due : Due) (words rebuild : ℕ)
   pub shut : OnOk helped (IsShut (now new.token.view) due.parent due.target)
   pub done : OnOk helped (StartsAreDoneBut (now old.token.view) old.number rebuild
       → StartsAreDone (now new.token.view) old.number)
-  pub full : IfErr helped (IsDueRefused (now old.token.view) new.token.view due.target words)
+  pub full : IfErr helped (IsDueRefused (now old.token.view) new.token.view due words)
 
 -- the caller helped what the word names, which was in the slot instead of the row, or was refused
 pub record HelpsOther (old new : Caller) (due : Due) (words word : ℕ)
@@ -32,7 +32,7 @@ pub record HelpsOther (old new : Caller) (due : Due) (words word : ℕ)
   pub on : GoesFor old new due.target
   pub done : OnOk helped (KeepsDone old new)
   pub settled : OnOk helped (IsHelpedWord new.token.view word)
-  pub full : IfErr helped (IsDueRefused (now old.token.view) new.token.view due.target words)
+  pub full : IfErr helped (IsDueRefused (now old.token.view) new.token.view due words)
 
 -- the caller tried once to rebuild the row: if it says that this was the last attempt, the row or
 -- its parent isn't open, and otherwise the table came further
@@ -42,7 +42,7 @@ pub record TriesOnce (old new : Caller) (due : Due) (words : ℕ) (tried : Resul
   pub last : IfOk tried (λ last. IsLastFor last (now new.token.view) due.parent due.target)
   pub further : tried ≡ Ok false → CameFurther old.token.view new.token.view
   pub done : OnOk tried (KeepsDone old new)
-  pub full : IfErr tried (IsDueRefused (now old.token.view) new.token.view due.target words)
+  pub full : IfErr tried (IsDueRefused (now old.token.view) new.token.view due words)
 
 -- the caller tried until the row or its parent wasn't open, or was refused
 pub record RebuildsRow (old new : Caller) (due : Due) (words : ℕ) (tried : Result (Unit {0}) Full)
@@ -50,4 +50,4 @@ pub record RebuildsRow (old new : Caller) (due : Due) (words : ℕ) (tried : Res
   pub on : GoesFor old new due.target
   pub shut : OnOk tried (IsShut (now new.token.view) due.parent due.target)
   pub done : OnOk tried (KeepsDone old new)
-  pub full : IfErr tried (IsDueRefused (now old.token.view) new.token.view due.target words)
+  pub full : IfErr tried (IsDueRefused (now old.token.view) new.token.view due words)

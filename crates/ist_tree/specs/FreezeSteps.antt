@@ -20,6 +20,7 @@ use Rattle.ist_rule.specs.declared.view.View.{View}
 use Rattle.ist_rule.specs.Learning.{now}
 use Rattle.ist_rows.specs.declared.callers.Caller.{Caller}
 use Rattle.ist_rebuild.specs.Helping.{IsAskedFor}
+use Rattle.ist_rebuild.specs.Lacking.{LacksNow}
 use Rattle.ist_rebuild.specs.Starting.{MayStart, StartsAreDoneBut, StartsNone}
 use Rattle.ist_tree.specs.declared.freezing.Frozen.{Frozen}
 use Rattle.ist_tree.specs.declared.freezing.Outcome.{Outcome}
@@ -114,12 +115,13 @@ counted_as who n =
 
 -- ---- what it results in
 
--- the caller was refused a row for the start of a rebuild of an inner row that the anchor's slot
--- held, and has started no rebuild
+-- the caller was refused a row, which it lacks, for the start of a rebuild of an inner row that the
+-- anchor's slot held, and has started no rebuild
 pub record IsFreezeStopped (old new : Caller) (words : ℕ) (full : Full) : Type 0 where
   pub idle : GoesIdle old new
   pub short : LeavesTooFew new.token.view.start words new.token.view.log full
   pub asked : (full.asked ≡ rebuild_words) ⊎ (full.asked ≡ change_words)
+  pub lacks : LacksNow new.token.view full.asked
   pub held : let v = old.token.view in HeldInnerRow v.start v.words v.log new.token.view.log
 
 -- too few words were left to help the rebuild
@@ -146,11 +148,18 @@ pub record FreezesTarget (old new : Caller) (words rebuild target : ℕ) (outcom
   pub replaced : outcome.refused ≡ None → IsReplaced (now new.token.view) rebuild
   pub refused : IfSome outcome.refused (IsHelpShort new.token.view rebuild words)
 
--- a rebuild of the row was started, and was replaced, if none was refused
-pub record IsRebuiltIn (t : Snapshot) (row : ℕ) (refused : Option Full) : Type 0 where
+-- this rebuild of the row was refused so
+pub record IsTargetShort (v w : View) (words row rebuild : ℕ) (full : Full) : Type 0 where
+  pub top : IsTopShort v w words full
+  pub row_is : top.target ≡ row
+  pub rebuild_is : top.rebuild ≡ rebuild
+
+-- a rebuild of the row was started, and was replaced, if it wasn't refused
+pub record IsRebuiltIn (v w : View) (words row : ℕ) (refused : Option Full) : Type 0 where
   pub rebuild : ℕ
-  pub of : IsRebuildOf t rebuild row
-  pub replaced : refused ≡ None → IsReplaced t rebuild
+  pub of : IsRebuildOf (now w) rebuild row
+  pub replaced : refused ≡ None → IsReplaced (now w) rebuild
+  pub short : IfSome refused (IsTargetShort v w words row rebuild)
 
 -- the caller has frozen the tree; if it wasn't refused, all that it started is done
 pub record Freezes (old new : Caller) (words : ℕ) (outcome : Outcome) : Type 0 where
@@ -159,7 +168,7 @@ pub record Freezes (old new : Caller) (words : ℕ) (outcome : Outcome) : Type 0
       WasFrozen v.start v.words v.log new.token.view.log outcome.frozen
   pub done : outcome.refused ≡ None → KeepsDone old new
   pub rebuilt : (row : ℕ) → ref_meant outcome.frozen.root ≡ InnerAt row
-      → IsRebuiltIn (now new.token.view) row outcome.refused
+      → IsRebuiltIn old.token.view new.token.view words row outcome.refused
   pub refused : IfSome outcome.refused (IsTopShort old.token.view new.token.view words)
 
 -- ---- reading what is frozen

@@ -1,5 +1,5 @@
 -- A whole tree that was frozen: when it is so, which pairs it has, and why a freeze is refused.
-use Rattle.std.specs.Prelude.{◌≡◌, ℕ, ◌⊎◌, List, map, length, slice_get, Some, None}
+use Rattle.std.specs.Prelude.{◌≡◌, ℕ, ◌⊎◌, List, map, length, slice_get, Some}
 use Rattle.std.specs.List.Sorted.{IsStrictlyIncreasing}
 use Rattle.ist_core.specs.declared.pairs.Pair.{Pair}
 use Rattle.ist_core.specs.declared.ports.Full.{Full}
@@ -20,7 +20,8 @@ use Rattle.ist_rebuild.specs.Starting.{StartsNone}
 use Rattle.ist_tree.specs.declared.freezing.Frozen.{Frozen}
 use Rattle.ist_tree.specs.Faces.{PassFace}
 use Rattle.ist_tree.specs.RealTime.{StepsIn}
-use Rattle.ist_tree.specs.Refusals.{HadTooFew}
+use Rattle.ist_tree.specs.DueRows.{kept_refusal}
+use Rattle.ist_tree.specs.Refusals.{HadTooFew, IsTopRefused, LackedAt}
 
 -- ---- what is frozen
 
@@ -111,22 +112,34 @@ pub record HeldInnerRow (pairs : List Pair) (words : ℕ) (earlier log : Log) : 
   pub holds : SlotHolds (state_of pairs words at) anchor 0 (word_of (InnerAt row))
 
 -- the freeze couldn't start its rebuild: the anchor's slot held an inner row at a step of this call,
--- and too few words were left for the rebuild's row or its change
+-- and too few words were left for the rebuild's row or its change, of which the pass had none
 pub record IsFreezeRefused (p q : PassFace) (full : Full) : Type 0 where
   pub had : HadTooFew p q full
   pub asked : (full.asked ≡ rebuild_words) ⊎ (full.asked ≡ change_words)
+  pub lacked : LackedAt q had.at full.asked
   pub held : HeldInnerRow p.tree.start p.tree.words p.seen q.seen
 
--- a rebuild of this row was started, and was replaced, unless the pass keeps a refusal of a rebuild
-pub record IsRebuiltFor (p : PassFace) (row : ℕ) : Type 0 where
+-- too few words were left in this call to help this rebuild of the row, and the pass keeps this
+-- refusal, or an earlier one
+pub record IsLeftShort (p q : PassFace) (row rebuild : ℕ) : Type 0 where
+  pub full : Full
+  pub cause : IsTopRefused p q full
+  pub row_is : cause.row ≡ row
+  pub rebuild_is : cause.asked.rebuild ≡ rebuild
+  pub kept : q.refused ≡ kept_refusal p.refused full
+
+-- a rebuild of this row was started, and was replaced, or too few words were left in this call to
+-- help it
+pub record IsRebuiltFor (p q : PassFace) (row : ℕ) : Type 0 where
   pub rebuild : ℕ
-  pub started : IsStarted (state_of p.tree.start p.tree.words p.seen) rebuild
-  pub target : HasTarget (state_of p.tree.start p.tree.words p.seen) rebuild row
-  pub replaced : p.refused ≡ None → IsReplaced (state_of p.tree.start p.tree.words p.seen) rebuild
+  pub started : IsStarted (state_of q.tree.start q.tree.words q.seen) rebuild
+  pub target : HasTarget (state_of q.tree.start q.tree.words q.seen) rebuild row
+  pub replaced : IsReplaced (state_of q.tree.start q.tree.words q.seen) rebuild
+      ⊎ IsLeftShort p q row rebuild
 
 -- if the root of the frozen tree is an inner row, it was rebuilt so
-abbrev pub LeavesRebuilt : PassFace → Frozen → Type 0
-LeavesRebuilt p frozen = (row : ℕ) → ref_meant frozen.root ≡ InnerAt row → IsRebuiltFor p row
+abbrev pub LeavesRebuilt : PassFace → PassFace → Frozen → Type 0
+LeavesRebuilt p q frozen = (row : ℕ) → ref_meant frozen.root ≡ InnerAt row → IsRebuiltFor p q row
 
 -- the pass has started no rebuild in the call: each of its starts that was decided yes by the end
 -- was decided yes before

@@ -5,21 +5,26 @@ use Rattle.ist_core.specs.declared.commands.Command.TheVariants.{Get}
 use Rattle.ist_core.specs.declared.events.Event.TheVariants.{Count}
 use Rattle.ist_core.specs.declared.pairs.Pair.{Pair}
 use Rattle.ist_core.specs.declared.ports.Full.{Full}
+use Rattle.ist_core.specs.declared.states.RebuildRow.{RebuildRow}
 use Rattle.ist_core.specs.Arithmetic.{degree}
 use Rattle.ist_core.specs.Lawful.{state_of}
 use Rattle.ist_core.specs.Links.{IsChild}
-use Rattle.ist_core.specs.Logs.{Log, GoesOn}
+use Rattle.ist_core.specs.Logs.{Ever, Log, GoesOn}
 use Rattle.ist_core.specs.Marking.{HasTarget}
+use Rattle.ist_core.specs.Pieces.{Rebuild}
 use Rattle.ist_core.specs.Rebuilding.{IsStarted, IsReplaced}
 use Rattle.ist_core.specs.Replies.{Refused}
 use Rattle.ist_core.specs.RowLayout.{anchor, leaf_words, pair_words, change_words, rebuild_words}
 use Rattle.ist_core.specs.Spending.{spent}
+use Rattle.ist_core.specs.StartLayout.{start}
 use Rattle.laws_calls.specs.Finishing.{puts_in}
 use Rattle.laws_histories.specs.Searching.{HasPosition}
 use Rattle.laws_calls.specs.Settling.{StartsAreDone}
 use Rattle.ist_rebuild.specs.Helping.{IsAskedFor}
+use Rattle.ist_rebuild.specs.Lacking.{LacksRow}
 use Rattle.ist_updates.specs.Asking.{command_for}
 use Rattle.ist_updates.specs.Counting.{CameToLimit}
+use Rattle.ist_updates.specs.Refusals.{IsOnWay, MetOtherLeaf}
 use Rattle.ist_tree.specs.Calls.{HasSeenMore}
 use Rattle.ist_tree.specs.Faces.{PassFace, changes_seen}
 
@@ -64,18 +69,33 @@ pub record HasMetRebuild (p q : PassFace) : Type 0 where
   pub started : IsStarted (state_of q.tree.start q.tree.words q.seen) rebuild
   pub unreplaced : ¬ (IsReplaced (state_of p.tree.start p.tree.words p.seen) rebuild)
 
--- this many words were asked for in a call with this key. A put asks for a leaf, a pair row or a
--- change. A remove asks for a change, if the map had the key at some position no lower than what
--- the pass had seen. Both ask for what helping a rebuild takes that they met
-pub data IsAskedIn (p q : PassFace) (key : ℕ) : Option ℕ → ℕ → Type 0 where
-  for_leaf : {value asked : ℕ} → asked ≡ leaf_words → IsAskedIn p q key (Some value) asked
-  for_pair : {value asked : ℕ} → asked ≡ pair_words → IsAskedIn p q key (Some value) asked
-  for_put : {value asked : ℕ} → asked ≡ change_words → IsAskedIn p q key (Some value) asked
+-- the key leads to the slot in which this rebuild was started
+abbrev pub IsOnKeysWay : PassFace → ℕ → ℕ → Type 0
+IsOnKeysWay q key rebuild = IsOnWay q.tree.start q.tree.words q.seen key rebuild
+
+-- after this log the pass held no row of this size, apart from rows of builds for which too few words
+-- are left
+abbrev pub LackedAt : PassFace → Log → ℕ → Type 0
+LackedAt p at size = LacksRow (state_of p.tree.start p.tree.words at) p.number size
+
+-- this many words were asked for after this log of a call with this key, for a row that the pass
+-- lacked. A put asks for a leaf and a change, and for a pair row if its key led to a leaf of another
+-- key. A remove asks for a change, if the map had the key at some position no lower than what the pass
+-- had seen. Both ask for what helping a rebuild takes that they met on the key's way
+pub data IsAskedIn (p q : PassFace) (at : Log) (key : ℕ) : Option ℕ → ℕ → Type 0 where
+  for_leaf : {value asked : ℕ} → asked ≡ leaf_words → LackedAt q at asked
+      → IsAskedIn p q at key (Some value) asked
+  for_pair : {value asked : ℕ} → asked ≡ pair_words → LackedAt q at asked
+      → MetOtherLeaf p.tree.start p.tree.words p.seen q.seen key
+      → IsAskedIn p q at key (Some value) asked
+  for_put : {value asked : ℕ} → asked ≡ change_words → LackedAt q at asked
+      → IsAskedIn p q at key (Some value) asked
   for_remove : {asked : ℕ} (found : ℕ)
       → HasPosition p.tree.start p.tree.words p.seen q.seen key (Some found)
-      → asked ≡ change_words → IsAskedIn p q key None asked
-  for_rebuild : {value : Option ℕ} {asked : ℕ} (met : HasMetRebuild p q) → IsForRebuild q asked
-      → IsForHelp q met.rebuild asked → IsAskedIn p q key value asked
+      → asked ≡ change_words → LackedAt q at asked → IsAskedIn p q at key None asked
+  for_rebuild : {value : Option ℕ} {asked : ℕ} (met : HasMetRebuild p q)
+      → IsOnKeysWay q key met.rebuild → IsForRebuild q asked → IsForHelp q met.rebuild asked
+      → IsAskedIn p q at key value asked
 
 -- ---- refusals
 
@@ -83,7 +103,7 @@ pub data IsAskedIn (p q : PassFace) (key : ℕ) : Option ℕ → ℕ → Type 0 
 -- too few words were left
 pub record IsRefused (p q : PassFace) (key : ℕ) (value : Option ℕ) (full : Full) : Type 0 where
   pub had : HadTooFew p q full
-  pub asked : IsAskedIn p q key value full.asked
+  pub asked : IsAskedIn p q had.at key value full.asked
 
 -- ---- refusals of a rebuild
 
@@ -95,13 +115,22 @@ pub record IsForRebuildOf (q : PassFace) (row asked : ℕ) : Type 0 where
   pub size : IsForRebuild q asked
   pub help : IsForHelp q rebuild asked
 
--- this many words were asked for to rebuild a row: for the start, which takes a rebuild's row and a
--- change; for helping its rebuild; or for helping another rebuild that the call met
-pub data IsAskedForRow (p q : PassFace) (row asked : ℕ) : Type 0 where
-  for_start : (asked ≡ rebuild_words) ⊎ (asked ≡ change_words) → IsAskedForRow p q row asked
-  for_own : IsForRebuildOf q row asked → IsAskedForRow p q row asked
-  for_other : (met : HasMetRebuild p q) → IsForRebuild q asked → IsForHelp q met.rebuild asked
-      → IsAskedForRow p q row asked
+-- the rebuild was started in a slot in which this row was
+pub record IsInSlotOf (q : PassFace) (rebuild row : ℕ) : Type 0 where
+  pub site : RebuildRow
+  pub published : (state_of q.tree.start q.tree.words q.seen).pieces rebuild ≡ Some (Rebuild site)
+  pub was_child : Ever (start q.tree.start q.tree.words) (λ t.
+      IsChild t site.parent site.index row) q.seen
+
+-- this many words were asked for after this log to rebuild a row: for the start, which takes a
+-- rebuild's row and a change, if the pass lacked one; for helping its rebuild; or for helping another
+-- rebuild that the call met in the row's slot
+pub data IsAskedForRow (p q : PassFace) (at : Log) (row asked : ℕ) : Type 0 where
+  for_start : (asked ≡ rebuild_words) ⊎ (asked ≡ change_words) → LackedAt q at asked
+      → IsAskedForRow p q at row asked
+  for_own : IsForRebuildOf q row asked → IsAskedForRow p q at row asked
+  for_other : (met : HasMetRebuild p q) → IsInSlotOf q met.rebuild row → IsForRebuild q asked
+      → IsForHelp q met.rebuild asked → IsAskedForRow p q at row asked
 
 -- an increment of the pass in this call brought the row to its limit, and after it too few words
 -- were left to rebuild the row
@@ -109,7 +138,7 @@ pub record IsRowRefused (p q : PassFace) (row : ℕ) (full : Full) : Type 0 wher
   pub came : CameToLimit p.tree.start p.tree.words p.seen q.seen p.number row
   pub had : HadTooFew p q full
   pub after : GoesOn (Count p.number row ∷ came.at) had.at
-  pub asked : IsAskedForRow p q row full.asked
+  pub asked : IsAskedForRow p q had.at row full.asked
 
 -- a pass keeps its refusal of a rebuild, and a new one is of a row that reached its limit in
 -- this put or remove

@@ -6,10 +6,12 @@ use Rattle.ist_core.specs.declared.events.Event.{Event}
 use Rattle.ist_core.specs.declared.events.Event.TheVariants.{Enter, Install, Count}
 use Rattle.ist_core.specs.declared.ports.Full.{Full}
 use Rattle.ist_core.specs.declared.states.ChangeRow.{ChangeRow}
+use Rattle.ist_core.specs.declared.states.RebuildRow.{RebuildRow}
 use Rattle.ist_core.specs.Lawful.{state_of}
 use Rattle.ist_core.specs.Links.{IsChild, WasOnChain}
 use Rattle.ist_core.specs.Logs.{Ever, Happened, Resolves}
 use Rattle.ist_core.specs.Marking.{HasTarget}
+use Rattle.ist_core.specs.Pieces.{Rebuild}
 use Rattle.ist_core.specs.Rebuilding.{IsReplaced, IsStarted, IsUpdate}
 use Rattle.ist_core.specs.References.{ChangeAt, RebuildAt, Ref, ref_of}
 use Rattle.ist_core.specs.RowLayout.{change_words, rebuild_words}
@@ -29,6 +31,7 @@ use Rattle.laws_calls.specs.Settling.{StartsAreDone, DueRowsAreClosed}
 use Rattle.ist_build.specs.Calls.{IsBuildable}
 use Rattle.ist_rows.specs.Going.{IsQuiet, IsReady}
 use Rattle.ist_rebuild.specs.Helping.{IsAskedFor}
+use Rattle.ist_rebuild.specs.Lacking.{LacksNow}
 use Rattle.ist_updates.specs.declared.updates.Due.{Due}
 use Rattle.ist_updates.specs.Asking.{MayEnd, Updates}
 use Rattle.ist_updates.specs.Counting.{CountedNowhere, IsCounted, CameToLimit, LeavesDue}
@@ -88,19 +91,29 @@ pub record IsHelpedWord (w : View) (word : ℕ) : Type 0 where
   pub change : (base : ℕ) → ref_of word ≡ Some (ChangeAt base) → Happened (Resolves base) w.log
   pub rebuild : (base : ℕ) → ref_of word ≡ Some (RebuildAt base) → IsBuildable (now w) base
 
--- this many words were asked for to rebuild the target: for its start; for helping a rebuild of it;
--- or for helping another rebuild, which hadn't been replaced in the earlier state
-pub data IsAskedToRebuild (s t : Snapshot) (target asked : ℕ) : Type 0 where
-  for_start : (asked ≡ rebuild_words) ⊎ (asked ≡ change_words) → IsAskedToRebuild s t target asked
-  for_own : (rebuild : ℕ) → IsStarted t rebuild → HasTarget t rebuild target
-      → IsAskedFor t rebuild asked → IsAskedToRebuild s t target asked
-  for_other : (rebuild : ℕ) → IsStarted t rebuild → ¬ (IsReplaced s rebuild)
-      → IsAskedFor t rebuild asked → IsAskedToRebuild s t target asked
+-- the rebuild was started in the slot in which the due row was
+pub record IsInDueSlot (t : Snapshot) (rebuild : ℕ) (due : Due) : Type 0 where
+  pub site : RebuildRow
+  pub published : t.pieces rebuild ≡ Some (Rebuild site)
+  pub parent_is : site.parent ≡ due.parent
+  pub index_is : site.index ≡ due.index
 
--- the rebuild of the target was refused because too few words were left
-pub record IsDueRefused (s : Snapshot) (w : View) (target words : ℕ) (full : Full) : Type 0 where
+-- this many words were asked for to rebuild the due row: for its start, for a row that the caller
+-- lacks; for helping a rebuild of it; or for helping another rebuild in its slot, which hadn't been
+-- replaced in the earlier state
+pub data IsAskedToRebuild (s : Snapshot) (w : View) (due : Due) (asked : ℕ) : Type 0 where
+  for_start : (asked ≡ rebuild_words) ⊎ (asked ≡ change_words) → LacksNow w asked
+      → IsAskedToRebuild s w due asked
+  for_own : (rebuild : ℕ) → IsStarted (now w) rebuild → HasTarget (now w) rebuild due.target
+      → IsAskedFor (now w) rebuild asked → IsAskedToRebuild s w due asked
+  for_other : (rebuild : ℕ) → IsStarted (now w) rebuild → ¬ (IsReplaced s rebuild)
+      → IsInDueSlot (now w) rebuild due → IsAskedFor (now w) rebuild asked
+      → IsAskedToRebuild s w due asked
+
+-- the rebuild of the due row was refused because too few words were left
+pub record IsDueRefused (s : Snapshot) (w : View) (due : Due) (words : ℕ) (full : Full) : Type 0 where
   pub short : LeavesTooFew w.start words w.log full
-  pub asked : IsAskedToRebuild s (now w) target full.asked
+  pub asked : IsAskedToRebuild s w due full.asked
 
 -- ---- an update
 
@@ -127,8 +140,9 @@ pub data LeavesShut (v w : View) (number words : ℕ) : Option Full → Type 0 w
   none_came : ((row : ℕ) → ¬ (CameToLimit v.start v.words v.log w.log number row))
       → LeavesShut v w number words None
   is_shut : (row : ℕ) → IsTopShut v w number row → LeavesShut v w number words None
-  was_refused : (full : Full) (row : ℕ) → IsTopCame v w number row
-      → IsDueRefused (now v) w row words full → LeavesShut v w number words (Some full)
+  was_refused : (full : Full) (due : Due) → IsTopCame v w number due.target
+      → Ever (start v.start v.words) (λ t. IsChild t due.parent due.index due.target) w.log
+      → IsDueRefused (now v) w due words full → LeavesShut v w number words (Some full)
 
 -- the caller's update took effect, or found nothing to remove, with this reply; its counts brought
 -- this row to its limit, if one is named, and it was counted at each row of its chain

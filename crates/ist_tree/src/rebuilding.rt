@@ -60,8 +60,7 @@ fn start_due(table: &TreeTable, who: &mut Caller, due: Due) -> Result<Started, F
     ensures done { StartsAreDone (now who.old.token.view) who.old.number
         → LeavesDone (now who.new.token.view) who.old.number result }
     ensures full { IfErr result (λ full.
-        IsDueRefused (now who.old.token.view) who.new.token.view due.target
-        (word_count_of table.now) full) }
+        IsDueRefused (now who.old.token.view) who.new.token.view due (word_count_of table.now) full) }
 {
     // Install, Okay, Decide and Resolve of a start. Meets whoever changes the row's slot.
     start(table, who, due.parent, due.index, due.target)

@@ -13,7 +13,7 @@ use Rattle.ist_core.proofs.OrderLemmas.{names}
 use Rattle.ist_rule.specs.declared.view.View.{View}
 use Rattle.ist_rule.specs.Learning.{now}
 use Rattle.ist_rule.specs.Rule.{IsSound}
-use Rattle.ist_rule.proofs.WentOnLemmas.{went_more, went_grow, looked_went}
+use Rattle.ist_rule.proofs.WentOnLemmas.{later_by-goes_on, looked_went, went_grow, went_lawful, went_more}
 use Rattle.laws_calls.proofs.ReadLemmas.{read_started}
 use Rattle.laws_links.proofs.RebuiltLemmas as rebuilt
 use Rattle.ist_rebuild.specs.Going.{ServesRebuild}
@@ -21,10 +21,11 @@ use Rattle.ist_rebuild.specs.Helping.{IsHelpRefused}
 use Rattle.ist_rows.specs.declared.callers.Caller.{Caller}
 use Rattle.ist_updates.specs.Answering.{IsTryRefused}
 use Rattle.ist_updates.specs.Asking.{command_for, IsAsked, Updates}
-use Rattle.ist_updates.specs.Refusals.{IsUpdateRefused, for_rebuild}
+use Rattle.ist_updates.specs.Refusals.{IsOnWay, IsUpdateRefused, for_rebuild}
 use Rattle.ist_updates.specs.Trying.{BeganSince, IsAtSlot}
 use Rattle.ist_updates.proofs.StepLemmas.{tries_updates, serves_tries}
 use Rattle.ist_updates.proofs.ShortLemmas.{short_behind, short_all}
+use Rattle.ist_updates.proofs.WayLemmas.{slot_on_way, way_longer}
 
 -- ---- rebuilds
 
@@ -102,7 +103,11 @@ module _ (v : View) (s : IsSound v) (key node index word rebuild : ℕ)
         asked = for_rebuild rebuild
             (started_on (now v) (now w) (went_grow ServesRebuild v w went) rebuild slot_started)
             (λ replaced. slot_unreplaced (replaced_on (now first) (now v)
-            (went_grow Updates first v began.went) rebuild replaced)) r.asked;
+            (went_grow Updates first v began.went) rebuild replaced))
+            (subst (λ (y : View). IsOnWay y.start y.words w.log key rebuild) began.went.same
+            (way_longer v.start v.words v.log w.log (went_lawful ServesRebuild v w went)
+            (later_by-goes_on went.later) key rebuild
+            (slot_on_way v s key node index word rebuild at named))) r.asked;
       }
 
 -- ---- a refused try

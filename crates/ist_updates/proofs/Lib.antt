@@ -14,6 +14,7 @@ pub mod ShortLemmas
 pub mod TakeLemmas
 pub mod PairLemmas
 pub mod PlanLemmas
+pub mod WayLemmas
 pub mod StoredLemmas
 pub mod PublishLemmas
 pub mod AskedLemmas

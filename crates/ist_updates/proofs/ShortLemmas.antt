@@ -8,7 +8,7 @@ use Rattle.ist_rule.specs.Going.{WentOn}
 use Rattle.ist_rule.proofs.WentOnLemmas.{went_all, went_more}
 use Rattle.ist_rows.specs.Rows.{RanShort}
 use Rattle.ist_updates.specs.declared.plans.Way.{Way}
-use Rattle.ist_updates.specs.Changing.{Prepares, MayAskFor, IsWayRefused}
+use Rattle.ist_updates.specs.Changing.{Prepares, MayAskFor, IsRowShort, IsWayRefused}
 use Rattle.ist_rows.proofs.ShortLemmas.{short_from}
 
 -- if too few words were left since a later view, too few were left since the earlier view
@@ -25,23 +25,38 @@ short_all P Q all v words full w s =
     short_from (WentOn P) (WentOn Q) v v (λ x. went_all P Q all v x) words full w s
 
 -- the same with what was asked for
-pub asked_behind : {size : ℕ} (P : Event → Type 0) (u v : View) (words : ℕ) (full : Full) (w : View)
-    → WentOn P u v → (full.asked ≡ size) × RanShort (WentOn P) v words full w
-    → (full.asked ≡ size) × RanShort (WentOn P) u words full w
-asked_behind P u v words full w a s = (s.0, short_behind P u v words full w a s.1)
+pub asked_behind : {size : ℕ} (u v : View) (words : ℕ) (full : Full) (w : View)
+    → WentOn Prepares u v → IsRowShort v size words full w → IsRowShort u size words full w
+asked_behind u v words full w a s =
+    record {
+      short = short_behind Prepares u v words full w a s.short;
+      asked = s.asked;
+      lacks = s.lacks;
+    }
 
 -- so a change of the slot is refused
+pub way_short : {size : ℕ} (v : View) (words : ℕ) (full : Full) (w : View) (x : Way)
+    → IsRowShort v size words full w → (full.asked ≡ size → MayAskFor x full.asked)
+    → IsWayRefused v x words full w
+way_short v words full w x s may =
+    record { short = s.short; asked = may s.asked; lacks = s.lacks }
+
+-- the same after other steps
 pub way_refused : {size : ℕ} (u v : View) (words : ℕ) (full : Full) (w : View) (x : Way)
-    → WentOn Prepares u v → (full.asked ≡ size) × RanShort (WentOn Prepares) v words full w
+    → WentOn Prepares u v → IsRowShort v size words full w
     → (full.asked ≡ size → MayAskFor x full.asked) → IsWayRefused u x words full w
 way_refused u v words full w x a s may =
-    record { short = short_behind Prepares u v words full w a s.1; asked = may s.0 }
+    way_short u words full w x (asked_behind u v words full w a s) may
 
 -- a change that was refused since a later view was refused since the earlier view
 pub refused_behind : (u v : View) (x : Way) (words : ℕ) (full : Full) (w : View)
     → WentOn Prepares u v → IsWayRefused v x words full w → IsWayRefused u x words full w
 refused_behind u v x words full w a r =
-    record { short = short_behind Prepares u v words full w a r.short; asked = r.asked }
+    record {
+      short = short_behind Prepares u v words full w a r.short;
+      asked = r.asked;
+      lacks = r.lacks;
+    }
 
 -- and so for any result after such steps
 pub err_refused : {A : Type 0} (u v : View) (x : Way) (words : ℕ) (w : View) (r : Result A Full)

@@ -12,10 +12,11 @@ use Rattle.ist_rows.specs.declared.kinds.Kind.{Kind}
 use Rattle.ist_rows.specs.declared.kinds.Kind.TheVariants.{Leaf, Pair as PairKind, Change, Rebuild}
 use Rattle.ist_rows.specs.Building.{HasRefused}
 use Rattle.ist_rows.specs.Kinds.{kind_words}
-use Rattle.ist_rows.specs.Rows.{Spares, spares_of, row_of, with_spare, IsCaller, Reserved, RanShort, IsFreshRow, IsKindRefused}
+use Rattle.ist_rows.specs.Rows.{Spares, spares_of, row_of, with_spare, IsCaller, Reserved, IsFreshRow, IsKindRefused}
 use Rattle.ist_rows.proofs.HeldBehindLemmas.{behind_between}
 use Rattle.ist_rule.specs.Going.{WentOn}
-use Rattle.ist_updates.specs.Changing.{Prepares}
+use Rattle.ist_rebuild.proofs.LackLemmas.{lacks_now, refused_lacks}
+use Rattle.ist_updates.specs.Changing.{IsRowShort, Prepares}
 use Rattle.ist_rows.specs.Going.{HasGone}
 use Rattle.ist_rows.proofs.ReserveLemmas.{reserved_went, took}
 use Rattle.ist_rows.proofs.SpareTakenLemmas.{refused_as, refused_beside}
@@ -52,8 +53,8 @@ pub record HasTakenKind (old new : Caller) (kind : Kind) (words : ℕ) (answer :
   pub rows : IfOk answer (λ base. spares_of new ≡ with_spare kind base (spares_of old))
   pub high : IfOk answer (λ base. (row_of kind (spares_of old) ≡ Some base)
       ⊎ ((now old.token.view).next ≤ base))
-  pub full : IfErr answer (λ full. (full.asked ≡ kind_words kind)
-      × RanShort (WentOn Prepares) old.token.view words full new.token.view)
+  pub full : IfErr answer (λ full.
+      IsRowShort old.token.view (kind_words kind) words full new.token.view)
 
 -- a row that was there is the row of its kind
 with_same : (own : Spares) (kind : Kind) (base : ℕ) → row_of kind own ≡ Some base
@@ -124,16 +125,19 @@ module _ (old new : Caller) (kind : Kind) (words : ℕ) (c : IsCaller old) (refu
         full = tt;
       }
   of_answer None e (Err full) caller number held fresh f =
+      let gone = gone_refused caller number full f in
       record {
-        gone = gone_refused caller number full f;
+        gone = gone;
         held = tt;
         rows = tt;
         high = tt;
-        full = (
-          f.cause.asked,
-          short_from GoesOnTo (WentOn Prepares) old.token.view old.token.view
-              (λ x. goes_on_went Prepares old.token.view x) words full new.token.view f.cause.short,
-        );
+        full = record {
+          short = short_from GoesOnTo (WentOn Prepares) old.token.view old.token.view
+              (λ x. goes_on_went Prepares old.token.view x) words full new.token.view f.cause.short;
+          asked = f.cause.asked;
+          lacks = lacks_now new gone.went.sound caller gone.refused full.asked
+              (refused_lacks words kind old new full f);
+        };
       }
 
   -- so the taken row promises

@@ -28,6 +28,7 @@ use Rattle.ist_find.proofs.LoadLemmas.{goes_length, shown_load}
 use Rattle.ist_find.proofs.LookLemmas.{word_looked}
 use Rattle.ist_find.proofs.SearchLemmas.{has_found}
 use Rattle.ist_rows.specs.Rows.{RanShort}
+use Rattle.ist_rebuild.specs.Lacking.{LacksNow}
 use Rattle.ist_updates.specs.declared.plans.Aim.{Aim}
 use Rattle.ist_rule.specs.Faces.{TokenFace}
 use Rattle.ist_rows.specs.declared.callers.Caller.{Caller}
@@ -36,7 +37,7 @@ use Rattle.ist_updates.specs.declared.updates.Tried.TheVariants.{Took, Nothing, 
 use Rattle.ist_updates.specs.Answering.{IsTried, IsTryRefused}
 use Rattle.ist_updates.specs.Asking.{command_for, IsAsked, Updates}
 use Rattle.ist_updates.specs.Changing.{WasAtSlot, Prepares}
-use Rattle.ist_updates.specs.Refusals.{IsUpdateRefused, for_leaf, for_pair, for_put, for_remove}
+use Rattle.ist_updates.specs.Refusals.{IsUpdateRefused, MetOtherLeaf, for_leaf, for_pair, for_put, for_remove}
 use Rattle.ist_updates.specs.Trying.{BeganSince, HasFoundNone, HasTakenEffect}
 use Rattle.ist_updates.proofs.AskedLemmas.{asked_gone}
 use Rattle.ist_updates.proofs.ShortLemmas.{short_behind, short_all}
@@ -123,20 +124,27 @@ module _ (v : View) (aim : Aim) (at : WasAtSlot v aim) where
 
 -- ---- too few words
 
+-- a put asks for a leaf, for a pair row after it met a leaf of another key, or for a change
+abbrev pub IsPutFor : View → View → ℕ → ℕ → Type 0
+IsPutFor first w key asked = (asked ≡ leaf_words)
+    ⊎ (((asked ≡ pair_words) × MetOtherLeaf first.start first.words first.log w.log key)
+    ⊎ (asked ≡ change_words))
+
 module _ (first v w : View) (words : ℕ) (full : Full) (began : BeganSince first v)
-    (short : RanShort (WentOn Prepares) v words full w) where
+    (short : RanShort (WentOn Prepares) v words full w) (lacks : LacksNow w full.asked) where
   short_since : RanShort (WentOn Updates) first words full w
   short_since =
       short_behind Updates first v words full w began.went
       (short_all Prepares Updates prepares_updates v words full w short)
 
   -- a put is refused
-  pub put_refused : (key value : ℕ) → (full.asked ≡ leaf_words) ⊎ ((full.asked ≡ pair_words)
-      ⊎ (full.asked ≡ change_words)) → IsUpdateRefused first key (Some value) words full w
+  pub put_refused : (key value : ℕ) → IsPutFor first w key full.asked
+      → IsUpdateRefused first key (Some value) words full w
   put_refused key value asked =
       record {
         short = short_since;
-        asked = ⊎_elim (λ e. for_leaf e) (λ k. ⊎_elim (λ e. for_pair e) (λ e. for_put e) k) asked;
+        asked = ⊎_elim (λ e. for_leaf e lacks)
+            (λ k. ⊎_elim (λ e. for_pair e.0 lacks e.1) (λ e. for_put e lacks) k) asked;
       }
 
   -- a remove of a key that was found is refused
@@ -168,7 +176,7 @@ module _ (first v w : View) (words : ℕ) (full : Full) (began : BeganSince firs
               (log_at w.log v.loads.since) since) position.from;
           to = position.to;
           value_is = position.value_is;
-        } asked;
+        } asked lacks;
       }
 
 -- ---- after loads

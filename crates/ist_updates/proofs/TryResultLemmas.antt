@@ -5,7 +5,6 @@ use Rattle.ist_core.specs.declared.commands.Command.{Command}
 use Rattle.ist_core.specs.declared.ports.Full.{Full}
 use Rattle.ist_core.specs.Changes.{value_at}
 use Rattle.ist_core.specs.References.{ref_of}
-use Rattle.ist_core.specs.RowLayout.{leaf_words, pair_words, change_words}
 use Rattle.ist_rule.specs.declared.view.View.{View}
 use Rattle.ist_rule.specs.Faces.{TokenFace}
 use Rattle.ist_rule.specs.Learning.{now, GoesOnTo}
@@ -25,11 +24,11 @@ use Rattle.ist_updates.specs.Asking.{command_for, IsAsked}
 use Rattle.ist_updates.specs.Changing.{MayAskFor, command_by}
 use Rattle.ist_updates.specs.Further.{HasAimed}
 use Rattle.ist_updates.specs.Refusals.{IsUpdateRefused}
-use Rattle.ist_updates.specs.Trying.{Tries, HasFoundNone, HasTakenEffect}
+use Rattle.ist_updates.specs.Trying.{BeganSince, Tries, HasFoundNone, HasTakenEffect}
 use Rattle.ist_updates.proofs.AskedLemmas.{asked_quiet}
 use Rattle.ist_updates.proofs.BehindLemmas.{behind_loads}
 use Rattle.ist_updates.proofs.FurtherLemmas.{aimed_on}
-use Rattle.ist_updates.proofs.TriedLemmas.{ok_behind, err_behind, put_refused, remove_refused}
+use Rattle.ist_updates.proofs.TriedLemmas.{IsPutFor, err_behind, ok_behind, put_refused, remove_refused}
 
 -- ---- results
 
@@ -134,14 +133,14 @@ module _ {old new : Caller} {aim : Aim} {x : Way} {words : ℕ} where
   -- the table had too few words for a row of a put
   pub put_unchanged : {full : Full} (value : Option ℕ) (given : ℕ) → value ≡ Some given
       → command_by aim.key x ≡ command_for aim.key value → HasChanged old aim x words (Err full) new
-      → (MayAskFor x full.asked → (full.asked ≡ leaf_words) ⊎ ((full.asked ≡ pair_words)
-      ⊎ (full.asked ≡ change_words))) → HasTried old aim value words (Err full) new
+      → ((first : View) → BeganSince first old.token.view → MayAskFor x full.asked
+      → IsPutFor first new.token.view aim.key full.asked) → HasTried old aim value words (Err full) new
   put_unchanged {full} value given put is h asks =
       refused_tried old new aim value words full h.on.gone record {
         still = subst (IsAsked new) is h.still;
         cause = λ first began. subst (λ o. IsUpdateRefused first aim.key o words full new.token.view)
             (sym put) (put_refused first old.token.view new.token.view words full began h.full.short
-            aim.key given (asks h.full.asked));
+            h.full.lacks aim.key given (asks first began h.full.asked));
       }
 
 -- the table had too few words for the change of a remove
@@ -154,7 +153,7 @@ remove_unchanged {old} {new} {aim} {words} {full} found h searched =
     refused_tried old new aim None words full h.on.gone record {
       still = h.still;
       cause = λ first began. remove_refused first old.token.view new.token.view words full began
-          h.full.short aim.key aim.node found h.full.asked searched;
+          h.full.short h.full.lacks aim.key aim.node found h.full.asked searched;
     }
 
 -- ---- after loads

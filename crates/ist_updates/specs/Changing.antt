@@ -26,6 +26,7 @@ use Rattle.ist_rows.specs.declared.kinds.Kind.TheVariants as kind
 use Rattle.ist_rows.specs.CallerLaws.{AreBasesOf}
 use Rattle.ist_rows.specs.Rows.{spares_of, RanShort}
 use Rattle.ist_dcss.specs.Installing.{Filling, rows_of}
+use Rattle.ist_rebuild.specs.Lacking.{LacksNow}
 use Rattle.ist_updates.specs.Trying.{IsAtSlot}
 use Rattle.ist_updates.specs.declared.plans.Aim.{Aim}
 use Rattle.ist_updates.specs.declared.plans.Fresh.{Fresh}
@@ -70,12 +71,21 @@ MayReplace v key word way.Clear =
 -- such a change may ask for this number of words
 abbrev pub MayAskFor : Way → ℕ → Type 0
 MayAskFor way.Clear asked = asked ≡ change_words
-MayAskFor _ asked = (asked ≡ leaf_words) ⊎ ((asked ≡ pair_words) ⊎ (asked ≡ change_words))
+MayAskFor (way.Leaf value) asked = (asked ≡ leaf_words) ⊎ (asked ≡ change_words)
+MayAskFor (way.Pair value other other_key) asked =
+    (asked ≡ leaf_words) ⊎ ((asked ≡ pair_words) ⊎ (asked ≡ change_words))
 
--- the table had too few words for one of the rows
+-- the table had too few words for a row of this size, which the caller lacks
+pub record IsRowShort (v : View) (size words : ℕ) (full : Full) (x : View) : Type 0 where
+  pub short : RanShort (WentOn Prepares) v words full x
+  pub asked : full.asked ≡ size
+  pub lacks : LacksNow x full.asked
+
+-- the table had too few words for one of the rows, which the caller lacks
 pub record IsWayRefused (v : View) (w : Way) (words : ℕ) (full : Full) (x : View) : Type 0 where
   pub short : RanShort (WentOn Prepares) v words full x
   pub asked : MayAskFor w full.asked
+  pub lacks : LacksNow x full.asked
 
 -- ---- plans
 

@@ -5,7 +5,6 @@ ghost use Rattle.ist_core.specs.Changes.{command_of, reply_of};
 ghost use Rattle.ist_core.specs.Installing.{IsUnrefused};
 ghost use Rattle.ist_core.specs.Rebuilding.{IsUpdate};
 ghost use Rattle.ist_rule.specs.Faces.{word_count_of};
-ghost use Rattle.ist_rule.specs.Going.{WentOn};
 ghost use Rattle.ist_rule.specs.Learning.{now, GoesOnTo};
 ghost use Rattle.ist_rule.specs.Watching.{IsNode};
 ghost use Rattle.laws_coming.specs.Further.{CameFurther};
@@ -15,13 +14,13 @@ ghost use Rattle.ist_rows.specs.Building.{HasRefused};
 ghost use Rattle.ist_rows.specs.CallerLaws.{without_rows};
 ghost use Rattle.ist_rows.specs.declared.kinds.Kind.TheVariants as kind;
 ghost use Rattle.ist_rows.specs.Kinds.{kind_words};
-ghost use Rattle.ist_rows.specs.Rows.{IsCaller, spares_of, row_of, with_spare, RanShort};
+ghost use Rattle.ist_rows.specs.Rows.{IsCaller, spares_of, row_of, with_spare};
 ghost use Rattle.ist_dcss.specs.Installing.{Filling, IsInstallable, IsInstalled};
 ghost use Rattle.ist_rows.specs.Going.{IsQuiet, HasGone};
 ghost use Rattle.ist_updates.specs.Answering.{HasCarried, HasChanged};
 ghost use Rattle.ist_updates.specs.Asking.{IsAsked};
 ghost use Rattle.ist_updates.specs.Changing.{WasAtSlot, Prepares, HasRows};
-ghost use Rattle.ist_updates.specs.Changing.{MayReplace, IsWayRefused, IsPlanned, row_for};
+ghost use Rattle.ist_updates.specs.Changing.{MayReplace, IsRowShort, IsWayRefused, IsPlanned, row_for};
 ghost use Rattle.ist_updates.specs.Changing.{command_by, filling_of, kinds_of};
 ghost use Rattle.ist_updates.specs.declared.plans.Way.TheVariants as way;
 ghost use Rattle.ist_updates.specs.Trying.{Tries, HasTakenEffect};
@@ -48,8 +47,8 @@ fn take(table: &TreeTable, who: &mut Caller, kind: Kind) -> Result<u32, Full>
         spares_of who.new ≡ with_spare kind base (spares_of who.old)) }
     ensures high { IfOk result (λ base. (row_of kind (spares_of who.old) ≡ Some base)
         ⊎ ((now who.old.token.view).next ≤ base)) }
-    ensures full { let v = who.old.token.view in IfErr result (λ full. (full.asked ≡ kind_words kind)
-        × RanShort (WentOn Prepares) v (word_count_of table.now) full who.new.token.view) }
+    ensures full { let v = who.old.token.view in IfErr result (λ full.
+        IsRowShort v (kind_words kind) (word_count_of table.now) full who.new.token.view) }
 {
     know(&who.token);
     // Reserve, if the caller holds none. Meets another caller's.
@@ -101,8 +100,7 @@ fn take_pair(table: &TreeTable, who: &mut Caller, node: u32) -> Result<u32, Full
         (who.new.leaf ≡ who.old.leaf) × (who.new.change ≡ who.old.change)) }
     ensures above { IfOk result (λ base. node < base) }
     ensures full { let v = who.old.token.view in IfErr result (λ full.
-        (full.asked ≡ kind_words kind.Pair)
-        × RanShort (WentOn Prepares) v (word_count_of table.now) full who.new.token.view) }
+        IsRowShort v (kind_words kind.Pair) (word_count_of table.now) full who.new.token.view) }
 {
     know(&who.token);
     drop_below(table, who, node);

@@ -1,6 +1,7 @@
 use Rattle.std.proofs.Common.{refl, rules}
 use Rattle.ist_rows.specs.declared.kinds.Kind.TheVariants.{Change, Rebuild}
 use Rattle.ist_rebuild.specs.StartSteps.{HasReserved}
+use Rattle.ist_rebuild.proofs.LackLemmas.{refused_lacks}
 use Rattle.ist_rebuild.proofs.StartReserveLemmas.{rebuild_short, change_short}
 use Rattle.ist_rebuild.proofs.StartReservedLemmas.{reserved_more, row_reserved}
 use Rattle.ist_rebuild.proofs.start_rows.reserve_rows.Goals as goal
@@ -32,6 +33,11 @@ returns-in_err-rebuild-clause-full c =
     let short = rebuild_short _ _ _ _ c.in_err-rebuild.ensures.full.cause in
     search rules
 
+pub returns-in_err-rebuild-clause-lacks : goal.returns-in_err-rebuild-clause-lacks
+returns-in_err-rebuild-clause-lacks c =
+    let lacks = refused_lacks _ _ _ _ _ c.in_err-rebuild.ensures.full in
+    search rules
+
 -- the change's row was asked for
 pub returns-in_err-change-clause-reserved : goal.returns-in_err-change-clause-reserved
 returns-in_err-change-clause-reserved c =
@@ -41,6 +47,11 @@ pub returns-in_err-change-clause-full : goal.returns-in_err-change-clause-full
 returns-in_err-change-clause-full c =
     let one = first (goal.at.returns-in_err-change-clause-full c).After-reserve in
     let short = change_short _ _ _ _ _ one.went c.in_err-change.ensures.full.cause in
+    search rules
+
+pub returns-in_err-change-clause-lacks : goal.returns-in_err-change-clause-lacks
+returns-in_err-change-clause-lacks c =
+    let lacks = refused_lacks _ _ _ _ _ c.in_err-change.ensures.full in
     search rules
 
 pub returns-clause-reserved : goal.returns-clause-reserved

@@ -27,6 +27,7 @@ returns-then-parent_is_open c =
       marked = told.marked;
       full = err_map _ _ c.start_open.result (λ full h. refused_behind _ _ _ _ full test.went h)
           c.start_open.ensures.full;
+      lacks = c.start_open.ensures.lacks;
       done = told.done;
       unstarted = told.unstarted;
       uninstalled = told.uninstalled;
@@ -53,6 +54,7 @@ returns-else-parent_is_open c =
       other = told.other;
       marked = told.marked;
       full = tt;
+      lacks = tt;
       done = told.done;
       unstarted = told.unstarted;
       uninstalled = told.uninstalled;

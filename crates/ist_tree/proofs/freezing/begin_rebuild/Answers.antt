@@ -17,7 +17,7 @@ returns-in_err-rebuild-clause-full c =
     (begins_on _ _ c.requires.ready c.start.ensures.caller c.start.ensures.refused
     c.start.ensures.quiet c.start.ensures.went c.start.ensures.number)
     c.in_err-rebuild.ensures.done c.in_err-rebuild.ensures.unstarted)
-    c.requires.row.held c.in_err-rebuild.ensures.full)
+    c.requires.row.held c.in_err-rebuild.ensures.full c.in_err-rebuild.ensures.lacks)
 
 -- a rebuild was started
 pub returns-in-Yes-clause-begun : goal.returns-in-Yes-clause-begun

@@ -1,6 +1,7 @@
 -- A start goes on for the row, and is refused as its rebuild is.
 use Rattle.ist_tree.proofs.DueLemmas.{begins_for}
-use Rattle.ist_tree.proofs.FreezeGoingLemmas.{err_map}
+use Rattle.ist_rebuild.proofs.LackLemmas.{lacks_now}
+use Rattle.ist_tree.proofs.FreezeGoingLemmas.{err_both}
 use Rattle.ist_tree.proofs.ShortLemmas.{start_refused}
 use Rattle.ist_tree.proofs.rebuilding.start_due.Goals as goal
 
@@ -11,4 +12,8 @@ returns-clause-on c =
 
 pub returns-clause-full : goal.returns-clause-full
 returns-clause-full c =
-    err_map _ _ c.start.result (λ full r. start_refused _ _ _ _ full _ r) c.start.ensures.full
+    err_both _ _ _ c.start.result
+    (λ full r lacks. start_refused _ _ c.args.due _ full _ r
+    (lacks_now c.start.new.who c.start.ensures.went.sound c.start.ensures.caller
+    (c.start.ensures.refused c.requires.ready.refused) full.asked lacks))
+    c.start.ensures.full c.start.ensures.lacks

@@ -17,7 +17,7 @@ returns-in_err-base-clause-gone c =
 pub returns-in_err-base-clause-full : goal.returns-in_err-base-clause-full
 returns-in_err-base-clause-full c =
     let full = way_refused _ _ _ _ _ (way.Leaf c.args.value) c.in_ok-leaf.ensures.gone.went
-    c.in_err-base.ensures.full (λ e. inr (inr e)) in
+    c.in_err-base.ensures.full (λ e. inr e) in
     search rules
 
 -- the leaf lies at a good base

@@ -15,7 +15,7 @@ returns-in_err-base-clause-gone c =
 pub returns-in_err-base-clause-full : goal.returns-in_err-base-clause-full
 returns-in_err-base-clause-full c =
     let gone = c.drop_below.ensures.gone in
-    let full = asked_behind Prepares _ _ _ _ _ gone.went c.in_err-base.ensures.full in
+    let full = asked_behind _ _ _ _ _ gone.went c.in_err-base.ensures.full in
     search rules
 
 pub returns-clause-gone : goal.returns-clause-gone

@@ -1,4 +1,4 @@
-use Rattle.std.proofs.Common.{None, ap, refl, sym, rules}
+use Rattle.std.proofs.Common.{None, ap, inl, inr, refl, sym, ⊎_elim, rules}
 use Rattle.ist_core.specs.Changes.{value_at}
 use Rattle.ist_rule.specs.Learning.{now}
 use Rattle.ist_rule.proofs.GoingOnLemmas.{goes_on_same}
@@ -23,7 +23,7 @@ pub returns-in_err-taken-in-Some-clause-tried : goal.returns-in_err-taken-in-Som
 returns-in_err-taken-in-Some-clause-tried c =
     let h = put_unchanged c.args.value c.in-Some.value c.in-Some.is
     (ap (command_for c.args.aim.key) (sym c.in-Some.is)) c.in_err-taken-in-Some.ensures.changed
-    (λ k. k) in
+    (λ first began k. ⊎_elim (λ e. inl e) (λ e. inr (inr e)) k) in
     search rules
 
 pub returns-in_ok-taken-in-Some-clause-tried : goal.returns-in_ok-taken-in-Some-clause-tried

@@ -1,0 +1,160 @@
+-- The slot to which a key leads, and what was met there. Serves the functions of `trying`.
+use Rattle.std.proofs.Common.{◌≡◌, ◌≢◌, ℕ, ◌≤◌, length, List, Option, Some, refl, sym, ap, ◌∙◌, subst, arith}
+use Rattle.ist_core.specs.declared.pairs.Pair.{Pair}
+use Rattle.ist_core.specs.declared.states.LeafRow.{LeafRow}
+use Rattle.ist_core.specs.Lawful.{Lawful, state_of}
+use Rattle.ist_core.specs.Links.{Leads}
+use Rattle.ist_core.specs.Logs.{GoesOn, Log}
+use Rattle.ist_core.specs.Pieces.{Leaf, Piece}
+use Rattle.ist_core.specs.References.{LeafAt, ref_of}
+use Rattle.ist_core.specs.StartLayout.{start}
+use Rattle.ist_core.proofs.FateLemmas.{grow_between}
+use Rattle.ist_core.proofs.GrowingLemmas.{child_remains, leaf_there, rebuild_there}
+use Rattle.ist_core.proofs.NamingLemmas.{IsRebuildFor}
+use Rattle.laws_stability.proofs.LaterLemmas.{ever_later}
+use Rattle.ist_rule.specs.declared.view.View.{View}
+use Rattle.ist_rule.specs.Learning.{now}
+use Rattle.ist_rule.specs.Rule.{IsSound}
+use Rattle.ist_rule.proofs.GoingOnLemmas.{goes_on_same}
+use Rattle.ist_rule.proofs.LaterLemmas.{goes_on_more, later-goes_on}
+use Rattle.ist_rule.proofs.WentOnLemmas.{goes_on_grow, later_by-goes_on}
+use Rattle.laws_histories.specs.Loads.{log_at}
+use Rattle.laws_histories.proofs.LoadOnLemmas.{at_prefix, at_rises}
+use Rattle.ist_find.specs.Searches.{Names, SeesLeaf}
+use Rattle.ist_updates.specs.declared.plans.Aim.{Aim}
+use Rattle.ist_updates.specs.Changing.{WasAtSlot}
+use Rattle.ist_updates.specs.Refusals.{IsOnWay, LeadsToSlot, MetOtherLeaf}
+use Rattle.ist_updates.specs.Trying.{BeganSince, IsAtSlot}
+use Rattle.ist_updates.proofs.PlanLemmas.{slot_met}
+
+-- a key leads to the slot in each longer log
+pub leads_on : (pairs : List Pair) (words : ℕ) (log longer : Log) → Lawful pairs words longer
+    → GoesOn log longer → (key node index : ℕ) → LeadsToSlot pairs words log key node index
+    → LeadsToSlot pairs words longer key node index
+leads_on pairs words log longer lawful g key node index l =
+    record {
+      led = ever_later (start pairs words) (λ t. Leads t key node) g l.led;
+      child = child_remains (state_of pairs words log) (state_of pairs words longer)
+          (grow_between pairs words log longer lawful.enabled g) node key index l.child;
+    }
+
+-- a rebuild on the key's way is so in each longer log
+pub way_longer : (pairs : List Pair) (words : ℕ) (log longer : Log) → Lawful pairs words longer
+    → GoesOn log longer → (key rebuild : ℕ) → IsOnWay pairs words log key rebuild
+    → IsOnWay pairs words longer key rebuild
+way_longer pairs words log longer lawful g key rebuild w =
+    let it = rebuild_there (state_of pairs words log).pieces (state_of pairs words longer).pieces
+    (grow_between pairs words log longer lawful.enabled g) rebuild w.row w.published in
+    record {
+      row = it.0;
+      published = it.1;
+      leads = subst (λ n. LeadsToSlot pairs words longer key n it.0.index) (sym it.2.parent)
+          (subst (λ i. LeadsToSlot pairs words longer key w.row.parent i) (sym it.2.index)
+          (leads_on pairs words log longer lawful g key w.row.parent w.row.index w.leads));
+    }
+
+-- a leaf of another key that was met between two logs was met between wider ones
+pub met_wider : (pairs : List Pair) (words : ℕ) (a b c d : Log) → GoesOn a b → GoesOn c d → (key : ℕ)
+    → MetOtherLeaf pairs words b c key → MetOtherLeaf pairs words a d key
+met_wider pairs words a b c d g h key m =
+    record {
+      at = m.at;
+      since = goes_on_more g m.since;
+      until = goes_on_more m.until h;
+      node = m.node;
+      index = m.index;
+      leads = m.leads;
+      word = m.word;
+      holds = m.holds;
+      base = m.base;
+      names = m.names;
+      other = m.other;
+      leaf = m.leaf;
+      differs = m.differs;
+    }
+
+-- ---- at the slot
+
+module _ (v : View) (aim : Aim) (at : WasAtSlot v aim) where
+  abbrev b : View
+  b = at.before
+
+  -- the caller was at the slot when it was there
+  there : WasAtSlot b aim
+  there =
+      record { before = b; at = at.at; sound = at.sound; seen = goes_on_same b at.sound }
+
+  -- the key leads to the slot
+  pub slot_leads : LeadsToSlot b.start b.words b.log aim.key aim.node aim.index
+  slot_leads = record { led = (slot_met b aim there).led; child = at.at.child }
+
+  b_to_v : GoesOn b.log v.log
+  b_to_v = later-goes_on at.seen.later
+
+  same_leaf : (o : Option Piece) (x y : LeafRow) → o ≡ Some (Leaf x) → o ≡ Some (Leaf y) → x ≡ y
+  same_leaf o x y e f = cc
+
+  module _ (first : View) (began : BeganSince first v) where
+    -- since a search that began after the first view
+    first_to_b : GoesOn first.log b.log
+    first_to_b =
+        let on = later_by-goes_on began.went.later in
+        let since = began.since in
+        let same = at.seen.since in
+        let low = at.sound.well_made.since in
+        subst (λ l. GoesOn l b.log) (at_prefix first.log v.log on)
+        (subst (GoesOn (log_at v.log (length first.log))) (at_prefix b.log v.log b_to_v)
+        (at_rises v.log (length first.log) (length b.log) (omega arith)))
+
+    -- the slot held a leaf of another key
+    pub met_other : (w : View) → GoesOn v.log w.log → (base : ℕ) (row : LeafRow)
+        → ref_of aim.word ≡ Some (LeafAt base) → (now v).pieces base ≡ Some (Leaf row)
+        → row.key ≢ aim.key → MetOtherLeaf first.start first.words first.log w.log aim.key
+    met_other w on base row is stands differs =
+        subst (λ p. MetOtherLeaf p first.words first.log w.log aim.key)
+        (sym (ap (λ (x : View). x.start) at.seen.same) ∙ ap (λ (x : View). x.start) began.went.same)
+        (subst (λ n. MetOtherLeaf b.start n first.log w.log aim.key)
+        (sym (ap (λ (x : View). x.words) at.seen.same) ∙ ap (λ (x : View). x.words) began.went.same)
+        here)
+      where
+        seen : SeesLeaf b base
+        seen = subst (Names b) is at.at.names
+
+        same : seen.row ≡ row
+        same =
+            same_leaf ((now v).pieces base) seen.row row
+            (leaf_there (now b).pieces (now v).pieces (goes_on_grow b v at.seen) base seen.row
+            seen.published) stands
+
+        here : MetOtherLeaf b.start b.words first.log w.log aim.key
+        here =
+            record {
+              at = b.log;
+              since = first_to_b;
+              until = goes_on_more b_to_v on;
+              node = aim.node;
+              index = aim.index;
+              leads = slot_leads;
+              word = aim.word;
+              holds = at.at.holds;
+              base = base;
+              names = is;
+              other = seen.row.key;
+              leaf = record { row = seen.row; published = seen.published; key_is = refl };
+              differs = subst (λ (x : LeafRow). x.key ≢ aim.key) (sym same) differs;
+            }
+
+-- a rebuild in the slot is on the key's way
+pub slot_on_way : (v : View) → IsSound v → (key node index word rebuild : ℕ)
+    → IsAtSlot v key node index word → IsRebuildFor (now v).pieces node index rebuild
+    → IsOnWay v.start v.words v.log key rebuild
+slot_on_way v s key node index word rebuild at named =
+    let aim : Aim = record { node = node; index = index; word = word; key = key } in
+    let leads = slot_leads v aim
+    record { before = v; at = at; sound = s; seen = goes_on_same v s } in
+    record {
+      row = named.row;
+      published = named.published;
+      leads = subst (λ n. LeadsToSlot v.start v.words v.log key n named.row.index) (sym named.parent)
+          (subst (λ i. LeadsToSlot v.start v.words v.log key node i) (sym named.index) leads);
+    }
