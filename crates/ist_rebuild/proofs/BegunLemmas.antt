@@ -5,7 +5,7 @@ use Rattle.std.specs.Result.{IsErr}
 use Rattle.ist_build.specs.Laying.{IsReservation}
 use Rattle.ist_core.specs.declared.ports.Full.{Full}
 use Rattle.ist_core.specs.Slots.{IsOpen}
-use Rattle.laws_calls.specs.Settling.{StartsAreDone}
+use Rattle.ist_core.specs.Snapshots.{Snapshot}
 use Rattle.ist_rule.specs.Faces.{TokenFace}
 use Rattle.ist_rule.specs.Going.{WentOn}
 use Rattle.ist_rule.specs.Learning.{now, GoesOnTo}
@@ -19,7 +19,7 @@ use Rattle.ist_dcss.specs.Installing.{Filling, IsInstalled, IsOther}
 use Rattle.ist_rebuild.specs.declared.answers.Started.{Started}
 use Rattle.ist_rebuild.specs.declared.answers.Started.TheVariants.{Yes, Other, Marked}
 use Rattle.ist_rebuild.specs.Going.{Begins, StartsAt}
-use Rattle.ist_rebuild.specs.Starting.{StartsNone, StoodInstead}
+use Rattle.ist_rebuild.specs.Starting.{StartsDoneSince, StartsNone, StoodInstead}
 use Rattle.ist_rebuild.specs.StartSteps.{HasBegun, HasReserved, IsStartReady, TellsStart, start_filling}
 use Rattle.ist_rebuild.proofs.StartAnswerLemmas.{behind_done, behind_uninstalled, behind_unstarted, has_put, no_closed, no_done, no_start, put_aims, put_begins, same_answer, same_word, yes_done, yes_started}
 use Rattle.ist_rebuild.proofs.StartGoingLemmas.{HasPutIn, aims_reserving, begins_reserving}
@@ -65,7 +65,8 @@ module _ (old new : Caller) (c : IsCaller old) (q : IsQuiet old) (r : HasReserve
   abbrev g : WentOn IsReservation old.token.view new.token.view
   g = r.went
 
-  done : StartsAreDone (now old.token.view) old.number → StartsAreDone (now new.token.view) old.number
+  done : (first : Snapshot) → StartsDoneSince first (now old.token.view) old.number
+      → StartsDoneSince first (now new.token.view) old.number
   done = starts_reserving old.token.view new.token.view g old.number c.mine q.resolved
 
   none : StartsNone (now old.token.view) (now new.token.view) old.number

@@ -9,7 +9,7 @@ use Rattle.ist_core.specs.References.{IsGoodBase}
 use Rattle.ist_core.specs.Rows.{Apart}
 use Rattle.ist_core.specs.RowLayout.{change_words, rebuild_words}
 use Rattle.ist_core.specs.Slots.{IsOpen}
-use Rattle.laws_calls.specs.Settling.{StartsAreDone}
+use Rattle.ist_core.specs.Snapshots.{Snapshot}
 use Rattle.ist_rule.specs.declared.view.View.{View}
 use Rattle.ist_core.specs.declared.events.Who.TheVariants.{Caller as CallerOf}
 use Rattle.ist_rule.specs.Conditions.{IsResolved}
@@ -23,7 +23,7 @@ use Rattle.ist_dcss.specs.Installing.{Filling, IsInstalled}
 use Rattle.ist_rebuild.specs.declared.answers.Started.{Started}
 use Rattle.ist_rebuild.specs.declared.answers.Started.TheVariants.{Yes, Other, Marked}
 use Rattle.ist_rebuild.specs.Going.{Begins, StartsAt}
-use Rattle.ist_rebuild.specs.Starting.{IsStartedAt, LeavesDone, IsStartRefused, StartsAreDoneBut}
+use Rattle.ist_rebuild.specs.Starting.{IsStartedAt, LeavesDone, IsStartRefused, StartsDoneBut, StartsDoneSince}
 use Rattle.ist_rebuild.specs.Starting.{LeavesUninstalled, LeavesUnstarted, StartsNone}
 use Rattle.ist_rebuild.specs.StartSteps.{IsStartReady, start_filling}
 use Rattle.ist_rebuild.proofs.StartFillLemmas.{rebuild_good, rows_apart}
@@ -116,16 +116,16 @@ module _ (who : Caller) (parent index target rebuild change : ℕ) (f : Filling)
       subst (λ n. IsStartedAt (now w) n parent index target) (same_rebuild rebuild other is)
       (put_started who.number parent index target rebuild change apart good v w h)
 
-  -- if it was decided yes, all other starts of the caller are done
-  pub yes_done : HasPutIn v change plan true w → StartsAreDone (now v) who.number
-      → StartsAreDoneBut (now w) who.number rebuild
-  yes_done h done base x e own kind said sent to =
+  -- if it was decided yes, all other starts of the caller since a state are done
+  pub yes_done : HasPutIn v change plan true w → (first : Snapshot)
+      → StartsDoneSince first (now v) who.number → StartsDoneBut first (now w) who.number rebuild
+  yes_done h first done base x e own kind said sent to =
       ⊎_elim
       (λ same. inl (put_to who.number parent index target rebuild change apart v true w h good x
       (subst (λ b. (now w).pieces b ≡ Some (Change x)) same e) sent to))
       (λ d. inr d)
       (starts_but (InstallsBut who.number change) v w (put_but true h) who.number change
-      ready.caller.mine (λ event p. p) ready.quiet.resolved done base x e own kind said sent to)
+      ready.caller.mine (λ event p. p) ready.quiet.resolved first done base x e own kind said sent to)
 
   -- ---- decided no
 
@@ -137,17 +137,17 @@ module _ (who : Caller) (parent index target rebuild change : ℕ) (f : Filling)
   no_closed h =
       put_closed who.number parent index target rebuild change apart v w h.helped.sound h
 
-  -- if it was decided no, all starts of the caller are done
-  pub no_done : HasPutIn v change plan false w → StartsAreDone (now v) who.number
-      → StartsAreDone (now w) who.number
-  no_done h done base x e own kind said sent to =
+  -- if it was decided no, all starts of the caller since a state are done
+  pub no_done : HasPutIn v change plan false w → (first : Snapshot)
+      → StartsDoneSince first (now v) who.number → StartsDoneSince first (now w) who.number
+  no_done h first done base x e own kind said sent to =
       ⊎_elim
       (λ same. absurd (two_sides _ said
       (put_said who.number parent index target rebuild change apart v false w h x
       (subst (λ b. (now w).pieces b ≡ Some (Change x)) same e) ∙ h.decided.decision)))
       (λ d. d)
       (starts_but (InstallsBut who.number change) v w (put_but false h) who.number change
-      ready.caller.mine (λ event p. p) ready.quiet.resolved done base x e own kind said sent to)
+      ready.caller.mine (λ event p. p) ready.quiet.resolved first done base x e own kind said sent to)
 
   -- if it was decided no, no rebuild was started
   pub no_start : HasPutIn v change plan false w → StartsNone (now v) (now w) who.number
@@ -174,12 +174,12 @@ refused_behind u v w words full g r =
 -- what a start leaves done, after reservings
 pub behind_done : (v u w : View) → WentOn IsReservation v u → (number same : ℕ)
     → v.who ≡ CallerOf number → IsResolved v number → same ≡ number → (answer : Result Started Full)
-    → (StartsAreDone (now u) same → LeavesDone (now w) same answer)
-    → StartsAreDone (now v) number → LeavesDone (now w) number answer
-behind_done v u w g number same mine resolved is answer leaves done =
-    subst (λ n. LeavesDone (now w) n answer) is
-    (leaves (subst (StartsAreDone (now u)) (sym is)
-    (starts_reserving v u g number mine resolved done)))
+    → ((first : Snapshot) → StartsDoneSince first (now u) same → LeavesDone first (now w) same answer)
+    → (first : Snapshot) → StartsDoneSince first (now v) number → LeavesDone first (now w) number answer
+behind_done v u w g number same mine resolved is answer leaves first done =
+    subst (λ n. LeavesDone first (now w) n answer) is
+    (leaves first (subst (StartsDoneSince first (now u)) (sym is)
+    (starts_reserving v u g number mine resolved first done)))
 
 -- ---- what is left undone
 

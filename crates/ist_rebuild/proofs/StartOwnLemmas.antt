@@ -14,6 +14,7 @@ use Rattle.ist_core.specs.Lawful.{CanOpen, EachEnabled, state_of}
 use Rattle.ist_core.specs.Logs.{Log}
 use Rattle.ist_core.specs.Pieces.{Change}
 use Rattle.ist_core.specs.References.{RebuildAt, ref_of}
+use Rattle.ist_core.specs.Snapshots.{Snapshot}
 use Rattle.ist_core.specs.StartLayout.{start}
 use Rattle.ist_core.specs.Statuses.{start_kind, decided_yes}
 use Rattle.ist_core.proofs.FateLemmas.{enabled_before}
@@ -21,7 +22,7 @@ use Rattle.laws_links.proofs.ChangeLemmas.{undecided_unresolved}
 use Rattle.laws_links.proofs.ComesLemmas.{change_comes}
 use Rattle.laws_links.proofs.OriginLemmas.{ChangeComes, change_was, is_decided, is_installed}
 use Rattle.laws_stability.proofs.LaterLemmas.{goes_on}
-use Rattle.laws_calls.specs.Settling.{IsDoneStart, StartsAreDone}
+use Rattle.laws_calls.specs.Settling.{IsDoneStart}
 use Rattle.laws_calls.proofs.DoneLemmas.{done_stays}
 use Rattle.ist_rule.specs.declared.view.View.{View}
 use Rattle.ist_core.specs.declared.events.Who.TheVariants.{Caller}
@@ -29,7 +30,7 @@ use Rattle.ist_rule.specs.Conditions.{IsResolved}
 use Rattle.ist_rule.specs.Going.{WentOn}
 use Rattle.ist_rule.specs.Learning.{now}
 use Rattle.ist_rule.proofs.WentOnLemmas.{went_now, went_lawful}
-use Rattle.ist_rebuild.specs.Starting.{StartsNone}
+use Rattle.ist_rebuild.specs.Starting.{StartsDoneSince, StartsNone}
 
 -- the event installs no change of the caller except this one
 abbrev pub InstallsBut : ℕ → ℕ → Event → Type 0
@@ -100,19 +101,21 @@ module _ (P : Event → Type 0) (v w : View) (g : WentOn P v w) (number but : �
       (subst (λ who. LaterBy who P v.log w.log) mine g.later) (went_lawful P v w g).enabled resolved
       base x (subst (λ t. t.pieces base ≡ Some (Change x)) (went_now P v w g) e) own ne
 
-  -- each start that was decided yes is done, if all were, except that change
-  pub starts_but : StartsAreDone (now v) number → (base : ℕ) (x : ChangeRow)
+  -- each start that was decided yes since a state is done, if all were, except that change
+  pub starts_but : (first : Snapshot) → StartsDoneSince first (now v) number → (base : ℕ)
+      (x : ChangeRow)
       → (now w).pieces base ≡ Some (Change x) → x.owner ≡ number → x.kind ≡ start_kind
       → x.decision ≡ decided_yes → (rebuild : ℕ) → ref_of x.to ≡ Some (RebuildAt rebuild)
-      → (base ≡ but) ⊎ IsDoneStart (now w) x rebuild
-  starts_but done base x e own kind said rebuild to =
+      → (base ≡ but) ⊎ ((first.pieces base ≡ Some (Change x)) ⊎ IsDoneStart (now w) x rebuild)
+  starts_but first done base x e own kind said rebuild to =
       ⊎_elim (λ same. inl same.1)
       (λ ne.
       let old = own_was base x e own ne.1 in
-      inr (subst (λ t. IsDoneStart t x rebuild) (sym (went_now P v w g))
+      inr (⊎_elim (λ was. inl was)
+      (λ d. inr (subst (λ t. IsDoneStart t x rebuild) (sym (went_now P v w g))
       (done_stays v.start v.words (went_lawful P v w g).opens v.log w.log (goes_on g.later)
-      (went_lawful P v w g).enabled base x rebuild old
-      (done base x old own kind said rebuild to))))
+      (went_lawful P v w g).enabled base x rebuild old d)))
+      (done base x old own kind said rebuild to)))
       (eqb_tells base but)
 
 -- if a caller has only reserved, no change on the node was decided no since
@@ -124,13 +127,14 @@ unrefused_reserving v w g number node mine resolved none base x e own on =
     (own_was IsReservation v w g number (base + 1) mine (reserves_but number (base + 1)) resolved base x
     e own (λ same. let more : base ≡ base + 1 = same in omega arith)) own on
 
--- if a caller has only reserved, the starts that were decided yes are done, if all were
+-- if a caller has only reserved, the starts that were decided yes since a state are done, if all were
 pub starts_reserving : (v w : View) → WentOn IsReservation v w → (number : ℕ) → v.who ≡ Caller number
-    → IsResolved v number → StartsAreDone (now v) number → StartsAreDone (now w) number
-starts_reserving v w g number mine resolved done base x e own kind said rebuild to =
+    → IsResolved v number → (first : Snapshot) → StartsDoneSince first (now v) number
+    → StartsDoneSince first (now w) number
+starts_reserving v w g number mine resolved first done base x e own kind said rebuild to =
     ⊎_elim (λ same. let more : base ≡ base + 1 = same in absurd (omega arith)) (λ d. d)
-    (starts_but IsReservation v w g number (base + 1) mine (reserves_but number (base + 1)) resolved done
-    base x e own kind said rebuild to)
+    (starts_but IsReservation v w g number (base + 1) mine (reserves_but number (base + 1)) resolved
+    first done base x e own kind said rebuild to)
 
 -- if a caller has only reserved, none was started
 pub starts_none_reserving : (v w : View) → WentOn IsReservation v w → (number : ℕ)

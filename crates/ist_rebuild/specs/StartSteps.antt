@@ -8,8 +8,8 @@ use Rattle.ist_core.specs.Installing.{new_rebuild}
 use Rattle.ist_core.specs.Pieces.{Change, row_at, words_of}
 use Rattle.ist_core.specs.References.{InnerAt, RebuildAt, word_of}
 use Rattle.ist_core.specs.Slots.{IsOpen}
+use Rattle.ist_core.specs.Snapshots.{Snapshot}
 use Rattle.ist_core.specs.Statuses.{undecided, start_kind}
-use Rattle.laws_calls.specs.Settling.{StartsAreDone}
 use Rattle.ist_rule.specs.Going.{WentOn}
 use Rattle.ist_rule.specs.Learning.{now}
 use Rattle.ist_rows.specs.declared.callers.Caller.{Caller}
@@ -21,7 +21,7 @@ use Rattle.ist_rows.specs.Going.{IsQuiet}
 use Rattle.ist_rebuild.specs.declared.answers.Started.{Started}
 use Rattle.ist_rebuild.specs.declared.answers.Started.TheVariants.{Yes, Other, Marked}
 use Rattle.ist_rebuild.specs.Going.{Begins, KeepsFresh, StartsAt}
-use Rattle.ist_rebuild.specs.Starting.{IsStartedAt, StoodInstead, LeavesDone}
+use Rattle.ist_rebuild.specs.Starting.{IsStartedAt, LeavesDone, StartsDoneSince, StoodInstead}
 use Rattle.ist_rebuild.specs.Starting.{LeavesUninstalled, LeavesUnstarted}
 
 -- ---- the rows
@@ -101,7 +101,7 @@ pub record TellsStart (old new : Caller) (parent index target : ℕ)
   pub other : (word : ℕ) → answer ≡ Ok (Other word)
       → StoodInstead new.token.view parent index target word
   pub marked : answer ≡ Ok Marked → ¬ (IsOpen (now new.token.view) parent)
-  pub done : StartsAreDone (now old.token.view) old.number
-      → LeavesDone (now new.token.view) old.number answer
+  pub done : (first : Snapshot) → StartsDoneSince first (now old.token.view) old.number
+      → LeavesDone first (now new.token.view) old.number answer
   pub unstarted : LeavesUnstarted (now old.token.view) (now new.token.view) old.number answer
   pub uninstalled : LeavesUninstalled old.token.view new.token.view answer

@@ -19,7 +19,7 @@ use Rattle.ist_build.specs.Laying.{IsReservation}
 use Rattle.ist_rule.specs.declared.view.View.{View}
 use Rattle.ist_rule.specs.Going.{WentOn}
 use Rattle.ist_rule.specs.Learning.{now}
-use Rattle.laws_calls.specs.Settling.{IsDoneStart, StartsAreDone}
+use Rattle.laws_calls.specs.Settling.{IsDoneStart}
 use Rattle.ist_rebuild.specs.declared.answers.Started.{Started}
 use Rattle.ist_rebuild.specs.declared.answers.Started.TheVariants.{Yes, Other, Marked}
 use Rattle.ist_rebuild.specs.Going.{Begins}
@@ -54,20 +54,30 @@ pub record StoodInstead (w : View) (parent index target word : ℕ) : Type 0 whe
   pub holds : SlotHolds (now w) parent index word
   pub differs : word ≢ word_of (InnerAt target)
 
--- each start of the caller that was decided yes is done, except the start of this rebuild
-abbrev pub StartsAreDoneBut : Snapshot → ℕ → ℕ → Type 0
-StartsAreDoneBut t caller but =
+-- each start of the caller that was decided yes is done, or was decided yes in the first state
+-- already
+abbrev pub StartsDoneSince : Snapshot → Snapshot → ℕ → Type 0
+StartsDoneSince first t caller =
     (base : ℕ) (change : ChangeRow) → t.pieces base ≡ Some (Change change)
     → change.owner ≡ caller → change.kind ≡ start_kind → change.decision ≡ decided_yes
     → (rebuild : ℕ) → ref_of change.to ≡ Some (RebuildAt rebuild)
-    → (rebuild ≡ but) ⊎ IsDoneStart t change rebuild
+    → (first.pieces base ≡ Some (Change change)) ⊎ IsDoneStart t change rebuild
 
--- if a rebuild was started, all other starts of the caller are done; if none was, all are
-abbrev pub LeavesDone : Snapshot → ℕ → Result Started Full → Type 0
-LeavesDone t caller (Ok (Yes rebuild)) = StartsAreDoneBut t caller rebuild
-LeavesDone t caller (Ok (Other word)) = StartsAreDone t caller
-LeavesDone t caller (Ok Marked) = StartsAreDone t caller
-LeavesDone t caller (Err full) = StartsAreDone t caller
+-- the same, except for the start of this rebuild
+abbrev pub StartsDoneBut : Snapshot → Snapshot → ℕ → ℕ → Type 0
+StartsDoneBut first t caller but =
+    (base : ℕ) (change : ChangeRow) → t.pieces base ≡ Some (Change change)
+    → change.owner ≡ caller → change.kind ≡ start_kind → change.decision ≡ decided_yes
+    → (rebuild : ℕ) → ref_of change.to ≡ Some (RebuildAt rebuild)
+    → (rebuild ≡ but) ⊎ ((first.pieces base ≡ Some (Change change)) ⊎ IsDoneStart t change rebuild)
+
+-- if a rebuild was started, all other starts of the caller since the first state are done; if none
+-- was, all are
+abbrev pub LeavesDone : Snapshot → Snapshot → ℕ → Result Started Full → Type 0
+LeavesDone first t caller (Ok (Yes rebuild)) = StartsDoneBut first t caller rebuild
+LeavesDone first t caller (Ok (Other word)) = StartsDoneSince first t caller
+LeavesDone first t caller (Ok Marked) = StartsDoneSince first t caller
+LeavesDone first t caller (Err full) = StartsDoneSince first t caller
 
 -- ---- what it leaves undone
 

@@ -2,6 +2,7 @@
 ghost use Rattle.std.specs.Prelude.{◌≡◌, ℕ, Ok, IfErr, IsTrue, false};
 ghost use Rattle.ist_core.specs.Installing.{IsUnrefused};
 ghost use Rattle.ist_core.specs.Slots.{IsOpen};
+ghost use Rattle.ist_core.specs.Snapshots.{Snapshot};
 ghost use Rattle.ist_dcss.specs.Installing.{Filling};
 ghost use Rattle.ist_rebuild.specs.declared.answers.Started.TheVariants.{Yes, Other, Marked};
 ghost use Rattle.ist_rule.specs.Faces.{word_count_of};
@@ -9,11 +10,10 @@ ghost use Rattle.ist_rule.specs.Going.{WentOn};
 ghost use Rattle.ist_rule.specs.Learning.{now};
 ghost use Rattle.ist_rows.specs.Building.{HasRefused};
 ghost use Rattle.ist_rows.specs.Rows.{IsCaller};
-ghost use Rattle.laws_calls.specs.Settling.{StartsAreDone};
 ghost use Rattle.ist_rebuild.specs.Going.{Begins, KeepsFresh, StartsAt};
 ghost use Rattle.ist_rebuild.specs.Lacking.{LacksKind};
 ghost use Rattle.ist_rows.specs.Going.{IsQuiet};
-ghost use Rattle.ist_rebuild.specs.Starting.{MayStart, IsStartedAt, StoodInstead, LeavesDone};
+ghost use Rattle.ist_rebuild.specs.Starting.{MayStart, IsStartedAt, StoodInstead, LeavesDone, StartsDoneSince};
 ghost use Rattle.ist_rebuild.specs.Starting.{IsStartRefused, LeavesUninstalled, LeavesUnstarted};
 ghost use Rattle.ist_rebuild.specs.StartSteps.{HasBegun, HasReserved, IsStartReady};
 ghost use Rattle.ist_rebuild.specs.StartSteps.{TellsStart, start_filling};
@@ -147,8 +147,9 @@ pub fn start(
     ensures full { IfErr result (λ full.
         IsStartRefused who.old.token.view (word_count_of table.now) full who.new.token.view) }
     ensures lacks { IfErr result (λ full. LacksKind who.new full.asked) }
-    ensures done { StartsAreDone (now who.old.token.view) who.old.number
-        → LeavesDone (now who.new.token.view) who.old.number result }
+    ensures done { (first : Snapshot)
+        → StartsDoneSince first (now who.old.token.view) who.old.number
+        → LeavesDone first (now who.new.token.view) who.old.number result }
     ensures unstarted { let old = now who.old.token.view in
         LeavesUnstarted old (now who.new.token.view) who.old.number result }
     ensures uninstalled { LeavesUninstalled who.old.token.view who.new.token.view result }

@@ -6,7 +6,7 @@ use Rattle.ist_core.specs.Logs.{Happened, Resolves}
 use Rattle.ist_core.specs.Rebuilding.{IsReplaced}
 use Rattle.ist_core.specs.References.{ChangeAt, RebuildAt, ref_of}
 use Rattle.ist_core.specs.Slots.{IsOpen}
-use Rattle.laws_calls.specs.Settling.{StartsAreDone}
+use Rattle.ist_core.specs.Snapshots.{Snapshot}
 use Rattle.ist_rule.specs.Faces.{TokenFace}
 use Rattle.ist_rule.specs.Going.{WentOn}
 use Rattle.ist_rule.specs.Learning.{GoesOnTo, now}
@@ -19,7 +19,7 @@ use Rattle.ist_dcss.specs.Helping as dcss
 use Rattle.ist_build.specs.Calls.{IsBuildable}
 use Rattle.ist_rebuild.specs.Going.{ServesRebuild}
 use Rattle.ist_rebuild.specs.Helping.{HasHelped, IsHelpRefused, IsLeftToParent}
-use Rattle.ist_rebuild.specs.Starting.{IsStartedAt, MayStart, StartsAreDoneBut, StoodInstead}
+use Rattle.ist_rebuild.specs.Starting.{IsStartedAt, MayStart, StartsDoneBut, StartsDoneSince, StoodInstead}
 use Rattle.ist_updates.specs.declared.updates.Due.{Due}
 use Rattle.ist_tree.specs.declared.rebuilding.Instead.TheVariants.{Other}
 use Rattle.ist_tree.specs.Attempts.{GoesFor, HelpsOther, HelpsOwn, RebuildsRow, TriesOnce}
@@ -45,8 +45,8 @@ module _ (old new : Caller) (due : Due) (words rebuild : ℕ) (h : HasHelped old
         on = helped_for old new due.target h;
         shut = helped_shut old.token.view new.token.view h.on.gone.went rebuild due.parent due.index
             due.target at either;
-        done = λ but. all_done old.number old.token.view new.token.view r.caller.mine r.quiet.resolved
-            h.on.gone.went rebuild but either;
+        done = λ first but. all_done old.number old.token.view new.token.view r.caller.mine
+            r.quiet.resolved h.on.gone.went rebuild first but either;
         full = tt;
       }
 
@@ -112,7 +112,7 @@ pub other_none : (who : Caller) (due : Due) (words word : ℕ) → IsSound who.t
 other_none who due words word s r is =
     record {
       on = goes_none who due.target s r;
-      done = λ done. done;
+      done = λ first done. done;
       settled = none_helped who.token.view word is;
       full = tt;
     }
@@ -147,16 +147,17 @@ later_short a b c due words answer full same one two refused =
 
 -- the rebuild that was started was helped to its end
 pub own_tried : (a b c : Caller) (due : Due) (words rebuild : ℕ) → GoesFor a b due.target
-    → (StartsAreDone (now a.token.view) a.number → StartsAreDoneBut (now b.token.view) a.number rebuild)
+    → ((first : Snapshot) → StartsDoneSince first (now a.token.view) a.number
+    → StartsDoneBut first (now b.token.view) a.number rebuild)
     → HelpsOwn b c due words rebuild (Ok tt) → TriesOnce a c due words (Ok true)
 own_tried a b c due words rebuild one but h =
     record {
       on = goes_more a b c due.target one h.on;
       last = λ is. h.shut;
       further = λ is. absurd (cc);
-      done = λ done. subst (StartsAreDone (now c.token.view)) one.on.gone.number
-          (h.done (subst (λ n. StartsAreDoneBut (now b.token.view) n rebuild)
-          (sym one.on.gone.number) (but done)));
+      done = λ first done. subst (StartsDoneSince first (now c.token.view)) one.on.gone.number
+          (h.done first (subst (λ n. StartsDoneBut first (now b.token.view) n rebuild)
+          (sym one.on.gone.number) (but first done)));
       full = tt;
     }
 

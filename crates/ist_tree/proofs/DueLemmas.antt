@@ -13,7 +13,6 @@ use Rattle.ist_rule.proofs.WentOnLemmas.{goes_on_went, went_all, went_more, went
 use Rattle.ist_rows.specs.declared.callers.Caller.{Caller}
 use Rattle.ist_rows.specs.Building.{HasRefused}
 use Rattle.ist_rows.specs.Rows.{IsCaller}
-use Rattle.laws_calls.specs.Settling.{StartsAreDone}
 use Rattle.ist_rebuild.specs.declared.answers.Helped.{Helped}
 use Rattle.ist_rebuild.specs.declared.answers.Helped.TheVariants.{Replaced, ParentMarked}
 use Rattle.ist_rebuild.specs.declared.answers.Started.{Started}
@@ -21,7 +20,7 @@ use Rattle.ist_rebuild.specs.declared.answers.Started.TheVariants.{Yes, Other, M
 use Rattle.ist_rebuild.specs.Going.{Begins, ServesRebuild, StartsAt}
 use Rattle.ist_rows.specs.Going.{IsQuiet, IsReady, StaysReady}
 use Rattle.ist_rebuild.specs.Helping.{HasHelped, IsLeftToParent}
-use Rattle.ist_rebuild.specs.Starting.{IsStartedAt, LeavesDone, StartsAreDoneBut}
+use Rattle.ist_rebuild.specs.Starting.{IsStartedAt, LeavesDone, StartsDoneBut, StartsDoneSince}
 use Rattle.ist_tree.specs.Attempts.{GoesFor}
 use Rattle.ist_tree.specs.Working.{Rebuilds, IsShut, KeepsDone}
 use Rattle.ist_tree.proofs.EventLemmas.{IsPlainHelp, begins_rebuild, serves_aims, serves_rebuild}
@@ -101,19 +100,23 @@ goes_more a b c target one two =
 -- ---- what starting left done
 
 -- if a rebuild was started, all starts are done except its own
-pub yes_leaves : (t : Snapshot) (number : ℕ) (answer : Started) (rebuild : ℕ)
-    → answer ≡ Yes rebuild → LeavesDone t number (Ok answer) → StartsAreDoneBut t number rebuild
-yes_leaves t number answer rebuild is done = subst (λ a. LeavesDone t number (Ok a)) is done
+pub yes_leaves : (first t : Snapshot) (number : ℕ) (answer : Started) (rebuild : ℕ)
+    → answer ≡ Yes rebuild → LeavesDone first t number (Ok answer)
+    → StartsDoneBut first t number rebuild
+yes_leaves first t number answer rebuild is done =
+    subst (λ a. LeavesDone first t number (Ok a)) is done
 
 -- if the slot held another word, all starts are done
-pub other_leaves : (t : Snapshot) (number : ℕ) (answer : Started) (word : ℕ)
-    → answer ≡ Other word → LeavesDone t number (Ok answer) → StartsAreDone t number
-other_leaves t number answer word is done = subst (λ a. LeavesDone t number (Ok a)) is done
+pub other_leaves : (first t : Snapshot) (number : ℕ) (answer : Started) (word : ℕ)
+    → answer ≡ Other word → LeavesDone first t number (Ok answer) → StartsDoneSince first t number
+other_leaves first t number answer word is done =
+    subst (λ a. LeavesDone first t number (Ok a)) is done
 
 -- if the parent was marked, all starts are done
-pub marked_leaves : (t : Snapshot) (number : ℕ) (answer : Started) → answer ≡ Marked
-    → LeavesDone t number (Ok answer) → StartsAreDone t number
-marked_leaves t number answer is done = subst (λ a. LeavesDone t number (Ok a)) is done
+pub marked_leaves : (first t : Snapshot) (number : ℕ) (answer : Started) → answer ≡ Marked
+    → LeavesDone first t number (Ok answer) → StartsDoneSince first t number
+marked_leaves first t number answer is done =
+    subst (λ a. LeavesDone first t number (Ok a)) is done
 
 -- ---- a rebuild that was helped
 
@@ -142,6 +145,6 @@ helped_shut v w went rebuild parent index target s either =
 -- two steps that keep starts done keep them done together
 pub done_more : (a b c : Caller) → b.number ≡ a.number → KeepsDone a b → KeepsDone b c
     → KeepsDone a c
-done_more a b c number one two done =
-    subst (StartsAreDone (now c.token.view)) number
-    (two (subst (StartsAreDone (now b.token.view)) (sym number) (one done)))
+done_more a b c number one two first done =
+    subst (StartsDoneSince first (now c.token.view)) number
+    (two first (subst (StartsDoneSince first (now b.token.view)) (sym number) (one first done)))

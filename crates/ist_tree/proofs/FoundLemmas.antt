@@ -31,14 +31,16 @@ use Rattle.ist_rule.proofs.LaterLemmas.{goes_on_length, later-goes_on, later_mor
 use Rattle.ist_rows.specs.declared.callers.Caller.{Caller}
 use Rattle.ist_find.specs.Searches.{HasSearched, HasFound, HasFewLoads}
 use Rattle.ist_tree.specs.Faces.{PassFace}
+use Rattle.ist_tree.specs.Freezing.{HasStartedNone}
 use Rattle.ist_tree.specs.Calls.{HasSeenMore, AddsCall, row_loads, HasLoadedFew}
 use Rattle.ist_tree.specs.Insides.{face_as, pass_face, IsPass, IsPassWith}
 use Rattle.ist_rule.proofs.SpeakLemmas.{go_on_more}
 use Rattle.ist_tree.proofs.HeardLemmas.{heard_same, heard_turned, runs_at_once}
-use Rattle.ist_tree.proofs.IdleCallerLemmas.{has_its_calls}
+use Rattle.ist_tree.proofs.IdleCallerLemmas.{between_calls, has_its_calls}
 use Rattle.ist_tree.proofs.GoingLemmas.{IsLaterView, lawful_behind, pass_with_later}
 use Rattle.ist_tree.proofs.LoadingLemmas.{chain_on, costs_rise}
 use Rattle.ist_tree.proofs.PositionLemmas.{found_call}
+use Rattle.ist_tree.proofs.StartLemmas.{starts_none_later}
 use Rattle.ist_tree.proofs.FindingLemmas.{searched_view, get_call, its_fresh, may_end, found_is}
 
 -- what a find results in, for a pass with this face
@@ -51,6 +53,7 @@ pub record FindEnds (old : PassFace) (who : Caller) (refused : Option Full) (tok
   pub position : HasPosition old.tree.start old.tree.words old.seen token.view.log key value
   pub loads : HasLoadedFew old (face_as token who.number refused) key value
   pub others : Later (CallerOf old.number) old.seen token.view.log
+  pub unstarted : HasStartedNone old (face_as token who.number refused)
 
 -- the view after a find
 abbrev pub ended_view : View → Log → Log → Call → Loads → ℕ → ℕ → Moments → View
@@ -282,4 +285,6 @@ module _ (who : Caller) (key : ℕ) (value : Option ℕ) (b w : View) (s : IsSou
           position = has_position;
           loads = has_loaded_few node index found few;
           others = all_later;
+          unstarted = starts_none_later v x later_view who.number p.caller.mine
+              (between_calls v who.number s p.caller.mine p.in_none).resolved;
         }

@@ -7,13 +7,12 @@ use Rattle.ist_core.specs.Logs.{same_log}
 use Rattle.ist_core.specs.Rebuilding.{IsFinishedWith}
 use Rattle.ist_core.specs.References.{InnerAt}
 use Rattle.ist_layout.specs.Meanings.{ref_meant}
-use Rattle.ist_rebuild.specs.Starting.{StartsAreDoneBut}
+use Rattle.ist_rebuild.specs.Starting.{StartsDoneBut, StartsDoneSince}
 use Rattle.ist_rule.specs.declared.view.View.{View}
 use Rattle.ist_rule.specs.Learning.{now}
 use Rattle.ist_rule.proofs.LaterLemmas.{goes_on_more}
 use Rattle.ist_rule.proofs.WentOnLemmas.{later_by-goes_on, went_lawful, went_now}
 use Rattle.ist_rows.specs.declared.callers.Caller.{Caller}
-use Rattle.laws_calls.specs.Settling.{StartsAreDone}
 use Rattle.ist_tree.specs.declared.freezing.Frozen.{Frozen}
 use Rattle.ist_tree.specs.declared.freezing.Outcome.{Outcome}
 use Rattle.ist_tree.specs.declared.freezing.Site.TheVariants.{Rebuilt, Still}
@@ -54,11 +53,11 @@ target_frozen a b c words rebuild target outcome m f =
           (subst (λ t. IsFinishedWith t target outcome.frozen.keys)
           (went_now Rebuilds v w all.gone.went)
           f.finished));
-      done = λ unrefused done.
-          subst (StartsAreDone (now w)) m.on.gone.number
-          (f.done unrefused
-          (subst (λ n. StartsAreDoneBut (now b.token.view) n rebuild) (sym m.on.gone.number)
-          (m.done done)));
+      done = λ unrefused first done.
+          subst (StartsDoneSince first (now w)) m.on.gone.number
+          (f.done unrefused first
+          (subst (λ n. StartsDoneBut first (now b.token.view) n rebuild) (sym m.on.gone.number)
+          (m.done first done)));
       rebuilt = λ row e.
           subst (λ n. IsRebuiltIn v w words n outcome.refused)
           (one_inner target row (sym (ap ref_meant f.root_is) ∙ e))

@@ -34,6 +34,7 @@ use Rattle.ist_tree.specs.RealTime.{StepsIn}
 use Rattle.ist_tree.proofs.HeardLemmas.{heard_same, heard_turned}
 use Rattle.ist_tree.proofs.RebuildLemmas.{due_went}
 use Rattle.ist_tree.proofs.SettlingLemmas.{settled_later}
+use Rattle.ist_tree.proofs.StartLemmas.{keeps_all}
 
 -- ---- the beginning
 
@@ -244,7 +245,7 @@ module _ (who began new : Caller) (token : TokenFace) (it : IsFreezeCall who beg
       subst (λ n. HasSettled w.start w.words w.log n) (sym it.on.gone.number)
       record {
         resolved = subst (IsResolved w) it.on.gone.number it.on.quiet.resolved;
-        starts = done at_b.starts;
+        starts = keeps_all began new done at_b.starts;
         due =
             subst (λ (y : View). DueRowsAreClosed (start y.start y.words) w.log began.number)
             (sym it.on.gone.went.same)

@@ -22,7 +22,7 @@ use Rattle.laws_calls.proofs.NumberLemmas.{finished_few}
 use Rattle.laws_histories.proofs.ChangeLemmas.{changes_on}
 use Rattle.ist_rebuild.specs.Helping.{IsAskedFor, for_change, for_row}
 use Rattle.ist_rebuild.specs.Lacking.{LacksNow}
-use Rattle.ist_rebuild.specs.Starting.{StartsNone}
+use Rattle.ist_rebuild.specs.Starting.{StartsDoneSince, StartsNone}
 use Rattle.ist_rule.specs.declared.view.View.{View}
 use Rattle.ist_rule.specs.Faces.{TokenFace}
 use Rattle.ist_rule.specs.Learning.{now}
@@ -32,13 +32,14 @@ use Rattle.ist_tree.specs.declared.freezing.Frozen.{Frozen}
 use Rattle.ist_tree.specs.FreezeSteps.{IsTopShort}
 use Rattle.ist_tree.specs.Freezing.{HasFrozen, HeldInnerRow, IsFreezeRefused, IsFrozenIn, IsFrozenFor, WasFrozen}
 use Rattle.ist_tree.specs.Insides.{face_as, pass_face}
+use Rattle.ist_tree.specs.Working.{KeepsDone}
 use Rattle.ist_tree.specs.Refusals.{HadTooFew, IsForRebuild, IsTopRefused, KeepsRefusal, LeavesTooFew}
 use Rattle.ist_tree.proofs.AskedLemmas.{asked_grows, held_on, lacked_then}
 use Rattle.ist_tree.proofs.FreezingLemmas.{was_frozen_on}
 use Rattle.ist_tree.proofs.FreezeCallLemmas.{IsFreezeCall}
 use Rattle.ist_tree.proofs.FreezeCallLemmas as way
 use Rattle.ist_tree.proofs.IdleCallerLemmas.{between_calls}
-use Rattle.ist_tree.proofs.StartLemmas.{starts_none_later, starts_none_more}
+use Rattle.ist_tree.proofs.StartLemmas.{since_later, since_none, starts_none_later, starts_none_more}
 
 module _ (who began new : Caller) (token : TokenFace) (it : IsFreezeCall who began new token) where
   -- the view before the call
@@ -140,6 +141,18 @@ module _ (who began new : Caller) (token : TokenFace) (it : IsFreezeCall who beg
       (subst (StartsNone (now w) (now x)) (way.number_is who began new token it)
       (starts_none_later w x (way.x_view who began new token it) new.number
       it.on.gone.caller.mine it.on.quiet.resolved)))
+
+  -- each rebuild that it started in the call is done, if the work kept its starts done
+  pub started_since : KeepsDone began new → StartsDoneSince (now v) (now x) new.number
+  started_since keeps =
+      let l = way.x_view who began new token it in
+      let at_b = since_none (now v) (now b) who.number
+      (starts_none_later v b (way.b_view who began new token it) who.number it.pass.caller.mine
+      (between_calls v who.number it.sound it.pass.caller.mine it.pass.in_none).resolved) in
+      let at_w = keeps (now v)
+      (subst (StartsDoneSince (now v) (now b)) (sym it.began_number) at_b) in
+      since_later w x l new.number it.on.gone.caller.mine it.on.quiet.resolved (now v)
+      (subst (StartsDoneSince (now v) (now w)) (sym it.on.gone.number) at_w)
 
   -- what helping a rebuild took
   pub asked_for_rebuild : (r q : Option Full) (rebuild asked : ℕ) → IsAskedFor (now w) rebuild asked

@@ -17,7 +17,7 @@ use Rattle.ist_rebuild.specs.declared.answers.Started.{Started}
 use Rattle.ist_rebuild.specs.declared.answers.Started.TheVariants.{Marked, Other}
 use Rattle.ist_rebuild.specs.Going.{Begins}
 use Rattle.ist_rebuild.specs.Lacking.{LacksKind}
-use Rattle.ist_rebuild.specs.Starting.{IsStartedAt, IsStartRefused, LeavesUnstarted, StartsAreDoneBut, StartsNone}
+use Rattle.ist_rebuild.specs.Starting.{IsStartedAt, IsStartRefused, LeavesUnstarted, StartsDoneBut, StartsDoneSince, StartsNone}
 use Rattle.ist_rebuild.proofs.LackLemmas.{lacks_now}
 use Rattle.ist_rule.specs.declared.view.View.{View}
 use Rattle.ist_rule.specs.Going.{WentOn}
@@ -27,7 +27,6 @@ use Rattle.ist_rule.specs.Rule.{IsSound}
 use Rattle.ist_rule.proofs.LaterLemmas.{goes_on_more}
 use Rattle.ist_rule.proofs.WentOnLemmas.{later_by-goes_on, went_grow, went_lawful}
 use Rattle.ist_rows.specs.declared.callers.Caller.{Caller}
-use Rattle.laws_calls.specs.Settling.{StartsAreDone}
 use Rattle.ist_tree.specs.declared.freezing.Frozen.{Frozen}
 use Rattle.ist_tree.specs.declared.freezing.Site.{Site}
 use Rattle.ist_tree.specs.declared.freezing.Site.TheVariants.{Rebuilt, Still}
@@ -80,14 +79,15 @@ pub but_more : (a b c : Caller) (o : Option ℕ) → b.number ≡ a.number → K
     → KeepsDoneBut b c o → KeepsDoneBut a c o
 but_more a b c None number one two = done_more a b c number one two
 but_more a b c (Some rebuild) number one two =
-    λ done.
-    subst (λ n. StartsAreDoneBut (now c.token.view) n rebuild) number
-    (two (subst (StartsAreDone (now b.token.view)) (sym number) (one done)))
+    λ first done.
+    subst (λ n. StartsDoneBut first (now c.token.view) n rebuild) number
+    (two first (subst (StartsDoneSince first (now b.token.view)) (sym number) (one first done)))
 
 -- if all are done, all but one are
 pub all_but : (a c : Caller) (rebuild : ℕ) → KeepsDone a c → KeepsDoneBut a c (Some rebuild)
 all_but a c rebuild done =
-    λ was base change e own kind said other to. inr (done was base change e own kind said other to)
+    λ first was base change e own kind said other to.
+    inr (done first was base change e own kind said other to)
 
 -- ---- going on without a start
 
@@ -96,7 +96,7 @@ pub idle_same : (who : Caller) → IsSound who.token.view → IsReady who → Go
 idle_same who s r =
     record {
       on = ready_same Rebuilds who s r;
-      done = λ done. done;
+      done = λ first done. done;
       none = λ base change e own kind said. e;
     }
 

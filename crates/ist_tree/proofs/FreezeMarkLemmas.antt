@@ -82,12 +82,12 @@ target_froze old token new words rebuild target keys ready below went f on serve
       root_is = refl;
       finished = finished_with_grows (now token.view) (now new.token.view)
           (went_grow ServesRebuild token.view new.token.view serves) target keys f;
-      done = λ unrefused but.
+      done = λ unrefused first but.
           all_done old.number old.token.view new.token.view ready.caller.mine ready.quiet.resolved
           (went_more ServesRebuild old.token.view token.view new.token.view
           (went_all (Marks token.view target) ServesRebuild (marks_serve token.view target) old.token.view
           token.view went) serves)
-          rebuild but (helped answer refl (sym is ∙ unrefused));
+          rebuild first but (helped answer refl (sym is ∙ unrefused));
       replaced = λ unrefused. alone (helped answer refl (sym is ∙ unrefused));
       refused = subst (λ o. IfSome o (IsHelpShort new.token.view rebuild words)) (sym is)
           (cause answer full);

@@ -12,16 +12,18 @@ use Rattle.ist_rule.specs.Learning.{now}
 use Rattle.ist_rows.specs.declared.callers.Caller.{Caller}
 use Rattle.ist_tree.specs.declared.freezing.Frozen.{Frozen}
 use Rattle.ist_tree.specs.declared.freezing.Outcome.{Outcome}
-use Rattle.ist_tree.specs.DueRows.{kept_refusal}
-use Rattle.ist_tree.specs.FreezeSteps.{Freezes, IsFreezeStopped, IsTargetShort}
+use Rattle.ist_tree.specs.DueRows.{FinishesFreeze, all_done}
+use Rattle.ist_tree.specs.FreezeSteps.{Freezes, IsFreezeStopped, IsTargetShort, IsTopShort}
 use Rattle.ist_tree.specs.Calls.{HasSeenMore}
 use Rattle.ist_tree.specs.Faces.{PassFace}
 use Rattle.ist_tree.specs.Freezing.{HasFrozen, HasStartedNone, IsFreezeRefused, IsFrozenFor, IsLeftShort, LeavesRebuilt}
 use Rattle.ist_tree.specs.Insides.{IsPassWith, face_as, pass_face}
-use Rattle.ist_tree.specs.Refusals.{HasStartsDone, KeepsRefusal}
+use Rattle.ist_tree.specs.Refusals.{HasStartsDone, IsTopRefused, KeepsRefusal}
+use Rattle.ist_tree.proofs.FinishLemmas.{finishes, first_kept}
 use Rattle.ist_tree.proofs.FreezeCallLemmas.{IsFreezeCall}
 use Rattle.ist_tree.proofs.FreezeCallLemmas as way
-use Rattle.ist_tree.proofs.FreezeEndLemmas.{freeze_refused, frozen_for, has_frozen, has_started_none, in_last, keeps_refusal, top_refused}
+use Rattle.ist_tree.proofs.FreezeEndLemmas.{freeze_refused, frozen_for, has_frozen, has_started_none, in_last, keeps_refusal, started_since, top_refused}
+use Rattle.ist_tree.proofs.ShortLemmas.{some_is}
 
 -- the tree was frozen in the call, with the map's pairs of that moment, and stays so; its rebuild
 -- was replaced, or refused in the call
@@ -32,6 +34,7 @@ pub record FreezesAll (p q : PassFace) (frozen : Frozen) : Type 0 where
   pub rebuilt : LeavesRebuilt p q frozen
   pub calls : q.calls ≡ p.calls
   pub refused : KeepsRefusal p q
+  pub finished : FinishesFreeze p q
   pub done : HasStartsDone q
 
 -- too few words were left for a start, and the pass started none
@@ -42,6 +45,7 @@ pub record StopsFreeze (p q : PassFace) (full : Full) : Type 0 where
   pub calls : q.calls ≡ p.calls
   pub unrefused : q.refused ≡ p.refused
   pub refused : KeepsRefusal p q
+  pub finished : FinishesFreeze p q
   pub done : HasStartsDone q
 
 -- the freeze was answered
@@ -81,6 +85,14 @@ freeze_ends who began new token it r q all words same table outcome f is old vie
             });
         calls = way.calls_are who began new token it;
         refused = keeps_refusal who began new token it r outcome.refused words same f.refused;
+        finished =
+            finishes (IsTopRefused (pass_face who r)
+            (face_as token new.number (option_or r outcome.refused))) (pass_face who r)
+            (face_as token new.number (option_or r outcome.refused)) outcome.refused refl
+            (λ none. started_since who began new token it (f.done none))
+            (λ full e. top_refused who began new token it r (option_or r outcome.refused) words full
+            same (some_is outcome.refused full (IsTopShort began.token.view new.token.view words) e
+            f.refused));
         done = λ none. (all_now.settled none).starts;
       };
     })
@@ -88,10 +100,6 @@ freeze_ends who began new token it r q all words same table outcome f is old vie
     both : (a c : Option Full) → option_or a c ≡ None → (a ≡ None) × (c ≡ None)
     both None c e = (refl, e)
     both (Some full) c e = absurd (cc)
-
-    first : (o : Option Full) (full : Full) → option_or o (Some full) ≡ kept_refusal o full
-    first None full = refl
-    first (Some f) full = refl
 
     either : (row rebuild : ℕ) (o : Option Full) → (o ≡ None → IsReplaced (now new.token.view) rebuild)
         → IfSome o (IsTargetShort began.token.view new.token.view words row rebuild)
@@ -106,7 +114,7 @@ freeze_ends who began new token it r q all words same table outcome f is old vie
           cause = top_refused who began new token it r (option_or r (Some full)) words full same s.top;
           row_is = s.row_is;
           rebuild_is = s.rebuild_is;
-          kept = first r full;
+          kept = first_kept r full;
         }
 
 -- it was refused
@@ -133,6 +141,7 @@ stop_ends who began new token it r all words same table full s old view =
         calls = way.calls_are who began new token it;
         unrefused = refl;
         refused = record { stays = λ first e. e; cause = λ first e. inl e };
+        finished = all_done (started_since who began new token it s.idle.done);
         done = λ none. (all_now.settled none).starts;
       };
     }

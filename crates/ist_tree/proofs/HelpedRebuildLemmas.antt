@@ -8,6 +8,7 @@ use Rattle.ist_core.specs.Pieces.{Rebuild}
 use Rattle.ist_core.specs.Rebuilding.{IsStarted, IsReplaced}
 use Rattle.ist_core.specs.References.{ChangeAt, RebuildAt, ref_of}
 use Rattle.ist_core.specs.Slots.{IsOpen, past_change}
+use Rattle.ist_core.specs.Snapshots.{Snapshot}
 use Rattle.ist_core.proofs.DrawLemmas.{same_rebuild}
 use Rattle.laws_links.specs.Linking.{IsFinished}
 use Rattle.ist_core.proofs.GrowingLemmas.{rebuild_there}
@@ -16,7 +17,7 @@ use Rattle.ist_core.proofs.OrderLemmas.{names}
 use Rattle.laws_links.proofs.FormedLemmas.{changes_are_formed}
 use Rattle.laws_links.proofs.LinkLemmas.{open_unfinished}
 use Rattle.laws_links.proofs.StartingLemmas.{finish_of, side_rebuild}
-use Rattle.laws_calls.specs.Settling.{StartsAreDone, IsDoneStart}
+use Rattle.laws_calls.specs.Settling.{IsDoneStart}
 use Rattle.laws_calls.proofs.DoneLemmas.{done_stays}
 use Rattle.laws_calls.proofs.ReadLemmas.{read_started}
 use Rattle.ist_rule.specs.declared.view.View.{View}
@@ -29,7 +30,7 @@ use Rattle.ist_rule.proofs.WentOnLemmas.{later_by-goes_on, went_grow, went_lawfu
 use Rattle.ist_dcss.specs.Helping as dcss
 use Rattle.ist_rebuild.specs.Going.{ServesRebuild}
 use Rattle.ist_rebuild.specs.Helping.{IsLeftToParent}
-use Rattle.ist_rebuild.specs.Starting.{IsStartedAt, StoodInstead, StartsAreDoneBut}
+use Rattle.ist_rebuild.specs.Starting.{IsStartedAt, StartsDoneBut, StartsDoneSince, StoodInstead}
 use Rattle.ist_tree.specs.Working.{IsShut}
 use Rattle.ist_tree.proofs.EventLemmas.{serves_start_none}
 use Rattle.ist_tree.proofs.StartLemmas.{own_start_was}
@@ -73,22 +74,24 @@ left_is_shut P v w went rebuild parent index target s l =
 
 -- ---- starts that were helped
 
--- if a rebuild is done after its help, all starts of the caller are, if the others were
+-- if a rebuild is done after its help, all starts of the caller since a state are, if the others were
 pub all_done : (number : ℕ) (v w : View) → v.who ≡ CallerOf number → IsResolved v number
-    → WentOn ServesRebuild v w → (rebuild : ℕ) → StartsAreDoneBut (now v) number rebuild
+    → WentOn ServesRebuild v w → (rebuild : ℕ) (first : Snapshot)
+    → StartsDoneBut first (now v) number rebuild
     → IsReplaced (now w) rebuild ⊎ IsLeftToParent (now w) rebuild
-    → StartsAreDone (now w) number
-all_done number v w mine resolved went rebuild but done base change e own kind said other to =
+    → StartsDoneSince first (now w) number
+all_done number v w mine resolved went rebuild first but done base change e own kind said other to =
     let lawful = went_lawful ServesRebuild v w went in
     let now_is = went_now ServesRebuild v w went in
     let old = own_start_was ServesRebuild number (serves_start_none number) v w mine resolved went base
     change e own kind in
     ⊎_elim
-    (λ same. subst (IsDoneStart (now w) change) (sym same)
-    (this_done (subst (λ n. ref_of change.to ≡ Some (RebuildAt n)) same to)))
-    (λ k. subst (λ t. IsDoneStart t change other) (sym now_is)
+    (λ same. inr (subst (IsDoneStart (now w) change) (sym same)
+    (this_done (subst (λ n. ref_of change.to ≡ Some (RebuildAt n)) same to))))
+    (λ rest. ⊎_elim (λ was. inl was)
+    (λ k. inr (subst (λ t. IsDoneStart t change other) (sym now_is)
     (done_stays v.start v.words lawful.opens v.log w.log (later_by-goes_on went.later)
-    lawful.enabled base change other old k))
+    lawful.enabled base change other old k))) rest)
     (but base change old own kind said other to)
   where
     this_done : ref_of change.to ≡ Some (RebuildAt rebuild) → IsDoneStart (now w) change rebuild

@@ -18,6 +18,7 @@ use Rattle.laws_histories.proofs.PositionOnLemmas.{position_on}
 use Rattle.ist_tree.specs.Calls.{HasSeenMore}
 use Rattle.ist_tree.specs.DueRows.{CameDue, CountsNowhere, StartsOnlyDue}
 use Rattle.ist_tree.specs.Faces.{HasItsCalls, PassFace}
+use Rattle.ist_tree.specs.Freezing.{HasStartedNone}
 use Rattle.ist_tree.specs.Insides.{IsPassWith, face_as, pass_face}
 use Rattle.ist_tree.specs.Refusals.{IsRefused}
 use Rattle.ist_tree.specs.Rounds.{HadMissed, HasLetGo}
@@ -28,7 +29,7 @@ use Rattle.ist_tree.proofs.CountedLemmas.{way_counted}
 use Rattle.ist_tree.proofs.InstallLemmas.{way_starts}
 use Rattle.ist_tree.proofs.RefusalLemmas.{update_was_refused}
 use Rattle.ist_tree.proofs.UpdateLemmas.{came_nowhere}
-use Rattle.ist_tree.proofs.UpdateSeenLemmas.{IsUpdateCall, final_pass, seen_more, settled_then, v_to_b, w_start, w_to_x, w_words}
+use Rattle.ist_tree.proofs.UpdateSeenLemmas.{IsUpdateCall, final_pass, none_started, seen_more, settled_then, v_to_b, w_start, w_to_x, w_words}
 
 module _ (who began new : Caller) (token : TokenFace) (command : Command) (s : IsSound who.token.view)
     (r : Option Full) (p : IsPassWith who r)
@@ -60,20 +61,24 @@ module _ (who began new : Caller) (token : TokenFace) (command : Command) (s : I
           table = table;
         }
 
+    -- each change of the caller is resolved
+    resolved : IsResolved new.token.view new.number
+    resolved =
+        subst (IsResolved new.token.view) (one_number d.can.number new.number
+        (sym d.can.mine ∙ d.caller.mine)) d.can.resolved
+      where
+        one_number : (a b : ℕ) → CallerOf a ≡ CallerOf b → a ≡ b
+        one_number a b e = cc
+
     -- the caller is a pass again
     pub stopped_pass : IsPassWith (record new { token = token }) r
     stopped_pass =
         record {
           pass = final_pass who began new token command stops;
           settled = λ unrefused.
-              settled_then who began new token command stops
-              (subst (IsResolved new.token.view) (one_number d.can.number new.number
-              (sym d.can.mine ∙ d.caller.mine)) d.can.resolved)
-              d.starts d.due (p.settled unrefused);
+              settled_then who began new token command stops resolved d.starts d.due
+              (p.settled unrefused);
         }
-      where
-        one_number : (a b : ℕ) → CallerOf a ≡ CallerOf b → a ≡ b
-        one_number a b e = cc
 
     stopped_stamp : token.view.stamp ≡ who.token.view.stamp
     stopped_stamp =
@@ -126,6 +131,8 @@ module _ (who began new : Caller) (token : TokenFace) (command : Command) (s : I
             none_came = none_came_here old view;
             uncounted = stopped_counted old view;
             starts = stopped_starts due old view;
+            unstarted = subst (λ (o : PassFace). HasStartedNone o (face_as token new.number r)) view
+                (none_started who began new token command stops resolved d.unstarted);
           };
           calls = ap (λ (y : View). y.calls) given.view ∙ ap (λ (y : View). y.calls) d.went.went.same
               ∙ ap (λ (y : View). y.calls) begun.view ∙ ap (λ (o : PassFace). o.calls) view;

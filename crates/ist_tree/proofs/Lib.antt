@@ -3,6 +3,7 @@ pub mod SettlingLemmas
 pub mod HeardLemmas
 pub mod EventLemmas
 pub mod StartLemmas
+pub mod FinishLemmas
 pub mod RebuildLemmas
 pub mod HelpedRebuildLemmas
 pub mod ShortLemmas

@@ -25,11 +25,13 @@ use Rattle.ist_rows.specs.declared.callers.Caller.{Caller}
 use Rattle.ist_find.specs.Searches.{HasSearched}
 use Rattle.ist_tree.specs.Calls.{HasSeenMore}
 use Rattle.ist_tree.specs.Faces.{PassFace}
+use Rattle.ist_tree.specs.Freezing.{HasStartedNone}
 use Rattle.ist_tree.specs.Insides.{IsPass, IsPassWith, face_as, pass_face}
 use Rattle.ist_tree.specs.Rounds.{HadValue}
 use Rattle.ist_rule.proofs.SpeakLemmas.{go_on_more}
 use Rattle.ist_tree.proofs.HeardLemmas.{heard_same, heard_turned}
-use Rattle.ist_tree.proofs.IdleCallerLemmas.{between_behind}
+use Rattle.ist_tree.proofs.IdleCallerLemmas.{between_behind, between_calls}
+use Rattle.ist_tree.proofs.StartLemmas.{starts_none_later}
 use Rattle.ist_tree.proofs.FindingLemmas.{searched_view}
 use Rattle.ist_tree.proofs.FoundLemmas.{before, its_position, later, lawful, seen_moments, w_is}
 use Rattle.laws_histories.proofs.PositionOnLemmas.{position_on}
@@ -45,6 +47,7 @@ pub record FindLeaves (old : PassFace) (who : Caller) (refused : Option Full) (t
   pub calls : token.view.calls ≡ old.calls
   pub stamp : token.view.stamp ≡ old.stamp
   pub position : HadValue old (face_as token who.number refused) key value
+  pub unstarted : HasStartedNone old (face_as token who.number refused)
   pub one_walk : token.view.searches ≡ old.searches + 1
 
 -- the caller began a get and searched
@@ -141,6 +144,8 @@ module _ (who : Caller) (key : ℕ) (value : Option ℕ) (b w : View) (s : IsSou
           position = position_on v.start v.words v.log b.log w.log x.log (later-goes_on to_b)
               (later-goes_on w_to_x) key value
               (its_position who key value b w s p begun seen has);
+          unstarted = starts_none_later v x later_view who.number p.caller.mine
+              (between_calls v who.number s p.caller.mine p.in_none).resolved;
           one_walk = one_search v b w x v.searches begun seen
               (ap (λ (y : View). y.searches) given.view) refl;
         }
@@ -154,8 +159,8 @@ idle_keeps p q i =
 
 -- a pass that only saw more had no effect
 pub only_saw : (p q : PassFace) → HasSeenMore p q → q.refused ≡ p.refused
-    → Later (CallerOf p.number) p.seen q.seen → HasNoEffect p q
-only_saw p q s r l =
+    → Later (CallerOf p.number) p.seen q.seen → HasStartedNone p q → HasNoEffect p q
+only_saw p q s r l none =
     record {
       seen = s;
       refused = r;
@@ -167,4 +172,5 @@ only_saw p q s r l =
           q.seen l c.until);
       starts = none_due p.tree.start p.tree.words p.number
           (λ event. whose event ≢ CallerOf p.number) (others_start_nothing p.number) p.seen q.seen l;
+      unstarted = none;
     }

@@ -9,11 +9,12 @@ use Rattle.ist_core.specs.Links.{Linked, WasLinked}
 use Rattle.ist_core.specs.Rebuilding.{IsDue}
 use Rattle.ist_core.specs.References.{InnerAt, word_of}
 use Rattle.ist_core.specs.Slots.{SlotHolds}
+use Rattle.ist_core.specs.Snapshots.{Snapshot}
 use Rattle.ist_core.specs.StartLayout.{start}
 use Rattle.std.proofs.Math.Nat.{le_trans}
 use Rattle.ist_core.proofs.GrowingLemmas.{inner_there}
-use Rattle.laws_calls.specs.Settling.{StartsAreDone, InstallsNoStart, CountsNothing, DueRowsAreClosed}
-use Rattle.laws_calls.proofs.DoneLemmas.{due_stay, others_count_nothing, others_start_nothing, starts_stay}
+use Rattle.laws_calls.specs.Settling.{CountsNothing, DueRowsAreClosed, InstallsNoStart, IsDoneStart}
+use Rattle.laws_calls.proofs.DoneLemmas.{done_stays, due_stay, others_count_nothing}
 use Rattle.laws_stability.proofs.LaterLemmas.{ever_later}
 use Rattle.ist_rule.specs.declared.view.View.{View}
 use Rattle.ist_core.specs.declared.events.Who.TheVariants.{Caller as CallerOf}
@@ -25,11 +26,12 @@ use Rattle.ist_rule.proofs.LaterLemmas.{goes_on_more}
 use Rattle.ist_rule.proofs.WentOnLemmas.{later_by-goes_on, went_grow, went_lawful, went_now}
 use Rattle.ist_rule.specs.Faces.{TokenFace}
 use Rattle.ist_rows.specs.declared.callers.Caller.{Caller}
-use Rattle.ist_rebuild.specs.Starting.{MayStart}
+use Rattle.ist_rebuild.specs.Starting.{MayStart, StartsDoneSince}
 use Rattle.ist_tree.specs.Working.{Rebuilds, KeepsDone}
 use Rattle.ist_rows.specs.Going.{IsReady, StaysReady}
 use Rattle.ist_tree.proofs.EventLemmas.{IsPlainHelp, none_starts_none}
 use Rattle.ist_rows.proofs.GoneLemmas.{kept_ready, ready_all}
+use Rattle.ist_tree.proofs.StartLemmas.{own_start_was}
 
 -- ---- starts and due rows along a view that went on
 
@@ -40,14 +42,16 @@ module _ (P : Event → Type 0) (number : ℕ) (v w : View) (mine : v.who ≡ Ca
 
   -- starts stay done, if none was started
   pub starts_went : ((event : Event) → P event → InstallsNoStart number event)
-      → IsResolved v number → StartsAreDone (now v) number → StartsAreDone (now w) number
-  starts_went none resolved done =
+      → IsResolved v number → (first : Snapshot) → StartsDoneSince first (now v) number
+      → StartsDoneSince first (now w) number
+  starts_went none resolved first done base change e own kind said rebuild to =
       let lawful = went_lawful P v w went in
-      subst (λ t. StartsAreDone t number) (sym (went_now P v w went))
-      (starts_stay v.start v.words lawful.opens (λ event. (whose event ≢ CallerOf number) ⊎ P event)
-      v.log w.log number
-      (λ event. ⊎_elim (others_start_nothing number event) (none event))
-      by_caller lawful.enabled resolved done)
+      let old = own_start_was P number none v w mine resolved went base change e own kind in
+      ⊎_elim (λ was. inl was)
+      (λ d. inr (subst (λ t. IsDoneStart t change rebuild) (sym (went_now P v w went))
+      (done_stays v.start v.words lawful.opens v.log w.log (later_by-goes_on went.later)
+      lawful.enabled base change rebuild old d)))
+      (done base change old own kind said rebuild to)
 
   -- rows that were made due keep a closed row above, if nothing was counted
   pub due_went : ((event : Event) → P event → CountsNothing number event)

@@ -13,8 +13,9 @@ use Rattle.ist_tree.specs.Faces.{PassFace, changes_seen}
 use Rattle.ist_tree.specs.Rounds.{HasLetGo, HasNoEffect}
 use Rattle.ist_tree.specs.Updates.{HasAnswered, HasMetAt, HasMissedAt, HasRunRounds, HasUpdated, HasWorked, IsBetweenRounds, IsTurnedAway, OnlyFinds}
 use Rattle.ist_tree.proofs.FewChangesLemmas.{round_smaller}
+use Rattle.ist_tree.proofs.FinishLemmas.{finish_from, idle_finishes}
 use Rattle.ist_tree.proofs.LookedLemmas.{idle_keeps}
-use Rattle.ist_tree.proofs.RoundLemmas.{adds_from, counted_from, due_from, idle_from, keeps_from, let_go_from, let_go_none, nowhere_from, refused_from, seen_from, starts_from}
+use Rattle.ist_tree.proofs.RoundLemmas.{adds_from, counted_from, due_from, idle_from, keeps_from, let_go_from, let_go_none, nowhere_from, refused_from, row_from, seen_from, starts_from}
 use Rattle.ist_tree.proofs.RoundWalkLemmas.{few_found, few_taken, pays_none, pays_on}
 
 -- before the first round
@@ -32,6 +33,8 @@ module _ (p m n : PassFace) (r : IsBetweenRounds p m) (w : HasWorked m n) where
         starts = starts_from p m r.let_go n w.seen.seen w.starts;
         few_walks = few_taken p m n r.paid w.few_walks w.seen;
         refused = keeps_from p m r.let_go n r.lawful w.refused;
+        finished = finish_from p m n r.let_go.idle w.seen.number (row_from p m r.let_go n r.lawful)
+            w.finished;
         done = w.done;
       }
 
@@ -77,6 +80,7 @@ module _ (p m n : PassFace) (r : IsBetweenRounds p m) (w : HasWorked m n) where
           starts = idle.starts;
           few_walks = few_found p m n q r.paid w.few_walks w.seen f.idle.seen f.one_walk;
           refused = idle_keeps p q idle;
+          finished = idle_finishes p q idle;
           done = f.done;
         }
 

@@ -5,24 +5,26 @@ use Rattle.std.proofs.Math.Nat.{le_trans}
 use Rattle.ist_core.specs.declared.commands.Command.{Command}
 use Rattle.ist_core.specs.declared.events.Event.TheVariants.{Count, Install}
 use Rattle.ist_core.specs.declared.ports.Full.{Full}
-use Rattle.ist_core.specs.Lawful.{Lawful}
+use Rattle.ist_core.specs.Lawful.{Lawful, state_of}
 use Rattle.ist_core.specs.Logs.{GoesOn, Log, same_log}
 use Rattle.ist_core.specs.StartLayout.{start}
 use Rattle.laws_histories.proofs.ChangeLemmas.{changes_rise}
 use Rattle.ist_rule.specs.Speaking.{MomentsGoOn}
 use Rattle.ist_rule.proofs.LaterLemmas.{goes_on_more}
 use Rattle.ist_rule.proofs.SpeakLemmas.{go_on_more}
+use Rattle.ist_rebuild.specs.Starting.{StartsNone}
 use Rattle.ist_tree.specs.Calls.{AddsCall, HasSeenMore}
 use Rattle.ist_updates.specs.Counting.{CountedNowhere}
 use Rattle.ist_tree.specs.DueRows.{CameDue, CountsNowhere, HasCountedInCall, IsTopmostDue, LeavesNoneDue, StartsOnlyDue, is_closed, none_came, was_refused}
 use Rattle.laws_real_time.specs.Moments.{Moments}
 use Rattle.ist_tree.specs.Faces.{PassFace}
-use Rattle.ist_tree.specs.Refusals.{IsRefused, KeepsRowRefusal}
+use Rattle.ist_tree.specs.Refusals.{IsRefused, IsRowRefused, KeepsRowRefusal}
 use Rattle.ist_tree.specs.Rounds.{HasLetGo, HasNoEffect}
 use Rattle.ist_tree.proofs.RowAtLimitLemmas.{in_order, whole_or_before}
 use Rattle.ist_tree.proofs.CountedLemmas.{counted_more}
 use Rattle.ist_tree.proofs.HeardLemmas.{seen_more_then, seen_same}
 use Rattle.ist_tree.proofs.InstallLemmas.{due_more, not_before}
+use Rattle.ist_tree.proofs.StartLemmas.{starts_none_more}
 use Rattle.ist_tree.proofs.UpdateKeptLemmas.{not_yes_before}
 use Rattle.ist_tree.proofs.RoundRefusalLemmas.{keeps_since, let_go_at, refused_since, row_since}
 
@@ -212,6 +214,14 @@ module _ (p m : PassFace) (h : HasLetGo p m) where
         (back (λ (x : PassFace). Lawful x.tree.start x.tree.words m.seen) lawful)
         (back (λ (x : PassFace). KeepsRowRefusal x q) k)
 
+    -- a refusal to rebuild a row in the second part is one since the first part
+    pub row_from : Lawful m.tree.start m.tree.words m.seen → (row : ℕ) (full : Full)
+        → IsRowRefused m q row full → IsRowRefused p q row full
+    row_from lawful row full r =
+        row_since p m.seen m.loaded m.searches m.moments g q
+        (back (λ (x : PassFace). Lawful x.tree.start x.tree.words m.seen) lawful) row full
+        (back (λ (x : PassFace). IsRowRefused x q row full) r)
+
     -- if the second part counted nowhere, nothing was counted since the first part
     pub nowhere_from : GoesOn m.seen q.seen → CountsNowhere m q → CountsNowhere p q
     nowhere_from longer none =
@@ -228,6 +238,11 @@ module _ (p m : PassFace) (h : HasLetGo p m) where
               (back (λ (x : PassFace). (row : ℕ) → ¬ (CameDue x q row)) i.none_came);
           uncounted = nowhere_from i.seen.seen i.uncounted;
           starts = starts_from i.seen.seen i.starts;
+          unstarted = starts_none_more (state_of p.tree.start p.tree.words p.seen)
+              (state_of m.tree.start m.tree.words m.seen)
+              (state_of q.tree.start q.tree.words q.seen) p.number h.idle.unstarted
+              (subst (StartsNone (state_of m.tree.start m.tree.words m.seen)
+              (state_of q.tree.start q.tree.words q.seen)) h.idle.seen.number i.unstarted);
         }
 
     -- if the second part is given up too, nothing took effect since the first part
@@ -250,6 +265,7 @@ let_go_none p =
         uncounted = λ row c. not_before p.tree.start p.tree.words p.number (Count p.number row) p.seen c.at c.since c.until;
         starts = λ at base rows change since until is kind.
             absurd (not_before p.tree.start p.tree.words p.number (Install p.number base rows) p.seen at since until);
+        unstarted = λ base change e own kind said. e;
       };
       calls = refl;
       stamp = refl;

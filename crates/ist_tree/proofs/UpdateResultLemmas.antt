@@ -47,6 +47,7 @@ use Rattle.ist_tree.proofs.UpdateKeptLemmas.{counted_on, may_end_on}
 use Rattle.ist_tree.proofs.DueLemmas.{done_more}
 use Rattle.ist_tree.proofs.EventLemmas.{rebuilds_count_none, rebuilds_work, updates_start_none, updates_work}
 use Rattle.ist_tree.proofs.RebuildLemmas.{starts_went}
+use Rattle.ist_tree.proofs.StartLemmas.{starts_none_went}
 use Rattle.ist_tree.proofs.ShortLemmas.{due_refused_more}
 use Rattle.ist_rows.proofs.GoneLemmas.{still_ready}
 
@@ -132,6 +133,8 @@ let_go old new mine resolved c refused number went few can due uncounted =
       can = can;
       none_came = due;
       uncounted = uncounted;
+      unstarted = starts_none_went Updates old.number (updates_start_none old.number) _ new.token.view
+          mine resolved went.went;
       starts = applied_done old new mine resolved went;
       due = none_due old new.token.view went due;
     }

@@ -24,13 +24,16 @@ use Rattle.ist_rule.proofs.WentOnLemmas.{later_by-goes_on}
 use Rattle.ist_rows.specs.declared.callers.Caller.{Caller}
 use Rattle.ist_rows.specs.Building.{HasRefused}
 use Rattle.ist_rows.specs.Rows.{IsCaller}
+use Rattle.ist_rebuild.specs.Starting.{StartsDoneSince, StartsNone}
 use Rattle.ist_tree.specs.Calls.{HasSeenMore}
 use Rattle.ist_tree.specs.Insides.{HasSettled, IsPass, face_as, pass_face, tree_of}
 use Rattle.ist_tree.specs.Working.{KeepsDone, Works}
 use Rattle.ist_tree.proofs.BeginningLemmas.{begun_view}
 use Rattle.ist_tree.proofs.GoingLemmas.{IsLaterView, caller_on, lawful_behind}
 use Rattle.ist_tree.proofs.HeardLemmas.{heard_same, heard_turned}
+use Rattle.ist_tree.proofs.IdleCallerLemmas.{between_calls}
 use Rattle.ist_tree.proofs.SettlingLemmas.{settled_later}
+use Rattle.ist_tree.proofs.StartLemmas.{keeps_all, since_later, since_none, starts_none_later, starts_none_more}
 
 -- a pass began its call, worked, and ended it or gave it up
 pub record IsUpdateCall (who began new : Caller) (token : TokenFace) (command : Command) : Type 0 where
@@ -171,6 +174,30 @@ module _ (who began new : Caller) (token : TokenFace) (command : Command)
         stamp = up;
       }
 
+  -- if the work started no rebuild, none was started in the call
+  pub none_started : IsResolved w new.number → StartsNone (now b) (now w) began.number
+      → StartsNone (now v) (now x) who.number
+  none_started resolved none =
+      starts_none_more (now v) (now b) (now x) who.number
+      (starts_none_later v b b_view who.number way.pass.caller.mine
+      (between_calls v who.number way.sound way.pass.caller.mine way.pass.in_none).resolved)
+      (starts_none_more (now b) (now w) (now x) who.number
+      (subst (StartsNone (now b) (now w)) way.began_number none)
+      (subst (StartsNone (now w) (now x)) number_is
+      (starts_none_later w x way.last new.number way.caller.mine resolved)))
+
+  -- each rebuild that it started in the call is done, if the work kept its starts done
+  pub started_since : IsResolved w new.number → KeepsDone began new
+      → StartsDoneSince (now v) (now x) new.number
+  started_since resolved keeps =
+      let at_b = since_none (now v) (now b) who.number
+      (starts_none_later v b b_view who.number way.pass.caller.mine
+      (between_calls v who.number way.sound way.pass.caller.mine way.pass.in_none).resolved) in
+      let at_w = keeps (now v)
+      (subst (StartsDoneSince (now v) (now b)) (sym way.began_number) at_b) in
+      since_later w x way.last new.number way.caller.mine resolved (now v)
+      (subst (StartsDoneSince (now v) (now w)) (sym way.number) at_w)
+
   -- what it had settled is settled, if the work kept it so
   pub settled_then : IsResolved w new.number → KeepsDone began new
       → (DueRowsAreClosed (start b.start b.words) b.log began.number
@@ -189,7 +216,7 @@ module _ (who began new : Caller) (token : TokenFace) (command : Command)
             (subst (λ t. AllResolvedOf t w.log new.number) now_w resolved);
         starts =
             subst (StartsAreDone (state_of v.start v.words w.log)) way.began_number
-            (subst (λ t. StartsAreDone t began.number) now_w (starts its_b.starts));
+            (subst (λ t. StartsAreDone t began.number) now_w (keeps_all began new starts its_b.starts));
         due =
             subst (DueRowsAreClosed (start v.start v.words) w.log) way.began_number
             (subst (λ pairs. DueRowsAreClosed (start pairs v.words) w.log began.number) b_start

@@ -21,7 +21,7 @@ use Rattle.ist_rule.proofs.WentOnLemmas.{later_by-goes_on}
 use Rattle.ist_rows.specs.declared.callers.Caller.{Caller}
 use Rattle.ist_updates.specs.Asking.{MayEnd}
 use Rattle.ist_tree.specs.Calls.{AddsCall, HasSeenMore}
-use Rattle.ist_tree.specs.DueRows.{HasCountedInCall, LeavesNoneDue, StartsOnlyDue}
+use Rattle.ist_tree.specs.DueRows.{FinishesUpdate, HasCountedInCall, LeavesNoneDue, StartsOnlyDue}
 use Rattle.ist_tree.specs.Faces.{PassFace}
 use Rattle.ist_tree.specs.Insides.{IsPass, IsPassWith, face_as, pass_face}
 use Rattle.ist_tree.specs.Refusals.{IsRowRefused, KeepsRowRefusal}
@@ -34,7 +34,8 @@ use Rattle.ist_tree.proofs.HeardLemmas.{heard_turned}
 use Rattle.ist_tree.proofs.RefusalLemmas.{keeps_first}
 use Rattle.ist_tree.specs.RealTime.{ReturnsInTime}
 use Rattle.ist_tree.proofs.UpdateLemmas.{adds_call, in_time, has_counted, leaves_none_due, row_refused, stamp_up}
-use Rattle.ist_tree.proofs.UpdateSeenLemmas.{IsUpdateCall, final_pass, seen_more, settled_then}
+use Rattle.ist_tree.proofs.FinishLemmas.{finishes}
+use Rattle.ist_tree.proofs.UpdateSeenLemmas.{IsUpdateCall, final_pass, seen_more, settled_then, started_since}
 
 -- ---- the call that ends
 
@@ -118,6 +119,7 @@ pub record UpdateEnds (old : PassFace) (new : Caller) (token : TokenFace) (q : O
       → HasCountedInCall old (face_as token new.number q) command
   pub due : LeavesNoneDue old (face_as token new.number q)
   pub refused : KeepsRowRefusal old (face_as token new.number q)
+  pub finished : FinishesUpdate old (face_as token new.number q)
 
 -- if no refusal is kept, none was met
 none_kept : (r met : Option Full) → option_or r met ≡ None → (r ≡ None) × (met ≡ None)
@@ -193,6 +195,13 @@ module _ (who began new : Caller) (token : TokenFace) (command : Command) (s : I
           due = leaves_none_due who began new token command it r q words met same_words kept c.shut;
           refused =
               keeps_first who began new token command it r q met kept
+              (λ full e. cause met c.shut full e);
+          finished =
+              finishes (λ full. (row : ℕ)
+              × IsRowRefused (pass_face who r) (face_as token new.number q) row full)
+              (pass_face who r) (face_as token new.number q) met kept
+              (λ none. started_since who began new token command it c.ready.quiet.resolved
+              (c.starts none))
               (λ full e. cause met c.shut full e);
         }
       where

@@ -1,14 +1,14 @@
 -- Attempts to rebuild a row that reached its limit, as the functions inside this crate make them.
 use Rattle.std.specs.Prelude.{◌≡◌, ℕ, Bool, false, Result, Ok, IfOk, IfErr, OnOk}
 use Rattle.ist_core.specs.declared.ports.Full.{Full}
+use Rattle.ist_core.specs.Snapshots.{Snapshot}
 use Rattle.ist_rule.specs.Going.{WentOn}
 use Rattle.ist_rule.specs.Learning.{now}
 use Rattle.ist_rows.specs.declared.callers.Caller.{Caller}
 use Rattle.ist_rows.specs.Going.{StaysReady}
 use Rattle.laws_coming.specs.Further.{CameFurther}
-use Rattle.laws_calls.specs.Settling.{StartsAreDone}
 use Rattle.ist_rebuild.specs.Going.{StartsAt}
-use Rattle.ist_rebuild.specs.Starting.{StartsAreDoneBut}
+use Rattle.ist_rebuild.specs.Starting.{StartsDoneBut, StartsDoneSince}
 use Rattle.ist_updates.specs.declared.updates.Due.{Due}
 use Rattle.ist_tree.specs.Working.{IsDueRefused, IsHelpedWord, IsLastFor, IsShut, KeepsDone, Rebuilds}
 
@@ -22,8 +22,9 @@ pub record HelpsOwn (old new : Caller) (due : Due) (words rebuild : ℕ)
     (helped : Result (Unit {0}) Full) : Type 0 where
   pub on : GoesFor old new due.target
   pub shut : OnOk helped (IsShut (now new.token.view) due.parent due.target)
-  pub done : OnOk helped (StartsAreDoneBut (now old.token.view) old.number rebuild
-      → StartsAreDone (now new.token.view) old.number)
+  pub done : OnOk helped ((first : Snapshot)
+      → StartsDoneBut first (now old.token.view) old.number rebuild
+      → StartsDoneSince first (now new.token.view) old.number)
   pub full : IfErr helped (IsDueRefused (now old.token.view) new.token.view due words)
 
 -- the caller helped what the word names, which was in the slot instead of the row, or was refused

@@ -1,5 +1,5 @@
 -- What a put or a remove has counted, what became of the rows that it made due, and which rebuilds
--- it started.
+-- it started and finished.
 use Rattle.std.specs.Prelude.{◌≡◌, ◌⊎◌, ℕ, List, ◌∷◌, Option, Some, None}
 use Rattle.ist_core.specs.declared.commands.Command.{Command}
 use Rattle.ist_core.specs.declared.events.Event.TheVariants.{Install}
@@ -19,9 +19,10 @@ use Rattle.ist_core.specs.Snapshots.{Snapshot}
 use Rattle.ist_core.specs.StartLayout.{start}
 use Rattle.ist_core.specs.Statuses.{start_kind}
 use Rattle.ist_core.specs.Writing.{first_change}
+use Rattle.ist_rebuild.specs.Starting.{StartsDoneSince}
 use Rattle.ist_updates.specs.Counting.{CountedNowhere, IsCounted, CameToLimit}
 use Rattle.ist_tree.specs.Faces.{PassFace}
-use Rattle.ist_tree.specs.Refusals.{IsRowRefused}
+use Rattle.ist_tree.specs.Refusals.{IsRowRefused, IsTopRefused}
 
 -- in the call the pass has put or removed as the command says, and counted that at each row on the
 -- chain of its change
@@ -84,3 +85,26 @@ InstallsDue pairs words earlier log caller =
 -- each start of a rebuild that the pass installed in the call was of a row at its limit
 abbrev pub StartsOnlyDue : PassFace → PassFace → Type 0
 StartsOnlyDue p q = InstallsDue p.tree.start p.tree.words p.seen q.seen p.number
+
+-- ---- which rebuilds it finished
+
+-- each rebuild that the pass started in the call was replaced, or is in a parent that isn't open
+abbrev pub HasDoneItsStarts : PassFace → PassFace → Type 0
+HasDoneItsStarts p q =
+    StartsDoneSince (state_of p.tree.start p.tree.words p.seen)
+    (state_of q.tree.start q.tree.words q.seen) q.number
+
+-- the same; or the call met such a refusal of a rebuild, and the pass keeps it, or an earlier one
+pub data FinishesStarts (IsMet : Full → Type 0) (p q : PassFace) : Type 0 where
+  all_done : HasDoneItsStarts p q → FinishesStarts IsMet p q
+  was_short : (full : Full) → IsMet full → q.refused ≡ kept_refusal p.refused full
+      → FinishesStarts IsMet p q
+
+-- a put or a remove did so, unless too few words were left in it to rebuild a row that reached its
+-- limit in it
+abbrev pub FinishesUpdate : PassFace → PassFace → Type 0
+FinishesUpdate p q = FinishesStarts (λ full. (row : ℕ) × IsRowRefused p q row full) p q
+
+-- a freeze did so, unless too few words were left in it to help a rebuild of what was below the anchor
+abbrev pub FinishesFreeze : PassFace → PassFace → Type 0
+FinishesFreeze p q = FinishesStarts (IsTopRefused p q) p q

@@ -15,13 +15,12 @@ use Rattle.ist_core.specs.RowLayout.{anchor, change_words, rebuild_words}
 use Rattle.ist_core.specs.Snapshots.{Snapshot}
 use Rattle.ist_layout.specs.declared.references.Ref.TheVariants.{Inner}
 use Rattle.ist_layout.specs.Meanings.{ref_meant}
-use Rattle.laws_calls.specs.Settling.{StartsAreDone}
 use Rattle.ist_rule.specs.declared.view.View.{View}
 use Rattle.ist_rule.specs.Learning.{now}
 use Rattle.ist_rows.specs.declared.callers.Caller.{Caller}
 use Rattle.ist_rebuild.specs.Helping.{IsAskedFor}
 use Rattle.ist_rebuild.specs.Lacking.{LacksNow}
-use Rattle.ist_rebuild.specs.Starting.{MayStart, StartsAreDoneBut, StartsNone}
+use Rattle.ist_rebuild.specs.Starting.{MayStart, StartsDoneBut, StartsDoneSince, StartsNone}
 use Rattle.ist_tree.specs.declared.freezing.Frozen.{Frozen}
 use Rattle.ist_tree.specs.declared.freezing.Outcome.{Outcome}
 use Rattle.ist_tree.specs.declared.freezing.Site.{Site}
@@ -73,12 +72,13 @@ abbrev pub IsSite : View → View → Site → Type 0
 IsSite v w (Still frozen) = WasFrozen v.start v.words v.log w.log frozen × HasNoRow frozen
 IsSite v w (Rebuilt rebuild target) = IsRebuildOf (now w) rebuild target × WasTop v w.log target
 
--- if all starts of the caller were done, they still are, except the start of this rebuild, if one
--- is named
+-- if all starts of the caller since a state were done, they still are, except the start of this
+-- rebuild, if one is named
 abbrev pub KeepsDoneBut : Caller → Caller → Option ℕ → Type 0
 KeepsDoneBut old new None = KeepsDone old new
-KeepsDoneBut old new (Some rebuild) = StartsAreDone (now old.token.view) old.number
-    → StartsAreDoneBut (now new.token.view) old.number rebuild
+KeepsDoneBut old new (Some rebuild) =
+    (first : Snapshot) → StartsDoneSince first (now old.token.view) old.number
+    → StartsDoneBut first (now new.token.view) old.number rebuild
 
 -- the caller went on by steps of rebuilding, kept its starts done, and started no rebuild
 pub record GoesIdle (old new : Caller) : Type 0 where
@@ -143,8 +143,9 @@ pub record FreezesTarget (old new : Caller) (words rebuild target : ℕ) (outcom
   pub on : StaysReady Rebuilds old new
   pub root_is : outcome.frozen.root ≡ Inner target
   pub finished : IsFinishedWith (now new.token.view) target outcome.frozen.keys
-  pub done : outcome.refused ≡ None → StartsAreDoneBut (now old.token.view) old.number rebuild
-      → StartsAreDone (now new.token.view) old.number
+  pub done : outcome.refused ≡ None → (first : Snapshot)
+      → StartsDoneBut first (now old.token.view) old.number rebuild
+      → StartsDoneSince first (now new.token.view) old.number
   pub replaced : outcome.refused ≡ None → IsReplaced (now new.token.view) rebuild
   pub refused : IfSome outcome.refused (IsHelpShort new.token.view rebuild words)
 

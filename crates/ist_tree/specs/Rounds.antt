@@ -7,15 +7,17 @@ use Rattle.ist_tree.specs.Calls.{HasSeenMore}
 use Rattle.laws_stability.specs.Progress.{progress}
 use Rattle.ist_tree.specs.DueRows.{CameDue, CountsNowhere, StartsOnlyDue}
 use Rattle.ist_tree.specs.Faces.{PassFace, changes_seen}
+use Rattle.ist_tree.specs.Freezing.{HasStartedNone}
 
 -- the pass met no refused rebuild, counted nowhere, so that no row reached its limit by its counts,
--- and each rebuild that it started was of a due row
+-- and started no rebuild
 pub record HasNoEffect (p q : PassFace) : Type 0 where
   pub seen : HasSeenMore p q
   pub refused : q.refused ≡ p.refused
   pub none_came : (row : ℕ) → ¬ (CameDue p q row)
   pub uncounted : CountsNowhere p q
   pub starts : StartsOnlyDue p q
+  pub unstarted : HasStartedNone p q
 
 -- what the pass did had no effect, and added no call to it
 pub record HasLetGo (p q : PassFace) : Type 0 where

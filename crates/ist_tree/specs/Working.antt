@@ -27,11 +27,12 @@ use Rattle.ist_rule.specs.Learning.{now}
 use Rattle.ist_rows.specs.declared.callers.Caller.{Caller}
 use Rattle.ist_rows.specs.Building.{HasRefused}
 use Rattle.ist_rows.specs.Rows.{IsCaller}
-use Rattle.laws_calls.specs.Settling.{StartsAreDone, DueRowsAreClosed}
+use Rattle.laws_calls.specs.Settling.{DueRowsAreClosed}
 use Rattle.ist_build.specs.Calls.{IsBuildable}
 use Rattle.ist_rows.specs.Going.{IsQuiet, IsReady}
 use Rattle.ist_rebuild.specs.Helping.{IsAskedFor}
 use Rattle.ist_rebuild.specs.Lacking.{LacksNow}
+use Rattle.ist_rebuild.specs.Starting.{StartsDoneSince, StartsNone}
 use Rattle.ist_updates.specs.declared.updates.Due.{Due}
 use Rattle.ist_updates.specs.Asking.{MayEnd, Updates}
 use Rattle.ist_updates.specs.Counting.{CountedNowhere, IsCounted, CameToLimit, LeavesDue}
@@ -58,10 +59,10 @@ abbrev pub Works : Event → Type 0
 Works (Enter caller) = ⊥
 Works _ = Unit {0}
 
--- if all starts of the caller were done, they still are
+-- if all starts of the caller since a state were done, all since that state still are
 abbrev pub KeepsDone : Caller → Caller → Type 0
-KeepsDone old new = StartsAreDone (now old.token.view) old.number
-    → StartsAreDone (now new.token.view) old.number
+KeepsDone old new = (first : Snapshot) → StartsDoneSince first (now old.token.view) old.number
+    → StartsDoneSince first (now new.token.view) old.number
 
 -- each start that the caller installed meanwhile was of a row that was due
 abbrev pub StartsDue : Caller → Caller → Type 0
@@ -175,7 +176,7 @@ pub record CarriesOut (old new : Caller) (words : ℕ) (command : Command) (repl
       → DueRowsAreClosed (start v.start v.words) v.log old.number
       → DueRowsAreClosed (start v.start v.words) new.token.view.log old.number
 
--- the caller's call had no effect on the map, and may be given up
+-- the caller's call had no effect on the map and started no rebuild, and may be given up
 pub record IsLetGo (old new : Caller) : Type 0 where
   pub caller : IsCaller new
   pub refused : HasRefused new
@@ -185,6 +186,7 @@ pub record IsLetGo (old new : Caller) : Type 0 where
   pub can : CanGiveUp new.token.view
   pub none_came : LeavesDue old.token.view new.token.view old.number None
   pub uncounted : CountedNowhere old.token.view.log new.token.view.log old.number
+  pub unstarted : StartsNone (now old.token.view) (now new.token.view) old.number
   pub starts : KeepsDone old new
   pub due : let v = old.token.view in DueRowsAreClosed (start v.start v.words) v.log old.number
       → DueRowsAreClosed (start v.start v.words) new.token.view.log old.number

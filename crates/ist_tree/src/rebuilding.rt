@@ -2,12 +2,12 @@
 ghost use Rattle.std.specs.Prelude.{◌≡◌, ℕ, Ok, IfErr};
 ghost use Rattle.ist_core.specs.References.{ref_of};
 ghost use Rattle.ist_core.specs.Slots.{IsOpen};
-ghost use Rattle.laws_calls.specs.Settling.{StartsAreDone};
+ghost use Rattle.ist_core.specs.Snapshots.{Snapshot};
 ghost use Rattle.ist_rule.specs.Faces.{word_count_of};
 ghost use Rattle.ist_rule.specs.Learning.{now};
 ghost use Rattle.ist_rows.specs.Going.{IsReady};
 ghost use Rattle.ist_rebuild.specs.declared.answers.Started.TheVariants.{Yes, Other, Marked};
-ghost use Rattle.ist_rebuild.specs.Starting.{IsStartedAt, LeavesDone, MayStart, StoodInstead};
+ghost use Rattle.ist_rebuild.specs.Starting.{IsStartedAt, LeavesDone, MayStart, StartsDoneSince, StoodInstead};
 ghost use Rattle.ist_tree.specs.Attempts.{GoesFor, HelpsOther, HelpsOwn, RebuildsRow, TriesOnce};
 ghost use Rattle.ist_tree.specs.Working.{IsDueRefused, instead_of};
 
@@ -57,8 +57,9 @@ fn start_due(table: &TreeTable, who: &mut Caller, due: Due) -> Result<Started, F
     ensures other { (word : ℕ) → result ≡ Ok (Other word)
         → StoodInstead who.new.token.view due.parent due.index due.target word }
     ensures marked { result ≡ Ok Marked → ¬ (IsOpen (now who.new.token.view) due.parent) }
-    ensures done { StartsAreDone (now who.old.token.view) who.old.number
-        → LeavesDone (now who.new.token.view) who.old.number result }
+    ensures done { (first : Snapshot)
+        → StartsDoneSince first (now who.old.token.view) who.old.number
+        → LeavesDone first (now who.new.token.view) who.old.number result }
     ensures full { IfErr result (λ full.
         IsDueRefused (now who.old.token.view) who.new.token.view due (word_count_of table.now) full) }
 {

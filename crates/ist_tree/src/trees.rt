@@ -14,7 +14,7 @@ ghost use Rattle.ist_tree.specs.Faces.{noted, calls_in, HasItsCalls};
 ghost use Rattle.ist_tree.specs.Calls.{HasSeenMore, HasLearnt, AddsCall, BeginsFewWalks};
 ghost use Rattle.ist_tree.specs.Calls.{WeavesWith, HasLoadedFew};
 ghost use Rattle.ist_tree.specs.Closing.{ClosesWith};
-ghost use Rattle.ist_tree.specs.DueRows.{CountsNowhere, HasCountedInCall, LeavesNoneDue, StartsOnlyDue};
+ghost use Rattle.ist_tree.specs.DueRows.{CountsNowhere, FinishesUpdate, HasCountedInCall, LeavesNoneDue, StartsOnlyDue};
 ghost use Rattle.ist_tree.specs.Opening.{IsNewTree, IsFaultOf};
 ghost use Rattle.ist_tree.specs.RealTime.{ReturnsInTime, ClosesInTime};
 ghost use Rattle.ist_tree.specs.Refusals.{HasStartsDone, IsRefused, KeepsRowRefusal};
@@ -278,6 +278,7 @@ impl Tree {
         ensures uncounted { OnErr result (CountsNowhere pass.old pass.new) }
         ensures unrefused { OnErr result (pass.new.refused ≡ pass.old.refused) }
         ensures refused { KeepsRowRefusal pass.old pass.new }
+        ensures finished { FinishesUpdate pass.old pass.new }
         ensures done { HasStartsDone pass.new }
     {
         update(self, pass, key, Some(value))
@@ -302,6 +303,7 @@ impl Tree {
         ensures uncounted { OnErr result (CountsNowhere pass.old pass.new) }
         ensures unrefused { OnErr result (pass.new.refused ≡ pass.old.refused) }
         ensures refused { KeepsRowRefusal pass.old pass.new }
+        ensures finished { FinishesUpdate pass.old pass.new }
         ensures done { HasStartsDone pass.new }
     {
         update(self, pass, key, None)
@@ -343,6 +345,7 @@ impl Tree {
         ensures uncounted { OnErr result (CountsNowhere pass.old pass.new) }
         ensures unrefused { OnErr result (pass.new.refused ≡ pass.old.refused) }
         ensures refused { KeepsRowRefusal pass.old pass.new }
+        ensures finished { FinishesUpdate pass.old pass.new }
         ensures done { HasStartsDone pass.new }
     {
         update_if(self, pass, key, Some(value), expected)
@@ -370,6 +373,7 @@ impl Tree {
         ensures uncounted { OnErr result (CountsNowhere pass.old pass.new) }
         ensures unrefused { OnErr result (pass.new.refused ≡ pass.old.refused) }
         ensures refused { KeepsRowRefusal pass.old pass.new }
+        ensures finished { FinishesUpdate pass.old pass.new }
         ensures done { HasStartsDone pass.new }
     {
         update_if(self, pass, key, None, Some(expected))

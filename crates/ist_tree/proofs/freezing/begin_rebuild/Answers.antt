@@ -25,7 +25,7 @@ returns-in-Yes-clause-begun c = (
   begins_on _ _ c.requires.ready c.start.ensures.caller c.start.ensures.refused
       c.start.ensures.quiet c.start.ensures.went c.start.ensures.number,
   begun_of c.start.new.who.token.view _ _ _ (c.in_ok-rebuild.ensures.yes _ (ap Ok c.in-Yes.is)),
-  λ done. yes_leaves _ _ _ _ c.in-Yes.is (c.in_ok-rebuild.ensures.done done),
+  λ first done. yes_leaves first _ _ _ _ c.in-Yes.is (c.in_ok-rebuild.ensures.done first done),
 )
 
 -- another word stood there
@@ -34,7 +34,8 @@ returns-in-Other-clause-begun c =
     begins_idle _ _
     (begins_on _ _ c.requires.ready c.start.ensures.caller c.start.ensures.refused
     c.start.ensures.quiet c.start.ensures.went c.start.ensures.number)
-    (λ done. other_leaves _ _ _ _ c.in-Other.is (c.in_ok-rebuild.ensures.done done))
+    (λ first done. other_leaves first _ _ _ _ c.in-Other.is
+    (c.in_ok-rebuild.ensures.done first done))
     (other_unstarted c.args.who.now.token.view c.start.new.who.token.view _ _ _ c.in-Other.is c.in_ok-rebuild.ensures.unstarted)
 
 pub returns-in-Marked-clause-begun : goal.returns-in-Marked-clause-begun
@@ -42,7 +43,8 @@ returns-in-Marked-clause-begun c =
     begins_idle _ _
     (begins_on _ _ c.requires.ready c.start.ensures.caller c.start.ensures.refused
     c.start.ensures.quiet c.start.ensures.went c.start.ensures.number)
-    (λ done. marked_leaves _ _ _ c.in-Marked.is (c.in_ok-rebuild.ensures.done done))
+    (λ first done. marked_leaves first _ _ _ c.in-Marked.is
+    (c.in_ok-rebuild.ensures.done first done))
     (marked_unstarted c.args.who.now.token.view c.start.new.who.token.view _ _ c.in-Marked.is c.in_ok-rebuild.ensures.unstarted)
 
 pub returns-in-Other-clause-further : goal.returns-in-Other-clause-further

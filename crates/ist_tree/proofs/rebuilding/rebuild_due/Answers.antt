@@ -9,7 +9,7 @@ use Rattle.ist_tree.proofs.rebuilding.rebuild_due.Goals as goal
 
 pub turns-init : goal.turns-init
 turns-init c =
-    (c.requires.same_table, goes_none _ _ c.know.ensures.sound c.requires.ready, λ done. done)
+    (c.requires.same_table, goes_none _ _ c.know.ensures.sound c.requires.ready, λ first done. done)
 
 pub try_due-requires-clause-may_start : goal.try_due-requires-clause-may_start
 try_due-requires-clause-may_start c =

@@ -26,7 +26,7 @@ returns-in_err-help_own-in-Yes-clause-tried c =
 pub returns-in_ok-help_own-in-Yes-clause-tried : goal.returns-in_ok-help_own-in-Yes-clause-tried
 returns-in_ok-help_own-in-Yes-clause-tried c =
     own_tried _ _ _ c.args.due _ c.in-Yes.rebuild c.start_due.ensures.on
-    (λ done. yes_leaves _ _ _ _ c.in-Yes.is (c.in_ok-rebuild.ensures.done done))
+    (λ first done. yes_leaves first _ _ _ _ c.in-Yes.is (c.in_ok-rebuild.ensures.done first done))
     c.in_ok-help_own-in-Yes.ensures.helped
 
 -- the parent is marked
@@ -34,7 +34,8 @@ pub returns-in-Marked-clause-tried : goal.returns-in-Marked-clause-tried
 returns-in-Marked-clause-tried c =
     marked_tried _ _ c.args.due _ c.start_due.ensures.on
     (c.in_ok-rebuild.ensures.marked (ap Ok c.in-Marked.is))
-    (λ done. marked_leaves _ _ _ c.in-Marked.is (c.in_ok-rebuild.ensures.done done))
+    (λ first done. marked_leaves first _ _ _ c.in-Marked.is
+    (c.in_ok-rebuild.ensures.done first done))
 
 -- something else is there
 pub returns-in_err-help_other-in-Other-clause-tried :
@@ -55,5 +56,6 @@ pub returns-in_ok-help_other-in-Other-clause-tried :
 returns-in_ok-help_other-in-Other-clause-tried c =
     other_tried _ _ _ _ c.args.due _ _ _ c.requires.may_start c.start_due.ensures.on
     (c.in_ok-rebuild.ensures.other _ (ap Ok c.in-Other.is))
-    (λ done. other_leaves _ _ _ _ c.in-Other.is (c.in_ok-rebuild.ensures.done done))
+    (λ first done. other_leaves first _ _ _ _ c.in-Other.is
+    (c.in_ok-rebuild.ensures.done first done))
     c.in_ok-help_other-in-Other.ensures.helped c.is_open.ensures.seen c.is_open.ensures.open

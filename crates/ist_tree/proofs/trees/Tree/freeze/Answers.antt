@@ -56,6 +56,7 @@ returns-in-Ok c =
       calls = froze.calls;
       unrefused = tt;
       refused = froze.refused;
+      finished = froze.finished;
       done = froze.done;
     }
 
@@ -100,5 +101,6 @@ returns-in-Err c =
       calls = stopped.calls;
       unrefused = stopped.unrefused;
       refused = stopped.refused;
+      finished = stopped.finished;
       done = stopped.done;
     }
