@@ -11,12 +11,14 @@ use Rattle.ist_rule.specs.Learning.{now, GoesOnTo}
 use Rattle.ist_rule.proofs.WentOnLemmas.{goes_on_went, looked_went, went_all, went_grow, went_more}
 use Rattle.ist_rows.specs.declared.callers.Caller.{Caller}
 use Rattle.ist_rows.specs.declared.kinds.Kind.TheVariants.{Change}
+use Rattle.ist_rows.specs.Going.{HasGone}
 use Rattle.ist_rows.specs.Rows.{IsKindRefused}
 use Rattle.ist_rows.proofs.ShortLemmas.{short_from}
 use Rattle.ist_build.specs.Calls.{Builds, RebuildIsShort}
 use Rattle.ist_rebuild.specs.Going.{ServesRebuild}
 use Rattle.ist_rebuild.specs.Helping.{IsHelpRefused, for_change, for_row}
 use Rattle.ist_rebuild.proofs.EventLemmas.{builds_serve}
+use Rattle.ist_rebuild.proofs.LackLemmas.{lacks_now, refused_lacks}
 
 -- a build was refused a row
 pub short_refused : (v w : View) (rebuild words : ℕ) (full : Full)
@@ -40,13 +42,15 @@ short_refused v w rebuild words full h =
 
 -- the refusal of a row for the change
 pub row_refused : (old new : Caller) (rebuild words : ℕ) (full : Full)
-    → IsKindRefused words Change old new full
+    → IsKindRefused words Change old new full → HasGone ServesRebuild old new
     → IsHelpRefused old.token.view rebuild words full new.token.view
-row_refused old new rebuild words full h =
+row_refused old new rebuild words full h gone =
     record {
       short = short_from GoesOnTo (WentOn ServesRebuild) old.token.view old.token.view
           (λ x. goes_on_went ServesRebuild old.token.view x) words full new.token.view h.cause.short;
-      asked = for_change h.cause.asked;
+      asked = for_change h.cause.asked
+          (lacks_now new gone.went.sound gone.caller gone.refused full.asked
+          (refused_lacks words Change old new full h));
     }
 
 -- the refusal of a call holds from an earlier view too, if the caller helped in between

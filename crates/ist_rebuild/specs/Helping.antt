@@ -13,6 +13,7 @@ use Rattle.ist_rule.specs.Learning.{now}
 use Rattle.ist_rows.specs.declared.callers.Caller.{Caller}
 use Rattle.ist_rows.specs.Going.{StaysReady}
 use Rattle.ist_rebuild.specs.Going.{KeepsFresh, ServesRebuild}
+use Rattle.ist_rebuild.specs.Lacking.{LacksNow}
 use Rattle.ist_rows.specs.Rows.{RanShort}
 use Rattle.ist_rule.specs.Going.{WentOn}
 
@@ -29,15 +30,15 @@ pub record IsLeftToParent (t : Snapshot) (rebuild : ℕ) : Type 0 where
   pub closed : ¬ (IsOpen t row.parent)
   pub stands : ¬ (IsReplaced t rebuild)
 
--- this many words were asked for: for a change, or for a row over at least two keys and at most as
--- many as the finished target has
-pub data IsAskedFor (t : Snapshot) (rebuild asked : ℕ) : Type 0 where
-  for_change : asked ≡ change_words → IsAskedFor t rebuild asked
+-- this many words were asked for: for a change, if such a row is lacking, or for a row over at least
+-- two keys and at most as many as the finished target has
+pub data IsAskedFor (Lacks : ℕ → Type 0) (t : Snapshot) (rebuild asked : ℕ) : Type 0 where
+  for_change : asked ≡ change_words → Lacks asked → IsAskedFor Lacks t rebuild asked
   for_row : (row : RebuildRow) (k some : ℕ) → t.pieces rebuild ≡ Some (Rebuild row)
       → IsFinishedWith t row.target k → 2 ≤ some → some ≤ k → asked ≡ inner_words (degree some)
-      → IsAskedFor t rebuild asked
+      → IsAskedFor Lacks t rebuild asked
 
--- the caller was refused a row for the change, or for what it built
+-- the caller was refused a row for the change, which it lacks, or for what it built
 pub record IsHelpRefused (v : View) (rebuild words : ℕ) (full : Full) (w : View) : Type 0 where
   pub short : RanShort (WentOn ServesRebuild) v words full w
-  pub asked : IsAskedFor (now w) rebuild full.asked
+  pub asked : IsAskedFor (LacksNow w) (now w) rebuild full.asked

@@ -5,6 +5,7 @@ ghost use Rattle.ist_tree.specs.Faces.{PassFace};
 ghost use Rattle.ist_scan.specs.Walks.{IsWalkOfPass};
 ghost use Rattle.ist_core.specs.Map.{listed, pairs_between};
 ghost use Rattle.ist_tree.specs.Calls.{HasSeenMore};
+ghost use Rattle.ist_tree.specs.DueRows.{FinishesFreeze};
 ghost use Rattle.ist_tree.specs.Freezing.{IsFrozenFor, IsFreezeRefused, HasStartedNone, LeavesRebuilt};
 ghost use Rattle.ist_tree.specs.Refusals.{HasStartsDone, KeepsRefusal};
 ghost use Rattle.ist_scan.specs.Cuts.{slice_of};
@@ -112,6 +113,7 @@ impl Shot {
         ensures calls { pass.new.calls ≡ pass.old.calls }
         ensures unrefused { OnErr result (pass.new.refused ≡ pass.old.refused) }
         ensures refused { KeepsRefusal pass.old pass.new }
+        ensures finished { FinishesFreeze pass.old pass.new }
         ensures done { HasStartsDone pass.new }
     {
         let frozen = tree.freeze(pass)?;

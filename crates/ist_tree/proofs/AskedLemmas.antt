@@ -1,14 +1,19 @@
--- What helping a rebuild asks for stays so as rows grow, and what was in the anchor's slot over longer
--- logs. Serves `update_when` and `freeze`.
-use Rattle.std.proofs.Common.{ℕ, List, Option, sym, ap, subst}
+-- What helping a rebuild asks for stays so as rows grow; what was in the anchor's slot, and how many
+-- puts there were, over longer logs. Serves `update_when` and `freeze`.
+use Rattle.std.proofs.Common.{ℕ, ◌+◌, ◌≤◌, List, length, filter, Option, sym, ap, ◌∙◌, subst, arith, length-append}
+use Rattle.std.proofs.lemmas.List.Elements.{filter-append}
 use Rattle.ist_core.specs.declared.pairs.Pair.{Pair}
-use Rattle.ist_core.specs.Growing.{AllGrow}
 use Rattle.ist_core.specs.declared.ports.Full.{Full}
+use Rattle.ist_core.specs.Changes.{Entry, changes_of}
+use Rattle.ist_core.specs.Growing.{AllGrow}
 use Rattle.ist_core.specs.Lawful.{state_of}
 use Rattle.ist_core.specs.Logs.{GoesOn, Log}
 use Rattle.ist_core.specs.Rebuilding.{IsFinishedWith}
 use Rattle.ist_core.specs.Snapshots.{Snapshot}
+use Rattle.ist_core.specs.StartLayout.{start}
 use Rattle.ist_core.proofs.GrowingLemmas.{rebuild_there}
+use Rattle.laws_calls.specs.Finishing.{is_put, puts_in}
+use Rattle.laws_histories.proofs.ChangeLemmas.{changes_on}
 use Rattle.laws_links.proofs.FormLemmas.{finished_with_grows}
 use Rattle.ist_rule.proofs.LaterLemmas.{goes_on_more}
 use Rattle.ist_rule.specs.Faces.{TokenFace}
@@ -24,14 +29,22 @@ use Rattle.ist_tree.specs.Refusals.{LackedAt}
 use Rattle.ist_tree.proofs.GoingLemmas.{IsLaterView}
 
 -- what helping a rebuild asked for is what it asks for as rows grow
-pub asked_grows : (t u : Snapshot) → AllGrow t.pieces u.pieces → (rebuild asked : ℕ)
-    → IsAskedFor t rebuild asked → IsAskedFor u rebuild asked
-asked_grows t u grow rebuild asked (for_change e) = for_change e
-asked_grows t u grow rebuild asked (for_row row k some e f least le is) =
+pub asked_grows : (L M : ℕ → Type 0) (t u : Snapshot) → AllGrow t.pieces u.pieces
+    → (rebuild asked : ℕ) → (L asked → M asked) → IsAskedFor L t rebuild asked
+    → IsAskedFor M u rebuild asked
+asked_grows L M t u grow rebuild asked same (for_change e lacks) = for_change e (same lacks)
+asked_grows L M t u grow rebuild asked same (for_row row k some e f least le is) =
     let it = rebuild_there t.pieces u.pieces grow rebuild row e in
     for_row it.0 k some it.1
     (subst (λ n. IsFinishedWith u n k) (sym it.2.target)
     (finished_with_grows t u grow row.target k f)) least le is
+
+-- the same of one state
+pub asked_same : (L M : ℕ → Type 0) (t : Snapshot) (rebuild asked : ℕ) → (L asked → M asked)
+    → IsAskedFor L t rebuild asked → IsAskedFor M t rebuild asked
+asked_same L M t rebuild asked same (for_change e lacks) = for_change e (same lacks)
+asked_same L M t rebuild asked same (for_row row k some e f least le is) =
+    for_row row k some e f least le is
 
 -- a row that a caller lacked at the end of its work was lacked then by its pass, whatever others did
 -- since
@@ -57,3 +70,14 @@ held_on pairs words a b c d g h k =
       row = k.row;
       holds = k.holds;
     }
+
+-- a longer log has no fewer puts
+pub puts_rise : (pairs : List Pair) (words : ℕ) (earlier log : Log) → GoesOn earlier log
+    → puts_in (changes_of pairs words earlier) ≤ puts_in (changes_of pairs words log)
+puts_rise pairs words earlier log g =
+    let on = changes_on (start pairs words) earlier log g in
+    let same = ap puts_in on.1
+    ∙ ap length (filter-append (λ (e : Entry). is_put e.command) (changes_of pairs words earlier) on.0)
+    ∙ length-append (filter (λ (e : Entry). is_put e.command) (changes_of pairs words earlier))
+    (filter (λ (e : Entry). is_put e.command) on.0) in
+    omega arith

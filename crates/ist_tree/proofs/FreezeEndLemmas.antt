@@ -1,9 +1,8 @@
 -- What a freeze returns, in the words of its pass. Serves `freeze`.
-use Rattle.std.proofs.Common.{◌≡◌, ℕ, ◌+◌, ◌<◌, ◌≤◌, ◌⊎◌, length, filter, Option, Some, None, IfSome, sym, ap, ◌∙◌, subst, inl, inr, arith, length-append}
+use Rattle.std.proofs.Common.{◌≡◌, ℕ, ◌+◌, ◌<◌, ◌≤◌, ◌⊎◌, length, Option, Some, None, IfSome, sym, ap, ◌∙◌, subst, inl, inr, arith}
 use Rattle.std.specs.Option.{option_or}
-use Rattle.std.proofs.lemmas.List.Elements.{filter-append}
 use Rattle.ist_core.specs.declared.ports.Full.{Full}
-use Rattle.ist_core.specs.Changes.{Entry, changes_of}
+use Rattle.ist_core.specs.Changes.{changes_of}
 use Rattle.ist_core.specs.Lawful.{state_of}
 use Rattle.ist_core.specs.Growing.{AllGrow}
 use Rattle.ist_core.specs.Links.{IsChild}
@@ -13,13 +12,11 @@ use Rattle.ist_core.specs.Rebuilding.{IsFinishedWith, IsStarted}
 use Rattle.ist_core.specs.RowLayout.{anchor, change_words, rebuild_words}
 use Rattle.ist_core.specs.Snapshots.{Snapshot}
 use Rattle.ist_core.specs.Spending.{spent}
-use Rattle.ist_core.specs.StartLayout.{start}
 use Rattle.ist_core.proofs.FateLemmas.{grow_between}
 use Rattle.laws_links.proofs.FinishedLemmas.{target_grows}
 use Rattle.laws_links.proofs.FormLemmas.{started_grows}
-use Rattle.laws_calls.specs.Finishing.{is_put, puts_in}
+use Rattle.laws_calls.specs.Finishing.{puts_in}
 use Rattle.laws_calls.proofs.NumberLemmas.{finished_few}
-use Rattle.laws_histories.proofs.ChangeLemmas.{changes_on}
 use Rattle.ist_rebuild.specs.Helping.{IsAskedFor, for_change, for_row}
 use Rattle.ist_rebuild.specs.Lacking.{LacksNow}
 use Rattle.ist_rebuild.specs.Starting.{StartsDoneSince, StartsNone}
@@ -33,8 +30,8 @@ use Rattle.ist_tree.specs.FreezeSteps.{IsTopShort}
 use Rattle.ist_tree.specs.Freezing.{HasFrozen, HeldInnerRow, IsFreezeRefused, IsFrozenIn, IsFrozenFor, WasFrozen}
 use Rattle.ist_tree.specs.Insides.{face_as, pass_face}
 use Rattle.ist_tree.specs.Working.{KeepsDone}
-use Rattle.ist_tree.specs.Refusals.{HadTooFew, IsForRebuild, IsTopRefused, KeepsRefusal, LeavesTooFew}
-use Rattle.ist_tree.proofs.AskedLemmas.{asked_grows, held_on, lacked_then}
+use Rattle.ist_tree.specs.Refusals.{HadTooFew, IsForRebuild, IsTopRefused, KeepsRefusal, LackedAt, LeavesTooFew}
+use Rattle.ist_tree.proofs.AskedLemmas.{asked_grows, asked_same, held_on, lacked_then, puts_rise}
 use Rattle.ist_tree.proofs.FreezingLemmas.{was_frozen_on}
 use Rattle.ist_tree.proofs.FreezeCallLemmas.{IsFreezeCall}
 use Rattle.ist_tree.proofs.FreezeCallLemmas as way
@@ -120,15 +117,6 @@ module _ (who began new : Caller) (token : TokenFace) (it : IsFreezeCall who beg
             (subst (λ words. HeldInnerRow b.start words b.log w.log) l.words_is held));
       }
 
-  puts_rise : puts_in (changes_of v.start v.words w.log) ≤ puts_in (changes_of v.start v.words x.log)
-  puts_rise =
-      let on = changes_on (start v.start v.words) w.log x.log (way.w_to_x who began new token it) in
-      let same = ap puts_in on.1
-      ∙ ap length (filter-append (λ (e : Entry). is_put e.command) (changes_of v.start v.words w.log) on.0)
-      ∙ length-append (filter (λ (e : Entry). is_put e.command) (changes_of v.start v.words w.log))
-      (filter (λ (e : Entry). is_put e.command) on.0) in
-      omega arith
-
   -- if it started no rebuild, none was started in the call
   pub has_started_none : StartsNone (now b) (now w) began.number
       → StartsNone (now v) (now x) who.number
@@ -155,16 +143,16 @@ module _ (who began new : Caller) (token : TokenFace) (it : IsFreezeCall who beg
       (subst (StartsDoneSince (now v) (now w)) (sym it.on.gone.number) at_w)
 
   -- what helping a rebuild took
-  pub asked_for_rebuild : (r q : Option Full) (rebuild asked : ℕ) → IsAskedFor (now w) rebuild asked
-      → IsForRebuild (face_as token new.number q) asked
-  asked_for_rebuild r q rebuild asked (for_change e) = inl e
+  pub asked_for_rebuild : (r q : Option Full) (rebuild asked : ℕ)
+      → IsAskedFor (LacksNow w) (now w) rebuild asked → IsForRebuild (face_as token new.number q) asked
+  asked_for_rebuild r q rebuild asked (for_change e lacks) = inl e
   asked_for_rebuild r q rebuild asked (for_row row k some e fin least le is) =
       let l = way.lawful_w who began new token it in
       let here = way.by_middle who began new token it
       (λ pairs words. IsFinishedWith (state_of pairs words w.log) row.target k) fin in
       let most = finished_few v.start v.words l.opens w.log l.enabled row.target k here.row
       here.published here.status in
-      let rise = puts_rise in
+      let rise = puts_rise v.start v.words w.log x.log (way.w_to_x who began new token it) in
       inr record {
         keys = some;
         least = least;
@@ -211,8 +199,14 @@ module _ (who began new : Caller) (token : TokenFace) (it : IsFreezeCall who beg
           target = in_last (λ t. HasTarget t d.rebuild d.target)
               (λ t u g. target_grows t u g d.rebuild d.target) d.of.target_is;
           size = asked_for_rebuild r q d.rebuild full.asked d.help.asked;
-          help = in_last (λ t. IsAskedFor t d.rebuild full.asked)
-              (λ t u g. asked_grows t u g d.rebuild full.asked) d.help.asked;
+          help = in_last (λ t. IsAskedFor (LackedAt (face_as token new.number q) w.log) t d.rebuild
+              full.asked)
+              (λ t u g. asked_grows (LackedAt (face_as token new.number q) w.log)
+              (LackedAt (face_as token new.number q) w.log) t u g d.rebuild full.asked
+              (λ lacked. lacked))
+              (asked_same (LacksNow w) (LackedAt (face_as token new.number q) w.log) (now w) d.rebuild
+              full.asked (lacked_then new token it.on.gone.caller (way.x_view who began new token it) q
+              full.asked) d.help.asked);
         };
       }
 

@@ -14,7 +14,7 @@ use Rattle.ist_tree.specs.Calls.{HasSeenMore}
 use Rattle.ist_tree.specs.Faces.{PassFace, TreeFace}
 use Rattle.ist_tree.specs.Insides.{IsPort}
 use Rattle.ist_tree.specs.Refusals.{IsAskedIn, IsForNode, IsRefused, IsRefusedCall, LeavesTooFew, MayBeAsked, PassWasRefused, for_leaf, for_pair, for_put, for_rebuild, for_remove}
-use Rattle.ist_tree.proofs.RefusalLemmas.{puts_rise}
+use Rattle.ist_tree.proofs.AskedLemmas.{puts_rise}
 
 -- the size of a node is still one for a pass that has seen more
 node_more : (p q : PassFace) (asked : ℕ) → HasSeenMore p q → IsForNode p asked → IsForNode q asked

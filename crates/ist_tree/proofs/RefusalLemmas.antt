@@ -1,11 +1,9 @@
 -- Refusals, in the words of a pass. Serves `update`.
-use Rattle.std.proofs.Common.{◌≡◌, ℕ, ◌+◌, ◌<◌, ◌≤◌, ◌⊎◌, List, length, filter, Option, Some, None, sym, ap, ap₂, ◌∙◌, subst, inl, inr, arith, length-append}
-use Rattle.std.proofs.lemmas.List.Elements.{filter-append}
+use Rattle.std.proofs.Common.{◌≡◌, ℕ, ◌+◌, ◌<◌, ◌≤◌, ◌⊎◌, length, Option, Some, None, sym, ap, ap₂, ◌∙◌, subst, inl, inr, arith}
 use Rattle.std.specs.Option.{option_or}
 use Rattle.ist_core.specs.declared.commands.Command.{Command}
-use Rattle.ist_core.specs.declared.pairs.Pair.{Pair}
 use Rattle.ist_core.specs.declared.ports.Full.{Full}
-use Rattle.ist_core.specs.Changes.{Entry, changes_of}
+use Rattle.ist_core.specs.Changes.{changes_of}
 use Rattle.ist_core.specs.Lawful.{state_of}
 use Rattle.ist_core.specs.Growing.{AllGrow}
 use Rattle.ist_core.specs.Links.{IsChild}
@@ -16,9 +14,8 @@ use Rattle.ist_core.specs.Snapshots.{Snapshot}
 use Rattle.ist_core.specs.Spending.{spent}
 use Rattle.ist_core.specs.StartLayout.{start}
 use Rattle.ist_core.proofs.FateLemmas.{grow_between}
-use Rattle.laws_calls.specs.Finishing.{is_put, puts_in}
+use Rattle.laws_calls.specs.Finishing.{puts_in}
 use Rattle.laws_calls.proofs.NumberLemmas.{finished_few}
-use Rattle.laws_histories.proofs.ChangeLemmas.{changes_on}
 use Rattle.laws_histories.specs.Searching.{HasPosition}
 use Rattle.laws_links.proofs.FinishedLemmas.{target_grows}
 use Rattle.laws_links.proofs.FormLemmas.{replaced_grows, started_grows}
@@ -40,21 +37,10 @@ use Rattle.ist_tree.specs.Insides.{face_as, pass_face}
 use Rattle.ist_tree.specs.Refusals.{HadTooFew, IsAskedForRow, IsAskedIn, IsForHelp, IsForRebuild, IsInSlotOf, IsOnKeysWay, IsRefused, IsRowRefused, KeepsRowRefusal, LackedAt, LeavesTooFew, for_leaf, for_other, for_own, for_pair, for_put, for_remove, for_rebuild, for_start}
 use Rattle.ist_tree.specs.Working as working
 use Rattle.laws_histories.proofs.PositionOnLemmas.{position_on}
-use Rattle.ist_tree.proofs.AskedLemmas.{asked_grows, lacked_then}
+use Rattle.ist_tree.proofs.AskedLemmas.{asked_grows, asked_same, lacked_then, puts_rise}
 use Rattle.ist_tree.proofs.GoingLemmas.{lawful_behind}
 use Rattle.ist_tree.proofs.ShortLemmas.{due_slot_grows, short_now}
 use Rattle.ist_tree.proofs.UpdateSeenLemmas.{IsUpdateCall, b_start, b_view, b_words, b_to_w, lawful_w, lawful_x, v_to_b, w_start, w_to_x, w_words, x_start, x_words}
-
--- a longer log has no fewer puts
-pub puts_rise : (pairs : List Pair) (words : ℕ) (earlier log : Log) → GoesOn earlier log
-    → puts_in (changes_of pairs words earlier) ≤ puts_in (changes_of pairs words log)
-puts_rise pairs words earlier log g =
-    let on = changes_on (start pairs words) earlier log g in
-    let same = ap puts_in on.1
-    ∙ ap length (filter-append (λ (e : Entry). is_put e.command) (changes_of pairs words earlier) on.0)
-    ∙ length-append (filter (λ (e : Entry). is_put e.command) (changes_of pairs words earlier))
-    (filter (λ (e : Entry). is_put e.command) on.0) in
-    omega arith
 
 module _ (who began new : Caller) (token : TokenFace) (command : Command)
     (it : IsUpdateCall who began new token command) (r q : Option Full) where
@@ -101,9 +87,9 @@ module _ (who began new : Caller) (token : TokenFace) (command : Command)
       (w_words who began new token command it)
 
   -- what helping a rebuild took
-  asked_for_rebuild : (rebuild asked : ℕ) → IsAskedFor (now w) rebuild asked
+  asked_for_rebuild : (rebuild asked : ℕ) → IsAskedFor (LacksNow w) (now w) rebuild asked
       → IsForRebuild behind asked
-  asked_for_rebuild rebuild asked (for_change e) = inl e
+  asked_for_rebuild rebuild asked (for_change e lacks) = inl e
   asked_for_rebuild rebuild asked (for_row row k some e fin least le is) =
       let lawful = lawful_w who began new token command it in
       let here = subst (λ t. IsFinishedWith t row.target k) now_w fin in
@@ -132,10 +118,18 @@ module _ (who began new : Caller) (token : TokenFace) (command : Command)
       (grow_between v.start v.words w.log x.log (lawful_x who began new token command it).enabled
       (w_to_x who began new token command it)) (subst Q now_w h)))
 
+  -- a row that the caller lacked after the work
+  lacked_last : (asked : ℕ) → LacksNow w asked → LackedAt behind w.log asked
+  lacked_last asked lacks = lacked_then new token it.caller it.last q asked lacks
+
   -- and of this very rebuild
-  for_help : (rebuild asked : ℕ) → IsAskedFor (now w) rebuild asked → IsForHelp behind rebuild asked
-  for_help rebuild asked =
-      in_last (λ t. IsAskedFor t rebuild asked) (λ t u g. asked_grows t u g rebuild asked)
+  for_help : (rebuild asked : ℕ) → IsAskedFor (LacksNow w) (now w) rebuild asked
+      → IsForHelp behind w.log rebuild asked
+  for_help rebuild asked a =
+      in_last (λ t. IsAskedFor (LackedAt behind w.log) t rebuild asked)
+      (λ t u g. asked_grows (LackedAt behind w.log) (LackedAt behind w.log) t u g rebuild asked
+      (λ lacked. lacked))
+      (asked_same (LacksNow w) (LackedAt behind w.log) (now w) rebuild asked (lacked_last asked) a)
 
   -- a rebuild that was started is started after the call
   started_last : (rebuild : ℕ) → IsStarted (now w) rebuild
@@ -157,10 +151,6 @@ module _ (who began new : Caller) (token : TokenFace) (command : Command)
       now_b =
           ap₂ (λ pairs words. state_of pairs words began.token.view.log)
           (b_start who began new token command it) (b_words who began new token command it)
-
-  -- a row that the caller lacked after the work
-  lacked_last : (asked : ℕ) → LacksNow w asked → LackedAt behind w.log asked
-  lacked_last asked lacks = lacked_then new token it.caller it.last q asked lacks
 
   -- a rebuild that was started in the slot of the due row
   in_slot : (due : Due)

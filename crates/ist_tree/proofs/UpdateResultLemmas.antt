@@ -46,6 +46,7 @@ use Rattle.ist_tree.proofs.RowAtLimitLemmas.{came_inside, came_within, closed_ab
 use Rattle.ist_tree.proofs.UpdateKeptLemmas.{counted_on, may_end_on}
 use Rattle.ist_tree.proofs.DueLemmas.{done_more}
 use Rattle.ist_tree.proofs.EventLemmas.{rebuilds_count_none, rebuilds_work, updates_start_none, updates_work}
+use Rattle.ist_tree.proofs.FreezeGoingLemmas.{by_table}
 use Rattle.ist_tree.proofs.RebuildLemmas.{starts_went}
 use Rattle.ist_tree.proofs.StartLemmas.{starts_none_went}
 use Rattle.ist_tree.proofs.ShortLemmas.{due_refused_more}
@@ -230,13 +231,11 @@ module _ (old mid new : Caller) (words : ℕ) (command : Command) (reply : Optio
   -- the row was in the slot of its parent
   due_child : Ever (start v.start v.words) (λ t. IsChild t due.parent due.index due.target) x.log
   due_child =
-      subst (λ pairs. Ever (start pairs v.words) (λ t. IsChild t due.parent due.index due.target)
-      x.log) (ap (λ (y : View). y.start) a.went.went.same)
-      (subst (λ words. Ever (start w.start words) (λ t. IsChild t due.parent due.index due.target)
-      x.log) (ap (λ (y : View). y.words) a.went.went.same)
+      by_table Updates v w a.went.went
+      (λ p n. Ever (start p n) (λ t. IsChild t due.parent due.index due.target) x.log)
       (stood_child w.start w.words a.due.may.prefix w.log x.log a.went.went.sound.lawful
       a.due.may.goes_on longer due.parent due.index due.target a.due.may.row a.due.may.published
-      a.due.may.stood))
+      a.due.may.stood)
 
   -- the row or its parent isn't open
   top_shut : IsShut (now x) due.parent due.target → IsTopShut old.token.view x old.number due.target

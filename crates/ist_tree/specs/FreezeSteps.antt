@@ -127,7 +127,7 @@ pub record IsFreezeStopped (old new : Caller) (words : ℕ) (full : Full) : Type
 -- too few words were left to help the rebuild
 pub record IsHelpShort (w : View) (rebuild words : ℕ) (full : Full) : Type 0 where
   pub short : LeavesTooFew w.start words w.log full
-  pub asked : IsAskedFor (now w) rebuild full.asked
+  pub asked : IsAskedFor (LacksNow w) (now w) rebuild full.asked
 
 -- too few words were left to help a rebuild of a row that was the anchor's child since
 pub record IsTopShort (v w : View) (words : ℕ) (full : Full) : Type 0 where

@@ -58,11 +58,6 @@ pub record IsForNode (p : PassFace) (asked : ℕ) : Type 0 where
 abbrev pub IsForRebuild : PassFace → ℕ → Type 0
 IsForRebuild p asked = (asked ≡ change_words) ⊎ IsForNode p asked
 
--- helping this very rebuild asks for this many words at a time: the size of a change, or of a node
--- over at least two keys, and no more than its finished target has
-abbrev pub IsForHelp : PassFace → ℕ → ℕ → Type 0
-IsForHelp p rebuild = IsAskedFor (state_of p.tree.start p.tree.words p.seen) rebuild
-
 -- a rebuild was started by the end of a call, and hadn't been replaced when the call began
 pub record HasMetRebuild (p q : PassFace) : Type 0 where
   pub rebuild : ℕ
@@ -78,10 +73,14 @@ IsOnKeysWay q key rebuild = IsOnWay q.tree.start q.tree.words q.seen key rebuild
 abbrev pub LackedAt : PassFace → Log → ℕ → Type 0
 LackedAt p at size = LacksRow (state_of p.tree.start p.tree.words at) p.number size
 
+-- helping this very rebuild asked for this many words after this log: for a change that the pass
+-- lacked, or for a node over at least two keys, and no more than its finished target has
+abbrev pub IsForHelp : PassFace → Log → ℕ → ℕ → Type 0
+IsForHelp p at = IsAskedFor (LackedAt p at) (state_of p.tree.start p.tree.words p.seen)
+
 -- this many words were asked for after this log of a call with this key, for a row that the pass
--- lacked. A put asks for a leaf and a change, and for a pair row if its key led to a leaf of another
--- key. A remove asks for a change, if the map had the key at some position no lower than what the pass
--- had seen. Both ask for what helping a rebuild takes that they met on the key's way
+-- lacked: by a put for a leaf, a change, or a pair row if the key led to another key's leaf; by a remove
+-- for a change, if the map had the key since; by both to help a rebuild that they met on the key's way
 pub data IsAskedIn (p q : PassFace) (at : Log) (key : ℕ) : Option ℕ → ℕ → Type 0 where
   for_leaf : {value asked : ℕ} → asked ≡ leaf_words → LackedAt q at asked
       → IsAskedIn p q at key (Some value) asked
@@ -94,7 +93,7 @@ pub data IsAskedIn (p q : PassFace) (at : Log) (key : ℕ) : Option ℕ → ℕ 
       → HasPosition p.tree.start p.tree.words p.seen q.seen key (Some found)
       → asked ≡ change_words → LackedAt q at asked → IsAskedIn p q at key None asked
   for_rebuild : {value : Option ℕ} {asked : ℕ} (met : HasMetRebuild p q)
-      → IsOnKeysWay q key met.rebuild → IsForRebuild q asked → IsForHelp q met.rebuild asked
+      → IsOnKeysWay q key met.rebuild → IsForRebuild q asked → IsForHelp q at met.rebuild asked
       → IsAskedIn p q at key value asked
 
 -- ---- refusals
@@ -107,13 +106,13 @@ pub record IsRefused (p q : PassFace) (key : ℕ) (value : Option ℕ) (full : F
 
 -- ---- refusals of a rebuild
 
--- a rebuild of this row was started by the end of a call, and helping it asked for this many words
-pub record IsForRebuildOf (q : PassFace) (row asked : ℕ) : Type 0 where
+-- a rebuild of this row was started by the end of a call, and took this many words after this log
+pub record IsForRebuildOf (q : PassFace) (at : Log) (row asked : ℕ) : Type 0 where
   pub rebuild : ℕ
   pub started : IsStarted (state_of q.tree.start q.tree.words q.seen) rebuild
   pub target : HasTarget (state_of q.tree.start q.tree.words q.seen) rebuild row
   pub size : IsForRebuild q asked
-  pub help : IsForHelp q rebuild asked
+  pub help : IsForHelp q at rebuild asked
 
 -- the rebuild was started in a slot in which this row was
 pub record IsInSlotOf (q : PassFace) (rebuild row : ℕ) : Type 0 where
@@ -122,15 +121,14 @@ pub record IsInSlotOf (q : PassFace) (rebuild row : ℕ) : Type 0 where
   pub was_child : Ever (start q.tree.start q.tree.words) (λ t.
       IsChild t site.parent site.index row) q.seen
 
--- this many words were asked for after this log to rebuild a row: for the start, which takes a
--- rebuild's row and a change, if the pass lacked one; for helping its rebuild; or for helping another
--- rebuild that the call met in the row's slot
+-- this many words were asked for after this log to rebuild a row: for the start's rebuild row or
+-- change, which the pass lacked; or to help its rebuild, or another that the call met in its slot
 pub data IsAskedForRow (p q : PassFace) (at : Log) (row asked : ℕ) : Type 0 where
   for_start : (asked ≡ rebuild_words) ⊎ (asked ≡ change_words) → LackedAt q at asked
       → IsAskedForRow p q at row asked
-  for_own : IsForRebuildOf q row asked → IsAskedForRow p q at row asked
+  for_own : IsForRebuildOf q at row asked → IsAskedForRow p q at row asked
   for_other : (met : HasMetRebuild p q) → IsInSlotOf q met.rebuild row → IsForRebuild q asked
-      → IsForHelp q met.rebuild asked → IsAskedForRow p q at row asked
+      → IsForHelp q at met.rebuild asked → IsAskedForRow p q at row asked
 
 -- an increment of the pass in this call brought the row to its limit, and after it too few words
 -- were left to rebuild the row
@@ -156,7 +154,7 @@ pub record IsTopRefused (p q : PassFace) (full : Full) : Type 0 where
   pub until : GoesOn at q.seen
   pub child : IsChild (state_of p.tree.start p.tree.words at) anchor 0 row
   pub had : HadTooFew p q full
-  pub asked : IsForRebuildOf q row full.asked
+  pub asked : IsForRebuildOf q had.at row full.asked
 
 -- a pass keeps its refusal of a rebuild, and a new one is of what was below the anchor in this
 -- freeze

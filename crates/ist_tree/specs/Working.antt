@@ -106,9 +106,9 @@ pub data IsAskedToRebuild (s : Snapshot) (w : View) (due : Due) (asked : ℕ) : 
   for_start : (asked ≡ rebuild_words) ⊎ (asked ≡ change_words) → LacksNow w asked
       → IsAskedToRebuild s w due asked
   for_own : (rebuild : ℕ) → IsStarted (now w) rebuild → HasTarget (now w) rebuild due.target
-      → IsAskedFor (now w) rebuild asked → IsAskedToRebuild s w due asked
+      → IsAskedFor (LacksNow w) (now w) rebuild asked → IsAskedToRebuild s w due asked
   for_other : (rebuild : ℕ) → IsStarted (now w) rebuild → ¬ (IsReplaced s rebuild)
-      → IsInDueSlot (now w) rebuild due → IsAskedFor (now w) rebuild asked
+      → IsInDueSlot (now w) rebuild due → IsAskedFor (LacksNow w) (now w) rebuild asked
       → IsAskedToRebuild s w due asked
 
 -- the rebuild of the due row was refused because too few words were left

@@ -64,7 +64,7 @@ pub data IsAskedBy (v w : View) (key : ℕ) : Option ℕ → ℕ → Type 0 wher
       → asked ≡ change_words → LacksNow w asked → IsAskedBy v w key None asked
   for_rebuild : {value : Option ℕ} {asked : ℕ} (rebuild : ℕ) → IsStarted (now w) rebuild
       → ¬ (IsReplaced (now v) rebuild) → IsOnWay v.start v.words w.log key rebuild
-      → IsAskedFor (now w) rebuild asked → IsAskedBy v w key value asked
+      → IsAskedFor (LacksNow w) (now w) rebuild asked → IsAskedBy v w key value asked
 
 -- a load of the first word, the last step of the call, left too few words for what was asked for
 pub record IsUpdateRefused (v : View) (key : ℕ) (value : Option ℕ) (words : ℕ) (full : Full) (w : View)

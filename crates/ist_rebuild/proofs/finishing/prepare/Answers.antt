@@ -13,7 +13,9 @@ returns-in_err-change-clause-helped c =
 pub returns-in_err-change-clause-full : goal.returns-in_err-change-clause-full
 returns-in_err-change-clause-full c =
     passed_on c.from_residual.result _ _ c.from_residual.ensures.1
-    (row_refused _ _ c.args.plan.rebuild _ _ c.in_err-change.ensures.full)
+    (row_refused _ _ c.args.plan.rebuild _ _ c.in_err-change.ensures.full
+    (refused_row _ _ _ _ c.requires.ready c.reserve.ensures.caller c.reserve.ensures.number
+    c.in_err-change.ensures.full).on.gone)
 
 -- a published rebuild has a good base
 pub finish_words-words-requires : goal.finish_words-words-requires
