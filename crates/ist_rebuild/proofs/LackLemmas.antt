@@ -9,7 +9,6 @@ use Rattle.ist_rule.specs.Speaking.{number_of}
 use Rattle.ist_rows.specs.declared.callers.Caller.{Caller}
 use Rattle.ist_rows.specs.declared.kinds.Kind.{Kind}
 use Rattle.ist_rows.specs.Building.{HasRefused}
-use Rattle.ist_rows.specs.Kinds.{kind_words}
 use Rattle.ist_rows.specs.Rows.{IsCaller, IsKindRefused, build_sizes, held_by, is_spare, row_of, spares_of}
 use Rattle.ist_rows.proofs.BuildLemmas.{merge_filter}
 use Rattle.ist_rows.proofs.CallerLemmas.{kind_of_words, spare_words}

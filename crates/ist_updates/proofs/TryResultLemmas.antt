@@ -1,5 +1,5 @@
 -- What a try promises, by what came of it at the slot. Serves the functions of `trying`.
-use Rattle.std.proofs.Common.{◌≡◌, ◌⊎◌, ℕ, true, false, Option, Some, None, refl, sym, subst}
+use Rattle.std.proofs.Common.{◌≡◌, ℕ, true, false, Option, Some, None, refl, sym, subst}
 use Rattle.std.specs.Prelude.{Bool, Ok, Err, Result}
 use Rattle.ist_core.specs.declared.commands.Command.{Command}
 use Rattle.ist_core.specs.declared.ports.Full.{Full}
