@@ -2,6 +2,7 @@
 ghost use Rattle.std.specs.Prelude.{◌≤◌, IsTrue};
 ghost use Rattle.std.specs.List.Sorted.{IsStrictlyIncreasing};
 
+use crate::judging::same;
 use ist_math::{child_and_looks, child_of, degree, guess, ideal_words, limit, part};
 use std::alloc::{AllocError, Global};
 use std::process::Abort;
@@ -11,10 +12,9 @@ use std::test::Fail;
 fn a_guess_in_even_keys_is_the_child(rt: HostRuntime) {
     let keys = [100, 200, 300, 400];
     // the key, the guess, the child
-    let cases = [(99, 0, 0), (250, 2, 2), (400, 4, 4)];
-    for (key, near, child) in cases {
-        let found = (guess(100, 400, 4, key), child_of(&keys, key));
-        assert_eq!(rt; found, (near, child), "key {key}");
+    for (key, near, child) in [(99, 0, 0), (250, 2, 2), (400, 4, 4)] {
+        same(&rt, &guess(100, 400, 4, key), &near, key);
+        same(&rt, &child_of(&keys, key), &child, key);
     }
 }
 
@@ -22,130 +22,113 @@ fn a_guess_in_even_keys_is_the_child(rt: HostRuntime) {
 fn a_guess_among_uneven_keys_is_corrected(rt: HostRuntime) {
     let keys = [1, 2, 3, 1000000];
     // the key, the guess, the child
-    let cases = [(999999, 3, 3), (3, 1, 3), (0, 0, 0), (1, 1, 1)];
-    for (key, near, child) in cases {
-        let found = (guess(1, 1000000, 4, key), child_of(&keys, key));
-        assert_eq!(rt; found, (near, child), "key {key}");
+    for (key, near, child) in [(999999, 3, 3), (3, 1, 3), (0, 0, 0), (1, 1, 1)] {
+        same(&rt, &guess(1, 1000000, 4, key), &near, key);
+        same(&rt, &child_of(&keys, key), &child, key);
     }
 }
 
-// Returns the guess for a key among this many over the whole range.
-fn guess_among(count: u64, key: u64) -> u64
+// Fails unless this is the guess for the key among so many over the whole range.
+fn is_guessed(rt: &impl Abort, count: u64, key: u64, near: u64)
     requires some { 2 ≤ count }
 {
-    guess(0, u64::MAX, count, key)
+    same(rt, &guess(0, u64::MAX, count, key), &near, (key, count));
 }
 
 #[test]
 fn extreme_keys_have_children(rt: HostRuntime) {
     let whole = [0, u64::MAX];
     // the key, the guess, the child
-    let cases = [(0, 1, 1), (1, 1, 1), (u64::MAX - 1, 1, 1), (u64::MAX, 2, 2)];
-    for (key, near, child) in cases {
-        let found = (guess_among(2, key), child_of(&whole, key));
-        assert_eq!(rt; found, (near, child), "key {key}");
+    for (key, near, child) in [(0, 1, 1), (1, 1, 1), (u64::MAX - 1, 1, 1), (u64::MAX, 2, 2)] {
+        is_guessed(&rt, 2, key, near);
+        same(&rt, &child_of(&whole, key), &child, key);
     }
     // many keys over the whole range: the product has more than 64 bits
-    let cases = [
-        (1 << 32, u64::MAX - 1, (1 << 32) - 1),
-        (1 << 20, 1 << 63, 524288),
-        (1 << 63, 12345678901234567890, 6172839450617283945),
-        (u64::MAX, u64::MAX - 1, u64::MAX - 1),
-        (u64::MAX, 1 << 62, 4611686018427387904),
-    ];
-    for (count, key, near) in cases {
-        assert_eq!(rt; guess_among(count, key), near, "key {key} of {count}");
-    }
+    is_guessed(&rt, 1 << 32, u64::MAX - 1, (1 << 32) - 1);
+    is_guessed(&rt, 1 << 20, 1 << 63, 524288);
+    is_guessed(&rt, 1 << 63, 12345678901234567890, 6172839450617283945);
+    is_guessed(&rt, u64::MAX, u64::MAX - 1, u64::MAX - 1);
+    is_guessed(&rt, u64::MAX, 1 << 62, 4611686018427387904);
     // a short range of wide keys: the quotient by the first 64 bits is far too low
-    assert_eq!(rt; guess(0, 1 << 40, 1 << 63, 1 << 39), 4611686018427387904);
+    let near = guess(0, 1 << 40, 1 << 63, 1 << 39);
+    same(&rt, &near, &4611686018427387904, "a short range");
 }
 
 #[test]
 fn few_keys_have_children(rt: HostRuntime) {
     // one key
-    let cases = [(0, 0), (6, 0), (7, 1), (u64::MAX, 1)];
-    for (key, child) in cases {
-        let found = (guess(7, 7, 1, key), child_of(&[7], key));
-        assert_eq!(rt; found, (child as u64, child), "key {key}");
+    for (key, child) in [(0, 0), (6, 0), (7, 1), (u64::MAX, 1)] {
+        same(&rt, &guess(7, 7, 1, key), &(child as u64), key);
+        same(&rt, &child_of(&[7], key), &child, key);
     }
-    let found = (
-        child_of(&[], 5),
-        child_of(&[0], 0),
-        child_of(&[u64::MAX], u64::MAX - 1),
-    );
-    assert_eq!(rt; found, (0, 1, 0));
+    same(&rt, &child_of(&[], 5), &0, 5);
+    same(&rt, &child_of(&[0], 0), &1, 0);
+    same(&rt, &child_of(&[u64::MAX], u64::MAX - 1), &0, u64::MAX);
+}
+
+// Fails unless a row over so many keys has this degree.
+fn has_degree(rt: &impl Abort, n: u64, root: u64) {
+    assert!(rt; 2 <= n && n < 1 << 32);
+    same(rt, &degree(n), &root, n);
+}
+
+// Fails unless this child of so many keys begins there and has so many.
+fn has_part(rt: &impl Abort, n: u64, j: u64, start: u64, len: u64) {
+    assert!(rt; 2 <= n && n < 1 << 32 && j < degree(n));
+    let found = part(n, j);
+    same(rt, &(found.start, found.len), &(start, len), (j, n));
 }
 
 #[test]
 fn parts_follow_one_another(rt: HostRuntime) {
-    assert_eq!(rt; [degree(10), degree(2), degree(3)], [3, 2, 2]);
+    has_degree(&rt, 10, 3);
+    has_degree(&rt, 2, 2);
+    has_degree(&rt, 3, 2);
     // the keys, the child, where its keys begin, how many it has
-    let cases = [
-        (10, 0, 0, 4),
-        (10, 1, 4, 3),
-        (10, 2, 7, 3),
-        (2, 0, 0, 1),
-        (2, 1, 1, 1),
-        (3, 0, 0, 2),
-        (3, 1, 2, 1),
-    ];
-    for (n, j, start, len) in cases {
-        assert!(rt; 2 <= n);
-        assert!(rt; n < 1 << 32);
-        assert!(rt; j < degree(n));
-        let found = part(n, j);
-        assert_eq!(rt; (found.start, found.len), (start, len), "child {j} of {n}");
-    }
+    has_part(&rt, 10, 0, 0, 4);
+    has_part(&rt, 10, 1, 4, 3);
+    has_part(&rt, 10, 2, 7, 3);
+    has_part(&rt, 2, 0, 0, 1);
+    has_part(&rt, 2, 1, 1, 1);
+    has_part(&rt, 3, 0, 0, 2);
+    has_part(&rt, 3, 1, 2, 1);
 }
 
 #[test]
 fn degrees_of_large_nodes_are_whole_roots(rt: HostRuntime) {
     // the keys, the degree
-    let cases = [
-        (65535 * 65535 - 1, 65534),
-        (65535 * 65535, 65535),
-        (4294967295, 65535),
-    ];
-    for (n, root) in cases {
-        assert!(rt; 2 <= n);
-        assert!(rt; n < 1 << 32);
-        assert_eq!(rt; degree(n), root, "{n} keys");
-    }
+    has_degree(&rt, 65535 * 65535 - 1, 65534);
+    has_degree(&rt, 65535 * 65535, 65535);
+    has_degree(&rt, 4294967295, 65535);
+}
+
+// Fails unless the ideal tree of so many keys takes so many words.
+fn takes(rt: &impl Abort, n: u64, words: u64) {
+    assert!(rt; n < 1 << 32);
+    same(rt, &ideal_words(n), &words, n);
 }
 
 #[test]
 fn ideal_trees_take_these_words(rt: HostRuntime) {
     // the keys, the words
-    let small = [
-        (0, 0),
-        (1, 2),
-        (2, 11),
-        (3, 20),
-        (4, 29),
-        (10, 78),
-        (16, 127),
-    ];
-    let large = [
-        (100, 803),
-        (1000, 8383),
-        (86400, 704353),
-        (1048575, 8787573),
-        (4294967295, 34712447733),
-    ];
-    for (n, words) in small {
-        assert!(rt; n < 1 << 32);
-        assert_eq!(rt; ideal_words(n), words, "{n} keys");
-    }
-    for (n, words) in large {
-        assert!(rt; n < 1 << 32);
-        assert_eq!(rt; ideal_words(n), words, "{n} keys");
-    }
+    takes(&rt, 0, 0);
+    takes(&rt, 1, 2);
+    takes(&rt, 2, 11);
+    takes(&rt, 3, 20);
+    takes(&rt, 4, 29);
+    takes(&rt, 10, 78);
+    takes(&rt, 16, 127);
+    takes(&rt, 100, 803);
+    takes(&rt, 1000, 8383);
+    takes(&rt, 86400, 704353);
+    takes(&rt, 1048575, 8787573);
+    takes(&rt, 4294967295, 34712447733);
 }
 
 #[test]
 fn nodes_are_due_after_a_quarter_of_their_keys(rt: HostRuntime) {
     // the size, the limit
-    let cases = [
+    for (size, updates) in [
         (2, 8),
         (31, 8),
         (32, 8),
@@ -153,9 +136,8 @@ fn nodes_are_due_after_a_quarter_of_their_keys(rt: HostRuntime) {
         (36, 9),
         (256, 64),
         (1000, 250),
-    ];
-    for (size, updates) in cases {
-        assert_eq!(rt; limit(size), updates, "size {size}");
+    ] {
+        same(&rt, &limit(size), &updates, size);
     }
 }
 
@@ -234,7 +216,7 @@ fn most_looks(rt: &impl Abort, keys: &[u64]) -> usize {
     for key in keys {
         for x in [key.saturating_sub(1), *key, key.saturating_add(1)] {
             let found = child_and_looks(keys, x);
-            assert_eq!(rt; found.child, count_up_to(keys, x), "key {x}");
+            same(rt, &found.child, &count_up_to(keys, x), x);
             most = most.max(found.looks);
         }
     }
@@ -250,18 +232,33 @@ fn few_keys_are_looked_at_however_they_lie(rt: HostRuntime) -> Result<(), Fail> 
     let random = random_keys(rt.alloc(), 1000, 1)?;
     let four = keys_by(rt.alloc(), 4, Lie::Squares)?;
     let five = keys_by(rt.alloc(), 5, Lie::Squares)?;
-    // the keys, the most looks
-    let cases = [
-        ("rising seconds", seconds.as_slice(), 4),
-        ("two bursts, a year apart", bursts.as_slice(), 20),
-        ("squares", squares.as_slice(), 18),
-        ("one key at the end", one_far.as_slice(), 21),
-        ("random, by the seed 1", random.as_slice(), 10),
-        ("four squares", four.as_slice(), 4),
-        ("five squares", five.as_slice(), 4),
-    ];
-    for (name, keys, most) in cases {
-        assert_eq!(rt; most_looks(&rt, keys), most, "{name}");
-    }
+    // the most looks of each
+    same(
+        &rt,
+        &most_looks(&rt, seconds.as_slice()),
+        &4,
+        "rising seconds",
+    );
+    same(
+        &rt,
+        &most_looks(&rt, bursts.as_slice()),
+        &20,
+        "two bursts, a year apart",
+    );
+    same(&rt, &most_looks(&rt, squares.as_slice()), &18, "squares");
+    same(
+        &rt,
+        &most_looks(&rt, one_far.as_slice()),
+        &21,
+        "one key at the end",
+    );
+    same(
+        &rt,
+        &most_looks(&rt, random.as_slice()),
+        &10,
+        "random, by the seed 1",
+    );
+    same(&rt, &most_looks(&rt, four.as_slice()), &4, "four squares");
+    same(&rt, &most_looks(&rt, five.as_slice()), &4, "five squares");
     Ok(())
 }

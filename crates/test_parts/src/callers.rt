@@ -3,49 +3,108 @@ ghost use Rattle.std.specs.Prelude.{◌≡◌};
 ghost use Rattle.ist_rows.specs.Rows.{IsCaller};
 
 use crate::empty_table;
+use crate::judging::same;
 use ist_core::Full;
 use ist_layout::NEXT_PLACE;
 use ist_rows::{Caller, Kind, enter, fill, reserve};
 use ist_rule::{TreeTable, close, join as join_seats, load, split};
+use std::alloc::{AllocError, Global};
 use std::test::Fail;
 use std::thread::join;
 
-#[test]
-fn a_caller_reserves_a_leaf_once_and_is_refused_a_change(rt: HostRuntime) -> Result<(), Fail> {
-    let (table, mut maker) = empty_table(rt.alloc(), 14)?;
+// What the caller is told that reserves a leaf row twice.
+fn reserve_twice(table: &TreeTable, who: &mut Caller) -> (Result<u32, Full>, Result<u32, Full>)
+    requires same_table { who.old.token.table ≡ table.now.table }
+    requires caller { IsCaller who.old }
+    ensures same_table { who.new.token.table ≡ table.now.table }
+    ensures caller { IsCaller who.new }
+{
+    let leaf = reserve(table, who, Kind::Leaf);
+    (leaf, reserve(table, who, Kind::Leaf))
+}
+
+// What the caller is told that reserves a change row. If it holds a leaf row, it puts 9 at the key 1 there.
+fn reserve_and_fill(table: &TreeTable, who: &mut Caller) -> Result<u32, Full>
+    requires same_table { who.old.token.table ≡ table.now.table }
+    requires caller { IsCaller who.old }
+{
+    let change = reserve(table, who, Kind::Change);
+    if let Some(base) = who.leaf {
+        fill(table, who, base, 1, 9);
+    }
+    change
+}
+
+// What the first of two callers is told in a table of 14 words, and what these are when the table is closed.
+#[derive(Drop)]
+struct Seen {
+    numbers: (u32, u32),
+    leaves: (Result<u32, Full>, Result<u32, Full>),
+    next: u64,
+    change: Result<u32, Full>,
+    words: (u64, u64),
+}
+
+fn see_reserved(alloc: Global) -> Result<Seen, AllocError> {
+    let (table, mut maker) = empty_table(alloc, 14)?;
     let mut first = enter(&table, &mut maker);
     let second = enter(&table, &mut maker);
-    assert!(rt; first.number == 0 && second.number == 1);
-    assert_eq!(rt; reserve(&table, &mut first, Kind::Leaf), Ok(4));
-    assert_eq!(rt; reserve(&table, &mut first, Kind::Leaf), Ok(4));
-    assert_eq!(rt; load(&table, &mut maker, NEXT_PLACE), 6);
+    let numbers = (first.number, second.number);
+    let leaves = reserve_twice(&table, &mut first);
+    let next = load(&table, &mut maker, NEXT_PLACE);
+    let change = reserve_and_fill(&table, &mut first);
+    let closed = close(table, maker);
+    let words = (closed.word(5), closed.word(NEXT_PLACE as usize));
+    closed.free();
+    Ok(Seen {
+        numbers,
+        leaves,
+        next,
+        change,
+        words,
+    })
+}
+
+#[test]
+fn a_caller_reserves_a_leaf_once_and_is_refused_a_change(rt: HostRuntime) -> Result<(), Fail> {
+    let seen = see_reserved(rt.alloc())?;
     let full = Full {
         next: 6,
         asked: 9,
         words: 14,
     };
-    assert_eq!(rt; reserve(&table, &mut first, Kind::Change), Err(full));
-    if let Some(base) = first.leaf {
-        fill(&table, &mut first, base, 1, 9);
-    }
-    let closed = close(table, maker);
-    assert!(rt; closed.word(5) == 9 && closed.word(NEXT_PLACE as usize) == 6);
-    closed.free();
+    same(&rt, &seen.numbers, &(0, 1), "the callers");
+    same(&rt, &seen.leaves, &(Ok(4), Ok(4)), "the leaf row");
+    same(&rt, &seen.next, &6, "the next row");
+    same(&rt, &seen.change, &Err(full), "the change row");
+    same(
+        &rt,
+        &seen.words,
+        &(9, 6),
+        "the leaf's value and the next row",
+    );
     Ok(())
 }
 
-#[test]
-fn logs_of_different_length_meet(rt: HostRuntime) -> Result<(), Fail> {
-    let (table, mut maker) = empty_table(rt.alloc(), 14)?;
+// The leaf row that one caller reserves, the number of the next caller, and the next free word, once two tokens have met whose
+// logs are of different length.
+fn meet_in_14(alloc: Global) -> Result<(Result<u32, Full>, u32, u64), AllocError> {
+    let (table, mut maker) = empty_table(alloc, 14)?;
     let mut first = enter(&table, &mut maker);
     let short = split(&table, &mut maker);
-    assert_eq!(rt; reserve(&table, &mut first, Kind::Leaf), Ok(4));
+    let leaf = reserve(&table, &mut first, Kind::Leaf);
     let long = split(&table, &mut first.token);
     join_seats(&table, &mut maker, long);
     join_seats(&table, &mut first.token, short);
     let second = enter(&table, &mut maker);
-    assert_eq!(rt; second.number, 1);
-    assert_eq!(rt; load(&table, &mut first.token, NEXT_PLACE), 6);
+    let next = load(&table, &mut first.token, NEXT_PLACE);
+    Ok((leaf, second.number, next))
+}
+
+#[test]
+fn logs_of_different_length_meet(rt: HostRuntime) -> Result<(), Fail> {
+    let met = meet_in_14(rt.alloc())?;
+    same(&rt, &met, &(Ok(4), 1, 6), "the two");
     Ok(())
 }
 
@@ -97,7 +156,8 @@ fn two_threads_reserve_until_the_table_is_full(rt: HostRuntime) -> Result<(), Fa
     let next = load(&table, &mut maker, NEXT_PLACE);
     for place in 0..20 {
         let over = rows_over(&left, place).wrapping_add(rows_over(&right, place));
-        assert_eq!(rt; over, if place >= 4 && place < next { 1 } else { 0 });
+        let wanted = if place >= 4 && place < next { 1 } else { 0 };
+        same(&rt, &over, &wanted, place);
     }
     assert!(rt; left.contains(&None) && right.contains(&None));
     Ok(())

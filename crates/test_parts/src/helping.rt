@@ -4,6 +4,7 @@ ghost use Rattle.ist_rows.specs.Rows.{IsCaller, spares_of, no_spares};
 
 use crate::beginnings::begin_put;
 use crate::changes::install_put;
+use crate::judging::same;
 use crate::samples::word_at;
 use crate::tables::empty_table;
 use ist_dcss::{Decision, Installed, help};
@@ -113,7 +114,7 @@ fn a_put_is_decided_once_and_leaves_its_slot(rt: HostRuntime) -> Result<(), Fail
         by_first: Decision::Yes,
         met: Some(leaf),
     };
-    assert_eq!(rt; help_two(rt.alloc())?, Some(wanted));
+    same(&rt, &help_two(rt.alloc())?, &Some(wanted), "the put");
     Ok(())
 }
 
@@ -168,6 +169,6 @@ fn two_threads_that_meet_one_change_see_it_decided_yes(rt: HostRuntime) -> Resul
     let seen = help_on_threads(&rt, rt.alloc())?;
     assert!(rt; seen.left.is_some() || seen.right.is_some());
     assert!(rt; seen.left != no && seen.right != no);
-    assert_eq!(rt; (seen.installed, seen.slot), (true, leaf));
+    same(&rt, &(seen.installed, seen.slot), &(true, leaf), "the put");
     Ok(())
 }

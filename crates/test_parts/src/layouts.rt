@@ -1,4 +1,5 @@
 //! Words computed by hand.
+use crate::judging::same;
 use ist_layout::{Ref, Status, key_place, slot_place};
 
 #[test]
@@ -25,7 +26,7 @@ fn a_word_of_a_slot_is_read(rt: HostRuntime) {
         (u64::MAX, None),
     ];
     for (word, found) in cases {
-        assert_eq!(rt; Ref::from_word(word), found, "word {word}");
+        same(&rt, &Ref::from_word(word), &found, word);
     }
 }
 
@@ -39,7 +40,7 @@ fn a_reference_is_written(rt: HostRuntime) {
         Ref::Change { base: 15 }.to_word(),
         Ref::Rebuild { base: 15 }.to_word(),
     ];
-    assert_eq!(rt; words, [0, 7, 33, 34, 123, 124]);
+    same(&rt, &words, &[0, 7, 33, 34, 123, 124], "the words");
 }
 
 #[test]
@@ -61,7 +62,7 @@ fn a_word_of_a_status_is_read_and_written(rt: HostRuntime) {
             Some(status) => status.to_word(),
             None => word,
         };
-        assert_eq!(rt; (read, written), (found, word), "word {word}");
+        same(&rt, &(read, written), &(found, word), word);
     }
 }
 
@@ -69,5 +70,5 @@ fn a_word_of_a_status_is_read_and_written(rt: HostRuntime) {
 fn keys_and_slots_lie_behind_the_four_fields(rt: HostRuntime) {
     // an inner row of degree 2 at 4: status, count, degree, size, key 1, slot 0, slot 1
     let places = [key_place(4, 1), slot_place(4, 2, 0), slot_place(4, 2, 1)];
-    assert_eq!(rt; places, [8, 9, 10]);
+    same(&rt, &places, &[8, 9, 10], "the places");
 }

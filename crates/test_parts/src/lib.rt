@@ -20,6 +20,8 @@ mod helping;
 #[cfg(test)]
 mod images;
 #[cfg(test)]
+mod judging;
+#[cfg(test)]
 mod layouts;
 #[cfg(test)]
 mod marking;

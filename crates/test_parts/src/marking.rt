@@ -5,6 +5,7 @@ ghost use Rattle.ist_dcss.specs.Helping.{MayHelp};
 ghost use Rattle.ist_mark.specs.Marking.{MayMark};
 
 use crate::beginnings::{begin_start, reserve_start};
+use crate::judging::same;
 use crate::races::follow;
 use crate::samples::word_at;
 use crate::table_of_two;
@@ -118,7 +119,12 @@ fn two_callers_mark_one_subtree_in_turn(rt: HostRuntime) -> Result<(), Fail> {
     let clear = Status::Clear.to_word();
     let finished = Status::Finished { keys: 2 }.to_word();
     let seen = mark_two(rt.alloc())?;
-    assert_eq!(rt; seen, Some(([clear, finished, finished], [2, 2])));
+    same(
+        &rt,
+        &seen,
+        &Some(([clear, finished, finished], [2, 2])),
+        "two callers",
+    );
     Ok(())
 }
 
@@ -181,6 +187,6 @@ fn mark_on_threads<R: Threads + Sync>(
 fn two_threads_mark_one_subtree(rt: HostRuntime) -> Result<(), Fail> {
     let finished = Status::Finished { keys: 2 }.to_word();
     let seen = mark_on_threads(&rt, rt.alloc())?;
-    assert_eq!(rt; seen, (Some(2), Some(2), finished));
+    same(&rt, &seen, &(Some(2), Some(2), finished), "two threads");
     Ok(())
 }

@@ -3,6 +3,7 @@ ghost use Rattle.std.specs.Prelude.{[], List, ◌∷◌, Option, None, option_ma
 ghost use Rattle.std.specs.Option.{option_to_list};
 ghost use Rattle.ist_core.specs.Replies.{told, refusal};
 
+use crate::judging::same;
 use ist_core::{Command, Full, LeafRow, Leaves, Port, Reply, Words};
 use std::alloc::{AllocError, Global};
 use std::sync::Wait;
@@ -46,10 +47,30 @@ fn a_port_answers_and_refuses(rt: HostRuntime) {
         told: None,
         refused: None,
     };
-    assert_eq!(rt; port.call(&rt, Command::Get { key: 1 }), Ok(None));
-    assert_eq!(rt; port.call(&rt, Command::Get { key: 2 }), Err(FULL));
-    assert_eq!(rt; port.told, Some(Command::Get { key: 1 }));
-    assert_eq!(rt; port.refused, Some(Command::Get { key: 2 }));
+    same(
+        &rt,
+        &port.call(&rt, Command::Get { key: 1 }),
+        &Ok(None),
+        "the first call",
+    );
+    same(
+        &rt,
+        &port.call(&rt, Command::Get { key: 2 }),
+        &Err(FULL),
+        "the second call",
+    );
+    same(
+        &rt,
+        &port.told,
+        &Some(Command::Get { key: 1 }),
+        "the call that was answered",
+    );
+    same(
+        &rt,
+        &port.refused,
+        &Some(Command::Get { key: 2 }),
+        "the call that was refused",
+    );
 }
 
 // Returns how many leaves a map of two has, and which come back from it.
@@ -78,6 +99,11 @@ fn rows_come_back_as_they_went_in(rt: HostRuntime) -> Result<(), AllocError> {
     let high = LeafRow { key: 9, value: 1 };
     let leaves = leaves_back(rt.alloc(), low, high)?;
     let words = words_back(rt.alloc())?;
-    assert_eq!(rt; (leaves, words), ((2, [(11, low), (13, high)]), (1, 9)));
+    same(
+        &rt,
+        &(leaves, words),
+        &((2, [(11, low), (13, high)]), (1, 9)),
+        "two leaves and two words",
+    );
     Ok(())
 }

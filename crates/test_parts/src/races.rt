@@ -13,6 +13,7 @@ ghost use Rattle.ist_rows.specs.CallerLaws.{KeepsRows};
 ghost use Rattle.test_parts.specs.Racing.{root_rows_at, root_word, HasBothLeaves, HasPairRoot, HasPrepared, IsStartedAtFour};
 
 use crate::beginnings::{begin_start, reserve_start};
+use crate::judging::same;
 use crate::samples::word_at;
 use crate::table_of_two;
 use ist_core::Full;
@@ -228,7 +229,12 @@ fn who_comes_second_with_a_root_loses_its_row(rt: HostRuntime) -> Result<(), Fai
     let root = Ref::Inner { base: 29 }.to_word();
     let rebuild = Ref::Rebuild { base: 15 }.to_word();
     let seen = race_of_three(rt.alloc())?;
-    assert_eq!(rt; seen, Some([7, 7, root, root, 11, rebuild]));
+    same(
+        &rt,
+        &seen,
+        &Some([7, 7, root, root, 11, rebuild]),
+        "the race",
+    );
     Ok(())
 }
 
@@ -309,6 +315,6 @@ fn give_up_of_three(alloc: Global) -> Result<Option<(u64, Result<u32, Full>)>, A
 #[test]
 fn who_gives_up_a_low_pair_row_reserves_a_fresh_one(rt: HostRuntime) -> Result<(), Fail> {
     let seen = give_up_of_three(rt.alloc())?;
-    assert_eq!(rt; seen, Some((7, Ok(43))));
+    same(&rt, &seen, &Some((7, Ok(43))), "three callers");
     Ok(())
 }

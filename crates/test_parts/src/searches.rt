@@ -5,6 +5,7 @@ ghost use Rattle.ist_find.specs.Searches.{IsRow};
 
 use crate::beginnings::begin_put;
 use crate::helping::help_met;
+use crate::judging::same;
 use crate::samples::pairs_of;
 use crate::tables::{empty_table, table_of_two};
 use ist_core::Pair;
@@ -46,10 +47,11 @@ fn each_key_is_found_with_its_value(rt: HostRuntime) -> Result<(), Fail> {
     for (key, index, word, value) in cases {
         let found = found_in_two(rt.alloc(), key)?;
         let node = 4;
-        assert_eq!(rt;
-            found,
-            (Child { index, word }, Found { value, node, index }),
-            "key {key}"
+        same(
+            &rt,
+            &found,
+            &(Child { index, word }, Found { value, node, index }),
+            key,
         );
     }
     Ok(())
@@ -115,7 +117,7 @@ fn a_search_loads_the_words_of_its_way_alone(rt: HostRuntime) -> Result<(), Fail
     ];
     for (key, value, loads) in cases {
         let found = search_of_ten(rt.alloc(), key)?;
-        assert_eq!(rt; found, (value, loads), "key {key}");
+        same(&rt, &found, &(value, loads), key);
     }
     Ok(())
 }
@@ -149,7 +151,7 @@ fn a_span_reaches_from_its_pair_to_before_the_next_one(rt: HostRuntime) -> Resul
     for (asked, first, last, key, value) in cases {
         let found = span_of_ten(rt.alloc(), asked)?;
         let pair = Some(Pair { key, value });
-        assert_eq!(rt; found, Span { first, last, pair }, "key {asked}");
+        same(&rt, &found, &Span { first, last, pair }, asked);
     }
     Ok(())
 }
@@ -197,7 +199,7 @@ fn a_search_loads_few_keys_of_a_row_with_more_than_four(rt: HostRuntime) -> Resu
     ];
     for (key, value, loads) in cases {
         let found = search_of(rt.alloc(), 36, key)?;
-        assert_eq!(rt; found, (value, loads), "key {key}");
+        same(&rt, &found, &(value, loads), key);
     }
     Ok(())
 }
@@ -268,6 +270,6 @@ fn a_put_is_found_once_it_is_decided(rt: HostRuntime) -> Result<(), Fail> {
         },
         other: None,
     };
-    assert_eq!(rt; seen, Some(wanted));
+    same(&rt, &seen, &Some(wanted), "the put");
     Ok(())
 }

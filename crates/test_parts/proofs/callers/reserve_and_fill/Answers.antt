@@ -1,9 +1,9 @@
 use Rattle.std.proofs.Common.{arith}
 use Rattle.ist_rows.specs.declared.kinds.Kind.TheVariants.{Leaf}
-use Rattle.test_parts.proofs.callers.a_caller_reserves_a_leaf_once_and_is_refused_a_change.Goals as goal
+use Rattle.test_parts.proofs.callers.reserve_and_fill.Goals as goal
 
 -- the caller holds its leaf row
 pub fill-requires-clause-held : goal.fill-requires-clause-held
-fill-requires-clause-held c c' =
-    let held = c'.reserve-3.ensures.caller.rows Leaf c'.in-Some.base c'.in-Some.is in
+fill-requires-clause-held c =
+    let held = c.reserve-change.ensures.caller.rows Leaf c.in-Some.base c.in-Some.is in
     record { size = 2; held = held; within = omega arith }
