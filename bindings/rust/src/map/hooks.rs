@@ -1,6 +1,6 @@
 //! Steps at which a test may hold a call. Without tests, nothing happens there.
 
-/// A moment that a growth, a merge, a `clear` or a snapshot has reached.
+/// A moment that an update, a growth, a merge, a `clear` or a snapshot has reached.
 #[derive(Clone, Copy, Debug, PartialEq, Eq, Hash)]
 pub(super) enum Step {
     /// The keys that were changed before were taken over.
@@ -17,10 +17,18 @@ pub(super) enum Step {
     Held,
     /// Updates record for a snapshot.
     Watched,
+    /// All pairs were listed for a snapshot, and all slots were locked once since.
+    Listed,
+    /// The records of a snapshot were taken, and updates still record.
+    Taken,
+    /// An update has a slot, and has yet to learn whether updates are stopped.
+    Slotted,
+    /// An update knows whether it must record, and has yet to find its part.
+    Asked,
 }
 
 #[cfg(test)]
-pub(super) type Hook = Box<dyn Fn(Step) + Send + Sync>;
+pub(super) type Hook = std::sync::Arc<dyn Fn(Step) + Send + Sync>;
 
 impl super::inner::Inner {
     #[cfg(not(test))]
@@ -29,11 +37,10 @@ impl super::inner::Inner {
 
     #[cfg(test)]
     pub(super) fn reached(&self, step: Step) {
-        // taken out, so that the hook may make calls that reach a step themselves
-        let hook = super::locked(&self.hook).take();
+        // without the lock, so that other calls reach their steps while one is held
+        let hook = super::locked(&self.hook).clone();
         if let Some(hook) = hook {
             hook(step);
-            *super::locked(&self.hook) = Some(hook);
         }
     }
 }

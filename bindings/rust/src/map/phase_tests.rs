@@ -2,46 +2,61 @@
 
 use super::Map;
 use super::hooks::Step;
+use super::inner::Mode;
 use super::sizes::{STRAINED, Sizes};
 use std::ops::Bound::{Excluded, Included};
-use std::sync::Mutex;
-use std::sync::atomic::{AtomicUsize, Ordering::SeqCst};
-use std::sync::mpsc::{Sender, channel};
-use std::thread::scope;
+use std::sync::mpsc::{Receiver, Sender, channel};
+use std::sync::{Arc, Mutex};
+use std::thread::{scope, yield_now};
 use std::time::Duration;
 
 const GROWING: [Step; 5] = [Step::Begun, Step::Opened, Step::Mirroring, Step::Stopped, Step::Replaced];
+const UPDATING: [Step; 2] = [Step::Slotted, Step::Asked];
 
 fn set_hook(map: &Map, hook: impl Fn(Step) + Send + Sync + 'static) {
-    *super::locked(&map.inner.hook) = Some(Box::new(hook));
+    *super::locked(&map.inner.hook) = Some(Arc::new(hook));
+}
+
+// A call that is held at a step until it is released, or until this is dropped: so that it goes on also if an assertion fails.
+struct Hold {
+    reached: Receiver<()>,
+    release: Sender<()>,
+}
+
+impl Hold {
+    fn wait(&self) {
+        self.reached.recv_timeout(Duration::from_secs(60)).expect("a call reaches the step");
+    }
+}
+
+// Holds the first call that reaches the step, for each of these.
+fn holds<const N: usize>(map: &Map, steps: [Step; N]) -> [Hold; N] {
+    let mut gates = Vec::new();
+    let holds = steps.map(|step| {
+        let ((told, reached), (release, released)) = (channel(), channel());
+        gates.push((step, Mutex::new(Some((told, released)))));
+        Hold { reached, release }
+    });
+    set_hook(map, move |at| {
+        let gate = gates.iter().find(|(step, _)| *step == at);
+        let first = gate.and_then(|(_, gate)| super::locked(gate).take());
+        if let Some((told, released)) = first {
+            _ = told.send(());
+            _ = released.recv();
+        }
+    });
+    holds
 }
 
 // Makes a call that is held when it first reaches the step, and others meanwhile. These get what releases it.
-fn while_held<T>(map: &Map, step: Step, call: impl FnOnce() -> T + Send, others: impl FnOnce(&Sender<()>)) -> T
-where
-    T: Send,
-{
-    let (told, reached) = channel();
-    let (release, released) = channel();
-    let (told_by_hook, released) = (told.clone(), Mutex::new(released));
-    let left = AtomicUsize::new(1);
-    set_hook(map, move |at| {
-        if at == step && left.swap(0, SeqCst) == 1 {
-            told_by_hook.send(true).unwrap();
-            _ = released.lock().unwrap().recv();
-        }
-    });
-    // moved, so that the call goes on also if an assertion fails
+fn while_held<T: Send>(map: &Map, step: Step, call: impl FnOnce() -> T + Send, others: impl FnOnce(&Sender<()>)) -> T {
+    let [held] = holds(map, [step]);
     scope(move |scope| {
-        let release = release;
-        let caller = scope.spawn(move || {
-            let reply = call();
-            _ = told.send(false);
-            reply
-        });
-        assert!(reached.recv().unwrap(), "the call ended without {step:?}");
-        others(&release);
-        _ = release.send(());
+        let held = held;
+        let caller = scope.spawn(call);
+        held.wait();
+        others(&held.release);
+        drop(held);
         caller.join().unwrap()
     })
 }
@@ -127,7 +142,9 @@ fn the_next_step_waits_for_the_calls_that_have_slots() {
         let ((told, steps), (release, released)) = (channel(), channel());
         let released = Mutex::new(released);
         set_hook(&map, move |step| {
-            _ = told.send(step);
+            if !UPDATING.contains(&step) {
+                _ = told.send(step);
+            }
             if Some(step) == before {
                 _ = released.lock().unwrap().recv();
             }
@@ -209,7 +226,9 @@ fn a_growth_that_is_lost_each_time_stops_updates_at_last() {
         if step == Step::Mirroring {
             inner.directory().part(0).lose();
         }
-        told.send(step).unwrap();
+        if !UPDATING.contains(&step) {
+            told.send(step).unwrap();
+        }
     });
     grow(&map);
     // it had a reference to the map
@@ -241,11 +260,61 @@ fn a_snapshot_has_what_was_there_when_it_began() {
         },
     ];
     for (number, change) in changes.into_iter().enumerate() {
+        for step in [Step::Watched, Step::Listed, Step::Taken] {
+            let map = one_part();
+            let pairs = while_held(&map, step, || map.snapshot(..900).unwrap(), |_| change(&map));
+            assert!(pairs.into_iter().eq((0..50).map(|key| (2 * key, key))), "change {number} at {step:?}");
+            let left: Vec<_> = map.iter().collect();
+            assert_eq!(map.snapshot(..), Ok(left), "change {number} at {step:?}");
+        }
+    }
+}
+
+#[test]
+fn a_snapshot_takes_its_records_while_updates_record() {
+    let map = one_part();
+    let [listed, taken, asked] = holds(&map, [Step::Listed, Step::Taken, Step::Asked]);
+    let pairs = scope(|scope| {
+        let (listed, taken, asked) = (listed, taken, asked);
+        let snapshot = scope.spawn(|| map.snapshot(..).unwrap());
+        listed.wait();
+        // an update that records, and one before it that would record nothing if the recording were over
+        let update = scope.spawn(|| map.insert(10, 77));
+        asked.wait();
+        drop(listed);
+        taken.wait();
+        assert_eq!(map.insert(10, 76), Some(5));
+        drop(asked);
+        assert_eq!(update.join().unwrap(), Some(76));
+        drop(taken);
+        snapshot.join().unwrap()
+    });
+    assert!(pairs.into_iter().eq((0..50).map(|key| (2 * key, key))));
+}
+
+#[test]
+fn an_update_that_has_a_slot_when_a_clear_ends_goes_by_what_that_left() {
+    for step in UPDATING {
         let map = one_part();
-        let pairs = while_held(&map, Step::Watched, || map.snapshot(..900).unwrap(), |_| change(&map));
-        assert!(pairs.into_iter().eq((0..50).map(|key| (2 * key, key))), "change {number}");
-        let left: Vec<_> = map.iter().collect();
-        assert_eq!(map.snapshot(..), Ok(left), "change {number}");
+        let [clearing, updating] = holds(&map, [Step::Held, step]);
+        let had = scope(|scope| {
+            let (clearing, updating) = (clearing, updating);
+            let clear = scope.spawn(|| map.clear());
+            clearing.wait();
+            // no slot is locked for the clear from here on until updates go on
+            let update = scope.spawn(|| map.insert(10, 77));
+            updating.wait();
+            drop(clearing);
+            while map.inner.mode() == Mode::Held {
+                yield_now();
+            }
+            drop(updating);
+            clear.join().unwrap();
+            update.join().unwrap()
+        });
+        assert_eq!(had, None, "{step:?}");
+        assert!(map.iter().eq([(10, 77)]), "{step:?}");
+        assert_eq!(map.len(), 1, "{step:?}");
     }
 }
 

@@ -1,5 +1,6 @@
 //! Updates: how one is made, and what it does in each phase of its part.
 
+use super::hooks::Step;
 use super::inner::{Inner, Mode, Wait};
 use super::parts::{Part, Phase};
 use super::slots::{Passes, Slot};
@@ -69,7 +70,9 @@ impl Inner {
     // The phase and the mode are read under the slot's lock: see `sweep`. The version is read after the mode, so that an update which finds
     // that a `clear` is over goes by the directory that it left.
     fn try_update(&self, slot: &Slot, passes: &mut Passes, update: &Update) -> Result<Tried, Error> {
+        self.reached(Step::Slotted);
         let mode = self.mode();
+        self.reached(Step::Asked);
         self.turn(passes);
         let (directory, seats, unseen) = passes.parts();
         let part = directory.part(update.key);

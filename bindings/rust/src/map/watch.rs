@@ -141,7 +141,9 @@ impl Inner {
         };
         let listed = list();
         self.sweep(|_| {});
+        self.reached(Step::Listed);
         let before = self.watch.take();
+        self.reached(Step::Taken);
         self.set_watched(false);
         drop(taker);
         listed?;
