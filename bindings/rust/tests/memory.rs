@@ -144,6 +144,20 @@ fn a_snapshot_that_finds_no_memory_leaves_the_map_as_it_was() {
     });
 }
 
+// How many allocations a call makes.
+fn allocations<T>(call: impl FnOnce() -> T) -> u64 {
+    LEFT.set(Some(u64::MAX));
+    call();
+    u64::MAX - LEFT.take().expect("none is refused")
+}
+
+#[test]
+fn passes_that_a_snapshot_had_serve_the_next_one() {
+    let map = strained(&model(200));
+    let counts: Vec<u64> = (0..5).map(|_| allocations(|| map.snapshot(..).unwrap())).collect();
+    assert!(counts[1] < counts[0] && counts[1..].iter().all(|count| *count == counts[1]), "{counts:?}");
+}
+
 #[test]
 fn a_map_that_finds_no_memory_to_shrink_keeps_its_pairs() {
     for_each_allocation(&[false, true], |number, is_short| {

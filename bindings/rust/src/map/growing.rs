@@ -3,9 +3,8 @@
 use super::directory::Directory;
 use super::hooks::Step;
 use super::inner::{Inner, Wait};
-use super::parts::{Aim, Part, Parts, Phase, Plan, opened, room_for};
+use super::parts::{Aim, Lent, Part, Parts, Phase, Plan, opened, room_for};
 use super::slots::copy;
-use crate::ffi::PassHandle;
 use crate::shared::Shared;
 use crate::{Error, Pair};
 use std::slice::from_ref;
@@ -26,7 +25,7 @@ pub(super) fn claim(run: &[Shared<Part>]) -> bool {
 // A part that is left, while its pairs are taken over.
 struct Leaving<'p> {
     part: &'p Part,
-    pass: PassHandle,
+    pass: Lent<'p>,
     // How many lists of changed keys were taken over.
     lists: usize,
 }
@@ -34,7 +33,7 @@ struct Leaving<'p> {
 fn leaving(run: &[Shared<Part>]) -> Result<Vec<Leaving<'_>>, Error> {
     let mut all = room_for(run.len())?;
     for part in run {
-        all.push(Leaving { part, pass: part.pass()?, lists: 0 });
+        all.push(Leaving { part, pass: part.lend()?, lists: 0 });
     }
     Ok(all)
 }
@@ -65,7 +64,7 @@ impl Leaving<'_> {
             let mut own = room_for(keys.len())?;
             own.extend_from_slice(keys);
             to.add_changed(&mut own)?;
-            let mut pass = to.pass()?;
+            let mut pass = to.lend()?;
             for key in keys {
                 let value = self.pass.find(*key);
                 if self.part.is_lost() || copy(&mut self.pass, &mut pass, *key, value).is_err() {

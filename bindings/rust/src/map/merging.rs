@@ -15,7 +15,7 @@ fn keys_of(part: &Part, most: usize) -> Option<usize> {
     if part.pairs.len() > 4 * most {
         return None;
     }
-    let mut pass = part.pass().ok()?;
+    let mut pass = part.lend().ok()?;
     let mut room = [Pair::default(); 64];
     let (mut keys, mut next) = (0, Some(part.first));
     while let Some(first) = next.filter(|_| keys <= most) {

@@ -5,6 +5,7 @@ use super::sizes::{SHARE, Sizes};
 use crate::ffi::{self, Owner, PassHandle, TreeNumber};
 use crate::shared::Shared;
 use crate::{Error, Pair};
+use std::ops::{Deref, DerefMut};
 use std::sync::Mutex;
 use std::sync::atomic::Ordering::{Relaxed, SeqCst};
 use std::sync::atomic::{AtomicBool, AtomicU8, AtomicUsize};
@@ -85,8 +86,14 @@ impl Part {
         })
     }
 
+    /// A pass for a slot, for as long as it has a seat.
     pub(super) fn pass(&self) -> Result<PassHandle, Error> {
         locked(&self.owner).pass()
+    }
+
+    /// A pass for one call.
+    pub(super) fn lend(&self) -> Result<Lent<'_>, Error> {
+        Ok(Lent { part: self, pass: Some(self.pass()?) })
     }
 
     /// Takes over these keys, which were changed. Without memory for that they stay.
@@ -159,6 +166,35 @@ impl Part {
     /// Whether several slots have called it.
     pub(super) fn is_shared(&self) -> bool {
         self.users.load(Relaxed) > 1
+    }
+}
+
+/// A pass that is given back, to serve again: a tree makes no more than 2^32 - 1, and has room for all of them.
+pub(super) struct Lent<'p> {
+    part: &'p Part,
+    // None only while it is dropped.
+    pass: Option<PassHandle>,
+}
+
+impl Deref for Lent<'_> {
+    type Target = PassHandle;
+
+    fn deref(&self) -> &PassHandle {
+        self.pass.as_ref().expect("the pass is given back when this is dropped")
+    }
+}
+
+impl DerefMut for Lent<'_> {
+    fn deref_mut(&mut self) -> &mut PassHandle {
+        self.pass.as_mut().expect("the pass is given back when this is dropped")
+    }
+}
+
+impl Drop for Lent<'_> {
+    fn drop(&mut self) {
+        if let Some(pass) = self.pass.take() {
+            locked(&self.part.owner).give_back(pass);
+        }
     }
 }
 

@@ -4,6 +4,7 @@ use super::Map;
 use super::hooks::Step;
 use super::inner::Mode;
 use super::sizes::{STRAINED, Sizes};
+use crate::Error;
 use std::ops::Bound::{Excluded, Included};
 use std::sync::mpsc::{Receiver, Sender, channel};
 use std::sync::{Arc, Mutex};
@@ -290,6 +291,17 @@ fn a_snapshot_takes_its_records_while_updates_record() {
         snapshot.join().unwrap()
     });
     assert!(pairs.into_iter().eq((0..50).map(|key| (2 * key, key))));
+}
+
+#[test]
+fn a_snapshot_that_lacks_a_record_fails_and_the_next_one_does_not() {
+    let map = one_part();
+    let change = |_: &Sender<()>| {
+        map.inner.watch.lose();
+        assert_eq!(map.insert(10, 77), Some(5));
+    };
+    assert_eq!(while_held(&map, Step::Watched, || map.snapshot(..), change), Err(Error::Memory));
+    assert_eq!(map.snapshot(10..11), Ok(vec![(10, 77)]));
 }
 
 #[test]

@@ -61,19 +61,28 @@ impl Watch {
     /// Makes an update, and records what its key had before.
     pub(super) fn update(&self, pass: &mut PassHandle, update: &Update) -> Result<Option<u64>, Full> {
         let key = update.key;
-        if key < self.first.load(SeqCst) || key > self.last.load(SeqCst) || self.is_lost.load(SeqCst) {
+        if key < self.first.load(SeqCst) || key > self.last.load(SeqCst) {
             return update.call(pass);
         }
         let mut before = locked(&self.stripes[key as usize % STRIPES].before);
+        // read under the lock: an update of this key that comes after one without a record makes none either
+        if self.is_lost.load(SeqCst) {
+            return update.call(pass);
+        }
         let has_room = before.try_reserve(1).is_ok();
         let had = update.call(pass)?;
         if update.changes(had) {
             match has_room {
                 true => _ = before.entry(key).or_insert(had),
-                false => self.is_lost.store(true, SeqCst),
+                false => self.lose(),
             }
         }
         Ok(had)
+    }
+
+    // There was no memory for a record: the snapshot fails.
+    pub(super) fn lose(&self) {
+        self.is_lost.store(true, SeqCst);
     }
 
     // Begins anew, while no update is under way.
@@ -135,7 +144,7 @@ impl Inner {
             let about = directory.parts(first, last).map(|part| part.pairs.len() + part.pairs.len() / 8).sum();
             pairs.try_reserve(about).map_err(|_| Error::Memory)?;
             directory.parts(first, last).try_for_each(|part| {
-                let mut pass = part.pass()?;
+                let mut pass = part.lend()?;
                 append_listed(&mut pairs, (first, last), |first, last, room| pass.list(first, last, room))
             })
         };
@@ -153,8 +162,33 @@ impl Inner {
 
 #[cfg(test)]
 mod tests {
-    use super::put_back;
+    use super::{STRIPES, Watch, put_back};
     use crate::Pair;
+    use crate::ffi::Owner;
+    use crate::map::locked;
+    use crate::map::update::Update;
+    use std::thread::{scope, sleep};
+    use std::time::Duration;
+
+    #[test]
+    fn no_update_records_what_one_without_a_record_left() {
+        let watch = Watch::new().unwrap();
+        watch.begin(0, 100);
+        let mut owner = Owner::open(1000, &[]).unwrap();
+        let (mut one, mut other) = (owner.pass().unwrap(), owner.pass().unwrap());
+        let update = Update { key: 7, expected: None, new: Some(70) };
+        scope(|scope| {
+            let stripe = locked(&watch.stripes[7 % STRIPES].before);
+            let updating = scope.spawn(|| watch.update(&mut one, &update).unwrap());
+            // long enough for the update to wait for the stripe
+            sleep(Duration::from_millis(50));
+            watch.lose();
+            assert_eq!(other.update(7, Some(71)), Ok(None));
+            drop(stripe);
+            assert_eq!(updating.join().unwrap(), Some(71));
+        });
+        assert!(locked(&watch.stripes[7 % STRIPES].before).is_empty());
+    }
 
     #[test]
     fn first_values_are_put_back() {

@@ -37,7 +37,7 @@ impl Inner {
     pub(super) fn pairs(&self) -> Result<Vec<Pair>, Error> {
         let mut pairs = room_for(self.keys() as usize)?;
         for part in self.directory().parts(0, u64::MAX) {
-            let mut pass = part.pass()?;
+            let mut pass = part.lend()?;
             append_listed(&mut pairs, (part.first, part.last), |first, last, room| pass.list(first, last, room))?;
         }
         Ok(pairs)
