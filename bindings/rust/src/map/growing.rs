@@ -129,8 +129,8 @@ impl Inner {
         let mut pairs = Vec::new();
         left.iter_mut().try_for_each(|one| one.append_pairs(&mut pairs))?;
         let Plan { count, words } = Plan::after(&run[0], aim, pairs.len(), self.directory().count, &self.sizes);
-        let last = run[run.len() - 1].last;
-        let next = Parts::of(opened(run[0].first, last, pairs, count, words << attempt)?)?;
+        let keys = (run[0].first, run[run.len() - 1].last);
+        let next = Parts::of(opened(&self.numbers, keys, pairs, count, words << attempt)?)?;
         self.reached(Step::Opened);
         let is_made = is_last || self.catch_up(run, &mut left, &next)?;
         Ok(if is_made && self.switch(run, &next)? { Some(next) } else { None })

@@ -2,6 +2,7 @@
 
 use super::directory::Directory;
 use super::locked;
+use super::numbers::Numbers;
 use super::parts::{Part, room_for};
 use super::sizes::Sizes;
 use super::slots::{Passes, Slot};
@@ -48,6 +49,7 @@ pub(super) struct Inner {
     // Held by the one call that makes all updates wait.
     holder: Mutex<()>,
     pub(super) watch: Watch,
+    pub(super) numbers: Shared<Numbers>,
     /// From this key on two parts are looked at next, whether they can be merged.
     pub(super) hand: AtomicU64,
     pub(super) first_words: u32,
@@ -89,7 +91,7 @@ impl Wait {
 
 impl Inner {
     /// The map of these parts, which have all keys.
-    pub(super) fn of(first_words: u32, parts: &[Shared<Part>], sizes: Sizes) -> Result<Shared<Inner>, Error> {
+    pub(super) fn of(numbers: Shared<Numbers>, first_words: u32, parts: &[Shared<Part>], sizes: Sizes) -> Result<Shared<Inner>, Error> {
         let directory = Directory::of(0, parts)?;
         let mut slots: Vec<Slot> = room_for(SLOTS)?;
         slots.resize_with(SLOTS, Slot::default);
@@ -101,6 +103,7 @@ impl Inner {
             directory: Mutex::new(directory),
             holder: Mutex::new(()),
             watch: Watch::new()?,
+            numbers,
             hand: AtomicU64::new(0),
             first_words,
             sizes,

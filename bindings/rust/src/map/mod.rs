@@ -18,8 +18,8 @@
 //! In each phase all slots are locked once, one after another: a *sweep*. A growth that runs out of words or memory on its way is given
 //! up, and the part is `Calm` again. Merging is growing of several neighbours (`merging.rs`). `watch.rs` has the way of a snapshot.
 //!
-//! Locks are taken in one order: a snapshot's, the holder's, a slot's, a stripe's, and then the directory's or one of a part. Who waits for a
-//! slot has no other slot.
+//! Locks are taken in one order: a snapshot's, the holder's, a slot's, a stripe's, and then the directory's, one of a part or that of the
+//! numbers. Who waits for a slot has no other slot.
 //!
 //! # Why the calls are linearizable
 //!
@@ -65,6 +65,7 @@ mod hooks;
 mod inner;
 mod keys;
 mod merging;
+mod numbers;
 mod ordered;
 mod parts;
 mod reads;
@@ -84,6 +85,7 @@ use crate::shared::Shared;
 use crate::tree::ends;
 use crate::{Error, Kept, Pair};
 use inner::Inner;
+use numbers::Numbers;
 use parts::Part;
 use sizes::{FIRST_WORDS, STRAINED, Sizes, USUAL};
 use std::ops::RangeBounds;
@@ -185,8 +187,9 @@ impl Map {
     }
 
     fn of(words: u32, sizes: Sizes) -> Result<Map, Error> {
-        let part = Part::open(0, u64::MAX, words, Vec::new())?;
-        Ok(Map { inner: Inner::of(words, from_ref(&part), sizes)? })
+        let numbers = Numbers::new()?;
+        let part = Part::open(&numbers, 0, u64::MAX, words, Vec::new())?;
+        Ok(Map { inner: Inner::of(numbers, words, from_ref(&part), sizes)? })
     }
 
     /// Returns the pairs with keys in the range as they all were at one moment of the call, in increasing order of keys. Reads go on

@@ -1,6 +1,7 @@
 //! Parts of the map: each has the keys from its first to its last one in a tree of its own.
 
 use super::locked;
+use super::numbers::{Number, Numbers};
 use super::sizes::{SHARE, Sizes};
 use crate::ffi::{self, Owner, PassHandle, TreeNumber};
 use crate::shared::Shared;
@@ -37,6 +38,7 @@ pub(super) struct Part {
     pub(super) first: u64,
     pub(super) last: u64,
     pub(super) tree: TreeNumber,
+    number: Number,
     pub(super) words: u32,
     /// What it was opened with.
     pub(super) pairs: Vec<Pair>,
@@ -63,13 +65,14 @@ pub(super) struct Part {
 }
 
 impl Part {
-    pub(super) fn open(first: u64, last: u64, words: u32, pairs: Vec<Pair>) -> Result<Shared<Part>, Error> {
+    pub(super) fn open(numbers: &Shared<Numbers>, first: u64, last: u64, words: u32, pairs: Vec<Pair>) -> Result<Shared<Part>, Error> {
         let owner = Owner::open(words, &pairs)?;
         let free = u64::from(words) - ffi::words_for(pairs.len() as u64);
         Shared::new(Part {
             first,
             last,
             tree: owner.tree(),
+            number: Number::of(numbers)?,
             words,
             begin: u64::from(words) - free / 4,
             look: (free / (60 * 64)).clamp(1, 16),
@@ -86,6 +89,11 @@ impl Part {
         })
     }
 
+    /// The number at which slots keep their seats at its tree.
+    pub(super) fn number(&self) -> usize {
+        self.number.at()
+    }
+
     /// A pass for a slot, for as long as it has a seat.
     pub(super) fn pass(&self) -> Result<PassHandle, Error> {
         locked(&self.owner).pass()
@@ -98,6 +106,9 @@ impl Part {
 
     /// Takes over these keys, which were changed. Without memory for that they stay.
     pub(super) fn add_changed(&self, keys: &mut Vec<u64>) -> Result<(), Error> {
+        if keys.is_empty() {
+            return Ok(());
+        }
         let mut changed = locked(&self.changed);
         changed.try_reserve(1).map_err(|_| Error::Memory)?;
         changed.push(std::mem::take(keys));
@@ -229,11 +240,17 @@ impl Parts {
 }
 
 /// Opens this many parts of these pairs side by side, with the keys from the first to the last one, each with at least `least` words.
-pub(super) fn opened(first: u64, last: u64, pairs: Vec<Pair>, count: usize, least: u32) -> Result<Vec<Shared<Part>>, Error> {
+pub(super) fn opened(
+    numbers: &Shared<Numbers>,
+    (first, last): (u64, u64),
+    pairs: Vec<Pair>,
+    count: usize,
+    least: u32,
+) -> Result<Vec<Shared<Part>>, Error> {
     let mut parts = room_for(count)?;
     let open = |first, last, pairs: Vec<Pair>| {
         let words = (SHARE * ffi::words_for(pairs.len() as u64)).max(u64::from(least)).min(u64::from(ffi::MOST_WORDS));
-        Part::open(first, last, words as u32, pairs)
+        Part::open(numbers, first, last, words as u32, pairs)
     };
     if count == 1 {
         parts.push(open(first, last, pairs)?);

@@ -6,8 +6,6 @@ use super::update::Update;
 use crate::ffi::{PassHandle, TreeNumber};
 use crate::shared::Shared;
 use crate::{Error, Full};
-use std::collections::HashMap;
-use std::hash::{BuildHasherDefault, Hasher};
 use std::sync::atomic::Ordering::{Relaxed, SeqCst};
 use std::sync::atomic::{AtomicBool, AtomicI64, AtomicUsize};
 use std::sync::{Mutex, MutexGuard, PoisonError, TryLockError};
@@ -98,26 +96,10 @@ pub(super) struct Passes {
     pub(super) unseen: u64,
 }
 
-// Tree numbers are counted up: one multiplication spreads them.
-#[derive(Default)]
-struct NumberHasher(u64);
-
-impl Hasher for NumberHasher {
-    fn write(&mut self, _bytes: &[u8]) {
-        unreachable!("keys are tree numbers");
-    }
-
-    fn write_u64(&mut self, number: u64) {
-        self.0 = number.wrapping_mul(0x9e37_79b9_7f4a_7c15);
-    }
-
-    fn finish(&self) -> u64 {
-        self.0
-    }
-}
-
-/// What a slot has of one tree.
+/// What a slot has of one tree, on a line of memory.
+#[repr(align(64))]
 pub(super) struct Seat {
+    tree: TreeNumber,
     pub(super) pass: PassHandle,
     // The keys that the calls of this slot changed.
     changed: Vec<u64>,
@@ -143,35 +125,45 @@ impl Passes {
     }
 }
 
-/// A seat at each tree that the slot has called.
+/// A seat at each tree that the slot has called, at the number of the tree's part.
 #[derive(Default)]
 pub(super) struct Seats {
-    seats: HashMap<TreeNumber, Seat, BuildHasherDefault<NumberHasher>>,
+    seats: Vec<Option<Seat>>,
 }
 
 impl Seats {
+    // Whether the slot has a seat at the part's tree. What another part with its number left isn't one.
+    #[inline]
+    fn has(&self, part: &Part) -> bool {
+        matches!(self.seats.get(part.number()), Some(Some(seat)) if seat.tree == part.tree)
+    }
+
     /// The seat at this part's tree.
     #[inline]
     pub(super) fn seat(&mut self, part: &Part) -> Result<&mut Seat, Error> {
-        if !self.seats.contains_key(&part.tree) {
+        if !self.has(part) {
             self.sit(part)?;
         }
-        Ok(self.seats.get_mut(&part.tree).expect("the slot has a seat"))
+        Ok(self.seats[part.number()].as_mut().expect("the slot has a seat"))
     }
 
     #[cold]
     fn sit(&mut self, part: &Part) -> Result<(), Error> {
-        self.seats.try_reserve(1).map_err(|_| Error::Memory)?;
-        self.seats.insert(part.tree, Seat { pass: part.pass()?, changed: Vec::new() });
+        let (number, seats) = (part.number(), self.seats.len());
+        if number >= seats {
+            self.seats.try_reserve(number + 1 - seats).map_err(|_| Error::Memory)?;
+            self.seats.resize_with(number + 1, || None);
+        }
+        self.seats[number] = Some(Seat { tree: part.tree, pass: part.pass()?, changed: Vec::new() });
         part.users.fetch_add(1, Relaxed);
         Ok(())
     }
 
     /// Takes out which keys the calls of this slot changed, and appends them to those of the part. Without memory for that they stay.
     pub(super) fn take_changed(&mut self, part: &Part) -> Result<(), Error> {
-        match self.seats.get_mut(&part.tree) {
-            Some(seat) if !seat.changed.is_empty() => part.add_changed(&mut seat.changed),
-            _ => Ok(()),
+        match self.has(part) {
+            true => part.add_changed(&mut self.seat(part)?.changed),
+            false => Ok(()),
         }
     }
 
@@ -188,16 +180,18 @@ impl Seats {
         let to = &next.all()[next.at(update.key)];
         self.seat(to).ok()?.reserve().ok()?;
         // taken out, since the other pass is used beside it
-        let mut seat = self.seats.remove(&to.tree)?;
+        let mut seat = self.seats[to.number()].take()?;
         seat.record(update.key);
         let copied = self.seat(part).map(|now| copy(&mut now.pass, &mut seat.pass, update.key, update.new));
-        self.seats.insert(to.tree, seat);
+        self.seats[to.number()] = Some(seat);
         copied.ok()?.ok()
     }
 
     /// Gives the pass up of a part that isn't the map's any more, or won't be.
     pub(super) fn leave(&mut self, part: &Part) {
-        self.seats.remove(&part.tree);
+        if self.has(part) {
+            self.seats[part.number()] = None;
+        }
     }
 }
 

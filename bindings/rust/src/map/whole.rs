@@ -2,6 +2,7 @@
 
 use super::directory::Directory;
 use super::inner::Inner;
+use super::numbers::Numbers;
 use super::parts::{Part, opened, room_for};
 use super::sizes::{FIRST_WORDS, USUAL};
 use crate::shared::Shared;
@@ -14,12 +15,14 @@ impl Inner {
     pub(super) fn with_pairs(pairs: Vec<Pair>) -> Result<Shared<Inner>, Error> {
         let count = pairs.len().div_ceil(USUAL.most_keys / 2).max(1);
         let least = if count == 1 { FIRST_WORDS } else { USUAL.least_words };
-        Inner::of(FIRST_WORDS, &opened(0, u64::MAX, pairs, count, least)?, USUAL)
+        let numbers = Numbers::new()?;
+        let parts = opened(&numbers, (0, u64::MAX), pairs, count, least)?;
+        Inner::of(numbers, FIRST_WORDS, &parts, USUAL)
     }
 
     /// Removes all pairs at one moment, while no update is under way. A growth under way finds at its end that its parts are gone.
     pub(super) fn clear(&self) -> Result<(), Error> {
-        let part = Part::open(0, u64::MAX, self.first_words, Vec::new())?;
+        let part = Part::open(&self.numbers, 0, u64::MAX, self.first_words, Vec::new())?;
         let old = self.hold(|| {
             let next = |directory: &Directory| Directory::of(directory.version + 1, from_ref(&part)).map(Some);
             let old = self.replace(next)?;
