@@ -130,6 +130,28 @@ fn an_insert_that_finds_no_memory_did_not_happen() {
 }
 
 #[test]
+fn reads_go_on_after_growths_of_another_thread_failed() {
+    for_each_allocation(&[true], |number, is_short| {
+        let mut model = model(20);
+        let map = strained(&model);
+        // the passes of this thread are made, and then those of the other one
+        assert_has(&map, &model, number);
+        let update = || {
+            model.iter_mut().for_each(|(key, value)| assert_eq!(map.insert(*key, 1), Some(std::mem::replace(value, 1))));
+            let update_all = || (2..40).take_while(|value| map.try_insert(7, *value).is_ok()).last().unwrap_or(1);
+            let (last, is_refused) = refusing(number, is_short, update_all);
+            model.insert(7, last);
+            is_refused
+        };
+        let is_refused = scope(|scope| scope.spawn(update).join().unwrap());
+        model.iter().for_each(|(key, value)| assert_eq!(map.get(*key), Some(*value), "allocation {number}"));
+        assert_eq!((map.first(), map.last()), (Some((0, 1)), Some((19, 1))), "allocation {number}");
+        assert_has(&map, &model, number);
+        is_refused
+    });
+}
+
+#[test]
 fn a_snapshot_that_finds_no_memory_leaves_the_map_as_it_was() {
     let model = model(200);
     let map = strained(&model);

@@ -17,6 +17,8 @@ pub(super) enum Step {
     Held,
     /// Updates record for a snapshot.
     Watched,
+    /// A part was listed for a snapshot.
+    Listing,
     /// All pairs were listed for a snapshot, and all slots were locked once since.
     Listed,
     /// The records of a snapshot were taken, and updates still record.

@@ -50,14 +50,31 @@
 //!    What it finds later is what the old tree ends with: the map's from the stop until `S`. The later one of the stop and the moment
 //!    at which it took the version is a moment of the call, between these. So a read never waits and never goes back.
 //! 7. *Ordered reads* go from part to part by one directory, and find each key by 6, at a moment of its own.
-//! 8. *`clear`* stops all updates (`hold`), and replaces the directory: `S` is its moment. An update takes the version after the mode: if it
-//!    finds that updates go on, a `clear` either has ended, and so it has the next directory, or waits for its slot. A growth under way can't
-//!    replace a directory that doesn't have its parts, and is given up.
-//! 9. *A snapshot* has its moment while all updates are stopped. A key that isn't recorded for it isn't changed until the listing is
-//!    over: by 6 it is found as it was, in the directory of that moment. The first record of another key is what the key had at that moment,
-//!    since each update finds what the one before left, updates of one key are made one after another, and until the records are taken none
-//!    is made that records nothing. An update that changed the key before it was listed had locked its slot before the last sweep, which
-//!    waits until it has recorded. After a `clear` the parts of the snapshot don't change, so nothing is to be recorded.
+//! 8. *`clear`* stops all updates (`hold`): it stores that they are held, sweeps, replaces the directory, and takes the hold back. `S` is
+//!    its moment. An update locks its slot, reads the mode, and then takes the version.
+//!    - If it locks the slot before the sweep does, the sweep waits for its end. So it comes before `S`.
+//!    - If it locks it later and finds that updates are held, it changes nothing, and begins again.
+//!    - If it locks it later and finds that they aren't, the hold was taken back before, which is after `S`. The version that it takes then is
+//!      the next one or a later one. (A version that it took before it read the mode could be from before `S`.)
+//!
+//!    So no update changes a part of the old directory from the end of the sweep on. Reads go by 6, with that end as the stop. A growth
+//!    under way copies to parts that nobody gets: it finds that the directory doesn't have its parts, and is given up.
+//! 9. *A snapshot* has its moment `M` while all updates are stopped, as in 8. It lists the parts of the directory of `M`, and puts back what
+//!    updates recorded. From `M` on updates find that they must record, until a `clear` comes or the records were taken:
+//!    - Until then all updates of a key in the range are made under the lock of the key's stripe, one after another. Each finds what the one
+//!      before left. The first one that changes the key finds what it had at `M`, and records that; what later ones find isn't recorded.
+//!    - After a `clear` no update changes the parts that are listed, by 8. The `clear` waits for those that record: none of them finds what
+//!      one without a record left.
+//!    - The records are taken before the mode is. Beside an update that goes by the next mode and records nothing, another may still record
+//!      what that one left: nobody takes this record. The next snapshot drops it while no update is under way.
+//!    - If there is no memory for a record, the next updates of the key record nothing either: they look under the lock of the stripe. An
+//!      update that changed a key before it was listed has ended before the records are taken, as follows; so the snapshot finds
+//!      that a record is lost, and fails.
+//!
+//!    So a record that is taken is what its key had at `M`. It remains that a key without one was listed as it was at `M`. An update that
+//!    changed it before it was listed had locked its slot before the last sweep came to that. The sweep waits for its end, so its record
+//!    was taken. There is none, so nothing changed the key from `M` until it was listed: by 6 it was found as it was at `M`, whether or not
+//!    its part was replaced meanwhile.
 
 mod directory;
 mod growing;
@@ -78,6 +95,8 @@ mod whole;
 
 #[cfg(test)]
 mod phase_tests;
+#[cfg(test)]
+mod size_tests;
 
 pub use ordered::Range;
 

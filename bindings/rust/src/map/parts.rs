@@ -10,7 +10,7 @@ use std::ops::{Deref, DerefMut};
 use std::sync::Mutex;
 use std::sync::atomic::Ordering::{Relaxed, SeqCst};
 use std::sync::atomic::{AtomicBool, AtomicU8, AtomicUsize};
-use std::time::Instant;
+use std::time::{Duration, Instant};
 
 /// What updates of a part do besides changing its tree.
 #[derive(Clone, Copy, Debug, PartialEq, Eq)]
@@ -174,9 +174,9 @@ impl Part {
         drop(old);
     }
 
-    /// Whether several slots have called it.
-    pub(super) fn is_shared(&self) -> bool {
-        self.users.load(Relaxed) > 1
+    /// How it has served.
+    pub(super) fn served(&self) -> Served {
+        Served { words: self.words, time: self.opened.elapsed(), is_shared: self.users.load(Relaxed) > 1 }
     }
 }
 
@@ -268,31 +268,39 @@ pub(super) fn opened(
     Ok(parts)
 }
 
+/// How a part has served that is followed by others.
+pub(super) struct Served {
+    pub(super) words: u32,
+    pub(super) time: Duration,
+    /// Several slots have called it.
+    pub(super) is_shared: bool,
+}
+
 /// What follows some parts: how many parts, and the words that each has at least.
+#[derive(Debug, PartialEq, Eq)]
 pub(super) struct Plan {
     pub(super) count: usize,
     pub(super) words: u32,
 }
 
 impl Plan {
-    /// What follows this part, which has this many keys, in a map of this many parts.
-    pub(super) fn after(part: &Part, aim: Aim, keys: usize, parts: usize, sizes: &Sizes) -> Plan {
+    /// What follows a part that has served so and has this many keys, in a map of this many parts.
+    pub(super) fn after(old: &Served, aim: Aim, keys: usize, parts: usize, sizes: &Sizes) -> Plan {
         let plan = |count, words: u32| Plan { count, words: words.max(sizes.least_words) };
         if keys > sizes.most_keys {
             return plan(keys.div_ceil(sizes.most_keys / 2), 0);
         }
-        let age = part.opened.elapsed();
         match aim {
             Aim::Fit => plan(1, 0),
-            Aim::Room if age > sizes.long_life => plan(1, (part.words / 2).min(sizes.hot_words)),
-            Aim::Room if age >= sizes.short_life => plan(1, part.words.min(sizes.hot_words)),
+            Aim::Room if old.time > sizes.long_life => plan(1, (old.words / 2).min(sizes.hot_words)),
+            Aim::Room if old.time >= sizes.short_life => plan(1, old.words.min(sizes.hot_words)),
             // it is changed much: several threads are served by two parts better than by one, and one thread isn't
-            Aim::Room if part.is_shared() && keys >= sizes.hot_keys => match parts < sizes.hot_parts {
-                true => plan(2, part.words.min(sizes.hot_words)),
-                false => plan(1, part.words.saturating_mul(2).min(sizes.hot_words)),
+            Aim::Room if old.is_shared && keys >= sizes.hot_keys => match parts < sizes.hot_parts {
+                true => plan(2, old.words.min(sizes.hot_words)),
+                false => plan(1, old.words.saturating_mul(2).min(sizes.hot_words)),
             },
             // no split helps
-            Aim::Room => plan(1, part.words.saturating_mul(2).min(sizes.lone_words)),
+            Aim::Room => plan(1, old.words.saturating_mul(2).min(sizes.lone_words)),
         }
     }
 }

@@ -272,6 +272,21 @@ fn a_snapshot_has_what_was_there_when_it_began() {
 }
 
 #[test]
+fn a_snapshot_has_no_slot_while_it_lists() {
+    let map: Map = (0..10_000).map(|key| (key, key)).collect();
+    let change = |_: &Sender<()>| {
+        map.inner.sweep(|_| {});
+        // the first part, which was listed, and the last one grow
+        let parts = [0, 9_999].map(|key| map.inner.directory().part(key).tree);
+        (0..5_000).for_each(|number| _ = map.insert(number % 100, number));
+        (0..5_000).for_each(|number| _ = map.insert(9_999 - number % 100, number));
+        assert!([0, 9_999].map(|key| map.inner.directory().part(key).tree) != parts);
+    };
+    let pairs = while_held(&map, Step::Listing, || map.snapshot(..).unwrap(), change);
+    assert!(pairs.into_iter().eq((0..10_000).map(|key| (key, key))));
+}
+
+#[test]
 fn a_snapshot_takes_its_records_while_updates_record() {
     let map = one_part();
     let [listed, taken, asked] = holds(&map, [Step::Listed, Step::Taken, Step::Asked]);

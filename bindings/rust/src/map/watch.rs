@@ -10,6 +10,7 @@
 //!    left for what the key had first.)
 //! 6. Each recorded key gets what it had before the first update of it.
 
+use super::directory::Directory;
 use super::hooks::Step;
 use super::inner::Inner;
 use super::locked;
@@ -138,25 +139,26 @@ impl Inner {
             self.directory()
         });
         self.reached(Step::Watched);
-        let mut pairs = Vec::new();
-        let mut list = || {
-            // at once, since other threads may wait for the system while a long list is moved
-            let about = directory.parts(first, last).map(|part| part.pairs.len() + part.pairs.len() / 8).sum();
-            pairs.try_reserve(about).map_err(|_| Error::Memory)?;
-            directory.parts(first, last).try_for_each(|part| {
-                let mut pass = part.lend()?;
-                append_listed(&mut pairs, (first, last), |first, last, room| pass.list(first, last, room))
-            })
-        };
-        let listed = list();
+        let listed = self.list(&directory, first, last);
         self.sweep(|_| {});
         self.reached(Step::Listed);
         let before = self.watch.take();
         self.reached(Step::Taken);
         self.set_watched(false);
         drop(taker);
-        listed?;
-        put_back(pairs, &before?)
+        put_back(listed?, &before?)
+    }
+
+    // The pairs of the directory's parts from the first to the last key, each as it is at a moment of its own.
+    fn list(&self, directory: &Directory, first: u64, last: u64) -> Result<Vec<Pair>, Error> {
+        // at once, since other threads may wait for the system while a long list is moved
+        let mut pairs = room_for(directory.parts(first, last).map(|part| part.pairs.len() + part.pairs.len() / 8).sum())?;
+        for part in directory.parts(first, last) {
+            let mut pass = part.lend()?;
+            append_listed(&mut pairs, (first, last), |first, last, room| pass.list(first, last, room))?;
+            self.reached(Step::Listing);
+        }
+        Ok(pairs)
     }
 }
 
