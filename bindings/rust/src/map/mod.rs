@@ -134,16 +134,18 @@ fn unreadable<T>(error: Error) -> T {
 /// | call | waits | how long |
 /// |---|---|---|
 /// | each call | for another call that has its slot, if 64 calls or more are under way | one call |
-/// | | if it is its slot's first one of a part, for such calls of other slots | until a pass is made |
+/// | | if it is its slot's first one of a part, for others that take a pass of the part or give one back | until a pass is made |
 /// | | if the directory was replaced, for a call that replaces it or learns of that | until a pointer is exchanged |
 /// | reads ([`get`](Map::get), [`range`](Map::range), [`first`](Map::first), ..) | for nothing else: not for growing, `clear` or a snapshot | |
 /// | updates ([`insert`](Map::insert), [`remove`](Map::remove), ..) | for the end of a growth of their part | while the slots are locked once and a directory is made |
 /// | | for a growth of their part, if its words run out first, or if it was tried four times and lost | the rest of the growth |
-/// | | for the beginning of a snapshot or a `clear` | while the slots are locked once |
+/// | | for the beginning of a snapshot or a `clear` | while the slots are locked once, and for a `clear` a directory is made |
 /// | | while a snapshot is taken, for an update of a key with the same last 6 bits | one update |
-/// | an update that finds few words left | does the growth, and then mostly a merge | finds the keys that were changed and opens a part of up to two thousand keys |
-/// | [`snapshot`](Map::snapshot) | for other snapshots, and twice for each call that has a slot | their time, and one call each |
-/// | [`clear`](Map::clear), [`shrink_to_fit`](Map::shrink_to_fit) | for each call that has a slot | one call each |
+/// | an update that finds few words left | does the growth, and perhaps one or two merges | finds the keys that were changed and opens a part of up to two thousand keys; a map that was made [with many words](Map::with_words) begins as one part, with all its keys |
+/// | | in each of the growth's four steps for each call that has a slot | one call each |
+/// | [`snapshot`](Map::snapshot) | for other snapshots, for a `clear`, and twice for each call that has a slot | their time, and one call each |
+/// | [`clear`](Map::clear) | for another `clear` or the beginning of a snapshot, and twice for each call that has a slot | their time, and one call each |
+/// | [`shrink_to_fit`](Map::shrink_to_fit) | as a growth, for each part that it moves or merges; for no other growth | one call each |
 /// | [`len`](Map::len) | for nothing | |
 ///
 /// Who waits for a call also waits while the system doesn't run its thread.
@@ -228,7 +230,8 @@ impl Map {
     }
 
     /// Returns how many keys have a value. While others update the map, the number counts each update that ended before the call,
-    /// none that begins after it, and of the others some. It takes 64 loads.
+    /// none that begins after it, and of the others some. Beside a [`clear`](Map::clear) it counts some of the updates before that. It takes
+    /// 64 loads.
     ///
     /// ```
     /// assert_eq!(luskadorv::Map::from([(7, 70), (5, 50)]).len(), 2);
