@@ -4,7 +4,8 @@
 # bindings/rust. What can't be run because a command isn't there is named as skipped, and isn't counted. The last line is
 # 'N passed, M failed'.
 #
-# After `rt ci`, which leaves the library, the proved one is tested; else an unproved build, which the first line says.
+# `rt ci` proves the library and leaves no archive of it. Where `rt lib` in crates/ist_c or tools/library.sh made the proved one of these
+# very sources, that is tested; else an unproved build, which a line says.
 . "$(dirname -- "$0")/head.sh"
 
 # Runs a command, which must succeed.

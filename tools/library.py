@@ -6,7 +6,7 @@ and free that the kit brings, and bindings/c/version.c. All names in it are loca
 
 FOLDER is out/ at the top if none is named. Standard output gets the path of the archive.
 
-A proved library is taken if there is one of these very sources: the one that `rt ci` or `rt lib` left, or one that was proved here.
+A proved library is taken if there is one of these very sources: the one that `rt lib` left, or one that was proved here.
 If there is none, an unproved build is made in a minute. Then libluskadorv.a is a link to libluskadorv-unproved.a, which has the
 symbol `ist_unproved`, and each program with it says so on standard error. The proof goes on in the background; at its end the
 proved archive replaces the link in one step.
