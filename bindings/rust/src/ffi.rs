@@ -174,24 +174,9 @@ pub(crate) struct Owner {
     spare: Vec<Handle>,
 }
 
-// The pairs in increasing order of keys, of two with one key the later. The library sorts too, but in quadratic time.
-fn sorted(pairs: &[Pair]) -> Result<Vec<Pair>, Error> {
-    let mut sorted: Vec<Pair> = Vec::new();
-    sorted.try_reserve_exact(pairs.len()).map_err(|_| Error::Memory)?;
-    // numbers for values, so that a sort without memory keeps the order of pairs with one key
-    sorted.extend(pairs.iter().enumerate().map(|(number, pair)| Pair { key: pair.key, value: number as u64 }));
-    sorted.sort_unstable_by_key(|pair| (pair.key, u64::MAX - pair.value));
-    sorted.dedup_by_key(|pair| pair.key);
-    sorted.iter_mut().for_each(|pair| pair.value = pairs[pair.value as usize].value);
-    Ok(sorted)
-}
-
 impl Owner {
     /// Opens a tree of these pairs, of two with one key the later, with this many words.
     pub(crate) fn open(words: u32, pairs: &[Pair]) -> Result<Owner, Error> {
-        if !pairs.is_sorted_by(|one, other| one.key < other.key) {
-            return Owner::open(words, &sorted(pairs)?);
-        }
         let mut handle = Handle::new();
         // SAFETY: pointer and length are those of one slice, and `handle` is the call's alone.
         checked(unsafe { ist_open(words, pairs.as_ptr(), pairs.len(), &mut handle) })?;

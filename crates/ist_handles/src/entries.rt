@@ -1,5 +1,5 @@
 //! The pairs that a caller in C passes in, and that it gets.
-ghost use Rattle.std.specs.Prelude.{◌≡◌, IfOk};
+ghost use Rattle.std.specs.Prelude.{◌≡◌, IfOk, OnOk};
 ghost use Rattle.plain_map.specs.Rising.{IsRising};
 ghost use Rattle.ist_handles.specs.Entries.{Wrote, pairs_given, written};
 
@@ -16,9 +16,8 @@ pub struct Entry {
     pub value: u64,
 }
 
-/// Returns the pairs of the entries, in increasing order of keys: of entries with one key the last.
-/// Fails only if memory runs out.
-pub fn pairs_of_entries(alloc: Global, entries: &[Entry]) -> Result<Vec<Pair>, AllocError>
+// Puts the entries into a map, one after another, and returns its pairs.
+fn put_all(alloc: Global, entries: &[Entry]) -> Result<Vec<Pair>, AllocError>
     ensures rising { IfOk result (λ pairs. IsRising pairs.items) }
     ensures given { IfOk result (λ pairs. pairs.items ≡ pairs_given entries.now) }
 {
@@ -30,6 +29,28 @@ pub fn pairs_of_entries(alloc: Global, entries: &[Entry]) -> Result<Vec<Pair>, A
         })?;
     }
     Ok(map.into_pairs())
+}
+
+// Sorts the entries by their keys; those with one key keep their order, so that the last one is put last.
+fn sort_entries(alloc: Global, entries: &mut [Entry]) -> Result<(), AllocError>
+    ensures same { OnOk result (pairs_given entries.new ≡ pairs_given entries.old) }
+{
+    entries.sort_by_key(alloc, |entry| entry.key)
+}
+
+/// Returns the pairs of the entries, in increasing order of keys: of entries with one key the last. Entries
+/// in order of their keys take a time that grows as their number, and others as that of a sort: a put of the
+/// greatest key so far moves no pair. Fails only if memory runs out.
+pub fn pairs_of_entries(alloc: Global, entries: &[Entry]) -> Result<Vec<Pair>, AllocError>
+    ensures rising { IfOk result (λ pairs. IsRising pairs.items) }
+    ensures given { IfOk result (λ pairs. pairs.items ≡ pairs_given entries.now) }
+{
+    if entries.is_sorted_by_key(|entry| entry.key) {
+        return put_all(alloc, entries);
+    }
+    let mut sorted = Vec::from_slice(alloc, entries)?;
+    sort_entries(alloc, &mut sorted)?;
+    put_all(alloc, &sorted)
 }
 
 /// Writes the pair to the entry, if there is one, and returns a status.

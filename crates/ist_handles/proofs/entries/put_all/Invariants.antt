@@ -1,7 +1,7 @@
 use Rattle.std.proofs.Common.{◌≡◌, drop}
 use Rattle.ist_core.specs.Map.{map_of, no_pairs, replay}
 use Rattle.ist_handles.specs.Entries.{puts_of}
-use Rattle.ist_handles.proofs.entries.pairs_of_entries.Given as goal
+use Rattle.ist_handles.proofs.entries.put_all.Given as goal
 
 -- the entries so far were put, and the others are left
 abbrev pub invariant-loop-entry : goal.invariant-loop-entry
