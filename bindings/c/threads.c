@@ -294,6 +294,15 @@ static void misuse(void) {
     check(ist_find((ist_pass *)&owner, 5).status == IST_MISUSE && owner.full, 47);
     check(ist_write_note(&one, &note) == IST_DONE, 48);
     check(ist_close(&owner) == IST_BUSY && owner.full, 49);
+    /* what isn't a note or a pass is kept, and so is one that comes to the wrong handle */
+    check(ist_meet(&two, (ist_note *)&one) == IST_MISUSE && one.full && ist_find(&one, 5).some, 140);
+    check(ist_meet((ist_pass *)&owner, &note) == IST_MISUSE && note.full && owner.full, 141);
+    check(ist_give_back(&owner, (ist_pass *)&note) == IST_MISUSE && note.full, 142);
+    check(ist_give_back((ist_owner *)&two, &one) == IST_MISUSE && one.full && ist_find(&one, 5).some, 143);
+    check(ist_take_shot(&one, 0, &why) == IST_DONE && ist_give_back(&owner, &one) == IST_MISUSE, 144);
+    check(ist_drop_shot(&one) == IST_DONE && ist_find(&one, 5).some, 145);
+    ist_owner none = {0};
+    check(ist_give_back(&none, &one) == IST_MISUSE && one.full && ist_meet((ist_pass *)&none, &note) == IST_MISUSE && note.full, 146);
     check(ist_meet(&two, &note) == IST_DONE && !note.full, 50);
     check(ist_meet(&two, &note) == IST_MISUSE, 51);
     check(ist_give_back(&owner, &one) == IST_DONE && !one.full, 52);

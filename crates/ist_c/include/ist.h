@@ -12,9 +12,11 @@
  * and in which a call that returned before another began comes first. That is proved of the tree, also over ist_reopen. A pair
  * that a call on several keys reports was in the map at a moment of that call; only a shot has one moment for all.
  *
- * Pointers are never null, except that of a list or a room with 0 elements. A call whose comment says `same tree` doesn't
- * test that both handles are of one tree: the caller sees to it. No call may be made in a signal handler, or in a process
- * forked by one that has threads. */
+ * Each call finds out what its handles hold. If that isn't what it asks for, it returns IST_MISUSE, every handle is as it was, and
+ * nothing is written. A call whose comment says `same tree` doesn't test that both handles are of one tree: the caller sees to it.
+ *
+ * Pointers are never null, except that of a list or a room with 0 elements. No call may be made in a signal handler, or in a
+ * process forked by one that has threads. */
 #ifndef IST_H
 #define IST_H
 
@@ -121,8 +123,8 @@ uint32_t ist_count_shot(ist_pass *shot, uint64_t *count);
 /* As ist_list_range, of the shot: all that it writes is of the shot's moment, whenever it is called. */
 uint32_t ist_list_shot(ist_pass *shot, uint64_t first, uint64_t last, ist_entry *room, size_t rooms, ist_piece *piece);
 
-/* Drops the shot. The handle then holds the pass as before. A handle with a shot that is given back (ist_give_back) is IST_MISUSE
- * and is freed, so drop the shot first. */
+/* Drops the shot. The handle then holds the pass as before. A handle with a shot can't be given back (ist_give_back is IST_MISUSE):
+ * drop the shot first. */
 uint32_t ist_drop_shot(ist_pass *shot);
 
 /* Makes a note of what the pass has seen (ist_write_note), and lets a pass learn it, which uses the note up (ist_meet,

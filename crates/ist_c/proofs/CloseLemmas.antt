@@ -1,5 +1,5 @@
 -- What closing and reopening left in an owner's handle.
-use Rattle.std.proofs.Common.{◌≡◌, ℕ, length, Result, Ok, Err, IfOk, IfErr, sym, subst}
+use Rattle.std.proofs.Common.{◌≡◌, ℕ, length, Result, Ok, Err, IfOk, IfErr, inr, sym, subst}
 use Rattle.std.specs.Arc.{arc_value}
 use Rattle.ist_tree.specs.Closing.{ClosesWith}
 use Rattle.ist_reopen.proofs.ReopenLemmas.{follows}
@@ -10,6 +10,7 @@ use Rattle.ist_handles.specs.declared.owners.TreeOwner.{TreeOwner}
 use Rattle.ist_c.specs.Closing.{Leaves, Closes, owner_closes, closed_leaves, is_busy, no_owner}
 use Rattle.ist_c.specs.Closing.{OpensInHandle, opens_owner, opens_none, Reopens, owner_reopens, owner_closed, owner_busy, closed_opens, closed_stays, none_reopens}
 use Rattle.ist_handles.specs.Results.{busy, misuse}
+use Rattle.ist_c.specs.Kinds.{IsNoOwner, IsNotClosed}
 
 -- ---- the owner's tree
 
@@ -40,8 +41,10 @@ closed_again held after closed status is leaves =
     subst (λ (h : Held). Closes h after status) (sym is) (closed_leaves closed after status leaves)
 
 -- closing a handle of something else leaves it as it is
-pub closed_other : (held other : Held) → other ≡ held → Closes held other misuse
-closed_other held other is = subst (λ (h : Held). Closes held h misuse) (sym is) (no_owner held)
+pub closed_other : (held other : Held) → other ≡ held → IsNoOwner other → IsNotClosed other
+    → Closes held other misuse
+closed_other held other is unowned unclosed =
+    subst (λ (h : Held). Closes h other misuse) is (no_owner other unowned unclosed)
 
 -- ---- the next tree
 
@@ -87,6 +90,7 @@ reopened_closed held after closed words status is opens =
     (closed_opened closed words after status opens)
 
 -- reopening a handle of something else leaves it as it is
-pub reopened_other : (held other : Held) (words : ℕ) → other ≡ held → Reopens held other words misuse
-reopened_other held other words is =
-    subst (λ (h : Held). Reopens held h words misuse) (sym is) (none_reopens held words)
+pub reopened_other : (held other : Held) (words : ℕ) → other ≡ held → IsNoOwner other
+    → IsNotClosed other → Reopens held other words misuse
+reopened_other held other words is unowned unclosed =
+    subst (λ (h : Held). Reopens h other words misuse) is (none_reopens other words (inr (unowned, unclosed)))

@@ -1,6 +1,7 @@
 pub mod CallLemmas
 pub mod CloseLemmas
 pub mod ConditionLemmas
+pub mod KindLemmas
 pub mod LeftLemmas
 pub mod NoteLemmas
 pub mod OpenLemmas

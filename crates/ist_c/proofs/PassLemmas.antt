@@ -1,31 +1,55 @@
 -- What an owner behind a handle made and took back.
-use Rattle.std.proofs.Common.{◌≡◌, true, sym, subst}
+use Rattle.std.proofs.Common.{◌≡◌, true, false, inl, inr, refl, sym, subst}
 use Rattle.std.specs.Arc.{arc_value}
 use Rattle.ist_handles.specs.declared.handles.Handle.{Handle}
 use Rattle.ist_handles.specs.declared.held.Held.{Held}
 use Rattle.ist_handles.specs.declared.held.Held.TheVariants as of
 use Rattle.ist_handles.specs.declared.owners.TreeOwner.{TreeOwner}
 use Rattle.ist_handles.specs.declared.passes.TreePass.{TreePass}
-use Rattle.ist_handles.specs.Results.{done, memory}
-use Rattle.ist_c.specs.Passes.{HasMadePass, HasTakenBack, Makes, TakesBack, makes_pass, makes_none, takes_pass}
+use Rattle.ist_handles.specs.Results.{done, memory, misuse}
+use Rattle.ist_c.specs.Passes.{HasMadePass, HasTakenBack, Makes, TakesBack, makes_pass, makes_none, takes_pass, takes_none}
+use Rattle.ist_c.specs.Kinds.{IsNoOwner, IsNoPass}
+use Rattle.ist_c.proofs.KindLemmas.{still_empty, put_back}
 
 -- a handle of an owner that made a pass still holds the owner, and the other handle the pass
 pub made_one : (held : Held) (o q : TreeOwner) (p : TreePass) (before out : Handle)
-    → held ≡ of.Owner o → HasMadePass o q p → out.full ≡ true → out.opaque.value ≡ of.Pass p
-    → Makes held (of.Owner q) before out done
-made_one held o q p before out is made full value =
+    → held ≡ of.Owner o → HasMadePass o q p → before.full ≡ false → out.full ≡ true
+    → out.opaque.value ≡ of.Pass p → Makes held (of.Owner q) before out done
+made_one held o q p before out is made empty full value =
     subst (λ (h : Held). Makes h (of.Owner q) before out done) (sym is)
-    (makes_pass o q p before out made full value)
+    (makes_pass o q p before out made empty full value)
 
 -- if there is no memory for the pass, the owner's maker and the other handle are as before
 pub made_none : (held : Held) (o q : TreeOwner) (out : Handle) → held ≡ of.Owner o
-    → arc_value q.tree ≡ arc_value o.tree → q.maker ≡ o.maker → Makes held (of.Owner q) out out memory
-made_none held o q out is tree same =
-    subst (λ (h : Held). Makes h (of.Owner q) out out memory) (sym is) (makes_none o q out tree same)
+    → arc_value q.tree ≡ arc_value o.tree → q.maker ≡ o.maker → out.full ≡ false
+    → Makes held (of.Owner q) out out memory
+made_none held o q out is tree same empty =
+    subst (λ (h : Held). Makes h (of.Owner q) out out memory) (sym is) (makes_none o q out tree same empty)
 
--- a handle of an owner that took a pass back still holds the owner
-pub took_one : (held given : Held) (o q : TreeOwner) (p : TreePass) → held ≡ of.Owner o
-    → given ≡ of.Pass p → HasTakenBack o q p → TakesBack held (of.Owner q) given done
-took_one held given o q p is pass taken =
-    subst (λ (h : Held). TakesBack h (of.Owner q) given done) (sym is)
-    (subst (λ (g : Held). TakesBack (of.Owner o) (of.Owner q) g done) (sym pass) (takes_pass o q p taken))
+-- a handle of an owner that took a pass back still holds the owner, and the pass's handle is empty
+pub took_one : (held : Held) (o q : TreeOwner) (p : TreePass) (before after : Handle) → held ≡ of.Owner o
+    → before.full ≡ true → before.opaque.value ≡ of.Pass p → HasTakenBack o q p → after.full ≡ false
+    → TakesBack held (of.Owner q) before after done
+took_one held o q p before after is full pass taken empty =
+    subst (λ (h : Held). TakesBack h (of.Owner q) before after done) (sym is)
+    (takes_pass o q p before after full pass taken empty)
+
+-- a handle of something else takes nothing
+pub took_by_none : (held : Held) (pass : Handle) → IsNoOwner held → TakesBack held held pass pass misuse
+took_by_none held pass differs = takes_none held pass pass (inl differs) (refl, λ full. refl)
+
+-- from an empty handle nothing is taken
+pub took_nothing : (held : Held) (owner : TreeOwner) (before after : Handle) → held ≡ of.Owner owner
+    → (before.full ≡ true → ⊥) → after.full ≡ false → TakesBack held (of.Owner owner) before after misuse
+took_nothing held owner before after is isnt empty =
+    subst (λ (h : Held). TakesBack held h before after misuse) is
+    (takes_none held before after (inr (λ full. absurd (isnt full))) (still_empty before after isnt empty))
+
+-- what isn't a pass is put back
+pub took_not : (held given : Held) (owner : TreeOwner) (before after : Handle) → held ≡ of.Owner owner
+    → IsNoPass given → before.full ≡ true → given ≡ before.opaque.value → after.full ≡ true
+    → after.opaque.value ≡ given → TakesBack held (of.Owner owner) before after misuse
+took_not held given owner before after is differs was same full value =
+    subst (λ (h : Held). TakesBack held h before after misuse) is
+    (takes_none held before after (inr (λ f. subst IsNoPass same differs))
+    (put_back given before after was same full value))

@@ -16,6 +16,7 @@ use Rattle.ist_handles.specs.declared.pieces.Piece.{Piece}
 use Rattle.ist_handles.specs.declared.results.Shortage.{Shortage}
 use Rattle.ist_handles.specs.ShotPieces.{ShotFace}
 use Rattle.ist_handles.specs.Results.{done, full, misuse, full_of}
+use Rattle.ist_c.specs.Kinds.{IsNoPass, IsNoShot}
 use Rattle.ist_c.specs.Shots.{HasListedShot, TakesShot, CountsShot, ListsShot, DropsShot}
 use Rattle.ist_c.specs.Shots.{pass_takes, shot_refused, none_takes, counts_shot, lists_shot, drops_shot, drops_no_shot}
 
@@ -61,10 +62,10 @@ took_shot held after p words status before short is takes =
     subst (λ (h : Held). TakesShot h after words status before short) (sym is) takes
 
 -- a handle of something else is as before
-pub took_none : (held other : Held) (words : ℕ) (short : Shortage) → other ≡ held
+pub took_none : (held other : Held) (words : ℕ) (short : Shortage) → other ≡ held → IsNoPass other
     → TakesShot held other words misuse short short
-took_none held other words short is =
-    subst (λ (h : Held). TakesShot held h words misuse short short) (sym is) (none_takes held words short)
+took_none held other words short is differs =
+    subst (λ (h : Held). TakesShot h other words misuse short short) is (none_takes other words short differs)
 
 -- a handle of a shot says how many pairs it has
 pub counted_shot : (held : Held) (s : ShotFace) (keys before : ℕ) → held ≡ of.Shot s
@@ -89,5 +90,6 @@ dropped_shot held s p is tree pass =
     subst (λ (h : Held). DropsShot h (of.Pass p) done) (sym is) (drops_shot s p tree pass)
 
 -- a handle of something else is as before
-pub dropped_none : (held other : Held) → other ≡ held → DropsShot held other misuse
-dropped_none held other is = subst (λ (h : Held). DropsShot held h misuse) (sym is) (drops_no_shot held)
+pub dropped_none : (held other : Held) → other ≡ held → IsNoShot other → DropsShot held other misuse
+dropped_none held other is differs =
+    subst (λ (h : Held). DropsShot h other misuse) is (drops_no_shot other differs)

@@ -15,6 +15,7 @@ use Rattle.ist_handles.specs.declared.owners.TreeOwner.{TreeOwner}
 use Rattle.ist_handles.specs.declared.passes.TreePass.{TreePass}
 use Rattle.ist_handles.specs.declared.passes.TreeNote.{TreeNote}
 use Rattle.ist_handles.specs.Results.{done, full, misuse, value_if, full_of}
+use Rattle.ist_c.specs.Kinds.{IsNoPass}
 
 -- ---- one call of a pass
 
@@ -33,18 +34,18 @@ pub record HasNotCalled (p q : TreePass) (key : ℕ) (value : Option ℕ) (numbe
 
 -- ---- by a handle
 
--- a handle of a pass holds this pass still, which made a get with the reply in the result; a handle of
--- something else is as before
+-- a handle of a pass holds this pass still, which made a get with the reply in the result; only a handle
+-- of something else is misused, and is as before
 pub data FindsBy : Held → Held → ℕ → CallResult → Type 0 where
   pass_finds : (p q : TreePass) (key : ℕ) (said : CallResult) → said.status ≡ done
       → HasCalled p q (Get key) (value_if said.some said.value)
       → FindsBy (of.Pass p) (of.Pass q) key said
-  none_finds : (held : Held) (key : ℕ) (said : CallResult) → said.status ≡ misuse
+  none_finds : (held : Held) (key : ℕ) (said : CallResult) → IsNoPass held → said.status ≡ misuse
       → FindsBy held held key said
 
 -- a handle of a pass holds this pass still, which made a put of the value, or a remove if there is none,
--- with the reply in the result, or was refused, and then the numbers are there; a handle of something
--- else is as before
+-- with the reply in the result, or was refused, and then the numbers are there; only a handle of
+-- something else is misused, and is as before
 pub data UpdatesBy : Held → Held → ℕ → Option ℕ → CallResult → Shortage → Shortage → Type 0 where
   pass_updates : (p q : TreePass) (key : ℕ) (value : Option ℕ) (said : CallResult) (short : Shortage)
       → said.status ≡ done
@@ -54,7 +55,7 @@ pub data UpdatesBy : Held → Held → ℕ → Option ℕ → CallResult → Sho
       → said.status ≡ full → HasNotCalled p q key value (full_of short)
       → UpdatesBy (of.Pass p) (of.Pass q) key value said before short
   none_updates : (held : Held) (key : ℕ) (value : Option ℕ) (said : CallResult) (short : Shortage)
-      → said.status ≡ misuse → UpdatesBy held held key value said short short
+      → IsNoPass held → said.status ≡ misuse → UpdatesBy held held key value said short short
 
 -- ---- two handles of one tree
 

@@ -1,5 +1,5 @@
 -- What closing and reopening leave in an owner's handle.
-use Rattle.std.specs.Prelude.{◌≡◌, ℕ, ◌≤◌, List}
+use Rattle.std.specs.Prelude.{◌≡◌, ℕ, ◌<◌, ◌≤◌, ◌⊎◌, List}
 use Rattle.std.specs.Arc.{arc_value}
 use Rattle.ist_core.specs.RowLayout.{place_limit}
 use Rattle.ist_tree.specs.Closing.{ClosesWith}
@@ -13,6 +13,7 @@ use Rattle.ist_handles.specs.declared.held.Held.TheVariants as of
 use Rattle.ist_handles.specs.declared.owners.TreeOwner.{TreeOwner}
 use Rattle.ist_handles.specs.Leaving.{IsLeft}
 use Rattle.ist_handles.specs.Results.{done, memory, small, busy, misuse}
+use Rattle.ist_c.specs.Kinds.{IsNoOwner, IsNotClosed}
 
 -- ---- closing
 
@@ -25,7 +26,7 @@ pub data Leaves : List ℕ → Held → ℕ → Type 0 where
 
 -- a handle of an owner holds what its tree left, whose words represent the opening pairs and the calls
 -- of all passes, or the owner still if a pass or a note is out; a handle of a closed tree holds what is
--- left of it; a handle of something else is as before
+-- left of it; only a handle of something else is misused, and is as before
 pub data Closes : Held → Held → ℕ → Type 0 where
   owner_closes : (owner : TreeOwner) (words : List ℕ) (after : Held) (status : ℕ)
       → ClosesWith owner.maker words → Leaves words after status
@@ -34,7 +35,7 @@ pub data Closes : Held → Held → ℕ → Type 0 where
       → Leaves closed.closed after status → Closes (of.Closed closed) after status
   is_busy : (owner kept : TreeOwner) → kept.maker ≡ owner.maker
       → Closes (of.Owner owner) (of.Owner kept) busy
-  no_owner : (held : Held) → Closes held held misuse
+  no_owner : (held : Held) → IsNoOwner held → IsNotClosed held → Closes held held misuse
 
 -- ---- reopening
 
@@ -57,7 +58,8 @@ pub data OpensInHandle (closed : ClosedTree) (words : ℕ) : Held → ℕ → Ty
 -- a handle of an owner holds the owner of a new tree, which begins with exactly the pairs that all calls
 -- of the old tree's passes left; or the closed tree if none was opened, though no more words were asked
 -- for than a tree may have; or the owner still if a pass or a note is out. A handle of a closed tree holds
--- the owner of a tree of its pairs, or is as before, as is a handle of something else
+-- the owner of a tree of its pairs, or is as before. Only a handle of something else, and a number of words
+-- that no tree has, is misuse, and the handle is as before
 pub data Reopens : Held → Held → ℕ → ℕ → Type 0 where
   owner_reopens : (old new : TreeOwner) (words : ℕ)
       → BeginsAfter old.maker words (arc_value new.tree) new.maker
@@ -74,4 +76,5 @@ pub data Reopens : Held → Held → ℕ → ℕ → Type 0 where
   closed_stays : (closed : ClosedTree) (words : ℕ) (fault : ReopenFault)
       → words ≤ place_limit → IsReopenFaultOf closed.closed words fault
       → Reopens (of.Closed closed) (of.Closed closed) words (fault_status fault)
-  none_reopens : (held : Held) (words : ℕ) → Reopens held held words misuse
+  none_reopens : (held : Held) (words : ℕ)
+      → (place_limit < words) ⊎ (IsNoOwner held × IsNotClosed held) → Reopens held held words misuse

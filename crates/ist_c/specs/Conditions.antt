@@ -10,6 +10,7 @@ use Rattle.ist_handles.specs.declared.held.Held.{Held}
 use Rattle.ist_handles.specs.declared.held.Held.TheVariants as of
 use Rattle.ist_handles.specs.declared.passes.TreePass.{TreePass}
 use Rattle.ist_c.specs.Calls.{HasNotCalled}
+use Rattle.ist_c.specs.Kinds.{IsNoPass}
 use Rattle.ist_handles.specs.Results.{done, full, misuse, value_if, full_of}
 
 -- the pass is of the same tree, and made one call more, with this reply: if it is what was expected, an
@@ -21,8 +22,8 @@ pub record HasCalledIf (p q : TreePass) (key : ℕ) (expected value reply : Opti
   pub got : reply ≢ expected → AddsCall p.pass q.pass (Get key) reply
 
 -- a handle of a pass holds this pass still, which updated the key if its value was the expected one, with
--- the reply in the result, or was refused, and then the numbers are there; a handle of something else is
--- as before
+-- the reply in the result, or was refused, and then the numbers are there; only a handle of something else
+-- is misused, and is as before
 pub data UpdatesIf : Held → Held → ℕ → Option ℕ → Option ℕ → CallResult → Shortage → Shortage
     → Type 0 where
   pass_updates_if : (p q : TreePass) (key : ℕ) (expected value : Option ℕ) (said : CallResult)
@@ -34,5 +35,5 @@ pub data UpdatesIf : Held → Held → ℕ → Option ℕ → Option ℕ → Cal
       → HasNotCalled p q key value (full_of short)
       → UpdatesIf (of.Pass p) (of.Pass q) key expected value said before short
   none_updates_if : (held : Held) (key : ℕ) (expected value : Option ℕ) (said : CallResult)
-      (short : Shortage) → said.status ≡ misuse
+      (short : Shortage) → IsNoPass held → said.status ≡ misuse
       → UpdatesIf held held key expected value said short short

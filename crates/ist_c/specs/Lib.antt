@@ -1,4 +1,5 @@
 -- what the exports promise, in the order to read
+pub mod Kinds
 pub mod Calls
 pub mod Conditions
 pub mod Reads

@@ -1,5 +1,5 @@
 -- What making a note and meeting one do to what handles hold.
-use Rattle.std.specs.Prelude.{◌≡◌, ℕ, true}
+use Rattle.std.specs.Prelude.{◌≡◌, ◌⊎◌, ℕ, true, false}
 use Rattle.std.specs.Arc.{arc_value}
 use Rattle.ist_tree.specs.Calls.{HasSeenMore, HasLearnt, WeavesWith}
 use Rattle.ist_tree.specs.Faces.{noted}
@@ -9,6 +9,7 @@ use Rattle.ist_handles.specs.declared.held.Held.TheVariants as of
 use Rattle.ist_handles.specs.declared.passes.TreeNote.{TreeNote}
 use Rattle.ist_handles.specs.declared.passes.TreePass.{TreePass}
 use Rattle.ist_c.specs.Keeping.{KeepsInHandle}
+use Rattle.ist_c.specs.Kinds.{IsNoPass, IsNoNote, IsAsBefore}
 use Rattle.ist_handles.specs.Results.{done, memory, misuse}
 
 -- the pass is the same, of the same tree
@@ -25,19 +26,24 @@ pub record HasMetNote (p q : TreePass) (n : TreeNote) : Type 0 where
   pub learnt : HasLearnt q.pass n.note
   pub woven : WeavesWith q.pass n.note
 
--- a handle of a pass holds this pass as it was, and the other handle a note of it; without memory there is
--- none. A handle of something else is as before
+-- a handle of a pass holds this pass as it was, and the other handle, which was empty, a note of it;
+-- without memory there is none. Only by a handle of something else, or into a full one, is it misuse, and
+-- both are as before
 pub data Notes : Held → Held → Handle → Handle → ℕ → Type 0 where
   notes_pass : (p q : TreePass) (n : TreeNote) (before out : Handle) (status : ℕ) → IsSamePass p q
-      → n.note ≡ noted p.pass → KeepsInHandle (of.Note n) before out status
+      → before.full ≡ false → n.note ≡ noted p.pass → KeepsInHandle (of.Note n) before out status
       → Notes (of.Pass p) (of.Pass q) before out status
-  notes_none : (p q : TreePass) (out : Handle) → IsSamePass p q
+  notes_none : (p q : TreePass) (out : Handle) → IsSamePass p q → out.full ≡ false
       → Notes (of.Pass p) (of.Pass q) out out memory
-  no_pass : (held : Held) (out : Handle) → Notes held held out out misuse
+  no_pass : (held : Held) (out : Handle) → (out.full ≡ true) ⊎ IsNoPass held
+      → Notes held held out out misuse
 
--- a handle of a pass holds it still, and it learnt what the note holds, if that is one; a handle of
--- something else is as before
-pub data Meets : Held → Held → Held → ℕ → Type 0 where
-  meets_note : (p q : TreePass) (n : TreeNote) → HasMetNote p q n
-      → Meets (of.Pass p) (of.Pass q) (of.Note n) done
-  meets_none : (held told : Held) → Meets held held told misuse
+-- a handle of a pass holds it still, and it learnt what the other handle's note holds; that handle is
+-- empty then. Only if the one holds no pass or the other no note is it misuse, and both are as before
+pub data Meets : Held → Held → Handle → Handle → ℕ → Type 0 where
+  meets_note : (p q : TreePass) (n : TreeNote) (before after : Handle) → before.full ≡ true
+      → before.opaque.value ≡ of.Note n → HasMetNote p q n → after.full ≡ false
+      → Meets (of.Pass p) (of.Pass q) before after done
+  meets_none : (held : Held) (before after : Handle)
+      → IsNoPass held ⊎ (before.full ≡ true → IsNoNote before.opaque.value)
+      → IsAsBefore before after → Meets held held before after misuse

@@ -1,5 +1,5 @@
 -- What ordered reads by a handle do to the pass that the handle holds, and what they write.
-use Rattle.std.specs.Prelude.{◌≡◌, ℕ, ◌+◌, ◌≤◌, Bool, true, false, List, length, Option}
+use Rattle.std.specs.Prelude.{◌≡◌, ℕ, ◌+◌, ◌≤◌, ◌⊎◌, Bool, true, false, List, length, Option}
 use Rattle.std.specs.Arc.{arc_value}
 use Rattle.ist_core.specs.declared.pairs.Pair.{Pair}
 use Rattle.ist_tree.specs.Faces.{PassFace}
@@ -13,6 +13,7 @@ use Rattle.ist_handles.specs.declared.held.Held.TheVariants as of
 use Rattle.ist_handles.specs.declared.passes.TreePass.{TreePass}
 use Rattle.ist_handles.specs.Entries.{pairs_in, Wrote, next_key}
 use Rattle.ist_handles.specs.Results.{done, misuse}
+use Rattle.ist_c.specs.Kinds.{IsNoPass}
 
 -- the pass is of the same tree, and made no call: it has only read
 pub record ReadsInTree (p q : TreePass) : Type 0 where
@@ -35,13 +36,13 @@ IsNextPair true p q key pair = IsNextUp p q key pair
 IsNextPair false p q key pair = IsNextDown p q (key + 1) pair
 
 -- a handle of a pass holds this pass still, which read the next pair in this direction, and the entry
--- has it, or is as before if there is none; a handle of something else is as before
+-- has it, or is as before if there is none; only a handle of something else is misused, and is as before
 pub data ReadsBy : Bool → Held → Held → ℕ → ℕ → Entry → Entry → Type 0 where
   pass_reads : (way : Bool) (p q : TreePass) (key status : ℕ) (pair : Option Pair)
       (before after : Entry) → ReadsInTree p q → IsNextPair way p.pass q.pass key pair
       → Wrote pair status before after
       → ReadsBy way (of.Pass p) (of.Pass q) key status before after
-  none_reads : (way : Bool) (held : Held) (key : ℕ) (entry : Entry)
+  none_reads : (way : Bool) (held : Held) (key : ℕ) (entry : Entry) → IsNoPass held
       → ReadsBy way held held key misuse entry entry
 
 -- ---- a range
@@ -53,12 +54,12 @@ pub record EntriesHold (p q : TreePass) (first last : ℕ) (room : List Entry) (
   pub within : piece.count ≤ length room
   pub pairs : IsPiece p.pass q.pass first last (next_key piece) (pairs_in piece.count room)
 
--- a handle of a pass holds this pass still, which read a range, or the first part of it; a handle of
--- something else is as before, and so is any handle if there is no room
+-- a handle of a pass holds this pass still, which read a range, or the first part of it; only without
+-- room, or by a handle of something else, is it misuse, and the handle is as before
 pub data ListsBy : Held → Held → ℕ → ℕ → ℕ → List Entry → List Entry → Piece → Piece → Type 0
   where
     pass_lists : (p q : TreePass) (first last : ℕ) (room after : List Entry) (before piece : Piece)
         → length after ≡ length room → EntriesHold p q first last after piece
         → ListsBy (of.Pass p) (of.Pass q) first last done room after before piece
     none_lists : (held : Held) (first last : ℕ) (room : List Entry) (piece : Piece)
-        → ListsBy held held first last misuse room room piece piece
+        → (length room ≡ 0) ⊎ IsNoPass held → ListsBy held held first last misuse room room piece piece

@@ -1,5 +1,5 @@
 -- What taking a shot, reading it and dropping it do to what a handle holds.
-use Rattle.std.specs.Prelude.{◌≡◌, ℕ, ◌≤◌, List, length}
+use Rattle.std.specs.Prelude.{◌≡◌, ◌⊎◌, ℕ, ◌≤◌, List, length}
 use Rattle.std.specs.Arc.{arc_value}
 use Rattle.ist_core.specs.declared.ports.Full.{Full}
 use Rattle.ist_tree.specs.Calls.{HasSeenMore}
@@ -15,6 +15,7 @@ use Rattle.ist_handles.specs.declared.results.Shortage.{Shortage}
 use Rattle.ist_handles.specs.Entries.{next_key, pairs_in}
 use Rattle.ist_handles.specs.Results.{done, full, misuse, full_of}
 use Rattle.ist_handles.specs.ShotPieces.{ShotFace, IsShotPiece}
+use Rattle.ist_c.specs.Kinds.{IsNoPass, IsNoShot}
 
 -- ---- taking
 
@@ -36,22 +37,23 @@ pub record HasNoShot (p q : TreePass) (words : ℕ) (numbers : Full) : Type 0 wh
   pub unstarted : HasStartedNone p.pass q.pass
 
 -- a handle of a pass holds this pass with a shot that it took, or was refused, and then holds the pass
--- still, and the numbers are there; a handle of something else is as before
+-- still, and the numbers are there; only a handle of something else is misused, and is as before
 pub data TakesShot : Held → Held → ℕ → ℕ → Shortage → Shortage → Type 0 where
   pass_takes : (p : TreePass) (s : ShotFace) (words : ℕ) (short : Shortage) → HasShot p s words
       → TakesShot (of.Pass p) (of.Shot s) words done short short
   shot_refused : (p q : TreePass) (words : ℕ) (before short : Shortage)
       → HasNoShot p q words (full_of short)
       → TakesShot (of.Pass p) (of.Pass q) words full before short
-  none_takes : (held : Held) (words : ℕ) (short : Shortage)
+  none_takes : (held : Held) (words : ℕ) (short : Shortage) → IsNoPass held
       → TakesShot held held words misuse short short
 
 -- ---- reading
 
--- by a handle of a shot the number of its pairs is written; by a handle of something else nothing is
+-- by a handle of a shot the number of its pairs is written; only by a handle of something else nothing
+-- is, which is misuse
 pub data CountsShot : Held → ℕ → ℕ → ℕ → Type 0 where
   counts_shot : (s : ShotFace) (before : ℕ) → CountsShot (of.Shot s) done before s.shot.keys
-  counts_no_shot : (held : Held) (keys : ℕ) → CountsShot held misuse keys keys
+  counts_no_shot : (held : Held) (keys : ℕ) → IsNoShot held → CountsShot held misuse keys keys
 
 -- the shot is the same, its pass only looked, and the first entries have the pairs of the shot from the
 -- first key of a range up to the key to go on from
@@ -63,20 +65,21 @@ pub record HasListedShot (s t : ShotFace) (first last : ℕ) (room : List Entry)
   pub within : piece.count ≤ length room
   pub pairs : IsShotPiece s.pass s.shot first last (next_key piece) (pairs_in piece.count room)
 
--- a handle of a shot holds it still, and a range of it was written, or the first part of it; a handle of
--- something else is as before, and so is any handle if there is no room
+-- a handle of a shot holds it still, and a range of it was written, or the first part of it; only without
+-- room, or by a handle of something else, is it misuse, and the handle is as before
 pub data ListsShot : Held → Held → ℕ → ℕ → ℕ → List Entry → List Entry → Piece → Piece → Type 0
   where
     lists_shot : (s t : ShotFace) (first last : ℕ) (room after : List Entry) (before piece : Piece)
         → length after ≡ length room → HasListedShot s t first last after piece
         → ListsShot (of.Shot s) (of.Shot t) first last done room after before piece
     lists_no_shot : (held : Held) (first last : ℕ) (room : List Entry) (piece : Piece)
-        → ListsShot held held first last misuse room room piece piece
+        → (length room ≡ 0) ⊎ IsNoShot held → ListsShot held held first last misuse room room piece piece
 
 -- ---- dropping
 
--- a handle of a shot holds the pass that took it, as it was; a handle of something else is as before
+-- a handle of a shot holds the pass that took it, as it was; only a handle of something else is misused,
+-- and is as before
 pub data DropsShot : Held → Held → ℕ → Type 0 where
   drops_shot : (s : ShotFace) (p : TreePass) → arc_value p.tree ≡ s.tree → p.pass ≡ s.pass
       → DropsShot (of.Shot s) (of.Pass p) done
-  drops_no_shot : (held : Held) → DropsShot held held misuse
+  drops_no_shot : (held : Held) → IsNoShot held → DropsShot held held misuse

@@ -1,7 +1,8 @@
 //! The exports that close a tree, and open the next one.
-ghost use Rattle.std.specs.Prelude.{◌≡◌, ◌≤◌, true};
+ghost use Rattle.std.specs.Prelude.{◌≡◌, ◌≤◌, true, false};
 ghost use Rattle.ist_core.specs.RowLayout.{place_limit};
 ghost use Rattle.ist_c.specs.Closing.{Leaves, Closes, OpensInHandle, Reopens};
+ghost use Rattle.ist_handles.specs.Results.{misuse};
 
 use crate::tree_calls::status_for;
 use ist_handles::{BUSY, ClosedTree, DONE, Handle, Held, MEMORY, MISUSE};
@@ -50,6 +51,7 @@ fn close_in(alloc: Global, held: &mut Held) -> u32
 #[unsafe(no_mangle)]
 pub extern "C" fn ist_close(alloc: Global, owner: &mut Handle) -> u32
     ensures full { owner.new.full ≡ owner.old.full }
+    ensures empty { owner.old.full ≡ false → result ≡ misuse }
     ensures closes { owner.old.full ≡ true
         → Closes owner.old.opaque.value owner.new.opaque.value result }
 {
@@ -108,6 +110,7 @@ fn reopen_in(alloc: Global, held: &mut Held, words: u32) -> u32
 #[unsafe(no_mangle)]
 pub extern "C" fn ist_reopen(alloc: Global, owner: &mut Handle, words: u32) -> u32
     ensures full { owner.new.full ≡ owner.old.full }
+    ensures empty { owner.old.full ≡ false → result ≡ misuse }
     ensures reopens { owner.old.full ≡ true
         → Reopens owner.old.opaque.value owner.new.opaque.value words result }
 {

@@ -1,6 +1,7 @@
 //! The exports that update a key only if it has an expected value.
-ghost use Rattle.std.specs.Prelude.{◌≡◌, true, Some, None};
+ghost use Rattle.std.specs.Prelude.{◌≡◌, true, false, Some, None};
 ghost use Rattle.ist_c.specs.Conditions.{UpdatesIf};
+ghost use Rattle.ist_handles.specs.Results.{misuse};
 
 use ist_handles::{CallResult, Handle, Held, Shortage, misused, refused, replied};
 use std::alloc::Global;
@@ -35,6 +36,8 @@ fn put_if(
     short: &mut Shortage,
 ) -> CallResult
     ensures full { pass.new.full ≡ pass.old.full }
+    ensures empty { pass.old.full ≡ false
+        → (result.status ≡ misuse) × (short.new ≡ short.old) }
     ensures updates { pass.old.full ≡ true → UpdatesIf pass.old.opaque.value
         pass.new.opaque.value key expected (Some value) result short.old short.new }
 {
@@ -59,6 +62,8 @@ pub extern "C" fn ist_put_new(
     short: &mut Shortage,
 ) -> CallResult
     ensures full { pass.new.full ≡ pass.old.full }
+    ensures empty { pass.old.full ≡ false
+        → (result.status ≡ misuse) × (short.new ≡ short.old) }
     ensures updates { pass.old.full ≡ true → UpdatesIf pass.old.opaque.value
         pass.new.opaque.value key None (Some value) result short.old short.new }
 {
@@ -77,6 +82,8 @@ pub extern "C" fn ist_put_if(
     short: &mut Shortage,
 ) -> CallResult
     ensures full { pass.new.full ≡ pass.old.full }
+    ensures empty { pass.old.full ≡ false
+        → (result.status ≡ misuse) × (short.new ≡ short.old) }
     ensures updates { pass.old.full ≡ true → UpdatesIf pass.old.opaque.value
         pass.new.opaque.value key (Some expected) (Some value) result short.old short.new }
 {
@@ -108,6 +115,8 @@ pub extern "C" fn ist_remove_if(
     short: &mut Shortage,
 ) -> CallResult
     ensures full { pass.new.full ≡ pass.old.full }
+    ensures empty { pass.old.full ≡ false
+        → (result.status ≡ misuse) × (short.new ≡ short.old) }
     ensures updates { pass.old.full ≡ true → UpdatesIf pass.old.opaque.value
         pass.new.opaque.value key (Some expected) None result short.old short.new }
 {

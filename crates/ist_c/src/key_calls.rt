@@ -1,6 +1,7 @@
 //! The exports that find and update a key by a pass.
-ghost use Rattle.std.specs.Prelude.{◌≡◌, true, Some, None};
+ghost use Rattle.std.specs.Prelude.{◌≡◌, true, false, Some, None};
 ghost use Rattle.ist_c.specs.Calls.{FindsBy, UpdatesBy};
+ghost use Rattle.ist_handles.specs.Results.{misuse};
 
 use ist_handles::{CallResult, Handle, Held, Shortage, misused, refused, replied};
 use std::alloc::Global;
@@ -19,6 +20,7 @@ fn find_in(held: &mut Held, key: u64) -> CallResult
 #[unsafe(no_mangle)]
 pub extern "C" fn ist_find(alloc: Global, pass: &mut Handle, key: u64) -> CallResult
     ensures full { pass.new.full ≡ pass.old.full }
+    ensures empty { pass.old.full ≡ false → result.status ≡ misuse }
     ensures finds { pass.old.full ≡ true
         → FindsBy pass.old.opaque.value pass.new.opaque.value key result }
 {
@@ -54,6 +56,8 @@ fn update(
     short: &mut Shortage,
 ) -> CallResult
     ensures full { pass.new.full ≡ pass.old.full }
+    ensures empty { pass.old.full ≡ false
+        → (result.status ≡ misuse) × (short.new ≡ short.old) }
     ensures updates { pass.old.full ≡ true → UpdatesBy pass.old.opaque.value
         pass.new.opaque.value key value result short.old short.new }
 {
@@ -78,6 +82,8 @@ pub extern "C" fn ist_put(
     short: &mut Shortage,
 ) -> CallResult
     ensures full { pass.new.full ≡ pass.old.full }
+    ensures empty { pass.old.full ≡ false
+        → (result.status ≡ misuse) × (short.new ≡ short.old) }
     ensures updates { pass.old.full ≡ true → UpdatesBy pass.old.opaque.value
         pass.new.opaque.value key (Some value) result short.old short.new }
 {
@@ -93,6 +99,8 @@ pub extern "C" fn ist_remove(
     short: &mut Shortage,
 ) -> CallResult
     ensures full { pass.new.full ≡ pass.old.full }
+    ensures empty { pass.old.full ≡ false
+        → (result.status ≡ misuse) × (short.new ≡ short.old) }
     ensures updates { pass.old.full ≡ true → UpdatesBy pass.old.opaque.value
         pass.new.opaque.value key None result short.old short.new }
 {

@@ -1,6 +1,7 @@
 //! The exports that say what is left of a closed tree.
-ghost use Rattle.std.specs.Prelude.{◌≡◌, true};
+ghost use Rattle.std.specs.Prelude.{◌≡◌, true, false};
 ghost use Rattle.ist_c.specs.Listing.{ListsLeft, CountsLeft};
+ghost use Rattle.ist_handles.specs.Results.{misuse};
 
 use ist_handles::{DONE, Entry, Handle, Held, MISUSE, Stats, write_entries};
 use std::alloc::Global;
@@ -32,6 +33,9 @@ pub extern "C" fn ist_list(
     count: &mut u64,
 ) -> u32
     ensures full { closed.new.full ≡ closed.old.full }
+    ensures empty { closed.old.full ≡ false → result ≡ misuse }
+    ensures unwritten { closed.old.full ≡ false
+        → (room.new ≡ room.old) × (count.new ≡ count.old) }
     ensures same { closed.old.full ≡ true → closed.new.opaque.value ≡ closed.old.opaque.value }
     ensures lists { closed.old.full ≡ true
         → ListsLeft closed.old.opaque.value from result room.old room.new count.old count.new }
@@ -67,6 +71,7 @@ fn count_in(held: &Held, stats: &mut Stats) -> u32
 #[unsafe(no_mangle)]
 pub extern "C" fn ist_count(alloc: Global, closed: &mut Handle, stats: &mut Stats) -> u32
     ensures full { closed.new.full ≡ closed.old.full }
+    ensures empty { closed.old.full ≡ false → (result ≡ misuse) × (stats.new ≡ stats.old) }
     ensures same { closed.old.full ≡ true → closed.new.opaque.value ≡ closed.old.opaque.value }
     ensures counts { closed.old.full ≡ true
         → CountsLeft closed.old.opaque.value result stats.old stats.new }

@@ -1,6 +1,7 @@
 //! The exports that find the next pair above or below a key by a pass.
-ghost use Rattle.std.specs.Prelude.{◌≡◌, true};
+ghost use Rattle.std.specs.Prelude.{◌≡◌, true, false};
 ghost use Rattle.ist_c.specs.Reads.{ReadsBy, up, down};
+ghost use Rattle.ist_handles.specs.Results.{misuse};
 
 use ist_handles::{Entry, Handle, Held, MISUSE, write_pair};
 use std::alloc::Global;
@@ -29,6 +30,7 @@ fn at_most_in(held: &mut Held, key: u64, found: &mut Entry) -> u32
 #[unsafe(no_mangle)]
 pub extern "C" fn ist_at_least(alloc: Global, pass: &mut Handle, key: u64, found: &mut Entry) -> u32
     ensures full { pass.new.full ≡ pass.old.full }
+    ensures empty { pass.old.full ≡ false → (result ≡ misuse) × (found.new ≡ found.old) }
     ensures reads { pass.old.full ≡ true → ReadsBy up pass.old.opaque.value
         pass.new.opaque.value key result found.old found.new }
 {
@@ -46,6 +48,7 @@ pub extern "C" fn ist_at_least(alloc: Global, pass: &mut Handle, key: u64, found
 #[unsafe(no_mangle)]
 pub extern "C" fn ist_at_most(alloc: Global, pass: &mut Handle, key: u64, found: &mut Entry) -> u32
     ensures full { pass.new.full ≡ pass.old.full }
+    ensures empty { pass.old.full ≡ false → (result ≡ misuse) × (found.new ≡ found.old) }
     ensures reads { pass.old.full ≡ true → ReadsBy down pass.old.opaque.value
         pass.new.opaque.value key result found.old found.new }
 {

@@ -1,16 +1,22 @@
 //! The exports by which one pass learns what another has seen.
 ghost use Rattle.std.specs.Prelude.{◌≡◌, true, false};
 ghost use Rattle.ist_c.specs.Calls.{MayMeet};
+ghost use Rattle.ist_c.specs.Kinds.{IsAsBefore};
 ghost use Rattle.ist_c.specs.Notes.{Notes, Meets};
+ghost use Rattle.ist_handles.specs.Results.{misuse};
 
 use crate::tree_calls::keep;
 use ist_handles::{DONE, Handle, Held, MEMORY, MISUSE};
 use std::alloc::Global;
+use std::mem;
 
 // Makes `out` a note of the pass.
 fn note_in(alloc: Global, held: &mut Held, out: &mut Handle) -> u32
     ensures notes { Notes held.old held.new out.old out.new result }
 {
+    if out.full {
+        return MISUSE;
+    }
     match held {
         Held::Pass(pass) => match pass.note() {
             Ok(note) => keep(alloc, Held::Note(note), out),
@@ -24,12 +30,10 @@ fn note_in(alloc: Global, held: &mut Held, out: &mut Handle) -> u32
 #[unsafe(no_mangle)]
 pub extern "C" fn ist_write_note(alloc: Global, pass: &mut Handle, out: &mut Handle) -> u32
     ensures full { pass.new.full ≡ pass.old.full }
-    ensures notes { pass.old.full ≡ true → out.old.full ≡ false
+    ensures empty { pass.old.full ≡ false → (result ≡ misuse) × (out.new ≡ out.old) }
+    ensures notes { pass.old.full ≡ true
         → Notes pass.old.opaque.value pass.new.opaque.value out.old out.new result }
 {
-    if out.full {
-        return MISUSE;
-    }
     match pass.open(alloc) {
         Some(mut held) => {
             let status = note_in(alloc, &mut held, out);
@@ -40,38 +44,46 @@ pub extern "C" fn ist_write_note(alloc: Global, pass: &mut Handle, out: &mut Han
     }
 }
 
-// Lets the pass learn what the note holds.
-fn meet_in(held: &mut Held, told: Held) -> u32
-    requires same_tree { MayMeet held.old told }
-    ensures meets { Meets held.old held.new told result }
+// Lets the pass learn what the handle's note holds, which is empty then. What isn't a note is put back.
+fn meet_in(alloc: Global, held: &mut Held, note: &mut Handle) -> u32
+    requires same_tree { MayMeet held.old note.old.opaque.value }
+    ensures meets { Meets held.old held.new note.old note.new result }
 {
-    match told {
-        Held::Note(note) => match held {
-            Held::Pass(pass) => {
-                pass.meet(note);
-                DONE
-            }
-            _ => MISUSE,
-        },
-        _ => MISUSE,
+    let Held::Pass(pass) = held else {
+        return MISUSE;
+    };
+    let Some(mut told) = note.open(alloc) else {
+        return MISUSE;
+    };
+    match mem::replace(&mut *told, Held::Nothing) {
+        Held::Note(met) => {
+            pass.meet(met);
+            DONE
+        }
+        other => {
+            *told = other;
+            *note = Handle::of(told);
+            MISUSE
+        }
     }
 }
 
-/// Lets the pass learn what the note holds, which is of its tree. The note is used up.
+/// Lets the pass learn what the note holds, which is of its tree. The note is used up; if the call is misuse,
+/// both are as they were.
 #[unsafe(no_mangle)]
 pub extern "C" fn ist_meet(alloc: Global, pass: &mut Handle, note: &mut Handle) -> u32
     requires same_tree { MayMeet pass.old.opaque.value note.old.opaque.value }
     ensures full { pass.new.full ≡ pass.old.full }
-    ensures meets { pass.old.full ≡ true → note.old.full ≡ true
-        → Meets pass.old.opaque.value pass.new.opaque.value note.old.opaque.value result }
+    ensures empty { pass.old.full ≡ false → (result ≡ misuse) × IsAsBefore note.old note.new }
+    ensures meets { pass.old.full ≡ true
+        → Meets pass.old.opaque.value pass.new.opaque.value note.old note.new result }
 {
-    let Some(mut held) = pass.open(alloc) else {
-        return MISUSE;
-    };
-    let status = match note.open(alloc) {
-        Some(told) => meet_in(&mut held, Box::into_inner(told)),
+    match pass.open(alloc) {
+        Some(mut held) => {
+            let status = meet_in(alloc, &mut held, note);
+            *pass = Handle::of(held);
+            status
+        }
         None => MISUSE,
-    };
-    *pass = Handle::of(held);
-    status
+    }
 }

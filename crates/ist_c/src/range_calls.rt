@@ -1,6 +1,7 @@
 //! The export that lists a range of keys by a pass.
-ghost use Rattle.std.specs.Prelude.{◌≡◌, true};
+ghost use Rattle.std.specs.Prelude.{◌≡◌, true, false};
 ghost use Rattle.ist_c.specs.Reads.{ListsBy};
+ghost use Rattle.ist_handles.specs.Results.{misuse};
 
 use ist_handles::{DONE, Entry, Handle, Held, MISUSE, Piece};
 use std::alloc::Global;
@@ -34,6 +35,9 @@ pub extern "C" fn ist_list_range(
     piece: &mut Piece,
 ) -> u32
     ensures full { pass.new.full ≡ pass.old.full }
+    ensures empty { pass.old.full ≡ false → result ≡ misuse }
+    ensures unwritten { pass.old.full ≡ false
+        → (room.new ≡ room.old) × (piece.new ≡ piece.old) }
     ensures lists { pass.old.full ≡ true → ListsBy pass.old.opaque.value
         pass.new.opaque.value first last result room.old room.new piece.old piece.new }
 {

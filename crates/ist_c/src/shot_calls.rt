@@ -1,8 +1,9 @@
 //! The exports that take a shot by a pass, read it and drop it.
-ghost use Rattle.std.specs.Prelude.{◌≡◌, ◌<◌, ◌≤◌, ◌^◌, true};
+ghost use Rattle.std.specs.Prelude.{◌≡◌, ◌<◌, ◌≤◌, ◌^◌, true, false};
 ghost use Rattle.ist_scan.specs.Room.{words_of_shot};
 ghost use Rattle.ist_handles.specs.declared.held.Held.TheVariants.{Pass};
 ghost use Rattle.ist_c.specs.Shots.{TakesShot, CountsShot, ListsShot, DropsShot};
+ghost use Rattle.ist_handles.specs.Results.{misuse};
 
 use ist_handles::{
     DONE, Entry, Handle, Held, MISUSE, PAIRS_LIMIT, Piece, Shortage, TreePass, TreeShot, refused,
@@ -64,6 +65,7 @@ pub extern "C" fn ist_take_shot(
     short: &mut Shortage,
 ) -> u32
     ensures full { pass.new.full ≡ pass.old.full }
+    ensures empty { pass.old.full ≡ false → (result ≡ misuse) × (short.new ≡ short.old) }
     ensures takes { pass.old.full ≡ true → TakesShot pass.old.opaque.value
         pass.new.opaque.value words result short.old short.new }
 {
@@ -94,6 +96,7 @@ fn count_in(held: &Held, keys: &mut u64) -> u32
 #[unsafe(no_mangle)]
 pub extern "C" fn ist_count_shot(alloc: Global, shot: &mut Handle, keys: &mut u64) -> u32
     ensures full { shot.new.full ≡ shot.old.full }
+    ensures empty { shot.old.full ≡ false → (result ≡ misuse) × (keys.new ≡ keys.old) }
     ensures same { shot.old.full ≡ true → shot.new.opaque.value ≡ shot.old.opaque.value }
     ensures counts { shot.old.full ≡ true
         → CountsShot shot.old.opaque.value result keys.old keys.new }
@@ -137,6 +140,9 @@ pub extern "C" fn ist_list_shot(
     piece: &mut Piece,
 ) -> u32
     ensures full { shot.new.full ≡ shot.old.full }
+    ensures empty { shot.old.full ≡ false → result ≡ misuse }
+    ensures unwritten { shot.old.full ≡ false
+        → (room.new ≡ room.old) × (piece.new ≡ piece.old) }
     ensures lists { shot.old.full ≡ true → ListsShot shot.old.opaque.value
         shot.new.opaque.value first last result room.old room.new piece.old piece.new }
 {
@@ -170,6 +176,7 @@ fn drop_in(held: &mut Held) -> u32
 #[unsafe(no_mangle)]
 pub extern "C" fn ist_drop_shot(alloc: Global, shot: &mut Handle) -> u32
     ensures full { shot.new.full ≡ shot.old.full }
+    ensures empty { shot.old.full ≡ false → result ≡ misuse }
     ensures drops { shot.old.full ≡ true
         → DropsShot shot.old.opaque.value shot.new.opaque.value result }
 {

@@ -5,6 +5,7 @@ ghost use Rattle.ist_c.specs.Calls.{MayGiveBack};
 ghost use Rattle.ist_c.specs.Closing.{fault_status};
 ghost use Rattle.ist_handles.specs.Entries.{pairs_given};
 ghost use Rattle.ist_c.specs.Keeping.{KeepsInHandle};
+ghost use Rattle.ist_c.specs.Kinds.{IsAsBefore};
 ghost use Rattle.ist_c.specs.Opening.{AreWordsFor, OpensNew};
 ghost use Rattle.ist_c.specs.Passes.{Makes, TakesBack};
 ghost use Rattle.ist_handles.specs.Results.{misuse};
@@ -16,6 +17,7 @@ use ist_handles::{
 use ist_image::needed_words;
 use ist_reopen::{MOST_WORDS, ReopenFault};
 use std::alloc::Global;
+use std::mem;
 
 /// Makes a handle of what is held. If there is no memory for it, what is held is dropped.
 pub(crate) fn keep(alloc: Global, held: Held, out: &mut Handle) -> u32
@@ -90,6 +92,9 @@ pub extern "C" fn ist_open(alloc: Global, words: u32, entries: &[Entry], out: &m
 fn pass_in(alloc: Global, held: &mut Held, out: &mut Handle) -> u32
     ensures makes { Makes held.old held.new out.old out.new result }
 {
+    if out.full {
+        return MISUSE;
+    }
     match held {
         Held::Owner(owner) => match Box::new(alloc, Held::Nothing) {
             Ok(mut room) => match owner.pass() {
@@ -110,12 +115,10 @@ fn pass_in(alloc: Global, held: &mut Held, out: &mut Handle) -> u32
 #[unsafe(no_mangle)]
 pub extern "C" fn ist_new_pass(alloc: Global, owner: &mut Handle, out: &mut Handle) -> u32
     ensures full { owner.new.full ≡ owner.old.full }
-    ensures makes { owner.old.full ≡ true → out.old.full ≡ false
+    ensures empty { owner.old.full ≡ false → (result ≡ misuse) × (out.new ≡ out.old) }
+    ensures makes { owner.old.full ≡ true
         → Makes owner.old.opaque.value owner.new.opaque.value out.old out.new result }
 {
-    if out.full {
-        return MISUSE;
-    }
     match owner.open(alloc) {
         Some(mut held) => {
             let status = pass_in(alloc, &mut held, out);
@@ -126,40 +129,48 @@ pub extern "C" fn ist_new_pass(alloc: Global, owner: &mut Handle, out: &mut Hand
     }
 }
 
-// Takes a pass back.
-fn take_in(held: &mut Held, pass: Held) -> u32
-    requires same_tree { MayGiveBack held.old pass }
-    ensures takes { TakesBack held.old held.new pass result }
+// Takes the pass back that the handle holds, which is empty then. What isn't a pass is put back.
+fn take_in(alloc: Global, held: &mut Held, pass: &mut Handle) -> u32
+    requires same_tree { MayGiveBack held.old pass.old.opaque.value }
+    ensures takes { TakesBack held.old held.new pass.old pass.new result }
 {
-    match pass {
-        Held::Pass(pass) => match held {
-            Held::Owner(owner) => {
-                owner.take_back(pass);
-                DONE
-            }
-            _ => MISUSE,
-        },
-        _ => MISUSE,
+    let Held::Owner(owner) = held else {
+        return MISUSE;
+    };
+    let Some(mut given) = pass.open(alloc) else {
+        return MISUSE;
+    };
+    match mem::replace(&mut *given, Held::Nothing) {
+        Held::Pass(taken) => {
+            owner.take_back(taken);
+            DONE
+        }
+        other => {
+            *given = other;
+            *pass = Handle::of(given);
+            MISUSE
+        }
     }
 }
 
-/// Gives the pass back to the owner of its tree. The pass is used up.
+/// Gives the pass back to the owner of its tree. The pass is used up; if the call is misuse, both are as
+/// they were.
 #[unsafe(no_mangle)]
 pub extern "C" fn ist_give_back(alloc: Global, owner: &mut Handle, pass: &mut Handle) -> u32
     requires same_tree { MayGiveBack owner.old.opaque.value pass.old.opaque.value }
     ensures full { owner.new.full ≡ owner.old.full }
-    ensures takes { owner.old.full ≡ true → pass.old.full ≡ true
-        → TakesBack owner.old.opaque.value owner.new.opaque.value pass.old.opaque.value result }
+    ensures empty { owner.old.full ≡ false → (result ≡ misuse) × IsAsBefore pass.old pass.new }
+    ensures takes { owner.old.full ≡ true
+        → TakesBack owner.old.opaque.value owner.new.opaque.value pass.old pass.new result }
 {
-    let Some(mut held) = owner.open(alloc) else {
-        return MISUSE;
-    };
-    let status = match pass.open(alloc) {
-        Some(pass) => take_in(&mut held, Box::into_inner(pass)),
+    match owner.open(alloc) {
+        Some(mut held) => {
+            let status = take_in(alloc, &mut held, pass);
+            *owner = Handle::of(held);
+            status
+        }
         None => MISUSE,
-    };
-    *owner = Handle::of(held);
-    status
+    }
 }
 
 /// Drops what the handle holds, and leaves it empty.

@@ -27,4 +27,7 @@ returns-in-Closed c =
 
 pub returns-in_default : goal.returns-in_default
 returns-in_default c =
-    record { closes = closed_other c.args.held.now c.replace.result c.replace.ensures.value }
+    record {
+      closes = closed_other c.args.held.now c.replace.result c.replace.ensures.value c.in_default.not-Owner
+          c.in_default.not-Closed;
+    }

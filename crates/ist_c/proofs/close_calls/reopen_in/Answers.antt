@@ -1,11 +1,12 @@
 -- An owner's handle holds the owner of the next tree, or what stayed; a handle of something else is as before.
-use Rattle.std.proofs.Common.{sym, ◌∙◌}
+use Rattle.std.proofs.Common.{inl, sym, ◌∙◌}
 use Rattle.ist_c.specs.Closing.{none_reopens}
 use Rattle.ist_c.proofs.CloseLemmas.{reopened_owner, reopened_busy, reopened_closed, reopened_other}
 use Rattle.ist_c.proofs.close_calls.reopen_in.Goals as goal
 
 pub returns-then-words-gt-MOST_WORDS : goal.returns-then-words-gt-MOST_WORDS
-returns-then-words-gt-MOST_WORDS c = record { reopens = none_reopens c.args.held.now c.args.words }
+returns-then-words-gt-MOST_WORDS c =
+    record { reopens = none_reopens c.args.held.now c.args.words (inl c.if-words-gt-MOST_WORDS.true) }
 
 pub returns-in-Ok : goal.returns-in-Ok
 returns-in-Ok c =
@@ -32,5 +33,6 @@ returns-in-Closed c =
 pub returns-in_default : goal.returns-in_default
 returns-in_default c =
     record {
-      reopens = reopened_other c.args.held.now c.replace.result c.args.words c.replace.ensures.value;
+      reopens = reopened_other c.args.held.now c.replace.result c.args.words c.replace.ensures.value
+          c.in_default.not-Owner c.in_default.not-Closed;
     }

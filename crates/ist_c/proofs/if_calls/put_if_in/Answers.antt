@@ -28,5 +28,5 @@ pub returns-in_default : goal.returns-in_default
 returns-in_default c =
     record {
       updates = none_updates_if c.args.held.now c.args.key c.args.expected (Some c.args.value)
-          c.misused.result c.args.short.now c.misused.ensures.status;
+          c.misused.result c.args.short.now c.in_default.not-Pass c.misused.ensures.status;
     }

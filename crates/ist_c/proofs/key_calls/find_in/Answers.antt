@@ -13,4 +13,7 @@ returns-in-Pass c =
 
 pub returns-in_default : goal.returns-in_default
 returns-in_default c =
-    record { finds = none_finds c.args.held.now c.args.key c.misused.result c.misused.ensures.status }
+    record {
+      finds = none_finds c.args.held.now c.args.key c.misused.result c.in_default.not-Pass
+          c.misused.ensures.status;
+    }

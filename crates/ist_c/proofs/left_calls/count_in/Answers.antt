@@ -12,4 +12,4 @@ returns-in-Left c =
     }
 
 pub returns-in_default : goal.returns-in_default
-returns-in_default c = record { counts = counts_none c.args.held.now c.args.stats.now }
+returns-in_default c = record { counts = counts_none c.args.held.now c.args.stats.now c.in_default.not-Left }

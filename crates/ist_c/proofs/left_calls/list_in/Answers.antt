@@ -25,4 +25,4 @@ returns-else-from-len c =
 
 pub returns-in_default : goal.returns-in_default
 returns-in_default c =
-    record { lists = none_left c.args.held.now c.args.from c.args.room.now c.args.count.now }
+    record { lists = none_left c.args.held.now c.args.from c.args.room.now c.args.count.now c.in_default.not-Left }

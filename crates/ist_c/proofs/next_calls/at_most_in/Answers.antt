@@ -13,4 +13,4 @@ returns-in-Pass c =
     }
 
 pub returns-in_default : goal.returns-in_default
-returns-in_default c = record { reads = none_reads down c.args.held.now c.args.key c.args.found.now }
+returns-in_default c = record { reads = none_reads down c.args.held.now c.args.key c.args.found.now c.in_default.not-Pass }

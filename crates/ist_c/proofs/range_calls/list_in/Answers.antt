@@ -1,4 +1,5 @@
 -- A pass has listed this; a handle of something else is as before.
+use Rattle.std.proofs.Common.{inl, inr, rules}
 use Rattle.ist_c.specs.Reads.{none_lists}
 use Rattle.ist_c.proofs.ReadLemmas.{read_range}
 use Rattle.ist_c.proofs.range_calls.list_in.Goals as goal
@@ -6,7 +7,8 @@ use Rattle.ist_c.proofs.range_calls.list_in.Goals as goal
 pub returns-then-is_empty : goal.returns-then-is_empty
 returns-then-is_empty c =
     record {
-      lists = none_lists c.args.held.now c.args.first c.args.last c.args.room.now c.args.piece.now;
+      lists = none_lists c.args.held.now c.args.first c.args.last c.args.room.now c.args.piece.now
+          (inl (search rules));
     }
 
 pub returns-in-Pass : goal.returns-in-Pass
@@ -24,5 +26,6 @@ returns-in-Pass c =
 pub returns-in_default : goal.returns-in_default
 returns-in_default c =
     record {
-      lists = none_lists c.args.held.now c.args.first c.args.last c.args.room.now c.args.piece.now;
+      lists = none_lists c.args.held.now c.args.first c.args.last c.args.room.now c.args.piece.now
+          (inr c.in_default.not-Pass);
     }

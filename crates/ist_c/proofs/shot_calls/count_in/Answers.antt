@@ -11,4 +11,4 @@ returns-in-Shot c =
     }
 
 pub returns-in_default : goal.returns-in_default
-returns-in_default c = record { counts = counts_no_shot c.args.held.now c.args.keys.now }
+returns-in_default c = record { counts = counts_no_shot c.args.held.now c.args.keys.now c.in_default.not-Shot }

@@ -13,4 +13,4 @@ returns-in-Shot c =
 
 pub returns-in_default : goal.returns-in_default
 returns-in_default c =
-    record { drops = dropped_none c.args.held.now c.replace.result c.replace.ensures.value }
+    record { drops = dropped_none c.args.held.now c.replace.result c.replace.ensures.value c.in_default.not-Shot }

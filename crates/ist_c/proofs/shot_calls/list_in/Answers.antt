@@ -1,4 +1,5 @@
 -- A shot was listed; a handle of something else is as before.
+use Rattle.std.proofs.Common.{inl, inr, rules}
 use Rattle.ist_c.specs.Shots.{lists_no_shot}
 use Rattle.ist_c.proofs.ShotLemmas.{listed_shot}
 use Rattle.ist_c.proofs.shot_calls.list_in.Goals as goal
@@ -6,7 +7,8 @@ use Rattle.ist_c.proofs.shot_calls.list_in.Goals as goal
 pub returns-then-is_empty : goal.returns-then-is_empty
 returns-then-is_empty c =
     record {
-      lists = lists_no_shot c.args.held.now c.args.first c.args.last c.args.room.now c.args.piece.now;
+      lists = lists_no_shot c.args.held.now c.args.first c.args.last c.args.room.now c.args.piece.now
+          (inl (search rules));
     }
 
 pub returns-in-Shot : goal.returns-in-Shot
@@ -26,5 +28,6 @@ returns-in-Shot c =
 pub returns-in_default : goal.returns-in_default
 returns-in_default c =
     record {
-      lists = lists_no_shot c.args.held.now c.args.first c.args.last c.args.room.now c.args.piece.now;
+      lists = lists_no_shot c.args.held.now c.args.first c.args.last c.args.room.now c.args.piece.now
+          (inr c.in_default.not-Shot);
     }

@@ -13,5 +13,6 @@ returns-in-Pass c =
 pub returns-in_default : goal.returns-in_default
 returns-in_default c =
     record {
-      takes = took_none c.args.held.now c.replace.result c.args.words c.args.short.now c.replace.ensures.value;
+      takes = took_none c.args.held.now c.replace.result c.args.words c.args.short.now c.replace.ensures.value
+          c.in_default.not-Pass;
     }

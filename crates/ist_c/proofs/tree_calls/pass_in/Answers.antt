@@ -1,5 +1,5 @@
 -- An owner made a pass, which the other handle holds, or none; a handle of something else is as before.
-use Rattle.std.proofs.Common.{rules, refl}
+use Rattle.std.proofs.Common.{inl, inr, rules, refl}
 use Rattle.ist_c.specs.Passes.{no_maker}
 use Rattle.ist_c.proofs.PassLemmas.{made_one, made_none}
 use Rattle.ist_c.proofs.tree_calls.pass_in.Goals as goal
@@ -16,7 +16,7 @@ returns-in-Ok-pass c =
             no_calls = e.no_calls;
             made = e.made;
             taken = e.taken;
-          }) c.of.ensures.full (search rules);
+          }) c.if-out.false c.of.ensures.full (search rules);
     }
 
 pub returns-in-Ok : goal.returns-in-Ok
@@ -24,15 +24,18 @@ returns-in-Ok c =
     let e = c.in-Err-pass.ensures in
     record {
       makes = made_none c.args.held.now c.in-Owner.owner c.pass.new.self c.args.out.now c.in-Owner.is
-          e.tree e.unmade;
+          e.tree e.unmade c.if-out.false;
     }
 
 pub returns-in-Owner : goal.returns-in-Owner
 returns-in-Owner c =
     record {
       makes = made_none c.args.held.now c.in-Owner.owner c.in-Owner.owner c.args.out.now c.in-Owner.is
-          refl refl;
+          refl refl c.if-out.false;
     }
 
 pub returns : goal.returns
-returns c = record { makes = no_maker c.args.held.now c.args.out.now }
+returns c = record { makes = no_maker c.args.held.now c.args.out.now (inr c.in_default.not-Owner) }
+
+pub returns-then-out : goal.returns-then-out
+returns-then-out c = record { makes = no_maker c.args.held.now c.args.out.now (inl c.if-out.true) }

@@ -1,22 +1,38 @@
--- An owner took the pass back; a handle of something else is as before.
-use Rattle.ist_c.specs.Passes.{takes_none}
-use Rattle.ist_c.proofs.PassLemmas.{took_one}
+-- An owner took the pass back; else both are as they were.
+use Rattle.std.proofs.Common.{IsSome, refl, sym, subst, ◌∙◌}
+use Rattle.ist_c.proofs.KindLemmas.{no_some}
+use Rattle.ist_c.proofs.PassLemmas.{took_one, took_by_none, took_nothing, took_not}
 use Rattle.ist_c.proofs.tree_calls.take_in.Goals as goal
 
-pub returns-in-Owner : goal.returns-in-Owner
-returns-in-Owner c =
+pub returns-in-Pass : goal.returns-in-Pass
+returns-in-Pass c =
     let e = c.take_back.ensures in
     record {
-      takes = took_one c.args.held.now c.args.pass c.in-Owner.owner c.take_back.new.self c.in-Pass.pass
-          c.in-Owner.is c.in-Pass.is (record {
+      takes = took_one c.args.held.now c.in-Owner.owner c.take_back.new.self c.in-Pass.taken c.args.pass.now
+          c.open.new.self c.in-Owner.is (c.open.ensures.some.0 (subst IsSome (sym c.in-Some.is) refl))
+          (sym c.in-Some.ensures.value ∙ sym c.deref_mut.ensures.value ∙ sym c.replace.ensures.value
+          ∙ c.in-Pass.is) (record {
             same_tree = e.tree;
             made = e.made;
             taken = e.taken;
-          });
+          }) c.open.ensures.empty;
     }
 
-pub returns-in-Pass : goal.returns-in-Pass
-returns-in-Pass c = record { takes = takes_none c.args.held.now c.args.pass }
+pub returns-in_default : goal.returns-in_default
+returns-in_default c =
+    record { takes = took_by_none c.args.held.now c.args.pass.now c.in_default.not-Owner }
 
-pub returns : goal.returns
-returns c = record { takes = takes_none c.args.held.now c.args.pass }
+pub returns-in_default-open : goal.returns-in_default-open
+returns-in_default-open c =
+    record {
+      takes = took_nothing c.args.held.now c.in-Owner.owner c.args.pass.now c.open.new.self c.in-Owner.is
+          (λ full. no_some c.open.result c.in_default-open.not-Some (c.open.ensures.some.1 full)) c.open.ensures.empty;
+    }
+
+pub returns-in_default-replace : goal.returns-in_default-replace
+returns-in_default-replace c =
+    record {
+      takes = took_not c.args.held.now c.replace.result c.in-Owner.owner c.args.pass.now c.of.result c.in-Owner.is
+          c.in_default-replace.not-Pass (c.open.ensures.some.0 (subst IsSome (sym c.in-Some.is) refl))
+          (c.replace.ensures.value ∙ c.deref_mut.ensures.value ∙ c.in-Some.ensures.value) c.of.ensures.full c.of.ensures.value;
+    }
