@@ -1,5 +1,5 @@
 -- How a run goes on, how it ends, and how many words a tree has. Serves `Map::run`.
-use Rattle.std.proofs.Common.{◌≡◌, ◌∙◌, ℕ, ◌||◌, true, is_some, List, [], ◌∷◌, ◌<◌, ◌≤◌, map, Option, Result, Ok, Err, Any, IsSome, IsErrAnd, IfOk, IfErr, refl, sym, ap, subst, arith}
+use Rattle.std.proofs.Common.{◌≡◌, ◌∙◌, ℕ, ◌||◌, true, is_some, List, [], ◌∷◌, ◌<◌, ◌≤◌, map, Option, Result, Ok, Err, Any, IsSome, IsErrAnd, IfOk, IfErr, sym, ap, subst, refl, arith}
 use Rattle.std.proofs.lemmas.List.Folds.{Any-from_list_any}
 use Rattle.std.specs.List.{list_any}
 use Rattle.std.proofs.lemmas.Result.{IfOk-weaker, IfErr-weaker}
@@ -9,15 +9,13 @@ use Rattle.ist_core.specs.Replies.{Answered}
 use Rattle.ist_core.specs.RowLayout.{place_limit}
 use Rattle.ist_rest.specs.RestingWords.{HoldPairs}
 use Rattle.ist_rest.proofs.WholeLemmas.{same_pairs}
-use Rattle.ist_rest.specs.Standings.{Stands}
 use Rattle.ist_tree.specs.Faces.{TreeFace, MakerFace}
 use Rattle.ist_tree.specs.Opening.{words_for}
 use Rattle.ist_reopen.specs.declared.faults.ReopenFault.{ReopenFault}
 use Rattle.ist_reopen.specs.declared.faults.ReopenFault.TheVariants.{Beyond, Small, Memory}
 use Rattle.ist_map.specs.Growing.{IsGrowFault, words_for_tree}
 use Rattle.ist_reopen.specs.Reopening.{OpensAfter, IsReopenFaultOf}
-use Rattle.ist_map.specs.Running.{HasRunTo, HasStopped, IsUnderway, OpensEnough}
-use Rattle.ist_map.proofs.RunLemmas.{run_none, run_on}
+use Rattle.ist_map.specs.Running.{HasStopped, IsUnderway, OpensEnough}
 
 -- ---- how many words a tree has
 
@@ -81,66 +79,35 @@ any_refused {H = H} refused hands found =
     as_seen (x ∷ xs) = ap (λ b. is_some (refused x) || b) (as_seen xs)
 
 -- what is true of the fault that is passed on is true of the result
-pub passed_on : {A : Type 0} (r : Result A ReopenFault) (fault : ReopenFault)
-    (P : ReopenFault → Type 0) → IsErrAnd r (λ x. x ≡ fault) → P fault → IfErr r P
+pub passed_on : {A F : Type 0} (r : Result A F) (fault : F) (P : F → Type 0)
+    → IsErrAnd r (λ x. x ≡ fault) → P fault → IfErr r P
 passed_on (Ok a) fault P same p = tt
 passed_on (Err e) fault P same p = subst P (sym same) p
 
--- no tree yet, so that no one was refused
-pub underway_none : (words : List ℕ) (asked : ℕ) (told : List (List Answered))
-    (refused : List (Option Full)) → Stands words
-    → IsUnderway words words asked asked told told refused
-unfolding run_none
-underway_none words asked told refused s = record {
-  run = run_none words asked told s;
-  one_refused = λ some. absurd (some refl);
-}
-
--- one tree more
-pub one_more : (first middle last : List ℕ) (asked next later : ℕ)
-    (before between after : List (List Answered))
-    → HasRunTo first middle asked next before between
-    → HasRunTo middle last next later between after
-    → HasRunTo first last asked later before after
-one_more first middle last asked next later before between after a =
-    subst (λ n. HasRunTo middle last n later between after → HasRunTo first last asked later before after)
-    a.next_is (run_on first middle last asked later before between after a.ran)
-
--- one tree more, on which a worker was refused
-pub underway_more : (first middle last : List ℕ) (asked next later : ℕ)
-    (before between after : List (List Answered)) (old refused : List (Option Full))
-    → IsUnderway first middle asked next before between old
-    → HasRunTo middle last next later between after → Any IsSome refused → (now : ℕ) → now ≡ later
-    → IsUnderway first last asked now before after refused
-underway_more first middle last asked next later before between after old refused u run one now same = record {
-  run = record {
-    ran = (one_more first middle last asked next later before between after u.run run).ran;
-    next_is = (one_more first middle last asked next later before between after u.run run).next_is
-        ∙ sym same;
-  };
-  one_refused = λ some. one;
-}
-
 -- no tree follows
-pub stops : (first last : List ℕ) (asked next : ℕ) (before after : List (List Answered))
+pub stops : (first last : List ℕ) (asked left next : ℕ) (before after : List (List Answered))
     (refused : List (Option Full)) (fault : ReopenFault)
-    → IsUnderway first last asked next before after refused → IsGrowFault last next fault
-    → HasStopped first last asked before after refused fault
-stops first last asked next before after refused fault u cause = record {
-  ran = u.run.ran;
+    → IsUnderway first last asked left next before after refused → IsGrowFault last next fault
+    → HasStopped first last asked left before after refused fault
+stops first last asked left next before after refused fault u cause = record {
+  ran = u.ran;
   one_refused = u.one_refused;
-  cause = subst (λ n. IsGrowFault last n fault) (sym u.run.next_is) cause;
+  refusals = u.refusals;
+  cause = subst (λ n. IsGrowFault last n fault) (sym u.next_is) cause;
 }
 
 -- the same, seen from words and hands that are as they were
 module _ {H : Type 0} (told : H → List Answered) (refused : H → Option Full) where
-  pub stops_here : (first last left : List ℕ) (asked next : ℕ) (before : List (List Answered))
-      (hands now : List H) (fault : ReopenFault)
-      → IsUnderway first last asked next before (map told hands) (map refused hands)
-      → IsGrowFault last next fault → left ≡ last → now ≡ hands
-      → HasStopped first left asked before (map told now) (map refused now) fault
-  stops_here first last left asked next before hands now fault u cause same as_before =
-      subst (λ ws. HasStopped first ws asked before (map told now) (map refused now) fault) (sym same)
-      (subst (λ hs. HasStopped first last asked before (map told hs) (map refused hs) fault)
+  pub stops_here : (first last now_last : List ℕ) (asked left now_left next : ℕ)
+      (before : List (List Answered)) (hands now : List H) (fault : ReopenFault)
+      → IsUnderway first last asked left next before (map told hands) (map refused hands)
+      → IsGrowFault last next fault → now_last ≡ last → now_left ≡ left → now ≡ hands
+      → HasStopped first now_last asked now_left before (map told now) (map refused now) fault
+  stops_here first last now_last asked left now_left next before hands now fault u cause same kept as_before =
+      subst (λ n. HasStopped first now_last asked n before (map told now) (map refused now) fault)
+      (sym kept)
+      (subst (λ ws. HasStopped first ws asked left before (map told now) (map refused now) fault)
+      (sym same)
+      (subst (λ hs. HasStopped first last asked left before (map told hs) (map refused hs) fault)
       (sym as_before)
-      (stops first last asked next before (map told hands) (map refused hands) fault u cause))
+      (stops first last asked left next before (map told hands) (map refused hands) fault u cause)))

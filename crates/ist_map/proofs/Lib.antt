@@ -1,5 +1,6 @@
 pub mod HandLemmas
 pub mod RunLemmas
 pub mod GrowLemmas
+pub mod RefusalLemmas
 pub mod ScriptLemmas
 pub mod OwningLemmas

@@ -1,5 +1,5 @@
 -- How many words the trees of a map's life have, and why no further one is opened.
-use Rattle.std.specs.Prelude.{◌≡◌, ℕ, ◌*◌, ◌<◌, ◌≤◌, max, List, [], ◌∷◌}
+use Rattle.std.specs.Prelude.{◌≡◌, ℕ, ◌*◌, ◌<◌, ◌≤◌, max, min, if◌then◌else◌, nat_lt, List, [], ◌∷◌}
 use Rattle.ist_core.specs.declared.pairs.Pair.{Pair}
 use Rattle.ist_core.specs.RowLayout.{place_limit}
 use Rattle.ist_rest.specs.RestingWords.{HoldPairs}
@@ -15,18 +15,27 @@ use Rattle.ist_reopen.specs.Generations.{Generation}
 abbrev pub words_for_tree : ℕ → List Pair → ℕ
 words_for_tree asked pairs = max asked (words_for pairs)
 
--- `asked` words are asked for the first tree, and for each other one twice the words of the one
--- before
+-- how many words are asked for after a tree of this many: twice as many, or as many as a tree may
+-- have if these are fewer; but after a tree of that many twice as many, which no tree has
+abbrev pub words_after : ℕ → ℕ
+words_after words = if nat_lt words place_limit then min place_limit (2 * words) else 2 * words
+
+-- `asked` words are asked for the first tree, and for each other one what follows from the words of
+-- the one before
 abbrev pub HaveDoubled : ℕ → List Generation → Type 0
 HaveDoubled asked [] = Unit {0}
 HaveDoubled asked (g ∷ more) =
-    (g.words ≡ words_for_tree asked g.start) × HaveDoubled (2 * g.words) more
+    (g.words ≡ words_for_tree asked g.start) × HaveDoubled (words_after g.words) more
 
--- how many words are asked for after these trees: twice the words of the last one, or `asked` if
--- there is none
+-- how many words are asked for after these trees, or `asked` if there is none
 abbrev pub asked_after : ℕ → List Generation → ℕ
 asked_after asked [] = asked
-asked_after asked (g ∷ more) = asked_after (2 * g.words) more
+asked_after asked (g ∷ more) = asked_after (words_after g.words) more
+
+-- how many words the last of these trees has, or `asked` if there is none
+abbrev pub last_words : ℕ → List Generation → ℕ
+last_words asked [] = asked
+last_words asked (g ∷ more) = last_words g.words more
 
 -- why no tree is opened over the closed words if this many words are asked for: they are more than a
 -- tree may have (`Beyond`), or the pairs take more than a tree may have (`Small`), or memory ran out

@@ -6,5 +6,5 @@ use Rattle.ist_map.specs.Running.{HasRunOn, IsOneHistory}
 -- a run of workers is one legal history of their calls
 abbrev pub RunsAreOneHistory : Type 0
 RunsAreOneHistory =
-    (first last : List ℕ) (asked : ℕ) (before after : List (List Answered))
-    → HasRunOn first last asked before after → IsOneHistory first last before after
+    (first last : List ℕ) (asked left : ℕ) (before after : List (List Answered))
+    → HasRunOn first last asked left before after → IsOneHistory first last before after

@@ -1,11 +1,13 @@
 //! Workers and their passes: each gets the pass with its number on a tree, works, and gives it back.
 ghost use Rattle.std.specs.Prelude.{◌≡◌, ◌+◌, ◌++◌, ◌<◌, ◌≤◌, ◌∷◌, [], ℕ, List, length, map, max};
-ghost use Rattle.std.specs.Prelude.{false, All, None, OnOk, is_some};
+ghost use Rattle.std.specs.Prelude.{false, All, None, IfErr, IfSome, OnOk, is_some};
 ghost use Rattle.std.specs.List.{list_any, range_with_len};
 ghost use Rattle.ist_core.specs.Enabled.{caller_limit};
+ghost use Rattle.ist_core.specs.Logs.{GoesOn};
 ghost use Rattle.ist_core.specs.Replies.{Answered};
 ghost use Rattle.ist_core.specs.Resting.{told_by_call};
-ghost use Rattle.ist_map.specs.Hands.{IsHired, IsOn, pass_number, calls_by, HaveWorked};
+ghost use Rattle.ist_map.specs.Hands.{IsHired, IsOn, pass_number, calls_by, seen_by, HaveWorked};
+ghost use Rattle.ist_map.specs.Refusing.{HandleWasRefused, IsRefusalOn};
 
 use crate::handles::MapHandle;
 use ist_core::Full;
@@ -23,14 +25,17 @@ pub trait Worker {
     /// Makes calls by this handle, which has made none on its tree, until there is nothing left to do
     /// or a call is refused.
     ///
-    /// `Err` asks for another tree with the same pairs and more words. `work` is called again there,
-    /// with a new handle, and goes on with the call that was refused.
+    /// `Err` asks for another tree with the same pairs and more words, since a call by this handle was
+    /// refused, or a rebuild after one. `work` is called again there, with a new handle, and goes on
+    /// with the call that was refused.
     fn work(&mut self, handle: &mut MapHandle<'_>) -> Result<(), Full>
         requires no_calls { handle.old.calls ≡ [] }
         ensures same_tree { handle.new.tree ≡ handle.old.tree }
         ensures number { handle.new.number ≡ handle.old.number }
         ensures told { told self.new ≡ told self.old ++ map told_by_call handle.new.calls }
-        ensures done { OnOk result (is_done self.new) };
+        ensures done { OnOk result (is_done self.new) }
+        ensures refused { handle.old.refused ≡ None
+            → IfErr result (HandleWasRefused handle.old handle.new.seen) };
 }
 
 /// A worker, with its pass while there is a tree to work on.
@@ -82,6 +87,7 @@ impl<W: Worker> Hand<W> {
         ensures told { W.told self.new.worker
             ≡ W.told self.old.worker ++ map told_by_call (calls_by self.new.pass).calls }
         ensures done { self.new.refused ≡ None → W.is_done self.new.worker }
+        ensures refused { IfSome self.new.refused (IsRefusalOn tree.now (seen_by self.new.pass)) }
     {
         if let Some(pass) = self.pass.take() {
             let mut handle = MapHandle::of(tree, pass);
@@ -99,6 +105,8 @@ impl<W: Worker> Hand<W> {
         ensures same_tree { maker.new.tree ≡ maker.old.tree }
         ensures made { maker.new.made ≡ maker.old.made }
         ensures taken { maker.new.taken ≡ calls_by self.old.pass ∷ maker.old.taken }
+        ensures seen { GoesOn maker.old.seen maker.new.seen }
+        ensures pass_seen { GoesOn (seen_by self.old.pass) maker.new.seen }
     {
         if let Some(pass) = self.pass.take() {
             tree.take_back(maker, pass);
@@ -137,6 +145,7 @@ pub(crate) fn work_all<R: Threads + Sync, W: Worker + Send>(
     ensures told { HaveWorked (map (λ h. W.told h.worker) hands.old)
         (map (λ h. (calls_by h.pass).calls) hands.new) (map (λ h. W.told h.worker) hands.new) }
     ensures done { All (λ h. h.refused ≡ None → W.is_done h.worker) hands.new }
+    ensures refused { All (λ h. IfSome h.refused (IsRefusalOn tree.now (seen_by h.pass))) hands.new }
 {
     // `for_each_mut` requires at least one thread. It starts none if there are no workers.
     let count = hands.len().max(1);
@@ -153,6 +162,9 @@ pub(crate) fn dismiss_all<W: Worker>(tree: &Tree, maker: &mut Maker, hands: &mut
     ensures same_tree { maker.new.tree ≡ maker.old.tree }
     ensures made { maker.new.made ≡ maker.old.made }
     ensures taken { maker.new.taken ≡ map (λ h. calls_by h.pass) hands.old ++ maker.old.taken }
+    ensures seen { GoesOn maker.old.seen maker.new.seen }
+    ensures refused { All (λ h. IfSome h.refused (IsRefusalOn tree.now (seen_by h.pass))) hands.old
+        → All (λ h. IfSome h.refused (IsRefusalOn tree.now maker.new.seen)) hands.new }
 {
     if let Some((first, rest)) = hands.split_first_mut() {
         dismiss_all(tree, maker, rest);

@@ -6,8 +6,8 @@ ghost use Rattle.ist_core.specs.Enabled.{caller_limit};
 ghost use Rattle.ist_core.specs.RowLayout.{place_limit};
 ghost use Rattle.ist_rest.specs.RestingWords.{HoldPairs};
 ghost use Rattle.ist_tree.specs.Opening.{IsNewTree};
-ghost use Rattle.ist_map.specs.Growing.{IsFirstFault, IsGrowFault};
-ghost use Rattle.ist_map.specs.Running.{HasRunOn, HasRunTo, HasStopped, OpensEnough};
+ghost use Rattle.ist_map.specs.Growing.{IsFirstFault, IsGrowFault, words_after};
+ghost use Rattle.ist_map.specs.Running.{HasRunOn, HasRunOnOne, HasStopped, OpensEnough};
 
 use crate::hands::{Hand, Worker, dismiss_all, has_refused, hire_all, work_all};
 use ist_core::Pair;
@@ -83,11 +83,12 @@ impl Map {
     /// started.
     ///
     /// They share one tree. If a worker's call is refused, the tree is closed as soon as all have
-    /// stopped, and all go on in a tree of twice the words (or of more, if the pairs take more) that
-    /// begins with the same pairs. So with memory a run ends when the workers end, or when a worker
-    /// was refused on a tree of more than half of `MOST_WORDS` words (`Beyond`), or when the pairs
-    /// alone take more than `MOST_WORDS` words (`Small`). Then, and also if memory runs out, the map
-    /// has all pairs that were put, each worker knows what it was told, and `run` may be called again.
+    /// stopped, and all go on in a tree of twice the words (of `MOST_WORDS` if that is more, and of more
+    /// if the pairs take more) that begins with the same pairs. So with memory a run ends when the
+    /// workers end, or when a worker was refused on a tree of `MOST_WORDS` words (`Beyond`), or when the
+    /// pairs alone take more than `MOST_WORDS` words (`Small`). Then, and also if memory runs out, the
+    /// map has all pairs that were put, each worker knows what it was told, and `run` may be called
+    /// again. Its first tree has the words of the last one then.
     pub fn run<R: Threads + Sync, W: Worker + Send>(
         &mut self,
         rt: &R,
@@ -95,45 +96,48 @@ impl Map {
         hands: &mut [Hand<W>],
     ) -> Result<(), ReopenFault>
         requires few { length hands.old ≤ caller_limit }
-        ensures ran { HasRunOn self.old.closed self.new.closed self.old.words
+        ensures ran { HasRunOn self.old.closed self.new.closed self.old.words self.new.words
             (map (λ h. W.told h.worker) hands.old) (map (λ h. W.told h.worker) hands.new) }
         ensures done { OnOk result (All (λ h. W.is_done h.worker) hands.new) }
         ensures fault { IfErr result (λ f. HasStopped self.old.closed self.new.closed self.old.words
-            (map (λ h. W.told h.worker) hands.old) (map (λ h. W.told h.worker) hands.new)
-            (map (λ h. h.refused) hands.new) f) }
+            self.new.words (map (λ h. W.told h.worker) hands.old)
+            (map (λ h. W.told h.worker) hands.new) (map (λ h. h.refused) hands.new) f) }
     {
         self.closed.know();
+        let mut words = self.words;
         loop {
-            self.run_once(rt, alloc, hands)?;
+            self.run_once(rt, alloc, words, hands)?;
             if !has_refused(hands) {
                 return Ok(());
             }
-            self.words = doubled(self.words)?;
+            words = words_after(self.words)?;
         }
     }
 
-    // Lets the workers run on one tree until each has stopped.
+    // Lets the workers run on one tree of this many words until each has stopped.
     fn run_once<R: Threads + Sync, W: Worker + Send>(
         &mut self,
         rt: &R,
         alloc: Global,
+        words: u32,
         hands: &mut [Hand<W>],
     ) -> Result<(), ReopenFault>
         requires few { length hands.old ≤ caller_limit }
-        ensures ran { OnOk result
-            (HasRunTo self.old.closed self.new.closed self.old.words (2 * self.new.words)
-            (map (λ h. W.told h.worker) hands.old) (map (λ h. W.told h.worker) hands.new)) }
-        ensures more { OnOk result (self.old.words ≤ self.new.words) }
+        ensures ran { OnOk result (HasRunOnOne self.old.closed self.new.closed words self.new.words
+            (map (λ h. W.told h.worker) hands.old) (map (λ h. W.told h.worker) hands.new)
+            (map (λ h. h.refused) hands.new)) }
+        ensures more { OnOk result (words ≤ self.new.words) }
         ensures some { OnOk result (0 < self.new.words) }
         ensures within { OnOk result (self.new.words ≤ MOST_WORDS) }
-        ensures fault { IfErr result (IsGrowFault self.old.closed self.old.words) }
+        ensures fault { IfErr result (IsGrowFault self.old.closed words) }
         ensures unchanged { OnErr result (self.new.closed ≡ self.old.closed) }
+        ensures kept { OnErr result (self.new.words ≡ self.old.words) }
         ensures idle { OnErr result (hands.new ≡ hands.old) }
         ensures done { OnOk result (All (λ h. h.refused ≡ None → W.is_done h.worker) hands.new) }
         ensures same { length hands.new ≡ length hands.old }
     {
         self.closed.know();
-        let (tree, mut maker) = open_enough(alloc, &mut self.image, &self.closed, self.words)?;
+        let (tree, mut maker) = open_enough(alloc, &mut self.image, &self.closed, words)?;
         self.words = tree.words() as u32;
         hire_all(&tree, &mut maker, hands);
         work_all(rt, &tree, hands);
@@ -182,15 +186,16 @@ fn open_enough(
     }
 }
 
-// Returns twice as many words, if a tree may have so many.
-fn doubled(words: u32) -> Result<u32, ReopenFault>
+// Returns how many words are asked for after a tree of this many, if a tree may have more.
+fn words_after(words: u32) -> Result<u32, ReopenFault>
     requires within { words ≤ MOST_WORDS }
-    ensures twice { IfOk result (λ w. w ≡ 2 * words) }
-    ensures fault { IfErr result (λ f. (closed : List ℕ) → IsGrowFault closed (2 * words) f) }
+    ensures next { IfOk result (λ w. w ≡ words_after words) }
+    ensures more { IfOk result (λ w. 0 < words → words < w) }
+    ensures fault { IfErr result (λ f. (closed : List ℕ) → IsGrowFault closed (words_after words) f) }
 {
     let twice = 2 * words;
-    if twice > MOST_WORDS {
+    if words >= MOST_WORDS {
         return Err(ReopenFault::Beyond { words: twice });
     }
-    Ok(twice)
+    Ok(twice.min(MOST_WORDS))
 }

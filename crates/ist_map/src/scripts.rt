@@ -1,7 +1,11 @@
 //! A worker that makes given calls, one after another.
-ghost use Rattle.std.specs.Prelude.{◌≡◌, ◌≤◌, ◌++◌, ◌∷◌, [], ℕ, List, length, map, IfOk, OnOk, OnErr, vec_capacity};
+ghost use Rattle.std.specs.Prelude.{◌≡◌, ◌≤◌, ◌⊎◌, ◌++◌, ◌∷◌, [], ℕ, List, length, map, Some, None};
+ghost use Rattle.std.specs.Prelude.{IfOk, IfErr, OnOk, OnErr, vec_capacity};
+ghost use Rattle.ist_core.specs.declared.ports.Full.{Full};
 ghost use Rattle.ist_core.specs.Replies.{Answered, told};
 ghost use Rattle.ist_core.specs.Resting.{told_by_call};
+ghost use Rattle.ist_tree.specs.Calls.{HasSeenMore};
+ghost use Rattle.ist_map.specs.Refusing.{IsRefusedTo};
 ghost use Rattle.ist_map.specs.Scripts.{told_in};
 
 use crate::handles::MapHandle;
@@ -77,11 +81,13 @@ impl Script {
 
 // Makes one call.
 fn call(handle: &mut MapHandle<'_>, command: Command) -> Result<Reply, Full>
-    ensures same_tree { handle.new.tree ≡ handle.old.tree }
-    ensures number { handle.new.number ≡ handle.old.number }
+    ensures seen { HasSeenMore handle.old handle.new }
     ensures added { IfOk result (λ reply. map told_by_call handle.new.calls
         ≡ map told_by_call handle.old.calls ++ told command reply ∷ []) }
     ensures unchanged { OnErr result (handle.new.calls ≡ handle.old.calls) }
+    ensures full { IfErr result (IsRefusedTo handle.old handle.new) }
+    ensures refused { (full : Full) → handle.new.refused ≡ Some full
+        → (handle.old.refused ≡ Some full) ⊎ IsRefusedTo handle.old handle.new full }
 {
     match command {
         Command::Put { key, value } => handle.insert(key, value),

@@ -1,55 +1,62 @@
-use Rattle.std.proofs.Common.{rules, refl}
-use Rattle.ist_map.proofs.GrowLemmas.{any_refused, passed_on, underway_none, one_more, underway_more, stops, stops_here}
+use Rattle.std.proofs.Common.{rules, refl, arith}
+use Rattle.ist_map.proofs.GrowLemmas.{any_refused, passed_on, stops, stops_here}
+use Rattle.ist_map.proofs.RunLemmas.{run_none, one_more, underway_more}
 use Rattle.ist_map.proofs.running.Map.run.Goals as goal
 
 -- no tree yet
 pub loop-hands-init : goal.loop-hands-init
 loop-hands-init g c = record {
   few = c.requires.few;
-  underway = underway_none _ _ _ _ c.know.ensures.stands;
+  underway = run_none _ _ _ _ c.know.ensures.stands;
 }
 
 -- no tree was opened, over the words that the last one left
 pub returns-in_err-run_once-clause-fault : goal.returns-in_err-run_once-clause-fault
 returns-in_err-run_once-clause-fault g c =
     passed_on c.from_residual.result _ _ c.from_residual.ensures.1
-    (stops_here (λ h. g.W.Worker.told h.worker) (λ h. h.refused) _ _ _ _ _ _ _ _ _
+    (stops_here (λ h. g.W.Worker.told h.worker) (λ h. h.refused) _ _ _ _ _ _ _ _ _ _ _
     c.loop-hands.invariant.underway c.in_err-run_once.ensures.fault
-    c.in_err-run_once.ensures.unchanged c.in_err-run_once.ensures.idle)
+    c.in_err-run_once.ensures.unchanged c.in_err-run_once.ensures.kept
+    c.in_err-run_once.ensures.idle)
 
 pub returns-in_err-run_once-clause-ran : goal.returns-in_err-run_once-clause-ran
 returns-in_err-run_once-clause-ran g c =
-    (stops_here (λ h. g.W.Worker.told h.worker) (λ h. h.refused) _ _ _ _ _ _ _ _ _
+    (stops_here (λ h. g.W.Worker.told h.worker) (λ h. h.refused) _ _ _ _ _ _ _ _ _ _ _
     c.loop-hands.invariant.underway c.in_err-run_once.ensures.fault
-    c.in_err-run_once.ensures.unchanged c.in_err-run_once.ensures.idle).ran
+    c.in_err-run_once.ensures.unchanged c.in_err-run_once.ensures.kept
+    c.in_err-run_once.ensures.idle).ran
 
 -- one tree more, on which all are done
 pub returns-then-not-has_refused-clause-ran : goal.returns-then-not-has_refused-clause-ran
 returns-then-not-has_refused-clause-ran g c =
-    (one_more _ _ _ _ _ _ _ _ _ c.loop-hands.invariant.underway.run c.in_ok-run_once.ensures.ran).ran
+    one_more _ _ _ _ _ _ _ _ _ _ _ _ c.loop-hands.invariant.underway c.in_ok-run_once.ensures.ran
 
--- one tree more, and no tree has twice its words
-pub returns-in_err-self-clause-fault : goal.returns-in_err-self-clause-fault
-returns-in_err-self-clause-fault g c =
-    passed_on c.from_residual-in_err-self.result _ _ c.from_residual-in_err-self.ensures.1
-    (stops _ _ _ _ _ _ _ _
-    (underway_more _ _ _ _ _ _ _ _ _ _ _ c.loop-hands.invariant.underway
+-- one tree more, and none may have more words
+pub returns-in_err-words-clause-fault : goal.returns-in_err-words-clause-fault
+returns-in_err-words-clause-fault g c =
+    passed_on c.from_residual-in_err-words.result _ _ c.from_residual-in_err-words.ensures.1
+    (stops _ _ _ _ _ _ _ _ _
+    (underway_more _ _ _ _ _ _ _ _ _ _ _ _ c.loop-hands.invariant.underway
     c.in_ok-run_once.ensures.ran
     (any_refused (λ h. h.refused) c.run_once.new.hands (search rules)) _ refl)
-    (c.in_err-self.ensures.fault c.run_once.new.self.closed))
+    (c.in_err-words.ensures.fault c.run_once.new.self.closed))
 
-pub returns-in_err-self-clause-ran : goal.returns-in_err-self-clause-ran
-returns-in_err-self-clause-ran g c =
-    (one_more _ _ _ _ _ _ _ _ _ c.loop-hands.invariant.underway.run c.in_ok-run_once.ensures.ran).ran
+pub returns-in_err-words-clause-ran : goal.returns-in_err-words-clause-ran
+returns-in_err-words-clause-ran g c =
+    one_more _ _ _ _ _ _ _ _ _ _ _ _ c.loop-hands.invariant.underway c.in_ok-run_once.ensures.ran
 
--- the next tree has more words, and no more than the most
+-- the next tree has more words, and the last one no more than the most
 pub loop-hands-smaller : goal.loop-hands-smaller
-loop-hands-smaller g c = search rules
+loop-hands-smaller g c =
+    let more = c.in_ok-run_once.ensures.more in
+    let within = c.in_ok-run_once.ensures.within in
+    let less = c.in_ok-words.ensures.more c.in_ok-run_once.ensures.some in
+    omega arith
 
 pub loop-hands-preserved : goal.loop-hands-preserved
 loop-hands-preserved g c = record {
   few = search rules;
-  underway = underway_more _ _ _ _ _ _ _ _ _ _ _ c.loop-hands.invariant.underway
+  underway = underway_more _ _ _ _ _ _ _ _ _ _ _ _ c.loop-hands.invariant.underway
       c.in_ok-run_once.ensures.ran (any_refused (λ h. h.refused) c.run_once.new.hands (search rules)) _
-      c.in_ok-self.ensures.twice;
+      c.in_ok-words.ensures.next;
 }

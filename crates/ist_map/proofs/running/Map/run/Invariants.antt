@@ -8,11 +8,11 @@ use Rattle.ist_map.proofs.running.Map.run.Given as goal
 abbrev pub invariant-loop-hands : goal.invariant-loop-hands
 invariant-loop-hands g l = record {
   few : length l.hands ≤ caller_limit;
-  underway : IsUnderway l.fn.self.closed l.self.closed l.fn.self.words l.self.words
+  underway : IsUnderway l.fn.self.closed l.self.closed l.fn.self.words l.self.words l.words
       (map (λ h. g.W.Worker.told h.worker) l.fn.hands)
       (map (λ h. g.W.Worker.told h.worker) l.hands) (map (λ h. h.refused) l.hands);
 }
 
 -- each tree but the first has more words than the one before, and none has more than the most
 abbrev pub decreases-loop-hands : goal.decreases-loop-hands
-decreases-loop-hands g l = 2 * place_limit - l.self.words
+decreases-loop-hands g l = 2 * place_limit - l.words

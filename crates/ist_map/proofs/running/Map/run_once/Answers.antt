@@ -1,11 +1,14 @@
-use Rattle.std.proofs.Common.{◌≡◌, ◌∙◌, ◌++◌, map, length, sym, ap, subst, append-nil, arith}
+use Rattle.std.proofs.Common.{◌≡◌, ◌∙◌, ◌++◌, map, length, IfSome, sym, ap, subst, append-nil, arith}
+use Rattle.std.proofs.lemmas.List.Elements.{All-map}
 use Rattle.std.specs.List.{range_with_len}
 use Rattle.ist_rest.specs.RestingWords.{HoldPairs}
 use Rattle.ist_tree.specs.Faces.{TreeFace}
 use Rattle.ist_map.specs.Growing.{words_for_tree}
 use Rattle.ist_map.specs.Hands.{calls_by}
 use Rattle.ist_map.proofs.HandLemmas.{all_worked}
-use Rattle.ist_map.proofs.RunLemmas.{run_one}
+use Rattle.ist_map.specs.Refusing.{WasRefusedOn}
+use Rattle.ist_map.proofs.RunLemmas.{refused_on, run_one}
+use Rattle.ist_reopen.specs.Generations.{generation_of}
 use Rattle.ist_map.proofs.running.Map.run_once.Goals as goal
 
 -- the workers ran on one tree, which was opened over the words and closed with its maker
@@ -20,12 +23,12 @@ returns-clause-ran g c =
     let as_many = c.work_all.auto.hands in
     let as_before = c.hire_all.auto.hands in
     let long : length c.work_all.new.hands ≡ length c.args.hands.now = omega arith in
-    run_one _ _ _ _ _ _ c.dismiss_all.new.maker
+    run_one _ _ _ _ _ _ _ c.dismiss_all.new.maker
     (subst (λ (t : TreeFace). HoldPairs c.args.self.now.closed t.start) (sym same_tree)
     opened.opens.holds)
     (c.close.ensures.words ∙ sym c.words.ensures.value)
     (c.words.ensures.value ∙ new.words_is ∙ opened.words_is
-    ∙ ap (λ (t : TreeFace). words_for_tree c.args.self.now.words t.start) (sym same_tree))
+    ∙ ap (λ (t : TreeFace). words_for_tree c.args.words t.start) (sym same_tree))
     c.close.ensures.stands
     (all_worked (λ h. g.W.Worker.told h.worker) (λ h. calls_by h.pass) c.args.hands.now
     c.hire_all.new.hands c.work_all.new.hands c.dismiss_all.new.hands c.dismiss_all.new.maker
@@ -38,3 +41,7 @@ returns-clause-ran g c =
     (c.work_all.ensures.numbers ∙ c.hire_all.ensures.numbers
     ∙ ap (λ n. range_with_len n (length c.args.hands.now)) none
     ∙ ap (range_with_len 0) (sym long)))
+    (All-map (λ r. IfSome r (WasRefusedOn (generation_of _ _ c.close.ensures.stands)))
+    (λ h. h.refused) c.dismiss_all.new.hands (λ k d low.
+    refused_on _ _ c.close.ensures.stands _ same_tree c.close.ensures.words _
+    (c.dismiss_all.ensures.refused c.work_all.ensures.refused k d low)))

@@ -1,4 +1,7 @@
 use Rattle.std.proofs.Common.{◌≡◌, ◌<◌, length, slice_index_or, rules}
+use Rattle.ist_tree.proofs.HeardLemmas.{seen_more_then, seen_same}
+use Rattle.ist_map.proofs.GrowLemmas.{passed_on}
+use Rattle.ist_map.proofs.RefusalLemmas.{refused_now, kept_now}
 use Rattle.ist_map.proofs.ScriptLemmas.{told_more}
 use Rattle.ist_map.proofs.scripts.ScriptWorker.work.Goals as goal
 
@@ -16,8 +19,8 @@ returns-in-Some-clause-told c =
 -- one command more has its reply
 pub loop-self-preserved : goal.loop-self-preserved
 loop-self-preserved c = record {
-  same_tree = search rules;
-  number = search rules;
+  seen = seen_more_then _ _ _ c.loop-self.invariant.seen c.call.ensures.seen;
+  unrefused = λ none. search rules;
   commands = search rules;
   few = search rules;
   room = search rules;
@@ -30,3 +33,27 @@ loop-self-preserved c = record {
       told_more commands replies _ c.in_ok-reply.reply command _ _ _ c.push_reserved.ensures.items
       low is c.loop-self.invariant.told c.in_ok-reply.ensures.added;
 }
+
+-- no call yet
+pub loop-self-init : goal.loop-self-init
+loop-self-init c = record {
+  seen = seen_same _;
+  unrefused = λ none. none;
+  commands = search rules;
+  few = search rules;
+  room = search rules;
+  told = search rules;
+}
+
+-- the last call was refused
+pub returns-in_err-reply-clause-refused : goal.returns-in_err-reply-clause-refused
+returns-in_err-reply-clause-refused c none =
+    passed_on c.from_residual.result _ _ c.from_residual.ensures.1
+    (refused_now _ _ _ _ c.loop-self.invariant.seen c.call.ensures.seen
+    c.in_err-reply.ensures.full)
+
+-- the rebuild after it was
+pub returns-in-Some-clause-refused : goal.returns-in-Some-clause-refused
+returns-in-Some-clause-refused c none =
+    kept_now _ _ _ _ c.loop-self.invariant.seen c.call.ensures.seen
+    (c.loop-self.invariant.unrefused none) (c.call.ensures.refused _ (search rules))

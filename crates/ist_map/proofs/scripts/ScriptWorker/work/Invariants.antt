@@ -1,13 +1,14 @@
-use Rattle.std.proofs.Common.{◌≡◌, ◌≤◌, ◌-◌, ◌++◌, length, map, vec_capacity}
+use Rattle.std.proofs.Common.{◌≡◌, ◌≤◌, ◌-◌, ◌++◌, length, map, None, vec_capacity}
 use Rattle.ist_core.specs.Resting.{told_by_call}
+use Rattle.ist_tree.specs.Calls.{HasSeenMore}
 use Rattle.ist_map.specs.Scripts.{told_in}
 use Rattle.ist_map.proofs.scripts.ScriptWorker.work.Given as goal
 
 -- the calls of the pass are those that were told since it began
 abbrev pub invariant-loop-self : goal.invariant-loop-self
 invariant-loop-self l = record {
-  same_tree : l.handle.tree ≡ l.fn.handle.tree;
-  number : l.handle.number ≡ l.fn.handle.number;
+  seen : HasSeenMore l.fn.handle l.handle;
+  unrefused : l.fn.handle.refused ≡ None → l.handle.refused ≡ None;
   commands : l.self-inside.commands.items ≡ l.fn.self.commands;
   few : length l.self-inside.replies.items ≤ length l.self-inside.commands.items;
   room : length l.self-inside.commands.items ≤ vec_capacity l.self-inside.replies;
