@@ -19,6 +19,7 @@ pub(crate) struct Place {
 
 #[derive(Clone, Copy, Drop)]
 struct Life {
+    key: u64,
     opens: bool,
     left: bool,
 }
@@ -148,7 +149,7 @@ impl Chains {
         if opens && left {
             self.lasting.insert(key)?;
         }
-        self.lives.push(Life { opens, left })?;
+        self.lives.push(Life { key, opens, left })?;
         Ok(followed)
     }
 
@@ -161,6 +162,11 @@ impl Chains {
     pub(crate) fn place(&self, key: u64, value: u64) -> Option<Place> {
         let place = *self.places.get(&value)?;
         if place.key == key { Some(place) } else { None }
+    }
+
+    /// Returns the key of this life.
+    pub(crate) fn key(&self, life: usize) -> u64 {
+        self.lives.get(life).map_or(0, |known| known.key)
     }
 
     /// Returns whether this life began at the opening.

@@ -3,8 +3,8 @@
 //! order of their calls.
 //!
 //! Read `drawing.rt`, `sharing.rt`, `spreads.rt`, `openings.rt` and `options.rt`; of the judge
-//! `telling.rt`, then `Order::of` in `orders.rt` and `judge_moments` in `cuts.rt`. Doesn't use the tree;
-//! stands on `ist_core`, `plain_map` and `clap`.
+//! `telling.rt`, then `Order::of` in `orders.rt`, `times.rt`, and `judge_moments` in `cuts.rt`. Doesn't use the
+//! tree; stands on `ist_core`, `plain_map` and `clap`.
 #![tactic(auto)]
 
 mod chains;
@@ -17,6 +17,7 @@ mod orders;
 mod sharing;
 mod spreads;
 mod telling;
+mod times;
 
 pub use cuts::judge_moments;
 pub use drawing::Draws;
@@ -30,3 +31,4 @@ pub use orders::Order;
 pub use sharing::{Kind, Shares};
 pub use spreads::Spread;
 pub use telling::{Asked, Told};
+pub use times::{Clock, Timed, When};

@@ -23,6 +23,8 @@ pub enum Misfit {
     NotFound { key: u64 },
     /// Two threads saw lives of a key in different orders.
     Around,
+    /// A call on the key found what was there before another call had ended, though it began after that.
+    Stale { key: u64 },
     /// A frozen tree shows a change of a thread, and not one that it made before.
     Torn { key: u64 },
     /// Of two frozen trees each shows a value that came after the other's.

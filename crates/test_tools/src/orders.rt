@@ -212,6 +212,11 @@ impl Order {
         Ok(Order { chains, ranks })
     }
 
+    /// Returns the lives of all keys.
+    pub(crate) fn chains(&self) -> &Chains {
+        &self.chains
+    }
+
     /// Returns the position of the value at the key: the number of its life, and its place in it.
     pub(crate) fn position(&self, key: u64, value: u64) -> Option<(u64, u64)> {
         let place = self.chains.place(key, value)?;
