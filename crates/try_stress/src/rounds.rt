@@ -9,7 +9,7 @@ use ist_tree::{Maker, Pass, Tree};
 use std::alloc::{AllocError, Global};
 use std::thread;
 use std::thread::Threads;
-use test_tools::{Misfit, Order};
+use test_tools::{Clock, Misfit, Order, Timed, Told};
 
 /// A worker for each thread, each with a pass of its own.
 pub(crate) fn make_workers(
@@ -45,7 +45,13 @@ fn call_all<R: Threads + Sync>(rt: &R, alloc: Global, tree: &Tree, workers: &mut
 {
     if !workers.is_empty() {
         let count = workers.len();
-        thread::for_each_mut(rt, workers, count, &|_, worker| worker.work(alloc, tree));
+        let clock = Clock::new();
+        thread::for_each_mut(
+            rt,
+            workers,
+            count,
+            &|_, worker| { worker.work(alloc, tree, &clock) },
+        );
     }
 }
 
@@ -112,6 +118,31 @@ fn pairs_of(alloc: Global, values: &[Reply]) -> Result<Vec<Pair>, AllocError> {
     Ok(pairs)
 }
 
+// What each worker was told, without the times.
+fn all_told(alloc: Global, threads: &[Vec<Timed>]) -> Result<Vec<Vec<Told>>, AllocError> {
+    let mut all = Vec::new(alloc);
+    for calls in threads.iter() {
+        let mut told = Vec::new(alloc);
+        for call in calls.iter() {
+            told.push(call.told)?;
+        }
+        all.push(told)?;
+    }
+    Ok(all)
+}
+
+// Judges calls with their times.
+fn judge_all(
+    alloc: Global,
+    opening: &[Pair],
+    threads: &[Vec<Timed>],
+    closing: &[Pair],
+) -> Result<(), Misfit> {
+    let told = all_told(alloc, threads)?;
+    let order = Order::of(alloc, opening, told.as_slice(), closing)?;
+    order.judge_times(alloc, threads)
+}
+
 // Judges what the workers were told in a round, by what each key had when it began and at its end.
 fn judge(
     alloc: Global,
@@ -129,13 +160,13 @@ fn judge(
     }
     let opening = pairs_of(alloc, opening)?;
     let ends = pairs_of(alloc, ends)?;
-    match Order::of(
+    match judge_all(
         alloc,
         opening.as_slice(),
         threads.as_slice(),
         ends.as_slice(),
     ) {
-        Ok(_) => Ok(()),
+        Ok(()) => Ok(()),
         Err(Misfit::Memory) => Err(Fault::Memory),
         Err(misfit) => Err(Fault::Wrong { round, misfit }),
     }

@@ -7,7 +7,7 @@ use ist_core::{Full, Pair, Reply};
 use ist_live::{at_least, list_live};
 use ist_tree::{Frozen, Holds, Pass, Tree};
 use std::alloc::{AllocError, Global};
-use test_tools::{Asked, Draws, Kind, Told};
+use test_tools::{Asked, Clock, Draws, Kind, Timed, Told, When};
 
 /// How many keys a list reads at most.
 const LISTED: u64 = 64;
@@ -71,7 +71,7 @@ pub(crate) struct Worker {
     // How many values it has made up.
     made: u64,
     /// What it was told in the last round, in its order.
-    pub told: Vec<Told>,
+    pub told: Vec<Timed>,
     /// What became of its calls in all rounds.
     pub tally: Tally,
     /// Whether it had no memory left for what it was told.
@@ -120,13 +120,19 @@ fn frozen_pairs(
     Ok(pairs)
 }
 
+// Adds a call that was made then.
+fn tell(told: &mut Vec<Timed>, asked: Asked, reply: Reply, when: When) -> Result<(), AllocError> {
+    told.push(Timed {
+        told: Told { asked, reply },
+        when,
+    })?;
+    Ok(())
+}
+
 // Adds what finds of the keys from one up to another would have been told that have no value.
-fn tell_none(told: &mut Vec<Told>, first: u64, end: u64) -> Result<(), AllocError> {
+fn tell_none(told: &mut Vec<Timed>, first: u64, end: u64, when: When) -> Result<(), AllocError> {
     for key in first..end {
-        told.push(Told {
-            asked: Asked::Find(key),
-            reply: None,
-        })?;
+        tell(told, Asked::Find(key), None, when)?;
     }
     Ok(())
 }
@@ -134,22 +140,20 @@ fn tell_none(told: &mut Vec<Told>, first: u64, end: u64) -> Result<(), AllocErro
 // Adds what a find of each key from `first` to before `end` would have returned if the map has these pairs of
 // them.
 fn tell_pairs(
-    told: &mut Vec<Told>,
+    told: &mut Vec<Timed>,
     pairs: &[Pair],
     first: u64,
     end: u64,
+    when: When,
 ) -> Result<(), AllocError> {
     let mut next = first;
     for pair in pairs {
         let Pair { key, value } = *pair;
-        tell_none(told, next, key.min(end))?;
-        told.push(Told {
-            asked: Asked::Find(key),
-            reply: Some(value),
-        })?;
+        tell_none(told, next, key.min(end), when)?;
+        tell(told, Asked::Find(key), Some(value), when)?;
         next = key.saturating_add(1);
     }
-    tell_none(told, next, end)
+    tell_none(told, next, end, when)
 }
 
 impl Worker {
@@ -183,15 +187,17 @@ impl Worker {
     }
 
     // Makes a call, and keeps what it was told.
-    fn ask(&mut self, tree: &Tree, asked: Asked) -> Result<(), AllocError>
+    fn ask(&mut self, tree: &Tree, clock: &Clock, asked: Asked) -> Result<(), AllocError>
         requires same_tree { self.old.pass.tree ≡ tree.now }
         ensures same_tree { self.new.pass.tree ≡ tree.now }
         ensures plan { self.new.plan ≡ self.old.plan }
     {
+        let began = clock.begin();
         match call(tree, &mut self.pass, asked) {
             Ok(reply) => {
+                let when = clock.end(began);
                 self.tally.count(asked);
-                self.told.push(Told { asked, reply })?;
+                tell(&mut self.told, asked, reply, when)?;
             }
             Err(_) => self.tally.refused = self.tally.refused.wrapping_add(1),
         }
@@ -200,22 +206,22 @@ impl Worker {
 
     // Finds the key, and then makes the update if the key still has that value. Keeps both as the calls that they
     // are by their replies, and counts the second.
-    fn ask_if(&mut self, tree: &Tree, asked: Asked) -> Result<(), AllocError>
+    fn ask_if(&mut self, tree: &Tree, clock: &Clock, asked: Asked) -> Result<(), AllocError>
         requires same_tree { self.old.pass.tree ≡ tree.now }
         ensures same_tree { self.new.pass.tree ≡ tree.now }
         ensures plan { self.new.plan ≡ self.old.plan }
     {
         let find = Asked::Find(asked.key());
+        let began = clock.begin();
         let found = tree.find(&mut self.pass, asked.key());
-        self.told.push(Told {
-            asked: find,
-            reply: found,
-        })?;
+        tell(&mut self.told, find, found, clock.end(began))?;
+        let began = clock.begin();
         match call_if(tree, &mut self.pass, asked, found) {
             Ok(reply) => {
+                let when = clock.end(began);
                 let was = if reply == found { asked } else { find };
                 self.tally.count(was);
-                self.told.push(Told { asked: was, reply })?;
+                tell(&mut self.told, was, reply, when)?;
             }
             Err(_) => self.tally.refused = self.tally.refused.wrapping_add(1),
         }
@@ -223,29 +229,31 @@ impl Worker {
     }
 
     // Makes an update: each fourth one on condition, as the draws fall.
-    fn update(&mut self, tree: &Tree, asked: Asked) -> Result<(), AllocError>
+    fn update(&mut self, tree: &Tree, clock: &Clock, asked: Asked) -> Result<(), AllocError>
         requires same_tree { self.old.pass.tree ≡ tree.now }
         ensures same_tree { self.new.pass.tree ≡ tree.now }
         ensures plan { self.new.plan ≡ self.old.plan }
     {
         if self.draws.below(4) == 0 {
-            self.ask_if(tree, asked)
+            self.ask_if(tree, clock, asked)
         } else {
-            self.ask(tree, asked)
+            self.ask(tree, clock, asked)
         }
     }
 
     // Freezes the tree, and keeps what finds of all keys would have been told at that moment.
-    fn freeze(&mut self, alloc: Global, tree: &Tree) -> Result<(), AllocError>
+    fn freeze(&mut self, alloc: Global, tree: &Tree, clock: &Clock) -> Result<(), AllocError>
         requires same_tree { self.old.pass.tree ≡ tree.now }
         ensures same_tree { self.new.pass.tree ≡ tree.now }
         ensures plan { self.new.plan ≡ self.old.plan }
     {
+        let began = clock.begin();
         match tree.freeze(&mut self.pass) {
             Ok(frozen) => {
+                let when = clock.end(began);
                 let pairs = frozen_pairs(alloc, tree, &mut self.pass, &frozen)?;
                 self.tally.freezes = self.tally.freezes.wrapping_add(1);
-                tell_pairs(&mut self.told, pairs.as_slice(), 0, self.plan.span)?;
+                tell_pairs(&mut self.told, pairs.as_slice(), 0, self.plan.span, when)?;
             }
             Err(_) => self.tally.unfrozen = self.tally.unfrozen.wrapping_add(1),
         }
@@ -254,7 +262,13 @@ impl Worker {
 
     // Lists the pairs of some keys from this one on, and keeps what finds of these keys would have been told, in
     // their order.
-    fn list(&mut self, alloc: Global, tree: &Tree, key: u64) -> Result<(), AllocError>
+    fn list(
+        &mut self,
+        alloc: Global,
+        tree: &Tree,
+        clock: &Clock,
+        key: u64,
+    ) -> Result<(), AllocError>
         requires same_tree { self.old.pass.tree ≡ tree.now }
         ensures same_tree { self.new.pass.tree ≡ tree.now }
         ensures plan { self.new.plan ≡ self.old.plan }
@@ -265,44 +279,54 @@ impl Worker {
             .saturating_add(1)
             .min(self.plan.span);
         let last = end.saturating_sub(1);
+        let began = clock.begin();
         let pairs = list_live(alloc, tree, &mut self.pass, key, last)?;
+        let when = clock.end(began);
         self.tally.finds = self.tally.finds.wrapping_add(1);
-        tell_pairs(&mut self.told, pairs.as_slice(), key, end)
+        tell_pairs(&mut self.told, pairs.as_slice(), key, end, when)
     }
 
     // Reads the next pair from this key on, and keeps what finds of the keys up to it would have been told.
-    fn next(&mut self, tree: &Tree, key: u64) -> Result<(), AllocError>
+    fn next(&mut self, tree: &Tree, clock: &Clock, key: u64) -> Result<(), AllocError>
         requires same_tree { self.old.pass.tree ≡ tree.now }
         ensures same_tree { self.new.pass.tree ≡ tree.now }
         ensures plan { self.new.plan ≡ self.old.plan }
     {
+        let began = clock.begin();
         let pair = at_least(tree, &mut self.pass, key);
+        let when = clock.end(began);
         self.tally.finds = self.tally.finds.wrapping_add(1);
         match pair {
             Some(pair) => {
                 let end = pair.key.saturating_add(1);
-                tell_pairs(&mut self.told, &[pair], key, end)
+                tell_pairs(&mut self.told, &[pair], key, end, when)
             }
-            None => tell_none(&mut self.told, key, self.plan.span),
+            None => tell_none(&mut self.told, key, self.plan.span, when),
         }
     }
 
     // Reads the key: each eighth time as a list from it on, and each eighth time as the next pair, as the draws
     // fall.
-    fn read(&mut self, alloc: Global, tree: &Tree, key: u64) -> Result<(), AllocError>
+    fn read(
+        &mut self,
+        alloc: Global,
+        tree: &Tree,
+        clock: &Clock,
+        key: u64,
+    ) -> Result<(), AllocError>
         requires same_tree { self.old.pass.tree ≡ tree.now }
         ensures same_tree { self.new.pass.tree ≡ tree.now }
         ensures plan { self.new.plan ≡ self.old.plan }
     {
         match self.draws.below(8) {
-            0 => self.list(alloc, tree, key),
-            1 => self.next(tree, key),
-            _ => self.ask(tree, Asked::Find(key)),
+            0 => self.list(alloc, tree, clock, key),
+            1 => self.next(tree, clock, key),
+            _ => self.ask(tree, clock, Asked::Find(key)),
         }
     }
 
     // Makes the next call.
-    fn step(&mut self, alloc: Global, tree: &Tree) -> Result<(), AllocError>
+    fn step(&mut self, alloc: Global, tree: &Tree, clock: &Clock) -> Result<(), AllocError>
         requires same_tree { self.old.pass.tree ≡ tree.now }
         requires some { 1 ≤ self.old.plan.span }
         ensures same_tree { self.new.pass.tree ≡ tree.now }
@@ -314,16 +338,16 @@ impl Worker {
         match self.plan.shares.kind_at(number) {
             Kind::Put => {
                 let value = self.new_value();
-                self.update(tree, Asked::Put(key, value))
+                self.update(tree, clock, Asked::Put(key, value))
             }
-            Kind::Remove => self.update(tree, Asked::Remove(key)),
-            Kind::Find => self.read(alloc, tree, key),
-            Kind::Freeze => self.freeze(alloc, tree),
+            Kind::Remove => self.update(tree, clock, Asked::Remove(key)),
+            Kind::Find => self.read(alloc, tree, clock, key),
+            Kind::Freeze => self.freeze(alloc, tree, clock),
         }
     }
 
-    /// Makes the calls of a round.
-    pub(crate) fn work(&mut self, alloc: Global, tree: &Tree)
+    /// Makes the calls of a round, with times by the clock.
+    pub(crate) fn work(&mut self, alloc: Global, tree: &Tree, clock: &Clock)
         requires same_tree { self.old.pass.tree ≡ tree.now }
         requires some { 1 ≤ self.old.plan.span }
         ensures same_tree { self.new.pass.tree ≡ tree.now }
@@ -331,7 +355,7 @@ impl Worker {
     {
         self.told.clear();
         for _ in 0..self.plan.calls {
-            if self.step(alloc, tree).is_err() {
+            if self.step(alloc, tree, clock).is_err() {
                 self.lacked_memory = true;
             }
         }
