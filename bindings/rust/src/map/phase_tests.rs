@@ -8,7 +8,7 @@ use crate::Error;
 use std::ops::Bound::{Excluded, Included};
 use std::sync::mpsc::{Receiver, Sender, channel};
 use std::sync::{Arc, Mutex};
-use std::thread::{scope, yield_now};
+use std::thread::{scope, sleep, yield_now};
 use std::time::Duration;
 
 const GROWING: [Step; 5] = [Step::Begun, Step::Opened, Step::Mirroring, Step::Stopped, Step::Replaced];
@@ -165,6 +165,34 @@ fn the_next_step_waits_for_the_calls_that_have_slots() {
             drop(release);
             caller.join().unwrap();
         });
+    }
+}
+
+#[test]
+fn an_update_that_has_a_slot_while_a_growth_takes_its_next_step_is_kept() {
+    for step in GROWING {
+        let map = one_part();
+        let [growing] = holds(&map, [step]);
+        scope(|scope| {
+            let growing = growing;
+            let grower = scope.spawn(|| grow(&map));
+            growing.wait();
+            // from here on another hook holds the first update
+            let [updating] = holds(&map, [Step::Asked]);
+            let updates = scope.spawn(|| [map.insert(10, 77), map.remove(12)]);
+            updating.wait();
+            drop(growing);
+            // long enough for the growth to wait for the update's slot
+            sleep(Duration::from_millis(20));
+            drop(updating);
+            assert_eq!(updates.join().unwrap(), [Some(5), Some(6)], "{step:?}");
+            grower.join().unwrap();
+        });
+        assert!(map.range(8..16).eq([(8, 4), (10, 77), (14, 7)]), "{step:?}");
+        // and it is in the tree that follows the next one
+        grow(&map);
+        assert!(map.range(8..16).eq([(8, 4), (10, 77), (14, 7)]), "{step:?}");
+        assert_eq!(map.len(), 49 + 20, "{step:?}");
     }
 }
 
