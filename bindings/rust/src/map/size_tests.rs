@@ -48,7 +48,7 @@ fn many_threads_that_change_few_keys_have_one_small_tree() {
     scope(|scope| {
         for thread in 0..512 {
             let map = &map;
-            scope.spawn(move || (0..100).for_each(|number| _ = map.insert(number % 10, thread)));
+            scope.spawn(move || (0..40).for_each(|number| _ = map.insert(number % 10, thread)));
         }
     });
     let words = words(&map);
