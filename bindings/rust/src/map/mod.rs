@@ -141,8 +141,9 @@ fn unreadable<T>(error: Error) -> T {
 /// | | for a growth of their part, if its words run out first, or if it was tried four times and lost | the rest of the growth |
 /// | | for the beginning of a snapshot or a `clear` | while the slots are locked once, and for a `clear` a directory is made |
 /// | | while a snapshot is taken, for an update of a key with the same last 6 bits | one update |
-/// | an update that finds few words left | does the growth, and perhaps one or two merges | finds the keys that were changed and opens a part of up to two thousand keys; a map that was made [with many words](Map::with_words) begins as one part, with all its keys |
-/// | | in each of the growth's four steps for each call that has a slot | one call each |
+/// | an update that finds few words left | does the growth, and perhaps one or two merges | finds the keys that were changed and opens a part of up to two thousand keys |
+/// | | if the map was made [with many words](Map::with_words), does its first growth | the same, of all its keys |
+/// | | in each of a growth's four steps, for each call that has a slot | one call each |
 /// | [`snapshot`](Map::snapshot) | for other snapshots, for a `clear`, and twice for each call that has a slot | their time, and one call each |
 /// | [`clear`](Map::clear) | for another `clear` or the beginning of a snapshot, and twice for each call that has a slot | their time, and one call each |
 /// | [`shrink_to_fit`](Map::shrink_to_fit) | as a growth, for each part that it moves or merges; for no other growth | one call each |
@@ -189,7 +190,8 @@ impl Map {
     }
 
     /// Returns an empty map whose first tree has this many words of 8 bytes, at least 4 and at most 2^28. An update takes some 60
-    /// words, and a key about 9 when the map grows. A map that has enough words at first grows less often.
+    /// words, and a key about 9 when the map grows. A map that has enough words at first grows less often. Until it grows for the first time,
+    /// all its keys are in one part, and that growth moves them all in one call.
     ///
     /// ```
     /// use luskadorv::{Error, Map};
