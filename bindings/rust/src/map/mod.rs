@@ -28,8 +28,8 @@
 //!
 //! 1. *A sweep parts all calls in two.* An update reads the phase after it has locked its slot. If it locks it before the sweep does, the
 //!    sweep waits for its end. If it locks it later, it reads the phase that was stored before the sweep. (A slot that no call had isn't
-//!    locked: its first call says that it is used before it reads a phase, and the sweep stores the phase before it looks.) So after the
-//!    sweep no update goes by an earlier phase, and its records hold all that was changed by one.
+//!    locked: its first call says that it is used before it reads a phase, a mode or a version, and the sweep looks after these were stored.)
+//!    So after the sweep no update goes by an earlier phase, and its records hold all that was changed by one.
 //! 2. *A key that nobody copies is taken over right.* All updates that changed it had ended and had their records taken over before it was
 //!    found for the next tree: the records of the others are copied, or they copy the key themselves. So it is found as it is at the end. If no
 //!    update changed it, it is as the old tree was opened.
