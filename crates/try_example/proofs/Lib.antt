@@ -1,3 +1,4 @@
 pub mod MapLemmas
 pub mod ExchangeLemmas
 pub mod OwnerLemmas
+pub mod RaiseLemmas

@@ -1,6 +1,6 @@
 //! A counter that two threads raise by conditional puts.
-ghost use Rattle.std.specs.Prelude.{◌≡◌, IfOk, IfSome};
-ghost use Rattle.try_example.specs.Raises.{HasRaised, counter_number};
+ghost use Rattle.std.specs.Prelude.{◌≡◌, IfOk, IfSome, None, OnErr};
+ghost use Rattle.try_example.specs.Raises.{HasOnlyGot, HasRaised, counter_number};
 
 use crate::exchange::Fault;
 use ist_core::{Full, Reply};
@@ -28,12 +28,14 @@ fn number_of(counter: Reply) -> u64
 ///
 /// It finds the counter, and puts one more if it still has that number. If it has another one by then, the
 /// conditional put finds that one, and is tried again from there. `None` if others were faster in each of
-/// `tries` attempts, or no greater number is left: the counter wasn't raised then.
+/// `tries` attempts, or no greater number is left: the pass only got the counter then, as with `Full`.
 pub fn raise(tree: &Tree, pass: &mut Pass, key: u64, tries: u64) -> Result<Option<u64>, Full>
     requires same_tree { pass.old.tree ≡ tree.now }
     ensures same_tree { pass.new.tree ≡ tree.now }
     ensures raised { IfOk result (λ o. IfSome o (λ before.
         HasRaised pass.old pass.new key before)) }
+    ensures given_up { IfOk result (λ o. o ≡ None → HasOnlyGot pass.old pass.new key) }
+    ensures full { OnErr result (HasOnlyGot pass.old pass.new key) }
 {
     let mut counter = tree.find(pass, key);
     for _ in 0..tries {

@@ -1,6 +1,6 @@
-use Rattle.ist_tree.specs.Calls.{HasSeenMore}
+use Rattle.try_example.specs.Raises.{HasOnlyGot}
 use Rattle.try_example.proofs.counting.raise.Given as goal
 
--- the pass has seen more
+-- the pass only got the counter
 abbrev pub invariant-loop : goal.invariant-loop
-invariant-loop l = HasSeenMore l.fn.pass l.pass
+invariant-loop l = HasOnlyGot l.fn.pass l.pass l.key
