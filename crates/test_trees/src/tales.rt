@@ -4,7 +4,7 @@ use Asked::{Find, Put, Remove};
 use ist_core::{Pair, Reply};
 use std::alloc::{AllocError, Global};
 use std::test::Fail;
-use test_tools::{Asked, Misfit, Order, Told, judge_moments};
+use test_tools::{Asked, Clock, Misfit, Order, Timed, Told, When, judge_moments};
 
 // What a thread was told, in its order.
 fn tale(alloc: Global, replies: &[(Asked, Reply)]) -> Result<Vec<Told>, AllocError> {
@@ -187,4 +187,124 @@ fn frozen_trees_that_are_no_moments_are_refused(rt: HostRuntime) {
         Err(Misfit::NeverThere { key: 3, value: 303 }),
     ];
     assert_eq!(rt; found, misfits);
+}
+
+// A call with its reply, the time at which it began and the one at which it ended.
+type At = (Asked, Reply, u64, u64);
+
+// What a thread was told, and when.
+fn timed_tale(alloc: Global, calls: &[At]) -> Result<Vec<Timed>, AllocError> {
+    let mut timed = Vec::new(alloc);
+    for (asked, reply, began, ended) in calls {
+        timed.push(Timed {
+            told: Told {
+                asked: *asked,
+                reply: *reply,
+            },
+            when: When {
+                began: *began,
+                ended: *ended,
+            },
+        })?;
+    }
+    Ok(timed)
+}
+
+// The calls without their times.
+fn untimed(alloc: Global, timed: &[Timed]) -> Result<Vec<Told>, AllocError> {
+    let mut told = Vec::new(alloc);
+    for one in timed {
+        told.push(one.told)?;
+    }
+    Ok(told)
+}
+
+// Judges what two threads were told at these times, in a map that had 100 at key 1. They have an order
+// that doesn't keep the times.
+fn timely(alloc: Global, one: &[At], two: &[At], closing: &[Pair]) -> Result<(), Misfit> {
+    let opening = [Pair { key: 1, value: 100 }];
+    let (mut threads, mut told) = (Vec::new(alloc), Vec::new(alloc));
+    for calls in [one, two] {
+        let timed = timed_tale(alloc, calls)?;
+        told.push(untimed(alloc, &timed)?)?;
+        threads.push(timed)?;
+    }
+    let order = Order::of(alloc, &opening, &told, closing)?;
+    order.judge_times(alloc, &threads)
+}
+
+#[test]
+fn calls_side_by_side_may_come_in_any_order(rt: HostRuntime) -> Result<(), Fail> {
+    let alloc = rt.alloc();
+    let put = (Put(1, 101), Some(100), 2, 7);
+    // the find begins before the put ended
+    timely(alloc, &[put], &[(Find(1), Some(100), 6, 9)], &[AT_101])?;
+    timely(alloc, &[put], &[(Find(1), Some(101), 6, 9)], &[AT_101])?;
+    // or ends after the put began
+    timely(alloc, &[put], &[(Find(1), Some(101), 2, 3)], &[AT_101])?;
+    // it finds nothing while the key has one life, then another
+    let gone = (Remove(1), Some(100), 2, 5);
+    let anew = (Put(1, 101), None, 6, 9);
+    let none = (Find(1), None, 4, 7);
+    timely(alloc, &[gone, anew], &[none], &[AT_101])?;
+    Ok(())
+}
+
+#[test]
+fn a_call_that_goes_back_in_time_is_refused(rt: HostRuntime) {
+    let alloc = rt.alloc();
+    let put = (Put(1, 101), Some(100), 2, 5);
+    let gone = (Remove(1), Some(100), 2, 5);
+    let anew = (Put(1, 101), None, 6, 9);
+    let other = (Put(2, 201), None, 2, 5);
+    let kept = Pair { key: 1, value: 100 };
+    let at_2 = Pair { key: 2, value: 201 };
+    // what each thread was told and when, the pairs at the close
+    let found = [
+        // a value that was replaced before
+        timely(alloc, &[put], &[(Find(1), Some(100), 6, 7)], &[AT_101]),
+        // a value that is put later
+        timely(
+            alloc,
+            &[(Find(1), Some(101), 2, 3)],
+            &[(Put(1, 101), Some(100), 4, 5)],
+            &[AT_101],
+        ),
+        // a value that was removed before
+        timely(alloc, &[gone], &[(Find(1), Some(100), 6, 7)], &[]),
+        // nothing, though a value was put before
+        timely(alloc, &[other], &[(Find(2), None, 6, 7)], &[kept, at_2]),
+        // nothing, though the value is removed later
+        timely(
+            alloc,
+            &[(Find(1), None, 2, 3)],
+            &[(Remove(1), Some(100), 4, 5)],
+            &[],
+        ),
+        // the old life, though a new one has begun
+        timely(
+            alloc,
+            &[gone, anew],
+            &[(Find(1), Some(100), 10, 11)],
+            &[AT_101],
+        ),
+        // nothing, though the new life had begun
+        timely(alloc, &[gone, anew], &[(Find(1), None, 10, 11)], &[AT_101]),
+    ];
+    let keys = [1, 1, 1, 2, 1, 1, 1];
+    assert_eq!(rt; found, keys.map(|key| Err(Misfit::Stale { key })));
+}
+
+#[test]
+fn the_clock_orders_calls_as_they_are_made(rt: HostRuntime) {
+    let clock = Clock::new();
+    let (first, beside) = (clock.begin(), clock.begin());
+    let first = clock.end(first);
+    let after = clock.end(clock.begin());
+    let beside = clock.end(beside);
+    assert_eq!(rt; first.ended < after.began, true);
+    assert_eq!(rt;
+        first.ended < beside.began || beside.ended < after.began,
+        false
+    );
 }
