@@ -5,10 +5,10 @@
     python3 bench/logs.py root N        the same, and a rebuild at the anchor: all rows are marked, passed and finished, and its Root
     python3 bench/logs.py callers N     N callers that each hold a row
     python3 bench/logs.py crowd N       the same, and N puts of rising keys of one caller among them
-    python3 bench/logs.py rebuilds N    N rebuilds of four pairs at the anchor, one behind the other; each builds three rows
+    python3 bench/logs.py rebuilds N    N rebuilds of four pairs at the anchor, one after the other; each builds three rows
     python3 bench/logs.py sizes N       N puts of rising keys, and a rebuild at each row but the last eight, whose targets are finished
                                         with as many numbers of keys; and N callers that each begin a build
-    python3 bench/logs.py losses N      N rebuilds of two pairs at the anchor, one behind the other, and one of 256 pairs with a shared
+    python3 bench/logs.py losses N      N rebuilds of two pairs at the anchor, one after the other, and one of 256 pairs with a shared
                                         root; and 10 N callers that each give up such a root, as theirs comes too late
     python3 bench/logs.py parts N       a rebuild of a new table of N pairs at the anchor: its rows are marked, passed and finished, its shared
                                         root is put in place, and then each part
@@ -55,7 +55,7 @@ class Log:
 
 def chain(log, puts, counted=0, until=None):
     """Answers the pair rows from the top on, each with its base and the words in its slots. Each put is counted at the last rows; those
-    behind so many puts are not counted."""
+    after so many puts are not counted."""
     _, _, leaf = log.put(2, 0, 0, 1, False)
     node, index, rows = 2, 0, []
     for key in range(2, puts + 1):

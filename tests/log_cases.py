@@ -5,10 +5,10 @@
 
 The logs of tests/logs come from a model of the events that shares nothing with the program, and so do the answers. They are:
 a put, a rebuild of the anchor's child that two callers build, a put that comes too late, and a remove (small); eight puts that
-make a pair row due, and the start of its rebuild (eight_puts), behind which a put was seen to be open before the mark and takes
-effect behind it (seen_open), or is decided yes behind the mark all the same (seen_marked); two callers that have built the root
+make a pair row due, and the start of its rebuild (eight_puts), after which a put was seen to be open before the mark and takes
+effect after it (seen_open), or is decided yes after the mark all the same (seen_marked); two callers that have built the root
 of one rebuild (two_roots); and a rebuild of a lower row that has its root when the row above it is marked (marked_parent),
-behind which its finish is decided no and the rebuild above goes on over it (finish_refused). The last line of what this says is
+after which its finish is decided no and the rebuild above goes on over it (finish_refused). The last line of what this says is
 'N passed, M failed'.
 """
 import subprocess
@@ -207,7 +207,7 @@ def spare_rows():
 
 
 def cut_off_rows():
-    """The build of a hundred keys begins with a row of 23 words and one of 9. It is cut off where fewer words are left, and only behind
+    """The build of a hundred keys begins with a row of 23 words and one of 9. It is cut off where fewer words are left, and only after
     that may a build of two keys begin, which is a row of 7."""
     for room in (7, 8, 9, 100):
         log = two_pairs(100, two_pairs(100).next + 23 + 7 + room)
@@ -261,7 +261,7 @@ def other_rows():
 
 
 def placed_parts():
-    """Behind all parts of a shared root but the last: that part as it is, in a slot that is set, as a leaf of another part, without its
+    """After all parts of a shared root but the last: that part as it is, in a slot that is set, as a leaf of another part, without its
     last row, and with another leaf; and why it may not be placed."""
     for change, why in [
         (lambda part, word, rows: (part, word, rows), None),

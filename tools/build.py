@@ -83,7 +83,7 @@ def lines_of(top):
 
 
 def below(name, lines):
-    """Returns the crates of the repository that the crate stands on, each behind those that it stands on itself."""
+    """Returns the crates of the repository that the crate stands on, each after those that it stands on itself."""
     found = []
     for dep in lines[name].partition(":")[2].split():
         if dep in lines:

@@ -9,7 +9,7 @@ use Rattle.ist_core.specs.References.{Ref, Empty, LeafAt, InnerAt, ref_of}
 use Rattle.ist_core.specs.Parts.{parts}
 use Rattle.ist_core.specs.Pieces.{Inner, inner_of}
 use Rattle.ist_core.specs.Leaves.{PlacedLeaf}
-use Rattle.check_fairness.proofs.BehindLemmas.{behind, split_first}
+use Rattle.check_fairness.proofs.AfterLemmas.{following, split_first}
 use Rattle.check_builds.specs.Built.{IsTopRow, BuildsRef, builds_none, builds_one, builds_more}
 use Rattle.check_builds.specs.Built.{BuildsAll, BuildsAt, CountsRows, HasTopSlots}
 
@@ -128,15 +128,15 @@ module _ (word : ℕ) (leaves : List PlacedLeaf) (above : ℕ) (rows : List Row)
     -- the first of the rows is the one that the word names, and the others follow
     first_is : (used rest : List Row) → rows ≡ used ++ rest → (b : BuildsAt word leaves above used)
         → (it : IsMany b.ref leaves above used)
-        → (it.row ≡ row) × (base ≡ it.row.base) × (behind rows ≡ it.rest ++ rest)
+        → (it.row ≡ row) × (base ≡ it.row.base) × (following rows ≡ it.rest ++ rest)
     first_is used rest is b it =
-        let whole : row ∷ behind rows ≡ it.row ∷ (it.rest ++ rest) = sym
+        let whole : row ∷ following rows ≡ it.row ∷ (it.rest ++ rest) = sym
         (split_first rows row long at) ∙ is ∙ ap (λ xs. xs ++ rest) it.rows_are in
         let bases : InnerAt base ≡ InnerAt it.row.base = same_ref (ref_of word) (InnerAt base)
         (InnerAt it.row.base) names (b.names ∙ ap (λ x. Some x) it.ref_is) in (
-          head it.row row (it.rest ++ rest) (behind rows) (sym whole),
+          head it.row row (it.rest ++ rest) (following rows) (sym whole),
           inner base it.row.base bases,
-          tail row it.row (behind rows) (it.rest ++ rest) whole,
+          tail row it.row (following rows) (it.rest ++ rest) whole,
         )
       where
         head : (x y : Row) (xs ys : List Row) → x ∷ xs ≡ y ∷ ys → x ≡ y
@@ -174,7 +174,7 @@ module _ (word : ℕ) (leaves : List PlacedLeaf) (above : ℕ) (rows : List Row)
           same_row x y e = cc
 
       -- if the parts aren't built, there is no subtree
-      pub counts_no_parts : CountsRows (λ rs. BuildsAll slots (parts leaves) base rs) (behind rows)
+      pub counts_no_parts : CountsRows (λ rs. BuildsAll slots (parts leaves) base rs) (following rows)
           None
           → CountsRows BuildsHere rows None
       counts_no_parts none used rest is b =
@@ -185,7 +185,7 @@ module _ (word : ℕ) (leaves : List PlacedLeaf) (above : ℕ) (rows : List Row)
 
       -- if the parts use k rows, the subtree uses k + 1
       pub counts_parts : (k : ℕ) → row.base ≡ base
-          → CountsRows (λ rs. BuildsAll slots (parts leaves) base rs) (behind rows) (Some k)
+          → CountsRows (λ rs. BuildsAll slots (parts leaves) base rs) (following rows) (Some k)
           → CountsRows BuildsHere rows (Some (k + 1))
       counts_parts k here some = (
         record {
@@ -193,9 +193,9 @@ module _ (word : ℕ) (leaves : List PlacedLeaf) (above : ℕ) (rows : List Row)
           names = names ∙ ap (λ n. Some (InnerAt n)) (sym here);
           builds = subst (λ rs. BuildsRef (InnerAt row.base) leaves above rs) (sym taken)
               (builds_more top.top top.is_top
-              (subst (λ ws. BuildsAll ws (parts leaves) row.base (take k (behind rows)))
+              (subst (λ ws. BuildsAll ws (parts leaves) row.base (take k (following rows)))
               (sym top.slots_are) (subst (λ n. BuildsAll slots (parts leaves) n
-              (take k (behind rows))) (sym here) some.0)));
+              (take k (following rows))) (sym here) some.0)));
         },
         λ used rest is b.
             let it = many_inverted b.ref leaves above used b.builds two in
@@ -206,7 +206,7 @@ module _ (word : ℕ) (leaves : List PlacedLeaf) (above : ℕ) (rows : List Row)
             omega arith,
       )
         where
-          taken : take (k + 1) rows ≡ row ∷ take k (behind rows)
+          taken : take (k + 1) rows ≡ row ∷ take k (following rows)
           taken =
               ap (take (k + 1)) (split_first rows row long at)
-              ∙ ap (λ n. take n (row ∷ behind rows)) (let e : k + 1 ≡ suc k = omega arith in e)
+              ∙ ap (λ n. take n (row ∷ following rows)) (let e : k + 1 ≡ suc k = omega arith in e)

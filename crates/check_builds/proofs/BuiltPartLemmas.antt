@@ -7,7 +7,7 @@ use Rattle.ist_core.specs.declared.lists.Row.{Row}
 use Rattle.ist_core.specs.Arithmetic.{degree, part_len, part_lens}
 use Rattle.ist_core.specs.Parts.{cut, parts}
 use Rattle.ist_core.specs.Leaves.{PlacedLeaf}
-use Rattle.check_fairness.proofs.BehindLemmas.{behind}
+use Rattle.check_fairness.proofs.AfterLemmas.{following}
 use Rattle.check_builds.specs.Built.{part_lens_from, BuildsAll, builds_end, builds_part}
 use Rattle.check_builds.specs.Built.{BuildsAt, CountsRows}
 use Rattle.check_builds.proofs.GatherLemmas.{first_word}
@@ -68,14 +68,14 @@ module _ (n j left : ℕ) (slots : List ℕ) (leaves : List PlacedLeaf) (above :
         (length leaves)) where
       -- the rows are the rows of the parts after the first
       abbrev pub MoreBuild : List Row → Type 0
-      MoreBuild rs = BuildsAll (behind slots) (cut (part_lens_from n (j + 1) (left - 1)) (from leaves end))
+      MoreBuild rs = BuildsAll (following slots) (cut (part_lens_from n (j + 1) (left - 1)) (from leaves end))
           above rs
 
       inverted : (used : List Row) → AllBuild used
-          → IsBuiltPart (get_or slots 0 0) (behind slots) (take end leaves)
+          → IsBuiltPart (get_or slots 0 0) (following slots) (take end leaves)
           (cut (part_lens_from n (j + 1) (left - 1)) (from leaves end)) above used
       inverted used b =
-          all_inverted (get_or slots 0 0 ∷ behind slots)
+          all_inverted (get_or slots 0 0 ∷ following slots)
           (take end leaves ∷ cut (part_lens_from n (j + 1) (left - 1)) (from leaves end)) above used
           (subst (λ ws. BuildsAll ws (take end leaves ∷ cut (part_lens_from n (j + 1) (left - 1))
           (from leaves end)) above used) (first_word slots long)
@@ -95,7 +95,7 @@ module _ (n j left : ℕ) (slots : List ℕ) (leaves : List PlacedLeaf) (above :
           (Some k)) where
         -- the rows after the rows of the first part
         split : (used rest : List Row) → rows ≡ used ++ rest
-            → (it : IsBuiltPart (get_or slots 0 0) (behind slots) (take end leaves)
+            → (it : IsBuiltPart (get_or slots 0 0) (following slots) (take end leaves)
             (cut (part_lens_from n (j + 1) (left - 1)) (from leaves end)) above used)
             → (length it.here ≡ k) × (from rows k ≡ it.rest ++ rest)
         split used rest is it =
@@ -123,7 +123,7 @@ module _ (n j left : ℕ) (slots : List ℕ) (leaves : List PlacedLeaf) (above :
           subst (λ rs. AllBuild rs) (sym (taken rows k m within))
               (subst (λ ws. BuildsAll ws (cut (part_lens_from n j left) leaves) above
               (take k rows ++ take m (from rows k))) (sym (first_word slots long))
-              (subst (λ ps. BuildsAll (get_or slots 0 0 ∷ behind slots) ps above
+              (subst (λ ps. BuildsAll (get_or slots 0 0 ∷ following slots) ps above
               (take k rows ++ take m (from rows k)))
               (sym (cut_first n j left end leaves some end_is))
               (builds_part first.0.ref first.0.names first.0.builds some_more.0))),

@@ -13,11 +13,11 @@ use Rattle.ist_core.specs.Leaves.{PlacedLeaf, HasLeaves, SlotsHaveLeaves, none_h
 use Rattle.ist_core.proofs.LeafLemmas.{reached, slots_reached, same_leaves}
 use Rattle.check_events.specs.declared.replicas.Replica.{Replica}
 use Rattle.check_events.specs.Mirroring.{Mirrors}
-use Rattle.check_fairness.proofs.BehindLemmas.{behind}
+use Rattle.check_fairness.proofs.AfterLemmas.{following}
 use Rattle.check_builds.specs.Reading.{Gathers, LeavesLeft, GathersOn, PutsSlots}
 
 -- words are the first and those after it
-pub first_word : (xs : List ℕ) → 1 ≤ length xs → xs ≡ get_or xs 0 0 ∷ behind xs
+pub first_word : (xs : List ℕ) → 1 ≤ length xs → xs ≡ get_or xs 0 0 ∷ following xs
 first_word [] h = absurd (omega arith)
 first_word (x ∷ xs) h =
     let l : length (x ∷ xs) - 1 ≡ length xs = omega arith in

@@ -38,22 +38,22 @@ use Rattle.ist_core.specs.Logs.{Log}
 use Rattle.ist_core.specs.Building.{HoldsSizes, IsBeaten, LosesPair, LosesBuild, CanLose}
 use Rattle.check_builds.specs.Losing.{HasRowAbove, IsTooLate}
 use Rattle.check_fairness.specs.Searching.{AreBuilding}
-use Rattle.check_fairness.proofs.BehindLemmas.{behind, first_behind}
+use Rattle.check_fairness.proofs.AfterLemmas.{following, first_after}
 
 -- ---- distinct bases
 
 -- if the first base isn't among the others, all are distinct exactly if the others are
-pub distinct_first : (xs : List ℕ) → 1 ≤ length xs → ¬ (Among (get_or xs 0 0) (behind xs))
-    → Distinct (behind xs) ↔ Distinct xs
+pub distinct_first : (xs : List ℕ) → 1 ≤ length xs → ¬ (Among (get_or xs 0 0) (following xs))
+    → Distinct (following xs) ↔ Distinct xs
 distinct_first xs n far = (
-  (λ d. subst Distinct (first_behind xs n) (far, d)),
-  (λ d. (subst Distinct (sym (first_behind xs n)) d).1),
+  (λ d. subst Distinct (first_after xs n) (far, d)),
+  (λ d. (subst Distinct (sym (first_after xs n)) d).1),
 )
 
 -- if the first base is among the others, they aren't distinct
-pub distinct_not : (xs : List ℕ) → 1 ≤ length xs → Among (get_or xs 0 0) (behind xs)
+pub distinct_not : (xs : List ℕ) → 1 ≤ length xs → Among (get_or xs 0 0) (following xs)
     → ¬ (Distinct xs)
-distinct_not xs n a d = (subst Distinct (sym (first_behind xs n)) d).0 a
+distinct_not xs n a d = (subst Distinct (sym (first_after xs n)) d).0 a
 
 -- ---- held sizes
 

@@ -35,7 +35,7 @@ use Rattle.std.proofs.Math.ListN.{drop_of_length-le}
 use Rattle.ist_core.specs.Arithmetic.{part_len}
 use Rattle.ist_core.specs.Parts.{cut, first_keys}
 use Rattle.ist_core.specs.Leaves.{PlacedLeaf}
-use Rattle.check_fairness.proofs.BehindLemmas.{behind}
+use Rattle.check_fairness.proofs.AfterLemmas.{following}
 use Rattle.check_builds.specs.Built.{part_lens_from, key_of_leaf}
 use Rattle.check_builds.proofs.GatherLemmas.{first_word}
 
@@ -139,9 +139,9 @@ none_begins (x ∷ xs) k ks h e = omega arith
 -- keys with this first one
 pub begins_so : (keys : List ℕ) (k : ℕ) (ks : List ℕ) (b : Bool) → 1 ≤ length keys → get_or keys 0 0
     ≡ k
-    → (IsTrue b ↔ (behind keys ≡ ks)) → IsTrue b ↔ (keys ≡ k ∷ ks)
+    → (IsTrue b ↔ (following keys ≡ ks)) → IsTrue b ↔ (keys ≡ k ∷ ks)
 begins_so keys k ks b n e i = (
-  (λ y. first_word keys n ∙ ap (λ x. x ∷ behind keys) e ∙ ap (λ xs. k ∷ xs) (i.0 y)),
-  (λ same. i.1 (let whole : get_or keys 0 0 ∷ behind keys ≡ k ∷ ks = sym (first_word keys n)
+  (λ y. first_word keys n ∙ ap (λ x. x ∷ following keys) e ∙ ap (λ xs. k ∷ xs) (i.0 y)),
+  (λ same. i.1 (let whole : get_or keys 0 0 ∷ following keys ≡ k ∷ ks = sym (first_word keys n)
       ∙ same in cc)),
 )

@@ -185,13 +185,13 @@ module _ (qs : Pieces) where
         → Each (λ part. Each (LeafStands qs) part) ps
         → AreIdeal qs words ps above (bases_of rows)
     all_ideal _ _ _ _ builds_end stand there = no_part
-    all_ideal _ _ above _ (builds_part {word = word} {words = words} {part = part} {behind = behind}
+    all_ideal _ _ above _ (builds_part {word = word} {words = words} {part = part} {following = following}
         {here = here} {rest = rest} ref e first more) stand there =
         let both = each-append (StandsAsSaid qs) here rest stand in
-        subst (λ bs. AreIdeal qs (word ∷ words) (part ∷ behind) above bs)
+        subst (λ bs. AreIdeal qs (word ∷ words) (part ∷ following) above bs)
         (sym (bases-append here rest))
         (one_part ref e (builds_ideal ref part above here first both.0 there.0)
-        (all_ideal words behind above rest more both.1 there.1))
+        (all_ideal words following above rest more both.1 there.1))
 
   mutual
     -- an ideal subtree of published rows is built by them
@@ -230,10 +230,10 @@ module _ (qs : Pieces) where
     all_builds _ _ above _ no_part [] e stand = builds_end
     all_builds _ _ above _ no_part (row ∷ rows) e stand = absurd (cc)
     all_builds _ _ above _ (one_part {word = word} {words = words} {here = here} {rest = rest}
-        {part = part} {behind = behind} ref f first more) rows e stand =
+        {part = part} {following = following} ref f first more) rows e stand =
         let it = split_bases here rest rows e in
         let both = each-append (StandsAsSaid qs) it.0 it.1 (subst (λ rs. Each (StandsAsSaid qs) rs) it.2 stand)
         in
-        subst (λ rs. BuildsAll (word ∷ words) (part ∷ behind) above rs) (sym it.2)
+        subst (λ rs. BuildsAll (word ∷ words) (part ∷ following) above rs) (sym it.2)
         (builds_part ref f (ideal_builds ref part above here first it.0 it.3 both.0)
-        (all_builds words behind above rest more it.1 it.4 both.1))
+        (all_builds words following above rest more it.1 it.4 both.1))

@@ -41,12 +41,12 @@ four_fields (a ∷ b ∷ c ∷ d ∷ ws) h = ap (λ xs. a ∷ b ∷ c ∷ d ∷ 
     (sym (from-drop (a ∷ b ∷ c ∷ d ∷ ws) 4))
 
 -- all parts but the first
-parts_behind : (leaves : List PlacedLeaf) (first : ℕ) → degree (length leaves) ≢ 0
+parts_after : (leaves : List PlacedLeaf) (first : ℕ) → degree (length leaves) ≢ 0
     → first ≡ min (part_len (length leaves) 0) (length leaves)
     → drop 1 (parts leaves) ≡ cut (part_lens_from (length leaves) 1 (degree (length leaves) - 1))
     (from leaves first)
 unfolding part_lens
-parts_behind leaves first some is = ap (drop 1) (cut_first (length leaves) 0
+parts_after leaves first some is = ap (drop 1) (cut_first (length leaves) 0
     (degree (length leaves)) first leaves some is)
 
 -- the inner row of these words
@@ -77,7 +77,7 @@ module _ (row : Row) (leaves : List PlacedLeaf) (above : ℕ) (ws : List ℕ) (i
   wanted : wanted_keys ≡ first_keys key_of_leaf (drop 1 (parts leaves))
   wanted = ap (λ d. first_keys key_of_leaf (cut (part_lens_from (length leaves) 1 (d - 1))
       (from leaves first))) degree_is
-      ∙ sym (ap (first_keys key_of_leaf) (parts_behind leaves first some first_is))
+      ∙ sym (ap (first_keys key_of_leaf) (parts_after leaves first some first_is))
 
   keys_are : take end (from ws 4) ≡ take (get_or ws 2 0 - 1) (from ws 4)
   keys_are = ap (λ k. take k (from ws 4)) end_is ∙ take_min (get_or ws 2 0 - 1) (from ws 4)

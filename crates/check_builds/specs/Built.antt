@@ -45,9 +45,9 @@ mutual
   pub data BuildsAll : List ℕ → List (List PlacedLeaf) → ℕ → List Row → Type 0 where
     builds_end : {above : ℕ} → BuildsAll [] [] above []
     builds_part : {word above : ℕ} {words : List ℕ} {part : List PlacedLeaf}
-        {behind : List (List PlacedLeaf)} {here rest : List Row} (ref : Ref)
-        → ref_of word ≡ Some ref → BuildsRef ref part above here → BuildsAll words behind above rest
-        → BuildsAll (word ∷ words) (part ∷ behind) above (here ++ rest)
+        {following : List (List PlacedLeaf)} {here rest : List Row} (ref : Ref)
+        → ref_of word ≡ Some ref → BuildsRef ref part above here → BuildsAll words following above rest
+        → BuildsAll (word ∷ words) (part ∷ following) above (here ++ rest)
 
 -- the word names the ideal subtree over these leaves, and these are its inner rows
 pub record BuildsAt (word : ℕ) (leaves : List PlacedLeaf) (above : ℕ) (rows : List Row) : Type 0 where

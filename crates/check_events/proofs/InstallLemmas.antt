@@ -10,7 +10,7 @@ use Rattle.ist_core.specs.Links.{WasLinked}
 use Rattle.ist_core.specs.Statuses.{undecided}
 use Rattle.ist_core.specs.Installing.{IsUnrefused, ComesByKey, PutsLeaf, PutsPair, Removes, Starts, Finishes, FitsKind, a_put, a_pair, a_remove, a_start, a_finish, CanInstall}
 use Rattle.check_events.specs.Standing.{MayStand, FitsByKey}
-use Rattle.check_fairness.proofs.BehindLemmas.{behind, split_first}
+use Rattle.check_fairness.proofs.AfterLemmas.{following, split_first}
 
 -- words that are read as a change are its words
 change_words_are : (ws : List ℕ) (c : ChangeRow) → change_of ws ≡ Some c → ws ≡ words_of (Change c)
@@ -56,7 +56,7 @@ module _ (first : Snapshot) (log : Log) (caller base : ℕ) (rows : List Row) (r
     (change : ChangeRow)
     (n : 1 ≤ length rows) (e : row ≡ get_or rows 0 row) (at : row.base ≡ base)
     (reads : change_of row.words ≡ Some change) where
-  whole : rows ≡ row ∷ behind rows
+  whole : rows ≡ row ∷ following rows
   whole = split_first rows row n e
 
   same_change : (h : CanInstall first log caller base rows) → h.change ≡ change
@@ -64,24 +64,24 @@ module _ (first : Snapshot) (log : Log) (caller base : ℕ) (rows : List Row) (r
       let one = head_same (sym whole ∙ h.rows_are) in
       sym (some_same (sym reads ∙ ap (λ r. change_of r.words) one))
 
-  same_fresh : (h : CanInstall first log caller base rows) → h.fresh ≡ behind rows
+  same_fresh : (h : CanInstall first log caller base rows) → h.fresh ≡ following rows
   same_fresh h = sym (tail_same (sym whole ∙ h.rows_are))
 
-  rows_named : rows ≡ row_at base (Change change) ∷ behind rows
+  rows_named : rows ≡ row_at base (Change change) ∷ following rows
   rows_named =
       let words = change_words_are row.words change reads in
-      whole ∙ ap (λ r. r ∷ behind rows) (λ i. record { base = at i; words = words i })
+      whole ∙ ap (λ r. r ∷ following rows) (λ i. record { base = at i; words = words i })
 
   -- what remains to be checked is the condition of the kind
   pub install_is : caller < (state first log).callers → HoldsRows (state first log) caller rows
       → MayStand first log caller change
-      → FitsKind first log change (behind rows) ↔ CanInstall first log caller base rows
+      → FitsKind first log change (following rows) ↔ CanInstall first log caller base rows
   install_is known held stand = (
     (λ fits.
         record {
           known = known;
           change = change;
-          fresh = behind rows;
+          fresh = following rows;
           rows_are = rows_named;
           held = held;
           owned = stand.owned;
@@ -91,7 +91,7 @@ module _ (first : Snapshot) (log : Log) (caller base : ℕ) (rows : List Row) (r
           unrefused = stand.unrefused;
           fits = fits;
         }),
-    (λ h. subst (λ c. FitsKind first log c (behind rows)) (same_change h)
+    (λ h. subst (λ c. FitsKind first log c (following rows)) (same_change h)
         (subst (λ xs. FitsKind first log h.change xs) (same_fresh h) h.fits)),
   )
 

@@ -173,8 +173,8 @@ pub none_passed : (t : Snapshot) (log : Log) (passed : BTreeMap ℕ ℕ) (node i
 none_passed t log passed node i k h n m e p = let there = (h node i p.word n m).1 p.passed in cc
 
 -- what follows the first of some numbers
-abbrev pub behind_first : List ℕ → List ℕ
-behind_first xs = take (length xs - 1) (drop 1 xs)
+abbrev pub after_first : List ℕ → List ℕ
+after_first xs = take (length xs - 1) (drop 1 xs)
 
 module _ (t : Snapshot) (log : Log) (node i : ℕ) where
   -- no slots count for 0 keys
@@ -199,11 +199,11 @@ module _ (t : Snapshot) (log : Log) (node i : ℕ) where
   -- slots count for k keys exactly if the others count for what the first leaves
   pub passed_first : (slots : List ℕ) (here k : ℕ) → 1 ≤ length slots → PassCounts t log node i here
       → ((y : ℕ) → PassCounts t log node i y → y ≡ here) → here ≤ k
-      → ArePassed t log node (i + 1) (behind_first slots) (k - here) ↔ ArePassed t log node i slots
+      → ArePassed t log node (i + 1) (after_first slots) (k - here) ↔ ArePassed t log node i slots
       k
   passed_first [] here k n p one fits = absurd (omega arith)
   passed_first (x ∷ xs) here k n p one fits =
-      let front : behind_first (x ∷ xs) ≡ xs = let e : length (x ∷ xs) - 1 ≡ length xs = omega arith
+      let front : after_first (x ∷ xs) ≡ xs = let e : length (x ∷ xs) - 1 ≡ length xs = omega arith
       in ap (λ j. take j xs) e ∙ take_all (length xs) xs (omega arith) in
       let sum : here + (k - here) ≡ k = omega arith in (
         (λ m. subst (λ j. ArePassed t log node i (x ∷ xs) j) sum

@@ -124,7 +124,7 @@ module _ (t : Snapshot) (root base : ℕ) (e : ref_of root ≡ Some (InnerAt bas
   -- a row that a word names is not the anchor
   no_anchor : base ≢ anchor
   no_anchor i = let good = (word_of-ref_of root (InnerAt base) e).good in let low =
-      good.behind_fixed in absurd (omega arith)
+      good.after_fixed in absurd (omega arith)
 
   row_slots : (r : InnerRow) → t.pieces base ≡ Some (Inner r) → (i word : ℕ) → SlotHolds t base i
       word

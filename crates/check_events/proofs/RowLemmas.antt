@@ -6,17 +6,17 @@ use Rattle.ist_core.specs.References.{LeafAt, word_of}
 use Rattle.ist_core.specs.Pieces.{row_at}
 use Rattle.ist_core.specs.Snapshots.{Snapshot, HoldsRow, HoldsRows}
 use Rattle.ist_core.specs.Installing.{pair_over}
-use Rattle.check_fairness.proofs.BehindLemmas.{behind, split_first}
+use Rattle.check_fairness.proofs.AfterLemmas.{following, split_first}
 
 -- the first row and the others are held
 module _ (t : Snapshot) (caller : ℕ) (rows : List Row) (row : Row) (n : 1 ≤ length rows)
     (e : row ≡ get_or rows 0 row) where
-  whole : rows ≡ row ∷ behind rows
+  whole : rows ≡ row ∷ following rows
   whole = split_first rows row n e
 
   -- if the first row is held, all are exactly if the others are
   pub holds_first : HoldsRow t caller row.base (length row.words)
-      → HoldsRows t caller (behind rows) ↔ HoldsRows t caller rows
+      → HoldsRows t caller (following rows) ↔ HoldsRows t caller rows
   holds_first h = (
     (λ more. subst (HoldsRows t caller) (sym whole) (h, more)),
     (λ all. (subst (HoldsRows t caller) whole all).1),

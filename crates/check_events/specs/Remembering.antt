@@ -139,15 +139,15 @@ abbrev pub last_with : BuildTable → List ℕ → Option ℕ
 last_with builds sizes = tree.get_by (λ v. slice_cmp nat_cmp sizes v.items) builds.last
 
 -- there was such a build, and more than this many builds up to it
-abbrev pub CameBehind : Option ℕ → ℕ → Type 0
-CameBehind None seen = ⊥
-CameBehind (Some at) seen = seen < at
+abbrev pub CameAfter : Option ℕ → ℕ → Type 0
+CameAfter None seen = ⊥
+CameAfter (Some at) seen = seen < at
 
 -- the table says which builds came after a caller's last Root, Place or Lose; none counts more
 -- builds than there were
 pub record KnowsBuilds (builds : BuildTable) (log : Log) : Type 0 where
   pub beaten : (caller : ℕ) (sizes : List ℕ)
-      → CameBehind (last_with builds sizes) (seen_builds (tree.get nat_cmp builds.since caller))
+      → CameAfter (last_with builds sizes) (seen_builds (tree.get nat_cmp builds.since caller))
       ↔ IsBeaten caller sizes log
   pub came : (sizes : List ℕ) (at : ℕ) → last_with builds sizes ≡ Some at → at ≤ builds.count
   pub seen : (caller : ℕ) → seen_builds (tree.get nat_cmp builds.since caller) ≤ builds.count

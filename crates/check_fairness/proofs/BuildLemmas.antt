@@ -134,7 +134,7 @@ begins_pushed xs new n e m h =
 pub list_known : (xs : List (List ℕ)) (n : List ℕ) → Among n xs → AddsList xs xs n
 list_known xs n a = record {
   among = λ x. (inl, (λ h. ⊎_elim (λ b. b) (λ e. subst (λ y. Among y xs) (sym e) a) h));
-  behind = begins_same xs;
+  following = begins_same xs;
 }
 
 -- a list that was pushed was added
@@ -145,7 +145,7 @@ list_pushed xs new n e = record {
         (among-append x xs (n ∷ []) a)),
     (λ h. ⊎_elim (among_left x xs (n ∷ [])) (λ i. among_right x xs (n ∷ []) (inl i)) h),
   );
-  behind = begins_pushed xs new n e;
+  following = begins_pushed xs new n e;
 }
 
 -- adding a list is adding an equal one
@@ -176,7 +176,7 @@ pub adds_none : (k : ℕ) → k < 2 → (lists : List (List ℕ)) → AddsLists 
 adds_none k n lists = record {
   among = λ l. subst (λ (xs : List (List ℕ)). Among l lists ↔ (Among l lists ⊎ Among l xs))
       (lists_few k n) (inl, (λ h. ⊎_elim (λ a. a) (λ none. absurd none) h));
-  behind = begins_same lists;
+  following = begins_same lists;
 }
 
 -- of few keys there is one
@@ -188,7 +188,7 @@ adds_one k n m old new adds = record {
         (λ a. ⊎_elim inl (λ e. inr (inl e)) ((adds.among l).0 a)),
         (λ h. (adds.among l).1 (⊎_elim inl (λ c. inr (⊎_elim (λ e. e) (λ none. absurd none) c)) h)),
       );
-  behind = adds.behind;
+  following = adds.following;
 }
 
 -- for many keys there are only the top row, and the shapes of the first part and of the last
@@ -210,7 +210,7 @@ adds_three k d first last old mid next new n m e f g top one two =
             (λ h. ⊎_elim (λ x. (two.among l).1 (inl ((one.among l).1 (inl ((top.among l).1 (inl x))))))
                 (listed l) h),
           );
-      behind = begins_both old next new (begins_both old mid next top.behind one.behind) two.behind;
+      following = begins_both old next new (begins_both old mid next top.following one.following) two.following;
     }
   where
     same : (inner_words d ∷ []) ∷ shape first ∷ shape last ∷ []
@@ -236,9 +236,9 @@ pub shapes_kept : (shapes : BTreeSet ℕ) (old new : List (List ℕ)) (n : List 
 shapes_kept shapes old new n adds has m h = (adds.among (shape m)).1 (inl (has m h))
 
 -- and the shape that was added is there too
-pub shapes_more : (before behind : BTreeSet ℕ) (old new : List (List ℕ)) (n : ℕ)
-    → ((q : ℕ) → Holds behind q ↔ (Holds before q ⊎ (q ≡ n))) → AddsList old new (shape n)
-    → HasShapes before old → HasShapes behind new
-shapes_more before behind old new n held adds has m h =
+pub shapes_more : (before following : BTreeSet ℕ) (old new : List (List ℕ)) (n : ℕ)
+    → ((q : ℕ) → Holds following q ↔ (Holds before q ⊎ (q ≡ n))) → AddsList old new (shape n)
+    → HasShapes before old → HasShapes following new
+shapes_more before following old new n held adds has m h =
     ⊎_elim (λ k. (adds.among (shape m)).1 (inl (has m k))) (λ e. (adds.among (shape m)).1 (inr (ap shape e)))
     ((held m).0 h)

@@ -9,17 +9,17 @@ use Rattle.ist_core.proofs.ElementLemmas.{among-append, among_left, among_right}
 use Rattle.check_fairness.specs.declared.spares.Spare.{Spare}
 use Rattle.check_fairness.specs.Searching.{Goes, is_full, TakesNext, BeginsOne}
 use Rattle.check_fairness.specs.Readings.{rest_at, BeginsAmong}
-use Rattle.check_fairness.proofs.BehindLemmas.{behind}
+use Rattle.check_fairness.proofs.AfterLemmas.{following}
 use Rattle.check_fairness.proofs.ReadingLemmas.{on_none, on_other, on_is}
 
 -- after the first of what is left
-pub rest_behind : (lists : List (List ℕ)) (i n : ℕ) (left : List ℕ) → left ≡ rest_at lists i n
+pub rest_after : (lists : List (List ℕ)) (i n : ℕ) (left : List ℕ) → left ≡ rest_at lists i n
     → 1 ≤ length left
-    → behind left ≡ rest_at lists i (n + 1)
-rest_behind lists i n left e some = ap behind e ∙ at n (slice_index_or lists i [])
+    → following left ≡ rest_at lists i (n + 1)
+rest_after lists i n left e some = ap following e ∙ at n (slice_index_or lists i [])
     (subst (λ ys. 1 ≤ length ys) e some)
   where
-    at : (n : ℕ) (xs : List ℕ) → 1 ≤ length (drop n xs) → behind (drop n xs) ≡ drop (n + 1) xs
+    at : (n : ℕ) (xs : List ℕ) → 1 ≤ length (drop n xs) → following (drop n xs) ≡ drop (n + 1) xs
     at zero [] h = absurd (omega arith)
     at zero (x ∷ xs) h = let whole : length xs ≡ length (x ∷ xs) - 1 = omega arith in ap
         (λ k. take k xs) (sym whole) ∙ take_all (length xs) xs (omega arith)
@@ -44,14 +44,14 @@ module _ (lists : List (List ℕ)) (room : ℕ) (may : Spare) (i n : ℕ) (left 
 
   -- if the size comes first, the further sizes go on with the rest of the list
   pub this_on : (full : Bool) → 1 ≤ length left → get_or left 0 0 ≡ x
-      → full ≡ is_full room (behind left)
+      → full ≡ is_full room (following left)
       → Goes (λ l. Among l lists) room may (rest_at lists i (n + 1)) full xs
       ↔ TakesNext (λ l. Among l lists) room may (rest_at lists i n) x xs
   this_on full some e f =
       subst (λ ys. Goes (λ l. Among l lists) room may ys full xs ↔ TakesNext (λ l. Among l lists)
       room may (rest_at lists i n) x xs)
-      (rest_behind lists i n left left_is some)
-      (subst (λ ys. Goes (λ l. Among l lists) room may (behind left) full xs
+      (rest_after lists i n left left_is some)
+      (subst (λ ys. Goes (λ l. Among l lists) room may (following left) full xs
       ↔ TakesNext (λ l. Among l lists) room may ys x xs) left_is
       (on_is (λ l. Among l lists) room may left x xs full some e f))
 

@@ -161,22 +161,22 @@ module _ (P : List ℕ → Type 0) (room : ℕ) where
             (arith, nat_tests);
       }
 
-      read_behind : (xs done rest : List ℕ) (free : Bool) → is_full room rest ≡ free
+      read_after : (xs done rest : List ℕ) (free : Bool) → is_full room rest ≡ free
           → IsBuilding t (done ++ rest) → ReadsOn rest free xs
           → AreBuilds t (done ++ xs)
-      read_behind _ done rest free e i reads_none = subst (AreBuilds t) (sym (append-nil done))
+      read_after _ done rest free e i reads_none = subst (AreBuilds t) (sym (append-nil done))
           (last_build rest i)
-      read_behind _ done _ free e i (reads_on {rest = rest} {xs = xs} {x = x} r) =
-          subst (AreBuilds t) (append_assoc done (x ∷ []) xs) (read_behind xs (done ++ x ∷ []) rest
+      read_after _ done _ free e i (reads_on {rest = rest} {xs = xs} {x = x} r) =
+          subst (AreBuilds t) (append_assoc done (x ∷ []) xs) (read_after xs (done ++ x ∷ []) rest
           (is_full room rest) refl (subst (IsBuilding t) (sym (append_assoc done (x ∷ []) rest))
           i) r)
-      read_behind _ done old _ e i (reads_first {xs = xs} {x = x} rest q r) =
-          stuck_build (cut done old e i) (read_behind xs (x ∷ []) rest (is_full room rest) refl
+      read_after _ done old _ e i (reads_first {xs = xs} {x = x} rest q r) =
+          stuck_build (cut done old e i) (read_after xs (x ∷ []) rest (is_full room rest) refl
           ((p (x ∷ rest)).1 q) r)
 
       read_builds : (xs : List ℕ) → ReadsOn [] true xs → AreBuilds t xs
       read_builds _ reads_none = no_build
-      read_builds _ (reads_first {xs = xs} {x = x} rest q r) = read_behind xs (x ∷ []) rest
+      read_builds _ (reads_first {xs = xs} {x = x} rest q r) = read_after xs (x ∷ []) rest
           (is_full room rest) refl ((p (x ∷ rest)).1 q) r
 
       -- the search finds exactly the fair lists

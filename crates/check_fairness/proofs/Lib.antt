@@ -1,5 +1,5 @@
 pub mod AnswerLemmas
-pub mod BehindLemmas
+pub mod AfterLemmas
 pub mod SpareLemmas
 pub mod FairLemmas
 pub mod AddedLemmas

@@ -11,7 +11,7 @@ use Rattle.check_fairness.specs.Searching.{IsSpare, without_spare, Goes, all_rea
 use Rattle.check_fairness.specs.Searching.{goes_on, begins, is_full, TakesNext, BeginsOne}
 use Rattle.check_fairness.specs.Searching.{LeavesOut}
 use Rattle.check_fairness.specs.Readings.{rest_at, GoesFrom, SomeGoes, LeavesSame, IsLeftBefore}
-use Rattle.check_fairness.proofs.BehindLemmas.{behind, first_behind}
+use Rattle.check_fairness.proofs.AfterLemmas.{following, first_after}
 
 -- ---- one size further
 
@@ -64,19 +64,19 @@ module _ (P : List ℕ → Type 0) (room : ℕ) (may : Spare) (rest : List ℕ) 
 -- a list continues with its first size
 pub on_is : (P : List ℕ → Type 0) (room : ℕ) (may : Spare) (list : List ℕ) (x : ℕ) (xs : List ℕ)
     (full : Bool)
-    → 1 ≤ length list → get_or list 0 0 ≡ x → full ≡ is_full room (behind list)
-    → Goes P room may (behind list) full xs ↔ TakesNext P room may list x xs
+    → 1 ≤ length list → get_or list 0 0 ≡ x → full ≡ is_full room (following list)
+    → Goes P room may (following list) full xs ↔ TakesNext P room may list x xs
 on_is P room may list x xs full n i e =
-    let split = sym (first_behind list n) in (
+    let split = sym (first_after list n) in (
       (λ g. record {
-        rest = behind list;
-        list_is = split ∙ ap (λ z. z ∷ behind list) i;
+        rest = following list;
+        list_is = split ∙ ap (λ z. z ∷ following list) i;
         goes = subst
-            (λ f. Goes P room may (behind list) f xs) e g;
+            (λ f. Goes P room may (following list) f xs) e g;
       }),
       (λ h.
           let same = tail_same (sym h.list_is ∙ split) in
-          subst (λ f. Goes P room may (behind list) f xs) (sym e)
+          subst (λ f. Goes P room may (following list) f xs) (sym e)
           (subst (λ r. Goes P room may r (is_full room r) xs) same h.goes)),
     )
   where

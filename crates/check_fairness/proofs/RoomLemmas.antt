@@ -12,7 +12,7 @@ use Rattle.check_fairness.specs.Searching.{Goes, all_read, leaves_out, goes_on, 
 use Rattle.check_fairness.specs.Searching.{is_full, all_spare, without_spare}
 use Rattle.check_fairness.specs.Keeping.{any_room, GoOnFrom}
 use Rattle.check_fairness.specs.Knowing.{KnowsLists}
-use Rattle.check_fairness.proofs.BehindLemmas.{among_first}
+use Rattle.check_fairness.proofs.AfterLemmas.{among_first}
 use Rattle.check_fairness.proofs.FairLemmas.{fair_is}
 
 -- if there is less room, a list is left for another at least as often

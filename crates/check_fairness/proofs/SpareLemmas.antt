@@ -32,7 +32,7 @@ use Rattle.ist_core.specs.Elements.{Among, Each}
 use Rattle.ist_core.specs.Fairness.{spare_sizes}
 use Rattle.check_fairness.specs.declared.spares.Spare.{Spare}
 use Rattle.check_fairness.specs.Searching.{IsSpare, AreSpare, without_spare, all_spare}
-use Rattle.check_fairness.proofs.BehindLemmas.{behind, first_behind}
+use Rattle.check_fairness.proofs.AfterLemmas.{following, first_after}
 
 -- a flag is cleared by the size of its own kind, and by no other
 cleared : (b : Bool) (x kind : ℕ) → IsTrue (b && not (x == kind)) → IsTrue b × (x ≢ kind)
@@ -96,27 +96,27 @@ each_after may x (y ∷ ys) n h = (
 -- sizes of rows that may be held are the size of a first one, and those of others that may be held
 -- in addition to it
 module _ (may : Spare) (xs : List ℕ) (some : 1 ≤ length xs) where
-  spare_apart : AreSpare may (get_or xs 0 0 ∷ behind xs)
-      ↔ (IsSpare may (get_or xs 0 0) × AreSpare (without_spare may (get_or xs 0 0)) (behind xs))
+  spare_apart : AreSpare may (get_or xs 0 0 ∷ following xs)
+      ↔ (IsSpare may (get_or xs 0 0) × AreSpare (without_spare may (get_or xs 0 0)) (following xs))
   spare_apart = (
-    (λ h. (h.0.0, (each_after may (get_or xs 0 0) (behind xs) h.1.0 h.0.1, h.1.1))),
-    (λ h. let k = each_before may (get_or xs 0 0) (behind xs) h.1.0 in ((h.0, k.0), (k.1, h.1.1))),
+    (λ h. (h.0.0, (each_after may (get_or xs 0 0) (following xs) h.1.0 h.0.1, h.1.1))),
+    (λ h. let k = each_before may (get_or xs 0 0) (following xs) h.1.0 in ((h.0, k.0), (k.1, h.1.1))),
   )
 
   -- if the first size is a spare row's, the sizes are spare exactly if the others are after it
   pub spare_first : (less : Spare) → IsSpare may (get_or xs 0 0)
       → less ≡ without_spare may (get_or xs 0 0)
-      → AreSpare less (behind xs) ↔ AreSpare may xs
+      → AreSpare less (following xs) ↔ AreSpare may xs
   spare_first less is e = (
-    (λ h. subst (AreSpare may) (first_behind xs some)
-        (spare_apart.1 (is, subst (λ m. AreSpare m (behind xs)) e h))),
-    (λ h. subst (λ m. AreSpare m (behind xs)) (sym e)
-        (spare_apart.0 (subst (AreSpare may) (sym (first_behind xs some)) h)).1),
+    (λ h. subst (AreSpare may) (first_after xs some)
+        (spare_apart.1 (is, subst (λ m. AreSpare m (following xs)) e h))),
+    (λ h. subst (λ m. AreSpare m (following xs)) (sym e)
+        (spare_apart.0 (subst (AreSpare may) (sym (first_after xs some)) h)).1),
   )
 
   -- if the first size isn't a spare row's, the sizes aren't spare
   pub spare_not : ¬ (IsSpare may (get_or xs 0 0)) → ¬ (AreSpare may xs)
-  spare_not lacks h = lacks (spare_apart.0 (subst (AreSpare may) (sym (first_behind xs some)) h)).0
+  spare_not lacks h = lacks (spare_apart.0 (subst (AreSpare may) (sym (first_after xs some)) h)).0
 
 -- sizes of spare rows are among the four sizes
 pub each_in : (ys : List ℕ) → Each (IsSpare all_spare) ys → Each (λ size. Among size spare_sizes) ys

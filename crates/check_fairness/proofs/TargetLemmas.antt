@@ -21,10 +21,10 @@ use Rattle.check_fairness.specs.Builds.{AddsLists, HasShapes}
 use Rattle.check_fairness.proofs.BuildLemmas.{listed_build, build_listed}
 
 -- a set after an insertion
-pub held_behind : (old new : BTreeSet ℕ) (k q : ℕ)
+pub held_after : (old new : BTreeSet ℕ) (k q : ℕ)
     → contains nat_cmp new q ≡ cond (is_at (nat_cmp k) q) true (contains nat_cmp old q)
     → Holds new q ↔ (Holds old q ⊎ (q ≡ k))
-held_behind old new k q u = at (eqb_tells q k)
+held_after old new k q u = at (eqb_tells q k)
   where
     at : ◌⊎◌ ((eqb q k ≡ true) × (q ≡ k)) ((eqb q k ≡ false) × (q ≢ k)) → Holds new q
         ↔ (Holds old q ⊎ (q ≡ k))
@@ -130,5 +130,5 @@ module _ (t u : Snapshot) (keys : ℕ) (gains : GainsKeys t u (λ k. k ≡ keys)
         shapes = (come known.shapes).1;
         kept = subst (λ all. KnowsReadings all (map (λ v. v.items) new.lists.items)) (sym same)
             (readings_stay old.kept (map (λ v. v.items) old.lists.items)
-            (map (λ v. v.items) new.lists.items) adds.behind known.kept);
+            (map (λ v. v.items) new.lists.items) adds.following known.kept);
       }

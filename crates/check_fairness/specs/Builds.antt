@@ -22,12 +22,12 @@ BeginsWith old new = (m : ℕ) → m ≤ length old → (m ≤ length new) × (t
 -- one list was added after the others, unless it was one of them
 pub record AddsList (old new : List (List ℕ)) (n : List ℕ) : Type 0 where
   pub among : (l : List ℕ) → Among l new ↔ (Among l old ⊎ (l ≡ n))
-  pub behind : BeginsWith old new
+  pub following : BeginsWith old new
 
 -- the building lists for k keys were added after the others, as far as they weren't among them
 pub record AddsLists (old new : List (List ℕ)) (k : ℕ) : Type 0 where
   pub among : (l : List ℕ) → Among l new ↔ (Among l old ⊎ Among l (lists_of k))
-  pub behind : BeginsWith old new
+  pub following : BeginsWith old new
 
 -- the shapes of ideal trees of these numbers of keys are among the lists
 abbrev pub HasShapes : BTreeSet ℕ → List (List ℕ) → Type 0

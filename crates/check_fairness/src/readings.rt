@@ -71,13 +71,13 @@ pub(crate) fn read_on(
 {
     let mut next = Vec::new(alloc);
     for reading in readings {
-        add_behind(lists, room, *reading, size, &mut next)?;
+        add_after(lists, room, *reading, size, &mut next)?;
     }
     Ok(next)
 }
 
 /// Adds what a reading leaves after one more size.
-fn add_behind(
+fn add_after(
     lists: &[Vec<u64>],
     room: u64,
     reading: Reading,

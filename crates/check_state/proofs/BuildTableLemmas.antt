@@ -28,16 +28,16 @@ use Rattle.ist_core.specs.Snapshots.{sizes_of}
 use Rattle.ist_core.specs.Logs.{Log}
 use Rattle.ist_core.specs.Building.{IsBeaten}
 use Rattle.check_events.specs.declared.pasts.BuildTable.{BuildTable}
-use Rattle.check_events.specs.Remembering.{CameBehind, KnowsBuilds, last_with, seen_builds}
+use Rattle.check_events.specs.Remembering.{CameAfter, KnowsBuilds, last_with, seen_builds}
 use Rattle.check_fairness.proofs.AnswerLemmas.{iff_trans}
 use Rattle.check_state.proofs.SizesFoundLemmas.{are_sizes, sizes_are, sizes_same}
 use Rattle.check_state.proofs.TableLemmas.{updated_here, updated_other}
 
 -- a count doesn't come after one that is at least as large
-not_behind : (found : Option ℕ) (seen : ℕ) → ((at : ℕ) → found ≡ Some at → at ≤ seen)
-    → ¬ (CameBehind found seen)
-not_behind None seen most h = h
-not_behind (Some at) seen most h = let l = most at refl in omega arith
+not_after : (found : Option ℕ) (seen : ℕ) → ((at : ℕ) → found ≡ Some at → at ≤ seen)
+    → ¬ (CameAfter found seen)
+not_after None seen most h = h
+not_after (Some at) seen most h = let l = most at refl in omega arith
 
 module _ (old : BuildTable) (log : Log) (caller count : ℕ) (since : BTreeMap ℕ ℕ)
     (known : KnowsBuilds old log) (most : old.count ≤ count)
@@ -85,7 +85,7 @@ module _ (old : BuildTable) (log : Log) (caller count : ℕ) (since : BTreeMap �
       where
         -- another caller has seen fewer builds
         others : (c : ℕ) (xs : List ℕ) → c ≢ caller → (b : Bool) → are_sizes xs (sizes_of rows) ≡ b
-            → CameBehind (cond b (Some count) (last_with old xs))
+            → CameAfter (cond b (Some count) (last_with old xs))
             (seen_builds (tree.get nat_cmp old.since c))
             ↔ IsBeaten c xs (Root caller rebuild word rows ∷ log)
         others c xs ne true is = (
@@ -100,18 +100,18 @@ module _ (old : BuildTable) (log : Log) (caller count : ℕ) (since : BTreeMap �
 
         beaten : (c : ℕ) (xs : List ℕ) → ◌⊎◌ ((eqb c caller ≡ true) × (c ≡ caller))
             ((eqb c caller ≡ false) × (c ≢ caller))
-            → CameBehind (last_with new xs) (seen_builds (tree.get nat_cmp since c))
+            → CameAfter (last_with new xs) (seen_builds (tree.get nat_cmp since c))
             ↔ IsBeaten c xs (Root caller rebuild word rows ∷ log)
         beaten c xs (inl k) = (
-          (λ h. absurd (not_behind (last_with new xs) count (came xs)
-              (subst (CameBehind (last_with new xs))
+          (λ h. absurd (not_after (last_with new xs) count (came xs)
+              (subst (CameAfter (last_with new xs))
               (ap (λ x. seen_builds (tree.get nat_cmp since x)) k.1 ∙ seen_here) h))),
           (λ b. absurd (b.0 (sym k.1))),
         )
         beaten c xs (inr k) =
-            subst (λ n. CameBehind (last_with new xs) n
+            subst (λ n. CameAfter (last_with new xs) n
             ↔ IsBeaten c xs (Root caller rebuild word rows ∷ log)) (sym (seen_other c k.1))
-            (subst (λ o. CameBehind o (seen_builds (tree.get nat_cmp old.since c))
+            (subst (λ o. CameAfter o (seen_builds (tree.get nat_cmp old.since c))
             ↔ IsBeaten c xs (Root caller rebuild word rows ∷ log)) (sym (found xs))
             (others c xs k.1 (are_sizes xs (sizes_of rows)) refl))
 
@@ -132,16 +132,16 @@ module _ (old : BuildTable) (log : Log) (caller count : ℕ) (since : BTreeMap �
       where
         beaten : (c : ℕ) (xs : List ℕ) → ◌⊎◌ ((eqb c caller ≡ true) × (c ≡ caller))
             ((eqb c caller ≡ false) × (c ≢ caller))
-            → CameBehind (last_with old xs) (seen_builds (tree.get nat_cmp since c))
+            → CameAfter (last_with old xs) (seen_builds (tree.get nat_cmp since c))
             ↔ IsBeaten c xs (Lose caller bases ∷ log)
         beaten c xs (inl k) = (
-          (λ h. absurd (not_behind (last_with old xs) old.count (known.came xs)
-              (subst (CameBehind (last_with old xs))
+          (λ h. absurd (not_after (last_with old xs) old.count (known.came xs)
+              (subst (CameAfter (last_with old xs))
               (ap (λ x. seen_builds (tree.get nat_cmp since x)) k.1 ∙ seen_here ∙ none) h))),
           (λ b. absurd (b.0 (sym k.1))),
         )
         beaten c xs (inr k) =
-            subst (λ n. CameBehind (last_with old xs) n ↔ IsBeaten c xs (Lose caller bases ∷ log))
+            subst (λ n. CameAfter (last_with old xs) n ↔ IsBeaten c xs (Lose caller bases ∷ log))
             (sym (seen_other c k.1)) (
               (λ h. ((λ e. k.1 (sym e)), (known.beaten c xs).0 h)),
               (λ b. (known.beaten c xs).1 b.1),

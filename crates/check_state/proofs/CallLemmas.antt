@@ -33,7 +33,7 @@ use Rattle.ist_core.specs.Snapshots.{Snapshot}
 use Rattle.ist_core.specs.Logs.{Log, Happened, Passes}
 use Rattle.ist_core.specs.Growing.{AllGrow}
 use Rattle.ist_core.specs.Rebuilding.{IsStarted}
-use Rattle.ist_core.specs.Marking.{HasTarget, IsCalled, as_target, as_child, behind_rebuild}
+use Rattle.ist_core.specs.Marking.{HasTarget, IsCalled, as_target, as_child, after_rebuild}
 use Rattle.ist_core.specs.StartLayout.{start}
 use Rattle.ist_core.specs.Lawful.{Lawful, EachEnabled, CanOpen, state_of}
 use Rattle.ist_core.proofs.GrowingLemmas.{rebuild_there}
@@ -129,8 +129,8 @@ module _ (pairs : List Pair) (words : ℕ) where
         as_target rebuild (target_stays _ _ grows rebuild node of)
         (start_stays pairs words log event law rebuild begun)
     call_stays (as_child above i word passed is) = as_child above i word (inr passed) is
-    call_stays (behind_rebuild above i word rebuild passed is of) =
-        behind_rebuild above i word rebuild (inr passed) is (target_stays _ _ grows rebuild node of)
+    call_stays (after_rebuild above i word rebuild passed is of) =
+        after_rebuild above i word rebuild (inr passed) is (target_stays _ _ grows rebuild node of)
 
     -- a target of a rebuild that a word names was one before
     named_before : (above i word rebuild : ℕ) → SlotNames (table log).pieces above i (ref_of word)
@@ -169,13 +169,13 @@ module _ (pairs : List Pair) (words : ℕ) where
         inr (passes above i word now (names_row is))
     causes New starts passes (as_child above i word (inr before) is) =
         inl (as_child above i word before is)
-    causes New starts passes (behind_rebuild above i word rebuild (inl now) is of) =
+    causes New starts passes (after_rebuild above i word rebuild (inl now) is of) =
         let named = passed_now law.opens log event law.enabled above i word now in
         inr (passes above i word now
         (names_rebuild rebuild is (named_before above i word rebuild named is of)))
-    causes New starts passes (behind_rebuild above i word rebuild (inr before) is of) =
+    causes New starts passes (after_rebuild above i word rebuild (inr before) is of) =
         let named = passed_names law.opens log law.enabled.0 above i word before in
-        inl (behind_rebuild above i word rebuild before is
+        inl (after_rebuild above i word rebuild before is
         (named_before above i word rebuild named is of))
 
   -- ---- the table of calls
@@ -272,12 +272,12 @@ module _ (pairs : List Pair) (words : ℕ) where
         (λ n j w now calls. subst (λ x. WordCalls (table log) x node) (sym now.2) calls))
         called_by known
       where
-        behind : Log
-        behind = Pass caller above i word ∷ log
+        following : Log
+        following = Pass caller above i word ∷ log
 
         -- what the word names is called after the pass
-        called_by : (node : ℕ) → WordCalls (table log) word node → IsCalled (table behind) behind
+        called_by : (node : ℕ) → WordCalls (table log) word node → IsCalled (table following) following
             node
         called_by node (names_row is) = as_child above i word (inl (refl, refl, refl)) is
         called_by node (names_rebuild rebuild is of) =
-            behind_rebuild above i word rebuild (inl (refl, refl, refl)) is of
+            after_rebuild above i word rebuild (inl (refl, refl, refl)) is of

@@ -33,7 +33,7 @@ use Rattle.ist_core.specs.Snapshots.{Snapshot, with_slot_at}
 use Rattle.ist_core.specs.After.{with_fresh, with_change, installed}
 use Rattle.check_events.specs.declared.replicas.Replica.{Replica}
 use Rattle.check_events.specs.Mirroring.{Mirrors}
-use Rattle.check_fairness.proofs.BehindLemmas.{behind, split_first}
+use Rattle.check_fairness.proofs.AfterLemmas.{following, split_first}
 
 -- a test that holds chooses the first, and one that fails the second
 pub start_chosen : {A : Type 0} (kind : ℕ) (a b : A) → kind ≡ start_kind → a
@@ -103,9 +103,9 @@ pub install_is : (r : Replica) (t : Snapshot) (base : ℕ) (rows : List Row) (ro
     (change : ChangeRow)
     → 1 ≤ length rows → row ≡ get_or rows 0 row → Some change ≡ change_of row.words
     → Mirrors r (with_slot_at (record t {
-      pieces = with_row (with_fresh t.pieces change (behind rows)) base (Some (Change change));
+      pieces = with_row (with_fresh t.pieces change (following rows)) base (Some (Change change));
     }) change.node change.index (word_of (ChangeAt base)))
     → Mirrors r (installed t base rows)
 install_is r t base rows row change n at is h =
     subst (λ rs. Mirrors r (installed t base rs)) (sym (split_first rows row n at))
-    (subst (λ o. Mirrors r (with_change t base (behind rows) o)) is h)
+    (subst (λ o. Mirrors r (with_change t base (following rows) o)) is h)

@@ -12,8 +12,8 @@ use Rattle.ist_core.specs.Snapshots.{Snapshot}
 use Rattle.ist_core.specs.StartLayout.{tree_at, placed_parts, top_row, rows_within, rows_from, pieces_of}
 use Rattle.check_events.specs.declared.replicas.Replica.{Replica}
 use Rattle.check_events.specs.Mirroring.{Mirrors}
-use Rattle.ist_image.specs.Placing.{part_of, part_base, rows_behind}
-use Rattle.ist_image.proofs.PlacingLemmas.{rows_from-many, rows_behind-first, rows_behind-last}
+use Rattle.ist_image.specs.Placing.{part_of, part_base, rows_after}
+use Rattle.ist_image.proofs.PlacingLemmas.{rows_from-many, rows_after-first, rows_after-last}
 use Rattle.ist_image.proofs.PlacedLemmas.{length-part_of, slots_are}
 use Rattle.check_state.specs.Laying.{with_pieces, Publishes}
 use Rattle.check_state.proofs.LayingLemmas.{with_pieces-none, with_pieces-append}
@@ -64,54 +64,54 @@ laid_in_front : (r : Replica) (t : Snapshot) (base at j : ℕ) (pairs part : Lis
     → at ≡ part_base base (length pairs) j → part ≡ part_of pairs j
     → Mirrors r (record t {
       pieces = with_pieces
-          (with_pieces t.pieces (rows_behind base pairs (j + 1))) (rows_from at part);
+          (with_pieces t.pieces (rows_after base pairs (j + 1))) (rows_from at part);
     })
-    → Mirrors r (record t { pieces = with_pieces t.pieces (rows_behind base pairs j) })
+    → Mirrors r (record t { pieces = with_pieces t.pieces (rows_after base pairs j) })
 laid_in_front r t base at j pairs part h e i m =
-    let behind = rows_behind base pairs (j + 1) in
+    let following = rows_after base pairs (j + 1) in
     subst (λ ps. Mirrors r (record t { pieces = ps }))
-    (ap (λ b. with_pieces (with_pieces t.pieces behind) (rows_from b part)) e
-    ∙ ap (λ xs. with_pieces (with_pieces t.pieces behind)
+    (ap (λ b. with_pieces (with_pieces t.pieces following) (rows_from b part)) e
+    ∙ ap (λ xs. with_pieces (with_pieces t.pieces following)
     (rows_from (part_base base (length pairs) j) xs)) i
     ∙ sym (with_pieces-append t.pieces (rows_from (part_base base (length pairs) j)
-    (part_of pairs j)) behind)
-    ∙ ap (with_pieces t.pieces) (sym (rows_behind-first base pairs j h)))
+    (part_of pairs j)) following)
+    ∙ ap (with_pieces t.pieces) (sym (rows_after-first base pairs j h)))
     m
 
 -- the rows of the parts from part j on, and then those of the part before them
 pub part_laid : (base : ℕ) (pairs : List Pair) {r s u : Replica} {at j : ℕ} {part : List Pair} → 0 < j
     → j ≤ degree (length pairs) → at ≡ part_base base (length pairs) (j - 1)
-    → part ≡ part_of pairs (j - 1) → Publishes r s (rows_behind base pairs j)
-    → Publishes s u (rows_from at part) → Publishes r u (rows_behind base pairs (j - 1))
+    → part ≡ part_of pairs (j - 1) → Publishes r s (rows_after base pairs j)
+    → Publishes s u (rows_from at part) → Publishes r u (rows_after base pairs (j - 1))
 part_laid base pairs {s = s} {u = u} {at = at} {j = j} {part = part} some most e i so_far here t m =
     let next : j ≡ j - 1 + 1 = omega arith in
     let there = subst (λ k. Mirrors s (record t {
-      pieces = with_pieces t.pieces (rows_behind base pairs k);
+      pieces = with_pieces t.pieces (rows_after base pairs k);
     })) next (so_far t m) in
     laid_in_front u t base at (j - 1) pairs part (omega arith) e i
-    (here (record t { pieces = with_pieces t.pieces (rows_behind base pairs (j - 1 + 1)) }) there)
+    (here (record t { pieces = with_pieces t.pieces (rows_after base pairs (j - 1 + 1)) }) there)
 
 -- after the last part nothing is published
 pub none_laid : (base : ℕ) (pairs : List Pair) {r : Replica} {d : ℕ} → d ≡ degree (length pairs)
-    → Publishes r r (rows_behind base pairs d)
+    → Publishes r r (rows_after base pairs d)
 none_laid base pairs {r = r} e t m =
     subst (λ rows. Mirrors r (record t { pieces = with_pieces t.pieces rows }))
-    (sym (ap (rows_behind base pairs) e ∙ rows_behind-last base pairs)) m
+    (sym (ap (rows_after base pairs) e ∙ rows_after-last base pairs)) m
 
 -- the top row is published last
 pub top_laid : (base : ℕ) (pairs : List Pair) {r s u : Replica} {row : InnerRow}
     → 2 ≤ length pairs → Inner row ≡ top_row base pairs
-    → Publishes r s (rows_behind base pairs 0)
+    → Publishes r s (rows_after base pairs 0)
     → ((t : Snapshot) → Mirrors s t
     → Mirrors u (record t { pieces = with_row t.pieces base (Some (Inner row)) }))
     → Publishes r u (rows_from base pairs)
 top_laid base pairs {u = u} two e parts put t m =
-    let behind = rows_behind base pairs 0 in
+    let following = rows_after base pairs 0 in
     subst (λ rows. Mirrors u (record t { pieces = with_pieces t.pieces rows }))
     (sym (rows_from-many base pairs two))
     (subst (λ p. Mirrors u (record t {
-      pieces = with_row (with_pieces t.pieces behind) base (Some p);
-    })) e (put (record t { pieces = with_pieces t.pieces behind }) (parts t m)))
+      pieces = with_row (with_pieces t.pieces following) base (Some p);
+    })) e (put (record t { pieces = with_pieces t.pieces following }) (parts t m)))
 
 -- the one row of a pair, and none of no pair
 pub leaf_laid : (base : ℕ) (pairs : List Pair) (default : Pair) {r s : Replica} → length pairs ≡ 1

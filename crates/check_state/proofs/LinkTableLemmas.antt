@@ -17,7 +17,7 @@ use Rattle.ist_core.specs.Lawful.{CanOpen, EachEnabled, state_of}
 use Rattle.ist_core.proofs.RowLemmas.{changed_at-same}
 use Rattle.ist_core.proofs.FreezingLemmas.{same_change}
 use Rattle.laws_links.proofs.ChildLemmas.{read_child}
-use Rattle.laws_links.proofs.LinkLemmas.{yes_linked_behind}
+use Rattle.laws_links.proofs.LinkLemmas.{yes_linked_after}
 use Rattle.laws_links.proofs.ReadEventLemmas.{decide_reads}
 use Rattle.check_events.specs.declared.pasts.Slot.{Slot}
 use Rattle.check_events.specs.declared.replicas.Replica.{Replica}
@@ -39,8 +39,8 @@ no_is_no_yes caller base by other e = cc
 
 module _ (pairs : List Pair) (words : ℕ) (opens : CanOpen pairs words) where
   -- the state after a log
-  abbrev behind : Log → Snapshot
-  behind log = state_of pairs words log
+  abbrev following : Log → Snapshot
+  following log = state_of pairs words log
 
   -- ---- an event that is no yes
 
@@ -69,13 +69,13 @@ module _ (pairs : List Pair) (words : ℕ) (opens : CanOpen pairs words) where
       (h : EachEnabled (start pairs words) (Decide caller base true ∷ log)) where
     -- the state after the event
     abbrev after_yes : Snapshot
-    after_yes = behind (Decide caller base true ∷ log)
+    after_yes = following (Decide caller base true ∷ log)
 
     -- the change after the event is the one before it, with its decision
-    decided_change : (x : ChangeRow) → (behind log).pieces base ≡ Some (Change x)
+    decided_change : (x : ChangeRow) → (following log).pieces base ≡ Some (Change x)
         → after_yes.pieces base ≡ Some (Change record x { decision = decided_yes })
     decided_change x e =
-        changed_at-same (behind log).pieces base (with_decision decided_yes)
+        changed_at-same (following log).pieces base (with_decision decided_yes)
         ∙ ap (option_map (with_decision decided_yes)) e
 
     change_is : (x : ChangeRow)
@@ -102,7 +102,7 @@ module _ (pairs : List Pair) (words : ℕ) (opens : CanOpen pairs words) where
         → Linked after_yes node × IsChild after_yes node i child
     brings_linked node i child b =
         let l =
-        yes_linked_behind pairs words opens log caller base h h.1.change h.1.pending.published in
+        yes_linked_after pairs words opens log caller base h h.1.change h.1.pending.published in
         let same = sym (change_is b.change b.published) in
         let top = subst (λ (c : ChangeRow). Linked after_yes c.node) same l in (
           hangs_linked after_yes b.change.node b.change.index node i child top b.hangs,
@@ -123,7 +123,7 @@ module _ (pairs : List Pair) (words : ℕ) (opens : CanOpen pairs words) where
           change = record b.change { decision = decided_yes };
           published =
               decided_change b.change
-              (subst (λ at. (behind log).pieces at ≡ Some (Change b.change)) (sym same)
+              (subst (λ at. (following log).pieces at ≡ Some (Change b.change)) (sym same)
               b.published);
           row = b.row;
           to = b.to;

@@ -63,7 +63,7 @@ use Rattle.laws_links.proofs.FormLemmas.{
   of_start,
 }
 use Rattle.laws_links.proofs.FormedLemmas.{changes_are_formed}
-use Rattle.laws_links.proofs.InductionLemmas.{grow_behind}
+use Rattle.laws_links.proofs.InductionLemmas.{grow_after}
 use Rattle.laws_links.proofs.ReadEventLemmas.{decide_reads}
 use Rattle.laws_links.proofs.ReadLemmas.{FillsSlot, ReadsAs, Turns, filled_by, reads_once, turned_by}
 use Rattle.laws_links.proofs.ReadStepLemmas.{
@@ -90,27 +90,27 @@ one_ref a b e = cc
 
 module _ (pairs : List Pair) (words : ℕ) (opens : CanOpen pairs words) where
   -- the state after a log
-  abbrev behind : Log → Snapshot
-  behind log = state_of pairs words log
+  abbrev following : Log → Snapshot
+  following log = state_of pairs words log
 
   -- ---- a slot of a linked node
 
   -- a linked node is the anchor or a published inner row
   linked_stood : (log : Log) → EachEnabled (start pairs words) log → (node : ℕ)
-      → Linked (behind log) node
+      → Linked (following log) node
       → Stood pairs words opens log node
   linked_stood log h _ at_anchor = was_anchor refl
   linked_stood log h _ (below {node = node} {child = child} i l c) =
-      let t = behind log in
+      let t = following log in
       let o = names pairs words opens log h in
       was_row (mentioned_here t node i child o (child_mentioned t node i child o c))
 
   -- no part is put into a slot of a linked node: each is set
   unfilled : (log : Log) (event : Event) → EachEnabled (start pairs words) (event ∷ log)
       → (node i : ℕ)
-      → Linked (behind log) node → ¬ (FillsSlot (start pairs words) log node i Unset event)
+      → Linked (following log) node → ¬ (FillsSlot (start pairs words) log node i Unset event)
   unfilled log _ h node i l (filled_by can here at is) =
-      let t = behind log in
+      let t = following log in
       let slot = in_row can.root_row can.root_published can.free in
       linked_set pairs words opens log h.0 can.root _ unset_word (subst (λ n. Linked t n) here l)
       slot
@@ -122,7 +122,7 @@ module _ (pairs : List Pair) (words : ℕ) (opens : CanOpen pairs words) where
     pub base : ℕ
     pub event_is : event ≡ Decide caller base true
     pub change : ChangeRow
-    pub published : (behind log).pieces base ≡ Some (Change change)
+    pub published : (following log).pieces base ≡ Some (Change change)
     pub node_is : change.node ≡ node
     pub index_is : change.index ≡ i
     pub row : ℕ
@@ -131,20 +131,20 @@ module _ (pairs : List Pair) (words : ℕ) (opens : CanOpen pairs words) where
   -- a change that is decided yes and puts no inner row in leaves the child of its slot
   turned_child : (log : Log) (event : Event) → EachEnabled (start pairs words) (event ∷ log)
       → (node i child : ℕ) (was ref : Ref)
-      → ReadsAs (behind log) node i was
+      → ReadsAs (following log) node i was
       → Turns (start pairs words) log node i was event
-      → ReadsAs (behind (event ∷ log)) node i ref
-      → past_rebuild (behind (event ∷ log)).pieces (Some ref) ≡ Some (InnerAt child)
-      → IsChild (behind log) node i child ⊎ BringsTo log event node i
+      → ReadsAs (following (event ∷ log)) node i ref
+      → past_rebuild (following (event ∷ log)).pieces (Some ref) ≡ Some (InnerAt child)
+      → IsChild (following log) node i child ⊎ BringsTo log event node i
   turned_child log _ h node i child was ref old
       (turned_by {caller = caller} {base = base} can n j from) r leads =
       by_form (changes_are_formed pairs words log h.0 base can.change can.pending.published)
     where
       t : Snapshot
-      t = behind log
+      t = following log
 
       u : Snapshot
-      u = behind (Decide caller base true ∷ log)
+      u = following (Decide caller base true ∷ log)
 
       -- the slot reads as what the change puts in
       leads_to : (to : Ref) → ref_of can.change.to ≡ Some to
@@ -187,7 +187,7 @@ module _ (pairs : List Pair) (words : ℕ) (opens : CanOpen pairs words) where
           clash q = cc
       by_form (of_start f) =
           let now =
-          leads_grows t u (grow_behind pairs words log (Decide caller base true) h)
+          leads_grows t u (grow_after pairs words log (Decide caller base true) h)
           (RebuildAt f.rebuild) f.row.target (leads_rebuild t.pieces f.rebuild f.row f.published) in
           let same = one_inner f.row.target child (sym now ∙ leads_to (RebuildAt f.rebuild) f.to) in
           let here = one_ref was (InnerAt f.row.target) (sym from ∙ f.from) in
@@ -222,19 +222,19 @@ module _ (pairs : List Pair) (words : ℕ) (opens : CanOpen pairs words) where
   -- yes brings it
   child_back : (log : Log) (event : Event) → EachEnabled (start pairs words) (event ∷ log)
       → (node i child : ℕ)
-      → Linked (behind log) node → IsChild (behind (event ∷ log)) node i child
-      → IsChild (behind log) node i child ⊎ BringsTo log event node i
+      → Linked (following log) node → IsChild (following (event ∷ log)) node i child
+      → IsChild (following log) node i child ⊎ BringsTo log event node i
   child_back log event h node i child l c =
       at (reads_back pairs words opens log event h node i r.ref (linked_stood log h.0 node l)
       r.read)
     where
-      r : IsReadBy (behind (event ∷ log)) node i child
-      r = child_read (behind (event ∷ log)) node i child c
+      r : IsReadBy (following (event ∷ log)) node i child
+      r = child_read (following (event ∷ log)) node i child c
 
       at : Turning pairs words opens log node i r.ref event
-          → IsChild (behind log) node i child ⊎ BringsTo log event node i
+          → IsChild (following log) node i child ⊎ BringsTo log event node i
       at (read_before b) =
-          inl (read_child (behind log) node i child r.ref b
+          inl (read_child (following log) node i child r.ref b
           (leads_back pairs words opens log event h node i child r.ref b r.leads))
       at (turned_now was old turn) =
           turned_child log event h node i child was r.ref old turn r.read r.leads
@@ -248,22 +248,22 @@ module _ (pairs : List Pair) (words : ℕ) (opens : CanOpen pairs words) where
     pub top : ℕ
     pub k : ℕ
     pub brings : BringsTo log event top k
-    pub hangs : Hangs (behind (event ∷ log)) top k node i child
+    pub hangs : Hangs (following (event ∷ log)) top k node i child
 
   -- the same, one row further down
   one_more : (log : Log) (event : Event) (node i row j child : ℕ) → HangsNew log event node i row
-      → IsChild (behind (event ∷ log)) row j child → HangsNew log event row j child
+      → IsChild (following (event ∷ log)) row j child → HangsNew log event row j child
   one_more log event node i row j child n c =
-      let u = behind (event ∷ log) in
+      let u = following (event ∷ log) in
       let hangs = hangs_on u n.top n.k node i row j child n.hangs c in
       record { top = n.top; k = n.k; brings = n.brings; hangs = hangs }
 
   -- a child of a node that was linked or hangs newly was a child of a linked node, or hangs newly
   child_from : (log : Log) (event : Event) → EachEnabled (start pairs words) (event ∷ log)
       → (node i child : ℕ)
-      → Linked (behind log) node ⊎ ((up j : ℕ) × HangsNew log event up j node)
-      → IsChild (behind (event ∷ log)) node i child
-      → (Linked (behind log) node × IsChild (behind log) node i child)
+      → Linked (following log) node ⊎ ((up j : ℕ) × HangsNew log event up j node)
+      → IsChild (following (event ∷ log)) node i child
+      → (Linked (following log) node × IsChild (following log) node i child)
       ⊎ HangsNew log event node i child
   child_from log event h node i child (inl l) c =
       ⊎_elim (λ b. inl (l, b))
@@ -275,8 +275,8 @@ module _ (pairs : List Pair) (words : ℕ) (opens : CanOpen pairs words) where
   -- a linked node was linked before the event, or hangs newly
   linked_back : (log : Log) (event : Event) → EachEnabled (start pairs words) (event ∷ log)
       → (node : ℕ)
-      → Linked (behind (event ∷ log)) node
-      → Linked (behind log) node ⊎ ((up j : ℕ) × HangsNew log event up j node)
+      → Linked (following (event ∷ log)) node
+      → Linked (following log) node ⊎ ((up j : ℕ) × HangsNew log event up j node)
   linked_back log event h _ at_anchor = inl at_anchor
   linked_back log event h _ (below {node = node} {child = child} i l c) =
       ⊎_elim (λ p. inl (below i p.0 p.1)) (λ n. inr (node, i, n))
@@ -285,8 +285,8 @@ module _ (pairs : List Pair) (words : ℕ) (opens : CanOpen pairs words) where
   -- a child of a linked node was one before the event, or hangs newly
   pub linked_child_back : (log : Log) (event : Event)
       → EachEnabled (start pairs words) (event ∷ log) → (node i child : ℕ)
-      → Linked (behind (event ∷ log)) node → IsChild (behind (event ∷ log)) node i child
-      → (Linked (behind log) node × IsChild (behind log) node i child)
+      → Linked (following (event ∷ log)) node → IsChild (following (event ∷ log)) node i child
+      → (Linked (following log) node × IsChild (following log) node i child)
       ⊎ HangsNew log event node i child
   linked_child_back log event h node i child l c =
       child_from log event h node i child (linked_back log event h node l) c

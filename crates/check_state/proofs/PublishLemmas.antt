@@ -37,7 +37,7 @@ use Rattle.ist_core.specs.Pieces.{
 use Rattle.ist_core.specs.Snapshots.{Snapshot}
 use Rattle.check_events.specs.declared.replicas.Replica.{Replica}
 use Rattle.check_events.specs.Mirroring.{Mirrors}
-use Rattle.check_fairness.proofs.BehindLemmas.{behind, split_first}
+use Rattle.check_fairness.proofs.AfterLemmas.{following, split_first}
 use Rattle.check_builds.proofs.PartCutLemmas.{from, from-drop, drop_min}
 
 -- the replica mirrors a snapshot with other rows, if these are the same
@@ -108,7 +108,7 @@ long_words (a ∷ b ∷ c ∷ d ∷ ws) end keys slots n e k s =
 pub first_published : (r : Replica) (t : Snapshot) (rows : List Row) (row : Row) → 1 ≤ length rows
     → row ≡ get_or rows 0 row
     → Mirrors r (record t {
-      pieces = with_row (with_inners t.pieces (behind rows)) row.base
+      pieces = with_row (with_inners t.pieces (following rows)) row.base
           (inner_of row.words);
     })
     → Mirrors r (record t { pieces = with_inners t.pieces rows })

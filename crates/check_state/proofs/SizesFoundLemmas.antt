@@ -39,12 +39,12 @@ module _ {K X : Type 0} (items : K → List ℕ) (xs : List ℕ) where
   there es = lookup (is_at (λ v. slice_cmp nat_cmp xs (items v))) es
 
   -- the new value is found by the sizes at which it was put in, and others find what they found
-  pub found_behind : (es : List (K × X)) (k : K) (v : X)
+  pub found_after : (es : List (K × X)) (k : K) (v : X)
       → there (insert_entry (λ x y. slice_cmp nat_cmp (items x) (items y)) es k v)
       ≡ cond (are_sizes xs (items k)) (Some v) (there es)
-  found_behind [] k v = refl
-  found_behind (e ∷ es) k v =
-      at (slice_cmp nat_cmp (items k) (items e.0)) refl (found_behind es k v)
+  found_after [] k v = refl
+  found_after (e ∷ es) k v =
+      at (slice_cmp nat_cmp (items k) (items e.0)) refl (found_after es k v)
     where
       at : (o : Ordering) → slice_cmp nat_cmp (items k) (items e.0) ≡ o
           → there (insert_entry (λ x y. slice_cmp nat_cmp (items x) (items y)) es k v)

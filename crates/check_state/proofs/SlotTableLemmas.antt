@@ -54,8 +54,8 @@ empty_table empty none child = grind (arith, common_steps)
 
 module _ (pairs : List Pair) (words : ℕ) (opens : CanOpen pairs words) where
   -- the state after a log
-  abbrev behind : Log → Snapshot
-  behind log = state_of pairs words log
+  abbrev following : Log → Snapshot
+  following log = state_of pairs words log
 
   -- each entry of the table is of a row that was linked
   abbrev pub AreOfLinked : BTreeMap ℕ Slot → Log → Type 0
@@ -72,7 +72,7 @@ module _ (pairs : List Pair) (words : ℕ) (opens : CanOpen pairs words) where
   -- prefix of it has no other slot for them
   pub hangs_once : (earlier log : Log) → GoesOn earlier log → EachEnabled (start pairs words) log
       → (slots : BTreeMap ℕ Slot)
-      → AreOfLinked slots earlier → HangsOnce slots (behind log)
+      → AreOfLinked slots earlier → HangsOnce slots (following log)
   hangs_once earlier log on h slots of =
       record {
         anchor_free = anchor_free pairs words log h;
@@ -92,9 +92,9 @@ module _ (pairs : List Pair) (words : ℕ) (opens : CanOpen pairs words) where
       }
     where
       t : Snapshot
-      t = behind log
+      t = following log
 
-      o : WordsName (behind log)
+      o : WordsName (following log)
       o = names pairs words opens log h
 
       at : (n i : ℕ) (slot : Slot) → slot.node ≡ n → slot.index ≡ i
@@ -105,12 +105,12 @@ module _ (pairs : List Pair) (words : ℕ) (opens : CanOpen pairs words) where
 
   -- a linked node lies no lower than the anchor
   linked_high : (log : Log) → EachEnabled (start pairs words) log → (node : ℕ)
-      → Linked (behind log) node
+      → Linked (following log) node
       → anchor ≤ node
   linked_high log h _ at_anchor = omega arith
   linked_high log h _ (below {node = node} {child = child} i l c) =
       let low = linked_high log h node l in
-      let up = child_above (behind log) node i child (names pairs words opens log h) c in
+      let up = child_above (following log) node i child (names pairs words opens log h) c in
       omega arith
 
   -- the slots of rows that were linked are of lower nodes
@@ -122,7 +122,7 @@ module _ (pairs : List Pair) (words : ℕ) (opens : CanOpen pairs words) where
       (λ u. Linked u slot.node × IsChild u slot.node slot.index child) log (of child slot e) in
       let all = enabled_before (start pairs words) was.0 log was.1 h in (
         linked_high was.0 all slot.node was.2.0,
-        child_above (behind was.0) slot.node slot.index child
+        child_above (following was.0) slot.node slot.index child
             (names pairs words opens was.0 all) was.2.1,
       )
 

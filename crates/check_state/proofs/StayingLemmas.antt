@@ -1,4 +1,4 @@
--- Behind a lawful log an inner row keeps its keys. Serves `ways.rt`.
+-- After a lawful log an inner row keeps its keys. Serves `ways.rt`.
 use Rattle.std.proofs.Common.{◌≡◌, ℕ, List, Some}
 use Rattle.ist_core.specs.declared.pairs.Pair.{Pair}
 use Rattle.ist_core.specs.Pieces.{Inner}

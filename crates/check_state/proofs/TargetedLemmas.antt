@@ -141,12 +141,12 @@ module _ (pairs : List Pair) (words : ℕ) where
     -- ---- of a yes
 
     module _ (caller base : ℕ) (law : Lawful pairs words (Decide caller base true ∷ log)) where
-      abbrev behind : Log
-      behind = Decide caller base true ∷ log
+      abbrev following : Log
+      following = Decide caller base true ∷ log
 
       -- a target of a started rebuild was one before, or the change starts a rebuild of it
-      targeted_newly : (node rebuild : ℕ) → HasTarget (table behind) rebuild node
-          → IsStarted (table behind) rebuild
+      targeted_newly : (node rebuild : ℕ) → HasTarget (table following) rebuild node
+          → IsStarted (table following) rebuild
           → IsTargeted (table log) node ⊎ StartCalls (table log) base node
       targeted_newly node rebuild of begun =
           ⊎_elim
@@ -159,11 +159,11 @@ module _ (pairs : List Pair) (words : ℕ) where
           (started_newly pairs words log caller base true law rebuild begun)
 
       -- the target of what the change starts is one after its yes
-      targeted_now : (node : ℕ) → StartCalls (table log) base node → IsTargeted (table behind) node
+      targeted_now : (node : ℕ) → StartCalls (table log) base node → IsTargeted (table following) node
       targeted_now node k =
           record {
             rebuild = k.rebuild;
-            of = target_stays (table log) (table behind) (grows log (Decide caller base true) law)
+            of = target_stays (table log) (table following) (grows log (Decide caller base true) law)
                 k.rebuild node k.of;
             started = start_begun pairs words log caller base k.rebuild k.starts;
           }
@@ -171,7 +171,7 @@ module _ (pairs : List Pair) (words : ℕ) where
       -- with the targets of what the change starts the set is right after its yes
       pub targets_more : (old new : BTreeSet ℕ)
           → ((node : ℕ) → Holds new node ↔ (Holds old node ⊎ StartCalls (table log) base node))
-          → KnowsTargets old (table log) → KnowsTargets new (table behind)
+          → KnowsTargets old (table log) → KnowsTargets new (table following)
       targets_more old new more known node = (
         (λ h.
             ⊎_elim
@@ -184,7 +184,7 @@ module _ (pairs : List Pair) (words : ℕ) where
       )
 
       -- a finished target was one before, or is the target of the rebuild that the change starts
-      keys_newly : (k : ℕ) → HasFinishedTarget (table behind) k
+      keys_newly : (k : ℕ) → HasFinishedTarget (table following) k
           → HasFinishedTarget (table log) k ⊎ StartsFinished (table log) base k
       keys_newly k it =
           let row = ⊎_elim (λ old. old) (λ now. absurd now)
@@ -199,7 +199,7 @@ module _ (pairs : List Pair) (words : ℕ) where
           (targeted_newly it.node it.targeted.rebuild it.targeted.of it.targeted.started)
 
       -- a yes gains the numbers of keys of what the change starts
-      pub keys_started : GainsKeys (table log) (table behind) (StartsFinished (table log) base)
+      pub keys_started : GainsKeys (table log) (table following) (StartsFinished (table log) base)
       keys_started k = (
         keys_newly k,
         (λ s.
@@ -211,7 +211,7 @@ module _ (pairs : List Pair) (words : ℕ) where
                 starts = now.starts;
                 of = now.finished.of;
               };
-              finished = finished_grows (table log) (table behind) now.finished.target k
+              finished = finished_grows (table log) (table following) now.finished.target k
                   (grows log (Decide caller base true) law) now.finished.finished;
             })
             s),

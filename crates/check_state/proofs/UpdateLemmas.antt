@@ -179,23 +179,23 @@ module _ (pairs : List Pair) (words : ℕ) where
         → RightUpdates old log → RightUpdates new (Decide by change true ∷ log)
     updates_renewed by change law old new renews known caller node base = at (renews caller)
       where
-        behind : Log
-        behind = Decide by change true ∷ log
+        following : Log
+        following = Decide by change true ∷ log
 
         at : Renews (table log) change caller (entry old caller) (entry new caller)
             → LacksCount (entry new caller) node base
-            ↔ IsUncounted (table behind) behind caller node base
+            ↔ IsUncounted (table following) following caller node base
         at (inl k) =
             let both = k.1 node base in
             let update = stays_update log (Decide by change true) law caller change k.0 in
-            let last = last_is (table behind) log by change caller node base update in
+            let last = last_is (table following) log by change caller node base update in
             ((λ l. last.0 (both.0 l)), (λ i. both.1 (last.1 i)))
         at (inr k) =
             let yes = Decide by change true in
             let here = decided_now log yes law.enabled change true (refl, refl) in
             let before = update_before _ _ (rows_grow pairs words log yes law.enabled) caller change
             here in
-            let none = λ (y : IsUpdateOf (table behind) caller change). k.0 (before y) in
+            let none = λ (y : IsUpdateOf (table following) caller change). k.0 (before y) in
             let step = uncounted_step log yes law caller none node base in
             let it = known caller node base in (
               (λ l. step.1 (it.0 (subst (λ o. LacksCount o node base) k.1 l), (λ none. none))),

@@ -105,7 +105,7 @@ module _ (keys : List ℕ) (rise : IsStrictlyIncreasing keys) where
   below_next : (index key : ℕ) → index < length keys → index ≡ child_count keys key
       → key < get_or keys index 0
   below_next index key within is =
-      let behind = child_count_is keys (get_or keys index 0) (index + 1) rise (omega arith)
+      let following = child_count_is keys (get_or keys index 0) (index + 1) rise (omega arith)
       (λ more. rise index more)
       (λ some. let next : index + 1 - 1 ≡ index = omega arith in
       let same = ap (λ i. get_or keys i 0) next in omega arith) in

@@ -8,7 +8,7 @@ ghost use Rattle.ist_core.specs.References.{word_of as the_word};
 ghost use Rattle.ist_core.specs.StartLayout as layout;
 ghost use Rattle.ist_core.specs.StartLayout.{start, tree_at, placed_parts, rows_from};
 ghost use Rattle.check_events.specs.Mirroring.{Mirrors};
-ghost use Rattle.ist_image.specs.Placing.{rows_behind, FitsAt};
+ghost use Rattle.ist_image.specs.Placing.{rows_after, FitsAt};
 ghost use Rattle.check_state.specs.Laying.{Publishes};
 
 use crate::publishing::{put_inner, put_leaf};
@@ -90,7 +90,7 @@ fn put_parts(
     requires few { length pairs.now < 2 ^ 28 }
     requires fits { FitsAt base (length pairs.now) }
     ensures exact { OnOk result
-        (Publishes replica.old replica.new (rows_behind base pairs.now 0)) }
+        (Publishes replica.old replica.new (rows_after base pairs.now 0)) }
 {
     let count = pairs.len() as u64;
     let mut at = base + ideal_words(count);

@@ -8,14 +8,14 @@ use Rattle.ist_rule.specs.declared.view.View.{View}
 use Rattle.ist_core.specs.Authors.{Later}
 use Rattle.ist_rule.specs.Faces.{TokenFace}
 use Rattle.ist_rule.specs.Rule.{IsSound}
-use Rattle.ist_rule.specs.Learning.{now, made_behind, Logged, LoggedLoad, GoesOnTo}
+use Rattle.ist_rule.specs.Learning.{now, made_after, Logged, LoggedLoad, GoesOnTo}
 use Rattle.ist_rows.specs.declared.callers.Caller.{Caller}
 use Rattle.ist_rows.specs.Rows.{spares_of, build_sizes, IsCaller}
 use Rattle.ist_rows.specs.Building.{AreStuck, HasRefused, sizes_built}
-use Rattle.ist_rows.proofs.CallerLemmas.{comes_behind}
+use Rattle.ist_rows.proofs.CallerLemmas.{comes_after}
 use Rattle.ist_rows.proofs.CallerGoingLemmas.{caller_goes_on}
 use Rattle.ist_rows.proofs.BuildingLemmas.{all_stuck_on}
-use Rattle.ist_rows.proofs.BuildLemmas.{ComesBehind}
+use Rattle.ist_rows.proofs.BuildLemmas.{ComesAfter}
 use Rattle.ist_build.proofs.LaidOnLemmas.{logged_laid, logged_load_laid}
 use Rattle.ist_core.specs.Lawful.{Lawful}
 use Rattle.ist_core.specs.Logs.{Log}
@@ -32,7 +32,7 @@ use Rattle.ist_build.proofs.TopBegunLemmas.{sizes_on}
 module _ (old mid : Caller) (h : HasBuilt old mid) (rows : List Row)
     (owns : OwnsRows mid.token.view mid.number (now old.token.view).next rows)
     (sizes : sizes_built mid ≡ sizes_built old ++ sizes_of rows)
-    (event : Event) (is : Builds event) (made : (n : ℕ) → made_behind event n ≡ n)
+    (event : Event) (is : Builds event) (made : (n : ℕ) → made_after event n ≡ n)
     (drops : (t : Snapshot) → (after t event).held ≡ without (bases_of rows) t.held)
     (token : TokenFace) where
   abbrev v : View
@@ -101,8 +101,8 @@ back_loads who token r g =
         caller = caller_goes_on who token c g;
         refused = subst (AreStuck (now token.view)) (sym (sizes_on who token c g))
             (all_stuck_on (now v) (now token.view)
-            (subst (ComesBehind (now v)) (sym (goes_on_now v token.view g))
-            (comes_behind v.start v.words who.number v.log token.view.log lawful
+            (subst (ComesAfter (now v)) (sym (goes_on_now v token.view g))
+            (comes_after v.start v.words who.number v.log token.view.log lawful
             (subst (λ x. Later x v.log token.view.log) c.mine g.later)))
             (sizes_built who) r.refused);
       };

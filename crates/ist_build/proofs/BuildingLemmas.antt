@@ -135,7 +135,7 @@ held_good v s number base size i =
     let next = next_within v.start v.words s.lawful.opens v.log s.lawful.enabled in
     let all = words_same v.start v.words s.lawful.opens v.log in
     let limit = s.lawful.opens.within in
-    record { behind_fixed = it.behind_fixed; below_limit = omega arith }
+    record { after_fixed = it.after_fixed; below_limit = omega arith }
 
 -- ---- a part
 

@@ -10,7 +10,7 @@ use Rattle.ist_rule.specs.Learning.{now, GoesOnTo}
 use Rattle.ist_build.specs.declared.below.Below.{Below}
 use Rattle.ist_build.specs.declared.below.Below.TheVariants.{Nothing, Leaf, Row}
 use Rattle.ist_build.specs.Calls.{HasKeys}
-use Rattle.ist_build.specs.Reading.{HasSlots, HasRead, HasReadOne, IsReading, IsUnder, SlotReads, before_one, behind_one}
+use Rattle.ist_build.specs.Reading.{HasSlots, HasRead, HasReadOne, IsReading, IsUnder, SlotReads, before_one, after_one}
 use Rattle.ist_build.proofs.ReadLemmas.{read_is, read_left_out, one_left_out, one_taken}
 use Rattle.ist_build.proofs.ReadingLemmas.{reading_more, reading_full, reading_last, under_leaves, leaves_number, nothing_read, leaf_read}
 use Rattle.ist_build.proofs.ShareLemmas.{some_leaves}
@@ -44,9 +44,9 @@ few_below v w s node degree i loads more base keys below h less few two what is 
 -- ---- the leaf is found
 
 -- if there is a leaf number i, a reading of all leaves finds it
-pub not_behind : (leaves : List PlacedLeaf) (i skip : ℕ) → i < length leaves
+pub not_after : (leaves : List PlacedLeaf) (i skip : ℕ) → i < length leaves
     → HasRead (0 ∷ []) (before_one i) leaves (0 ∷ []) (before_one skip) → ⊥
-not_behind leaves i skip enough h =
+not_after leaves i skip enough h =
     let is = read_is 1 leaves i [] (omega arith) in
     let rest = length-drop i leaves in
     let many = length-map (drop i leaves) (λ (leaf : PlacedLeaf). leaf.base) in
@@ -82,12 +82,12 @@ module _ (leaves : List PlacedLeaf) (v w : View) (node degree j : ℕ) (s : IsSo
       → HasReadOne i leaves base
   at_leaf below base is found none =
       let under = subst (IsUnder w node j) is found in
-      reading_full leaves (0 ∷ []) (before_one i) w node (j + 1) (base ∷ []) behind_one
+      reading_full leaves (0 ∷ []) (before_one i) w node (j + 1) (base ∷ []) after_one
       (reading_more leaves (0 ∷ []) (before_one i) v w node degree j (0 ∷ []) (before_one skip)
-      (base ∷ []) behind_one s g h less r
-      (λ word here slot has. leaf_read w (0 ∷ []) (base ∷ []) (before_one skip) behind_one base here
-      (λ leaf e. subst (λ b. HasRead (0 ∷ []) (before_one skip) (leaf ∷ []) (b ∷ []) behind_one) e
-      (one_taken (0 ∷ []) (before_one skip) behind_one leaf (omega arith) (omega arith) refl refl))
+      (base ∷ []) after_one s g h less r
+      (λ word here slot has. leaf_read w (0 ∷ []) (base ∷ []) (before_one skip) after_one base here
+      (λ leaf e. subst (λ b. HasRead (0 ∷ []) (before_one skip) (leaf ∷ []) (b ∷ []) after_one) e
+      (one_taken (0 ∷ []) (before_one skip) after_one leaf (omega arith) (omega arith) refl refl))
       (under_leaves v w s g node degree j h less (LeafAt base) under word here slot has)))
       refl
 
@@ -99,9 +99,9 @@ module _ (leaves : List PlacedLeaf) (v w : View) (node degree j : ℕ) (s : IsSo
       → HasReadOne i leaves found
   below_row below base keys found is there told =
       let under = subst (IsUnder w node j) is there in
-      reading_full leaves (0 ∷ []) (before_one i) w node (j + 1) (found ∷ []) behind_one
+      reading_full leaves (0 ∷ []) (before_one i) w node (j + 1) (found ∷ []) after_one
       (reading_more leaves (0 ∷ []) (before_one i) v w node degree j (0 ∷ []) (before_one skip)
-      (found ∷ []) behind_one s g h less r
+      (found ∷ []) after_one s g h less r
       (λ word here slot has. told here
       (under_leaves v w s g node degree j h less (InnerAt base) under.0 word here slot has)))
       refl
@@ -142,6 +142,6 @@ pub not_past : (u v : View) → IsSound u → IsSound v → (node degree j i ski
 not_past u v s t node degree j i skip h all keys told =
     let it = some_leaves u s node (i + 1) keys in
     let enough = it.2 in
-    not_behind it.0 i skip (omega arith)
+    not_after it.0 i skip (omega arith)
     (reading_last it.0 (0 ∷ []) (before_one i) v node degree j (0 ∷ []) (before_one skip) t h all
     (told it.0 it.1))

@@ -153,7 +153,7 @@ module _ (old who new : Caller) (leaves : List ℕ) (base d j key word : ℕ)
         let fore = done ++ inner_words d ∷ flat_map shape (lens_to n j) in
         let next = flat_map shape (lens_from n (j + 1)) in
         let len = part_len n j in
-        let behind : flat_map shape (lens_from n j) ++ rest ≡ shape len ++ (next ++ rest) =
+        let following : flat_map shape (lens_from n j) ++ rest ≡ shape len ++ (next ++ rest) =
         ap (λ xs. xs ++ rest) (sizes_left n j (let q : j < degree n = omega (arith, degree_is) in q))
         ∙ append_assoc (shape len) next rest in
         let front : fore ++ shape len ≡ done ++ inner_words d ∷ flat_map shape (lens_to n (j + 1)) =
@@ -162,7 +162,7 @@ module _ (old who new : Caller) (leaves : List ℕ) (base d j key word : ℕ)
         at_rewritten new words stuck _ _
         (subst (λ xs. IsInBuild new stuck xs (next ++ rest)) front
         (taken stuck fore (next ++ rest)
-        (subst (IsInBuild who stuck fore) behind (m.due stuck done rest h))))
+        (subst (IsInBuild who stuck fore) following (m.due stuck done rest h))))
 
     -- when the part's word and key are stored, the half-built row has one part more
     pub midway_set : IsCaller last → IsSound w → IsMidway old leaves base d (j + 1) last

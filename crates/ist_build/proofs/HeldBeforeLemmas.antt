@@ -1,4 +1,4 @@
--- Behind the Root, Place or Lose of what it built a caller holds what it held before the build.
+-- After the Root, Place or Lose of what it built a caller holds what it held before the build.
 -- Serves the calls that put a build in place.
 use Rattle.std.proofs.Common.{◌≡◌, ℕ, ◌<◌, ◌≤◌, ◌==◌, not, nat_lt, Bool, true, false, List, ◌∷◌, ◌++◌, length, map, filter, Some, refl, sym, ap, ap₂, ◌∙◌, subst, inr, ⊎_elim, append-nil, arith}
 use Rattle.std.specs.List.{list_any}
@@ -32,7 +32,7 @@ use Rattle.ist_rows.specs.declared.kinds.Kind.{Kind}
 use Rattle.ist_rows.specs.Kinds.{kind_words}
 use Rattle.ist_rows.specs.Rows.{spares_of, row_of, is_spare, held_by, build_sizes, IsCaller}
 use Rattle.ist_rows.specs.Building.{AreStuck, sizes_built, HasRefused}
-use Rattle.ist_rows.proofs.BuildLemmas.{ComesBehind, builds_on}
+use Rattle.ist_rows.proofs.BuildLemmas.{ComesAfter, builds_on}
 use Rattle.ist_rows.proofs.BuildingLemmas.{all_stuck_on}
 use Rattle.ist_rows.proofs.CallerLemmas.{spare_kind}
 use Rattle.ist_rows.proofs.CallerGoingLemmas.{base_same}
@@ -40,7 +40,7 @@ use Rattle.ist_rows.proofs.HeldListLemmas.{held_by_later}
 use Rattle.ist_rule.proofs.WentOnLemmas.{later_by, later_by_more, later_by_all, later_by-goes_on}
 use Rattle.ist_build.specs.Naming.{is_from, row_stored, held_rows_from}
 use Rattle.ist_build.specs.Laying.{IsReservation, BuiltOn, OwnsRows}
-use Rattle.ist_rows.proofs.HeldBehindLemmas.{filter_swap}
+use Rattle.ist_rows.proofs.HeldAfterLemmas.{filter_swap}
 use Rattle.ist_build.proofs.BuiltLemmas.{built_now, built_lawful}
 use Rattle.ist_build.proofs.LaidOnLemmas.{next_between}
 use Rattle.ist_build.proofs.RisingListLemmas.{among_map, covers, keeps_all, keeps_none, of_map, one_rising}
@@ -244,9 +244,9 @@ module _ (who : Caller) (c : IsCaller who) (s : IsSound who.token.view) (w : Vie
         one_more event (later_by_more (later_by_all (λ e i. tt) b.later)
         (subst (λ k. LaterBy k AnyEvent w.log before) (ap (λ y. y.who) b.same) (later_by later))) (inr tt)
 
-    comes : ComesBehind (now v) (now x)
+    comes : ComesAfter (now v) (now x)
     comes =
-        subst (ComesBehind (now v)) (sym now_x)
+        subst (ComesAfter (now v)) (sym now_x)
         record {
           words = words_same v.start v.words lawful.opens (event ∷ before)
               ∙ sym (words_same v.start v.words lawful.opens v.log);

@@ -105,29 +105,29 @@ module _ (w : View) (s : IsSound w) (number low mid : ℕ) (le : low ≤ mid) (x
 
 -- one part more is laid
 pub are_laid_more : (w : View) → IsSound w → (number low mid above : ℕ) → low ≤ mid → above < mid
-    → (words : List ℕ) (behind : List (List PlacedLeaf)) (word : ℕ) (part : List PlacedLeaf)
-    → (h : AreLaid w number low above words behind) → IsLaid w number mid word part
+    → (words : List ℕ) (following : List (List PlacedLeaf)) (word : ℕ) (part : List PlacedLeaf)
+    → (h : AreLaid w number low above words following) → IsLaid w number mid word part
     → Each (λ row. row.base < mid) h.rows
-    → AreLaid w number low above (words ++ word ∷ []) (behind ++ part ∷ [])
-are_laid_more w s number low mid above le less words behind word part h p below =
+    → AreLaid w number low above (words ++ word ∷ []) (following ++ part ∷ [])
+are_laid_more w s number low mid above le less words following word part h p below =
     record {
       rows = h.rows ++ p.rows;
       owns = owns_both w s number low mid le h.rows p.rows h.owns p.owns below;
       ideal = parts_joined (now w).pieces h.rows p.rows
           (free_both w s number low mid le h.rows p.rows h.owns p.owns below)
           (apart w s number low mid le h.rows p.rows h.owns p.owns below)
-          words behind above word p.ref part h.ideal p.ref_is (p.ideal above less);
+          words following above word p.ref part h.ideal p.ref_is (p.ideal above less);
     }
 
 -- in the rows of both
 pub more_rows : (w : View) (s : IsSound w) (number low mid above : ℕ) (le : low ≤ mid)
-    (less : above < mid) (words : List ℕ) (behind : List (List PlacedLeaf)) (word : ℕ)
-    (part : List PlacedLeaf) (h : AreLaid w number low above words behind)
+    (less : above < mid) (words : List ℕ) (following : List (List PlacedLeaf)) (word : ℕ)
+    (part : List PlacedLeaf) (h : AreLaid w number low above words following)
     (p : IsLaid w number mid word part) (below : Each (λ row. row.base < mid) h.rows)
-    → (are_laid_more w s number low mid above le less words behind word part h p below).rows
+    → (are_laid_more w s number low mid above le less words following word part h p below).rows
     ≡ h.rows ++ p.rows
 unfolding are_laid_more
-more_rows w s number low mid above le less words behind word part h p below = refl
+more_rows w s number low mid above le less words following word part h p below = refl
 
 -- nothing is laid
 pub are_laid_none : (w : View) (number low above : ℕ) → AreLaid w number low above [] []

@@ -14,7 +14,7 @@ use Rattle.ist_rule.specs.declared.view.View.{View}
 use Rattle.ist_core.specs.declared.events.Who.{Who}
 use Rattle.ist_rule.specs.Going.{WentOn, KeepsWords}
 use Rattle.ist_rule.specs.Rule.{IsSound, own_at}
-use Rattle.ist_rule.specs.Learning.{now, made_behind, GoesOnTo, Logged, LoggedLoad}
+use Rattle.ist_rule.specs.Learning.{now, made_after, GoesOnTo, Logged, LoggedLoad}
 use Rattle.ist_rule.proofs.WentOnLemmas.{goes_on_went, logged_load_went, logged_went, went_all, went_grow, went_lawful, went_more, went_now, went_same, went_who}
 use Rattle.ist_build.specs.Laying.{LaidOn}
 
@@ -92,14 +92,14 @@ goes_on_laid P v w g =
 
 -- by one event
 pub logged_laid : (P : Event → Type 0) (v : View) (event : Event) (w : View) → Logged v event w
-    → P event → made_behind event v.made ≡ v.made → LaidOn P v w
+    → P event → made_after event v.made ≡ v.made → LaidOn P v w
 logged_laid P v event w l is made =
     laid_by P v w (logged_went P v event w l is made)
     (λ place low. ap (λ x. own_at x.own place) l.view)
 
 -- by one that came at a load
 pub logged_load_laid : (P : Event → Type 0) (v : View) (event : Event) (place word : ℕ) (w : View)
-    → LoggedLoad v event place word w → P event → made_behind event v.made ≡ v.made → LaidOn P v w
+    → LoggedLoad v event place word w → P event → made_after event v.made ≡ v.made → LaidOn P v w
 logged_load_laid P v event place word w l is made =
     laid_by P v w (logged_load_went P v event place word w l is made)
     (λ at low. ap (λ x. own_at x.own at) l.view)

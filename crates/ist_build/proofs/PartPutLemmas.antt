@@ -57,7 +57,7 @@ pub record MayPut (old mid : Caller) (s : Shared) (i place word : ℕ) : Type 0 
   pub allowed : CanExchangeOrLose mid.token.view place unset_word word
       (placing mid.token.view s.rebuild i word) (losing mid.token.view word)
   -- after the exchange, whatever word it found, the slot is set
-  pub behind : (token : TokenFace) (found : ℕ)
+  pub following : (token : TokenFace) (found : ℕ)
       → ExchangedOrLost mid.token.view (placing mid.token.view s.rebuild i word)
       (losing mid.token.view word) place unset_word found token.view
       → IsFilledAt old (record mid { token = token }) s.root i
@@ -191,10 +191,10 @@ module _ (old mid : Caller) (s : Shared) (i word : ℕ) (m : IsPartMade old mid 
         (Lose mid.number (bases_of h.rows))) (sym placing_is) can)
 
     -- after it the slot is set, whoever was first
-    part_behind : (token : TokenFace) (found : ℕ)
+    part_after : (token : TokenFace) (found : ℕ)
         → ExchangedOrLost w (placing w s.rebuild i word) (losing w word) place unset_word found token.view
         → IsFilledAt old (record mid { token = token }) s.root i
-    part_behind token found x =
+    part_after token found x =
         ⊎_elim (λ same. hit (x.0 same.1)) (λ other. miss other.1 (x.1 other.1))
         (eqb_tells found unset_word)
       where
@@ -231,7 +231,7 @@ module _ (old mid : Caller) (s : Shared) (i word : ℕ) (m : IsPartMade old mid 
 
     -- a part that was made may be put in place
     pub may_put : MayPut old mid s i place word
-    may_put = record { allowed = part_allowed; behind = part_behind; low = part_low }
+    may_put = record { allowed = part_allowed; following = part_after; low = part_low }
 
 -- ---- in the form of the functions' clauses
 

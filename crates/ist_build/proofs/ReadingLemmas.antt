@@ -157,7 +157,7 @@ reading_first leaves into at v node le has =
       seen = [];
       rest = leaves;
       both = refl;
-      behind = record { row = it.0; published = it.1; slots = it.2 };
+      following = record { row = it.0; published = it.1; slots = it.2 };
       read = read_none into at le;
     }
 
@@ -171,7 +171,7 @@ reading_on leaves old from v w node degree i new to s g h le r =
       seen = r.seen;
       rest = r.rest;
       both = r.both;
-      behind = from_on v w s g node degree h i r.rest le r.behind;
+      following = from_on v w s g node degree h i r.rest le r.following;
       read = r.read;
     }
 
@@ -184,7 +184,7 @@ pub reading_more : (leaves : List PlacedLeaf) (old : List ℕ) (from : Cursor) (
     → HasLeaves (now v).pieces (logical (now v).pieces word) here → HasRead mid via here new to)
     → IsReading leaves old from w node (i + 1) new to
 reading_more leaves old from v w node degree i mid via new to s g h less r one =
-    let f = r.behind in
+    let f = r.following in
     let d = has_degree v.start v.words v.log s.lawful.enabled node f.row f.published in
     let same_row = same_inner ((now v).pieces node) f.row h.row f.published h.published in
     let deg = ap (λ x. x.degree) same_row ∙ h.degree_is in
@@ -199,7 +199,7 @@ reading_more leaves old from v w node degree i mid via new to s g h less r one =
       seen = r.seen ++ parts.0;
       rest = parts.1;
       both = r.both ∙ ap (λ xs. r.seen ++ xs) parts.4 ∙ sym (append_assoc r.seen parts.0 parts.1);
-      behind = from_on v w s g node degree h (i + 1) parts.1 (omega arith)
+      following = from_on v w s g node degree h (i + 1) parts.1 (omega arith)
           record { row = f.row; published = f.published; slots = parts.3 };
       read = read_more old mid new from via to r.seen parts.0 r.read (one word parts.0 slot parts.2);
     }
@@ -217,7 +217,7 @@ pub reading_last : (leaves : List PlacedLeaf) (old : List ℕ) (from : Cursor) (
     (node degree i : ℕ) (new : List ℕ) (to : Cursor) → IsSound v → HasSlots v node degree
     → degree ≤ i → IsReading leaves old from v node i new to → HasRead old from leaves new to
 reading_last leaves old from v node degree i new to s h all r =
-    let f = r.behind in
+    let f = r.following in
     let d = has_degree v.start v.words v.log s.lawful.enabled node f.row f.published in
     let same_row = same_inner ((now v).pieces node) f.row h.row f.published h.published in
     let deg = ap (λ x. x.degree) same_row ∙ h.degree_is in

@@ -10,7 +10,7 @@ use Rattle.ist_core.specs.StartLayout.{start}
 use Rattle.ist_rule.specs.declared.view.View.{View}
 use Rattle.ist_rule.specs.Rule.{IsSound, own_at}
 use Rattle.ist_rule.specs.Learning.{now}
-use Rattle.ist_rule.specs.Several.{with_events, made_behind_all, logging_all, LoggedAll}
+use Rattle.ist_rule.specs.Several.{with_events, made_after_all, logging_all, LoggedAll}
 use Rattle.ist_rule.proofs.ListLogLemmas.{enabled_before}
 use Rattle.ist_rule.proofs.WentOnLemmas.{later_by}
 use Rattle.ist_rows.specs.Block.{reservings, ReservedAll}
@@ -27,7 +27,7 @@ later_all (event ∷ more) log l h = later_all more (event ∷ log) (one_more ev
 
 -- a caller laid on by several events
 pub logged_all_laid : (P : Event → Type 0) (v : View) (events : List Event) (w : View)
-    → LoggedAll v events w → Each P events → made_behind_all events v.made ≡ v.made → LaidOn P v w
+    → LoggedAll v events w → Each P events → made_after_all events v.made ≡ v.made → LaidOn P v w
 logged_all_laid P v events w l is made =
     let log = with_events events l.before in
     let log_is : w.log ≡ log = ap (λ x. x.log) l.view in

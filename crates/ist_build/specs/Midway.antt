@@ -31,10 +31,10 @@ words_at own place (suc n) = own_at own place ∷ words_at own (place + 1) n
 
 -- each word is the ideal subtree over its part, in rows that the caller holds, from `low` on
 pub record AreLaid (w : View) (number low above : ℕ) (words : List ℕ)
-    (behind : List (List PlacedLeaf)) : Type 0 where
+    (following : List (List PlacedLeaf)) : Type 0 where
   pub rows : List Row
   pub owns : OwnsRows w number low rows
-  pub ideal : AreIdeal (with_inners (now w).pieces rows) words behind above (bases_of rows)
+  pub ideal : AreIdeal (with_inners (now w).pieces rows) words following above (bases_of rows)
 
 -- the numbers of keys of the parts from number j on
 abbrev pub lens_from : ℕ → ℕ → List ℕ
@@ -80,8 +80,8 @@ pub record IsTopRowRefused (old : Caller) (words keys : ℕ) (full : Full) (who 
 
 -- the same as `AreLaid`, in rows that end at `high` or before
 pub record AreLaidBelow (w : View) (number low high above : ℕ) (words : List ℕ)
-    (behind : List (List PlacedLeaf)) : Type 0 where
-  pub laid : AreLaid w number low above words behind
+    (following : List (List PlacedLeaf)) : Type 0 where
+  pub laid : AreLaid w number low above words following
   pub ends : Each (λ row. row.base + length row.words ≤ high) laid.rows
 
 -- the caller only stored words: into the row at the base and, for the first j parts, into the rows

@@ -95,14 +95,14 @@ module _ (replica : Replica) (past : Past) (pairs : List Pair) (words : ℕ) (lo
 
   -- the checker knows what it should after the event, if the replica, the slots and the other
   -- tables are brought forward
-  pub known_more : (behind : Replica) (after_it : Past) (slots : BTreeMap ℕ Slot)
+  pub known_more : (following : Replica) (after_it : Past) (slots : BTreeMap ℕ Slot)
       (ways : BTreeMap ℕ Way)
-      → Mirrors behind (state_of pairs words (event ∷ log))
+      → Mirrors following (state_of pairs words (event ∷ log))
       → KnowsSlots slots (start pairs words) (event ∷ log)
       → KnowsWays ways (start pairs words) (event ∷ log)
       → Remembers after_it pairs words (event ∷ log)
-      → Knows behind (record after_it { slots = slots; ways = ways }) pairs words (event ∷ log)
-  known_more behind after_it slots ways mirrors of_slots of_ways others =
+      → Knows following (record after_it { slots = slots; ways = ways }) pairs words (event ∷ log)
+  known_more following after_it slots ways mirrors of_slots of_ways others =
       record {
         lawful = lawful_more;
         mirrors = mirrors;

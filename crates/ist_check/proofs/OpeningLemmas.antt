@@ -14,13 +14,13 @@ use Rattle.ist_core.specs.Leaves.{PlacedLeaf}
 use Rattle.ist_core.specs.Snapshots.{Snapshot}
 use Rattle.ist_core.specs.Pieces.{Change}
 use Rattle.ist_core.specs.StartLayout.{start}
-use Rattle.ist_core.specs.Marking.{IsCalled, as_target, as_child, behind_rebuild}
+use Rattle.ist_core.specs.Marking.{IsCalled, as_target, as_child, after_rebuild}
 use Rattle.ist_core.specs.Rebuilding.{IsStarted}
 use Rattle.check_events.specs.declared.pasts.BuildTable.{BuildTable}
 use Rattle.check_events.specs.declared.pasts.LastUpdate.{LastUpdate}
 use Rattle.check_fairness.specs.declared.lists.BuildingLists.{BuildingLists}
 use Rattle.check_fairness.specs.Answers.{FindsGreatest}
-use Rattle.check_events.specs.Remembering.{LacksCount, KnowsOkays, KnowsCalls, KnowsDraws, KnowsPasses, KnowsUpdates, KnowsRefusals, KnowsStarts, KnowsBuilds, KnowsLeaves, CameBehind, last_with, seen_builds}
+use Rattle.check_events.specs.Remembering.{LacksCount, KnowsOkays, KnowsCalls, KnowsDraws, KnowsPasses, KnowsUpdates, KnowsRefusals, KnowsStarts, KnowsBuilds, KnowsLeaves, CameAfter, last_with, seen_builds}
 use Rattle.check_fairness.specs.Targets.{IsTargeted, KnowsTargets}
 use Rattle.check_fairness.specs.Knowing.{KnowsLists, HasNone}
 use Rattle.check_fairness.proofs.AnswerLemmas.{finds_none}
@@ -53,7 +53,7 @@ pub no_builds : (builds : BuildTable) → builds.last.entries ≡ [] → builds.
     → KnowsBuilds builds []
 no_builds builds none empty =
     record {
-      beaten = λ caller sizes. ((λ h. absurd (subst (λ o. CameBehind o (seen caller)) (found sizes) h)), (λ h. absurd h));
+      beaten = λ caller sizes. ((λ h. absurd (subst (λ o. CameAfter o (seen caller)) (found sizes) h)), (λ h. absurd h));
       came = λ sizes at e. absurd (clash at (sym (found sizes) ∙ e));
       seen = λ caller. subst (λ o. seen_builds o ≤ builds.count)
           (sym (finds_none builds.since caller empty)) few;
@@ -124,7 +124,7 @@ module _ (pairs : List Pair) (words : ℕ) where
       uncalled : ¬ (IsCalled (start pairs words) [] node)
       uncalled (as_target rebuild _ started) = unstarted rebuild started
       uncalled (as_child _ _ _ h _) = h
-      uncalled (behind_rebuild _ _ _ _ h _ _) = h
+      uncalled (after_rebuild _ _ _ _ h _ _) = h
 
   -- the empty map has the last updates of a new table
   pub no_updates : (m : BTreeMap ℕ LastUpdate) → m.entries ≡ [] → KnowsUpdates m (start pairs words)

@@ -3,7 +3,7 @@ ghost use Rattle.std.specs.Prelude.{◌≡◌, ◌∷◌, ◌<◌, ◌≤◌, �
 ghost use Rattle.ist_core.specs.declared.pairs.Pair.{Pair as APair};
 ghost use Rattle.ist_core.specs.StartLayout.{start};
 ghost use Rattle.ist_core.specs.Logs.{Log};
-ghost use Rattle.ist_core.specs.Lawful.{Lawful, CanOpen, state_of as behind};
+ghost use Rattle.ist_core.specs.Lawful.{Lawful, CanOpen, state_of as following};
 ghost use Rattle.check_events.specs.Mirroring.{Mirrors};
 ghost use Rattle.check_events.specs.Remembering.{KnowsSlots, KnowsWays};
 ghost use Rattle.ist_check.specs.Knowing.{Remembers};
@@ -63,7 +63,7 @@ pub(crate) fn remember(
     requires room { past.old.builds.count < 2 ^ 63 }
     ensures exact { OnOk result ((pairs : List APair) → (words : ℕ) → (log : Log)
         → Lawful pairs words (event.now ∷ log)
-        → Mirrors replica.now (behind pairs words log)
+        → Mirrors replica.now (following pairs words log)
         → Remembers past.old pairs words log
         → Remembers past.new pairs words (event.now ∷ log)) }
     ensures slots { OnOk result (past.new.slots ≡ past.old.slots) }

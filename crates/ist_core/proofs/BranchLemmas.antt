@@ -29,13 +29,13 @@ distinct_apart (x ∷ xs) ys m h (inl e) b = h.0
 distinct_apart (x ∷ xs) ys m h (inr a) b = distinct_apart xs ys m h.1 a b
 
 -- all but the first
-abbrev behind : List ℕ → List ℕ
-behind [] = []
-behind (x ∷ xs) = xs
+abbrev following : List ℕ → List ℕ
+following [] = []
+following (x ∷ xs) = xs
 
-among_behind : (xs : List ℕ) (m : ℕ) → Among m (behind xs) → Among m xs
-among_behind [] m h = h
-among_behind (x ∷ xs) m h = inr h
+among_after : (xs : List ℕ) (m : ℕ) → Among m (following xs) → Among m xs
+among_after [] m h = h
+among_after (x ∷ xs) m h = inr h
 
 -- ---- where a row is named
 
@@ -96,7 +96,7 @@ slot_among ps _ above _ (suc i) word child
 mutual
   -- what a row of a tree names is one of the others
   below_first : (ps : Pieces) (ref : Ref) (above : ℕ) (rows : List ℕ) (node i child : ℕ)
-      → IsTree ps ref above rows → NamesIn ps rows node i child → Among child (behind rows)
+      → IsTree ps ref above rows → NamesIn ps rows node i child → Among child (following rows)
   below_first ps _ above _ node i child tree_none h = absurd h.among
   below_first ps _ above _ node i child tree_unset h = absurd h.among
   below_first ps _ above _ node i child (tree_leaf r p) h = absurd h.among
@@ -118,7 +118,7 @@ mutual
       (one_tree {words = words} {here = here} {rest = rest} ref is first more) h =
       ⊎_elim
       (λ k. among_left child here rest
-      (among_behind here child (below_first ps ref above here node i child first
+      (among_after here child (below_first ps ref above here node i child first
       (within ps (here ++ rest) here node i child h k))))
       (λ k. among_right child here rest
       (below_all ps words above rest node i child more
@@ -132,7 +132,7 @@ first_apart : (ps : Pieces) (ref : Ref) (above : ℕ) (rows : List ℕ) (node i 
 first_apart ps ref above rows node i child t d e h =
     let it = named_first ps ref above rows child t e in
     let once : Distinct (child ∷ it.0) = subst (λ xs. Distinct xs) it.1 d in
-    once.0 (subst (λ xs. Among child (behind xs)) it.1
+    once.0 (subst (λ xs. Among child (following xs)) it.1
     (below_first ps ref above rows node i child t h))
 
 -- the row that a slot of the list names is named by none of the trees' rows
@@ -156,7 +156,7 @@ slots_apart ps _ above _ (suc j) word node i child
     (one_tree {words = words} {here = here} {rest = rest} ref is first more) d e k h =
     ⊎_elim
     (λ a. distinct_apart here rest child d
-    (among_behind here child (below_first ps ref above here node i child first
+    (among_after here child (below_first ps ref above here node i child first
     (within ps (here ++ rest) here node i child h a)))
     (slot_among ps words above rest j word child more e k))
     (λ a. slots_apart ps words above rest j word node i child more (distinct_right here rest d) e k
@@ -229,7 +229,7 @@ mutual
   named_once_all ps _ above _ n i k j child no_tree d h l = absurd h.among
   named_once_all ps _ above _ n i k j child
       (one_tree {words = words} {here = here} {rest = rest} ref is first more) d h l =
-      let left : (x y : ℕ) → NamesIn ps here x y child → Among child here = λ x y g. among_behind
+      let left : (x y : ℕ) → NamesIn ps here x y child → Among child here = λ x y g. among_after
       here child (below_first ps ref above here x y child first g) in
       let one : (x y : ℕ) → NamesIn ps (here ++ rest) x y child → Among x here → NamesIn ps here x y
       child = λ x y g a. within ps (here ++ rest) here x y child g a in
@@ -263,7 +263,7 @@ pub hangs_among : (ps : Pieces) (parent at : ℕ) (ref : Ref) (above : ℕ) (row
     → IsTree ps ref above rows → HangsIn ps parent at ref rows node i child → Among child rows
 hangs_among ps parent at ref above rows node i child t (inl h) = named_among ps ref above rows child
     t h.2
-hangs_among ps parent at ref above rows node i child t (inr h) = among_behind rows child
+hangs_among ps parent at ref above rows node i child t (inr h) = among_after rows child
     (below_first ps ref above rows node i child t h)
 
 -- what hangs in a tree hangs in only one slot of it

@@ -6,8 +6,8 @@ use Rattle.std.specs.Ordering.{nat_cmp}
 use Rattle.std.specs.FinMap as fin
 
 -- a strictly increasing list without its first number is strictly increasing
-behind : (x : ℕ) (xs : List ℕ) → IsStrictlyIncreasing (x ∷ xs) → IsStrictlyIncreasing xs
-behind x xs h k e =
+following : (x : ℕ) (xs : List ℕ) → IsStrictlyIncreasing (x ∷ xs) → IsStrictlyIncreasing xs
+following x xs h k e =
     let place : suc k + 1 ≡ suc (k + 1) = omega arith in
     subst (λ n. slice_index xs k < slice_index (x ∷ xs) n) place (h (suc k) (omega arith))
 
@@ -20,7 +20,7 @@ skip x y xs h zero e =
 skip x y xs h (suc k) e =
     let place : suc k + 1 ≡ suc (k + 1) = omega arith in
     subst (λ n. slice_index xs k < slice_index (x ∷ xs) n) (sym place)
-    (behind y xs (behind x (y ∷ xs) h) k (omega arith))
+    (following y xs (following x (y ∷ xs) h) k (omega arith))
 
 module _ {X : Type 0} where
   above : (x : ℕ) (v : X) (es : List (ℕ × X)) → IsStrictlyIncreasing (x ∷ map (λ e. e.0) es)
@@ -28,7 +28,7 @@ module _ {X : Type 0} where
   above x v [] h = refl
   above x v (e ∷ es) h =
       let first : x < e.0 = h 0 (omega arith) in
-      let other = above e.0 e.1 es (behind x (e.0 ∷ map (λ e. e.0) es) h) in
+      let other = above e.0 e.1 es (following x (e.0 ∷ map (λ e. e.0) es) h) in
       let this = above x v es (skip x e.0 (map (λ e. e.0) es) h) in
       grind (arith, nat_tests)
 

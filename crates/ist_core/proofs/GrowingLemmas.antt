@@ -74,7 +74,7 @@ change_on a b c h k =
 rebuild_on : (a b c : RebuildRow) → RebuildGrows a b → RebuildGrows b c → RebuildGrows a c
 rebuild_on a b c h k =
     let before = h.draw in
-    let behind = k.draw in
+    let following = k.draw in
     record {
       target = k.target ∙ h.target;
       parent = k.parent ∙ h.parent;

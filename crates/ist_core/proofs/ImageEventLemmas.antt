@@ -44,9 +44,9 @@ image_same t u words a b c d e image =
     }
 
 -- a fixed word before all rows is written
-pub row_behind : (words : List ℕ) (base place word : ℕ) (p : Piece) → place < base
+pub row_after : (words : List ℕ) (base place word : ℕ) (p : Piece) → place < base
     → StandsAt words base p → StandsAt (slice_set words place word) base p
-row_behind words base place word p low h k less = get-set_other words place (base + k) word
+row_after words base place word p low h k less = get-set_other words place (base + k) word
     (λ e. omega arith) ∙ h k less
 
 -- an Enter writes one word of the image
@@ -63,8 +63,8 @@ image_enter t caller words a image =
           (λ e. omega arith) ∙ image.anchor_status;
       anchor_slot = get-set_other words callers_place anchor_slot_place (t.callers + 1)
           (λ e. omega arith) ∙ image.anchor_slot;
-      rows = λ base p e. let in_it = a.within base p e in let bottom = in_it.behind_fixed in
-          row_behind words base callers_place (t.callers + 1) p (omega arith) (image.rows base p e);
+      rows = λ base p e. let in_it = a.within base p e in let bottom = in_it.after_fixed in
+          row_after words base callers_place (t.callers + 1) p (omega arith) (image.rows base p e);
       free = λ place k l. get-set_other words callers_place place (t.callers + 1) (λ e. omega arith)
           ∙ image.free place k l;
     }
@@ -84,7 +84,7 @@ image_reserve t caller base size words is a image =
           (λ e. omega arith) ∙ image.anchor_status;
       anchor_slot = get-set_other words next_place anchor_slot_place (base + size)
           (λ e. omega arith) ∙ image.anchor_slot;
-      rows = λ b p e. let in_it = a.within b p e in let bottom = in_it.behind_fixed in row_behind
+      rows = λ b p e. let in_it = a.within b p e in let bottom = in_it.after_fixed in row_after
           words b next_place (base + size) p (omega arith) (image.rows b p e);
       free = λ place k l. get-set_other words next_place place (base + size) (λ e. omega arith) ∙
           image.free place (omega arith) l;

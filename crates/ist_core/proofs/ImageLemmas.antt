@@ -22,12 +22,12 @@ has_word : (xs : List ℕ) (k : ℕ) → k < length xs → (word : ℕ) × (slic
 has_word xs k h = (get_or xs k 0, slice_get-get_or xs k 0 h)
 
 -- a write past the end of a first part is a write in the rest
-set_behind : (xs ys : List ℕ) (i word : ℕ)
+set_after : (xs ys : List ℕ) (i word : ℕ)
     → slice_set (xs ++ ys) (length xs + i) word ≡ xs ++ slice_set ys i word
-set_behind [] ys i word = let same : 0 + i ≡ i = omega arith in ap (λ k. slice_set ys k word) same
-set_behind (x ∷ xs) ys i word =
+set_after [] ys i word = let same : 0 + i ≡ i = omega arith in ap (λ k. slice_set ys k word) same
+set_after (x ∷ xs) ys i word =
     let same : length (x ∷ xs) + i ≡ suc (length xs + i) = omega arith in
-    ap (λ k. slice_set (x ∷ (xs ++ ys)) k word) same ∙ ap (λ zs. x ∷ zs) (set_behind xs ys i word)
+    ap (λ k. slice_set (x ∷ (xs ++ ys)) k word) same ∙ ap (λ zs. x ∷ zs) (set_after xs ys i word)
 
 -- a slot of an inner row is one of its words
 pub words_of-with_slot : (r : InnerRow) (i word : ℕ)
@@ -35,22 +35,22 @@ pub words_of-with_slot : (r : InnerRow) (i word : ℕ)
     (4 + length r.keys + i) word
 words_of-with_slot r i word =
     let same : 4 + length r.keys + i ≡ suc (suc (suc (suc (length r.keys + i)))) = omega arith in
-    ap (λ zs. r.status ∷ r.count ∷ r.degree ∷ r.size ∷ zs) (sym (set_behind r.keys r.slots i word))
+    ap (λ zs. r.status ∷ r.count ∷ r.degree ∷ r.size ∷ zs) (sym (set_after r.keys r.slots i word))
     ∙ ap (λ k. slice_set (words_of (Inner r)) k word) (sym same)
 
 -- a word past the end of a first part is a word of the rest
-get_behind : (xs ys : List ℕ) (i : ℕ) → slice_get (xs ++ ys) (length xs + i) ≡ slice_get ys i
-get_behind [] ys i = let same : 0 + i ≡ i = omega arith in ap (slice_get ys) same
-get_behind (x ∷ xs) ys i =
+get_after : (xs ys : List ℕ) (i : ℕ) → slice_get (xs ++ ys) (length xs + i) ≡ slice_get ys i
+get_after [] ys i = let same : 0 + i ≡ i = omega arith in ap (slice_get ys) same
+get_after (x ∷ xs) ys i =
     let same : length (x ∷ xs) + i ≡ suc (length xs + i) = omega arith in
-    ap (slice_get (x ∷ (xs ++ ys))) same ∙ get_behind xs ys i
+    ap (slice_get (x ∷ (xs ++ ys))) same ∙ get_after xs ys i
 
 -- the slots of an inner row follow its four fields and its keys
 pub get-words_of_slot : (r : InnerRow) (i : ℕ)
     → slice_get (words_of (Inner r)) (4 + length r.keys + i) ≡ slice_get r.slots i
 get-words_of_slot r i =
     let same : 4 + length r.keys + i ≡ suc (suc (suc (suc (length r.keys + i)))) = omega arith in
-    ap (slice_get (words_of (Inner r))) same ∙ get_behind r.keys r.slots i
+    ap (slice_get (words_of (Inner r))) same ∙ get_after r.keys r.slots i
 
 -- a word that is read lies below the end
 pub get_below : (xs : List ℕ) (k word : ℕ) → slice_get xs k ≡ Some word → k < length xs
@@ -107,7 +107,7 @@ module _ (t u : Snapshot) (words : List ℕ) (image : IsImage t words)
       let now : u.pieces node ≡ Some (f p) = subst (λ qs. qs node ≡ Some (f p)) (sym pieces)
       (changed_at-same ps node f ∙ ap (option_map f) there) in
       let inside = within node (f p) now in
-      let low = inside.behind_fixed in
+      let low = inside.after_fixed in
       let high = inside.below_next in
       let size : size_of (f p) ≡ length (words_of p) = ap length is ∙ length-set (words_of p) j word
       in
@@ -163,7 +163,7 @@ module _ (t u : Snapshot) (words : List ℕ) (image : IsImage t words)
             (λ e. omega arith) ∙ image.anchor_status;
         anchor_slot = get-set_same words anchor_slot_place word t.anchor image.anchor_slot ∙ ap
             (λ n. Some n) (sym is);
-        rows = λ base q e. let inside = within base q e in let low = inside.behind_fixed in
+        rows = λ base q e. let inside = within base q e in let low = inside.after_fixed in
             stands_other words base anchor_slot_place word q (inl (omega arith))
             (stand base q (old base q e));
         free = λ place k l.

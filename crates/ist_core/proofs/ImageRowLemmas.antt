@@ -19,7 +19,7 @@ use Rattle.ist_core.specs.Writing.{RowsStand}
 use Rattle.ist_core.proofs.ElementLemmas.{each-among}
 use Rattle.ist_core.proofs.RowLemmas.{with_inners-some}
 use Rattle.ist_core.proofs.AddingLemmas.{IsInstalledWith}
-use Rattle.ist_core.proofs.PlaceLemmas.{claimed_within, claimed_apart, placed, next_behind_fixed}
+use Rattle.ist_core.proofs.PlaceLemmas.{claimed_within, claimed_apart, placed, next_after_fixed}
 
 -- ---- rows that are published
 
@@ -92,7 +92,7 @@ pub rows_apart : (pairs : List Pair) (words : ℕ) (log : Log) → EachEnabled (
 rows_apart pairs words log h =
     let k = placed pairs words log h in
     record {
-      low_next = next_behind_fixed pairs words log h;
+      low_next = next_after_fixed pairs words log h;
       within = λ base p e. claimed_within pairs words log base (size_of p) h (k.published base p e);
       apart = λ base other p q e f differ.
           ⊎_elim (λ same. absurd (differ same.0)) (λ a. a.1)

@@ -99,9 +99,9 @@ passed_reads t u g _ k (of_target {rebuild = rebuild} {target = target} has f) =
     let it = rebuild_there t.pieces u.pieces g rebuild has.row has.published in
     let before : rebuild_reads (t.pieces rebuild) ≡ Some (InnerAt has.row.target) = ap rebuild_reads
     has.published in
-    let behind : rebuild_reads (u.pieces rebuild) ≡ Some (InnerAt it.0.target) = ap rebuild_reads
+    let following : rebuild_reads (u.pieces rebuild) ≡ Some (InnerAt it.0.target) = ap rebuild_reads
     it.1 in (
-      before ∙ ap (λ n. Some (InnerAt n)) (sym it.2.target) ∙ sym behind,
+      before ∙ ap (λ n. Some (InnerAt n)) (sym it.2.target) ∙ sym following,
       λ other e. (
         k,
         subst (λ n. IsFinishedWith t n k)
@@ -148,10 +148,10 @@ module _ (pairs : List Pair) (words : ℕ) (opens : CanOpen pairs words) where
                 let p = finished_passed pairs words opens log h.0 base f.0 f.1 r e i w there in
                 let before = frozen_reads pairs words opens log h.0 base i p.word w p.passed
                 (in_row r e there) in
-                let behind = frozen_reads pairs words opens (event ∷ log) h base i p.word v
+                let following = frozen_reads pairs words opens (event ∷ log) h base i p.word v
                 (inr p.passed) (in_row it.0 it.1 now) in
                 let read = passed_reads t u g (ref_of p.word) p.keys p.counts in (
-                  before ∙ read.0 ∙ sym behind,
+                  before ∙ read.0 ∙ sym following,
                   subst (λ ref. NamesDoneRow (IsFinishedNode t) ref)
                       (sym before) read.1,
                 ));

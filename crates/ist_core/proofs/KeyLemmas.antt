@@ -38,7 +38,7 @@ use Rattle.ist_core.proofs.ParentLemmas.{one_home}
 use Rattle.ist_core.proofs.MentionLemmas.{child_mentioned}
 use Rattle.ist_core.proofs.LeadingLemmas.{LedTo, parent_of}
 use Rattle.ist_core.proofs.UnderLemmas.{leaf_mentioned, slot_reads_as, leaves_under}
-use Rattle.ist_core.proofs.RisingLemmas.{AreRisingKeys, Rising, parts_rise, part_rises, first_keys_behind_rise}
+use Rattle.ist_core.proofs.RisingLemmas.{AreRisingKeys, Rising, parts_rise, part_rises, first_keys_after_rise}
 use Rattle.ist_core.proofs.SplitLemmas.{key_of_leaf, ideal_splits, StandsRising, split_rises}
 use Rattle.ist_core.proofs.RootKeyLemmas.{roots_are_cut}
 use Rattle.ist_core.proofs.LeafLemmas.{same_leaves}
@@ -75,7 +75,7 @@ root_rising ps word k leaves target rows rise (root_top base row many e top unse
         row = row;
         published = top.published;
         keys = subst Rising (sym top.keys)
-            (first_keys_behind_rise key_of_leaf (parts leaves)
+            (first_keys_after_rise key_of_leaf (parts leaves)
             (parts_rise key_of_leaf leaves top.two rise));
       },
       tt,

@@ -108,11 +108,11 @@ length-first_keys key (suc n ∷ ns) (x ∷ xs) some fits =
     omega arith
 
 -- there is one first key for each part but the first
-keys_behind_first : {A : Type 0} (key : A → ℕ) (ns : List ℕ) (xs : List A) → AllSome ns
+keys_after_first : {A : Type 0} (key : A → ℕ) (ns : List ℕ) (xs : List A) → AllSome ns
     → sum ns ≤ length xs → 1 ≤ length ns
     → length (first_keys key (drop 1 (cut ns xs))) + 1 ≡ length ns
-keys_behind_first key [] xs some fits one = absurd (omega arith)
-keys_behind_first key (n ∷ ns) xs some fits one =
+keys_after_first key [] xs some fits one = absurd (omega arith)
+keys_after_first key (n ∷ ns) xs some fits one =
     let all = sum_by-cons (λ x. x) n ns in
     let less = length-drop n xs in
     let rest = length-first_keys key ns (drop n xs) some.1 (omega arith) in
@@ -138,7 +138,7 @@ pub keys_of_parts : {A : Type 0} (key : A → ℕ) (xs : List A) → 2 ≤ lengt
 keys_of_parts key xs two =
     let n = length xs in
     let many = length-part_lens n in
-    let keys = keys_behind_first key (part_lens n) xs (part_lens_some n two)
+    let keys = keys_after_first key (part_lens n) xs (part_lens_some n two)
     (let whole = sum-part_lens n in omega arith) (let least = least_degree-le n in omega arith)
     in
     omega arith

@@ -198,20 +198,20 @@ module _ (pairs : List Pair) (words : ℕ) (opens : CanOpen pairs words) where
       (anchor_slot t h.change.node h.change.index h.change.from (anchor_free pairs words log e)
       h.in_slot) slot))
 
-  lies_behind : (log : Log) (event : Event) → EachEnabled (start pairs words) (event ∷ log)
+  lies_after : (log : Log) (event : Event) → EachEnabled (start pairs words) (event ∷ log)
       → LeavesLie (state_of pairs words log) → LeavesLie (state_of pairs words (event ∷ log))
-  lies_behind log (Install caller base rows) h lie = lies_install log caller base rows h lie
-  lies_behind log (Resolve caller base) h lie =
+  lies_after log (Install caller base rows) h lie = lies_install log caller base rows h lie
+  lies_after log (Resolve caller base) h lie =
       lies_resolve (state_of pairs words log) caller base h.1 (anchor_free pairs words log h.0)
       (names pairs words opens log h.0) (grows log (Resolve caller base) h)
       (on log (Resolve caller base) h) lie
-  lies_behind log (Root caller rebuild word rows) h lie =
+  lies_after log (Root caller rebuild word rows) h lie =
       lies_root (state_of pairs words log) caller rebuild word rows h.1
       (sound (start pairs words) log (sound_start pairs words) h.0)
       (names pairs words opens log h.0) (one_home pairs words opens log h.0)
       (anchor_free pairs words log h.0) (grows log (Root caller rebuild word rows) h)
       (on log (Root caller rebuild word rows) h) lie
-  lies_behind log (Place caller rebuild i word rows) h lie =
+  lies_after log (Place caller rebuild i word rows) h lie =
       lies_place (state_of pairs words log) caller rebuild i word rows h.1
       (sound (start pairs words) log (sound_start pairs words) h.0)
       (names pairs words opens log h.0) (one_home pairs words opens log h.0)
@@ -221,49 +221,49 @@ module _ (pairs : List Pair) (words : ℕ) (opens : CanOpen pairs words) where
       (InnerAt h.1.root) (λ base e. cc) (λ e. cc) m)
       (roots_are_cut pairs words opens log h.0 rebuild h.1.row h.1.root h.1.root_row h.1.published
       h.1.root_is h.1.root_published) lie
-  lies_behind log (Decide caller base said) h lie =
+  lies_after log (Decide caller base said) h lie =
       let u = state_of pairs words (Decide caller base said ∷ log) in
       lies_changed (state_of pairs words log) u base (with_decision (decision_word said))
       (grows log (Decide caller base said) h) (on log (Decide caller base said) h)
       (names pairs words opens log h.0) lie refl refl
       (λ p k. came-with_decision LeafAt (state_of pairs words log) (LeafLies u) base
       (decision_word said) p k)
-  lies_behind log (Count caller node) h lie =
+  lies_after log (Count caller node) h lie =
       let u = state_of pairs words (Count caller node ∷ log) in
       lies_changed (state_of pairs words log) u node counted (grows log (Count caller node) h)
       (on log (Count caller node) h) (names pairs words opens log h.0) lie refl refl
       (λ p k. came-counted LeafAt (state_of pairs words log) (LeafLies u) node p k)
-  lies_behind log (Mark caller node) h lie =
+  lies_after log (Mark caller node) h lie =
       let u = state_of pairs words (Mark caller node ∷ log) in
       lies_changed (state_of pairs words log) u node (with_status marked_word)
       (grows log (Mark caller node) h) (on log (Mark caller node) h)
       (names pairs words opens log h.0) lie refl refl
       (λ p k. came-with_status LeafAt (state_of pairs words log) (LeafLies u) node marked_word p k)
-  lies_behind log (Finish caller node keys) h lie =
+  lies_after log (Finish caller node keys) h lie =
       let u = state_of pairs words (Finish caller node keys ∷ log) in
       lies_changed (state_of pairs words log) u node (with_status (finished_word keys))
       (grows log (Finish caller node keys) h) (on log (Finish caller node keys) h)
       (names pairs words opens log h.0) lie refl refl
       (λ p k. came-with_status LeafAt (state_of pairs words log) (LeafLies u) node
       (finished_word keys) p k)
-  lies_behind log (Draw caller rebuild part) h lie =
+  lies_after log (Draw caller rebuild part) h lie =
       let u = state_of pairs words (Draw caller rebuild part ∷ log) in
       lies_changed (state_of pairs words log) u rebuild drawn
       (grows log (Draw caller rebuild part) h) (on log (Draw caller rebuild part) h)
       (names pairs words opens log h.0) lie refl refl
       (λ p k. came-drawn LeafAt (state_of pairs words log) (LeafLies u) rebuild p k)
-  lies_behind log (Enter caller) h lie = lies_same _ _ (grows log (Enter caller) h)
+  lies_after log (Enter caller) h lie = lies_same _ _ (grows log (Enter caller) h)
       (on log (Enter caller) h) (names pairs words opens log h.0) lie refl refl
-  lies_behind log (Reserve caller base size) h lie = lies_same _ _
+  lies_after log (Reserve caller base size) h lie = lies_same _ _
       (grows log (Reserve caller base size) h) (on log (Reserve caller base size) h)
       (names pairs words opens log h.0) lie refl refl
-  lies_behind log (Okay caller change) h lie = lie
-  lies_behind log (Pass caller node i word) h lie = lie
-  lies_behind log (Lose caller bases) h lie = lies_same _ _ (grows log (Lose caller bases) h)
+  lies_after log (Okay caller change) h lie = lie
+  lies_after log (Pass caller node i word) h lie = lie
+  lies_after log (Lose caller bases) h lie = lies_same _ _ (grows log (Lose caller bases) h)
       (on log (Lose caller bases) h) (names pairs words opens log h.0) lie refl refl
 
   -- after a log from a new table each leaf lies where its key leads
   pub leaves_lie : (log : Log) → EachEnabled (start pairs words) log
       → LeavesLie (state_of pairs words log)
   leaves_lie [] h = lies_start
-  leaves_lie (event ∷ log) h = lies_behind log event h (leaves_lie log h.0)
+  leaves_lie (event ∷ log) h = lies_after log event h (leaves_lie log h.0)

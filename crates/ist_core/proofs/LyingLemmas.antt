@@ -106,11 +106,11 @@ module _ {A : Type 0} (key : A → ℕ) (ps : Pieces) (u : Snapshot)
           λ leaf f. absurd (cc),
         )
 
-    split_all_lies : (words : List ℕ) (behind : List (List A)) (rows : List ℕ)
-        → SplitAll key ps words behind rows → RowsLie rows → PartsRise key behind → (base j : ℕ)
+    split_all_lies : (words : List ℕ) (following : List (List A)) (rows : List ℕ)
+        → SplitAll key ps words following rows → RowsLie rows → PartsRise key following → (base j : ℕ)
         → ((k m word : ℕ) (ref : Ref) → m ≡ j + k → slice_get words k ≡ Some word → ref_of word ≡
         Some ref → Mentions u base m ref)
-        → ((k m : ℕ) (part : List A) → m ≡ j + k → slice_get behind k ≡ Some part → AllLie part base
+        → ((k m : ℕ) (part : List A) → m ≡ j + k → slice_get following k ≡ Some part → AllLie part base
         m)
         → Each (RowLies u) rows
         × ((k m word leaf : ℕ) → m ≡ j + k → slice_get words k ≡ Some word → ref_of word ≡ Some
@@ -118,11 +118,11 @@ module _ {A : Type 0} (key : A → ℕ) (ps : Pieces) (u : Snapshot)
     split_all_lies _ _ _ no_split stand rise base j named lie =
         (tt, λ k m word leaf is at e. absurd (cc))
     split_all_lies _ _ _ (one_split {word = word} {words = words} {here = here} {rest = rest}
-        {part = part} {behind = behind} ref e first more) stand rise base j named lie =
+        {part = part} {following = following} ref e first more) stand rise base j named lie =
         let one = split_lies ref part here first (λ b r k f. stand b r (among_left b here rest k) f)
         rise.1 base j (named 0 j word ref (omega arith) refl e)
         (lie 0 j part (omega arith) refl) in
-        let others = split_all_lies words behind rest more
+        let others = split_all_lies words following rest more
         (λ b r k f. stand b r (among_right b here rest k) f) rise.3 base (suc j)
         (λ k m w x is at f. named (suc k) m w x (omega arith) at f)
         (λ k m p is at. lie (suc k) m p (omega arith) at) in (

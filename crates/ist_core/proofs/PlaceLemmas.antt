@@ -75,11 +75,11 @@ module _ (pairs : List Pair) (words : ℕ) where
       longer (by_caller caller k) = by_caller caller (inr k)
 
   -- the first free word lies after the fixed ones
-  pub next_behind_fixed : (log : Log) → EachEnabled (start pairs words) log
+  pub next_after_fixed : (log : Log) → EachEnabled (start pairs words) log
       → first_row ≤ (state_of pairs words log).next
-  next_behind_fixed [] h = omega arith
-  next_behind_fixed (event ∷ log) h =
-      let low = next_behind_fixed log h.0 in
+  next_after_fixed [] h = omega arith
+  next_after_fixed (event ∷ log) h =
+      let low = next_after_fixed log h.0 in
       let more = next-state (start pairs words) log event h.1 in
       omega arith
 
@@ -106,18 +106,18 @@ module _ (pairs : List Pair) (words : ℕ) where
       let high = inside.1 in
       let some = size_positive c.0 in
       let same = c.2 in
-      record { some = omega arith; behind_fixed = low; below_next = omega arith }
+      record { some = omega arith; after_fixed = low; below_next = omega arith }
   claimed_within (event ∷ log) base size h (inl c) =
       let place = reserve_place log event c.0 base size h.1 c.1 in
-      let low = next_behind_fixed log h.0 in
+      let low = next_after_fixed log h.0 in
       let here = place.0 in
       let next = place.2 in
-      record { some = place.1; behind_fixed = omega arith; below_next = omega arith }
+      record { some = place.1; after_fixed = omega arith; below_next = omega arith }
   claimed_within (event ∷ log) base size h (inr c) =
       let before = claimed_within log base size h.0 c in
       let high = before.below_next in
       let more = next-state (start pairs words) log event h.1 in
-      record { some = before.some; behind_fixed = before.behind_fixed; below_next = omega arith }
+      record { some = before.some; after_fixed = before.after_fixed; below_next = omega arith }
 
   -- two rows that were set aside are the same, or share no word
   pub claimed_apart : (log : Log) (base size other more : ℕ) → EachEnabled (start pairs words) log
@@ -261,5 +261,5 @@ module _ (pairs : List Pair) (words : ℕ) where
   anchor_free log h =
       absent ((state_of pairs words log).pieces anchor) (λ p e.
       let inside = claimed_within log anchor (size_of p) h ((placed log h).published anchor p e) in
-      let low = inside.behind_fixed in
+      let low = inside.after_fixed in
       omega arith)

@@ -57,13 +57,13 @@ good_row_tagged-good tag base good = at (nat_le first_row base) (nat_lt base pla
         absurd (omega (arith, good.below_limit))
     at false b e f =
         let fixed : base < first_row = grind (arith, nat_tests) in
-        absurd (omega (arith, good.behind_fixed))
+        absurd (omega (arith, good.after_fixed))
 
 -- a row at a base with a tag is read back
 ref_of-tagged : (tag base : ℕ) (ref : Ref) → IsGoodBase base → tag < 7
     → row_tagged tag base ≡ Some ref → ref_of (base * 8 + tag) ≡ Some ref
 ref_of-tagged tag base ref good h e =
-    let behind = good.behind_fixed in
+    let following = good.after_fixed in
     let rest : (base * 8 + tag) % 8 ≡ tag = omega arith in
     let quotient : (base * 8 + tag) / 8 ≡ base = omega arith in
     ref_of-row (base * 8 + tag) (λ z. omega arith) (λ z. omega arith)
@@ -123,7 +123,7 @@ good_row_read word ref e =
     at true true f g e =
         let whole : word / 8 * 8 + word % 8 ≡ word = omega arith in
         let good : IsGoodBase (word / 8) = record {
-          behind_fixed = grind (arith, nat_tests);
+          after_fixed = grind (arith, nat_tests);
           below_limit = grind (arith, nat_tests);
         } in
         subst (λ w. IsReadFrom w ref) whole (row_read (word % 8) (word / 8) ref good e)

@@ -226,7 +226,7 @@ first_keys_rise key ((x ∷ xs) ∷ ps) h =
     (first_keys_above key x ps h.2.0, first_keys_rise key ps h.3)
 
 -- the first keys of all parts but the first are strictly increasing
-pub first_keys_behind_rise : {A : Type 0} (key : A → ℕ) (ps : List (List A)) → PartsRise key ps
+pub first_keys_after_rise : {A : Type 0} (key : A → ℕ) (ps : List (List A)) → PartsRise key ps
     → Rising (first_keys key (drop 1 ps))
-first_keys_behind_rise key [] h = tt
-first_keys_behind_rise key (p ∷ ps) h = first_keys_rise key ps h.3
+first_keys_after_rise key [] h = tt
+first_keys_after_rise key (p ∷ ps) h = first_keys_rise key ps h.3

@@ -77,7 +77,7 @@ module _ (pairs : List Pair) (words : ℕ) (opens : CanOpen pairs words) where
       let fits = next_within log h in
       let same = words_same log in
       let most = opens.within in
-      record { behind_fixed = inside.behind_fixed; below_limit = omega arith }
+      record { after_fixed = inside.after_fixed; below_limit = omega arith }
 
   -- each published row lies at a good base
   pub published_good : (log : Log) (base : ℕ) (p : Piece) → EachEnabled (start pairs words) log

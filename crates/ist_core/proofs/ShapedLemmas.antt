@@ -66,12 +66,12 @@ pub record StandsShaped (ps : Pieces) (base : ℕ) : Type 0 where
   pub untouched : row.status ≡ open_word
 
 -- there are as many slots over parts as parts
-slots_of_parts : (ps : Pieces) (words : List ℕ) (behind : List (List PlacedLeaf)) (above : ℕ)
+slots_of_parts : (ps : Pieces) (words : List ℕ) (following : List (List PlacedLeaf)) (above : ℕ)
     (rows : List ℕ)
-    → AreIdeal ps words behind above rows → length words ≡ length behind
+    → AreIdeal ps words following above rows → length words ≡ length following
 slots_of_parts ps _ _ above _ no_part = refl
-slots_of_parts ps _ _ above _ (one_part {words = words} {rest = rest} {behind = behind} ref e first
-    more) = let rest_same = slots_of_parts ps words behind above rest more in omega arith
+slots_of_parts ps _ _ above _ (one_part {words = words} {rest = rest} {following = following} ref e first
+    more) = let rest_same = slots_of_parts ps words following above rest more in omega arith
 
 -- the top row of an ideal subtree is shaped, if it has one slot for each part
 top_shaped : (ps : Pieces) (base : ℕ) (r : InnerRow) (leaves : List PlacedLeaf) (above : ℕ)
@@ -101,14 +101,14 @@ mutual
     parts_shaped ps r.slots (parts leaves) base rows below,
   )
 
-  parts_shaped : (ps : Pieces) (words : List ℕ) (behind : List (List PlacedLeaf)) (above : ℕ)
+  parts_shaped : (ps : Pieces) (words : List ℕ) (following : List (List PlacedLeaf)) (above : ℕ)
       (rows : List ℕ)
-      → AreIdeal ps words behind above rows → Each (StandsShaped ps) rows
+      → AreIdeal ps words following above rows → Each (StandsShaped ps) rows
   parts_shaped ps _ _ _ _ no_part = tt
   parts_shaped ps _ _ above _ (one_part {words = words} {here = here} {rest = rest} {part = part}
-      {behind = behind} ref e first more) =
+      {following = following} ref e first more) =
       each_append (StandsShaped ps) here rest (ideal_shaped ps ref part above here first)
-      (parts_shaped ps words behind above rest more)
+      (parts_shaped ps words following above rest more)
 
 length_unset : (n : ℕ) → length (replicate n unset_word) ≡ n
 length_unset zero = refl

@@ -13,7 +13,7 @@ use Rattle.ist_core.specs.Snapshots.{Snapshot}
 use Rattle.ist_core.specs.StartLayout.{start}
 use Rattle.ist_core.specs.Statuses.{open_word}
 use Rattle.ist_core.proofs.ImageLemmas.{get_below}
-use Rattle.ist_core.proofs.PlaceLemmas.{claimed_apart, claimed_set_aside, claimed_within, next_behind_fixed, no_piece, one_piece, placed}
+use Rattle.ist_core.proofs.PlaceLemmas.{claimed_apart, claimed_set_aside, claimed_within, next_after_fixed, no_piece, one_piece, placed}
 
 -- the image has each word that is shown
 pub image_shows : (t : Snapshot) (image : List ℕ) → IsImage t image → {place word : ℕ}
@@ -56,7 +56,7 @@ module _ (pairs : List Pair) (words : ℕ) (log : Log)
     where
       inside : first_row ≤ base
       inside = (claimed_within pairs words log base (size_of p) enabled
-          ((placed pairs words log enabled).published base p e)).behind_fixed
+          ((placed pairs words log enabled).published base p e)).after_fixed
 
       high : base + size_of p ≤ (state_of pairs words log).next
       high = (claimed_within pairs words log base (size_of p) enabled
@@ -82,7 +82,7 @@ module _ (pairs : List Pair) (words : ℕ) (log : Log)
           (one_piece ((state_of pairs words log).pieces base) q p
           (subst (λ b. (state_of pairs words log).pieces b ≡ Some q) base_is f) e))
           (omega arith) g there)
-          (λ two. ⊎_elim (λ before. absurd (omega arith)) (λ behind. absurd (omega arith)) two.1)
+          (λ two. ⊎_elim (λ before. absurd (omega arith)) (λ following. absurd (omega arith)) two.1)
           (claimed_apart pairs words log other (size_of q) base (size_of p) enabled
           ((placed pairs words log enabled).published other q f)
           ((placed pairs words log enabled).published base p e))
@@ -93,7 +93,7 @@ module _ (pairs : List Pair) (words : ℕ) (log : Log)
   fixed_row other j q f =
       let inside = claimed_within pairs words log other (size_of q) enabled
       ((placed pairs words log enabled).published other q f) in
-      let low = inside.behind_fixed in
+      let low = inside.after_fixed in
       omega arith
 
   -- the word that is shown at `next_place` is the first free place
@@ -104,7 +104,7 @@ module _ (pairs : List Pair) (words : ℕ) (log : Log)
   next_word _ _ shown_status is = absurd (omega arith)
   next_word _ _ shown_slot is = absurd (omega arith)
   next_word _ _ (shown_free far near) is =
-      let low = next_behind_fixed pairs words log enabled in
+      let low = next_after_fixed pairs words log enabled in
       absurd (omega arith)
   next_word _ _ (shown_row other q j f g) is =
       let low = fixed_row other j q f in
@@ -119,7 +119,7 @@ module _ (pairs : List Pair) (words : ℕ) (log : Log)
   anchor_word _ _ shown_status is = absurd (omega arith)
   anchor_word _ _ shown_slot is = refl
   anchor_word _ _ (shown_free far near) is =
-      let low = next_behind_fixed pairs words log enabled in
+      let low = next_after_fixed pairs words log enabled in
       absurd (omega arith)
   anchor_word _ _ (shown_row other q j f g) is =
       let low = fixed_row other j q f in
@@ -133,7 +133,7 @@ module _ (pairs : List Pair) (words : ℕ) (log : Log)
   callers_word _ _ shown_status is = absurd (omega arith)
   callers_word _ _ shown_slot is = absurd (omega arith)
   callers_word _ _ (shown_free far near) is =
-      let low = next_behind_fixed pairs words log enabled in
+      let low = next_after_fixed pairs words log enabled in
       absurd (omega arith)
   callers_word _ _ (shown_row other q j f g) is =
       let low = fixed_row other j q f in
@@ -148,7 +148,7 @@ module _ (pairs : List Pair) (words : ℕ) (log : Log)
   status_word _ _ shown_status is = refl
   status_word _ _ shown_slot is = absurd (omega arith)
   status_word _ _ (shown_free far near) is =
-      let low = next_behind_fixed pairs words log enabled in
+      let low = next_after_fixed pairs words log enabled in
       absurd (omega arith)
   status_word _ _ (shown_row other q j f g) is =
       let low = fixed_row other j q f in
@@ -159,16 +159,16 @@ module _ (pairs : List Pair) (words : ℕ) (log : Log)
       → (state_of pairs words log).next ≤ place
       → v ≡ 0
   free_word _ _ shown_next far =
-      let low = next_behind_fixed pairs words log enabled in
+      let low = next_after_fixed pairs words log enabled in
       absurd (omega arith)
   free_word _ _ shown_callers far =
-      let low = next_behind_fixed pairs words log enabled in
+      let low = next_after_fixed pairs words log enabled in
       absurd (omega arith)
   free_word _ _ shown_status far =
-      let low = next_behind_fixed pairs words log enabled in
+      let low = next_after_fixed pairs words log enabled in
       absurd (omega arith)
   free_word _ _ shown_slot far =
-      let low = next_behind_fixed pairs words log enabled in
+      let low = next_after_fixed pairs words log enabled in
       absurd (omega arith)
   free_word _ _ (shown_free far near) _ = refl
   free_word _ _ (shown_row other q j f g) far =
@@ -198,7 +198,7 @@ module _ (pairs : List Pair) (words : ℕ) (log : Log)
     where
       low : first_row ≤ base
       low = (claimed_within pairs words log base size enabled
-          (claimed_set_aside pairs words log base size aside)).behind_fixed
+          (claimed_set_aside pairs words log base size aside)).after_fixed
 
       high : base + size ≤ (state_of pairs words log).next
       high = (claimed_within pairs words log base size enabled

@@ -11,7 +11,7 @@ use Rattle.ist_core.specs.Pieces.{Pieces, Leaf, Inner}
 use Rattle.ist_core.specs.Leaves.{PlacedLeaf}
 use Rattle.ist_core.specs.Ideals.{IsIdeal, AreIdeal, of_none, of_one, of_more, no_part, one_part}
 use Rattle.ist_core.proofs.ElementLemmas.{each_append}
-use Rattle.ist_core.proofs.RisingLemmas.{AreRisingKeys, Rising, PartsRise, parts_rise, first_keys_behind_rise}
+use Rattle.ist_core.proofs.RisingLemmas.{AreRisingKeys, Rising, PartsRise, parts_rise, first_keys_after_rise}
 
 -- the key of a leaf
 abbrev pub key_of_leaf : PlacedLeaf → ℕ
@@ -33,10 +33,10 @@ mutual
   pub data SplitAll {A : Type 0} (key : A → ℕ) (ps : Pieces) : List ℕ → List (List A) → List ℕ →
       Type 0 where
     no_split : SplitAll key ps [] [] []
-    one_split : {word : ℕ} {words here rest : List ℕ} {part : List A} {behind : List (List A)}
+    one_split : {word : ℕ} {words here rest : List ℕ} {part : List A} {following : List (List A)}
         (ref : Ref)
-        → ref_of word ≡ Some ref → Splits key ps ref part here → SplitAll key ps words behind rest
-        → SplitAll key ps (word ∷ words) (part ∷ behind) (here ++ rest)
+        → ref_of word ≡ Some ref → Splits key ps ref part here → SplitAll key ps words following rest
+        → SplitAll key ps (word ∷ words) (part ∷ following) (here ++ rest)
 
 mutual
   -- an ideal subtree is a tree over its leaves
@@ -49,15 +49,15 @@ mutual
       split_row r top.published top.two top.keys
       (ideal_split_all ps r.slots (parts leaves) base rows below)
 
-  ideal_split_all : (ps : Pieces) (words : List ℕ) (behind : List (List PlacedLeaf)) (above : ℕ)
+  ideal_split_all : (ps : Pieces) (words : List ℕ) (following : List (List PlacedLeaf)) (above : ℕ)
       (rows : List ℕ)
-      → AreIdeal ps words behind above rows → SplitAll key_of_leaf ps words behind rows
+      → AreIdeal ps words following above rows → SplitAll key_of_leaf ps words following rows
   ideal_split_all ps _ _ _ _ no_part = no_split
   ideal_split_all ps _ _ above _
-      (one_part {words = words} {here = here} {rest = rest} {part = part} {behind = behind} ref e
+      (one_part {words = words} {here = here} {rest = rest} {part = part} {following = following} ref e
       first more) =
       one_split ref e (ideal_splits ps ref part above here first)
-      (ideal_split_all ps words behind above rest more)
+      (ideal_split_all ps words following above rest more)
 
 -- ---- increasing keys
 
@@ -79,15 +79,15 @@ module _ {A : Type 0} (key : A → ℕ) (ps : Pieces) where
         row = r;
         published = e;
         keys = subst Rising (sym keys)
-            (first_keys_behind_rise key (parts xs) (parts_rise key xs two rise));
+            (first_keys_after_rise key (parts xs) (parts_rise key xs two rise));
       },
       split_all_rises r.slots (parts xs) rows below (parts_rise key xs two rise),
     )
 
-    split_all_rises : (words : List ℕ) (behind : List (List A)) (rows : List ℕ)
-        → SplitAll key ps words behind rows → PartsRise key behind → Each (StandsRising ps) rows
+    split_all_rises : (words : List ℕ) (following : List (List A)) (rows : List ℕ)
+        → SplitAll key ps words following rows → PartsRise key following → Each (StandsRising ps) rows
     split_all_rises _ _ _ no_split rise = tt
     split_all_rises _ _ _ (one_split {words = words} {here = here} {rest = rest} {part = part}
-        {behind = behind} ref e first more) rise =
+        {following = following} ref e first more) rise =
         each_append (StandsRising ps) here rest (split_rises ref part here first rise.1)
-        (split_all_rises words behind rest more rise.3)
+        (split_all_rises words following rest more rise.3)

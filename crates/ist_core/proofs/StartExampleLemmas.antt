@@ -46,8 +46,8 @@ five_zeros (suc (suc (suc zero))) h = refl
 five_zeros (suc (suc (suc (suc zero)))) h = refl
 five_zeros (suc (suc (suc (suc (suc k))))) h = absurd (omega arith)
 
-behind_rows : (place : ℕ) → 15 ≤ place → place < 20 → slice_get two_pairs_words place ≡ Some 0
-behind_rows place low high =
+after_rows : (place : ℕ) → 15 ≤ place → place < 20 → slice_get two_pairs_words place ≡ Some 0
+after_rows place low high =
     let same : 15 + (place - 15) ≡ place = omega arith in
     subst (λ n. slice_get two_pairs_words n ≡ Some 0) same
     (sym (slice_get-drop 15 two_pairs_words (place - 15)) ∙ five_zeros (place - 15)
@@ -65,7 +65,7 @@ two_pairs_open =
       anchor_slot = refl;
       rows = λ base p e. rows_stand base p
           (among-pieces_of (rows_from first_row two_pairs) base p e);
-      free = λ place low high. behind_rows place low high;
+      free = λ place low high. after_rows place low high;
     }
 
 -- the rows of a larger one

@@ -38,8 +38,8 @@ pieces_of-among from to (row ∷ rows) base p h (inl e) =
     subst (λ b. with_row (pieces_of rows) row.0 (Some row.1) b ≡ Some p) (sym here)
     (with_row-same (pieces_of rows) row.0 row.1 ∙ ap (λ x. Some x) (sym is))
 pieces_of-among from to (row ∷ rows) base p h (inr i) =
-    let behind = fills_within (from + size_of row.1) to rows base p h.1 i in
-    let low = behind.0 in
+    let following = fills_within (from + size_of row.1) to rows base p h.1 i in
+    let low = following.0 in
     let first = h.0 in
     let some = size_positive row.1 in
     with_row-other (pieces_of rows) row.0 base (Some row.1) (λ e. omega arith) ∙ pieces_of-among
@@ -95,25 +95,25 @@ pub record HangsAs (ps : Pieces) (ref : Ref) (pairs : List Pair) (above : ℕ)
   pub splits : Splits (λ pair. pair.key) ps ref pairs rows
 
 -- trees of these rows hang at the words
-record HangAs (ps : Pieces) (words : List ℕ) (behind : List (List Pair)) (above : ℕ)
+record HangAs (ps : Pieces) (words : List ℕ) (following : List (List Pair)) (above : ℕ)
     (listed : List (ℕ × Piece)) (from to : ℕ) : Type 0 where
   rows : List ℕ
   trees : AreTrees ps words above rows
   between : Between from rows to
   each : (base : ℕ) (p : Piece) → Among (base, p) listed → IsLeafRow p ⊎ Among base rows
-  splits : SplitAll (λ pair. pair.key) ps words behind rows
+  splits : SplitAll (λ pair. pair.key) ps words following rows
 
 -- a tree with at least one word lies at a good base
 tree_good : (base : ℕ) (pairs : List Pair) → GoodFrom base (ideal_words (length pairs))
     → IsGoodRef (tree_at base pairs)
 tree_good base [] good = tt
 tree_good base (pair ∷ []) good = let low = good.0 in let high = good.1 in let two = ideal_words_one
-    in record { behind_fixed = low; below_limit = omega arith }
+    in record { after_fixed = low; below_limit = omega arith }
 tree_good base (pair ∷ more ∷ pairs) good =
     let low = good.0 in
     let high = good.1 in
     let words = ideal_words_many (length (pair ∷ more ∷ pairs)) (omega arith) in
-    record { behind_fixed = low; below_limit = omega arith }
+    record { after_fixed = low; below_limit = omega arith }
 
 module _ (ps : Pieces) where
   -- these rows are published
@@ -239,11 +239,11 @@ module _ (ps : Pieces) where
           (map (λ part. word_of (tree_at part.0 part.1)) (placed_parts base all)) (parts all) base
           below from to
           → HangsAs ps (InnerAt base) all above ((base, top_row base all) ∷ below) base to
-      top_hangs base above all two higher below there from to behind hang =
+      top_hangs base above all two higher below there from to following hang =
           record {
             rows = base ∷ hang.rows;
             tree = tree_row _ there higher hang.trees;
-            between = (omega arith, between_wider (base + 1) from to hang.rows behind hang.between);
+            between = (omega arith, between_wider (base + 1) from to hang.rows following hang.between);
             each = λ b p i. ⊎_elim (λ e. inr (inl (ap (λ x. x.0) e)))
                 (λ k. ⊎_elim (λ l. inl l) (λ l. inr (inr l)) (hang.each b p k)) i;
             splits = split_row _ there two refl hang.splits;

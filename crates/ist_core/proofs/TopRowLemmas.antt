@@ -23,14 +23,14 @@ module _ (ps : Pieces) (P : ℕ → Type 0)
     ideal_rows _ _ above _ (of_more {base = base} {leaves = leaves} {rows = rows} r top below) =
         (top_has base r leaves above top, parts_rows r.slots (parts leaves) base rows below)
 
-    parts_rows : (words : List ℕ) (behind : List (List PlacedLeaf)) (above : ℕ) (rows : List ℕ)
-        → AreIdeal ps words behind above rows → Each P rows
+    parts_rows : (words : List ℕ) (following : List (List PlacedLeaf)) (above : ℕ) (rows : List ℕ)
+        → AreIdeal ps words following above rows → Each P rows
     parts_rows _ _ _ _ no_part = tt
     parts_rows _ _ above _
-        (one_part {words = words} {here = here} {rest = rest} {part = part} {behind = behind} ref e
+        (one_part {words = words} {here = here} {rest = rest} {part = part} {following = following} ref e
         first more) =
         each_append P here rest (ideal_rows ref part above here first)
-        (parts_rows words behind above rest more)
+        (parts_rows words following above rest more)
 
   -- each row of a root
   pub root_rows : (word k : ℕ) (leaves : List PlacedLeaf) (target : ℕ) (rows : List ℕ)

@@ -50,9 +50,9 @@ mutual
       → AreIdeal ps words parts above rows → AreTrees ps words above rows
   trees_of_ideal ps _ _ _ _ no_part = no_tree
   trees_of_ideal ps _ _ _ _ (one_part {word = word} {above = above} {words = words} {here = here}
-      {rest = rest} {part = part} {behind = behind} ref e first more) =
+      {rest = rest} {part = part} {following = following} ref e first more) =
       one_tree ref e (tree_of_ideal ps ref part above here first)
-      (trees_of_ideal ps words behind above rest more)
+      (trees_of_ideal ps words following above rest more)
 
 -- slots that aren't set yet lead to trees without rows
 unset_trees : (ps : Pieces) (above n : ℕ) → AreTrees ps (replicate n unset_word) above []

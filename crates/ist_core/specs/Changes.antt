@@ -63,9 +63,9 @@ abbrev pub changes_of : List Pair → ℕ → Log → List Entry
 changes_of pairs words log = changes (start pairs words) log
 
 -- the map after some changes
-abbrev pub map_behind : Map → List Entry → Map
-map_behind m entries = replay m (map (λ entry. entry.command) entries)
+abbrev pub map_after_entries : Map → List Entry → Map
+map_after_entries m entries = replay m (map (λ entry. entry.command) entries)
 
 -- the map after the first `position` changes
 abbrev pub map_at : Map → List Entry → ℕ → Map
-map_at m entries position = map_behind m (take position entries)
+map_at m entries position = map_after_entries m (take position entries)

@@ -39,7 +39,7 @@ mutual
   pub data AreIdeal (ps : Pieces) : List ℕ → List (List PlacedLeaf) → ℕ → List ℕ → Type 0 where
     no_part : {above : ℕ} → AreIdeal ps [] [] above []
     one_part : {word above : ℕ} {words here rest : List ℕ} {part : List PlacedLeaf}
-        {behind : List (List PlacedLeaf)} (ref : Ref)
+        {following : List (List PlacedLeaf)} (ref : Ref)
         → ref_of word ≡ Some ref → IsIdeal ps ref part above here
-        → AreIdeal ps words behind above rest
-        → AreIdeal ps (word ∷ words) (part ∷ behind) above (here ++ rest)
+        → AreIdeal ps words following above rest
+        → AreIdeal ps (word ∷ words) (part ∷ following) above (here ++ rest)

@@ -22,7 +22,7 @@ pub data IsCalled (t : Snapshot) (log : Log) (node : ℕ) : Type 0 where
   as_child : (above i word : ℕ) → Happened (Passes above i word) log
       → ref_of word ≡ Some (InnerAt node)
       → IsCalled t log node
-  behind_rebuild : (above i word rebuild : ℕ) → Happened (Passes above i word) log
+  after_rebuild : (above i word rebuild : ℕ) → Happened (Passes above i word) log
       → ref_of word ≡ Some (RebuildAt rebuild)
       → HasTarget t rebuild node → IsCalled t log node
 

@@ -67,7 +67,7 @@ word_of (RebuildAt base) = base * tag_count + rebuild_tag
 
 -- a base at which a row can lie: after the fixed words, and within the largest table
 pub record IsGoodBase (base : ℕ) : Type 0 where
-  pub behind_fixed : first_row ≤ base
+  pub after_fixed : first_row ≤ base
   pub below_limit : base < place_limit
 
 -- the base of the reference, if it has one, is good

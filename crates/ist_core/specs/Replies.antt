@@ -1,4 +1,4 @@
--- What a caller of a shared map learned from its calls.
+-- What a caller of a shared map learnt from its calls.
 use Rattle.std.specs.Prelude.{ℕ, Option}
 use Rattle.ist_core.specs.declared.commands.Command.{Command}
 use Rattle.ist_core.specs.declared.ports.Full.{Full}

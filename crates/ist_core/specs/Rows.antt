@@ -21,5 +21,5 @@ Apart base size other more = (base + size ≤ other) ⊎ (other + more ≤ base)
 -- the row has a word, and lies after the fixed words and below the first free word
 pub record IsWithin (t : Snapshot) (base size : ℕ) : Type 0 where
   pub some : 0 < size
-  pub behind_fixed : first_row ≤ base
+  pub after_fixed : first_row ≤ base
   pub below_next : base + size ≤ t.next

@@ -33,13 +33,13 @@ pub record IsRead (m : Map) (entries : List Entry) (call : Call) : Type 0 where
   pub reply : call.reply ≡ reply_to (map_at m entries call.position) call.command
 
 -- the first position at which a later call may be: past the call's entry, if it makes one
-abbrev pub position_behind : Call → ℕ
-position_behind call = if is_change call then call.position + 1 else call.position
+abbrev pub position_after : Call → ℕ
+position_after call = if is_change call then call.position + 1 else call.position
 
 -- the second call comes after the first: at no lower position, past the first call's entry, and
 -- with a higher stamp
 pub record Follows (call later : Call) : Type 0 where
-  pub position : position_behind call ≤ later.position
+  pub position : position_after call ≤ later.position
   pub stamp : call.stamp < later.stamp
 
 -- each call follows all calls before it

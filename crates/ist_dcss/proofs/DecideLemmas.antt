@@ -22,7 +22,7 @@ use Rattle.ist_rule.specs.declared.view.View.{View}
 use Rattle.ist_core.specs.declared.events.Who.TheVariants.{Caller}
 use Rattle.ist_core.specs.Shown.{IsShown, shown_status, shown_row}
 use Rattle.ist_rule.specs.Rule.{IsSound}
-use Rattle.ist_rule.specs.Learning.{now, made_behind, LoadedAs, as_event, as_load}
+use Rattle.ist_rule.specs.Learning.{now, made_after, LoadedAs, as_event, as_load}
 use Rattle.ist_rule.specs.Conditions.{MayCome, CanExchange}
 use Rattle.ist_rule.specs.Watching.{IsNode, is_anchor, is_inner, number_of, waits, okay_of}
 use Rattle.ist_rule.proofs.LaterLemmas.{later-goes_on}
@@ -65,9 +65,9 @@ open_before t u g node (is_inner p f) (row_is q e o) =
 module _ (v : View) (s : IsSound v) (change number : ℕ) (mine : v.who ≡ Caller number)
     (row : ChangeRow) (installed : (now v).pieces change ≡ Some (Change row)) where
   -- the change after such a log
-  pub row_behind : (log : Log) → MayCome v log → (r : ChangeRow)
+  pub row_after : (log : Log) → MayCome v log → (r : ChangeRow)
       × ((state_of v.start v.words log).pieces change ≡ Some (Change r)) × ChangeGrows row r
-  row_behind log m =
+  row_after log m =
       change_there (now v).pieces (state_of v.start v.words log).pieces
       (grow_between v.start v.words v.log log m.lawful.enabled (later-goes_on m.later)) change
       row installed
@@ -101,13 +101,13 @@ module _ (v : View) (s : IsSound v) (change number : ℕ) (mine : v.who ≡ Call
       record {
         make = record { mine = sym mine; stored = tt; allowed = tt };
         known = λ log m.
-            let r = row_behind log m in (
+            let r = row_after log m in (
               r.0.decision,
               subst (λ p. IsShown (state_of v.start v.words log) p r.0.decision) (sym at)
                   (shown_row change (Change r.0) 0 r.1 refl),
             );
         comes = λ log m shown.
-            let r = row_behind log m in
+            let r = row_after log m in
             let unset : r.0.decision ≡ undecided =
             sym (shown_in_row v.start v.words log m.lawful.enabled change (Change r.0) 0
             r.0.decision r.1 refl place undecided shown at) in
@@ -148,7 +148,7 @@ okay_went v change place word w (as_event event l named) =
     && waits (as_change ((state_of v.start v.words l.before).pieces change)))
     (Okay (number_of v.who) change) event named in
     logged_load_went (Serves change) v event place word w l (subst (Serves change) it.1 refl)
-    (subst (λ e. made_behind e v.made ≡ v.made) it.1 refl)
+    (subst (λ e. made_after e v.made ≡ v.made) it.1 refl)
 okay_went v change place word w (as_load l none) = looked_went (Serves change) v place word w l
 
 -- the change is ready for a yes if the load gave an open node, and for a no otherwise

@@ -42,7 +42,7 @@ pub row_above : (v : View) → IsSound v → (base : ℕ) (p : Piece) → (now v
     → first_row ≤ base
 row_above v s base p there =
     (claimed_within v.start v.words v.log base (size_of p) s.lawful.enabled
-    ((placed v.start v.words v.log s.lawful.enabled).published base p there)).behind_fixed
+    ((placed v.start v.words v.log s.lawful.enabled).published base p there)).after_fixed
 
 -- a load of such a word gives it
 pub looked_row : (v : View) (place word : ℕ) (w : View) → Looked v place word w
@@ -210,4 +210,4 @@ good_base v s base p there some =
     let low = row_low v s base p there 0 some in
     let place = low.0 in
     let all = low.1 in
-    record { behind_fixed = claim.behind_fixed; below_limit = omega arith }
+    record { after_fixed = claim.after_fixed; below_limit = omega arith }

@@ -17,7 +17,7 @@ use Rattle.ist_core.proofs.MoveLemmas.{without-kept}
 use Rattle.ist_core.proofs.PlaceLemmas.{anchor_free, placed, claimed_within}
 use Rattle.ist_core.proofs.SlotStepLemmas.{install_writes}
 use Rattle.ist_core.proofs.FateLemmas.{grow_between}
-use Rattle.laws_links.proofs.InductionLemmas.{sound_behind}
+use Rattle.laws_links.proofs.InductionLemmas.{sound_after}
 use Rattle.ist_rule.specs.declared.view.View.{View}
 use Rattle.ist_core.specs.declared.events.Who.TheVariants.{Caller}
 use Rattle.ist_rule.specs.Watching.{number_of}
@@ -63,7 +63,7 @@ installed_tells v base f m u g w l =
     let same : f.change ≡ can.change = one_change f.change can.change
     (ap first_change can.rows_are) in
     let writes = install_writes (start u.start u.words) l.before m.number base (rows_of f base) can
-    (sound_behind u.start u.words l.before lawful.enabled.0)
+    (sound_after u.start u.words l.before lawful.enabled.0)
     (anchor_free u.start u.words l.before lawful.enabled.0) in
     record {
       before = u;
@@ -126,7 +126,7 @@ good_held v s base words f some =
     record { caller = f.number; base = base; size = length words } f.held) in
     let low = own_low v s base words f 0 some in
     let all = s.lawful.opens.within in
-    record { behind_fixed = claim.behind_fixed; below_limit = omega arith }
+    record { after_fixed = claim.after_fixed; below_limit = omega arith }
 
 -- ---- the words that were loaded
 

@@ -11,7 +11,7 @@ use Rattle.ist_core.specs.Statuses.{open_word}
 use Rattle.ist_core.specs.Writing.{place_of_status}
 use Rattle.ist_core.proofs.FateLemmas.{grow_between}
 use Rattle.ist_core.proofs.GrowingLemmas.{inner_there}
-use Rattle.ist_core.proofs.PlaceLemmas.{next_behind_fixed}
+use Rattle.ist_core.proofs.PlaceLemmas.{next_after_fixed}
 use Rattle.ist_core.proofs.RoomLemmas.{next_within, words_same}
 use Rattle.ist_core.specs.Shown.{IsShown}
 use Rattle.ist_rule.specs.declared.view.View.{View}
@@ -33,7 +33,7 @@ pub status_low : (v : View) → IsSound v → (node : ℕ) → IsNode (now v) no
 status_low v s node (is_anchor e) =
     let at = status_place_anchor node e in
     let low = next_within v.start v.words s.lawful.opens v.log s.lawful.enabled in
-    let fixed = next_behind_fixed v.start v.words v.log s.lawful.enabled in
+    let fixed = next_after_fixed v.start v.words v.log s.lawful.enabled in
     let all = words_same v.start v.words s.lawful.opens v.log in
     omega arith
 status_low v s node (is_inner r e) =

@@ -33,7 +33,7 @@ use Rattle.ist_dcss.proofs.HelperLemmas.{went_row}
 use Rattle.ist_dcss.proofs.SlotPlaceLemmas.{change_slot, slot_shown, shown_in_slot, slot_place_later}
 use Rattle.ist_dcss.proofs.FieldLemmas.{field_now}
 use Rattle.ist_dcss.proofs.DecidedLemmas.{said_set}
-use Rattle.ist_dcss.proofs.DecideLemmas.{row_behind, number_low}
+use Rattle.ist_dcss.proofs.DecideLemmas.{row_after, number_low}
 
 -- an event resolves the change or doesn't
 resolves_now : (base : ℕ) (event : Event) → Resolves base event ⊎ ¬ (Resolves base event)
@@ -64,28 +64,28 @@ out v s change h =
 module _ (v : View) (s : IsSound v) (change number : ℕ) (mine : v.who ≡ Caller number)
     (row : ChangeRow) (installed : (now v).pieces change ≡ Some (Change row)) where
   -- the slot after a log that may come
-  slot_behind : (log : Log) → MayCome v log
+  slot_after : (log : Log) → MayCome v log
       → (word : ℕ) × SlotHolds (state_of v.start v.words log) row.node row.index word
-  slot_behind log m =
+  slot_after log m =
       let it = change_slot v.start v.words v.log s.lawful.enabled change row installed in
       slot_remains (now v) (state_of v.start v.words log)
       (grow_between v.start v.words v.log log m.lawful.enabled (later-goes_on m.later)) row.node
       row.index it.0 it.1
 
   -- the place of the slot is the same
-  place_behind : (log : Log) (m : MayCome v log)
+  place_after : (log : Log) (m : MayCome v log)
       → place_of_slot (state_of v.start v.words log) row.node row.index
       ≡ place_of_slot (now v) row.node row.index
-  place_behind log m =
+  place_after log m =
       let it = change_slot v.start v.words v.log s.lawful.enabled change row installed in
       slot_place_later v.start v.words v.log log s.lawful.enabled m.lawful.enabled
       (grow_between v.start v.words v.log log m.lawful.enabled (later-goes_on m.later)) row.node
       row.index it.0 it.1
 
   -- what the slot's word is once the change is decided
-  side_behind : row.decision ≢ undecided → (r : ChangeRow) → ChangeGrows row r
+  side_after : row.decision ≢ undecided → (r : ChangeRow) → ChangeGrows row r
       → side_of r ≡ side_of row
-  side_behind set r g =
+  side_after set r g =
       ap (λ d. if d == decided_yes then r.to else r.from) (g.decided set)
       ∙ ap₂ (λ a b. if row.decision == decided_yes then a else b) (ap (λ x. x.to) g.others)
       (ap (λ x. x.from) g.others)
@@ -98,27 +98,27 @@ module _ (v : View) (s : IsSound v) (change number : ℕ) (mine : v.who ≡ Call
       record {
         make = record { mine = sym mine; stored = tt; allowed = tt };
         known = λ log m.
-            let slot = slot_behind log m in
+            let slot = slot_after log m in
             let u = state_of v.start v.words log in (
               slot.0,
-              subst (λ p. IsShown u p slot.0) (place_behind log m ∙ sym at)
+              subst (λ p. IsShown u p slot.0) (place_after log m ∙ sym at)
                   (slot_shown v.start v.words log m.lawful.enabled row.node row.index slot.0
                   slot.1),
             );
         comes = λ log m shown.
             let u = state_of v.start v.words log in
-            let r = row_behind v s change number mine row installed log m in
-            let slot = slot_behind log m in
+            let r = row_after v s change number mine row installed log m in
+            let slot = slot_after log m in
             let same : old ≡ slot.0 =
             shown_in_slot v.start v.words log m.lawful.enabled row.node row.index slot.0 old
             slot.1
-            (subst (λ p. IsShown u p old) (at ∙ sym (place_behind log m)) shown) in
+            (subst (λ p. IsShown u p old) (at ∙ sym (place_after log m)) shown) in
             let holds : SlotHolds u row.node row.index (word_of (ChangeAt change)) =
             subst (SlotHolds u row.node row.index) (sym same ∙ old_is) slot.1 in
             let node : r.0.node ≡ row.node = ap (λ x. x.node) r.2.others in
             let index : r.0.index ≡ row.index = ap (λ x. x.index) r.2.others in
             let place_is : place_of_slot u r.0.node r.0.index ≡ place =
-            ap₂ (place_of_slot u) node index ∙ place_behind log m ∙ sym at in
+            ap₂ (place_of_slot u) node index ∙ place_after log m ∙ sym at in
             record {
               enabled = record {
                 known = number_low v s change number mine row installed log m;
@@ -137,7 +137,7 @@ module _ (v : View) (s : IsSound v) (change number : ℕ) (mine : v.who ≡ Call
                         side_of r.0;
                   }) place_is
                   ∙ ap₂ (λ f l. Some record { place = place; found = f; left = l }) (sym old_is)
-                  (side_behind set r.0 r.2 ∙ sym side_is);
+                  (side_after set r.0 r.2 ∙ sym side_is);
             };
       }
 

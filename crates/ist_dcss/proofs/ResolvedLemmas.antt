@@ -100,8 +100,8 @@ module _ (v w x : View) (number base : ℕ) (f : Filling) (mine : v.who ≡ Call
       (subst (λ n. AllResolvedOf (state_of v.start n v.log) v.log number) (sym words_is) all))
 
   -- after it all other changes are resolved
-  behind : AllResolvedBut w.start w.words w.log number base
-  behind =
+  following : AllResolvedBut w.start w.words w.log number base
+  following =
       subst (λ log. AllResolvedBut w.start w.words log number base) (sym log_is)
       (resolved_but_on w.start w.words i.logged.before event number base enabled
       (λ b rows e. base_is b rows e)
@@ -116,5 +116,5 @@ module _ (v w x : View) (number base : ℕ) (f : Filling) (mine : v.who ≡ Call
       ⊎_elim (λ e. subst (λ n. Happened (Resolves n) x.log) (sym e) out.resolved) (λ h. h)
       (resolved_but_later w.start w.words number base w.log x.log
       (went_lawful (Serves base) w x g).enabled
-      (subst (λ y. LaterBy y (Serves base) w.log x.log) who_is g.later) behind b r
+      (subst (λ y. LaterBy y (Serves base) w.log x.log) who_is g.later) following b r
       (subst (λ t. t.pieces b ≡ Some (Change r)) (went_now (Serves base) w x g) there) owned)

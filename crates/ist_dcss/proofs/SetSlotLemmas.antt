@@ -21,7 +21,7 @@ use Rattle.ist_core.proofs.SlotLemmas.{slot_once}
 use Rattle.ist_core.proofs.SlotStepLemmas.{WritesSlot, WritesNoSlot, install_writes, resolve_writes, place_writes, slot_stays}
 use Rattle.ist_core.proofs.FateLemmas.{grow_between}
 use Rattle.ist_core.proofs.GrowingLemmas.{slot_remains}
-use Rattle.laws_links.proofs.InductionLemmas.{changes_by, sound_behind}
+use Rattle.laws_links.proofs.InductionLemmas.{changes_by, sound_after}
 
 -- a word that is read as something else isn't Unset
 not_unset : (word : ℕ) (ref : Ref) → ref_of word ≡ Some ref → (Some ref ≡ Some Unset → ⊥)
@@ -79,29 +79,29 @@ module _ (pairs : List Pair) (words : ℕ) where
       → (old ≡ unset_word) ⊎ (new ≢ unset_word)
       → (node i was now : ℕ) → SlotHolds (state_of pairs words log) node i was → was ≢ unset_word
       → SlotHolds (state_of pairs words (event ∷ log)) node i now → now ≢ unset_word
-  written log event h at j new old w how node i was now before set behind =
+  written log event h at j new old w how node i was now before set following =
       let u = state_of pairs words (event ∷ log) in
       let free = anchor_free pairs words (event ∷ log) h in
       ⊎_elim
       (λ here.
       let there : SlotHolds u at j now =
       subst (λ n. SlotHolds u n j now) here.1 (subst (λ k. SlotHolds u node k now) here.2
-      behind) in
+      following) in
       let same : now ≡ new = slot_once u at j now new free there w.now in
       ⊎_elim (λ e. absurd (set (here.0 ∙ e))) (λ ne. λ e. ne (sym same ∙ e)) how)
-      (λ stays. λ e. set (slot_once u node i was now free stays behind ∙ e))
+      (λ stays. λ e. set (slot_once u node i was now free stays following ∙ e))
       (w.others node i was before)
 
   quiet : (log : Log) (event : Event) → EachEnabled (start pairs words) (event ∷ log)
       → WritesNoSlot event
       → (node i was now : ℕ) → SlotHolds (state_of pairs words log) node i was → was ≢ unset_word
       → SlotHolds (state_of pairs words (event ∷ log)) node i now → now ≢ unset_word
-  quiet log event h none node i was now before set behind =
-      let stays = slot_stays (start pairs words) log event h.1 (sound_behind pairs words log h.0)
+  quiet log event h none node i was now before set following =
+      let stays = slot_stays (start pairs words) log event h.1 (sound_after pairs words log h.0)
       none
       node i was before in
       λ e. set (slot_once (state_of pairs words (event ∷ log)) node i was now
-      (anchor_free pairs words (event ∷ log) h) stays behind ∙ e)
+      (anchor_free pairs words (event ∷ log) h) stays following ∙ e)
 
   -- an event leaves no slot Unset that wasn't
   set_on : (log : Log) (event : Event) → EachEnabled (start pairs words) (event ∷ log)
@@ -111,7 +111,7 @@ module _ (pairs : List Pair) (words : ℕ) where
       written log (Install caller base rows) h h.1.change.node h.1.change.index
       (word_of (ChangeAt base)) h.1.change.from
       (install_writes (start pairs words) log caller base rows h.1
-      (sound_behind pairs words log h.0) (anchor_free pairs words log h.0))
+      (sound_after pairs words log h.0) (anchor_free pairs words log h.0))
       (inr (change_set base))
   set_on log (Resolve caller base) h =
       written log (Resolve caller base) h h.1.change.node h.1.change.index (side_of h.1.change)
@@ -123,7 +123,7 @@ module _ (pairs : List Pair) (words : ℕ) where
   set_on log (Place caller rebuild j word rows) h =
       written log (Place caller rebuild j word rows) h h.1.root j word unset_word
       (place_writes (state_of pairs words log) caller rebuild j word rows h.1
-      (sound_behind pairs words log h.0) (anchor_free pairs words log h.0))
+      (sound_after pairs words log h.0) (anchor_free pairs words log h.0))
       (inl refl)
   set_on log event h = quiet log event h tt
 

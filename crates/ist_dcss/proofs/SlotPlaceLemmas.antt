@@ -18,10 +18,10 @@ use Rattle.ist_core.specs.Slots.{SlotHolds, in_anchor, in_row}
 use Rattle.ist_core.specs.Lawful.{EachEnabled, state_of}
 use Rattle.ist_core.specs.Writing.{place_of_slot}
 use Rattle.ist_core.proofs.ImageLemmas.{get-words_of_slot}
-use Rattle.ist_core.proofs.PlaceLemmas.{placed, claimed_within, anchor_free, next_behind_fixed}
+use Rattle.ist_core.proofs.PlaceLemmas.{placed, claimed_within, anchor_free, next_after_fixed}
 use Rattle.ist_core.proofs.ShapedLemmas.{shaped}
 use Rattle.ist_core.proofs.GrowingLemmas.{inner_there, slot_remains}
-use Rattle.laws_links.proofs.InductionLemmas.{changes_by, grow_behind}
+use Rattle.laws_links.proofs.InductionLemmas.{changes_by, grow_after}
 use Rattle.ist_core.specs.Shown.{IsShown, shown_next, shown_callers, shown_status, shown_slot, shown_row, shown_free}
 use Rattle.ist_rule.proofs.WatchLemmas.{shown_in_row, place_inner}
 
@@ -49,7 +49,7 @@ change_slot pairs words =
         → (word : ℕ) × SlotHolds (state_of pairs words (event ∷ log)) node i word
     on log event h node i was =
         slot_remains (state_of pairs words log) (state_of pairs words (event ∷ log))
-        (grow_behind pairs words log event h) node i was.0 was.1
+        (grow_after pairs words log event h) node i was.0 was.1
 
 module _ (pairs : List Pair) (words : ℕ) (log : Log) (enabled : EachEnabled (start pairs words) log)
   where
@@ -82,7 +82,7 @@ module _ (pairs : List Pair) (words : ℕ) (log : Log) (enabled : EachEnabled (s
 
     row_above : (base : ℕ) (p : Piece) → t.pieces base ≡ Some p → first_row ≤ base
     row_above base p e = (claimed_within pairs words log base (size_of p) enabled
-        ((placed pairs words log enabled).published base p e)).behind_fixed
+        ((placed pairs words log enabled).published base p e)).after_fixed
 
     -- the word shown at the place of the anchor's slot is the slot's
     shown_anchor : (place word : ℕ) → IsShown t place word → place ≡ anchor_slot_place
@@ -94,7 +94,7 @@ module _ (pairs : List Pair) (words : ℕ) (log : Log) (enabled : EachEnabled (s
     shown_anchor _ _ (shown_row base p k there at) e =
         let low = row_above base p there in absurd (omega arith)
     shown_anchor _ _ (shown_free far in_it) e =
-        let low = next_behind_fixed pairs words log enabled in absurd (omega arith)
+        let low = next_after_fixed pairs words log enabled in absurd (omega arith)
 
     -- the word in a slot is shown at its place
     pub slot_shown : (node i word : ℕ) → SlotHolds t node i word

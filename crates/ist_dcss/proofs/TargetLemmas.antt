@@ -52,10 +52,10 @@ fields_low v s rebuild row e =
     record { target = omega arith; parent = omega arith }
 
 -- the rebuild after a load of its target
-rebuild_behind : (v : View) (place word : ℕ) (w : View) → Looked v place word w → (rebuild : ℕ)
+rebuild_after : (v : View) (place word : ℕ) (w : View) → Looked v place word w → (rebuild : ℕ)
     → IsRebuildRow (now v) rebuild → place ≡ rebuild + 0
     → (r : RebuildRow) × ((now w).pieces rebuild ≡ Some (Rebuild r)) × (word ≡ r.target)
-rebuild_behind v place word w l rebuild b at =
+rebuild_after v place word w l rebuild b at =
     let it = rebuild_there (now v).pieces (now w).pieces
     (goes_on_grow v w (looked_goes_on v place word w l)) rebuild b.row b.published in (
       it.0,
@@ -67,13 +67,13 @@ rebuild_behind v place word w l rebuild b at =
 pub target_told : (v : View) (place word : ℕ) (w : View) → Looked v place word w → (rebuild : ℕ)
     → IsRebuildRow (now v) rebuild → place ≡ rebuild + 0 → HasTarget (now w) rebuild word
 target_told v place word w l rebuild b at =
-    let it = rebuild_behind v place word w l rebuild b at in
+    let it = rebuild_after v place word w l rebuild b at in
     record { row = it.0; published = it.1; target_is = sym it.2 }
 
 -- which fits in 32 bits
 pub target_low : (v : View) (place word : ℕ) (w : View) → Looked v place word w → (rebuild : ℕ)
     → IsRebuildRow (now v) rebuild → place ≡ rebuild + 0 → word < 2 ^ 32
 target_low v place word w l rebuild b at =
-    let it = rebuild_behind v place word w l rebuild b at in
+    let it = rebuild_after v place word w l rebuild b at in
     let low = (fields_low w l.sound rebuild it.0 it.1).target in
     subst (λ n. n < 2 ^ 32) (sym it.2) low

@@ -46,11 +46,11 @@ keys_on v w g node r =
     ap (λ p. keys_in (as_inner p)) on.1 ∙ on.2.keys ∙ sym (keys_are v node r)
 
 -- a key is found among the keys and slots of its row, after the four fields
-behind_fields : (keys slots : List ℕ) (j : ℕ) → j < length keys
+after_fields : (keys slots : List ℕ) (j : ℕ) → j < length keys
     → slice_get (keys ++ slots) j ≡ Some (get_or keys j 0)
-behind_fields [] slots j h = absurd (omega arith)
-behind_fields (k ∷ keys) slots zero h = refl
-behind_fields (k ∷ keys) slots (suc j) h = behind_fields keys slots j (omega arith)
+after_fields [] slots j h = absurd (omega arith)
+after_fields (k ∷ keys) slots zero h = refl
+after_fields (k ∷ keys) slots (suc j) h = after_fields keys slots j (omega arith)
 
 -- what a caller knows of an inner row
 pub record KnowsRow (v : View) (node count : ℕ) : Type 0 where
@@ -118,7 +118,7 @@ key_told v node r j place word w l at less =
     let count = ap length same in
     let here : place ≡ node + suc (suc (suc (suc j))) = omega arith in
     looked_row v place word w l node (Inner on.row) (suc (suc (suc (suc j))))
-    (get_or on.row.keys j 0) on.published (behind_fields on.row.keys on.row.slots j (omega arith))
+    (get_or on.row.keys j 0) on.published (after_fields on.row.keys on.row.slots j (omega arith))
     here
     ∙ ap (λ ks. get_or ks j 0) same
 

@@ -9,7 +9,7 @@ use Rattle.ist_core.specs.References.{Ref}
 use Rattle.ist_core.specs.Snapshots.{Snapshot}
 use Rattle.ist_core.specs.StartLayout.{start}
 use Rattle.ist_core.specs.Map.{map_of}
-use Rattle.ist_core.specs.Changes.{changes_of, map_behind}
+use Rattle.ist_core.specs.Changes.{changes_of, map_after_entries}
 use Rattle.ist_core.specs.Growing.{AllGrow}
 use Rattle.ist_core.specs.Logs.{Log, GoesOn, same_log}
 use Rattle.ist_core.specs.Slots.{IsChildFor, of_anchor, of_row}
@@ -125,6 +125,6 @@ had_at opened words earlier at since key value is =
       position = length all;
       from = changes_rise (start opened words) earlier at since;
       to = le_refl (length all);
-      value_is = is ∙ ap (λ es. fin.get (map_behind (map_of opened) es) key)
+      value_is = is ∙ ap (λ es. fin.get (map_after_entries (map_of opened) es) key)
           (sym (take_all (length all) all (le_refl (length all))));
     }

@@ -26,13 +26,13 @@ edge_grows t u g key e =
 
 module _ (opened : List Pair) (words : ℕ) where
   -- a sweep ends at a later log
-  pub swept_on : (first above : ℕ) (from at : Log) (behind row loads : ℕ) (found : List Pair)
-      → Swept opened words first above from at behind row loads found → GoesOn from at
+  pub swept_on : (first above : ℕ) (from at : Log) (following row loads : ℕ) (found : List Pair)
+      → Swept opened words first above from at following row loads found → GoesOn from at
   swept_on first above from _ _ _ _ _ none_swept = same_log
-  swept_on first above from _ behind row loads found (later_swept {at = at} {later = later} s g) =
-      on_trans from at later (swept_on first above from at behind row loads found s) g
-  swept_on first above from at behind _ _ found (row_swept {row = row} {loads = loads} base r s p up way) =
-      swept_on first above from at behind row loads found s
+  swept_on first above from _ following row loads found (later_swept {at = at} {later = later} s g) =
+      on_trans from at later (swept_on first above from at following row loads found s) g
+  swept_on first above from at following _ _ found (row_swept {row = row} {loads = loads} base r s p up way) =
+      swept_on first above from at following row loads found s
   swept_on first above from _ _ _ _ _ (slot_swept {at = at} {later = later} {low = low} {row = row} {loads = loads} {found = found} pair s b r) =
       on_trans from at later (swept_on first above from at low row loads found s) r.on
 
@@ -56,23 +56,23 @@ module _ (opened : List Pair) (words : ℕ) where
       (a : Swept opened words first above from middle low middle_row loads before)
       (b : (low ≡ first) ⊎ IsEdge (state_of opened words middle) low) where
     -- a sweep from where the first one ended makes both into one, with the loads and pairs of both
-    pub swept_more : (at : Log) (behind row more : ℕ) (found : List Pair)
+    pub swept_more : (at : Log) (following row more : ℕ) (found : List Pair)
         → EachEnabled (start opened words) at
-        → Swept opened words low middle_row middle at behind row more found
-        → Swept opened words first above from at behind row (loads + more) (before ++ found)
+        → Swept opened words low middle_row middle at following row more found
+        → Swept opened words first above from at following row (loads + more) (before ++ found)
     swept_more _ _ _ _ _ h none_swept =
         let same : loads ≡ loads + 0 = omega arith in
         subst (λ n. Swept opened words first above from middle low middle_row n (before ++ [])) same
         (subst (Swept opened words first above from middle low middle_row loads)
         (sym (append-nil before)) a)
-    swept_more _ behind row more found h (later_swept {at = at} {later = later} s g) =
+    swept_more _ following row more found h (later_swept {at = at} {later = later} s g) =
         later_swept
-        (swept_more at behind row more found (enabled_before (start opened words) at later g h) s) g
+        (swept_more at following row more found (enabled_before (start opened words) at later g h) s) g
     swept_more at to _ _ found h (row_swept {row = row} {loads = more} base r s p up way) =
         let same : loads + more + entering_loads r.keys to ≡ loads + (more + entering_loads r.keys to) = omega arith in
         subst (λ n. Swept opened words first above from at to base n (before ++ found)) same
         (row_swept base r (swept_more at to row more found h s) p up way)
-    swept_more _ _ _ _ _ h (slot_swept {at = at} {later = later} {low = to} {behind = behind} {row = row} {loads = more} {found = found} pair s begins r) =
+    swept_more _ _ _ _ _ h (slot_swept {at = at} {later = later} {low = to} {following = following} {row = row} {loads = more} {found = found} pair s begins r) =
         let enabled = enabled_before (start opened words) at later r.on h in
         let on = swept_on low middle_row middle at to row more found s in
         let same : (to ≡ low) → (to ≡ first) ⊎ IsEdge (state_of opened words at) to =
@@ -81,9 +81,9 @@ module _ (opened : List Pair) (words : ℕ) where
         (edge_grows (state_of opened words middle) (state_of opened words at)
         (grow_between opened words middle at enabled on) low f))) b in
         let sum : loads + more + 7 ≡ loads + (more + 7) = omega arith in
-        subst (λ n. Swept opened words first above from later behind 0 n (before ++ (found ++ one_of pair)))
+        subst (λ n. Swept opened words first above from later following 0 n (before ++ (found ++ one_of pair)))
         sum
-        (subst (Swept opened words first above from later behind 0 (loads + more + 7))
+        (subst (Swept opened words first above from later following 0 (loads + more + 7))
         (append_assoc before found (one_of pair))
         (slot_swept pair (swept_more at to row more found enabled s) (⊎_elim same (λ f. inr f) begins) r))
 

@@ -33,12 +33,12 @@ entering_loads keys key = distance (guess_in keys key) (child_count keys key) + 
 
 -- the keys of one slot, from the first up to its end, were read between these logs: each had what
 -- the pair gives it at a position of its own
-pub record SlotWasRead (opened : List Pair) (words : ℕ) (earlier later : Log) (first behind : ℕ)
+pub record SlotWasRead (opened : List Pair) (words : ℕ) (earlier later : Log) (first following : ℕ)
     (pair : Option Pair) : Type 0 where
   pub on : GoesOn earlier later
-  pub some : first < behind
-  pub within : IfSome pair (λ x. (first ≤ x.key) × (x.key < behind))
-  pub values : (k : ℕ) → first ≤ k → k < behind
+  pub some : first < following
+  pub within : IfSome pair (λ x. (first ≤ x.key) × (x.key < following))
+  pub values : (k : ℕ) → first ≤ k → k < following
       → HasPosition opened words earlier later k (pair_value pair k)
 
 -- the row is entered at the key on the key's way: the key leads to its parent, and the row is in the
@@ -69,11 +69,11 @@ pub data Swept (opened : List Pair) (words first above : ℕ) (from : Log)
       → (state_of opened words at).pieces base ≡ Some (Inner r) → row < base
       → IsEnteredAt (state_of opened words at) low row base
       → Swept opened words first above from at low base (loads + entering_loads r.keys low) found
-  slot_swept : {at later : Log} {low behind row loads : ℕ} {found : List Pair} (pair : Option Pair)
+  slot_swept : {at later : Log} {low following row loads : ℕ} {found : List Pair} (pair : Option Pair)
       → Swept opened words first above from at low row loads found
       → (low ≡ first) ⊎ IsEdge (state_of opened words at) low
-      → SlotWasRead opened words at later low behind pair
-      → Swept opened words first above from later behind 0 (loads + 7) (found ++ one_of pair)
+      → SlotWasRead opened words at later low following pair
+      → Swept opened words first above from later following 0 (loads + 7) (found ++ one_of pair)
 
 -- ---- where a sweep is
 
@@ -97,7 +97,7 @@ starting v node key =
 -- since the first view the caller has swept the keys from the first up to a slot's end, beginning
 -- at this log, and found the pairs, by no more loads than the sweep says and some spent apart. At
 -- the end the keys up to the last led to the node
-pub record Sweeps (v w : View) (from : Log) (first behind last node limit spent : ℕ)
+pub record Sweeps (v w : View) (from : Log) (first following last node limit spent : ℕ)
     (found : List Pair) : Type 0 where
   pub at : Log
   pub until : GoesOn at w.log
@@ -106,15 +106,15 @@ pub record Sweeps (v w : View) (from : Log) (first behind last node limit spent 
   pub under : row ≤ limit
   pub loads : ℕ
   pub few : w.loaded ≤ v.loaded + spent + loads
-  pub swept : Swept w.start w.words first node from at behind row loads found
+  pub swept : Swept w.start w.words first node from at following row loads found
 
 -- between both views it has done so, from whichever log on, and appended the pairs
-pub record HasSwept (v w : View) (first behind last node limit spent : ℕ)
+pub record HasSwept (v w : View) (first following last node limit spent : ℕ)
     (old new : List Pair) : Type 0 where
   pub found : List Pair
   pub are : new ≡ old ++ found
   pub sweeps : (from : Log) → GoesOn from v.log → AllLed v from first last node
-      → Sweeps v w from first behind last node limit spent found
+      → Sweeps v w from first following last node limit spent found
 
 -- ---- a slot
 

@@ -134,7 +134,7 @@ module _ (p m q : PassFace) (shot : Frozen) (first last count : ℕ) (pairs : Li
           piece_of p shot first last None more lawful
           (λ all h. upto_pair all h ∙ ap (λ n. pairs_between first n all) is) tt
 
-      -- else the next piece begins behind it
+      -- else the next piece begins after it
       pub piece_goes_on : pair.key ≢ last → IsShotPiece p shot first last (Some (pair.key + 1)) more
       piece_goes_on other =
           let b = bounds in

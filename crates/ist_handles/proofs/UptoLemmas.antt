@@ -77,7 +77,7 @@ none_upto (p ∷ ps) first key above =
 module _ (p : Pair) (ps : List Pair) (first last : ℕ)
     (rest : (n : ℕ) (x : Pair) → slice_get (pairs_between first last ps) n ≡ Some x
     → take (suc n) (pairs_between first last ps) ≡ pairs_between first x.key ps) where
-  -- behind a pair that is left out
+  -- after a pair that is left out
   upto_out : (n : ℕ) (x : Pair) → (nat_le first p.key && nat_le p.key last) ≡ false
       → (nat_le first p.key && nat_le p.key x.key) ≡ false
       → slice_get (pairs_between first last (p ∷ ps)) n ≡ Some x
@@ -87,7 +87,7 @@ module _ (p : Pair) (ps : List Pair) (first last : ℕ)
       ∙ rest n x (subst (λ l. slice_get l n ≡ Some x) (left_out first last p ps out) at)
       ∙ sym (left_out first x.key p ps other)
 
-  -- behind a pair that is kept
+  -- after a pair that is kept
   upto_in : first ≤ p.key → ((j : ℕ) (y : Pair) → slice_get ps j ≡ Some y → p.key < y.key)
       → (n : ℕ) (x : Pair) → slice_get (p ∷ pairs_between first last ps) n ≡ Some x
       → take (suc n) (p ∷ pairs_between first last ps) ≡ pairs_between first x.key (p ∷ ps)

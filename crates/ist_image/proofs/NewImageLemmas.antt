@@ -26,12 +26,12 @@ get_before (x ∷ xs) ys zero h = refl
 get_before (x ∷ xs) ys (suc k) h = get_before xs ys k (omega arith)
 
 -- a word of the second
-get_behind : (xs ys : List ℕ) (k : ℕ) → slice_get (xs ++ ys) (length xs + k) ≡ slice_get ys k
-get_behind [] ys k = ap (slice_get ys) (let e : 0 + k ≡ k = omega arith in e)
-get_behind (x ∷ xs) ys k =
+get_after : (xs ys : List ℕ) (k : ℕ) → slice_get (xs ++ ys) (length xs + k) ≡ slice_get ys k
+get_after [] ys k = ap (slice_get ys) (let e : 0 + k ≡ k = omega arith in e)
+get_after (x ∷ xs) ys k =
     ap (slice_get (x ∷ (xs ++ ys)))
     (let e : length (x ∷ xs) + k ≡ suc (length xs + k) = omega arith in e)
-    ∙ get_behind xs ys k
+    ∙ get_after xs ys k
 
 -- rows that lie one after another are in the words at their bases
 rows_stand : (front rest : List ℕ) (to : ℕ) (rows : List (ℕ × Piece)) (base : ℕ) (p : Piece)
@@ -44,7 +44,7 @@ rows_stand front rest to (row ∷ rows) base p fills (inl e) k h =
     let size = ap (λ q. size_of q) is in
     let all = front ++ (row_words (row ∷ rows) ++ rest) in
     ap (λ b. slice_get all (b + k)) here
-    ∙ get_behind front (row_words (row ∷ rows) ++ rest) k
+    ∙ get_after front (row_words (row ∷ rows) ++ rest) k
     ∙ ap (λ ws. slice_get ws k) (append_assoc (words_of row.1) (row_words rows) rest)
     ∙ get_before (words_of row.1) (row_words rows ++ rest) k (omega arith)
     ∙ ap (λ q. slice_get (words_of q) k) (sym is)
@@ -117,9 +117,9 @@ module _ (pairs : List Pair) (old : List ℕ) (n : ℕ) (opens : CanOpen pairs n
       ap (take n) words_are ∙ take_over (image_words pairs) rest n (omega arith)
 
   -- after the image they are 0
-  pub zeros_behind : ZerosFrom (first_row + ideal_words (length pairs)) old
+  pub zeros_after : ZerosFrom (first_row + ideal_words (length pairs)) old
       → ZerosFrom (first_row + ideal_words (length pairs)) (sets old 0 (image_words pairs))
-  zeros_behind zeros place behind within =
+  zeros_after zeros place following within =
       let long = length-image_words in
       let m = length (image_words pairs) in
       let same = length-sets old 0 (image_words pairs) in
@@ -127,10 +127,10 @@ module _ (pairs : List Pair) (old : List ℕ) (n : ℕ) (opens : CanOpen pairs n
       let whole : 0 + m + (place - m) ≡ place = omega arith in
       ap (λ ws. slice_get ws place) words_are
       ∙ ap (slice_get (image_words pairs ++ rest)) at
-      ∙ get_behind (image_words pairs) rest (place - m)
+      ∙ get_after (image_words pairs) rest (place - m)
       ∙ slice_get-drop (0 + m) old (place - m)
       ∙ ap (slice_get old) whole
-      ∙ zeros place behind (omega arith)
+      ∙ zeros place following (omega arith)
 
   -- the first n words are the image
   pub image_laid : ZerosFrom (first_row + ideal_words (length pairs)) old → IsImage (start pairs n) table
@@ -150,7 +150,7 @@ module _ (pairs : List Pair) (old : List ℕ) (n : ℕ) (opens : CanOpen pairs n
             (rows_from first_row pairs) base p
             (fills_rows (length pairs) first_row pairs (omega arith))
             (among-pieces_of (rows_from first_row pairs) base p e));
-        free = λ place behind within.
+        free = λ place following within.
             get_taken (sets old 0 (image_words pairs)) n place within
-            ∙ zeros_behind zeros place behind (omega arith);
+            ∙ zeros_after zeros place following (omega arith);
       }

@@ -15,12 +15,12 @@ use Rattle.ist_core.specs.StartLayout.{tree_at, placed_parts, top_row, rows_with
 use Rattle.ist_core.proofs.PartLemmas.{part_end-le}
 use Rattle.ist_core.proofs.WordLemmas.{ideal_words_one}
 use Rattle.ist_core.proofs.LayoutLemmas.{FillWords, fills_rows, keys_of_parts, slots_of-top_row}
-use Rattle.ist_image.specs.Placing.{part_of, part_base, slot_base, slots_behind, rows_behind, row_words, tree_words, row_head}
+use Rattle.ist_image.specs.Placing.{part_of, part_base, slot_base, slots_after, rows_after, row_words, tree_words, row_head}
 use Rattle.ist_image.proofs.PlacingLemmas.{
   placed_by_index,
   rows_from-many,
-  rows_behind-first,
-  rows_behind-last,
+  rows_after-first,
+  rows_after-last,
 }
 use Rattle.ist_image.proofs.SettingLemmas.{sets-append, sets-sets, set_made, none_made}
 use Rattle.std.proofs.lemmas.List.FromFn.{length-map-range_with_len}
@@ -181,13 +181,13 @@ leaf_set words base (p ∷ q ∷ pairs) default one = absurd (omega arith)
 -- the words of at least two pairs: the top row's, then the parts'
 pub tree_set : (old mid new : List ℕ) (base : ℕ) (pairs : List Pair) → 2 ≤ length pairs
     → mid ≡ sets old base (words_of (top_row base pairs))
-    → new ≡ sets mid (part_base base (length pairs) 0) (row_words (rows_behind base pairs 0))
+    → new ≡ sets mid (part_base base (length pairs) 0) (row_words (rows_after base pairs 0))
     → new ≡ sets old base (tree_words base pairs)
 tree_set old mid new base pairs two e i =
     let n = length pairs in
     let size = length-top_words base pairs two in
     let first = words_of (top_row base pairs) in
-    let rest = row_words (rows_behind base pairs 0) in
+    let rest = row_words (rows_after base pairs 0) in
     let begin : part_base base n 0 ≡ base + length first = omega arith in
     i ∙ ap (λ at. sets mid at rest) begin ∙ ap (λ ws. sets ws (base + length first) rest) e
     ∙ sym (sets-append old base first rest)
@@ -197,29 +197,29 @@ tree_set old mid new base pairs two e i =
 pub part_set : (old new : List ℕ) (base at next j : ℕ) (pairs part : List Pair)
     → j < degree (length pairs) → at ≡ part_base base (length pairs) j → part ≡ part_of pairs j
     → new ≡ sets old at (tree_words at part) → at + ideal_words (length part) ≡ next
-    → sets old at (row_words (rows_behind base pairs j))
-    ≡ sets new next (row_words (rows_behind base pairs (j + 1)))
+    → sets old at (row_words (rows_after base pairs j))
+    ≡ sets new next (row_words (rows_after base pairs (j + 1)))
 part_set old new base at next j pairs part h e i set n =
     let b = part_base base (length pairs) j in
-    let behind = rows_behind base pairs (j + 1) in
+    let following = rows_after base pairs (j + 1) in
     let here = tree_words at part in
     let long = length-tree_words at part in
     let same : tree_words b (part_of pairs j) ≡ here =
     ap (λ k. tree_words k (part_of pairs j)) (sym e) ∙ ap (tree_words at) (sym i) in
-    ap (λ rows. sets old at (row_words rows)) (rows_behind-first base pairs j h)
-    ∙ ap (sets old at) (row_words-append (rows_from b (part_of pairs j)) behind)
-    ∙ ap (λ ws. sets old at (ws ++ row_words behind)) same
-    ∙ sets-append old at here (row_words behind)
-    ∙ ap (λ k. sets (sets old at here) k (row_words behind))
+    ap (λ rows. sets old at (row_words rows)) (rows_after-first base pairs j h)
+    ∙ ap (sets old at) (row_words-append (rows_from b (part_of pairs j)) following)
+    ∙ ap (λ ws. sets old at (ws ++ row_words following)) same
+    ∙ sets-append old at here (row_words following)
+    ∙ ap (λ k. sets (sets old at here) k (row_words following))
     (let end : at + length here ≡ next = omega arith in end)
-    ∙ ap (λ ws. sets ws next (row_words behind)) (sym set)
+    ∙ ap (λ ws. sets ws next (row_words following)) (sym set)
 
 -- after the last part none are set
 pub no_part_set : (words : List ℕ) (base at j : ℕ) (pairs : List Pair) → j ≡ degree (length pairs)
-    → sets words at (row_words (rows_behind base pairs j)) ≡ words
+    → sets words at (row_words (rows_after base pairs j)) ≡ words
 no_part_set words base at j pairs e =
     ap (λ rows. sets words at (row_words rows))
-    (ap (rows_behind base pairs) e ∙ rows_behind-last base pairs)
+    (ap (rows_after base pairs) e ∙ rows_after-last base pairs)
 
 -- of the slots and the words of the parts, the next part's are set
 pub slot_and_part_set : (old new : List ℕ) (base slot next_slot at next j x : ℕ)
@@ -227,41 +227,41 @@ pub slot_and_part_set : (old new : List ℕ) (base slot next_slot at next j x : 
     → part ≡ part_of pairs j → slot + (degree (length pairs) - j) ≤ at
     → x ≡ slot_word base pairs j → slot + 1 ≡ next_slot
     → new ≡ sets (set old slot x) at (tree_words at part) → at + ideal_words (length part) ≡ next
-    → sets (sets old slot (slots_behind base pairs j)) at (row_words (rows_behind base pairs j))
-    ≡ sets (sets new next_slot (slots_behind base pairs (j + 1))) next
-    (row_words (rows_behind base pairs (j + 1)))
+    → sets (sets old slot (slots_after base pairs j)) at (row_words (rows_after base pairs j))
+    ≡ sets (sets new next_slot (slots_after base pairs (j + 1))) next
+    (row_words (rows_after base pairs (j + 1)))
 slot_and_part_set old new base slot next_slot at next j x pairs part h e i room is n put m =
     let d = degree (length pairs) in
-    let more = slots_behind base pairs (j + 1) in
+    let more = slots_after base pairs (j + 1) in
     let here = tree_words at part in
     let one = set old slot x in
     let size = length-map-range_with_len (slot_word base pairs) (j + 1) (d - (j + 1)) in
-    ap (λ ws. sets ws at (row_words (rows_behind base pairs j)))
+    ap (λ ws. sets ws at (row_words (rows_after base pairs j)))
     (set_made (slot_word base pairs) old slot next_slot j d x h is n)
     ∙ part_set (sets one next_slot more) (sets (sets one next_slot more) at here) base at next j
     pairs part h e i refl m
-    ∙ ap (λ ws. sets ws next (row_words (rows_behind base pairs (j + 1))))
+    ∙ ap (λ ws. sets ws next (row_words (rows_after base pairs (j + 1))))
     (sym (sets-sets one next_slot at more here (omega arith))
     ∙ ap (λ ws. sets ws next_slot more) (sym put))
 
 -- after the last part neither slots nor words of parts are set
 pub none_set : (words : List ℕ) (base slot at j : ℕ) (pairs : List Pair)
     → j ≡ degree (length pairs)
-    → sets (sets words slot (slots_behind base pairs j)) at (row_words (rows_behind base pairs j))
+    → sets (sets words slot (slots_after base pairs j)) at (row_words (rows_after base pairs j))
     ≡ words
 none_set words base slot at j pairs e =
-    no_part_set (sets words slot (slots_behind base pairs j)) base at j pairs e
+    no_part_set (sets words slot (slots_after base pairs j)) base at j pairs e
     ∙ none_made (slot_word base pairs) words slot j (degree (length pairs)) e
 
 -- the words of at least two pairs: the top row's fields and keys, then its slots and the parts
 pub head_set : (old mid new : List ℕ) (base : ℕ) (pairs : List Pair) → 2 ≤ length pairs
     → mid ≡ row_head old base pairs
-    → new ≡ sets (sets mid (slot_base base (length pairs)) (slots_behind base pairs 0))
-    (part_base base (length pairs) 0) (row_words (rows_behind base pairs 0))
+    → new ≡ sets (sets mid (slot_base base (length pairs)) (slots_after base pairs 0))
+    (part_base base (length pairs) 0) (row_words (rows_after base pairs 0))
     → new ≡ sets old base (tree_words base pairs)
 head_set old mid new base pairs two e i =
     let n = length pairs in
-    let slots = sets mid (slot_base base n) (slots_behind base pairs 0) in
+    let slots = sets mid (slot_base base n) (slots_after base pairs 0) in
     let all : degree n - 0 ≡ degree n = omega arith in
     tree_set old slots new base pairs two
     (row_set old mid slots base (degree n) pairs two refl e
@@ -272,12 +272,12 @@ head_set old mid new base pairs two e i =
 -- at first all slots and all parts are still to be set
 pub all_left : (words : List ℕ) (base slot at : ℕ) (pairs : List Pair)
     → slot ≡ slot_base base (length pairs) → at ≡ part_base base (length pairs) 0
-    → sets (sets words slot (slots_behind base pairs 0)) at (row_words (rows_behind base pairs 0))
-    ≡ sets (sets words (slot_base base (length pairs)) (slots_behind base pairs 0))
-    (part_base base (length pairs) 0) (row_words (rows_behind base pairs 0))
+    → sets (sets words slot (slots_after base pairs 0)) at (row_words (rows_after base pairs 0))
+    ≡ sets (sets words (slot_base base (length pairs)) (slots_after base pairs 0))
+    (part_base base (length pairs) 0) (row_words (rows_after base pairs 0))
 all_left words base slot at pairs s e =
-    let slots = slots_behind base pairs 0 in
-    let rows = row_words (rows_behind base pairs 0) in
+    let slots = slots_after base pairs 0 in
+    let rows = row_words (rows_after base pairs 0) in
     ap (λ k. sets (sets words k slots) at rows) s
     ∙ ap (λ k. sets (sets words (slot_base base (length pairs)) slots) k rows) e
 
@@ -287,9 +287,9 @@ pub part_put : (old mid new : List ℕ) (base d j at next : ℕ) (pairs part : L
     → at ≡ part_base base (length pairs) j → part ≡ part_of pairs j
     → mid ≡ set old (base + 3 + d + j) (word_of (tree_at at part))
     → new ≡ sets mid at (tree_words at part) → next ≡ at + ideal_words (length part)
-    → sets (sets new (base + 3 + d + (j + 1)) (slots_behind base pairs (j + 1))) next
-    (row_words (rows_behind base pairs (j + 1)))
-    ≡ sets (sets old (base + 3 + d + j) (slots_behind base pairs j)) at (row_words (rows_behind base pairs j))
+    → sets (sets new (base + 3 + d + (j + 1)) (slots_after base pairs (j + 1))) next
+    (row_words (rows_after base pairs (j + 1)))
+    ≡ sets (sets old (base + 3 + d + j) (slots_after base pairs j)) at (row_words (rows_after base pairs j))
 part_put old mid new base d j at next pairs part e h row place is slot tree n =
     sym (slot_and_part_set old new base (base + 3 + d + j) (base + 3 + d + (j + 1)) at next j
     (word_of (tree_at at part)) pairs part h place is (omega arith)

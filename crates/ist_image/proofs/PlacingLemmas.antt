@@ -40,7 +40,7 @@ use Rattle.ist_core.specs.StartLayout.{
 }
 use Rattle.ist_core.proofs.RootLemmas.{least_degree-le}
 use Rattle.ist_core.proofs.PartLemmas.{part_len-pos, part_len-lt, part_start-suc, part_end-le}
-use Rattle.ist_image.specs.Placing.{part_of, words_before, part_base, rows_behind}
+use Rattle.ist_image.specs.Placing.{part_of, words_before, part_base, rows_after}
 use Rattle.ist_image.proofs.PlacingSizeLemmas.{words_before-suc}
 
 -- ---- parts by their indices
@@ -155,7 +155,7 @@ rows_enough (suc f) (suc g) base (pair ∷ more ∷ pairs) h k =
 
 -- the rows of at least two pairs: the top row, then the parts' rows
 pub rows_from-many : (base : ℕ) (pairs : List Pair) → 2 ≤ length pairs
-    → rows_from base pairs ≡ (base, top_row base pairs) ∷ rows_behind base pairs 0
+    → rows_from base pairs ≡ (base, top_row base pairs) ∷ rows_after base pairs 0
 unfolding rows_within
 rows_from-many base [] two = absurd (omega arith)
 rows_from-many base (pair ∷ []) two = absurd (omega arith)
@@ -176,32 +176,32 @@ rows_from-many base (pair ∷ more ∷ pairs) two =
     whole)
 
 -- the rows from one part on
-pub rows_behind-first : (base : ℕ) (pairs : List Pair) (j : ℕ) → j < degree (length pairs)
-    → rows_behind base pairs j ≡ rows_from (part_base base (length pairs) j) (part_of pairs j) ++
-    rows_behind base pairs (j + 1)
-rows_behind-first base pairs j h =
+pub rows_after-first : (base : ℕ) (pairs : List Pair) (j : ℕ) → j < degree (length pairs)
+    → rows_after base pairs j ≡ rows_from (part_base base (length pairs) j) (part_of pairs j) ++
+    rows_after base pairs (j + 1)
+rows_after-first base pairs j h =
     let left : degree (length pairs) - j ≡ suc (degree (length pairs) - (j + 1)) = omega arith in
     ap (λ k. flat_map (λ i. rows_from (part_base base (length pairs) i) (part_of pairs i))
     (range_with_len j k)) left
 
 -- there are no rows after the last part
-pub rows_behind-last : (base : ℕ) (pairs : List Pair)
-    → rows_behind base pairs (degree (length pairs)) ≡ []
-rows_behind-last base pairs =
+pub rows_after-last : (base : ℕ) (pairs : List Pair)
+    → rows_after base pairs (degree (length pairs)) ≡ []
+rows_after-last base pairs =
     let none : degree (length pairs) - degree (length pairs) ≡ 0 = omega arith in
     ap (λ k. flat_map (λ i. rows_from (part_base base (length pairs) i) (part_of pairs i))
     (range_with_len (degree (length pairs)) k)) none
 
 -- ---- first keys
 
-first_key : {A : Type 0} (key : A → ℕ) (len s : ℕ) (xs : List A) (behind : List (List A)) → 1 ≤ len
+first_key : {A : Type 0} (key : A → ℕ) (len s : ℕ) (xs : List A) (following : List (List A)) → 1 ≤ len
     → s < length xs
-    → first_keys key (take len (drop s xs) ∷ behind) ≡ get_or (map key xs) s 0 ∷ first_keys key
-    behind
-first_key key zero s xs behind one h = absurd (omega arith)
-first_key key (suc len) s [] behind one h = absurd (omega arith)
-first_key key (suc len) zero (x ∷ xs) behind one h = refl
-first_key key (suc len) (suc s) (x ∷ xs) behind one h = first_key key (suc len) s xs behind one
+    → first_keys key (take len (drop s xs) ∷ following) ≡ get_or (map key xs) s 0 ∷ first_keys key
+    following
+first_key key zero s xs following one h = absurd (omega arith)
+first_key key (suc len) s [] following one h = absurd (omega arith)
+first_key key (suc len) zero (x ∷ xs) following one h = refl
+first_key key (suc len) (suc s) (x ∷ xs) following one h = first_key key (suc len) s xs following one
     (omega arith)
 
 keys_by_index : {A : Type 0} (key : A → ℕ) (xs : List A) (j k : ℕ) → 2 ≤ length xs

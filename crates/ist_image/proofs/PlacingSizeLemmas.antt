@@ -45,7 +45,7 @@ part_base-last base n two = let whole = ideal_words_many n two in omega arith
 -- a tree that fits has few keys
 pub few_fit : (base n : ℕ) → FitsAt base n → n < 2 ^ 28
 few_fit base n fits =
-    let low = fits.behind_fixed in
+    let low = fits.after_fixed in
     let high = fits.below_limit in
     let words = ideal_words_is n in
     omega arith
@@ -54,14 +54,14 @@ few_fit base n fits =
 pub part_fits : (base n j : ℕ) → 2 ≤ n → j < degree n → FitsAt base n
     → FitsAt (part_base base n j) (part_len n j)
 part_fits base n j two h fits =
-    let low = fits.behind_fixed in
+    let low = fits.after_fixed in
     let high = fits.below_limit in
     let end = part_base-last base n two in
     let next = part_base-suc base n j in
     let last : j + 1 + (degree n - (j + 1)) ≡ degree n = omega arith in
     let most = words_before-le n (j + 1) (degree n - (j + 1)) in
     let same = ap (words_before n) last in
-    record { behind_fixed = omega arith; below_limit = omega arith }
+    record { after_fixed = omega arith; below_limit = omega arith }
 
 -- the base of a part is below the limit
 pub part_base_fits : (base n j : ℕ) → 2 ≤ n → j < degree n → FitsAt base n
@@ -103,7 +103,7 @@ pub opens_fit : (pairs : List Pair) (words : ℕ) → CanOpen pairs words
 opens_fit pairs words opens =
     let room = opens.room in
     let within = opens.within in
-    record { behind_fixed = omega arith; below_limit = omega arith }
+    record { after_fixed = omega arith; below_limit = omega arith }
 
 -- no pair is before the first part
 pub part_start-first : (n : ℕ) → part_start n 0 ≡ 0
@@ -149,7 +149,7 @@ part_lies base n m d j at len whole several same is less fits room place long =
     let count = is ∙ ap degree same in
     let below : j < degree n = omega arith in
     let high = part_base_fits base n j two below fits in
-    let low = fits.behind_fixed in
+    let low = fits.after_fixed in
     let ends = part_ends base n j two below in
     let size = ap ideal_words long in
     let next = part_base-suc base n j in

@@ -5,16 +5,16 @@ use Rattle.std.proofs.lemmas.List.Edits.{sets}
 use Rattle.ist_core.specs.declared.pairs.Pair.{Pair}
 use Rattle.ist_core.specs.Arithmetic.{degree, part_start}
 use Rattle.ist_core.specs.Parts.{parts, first_keys}
-use Rattle.ist_image.specs.Placing.{keys_behind}
+use Rattle.ist_image.specs.Placing.{keys_after}
 use Rattle.ist_image.proofs.PlacingLemmas.{keys_of_parts_are, key_at}
 use Rattle.ist_image.proofs.PlacingSizeLemmas.{start_within}
 use Rattle.ist_image.proofs.SettingLemmas.{set_made, none_made}
 
 -- at first all keys but the first part's are still to be written
 pub keys_left : (xs : List Pair) (words : List ℕ) (place : ℕ)
-    → sets words (place + 0) (keys_behind xs 1) ≡ sets words place (keys_behind xs 1)
+    → sets words (place + 0) (keys_after xs 1) ≡ sets words place (keys_after xs 1)
 keys_left xs words place =
-    ap (λ k. sets words k (keys_behind xs 1)) (let e : place + 0 ≡ place = omega arith in e)
+    ap (λ k. sets words k (keys_after xs 1)) (let e : place + 0 ≡ place = omega arith in e)
 
 module _ (xs : List Pair) (m d : ℕ) (several : 2 ≤ m) (same : m ≡ length xs) (is : d ≡ degree m) where
   -- the number of children
@@ -41,7 +41,7 @@ module _ (xs : List Pair) (m d : ℕ) (several : 2 ≤ m) (same : m ≡ length x
     -- its first key is written
     pub key_put : (words : List ℕ) (place : ℕ) (default : Pair)
         → sets (set words (place + (j - 1)) (get_or xs start default).key) (place + (j + 1 - 1))
-        (keys_behind xs (j + 1)) ≡ sets words (place + (j - 1)) (keys_behind xs j)
+        (keys_after xs (j + 1)) ≡ sets words (place + (j - 1)) (keys_after xs j)
     key_put words place default =
         let count = children in
         sym (set_made (λ i. get_or (map (λ pair. pair.key) xs) (part_start (length xs) i) 0) words
@@ -51,7 +51,7 @@ module _ (xs : List Pair) (m d : ℕ) (several : 2 ≤ m) (same : m ≡ length x
 
   -- after the last part all are written
   pub keys_put : (old words : List ℕ) (place j : ℕ) → j ≡ d
-      → sets words (place + (j - 1)) (keys_behind xs j) ≡ sets old place (keys_behind xs 1)
+      → sets words (place + (j - 1)) (keys_after xs j) ≡ sets old place (keys_after xs 1)
       → words ≡ sets old place (first_keys (λ pair. pair.key) (drop 1 (parts xs)))
   keys_put old words place j all left =
       sym (none_made (λ i. get_or (map (λ pair. pair.key) xs) (part_start (length xs) i) 0) words

@@ -35,20 +35,20 @@ abbrev pub part_base : ℕ → ℕ → ℕ → ℕ
 part_base base n j = base + inner_words (degree n) + words_before n j
 
 -- the rows of the trees of all parts from part j on, below an inner row at the base
-abbrev pub rows_behind : ℕ → List Pair → ℕ → List (ℕ × Piece)
-rows_behind base pairs j =
+abbrev pub rows_after : ℕ → List Pair → ℕ → List (ℕ × Piece)
+rows_after base pairs j =
     flat_map (λ i. rows_from (part_base base (length pairs) i) (part_of pairs i))
     (range_with_len j (degree (length pairs) - j))
 
 -- the first keys of all parts from part j on
-abbrev pub keys_behind : List Pair → ℕ → List ℕ
-keys_behind pairs j =
+abbrev pub keys_after : List Pair → ℕ → List ℕ
+keys_after pairs j =
     map (λ i. get_or (map (λ pair. pair.key) pairs) (part_start (length pairs) i) 0)
     (range_with_len j (degree (length pairs) - j))
 
 -- the words for the trees of all parts from part j on, below an inner row at the base
-abbrev pub slots_behind : ℕ → List Pair → ℕ → List ℕ
-slots_behind base pairs j =
+abbrev pub slots_after : ℕ → List Pair → ℕ → List ℕ
+slots_after base pairs j =
     map (λ i. word_of (tree_at (part_base base (length pairs) i) (part_of pairs i)))
     (range_with_len j (degree (length pairs) - j))
 
@@ -58,7 +58,7 @@ slot_base base n = base + 3 + degree n
 
 -- a tree of n keys fits into a table, from the base on
 pub record FitsAt (base n : ℕ) : Type 0 where
-  pub behind_fixed : first_row ≤ base
+  pub after_fixed : first_row ≤ base
   pub below_limit : base + ideal_words n ≤ place_limit
 
 -- ---- words

@@ -2,8 +2,8 @@
 ghost use Rattle.std.specs.Prelude.{◌≡◌, ◌+◌, ◌≤◌, ◌<◌, ◌^◌, length};
 ghost use Rattle.std.proofs.lemmas.List.Edits.{sets};
 ghost use Rattle.ist_core.specs.Shapes.{ideal_words};
-ghost use Rattle.ist_image.specs.Placing.{FitsAt, part_base, slot_base, slots_behind};
-ghost use Rattle.ist_image.specs.Placing.{rows_behind, row_words, tree_words};
+ghost use Rattle.ist_image.specs.Placing.{FitsAt, part_base, slot_base, slots_after};
+ghost use Rattle.ist_image.specs.Placing.{rows_after, row_words, tree_words};
 
 use crate::cuts::Cut;
 use crate::rows::{put_head, put_slot};
@@ -53,8 +53,8 @@ fn put_parts(words: &mut [u64], base: u64, pairs: &[Pair], cut: &Cut) -> u64
     requires fits { FitsAt base (length pairs.now) }
     requires room { base + ideal_words (length pairs.now) ≤ length words.old }
     ensures exact { words.new
-        ≡ sets (sets words.old (slot_base base (length pairs.now)) (slots_behind base pairs.now 0))
-        (part_base base (length pairs.now) 0) (row_words (rows_behind base pairs.now 0)) }
+        ≡ sets (sets words.old (slot_base base (length pairs.now)) (slots_after base pairs.now 0))
+        (part_base base (length pairs.now) 0) (row_words (rows_after base pairs.now 0)) }
     ensures end { result ≡ base + ideal_words (length pairs.now) }
 {
     let mut at = cut.first_base(base);

@@ -68,7 +68,7 @@ pub(crate) fn put_slot(words: &mut [u64], base: u64, cut: &Cut, j: u64, at: u64,
 /// Returns the word for the ideal tree of `count` pairs whose rows begin at `base`: the empty word for no
 /// pair, a leaf for one, and an inner row for several.
 pub fn tree_word(base: u64, count: u64) -> u64
-    requires behind_fixed { 4 ≤ base }
+    requires after_fixed { 4 ≤ base }
     requires below_limit { base < 2 ^ 28 }
     ensures value { (pairs : List APair) → length pairs ≡ count
         → result ≡ the_word (tree_at base pairs) }

@@ -46,18 +46,18 @@ next_up p q first pair r = next_listed p q first pair (all_up p first q (end_up 
 -- ---- downwards
 
 -- what is so where no pair was found yet
-pub record NoneRead (p m : PassFace) (from behind : ℕ) : Type 0 where
+pub record NoneRead (p m : PassFace) (from following : ℕ) : Type 0 where
   pub read : HasOnlyRead p m
-  pub under : from ≤ behind
-  pub none : HadNone p m from behind
+  pub under : from ≤ following
+  pub none : HadNone p m from following
 
 -- if keys were read downwards without finding a pair, each of them had no value at some position
-pub none_read : (p : PassFace) (behind : ℕ) (m : PassFace) (from : ℕ) (pairs : List Pair) → pairs ≡ []
-    → ReadsDown p behind m from pairs → NoneRead p m from behind
-none_read p behind _ _ pairs e none_down =
+pub none_read : (p : PassFace) (following : ℕ) (m : PassFace) (from : ℕ) (pairs : List Pair) → pairs ≡ []
+    → ReadsDown p following m from pairs → NoneRead p m from following
+none_read p following _ _ pairs e none_down =
     record { read = read_not p; under = omega arith; none = λ k low high. absurd (omega arith) }
-none_read p behind q first _ e (span_down {m = m} {from = from} {pairs = pairs} None r begins s) =
-    let h = none_read p behind m (from + 1) pairs e r in
+none_read p following q first _ e (span_down {m = m} {from = from} {pairs = pairs} None r begins s) =
+    let h = none_read p following m (from + 1) pairs e r in
     let under = h.under in
     let low = s.low in
     let high = s.high in
@@ -68,16 +68,16 @@ none_read p behind q first _ e (span_down {m = m} {from = from} {pairs = pairs} 
           (λ (l : k < from + 1). had_before p m q h.read k None (s.values k least l))
           (λ (l : from + 1 ≤ k). had_after p m q s.read k None (h.none k l most)) (cases_lt k (from + 1));
     }
-none_read p behind q first _ e (span_down {pairs = pairs} (Some x) r begins s) =
+none_read p following q first _ e (span_down {pairs = pairs} (Some x) r begins s) =
     let long = ap length e in
     absurd (omega arith)
 
 -- one span more, with the pair or with none
-pub next_down : (p m q : PassFace) (asked from behind : ℕ) (pair : Option Pair)
-    → ReadsDown p behind m from [] → HasReadSpan m q asked (end_down pair) from pair
-    → IsNextDown p q behind pair
-next_down p m q asked from behind (Some x) r s =
-    let h = none_read p behind m from [] refl r in
+pub next_down : (p m q : PassFace) (asked from following : ℕ) (pair : Option Pair)
+    → ReadsDown p following m from [] → HasReadSpan m q asked (end_down pair) from pair
+    → IsNextDown p q following pair
+next_down p m q asked from following (Some x) r s =
+    let h = none_read p following m from [] refl r in
     let under = h.under in
     let within = s.within.1 in (
       omega arith,
@@ -88,8 +88,8 @@ next_down p m q asked from behind (Some x) r s =
           (subst (Had m q k) (other_key x k (λ e. omega arith)) (s.values k (omega arith) l)))
           (λ (l : from ≤ k). had_after p m q s.read k None (h.none k l high)) (cases_lt k from)),
     )
-next_down p m q asked from behind None r s =
-    let h = none_read p behind m from [] refl r in
+next_down p m q asked from following None r s =
+    let h = none_read p following m from [] refl r in
     λ k low high. ⊎_elim (λ (l : k < from). had_before p m q h.read k None (s.values k low l))
     (λ (l : from ≤ k). had_after p m q s.read k None (h.none k l high)) (cases_lt k from)
 
@@ -142,50 +142,50 @@ module _ (p m q : PassFace) (key from to : ℕ) (o : Option Pair) (h : IsUpTo p 
       }
 
 -- a read found this as the next pair downwards, span after span
-pub record FoundDown (p q : PassFace) (behind : ℕ) (pair : Option Pair) : Type 0 where
+pub record FoundDown (p q : PassFace) (following : ℕ) (pair : Option Pair) : Type 0 where
   pub read : HasOnlyRead p q
-  pub next : IsNextDown p q behind pair
-  pub spans : ReadsDown p behind q (end_down pair) (one_of pair)
+  pub next : IsNextDown p q following pair
+  pub spans : ReadsDown p following q (end_down pair) (one_of pair)
 
 -- the keys below this one down to another were read, and none had a value
-pub record IsDownTo (p m : PassFace) (behind from : ℕ) : Type 0 where
+pub record IsDownTo (p m : PassFace) (following from : ℕ) : Type 0 where
   pub read : HasOnlyRead p m
-  pub reads : ReadsDown p behind m from []
-  pub begins : ReadsFrom m behind from
+  pub reads : ReadsDown p following m from []
+  pub begins : ReadsFrom m following from
 
 -- at first none was
-pub down_to_none : (p : PassFace) (behind : ℕ) → IsDownTo p p behind behind
-down_to_none p behind = record { read = read_not p; reads = none_down; begins = inl refl }
+pub down_to_none : (p : PassFace) (following : ℕ) → IsDownTo p p following following
+down_to_none p following = record { read = read_not p; reads = none_down; begins = inl refl }
 
-module _ (p m q : PassFace) (behind from to : ℕ) (o : Option Pair) (h : IsDownTo p m behind (from + 1))
+module _ (p m q : PassFace) (following from to : ℕ) (o : Option Pair) (h : IsDownTo p m following (from + 1))
     (s : HasReadSpan m q from to (from + 1) o) where
   lower : (pair : Option Pair) → HasReadSpan m q from (end_down pair) (from + 1) pair
-      → FoundDown p q behind pair
+      → FoundDown p q following pair
   lower pair r =
       record {
         read = read_more p m q h.read s.read;
-        next = next_down p m q from (from + 1) behind pair h.reads r;
-        spans = subst (ReadsDown p behind q (end_down pair)) (append-nil (one_of pair))
+        next = next_down p m q from (from + 1) following pair h.reads r;
+        spans = subst (ReadsDown p following q (end_down pair)) (append-nil (one_of pair))
             (span_down pair h.reads h.begins r);
       }
 
   -- one span more, down to its pair
-  pub found_down : (x : Pair) → o ≡ Some x → FoundDown p q behind (Some x)
+  pub found_down : (x : Pair) → o ≡ Some x → FoundDown p q following (Some x)
   found_down x is =
       lower (Some x) (down_to_pair m q from to (from + 1) x
       (subst (HasReadSpan m q from to (from + 1)) is s) refl)
 
   -- all of it, without a pair, down to 0
-  pub found_none_down : o ≡ None → to ≡ 0 → FoundDown p q behind None
+  pub found_none_down : o ≡ None → to ≡ 0 → FoundDown p q following None
   found_none_down is end =
       lower None (subst (λ n. HasReadSpan m q from n (from + 1) None) end
       (subst (HasReadSpan m q from to (from + 1)) is s))
 
   -- or down to where it goes on
-  pub down_to_on : o ≡ None → 0 < to → IsEdge (state_seen q) to → IsDownTo p q behind (to - 1 + 1)
+  pub down_to_on : o ≡ None → 0 < to → IsEdge (state_seen q) to → IsDownTo p q following (to - 1 + 1)
   down_to_on is some edge =
       let same : to ≡ to - 1 + 1 = omega arith in
-      subst (IsDownTo p q behind) same record {
+      subst (IsDownTo p q following) same record {
         read = read_more p m q h.read s.read;
         reads = span_down None h.reads h.begins (subst (HasReadSpan m q from to (from + 1)) is s);
         begins = inr edge;

@@ -80,15 +80,15 @@ rises_on pairs pair from low h rises =
 
 -- ---- what was read upwards
 
--- each key before `behind` had what the pairs give it, at a position of its own
-pub record Listed (p q : PassFace) (first behind : ℕ) (pairs : List Pair) : Type 0 where
+-- each key before `following` had what the pairs give it, at a position of its own
+pub record Listed (p q : PassFace) (first following : ℕ) (pairs : List Pair) : Type 0 where
   pub read : HasOnlyRead p q
-  pub above : first ≤ behind
+  pub above : first ≤ following
   pub rise : IsStrictlyIncreasing (map (λ (x : Pair). x.key) pairs)
-  pub low : Each (λ x. x.key < behind) pairs
+  pub low : Each (λ x. x.key < following) pairs
   pub within : Each (λ x. first ≤ x.key) pairs
   -- each key of the range had the value that the pairs give it, at a position of its own
-  pub values : (k : ℕ) → first ≤ k → k < behind → Had p q k (value_among pairs k)
+  pub values : (k : ℕ) → first ≤ k → k < following → Had p q k (value_among pairs k)
 
 -- no key yet
 listed_none : (p : PassFace) (first : ℕ) → Listed p p first first []
@@ -109,21 +109,21 @@ each_higher [] from to h e = tt
 each_higher (x ∷ pairs) from to h e = let less = e.0 in (omega arith, each_higher pairs from to h e.1)
 
 -- those of one span more
-module _ (p m q : PassFace) (first from behind : ℕ) (pairs : List Pair)
+module _ (p m q : PassFace) (first from following : ℕ) (pairs : List Pair)
     (h : Listed p m first from pairs) where
   before : HasOnlyRead m q → (k : ℕ) → first ≤ k → k < from → Had p q k (value_among pairs k)
   before r k low high = had_after p m q r k (value_among pairs k) (h.values k low high)
 
-  listed_on : (pair : Option Pair) → HasReadKeysOfSlot p m q from behind pair
-      → Listed p q first behind (pairs ++ one_of pair)
+  listed_on : (pair : Option Pair) → HasReadKeysOfSlot p m q from following pair
+      → Listed p q first following (pairs ++ one_of pair)
   listed_on None s =
       let above = h.above in
       let some = s.some in
-      subst (Listed p q first behind) (sym (append-nil pairs)) record {
+      subst (Listed p q first following) (sym (append-nil pairs)) record {
         read = read_more p m q h.read s.read;
         above = omega arith;
         rise = h.rise;
-        low = each_higher pairs from behind (omega arith) h.low;
+        low = each_higher pairs from following (omega arith) h.low;
         within = h.within;
         values = λ k least most. ⊎_elim (λ (l : k < from). before s.read k least l)
             (λ (l : from ≤ k). subst (Had p q k) (sym (among_none pairs from k h.low l))
@@ -139,8 +139,8 @@ module _ (p m q : PassFace) (first from behind : ℕ) (pairs : List Pair)
         read = read_more p m q h.read s.read;
         above = omega arith;
         rise = rises_on pairs x from h.low least h.rise;
-        low = each_append (λ (y : Pair). y.key < behind) pairs (x ∷ [])
-            (each_higher pairs from behind (omega arith) h.low) (most, tt);
+        low = each_append (λ (y : Pair). y.key < following) pairs (x ∷ [])
+            (each_higher pairs from following (omega arith) h.low) (most, tt);
         within = each_append (λ (y : Pair). first ≤ y.key) pairs (x ∷ []) h.within (omega arith, tt);
         values = λ k a b. ⊎_elim (λ (l : k < from).
             subst (Had p q k) (sym (among_old pairs x k (omega arith))) (before s.read k a l))
@@ -150,9 +150,9 @@ module _ (p m q : PassFace) (first from behind : ℕ) (pairs : List Pair)
       }
 
 -- the same keys at a later moment
-listed_later : (p m q : PassFace) (first behind : ℕ) (pairs : List Pair)
-    → Listed p m first behind pairs → HasOnlyRead m q → Listed p q first behind pairs
-listed_later p m q first behind pairs h r =
+listed_later : (p m q : PassFace) (first following : ℕ) (pairs : List Pair)
+    → Listed p m first following pairs → HasOnlyRead m q → Listed p q first following pairs
+listed_later p m q first following pairs h r =
     record {
       read = read_more p m q h.read r;
       above = h.above;
@@ -163,19 +163,19 @@ listed_later p m q first behind pairs h r =
     }
 
 -- those of all slots
-pub all_swept : (p : PassFace) (first : ℕ) (q : PassFace) (behind : ℕ) (pairs : List Pair)
-    → SweepsUp p first q behind pairs → Listed p q first behind pairs
+pub all_swept : (p : PassFace) (first : ℕ) (q : PassFace) (following : ℕ) (pairs : List Pair)
+    → SweepsUp p first q following pairs → Listed p q first following pairs
 all_swept p first _ _ _ none_up = listed_none p first
-all_swept p first q behind pairs (later_up {m = m} s r) =
-    listed_later p m q first behind pairs (all_swept p first m behind pairs s) r
-all_swept p first q behind _ (slot_up {m = m} {from = from} {pairs = pairs} pair s r) =
-    listed_on p m q first from behind pairs (all_swept p first m from pairs s) pair r
+all_swept p first q following pairs (later_up {m = m} s r) =
+    listed_later p m q first following pairs (all_swept p first m following pairs s) r
+all_swept p first q following _ (slot_up {m = m} {from = from} {pairs = pairs} pair s r) =
+    listed_on p m q first from following pairs (all_swept p first m from pairs s) pair r
 
 -- those of all spans
-pub all_up : (p : PassFace) (first : ℕ) (q : PassFace) (behind : ℕ) (pairs : List Pair)
-    → ReadsUp p first q behind pairs → Listed p q first behind pairs
-all_up p first q behind pairs r =
-    all_swept p first q behind pairs (slots_of p first q behind pairs r)
+pub all_up : (p : PassFace) (first : ℕ) (q : PassFace) (following : ℕ) (pairs : List Pair)
+    → ReadsUp p first q following pairs → Listed p q first following pairs
+all_up p first q following pairs r =
+    all_swept p first q following pairs (slots_of p first q following pairs r)
 
 -- the pairs lie between both ends
 each_both : (pairs : List Pair) (first last : ℕ) → Each (λ x. first ≤ x.key) pairs

@@ -85,15 +85,15 @@ module _ (p q : PassFace) (r : HasOnlyRead p q) (began : Log) (step : StepsIn p 
       }
 
   -- each slot was read between two of these moments
-  slots_at : (first above : ℕ) (at : Log) (behind row loads : ℕ) (pairs : List Pair)
-      → Swept p.tree.start p.tree.words first above began at behind row loads pairs
-      → SweepsUp p first (seeing at) behind pairs
+  slots_at : (first above : ℕ) (at : Log) (following row loads : ℕ) (pairs : List Pair)
+      → Swept p.tree.start p.tree.words first above began at following row loads pairs
+      → SweepsUp p first (seeing at) following pairs
   slots_at first above _ _ _ _ _ none_swept = later_up none_up to_step
-  slots_at first above _ behind row loads pairs (later_swept {at = at} {later = later} s g) =
-      later_up (slots_at first above at behind row loads pairs s) (to_later at later g)
-  slots_at first above at behind _ _ pairs (row_swept {row = row} {loads = loads} base r s e up way) =
-      slots_at first above at behind row loads pairs s
-  slots_at first above _ behind _ _ _ (slot_swept {at = at} {later = later} {low = low} {row = row} {loads = loads} {found = found} pair s begins o) =
+  slots_at first above _ following row loads pairs (later_swept {at = at} {later = later} s g) =
+      later_up (slots_at first above at following row loads pairs s) (to_later at later g)
+  slots_at first above at following _ _ pairs (row_swept {row = row} {loads = loads} base r s e up way) =
+      slots_at first above at following row loads pairs s
+  slots_at first above _ following _ _ _ (slot_swept {at = at} {later = later} {low = low} {row = row} {loads = loads} {found = found} pair s begins o) =
       let on = swept_on p.tree.start p.tree.words first above began at low row loads found s in
       slot_up pair (slots_at first above at low row loads found s) record {
         read = to_later at later o.on;
@@ -121,7 +121,7 @@ pub has_listed : (p q : PassFace) (first last : ℕ) (old new : List Pair) → o
     → HasSweptOver p q first last old new → HasListedLive p q first last new
 has_listed p q first last old new none h =
     record {
-      behind = last + 1;
+      following = last + 1;
       past = omega arith;
       began = h.began;
       step = λ some. h.step;
@@ -139,7 +139,7 @@ has_listed p q first last old new none h =
 pub none_listed : (p : PassFace) (first last : ℕ) → last < first → HasListedLive p p first last []
 none_listed p first last less =
     record {
-      behind = first;
+      following = first;
       past = less;
       began = p.seen;
       step = λ some. absurd (omega arith);

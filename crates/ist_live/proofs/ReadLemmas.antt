@@ -71,10 +71,10 @@ all_had p q first last pair h k low high =
     record { at = h.at; step = h.step; position = h.values k low high }
 
 -- a part of it up to its pair
-pub up_to_pair : (p q : PassFace) (asked from behind : ℕ) (x : Pair)
-    → HasReadSpan p q asked from behind (Some x) → from ≡ asked
+pub up_to_pair : (p q : PassFace) (asked from following : ℕ) (x : Pair)
+    → HasReadSpan p q asked from following (Some x) → from ≡ asked
     → HasReadSpan p q asked from (x.key + 1) (Some x)
-up_to_pair p q asked from behind x s is =
+up_to_pair p q asked from following x s is =
     let low = s.within.0 in
     let high = s.within.1 in
     record {
@@ -87,10 +87,10 @@ up_to_pair p q asked from behind x s is =
     }
 
 -- and down to it
-pub down_to_pair : (p q : PassFace) (asked from behind : ℕ) (x : Pair)
-    → HasReadSpan p q asked from behind (Some x) → behind ≡ asked + 1
-    → HasReadSpan p q asked x.key behind (Some x)
-down_to_pair p q asked from behind x s is =
+pub down_to_pair : (p q : PassFace) (asked from following : ℕ) (x : Pair)
+    → HasReadSpan p q asked from following (Some x) → following ≡ asked + 1
+    → HasReadSpan p q asked x.key following (Some x)
+down_to_pair p q asked from following x s is =
     let low = s.within.0 in
     let high = s.within.1 in
     record {

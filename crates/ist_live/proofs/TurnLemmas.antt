@@ -20,14 +20,14 @@ one_same (Some z) x y (inr a) b = absurd a
 one_same None x y a b = absurd a
 
 -- which was in the map at a position of its search
-span_had : (p m q : PassFace) (from behind : ℕ) (pair : Option Pair)
-    → HasReadKeysOfSlot p m q from behind pair → (x : Pair) → Among x (one_of pair)
+span_had : (p m q : PassFace) (from following : ℕ) (pair : Option Pair)
+    → HasReadKeysOfSlot p m q from following pair → (x : Pair) → Among x (one_of pair)
     → (from ≤ x.key) × HadSince m q x.key (Some x.value)
-span_had p m q from behind (Some y) s x (inl e) =
+span_had p m q from following (Some y) s x (inl e) =
     subst (λ z. (from ≤ z.key) × HadSince m q z.key (Some z.value)) (sym e)
     (s.within.0, subst (HadSince m q y.key) (own_key y) (s.since y.key s.within.0 s.within.1))
-span_had p m q from behind (Some y) s x (inr a) = absurd a
-span_had p m q from behind None s x a = absurd a
+span_had p m q from following (Some y) s x (inr a) = absurd a
+span_had p m q from following None s x a = absurd a
 
 -- both were in turn at a later moment too
 pub turn_later : (p m q : PassFace) (x y : Pair) → HasOnlyRead m q → HadInTurn p m x y → HadInTurn p q x y
@@ -42,25 +42,25 @@ turn_later p m q x y r t =
 
 module _ (p : PassFace) (first : ℕ) where
   -- each pair that was read was in the map at a position
-  pair_had : (q : PassFace) (behind : ℕ) (pairs : List Pair) → SweepsUp p first q behind pairs
+  pair_had : (q : PassFace) (following : ℕ) (pairs : List Pair) → SweepsUp p first q following pairs
       → (x : Pair) → Among x pairs → HadSince p q x.key (Some x.value)
   pair_had _ _ _ none_up x a = absurd a
-  pair_had q behind pairs (later_up {m = m} s r) x a =
-      since_after p m q r x.key (Some x.value) (pair_had m behind pairs s x a)
-  pair_had q behind _ (slot_up {m = m} {from = from} {pairs = pairs} pair r s) x a =
+  pair_had q following pairs (later_up {m = m} s r) x a =
+      since_after p m q r x.key (Some x.value) (pair_had m following pairs s x a)
+  pair_had q following _ (slot_up {m = m} {from = from} {pairs = pairs} pair r s) x a =
       ⊎_elim
       (λ b. since_after p m q s.read x.key (Some x.value) (pair_had m from pairs r x b))
       (λ b. since_before p m q (all_swept p first m from pairs r).read x.key (Some x.value)
-      (span_had p m q from behind pair s x b).1)
+      (span_had p m q from following pair s x b).1)
       (among-append x pairs (one_of pair) a)
 
   -- and the greater of two at no earlier one
-  pub in_turn : (q : PassFace) (behind : ℕ) (pairs : List Pair) → SweepsUp p first q behind pairs
+  pub in_turn : (q : PassFace) (following : ℕ) (pairs : List Pair) → SweepsUp p first q following pairs
       → (x y : Pair) → Among x pairs → Among y pairs → x.key < y.key → HadInTurn p q x y
   in_turn _ _ _ none_up x y a b less = absurd a
-  in_turn q behind pairs (later_up {m = m} s r) x y a b less =
-      turn_later p m q x y r (in_turn m behind pairs s x y a b less)
-  in_turn q behind _ (slot_up {m = m} {from = from} {pairs = pairs} pair r s) x y a b less =
+  in_turn q following pairs (later_up {m = m} s r) x y a b less =
+      turn_later p m q x y r (in_turn m following pairs s x y a b less)
+  in_turn q following _ (slot_up {m = m} {from = from} {pairs = pairs} pair r s) x y a b less =
       ⊎_elim
       (λ c. ⊎_elim (λ d. both_old (in_turn m from pairs r x y c d less)) (λ d. new_and_old c d) (among-append y pairs (one_of pair) b))
       (λ c. ⊎_elim (λ d. absurd (wrong_way c d))
@@ -78,12 +78,12 @@ module _ (p : PassFace) (first : ℕ) where
             before = (all_swept p first m from pairs r).read;
             after = s.read;
             one_had = pair_had m from pairs r x c;
-            other_had = (span_had p m q from behind pair s y d).1;
+            other_had = (span_had p m q from following pair s y d).1;
           }
 
       wrong_way : Among x (one_of pair) → Among y pairs → ⊥
       wrong_way c d =
-          let high = (span_had p m q from behind pair s x c).0 in
+          let high = (span_had p m q from following pair s x c).0 in
           let low = each-among (λ (z : Pair). z.key < from) y pairs
           (all_swept p first m from pairs r).low d in
           omega arith

@@ -11,11 +11,11 @@ IsNextUp p q key (Some pair) = (key ≤ pair.key) × Had p q pair.key (Some pair
     × HadNone p q key pair.key
 IsNextUp p q key None = HadNone p q key (2 ^ 64)
 
--- the same downwards, for the keys below `behind`
+-- the same downwards, for the keys below `following`
 abbrev pub IsNextDown : PassFace → PassFace → ℕ → Option Pair → Type 0
-IsNextDown p q behind (Some pair) = (pair.key < behind) × Had p q pair.key (Some pair.value)
-    × HadNone p q (pair.key + 1) behind
-IsNextDown p q behind None = HadNone p q 0 behind
+IsNextDown p q following (Some pair) = (pair.key < following) × Had p q pair.key (Some pair.value)
+    × HadNone p q (pair.key + 1) following
+IsNextDown p q following None = HadNone p q 0 following
 
 -- the first key that was not read by a search upwards for this pair
 abbrev pub end_up : Option Pair → ℕ

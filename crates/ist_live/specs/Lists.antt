@@ -26,8 +26,8 @@ pub record AreLive (p q : PassFace) (first last : ℕ) (pairs : List Pair) : Typ
 -- pairs give it at a position of its own, since a step of this call, and no earlier than the keys below it.
 -- It made few loads: one, and those that the sweep says
 pub record HasListedLive (p q : PassFace) (first last : ℕ) (pairs : List Pair) : Type 0 where
-  pub behind : ℕ
-  pub past : last < behind
+  pub following : ℕ
+  pub past : last < following
   pub began : Log
   pub step : first ≤ last → StepsIn p q began
   pub at : Log
@@ -35,7 +35,7 @@ pub record HasListedLive (p q : PassFace) (first last : ℕ) (pairs : List Pair)
   pub row : ℕ
   pub loads : ℕ
   pub few : q.loaded ≤ p.loaded + 1 + loads
-  pub swept : Swept p.tree.start p.tree.words first anchor began at behind row loads pairs
+  pub swept : Swept p.tree.start p.tree.words first anchor began at following row loads pairs
 
 -- there is a moment between both such that the first pair was in the map at a position before it, and the
 -- second at one after it

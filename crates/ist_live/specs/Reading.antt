@@ -27,20 +27,20 @@ pub record Had (p q : PassFace) (key : ℕ) (value : Option ℕ) : Type 0 where
   pub step : StepsIn p q at
   pub position : HasPosition p.tree.start p.tree.words at q.seen key value
 
--- each key from the first to before `behind` had none, at a position of its own
+-- each key from the first to before `following` had none, at a position of its own
 abbrev pub HadNone : PassFace → PassFace → ℕ → ℕ → Type 0
-HadNone p q first behind = (k : ℕ) → first ≤ k → k < behind → Had p q k None
+HadNone p q first following = (k : ℕ) → first ≤ k → k < following → Had p q k None
 
 -- ---- a span
 
--- by one search for the key that was asked for, the pass read all keys from the first to before `behind`:
+-- by one search for the key that was asked for, the pass read all keys from the first to before `following`:
 -- each had what the pair gives it at a position of its own
-pub record HasReadSpan (p q : PassFace) (asked first behind : ℕ) (pair : Option Pair) : Type 0 where
+pub record HasReadSpan (p q : PassFace) (asked first following : ℕ) (pair : Option Pair) : Type 0 where
   pub read : HasOnlyRead p q
   pub low : first ≤ asked
-  pub high : asked < behind
-  pub within : IfSome pair (λ x. (first ≤ x.key) × (x.key < behind))
-  pub values : (k : ℕ) → first ≤ k → k < behind → Had p q k (pair_value pair k)
+  pub high : asked < following
+  pub within : IfSome pair (λ x. (first ≤ x.key) × (x.key < following))
+  pub values : (k : ℕ) → first ≤ k → k < following → Had p q k (pair_value pair k)
   pub loads : HasLoadedFewOver p q asked (pair_value pair asked)
 
 -- a read begins at the key that its caller named, or at an edge of the tree
@@ -49,18 +49,18 @@ ReadsFrom p named key = (key ≡ named) ⊎ IsEdge (state_seen p) key
 
 -- ---- span after span
 
--- the pass read the keys from the first to before `behind` upwards, one span after another, and found
+-- the pass read the keys from the first to before `following` upwards, one span after another, and found
 -- these pairs. What a later span tells isn't older than what an earlier one told
 pub data ReadsUp (p : PassFace) (first : ℕ) : PassFace → ℕ → List Pair → Type 0 where
   none_up : ReadsUp p first p first []
-  span_up : {m q : PassFace} {from behind : ℕ} {pairs : List Pair} (pair : Option Pair)
+  span_up : {m q : PassFace} {from following : ℕ} {pairs : List Pair} (pair : Option Pair)
       → ReadsUp p first m from pairs → ReadsFrom m first from
-      → HasReadSpan m q from from behind pair → ReadsUp p first q behind (pairs ++ one_of pair)
+      → HasReadSpan m q from from following pair → ReadsUp p first q following (pairs ++ one_of pair)
 
--- the pass read the keys from `first` to before `behind` downwards, one span after another
-pub data ReadsDown (p : PassFace) (behind : ℕ) : PassFace → ℕ → List Pair → Type 0 where
-  none_down : ReadsDown p behind p behind []
+-- the pass read the keys from `first` to before `following` downwards, one span after another
+pub data ReadsDown (p : PassFace) (following : ℕ) : PassFace → ℕ → List Pair → Type 0 where
+  none_down : ReadsDown p following p following []
   span_down : {m q : PassFace} {from first : ℕ} {pairs : List Pair} (pair : Option Pair)
-      → ReadsDown p behind m (from + 1) pairs → ReadsFrom m behind (from + 1)
+      → ReadsDown p following m (from + 1) pairs → ReadsFrom m following (from + 1)
       → HasReadSpan m q from first (from + 1) pair
-      → ReadsDown p behind q first (one_of pair ++ pairs)
+      → ReadsDown p following q first (one_of pair ++ pairs)

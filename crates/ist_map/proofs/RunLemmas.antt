@@ -6,7 +6,7 @@ use Rattle.ist_core.specs.declared.ports.Full.{Full}
 use Rattle.ist_core.proofs.PrefixLemmas.{goes_on_more}
 use Rattle.ist_core.specs.Map.{map_of, pairs_of}
 use Rattle.ist_core.specs.Elements.{Each}
-use Rattle.ist_core.specs.Changes.{Entry, changes_of, map_behind}
+use Rattle.ist_core.specs.Changes.{Entry, changes_of, map_after_entries}
 use Rattle.ist_core.specs.Replies.{Answered}
 use Rattle.ist_core.specs.Resting.{told_by_call}
 use Rattle.laws_histories.specs.Telling.{map_now}
@@ -232,7 +232,7 @@ pub holds_first : (m : MakerFace) (closed : List ℕ) → ClosesWith m closed �
     → IsRising m.tree.start → HoldPairs closed m.tree.start
 holds_first m closed c none rising =
     subst (HoldPairs closed)
-    (ap (λ es. pairs_of (map_behind (map_of m.tree.start) es))
+    (ap (λ es. pairs_of (map_after_entries (map_of m.tree.start) es))
     (no_entries (changes_of m.tree.start (length closed) c.stands.log) m.made none c.owners)
     ∙ pairs_of-map_of m.tree.start rising)
     (hold_map closed m.tree.start (told_to m) c.stands)

@@ -3,7 +3,7 @@ use Rattle.std.proofs.Common.{◌≡◌, ◌≢◌, ℕ, Option, Some, None, opt
 use Rattle.ist_core.specs.declared.events.Event.{Event}
 use Rattle.ist_core.specs.References.{Empty, Unset, LeafAt, InnerAt, ChangeAt, RebuildAt, ref_of}
 use Rattle.ist_core.specs.Logs.{Passes}
-use Rattle.ist_core.specs.Marking.{HasTarget, as_child, behind_rebuild, IsFrozen, CountsFor, no_key, one_key}
+use Rattle.ist_core.specs.Marking.{HasTarget, as_child, after_rebuild, IsFrozen, CountsFor, no_key, one_key}
 use Rattle.ist_core.proofs.NamingLemmas.{SideNames, IsRebuildFor}
 use Rattle.ist_core.proofs.DrawLemmas.{same_rebuild}
 use Rattle.ist_rule.specs.declared.view.View.{View}
@@ -53,7 +53,7 @@ target_below v s node i word rebuild child p is t =
     let target = t.target_is in
     record {
       above = omega arith;
-      called = behind_rebuild node i word rebuild p is t;
+      called = after_rebuild node i word rebuild p is t;
       leads = to_target rebuild is t;
     }
 

@@ -64,11 +64,11 @@ module _ (pairs : List Pair) (words : ℕ) (opens : CanOpen pairs words) (log : 
   passed_once node i _ _ _ past_end past_end = refl
   passed_once node i _ _ _
       (one_passed {here = here} {rest = rest} {slots = slots} word p c more)
-      (one_passed {here = also} {rest = left} other q d behind) =
+      (one_passed {here = also} {rest = left} other q d following) =
       ap₂ (λ x y. x + y)
       (counts_once t (ref_of word) (ref_of other) here also c d
       (ap ref_of (passes_agree pairs words opens log h node i word other p q)))
-      (passed_once node (i + 1) rest left slots more behind)
+      (passed_once node (i + 1) rest left slots more following)
 
   -- ---- what was counted slot by slot
 
@@ -98,13 +98,13 @@ module _ (pairs : List Pair) (words : ℕ) (opens : CanOpen pairs words) (log : 
   counted_on node _ _ rest slots
       (one_slot_more {i = i} {k = k} {here = here} word a p c) inside more =
       let next : i + 1 ≡ suc i = omega arith in
-      let behind : ArePassed t log node (i + 1) (drop (suc i) slots) rest =
+      let following : ArePassed t log node (i + 1) (drop (suc i) slots) rest =
       subst (λ j. ArePassed t log node (i + 1) (drop j slots) rest) next more in
       subst (ArePassed t log node 0 slots) (sym (add_assoc k here rest))
       (counted_on node i k (here + rest) slots a (omega arith)
       (subst (λ xs. ArePassed t log node i xs (here + rest))
       (sym (drop-cons slots i 0 (omega arith)))
-      (one_passed {slot = get_or slots i 0} word p c behind)))
+      (one_passed {slot = get_or slots i 0} word p c following)))
 
   -- all slots that were counted were passed
   pub counted_all : (node k : ℕ) (slots : List ℕ) → AreCounted t log node (length slots) k

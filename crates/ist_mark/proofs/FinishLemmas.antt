@@ -38,12 +38,12 @@ use Rattle.ist_mark.proofs.MarkLemmas.{before_enabled, status_known}
 use Rattle.ist_mark.proofs.NodeLemmas.{closed_stays, closed_status}
 
 -- after a Finish the node is finished
-finished_behind : (t : Snapshot) (node keys : ℕ) (r : InnerRow) → t.pieces node ≡ Some (Inner r)
+finished_after : (t : Snapshot) (node keys : ℕ) (r : InnerRow) → t.pieces node ≡ Some (Inner r)
     → IsFinishedWith (record t {
       pieces =
           changed_at t.pieces node (with_status (finished_word keys));
     }) node keys
-finished_behind t node keys r e =
+finished_after t node keys r e =
     record {
       row = record r { status = finished_word keys };
       published = changed_at-same t.pieces node (with_status (finished_word keys))
@@ -83,7 +83,7 @@ module _ (v : View) (s : IsSound v) (node keys : ℕ) (m : MayFinish v node keys
       ⊎_elim
       (λ marked.
       finished_few v.start v.words s.lawful.opens (Finish m.number node keys ∷ v.log)
-      (s.lawful.enabled, can marked) node keys (finished_behind (now v) node keys m.row m.published))
+      (s.lawful.enabled, can marked) node keys (finished_after (now v) node keys m.row m.published))
       (λ f.
       subst (λ n. n ≤ place_limit) (same_number f.0 f.1)
       (finished_few v.start v.words s.lawful.opens v.log s.lawful.enabled node f.0
@@ -121,7 +121,7 @@ module _ (v : View) (s : IsSound v) (node keys : ℕ) (m : MayFinish v node keys
         m.published in (
           logged_went (Marks w node) v (Finish m.number node keys) w l the_node refl,
           subst (λ (x : View). IsFinishedWith (now x) node keys) (sym l.view)
-              (finished_behind b node keys on.0 on.1),
+              (finished_after b node keys on.0 on.1),
         )
 
     finish_miss : (found : ℕ) (w : View) → Looked v place found w → found ≢ marked_word

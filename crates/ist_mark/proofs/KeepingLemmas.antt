@@ -6,7 +6,7 @@ use Rattle.ist_core.specs.References.{ref_of}
 use Rattle.ist_core.specs.Pieces.{Inner}
 use Rattle.ist_core.specs.Growing.{InnerGrows}
 use Rattle.ist_core.specs.Logs.{Happened, Passes}
-use Rattle.ist_core.specs.Marking.{IsCalled, as_target, as_child, behind_rebuild}
+use Rattle.ist_core.specs.Marking.{IsCalled, as_target, as_child, after_rebuild}
 use Rattle.ist_core.proofs.GrowingLemmas.{inner_there}
 use Rattle.laws_links.proofs.FinishedLemmas.{target_grows}
 use Rattle.laws_links.proofs.FormLemmas.{started_grows}
@@ -60,8 +60,8 @@ module _ (P : Event → Type 0) (v w : View) (g : WentOn P v w) where
       (started_grows (now v) (now w) (went_grow P v w g) rebuild started)
   called_went node (as_child above i word p is) =
       as_child above i word (happened_went (Passes above i word) p) is
-  called_went node (behind_rebuild above i word rebuild p is t) =
-      behind_rebuild above i word rebuild (happened_went (Passes above i word) p) is
+  called_went node (after_rebuild above i word rebuild p is t) =
+      after_rebuild above i word rebuild (happened_went (Passes above i word) p) is
       (target_grows (now v) (now w) (went_grow P v w g) rebuild node t)
 
   -- a caller that may mark a node still may after it went on

@@ -11,13 +11,13 @@ use Rattle.ist_core.specs.Pieces.{Pieces, Inner, Rebuild}
 use Rattle.ist_core.specs.StartLayout.{start}
 use Rattle.ist_core.specs.Growing.{StatusGoesOn, status_stays, is_marked, is_finished, is_closed}
 use Rattle.ist_core.specs.Logs.{Log}
-use Rattle.ist_core.specs.Marking.{IsCalled, as_target, as_child, behind_rebuild, IsFrozen, CanPass}
+use Rattle.ist_core.specs.Marking.{IsCalled, as_target, as_child, after_rebuild, IsFrozen, CanPass}
 use Rattle.ist_core.specs.Lawful.{EachEnabled, CanOpen, state_of}
 use Rattle.ist_core.proofs.NamingLemmas.{InnerHere, SlotNames, SideNames, side_grows}
 use Rattle.ist_core.proofs.OrderLemmas.{names}
 use Rattle.ist_core.proofs.ReferenceLemmas.{word_of-ref_of}
 use Rattle.laws_links.proofs.ComesLemmas.{status_comes}
-use Rattle.laws_links.proofs.InductionLemmas.{grow_behind}
+use Rattle.laws_links.proofs.InductionLemmas.{grow_after}
 use Rattle.laws_links.proofs.OriginLemmas.{StatusComes, status_was, is_new, marked_now, finished_now}
 use Rattle.laws_links.proofs.PassLemmas.{passing}
 use Rattle.laws_links.proofs.QuietLemmas.{start_quiet}
@@ -84,11 +84,11 @@ module _ (pairs : List Pair) (words : ℕ) (opens : CanOpen pairs words) where
   frozen_names (event ∷ log) h node i word (inl now) =
       let can = passing (start pairs words) log event node i word h.1 now in
       side_grows (state_of pairs words log).pieces (state_of pairs words (event ∷ log)).pieces
-      (grow_behind pairs words log event h) node i (ref_of word)
+      (grow_after pairs words log event h) node i (ref_of word)
       (passes_side log h.0 can.0 node i word can.1)
   frozen_names (event ∷ log) h node i word (inr before) =
       side_grows (state_of pairs words log).pieces (state_of pairs words (event ∷ log)).pieces
-      (grow_behind pairs words log event h) node i (ref_of word)
+      (grow_after pairs words log event h) node i (ref_of word)
       (frozen_names log h.0 node i word before)
 
   -- the target of a rebuild is a published inner row above its parent
@@ -106,7 +106,7 @@ module _ (pairs : List Pair) (words : ℕ) (opens : CanOpen pairs words) where
   called_inner log h node (as_target rebuild t started) =
       subst (InnerHere (state_of pairs words log).pieces) t.target_is
       (target_inner log h rebuild t.row t.published).1
-  called_inner log h node (behind_rebuild above i word rebuild p is t) =
+  called_inner log h node (after_rebuild above i word rebuild p is t) =
       subst (InnerHere (state_of pairs words log).pieces) t.target_is
       (target_inner log h rebuild t.row t.published).1
   called_inner log h node (as_child above i word p is) =

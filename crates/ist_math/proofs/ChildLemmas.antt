@@ -83,7 +83,7 @@ child_count_is keys x at rises within above below =
     up_to (suc j) h =
         ap (λ k. child_count (take k keys) x) (sym (add-one j))
         ∙ (let so_far = up_to j (omega arith) in
-        ⊎_elim (before so_far) (behind so_far) (cases_lt j at))
+        ⊎_elim (before so_far) (following so_far) (cases_lt j at))
       where
         before : child_count (take j keys) x ≡ min j at → j < at
             → child_count (take (j + 1) keys) x ≡ min (suc j) at
@@ -95,9 +95,9 @@ child_count_is keys x at rises within above below =
             let yes = count_by_more_yes (λ key. nat_le key x) keys j 0 (omega arith) test in
             omega arith
 
-        behind : child_count (take j keys) x ≡ min j at → at ≤ j
+        following : child_count (take j keys) x ≡ min j at → at ≤ j
             → child_count (take (j + 1) keys) x ≡ min (suc j) at
-        behind so_far y =
+        following so_far y =
             let rest = keys_rise keys at j rises y (omega arith) in
             let first = above (omega arith) in
             let high : x < get_or keys j 0 = omega arith in
@@ -136,7 +136,7 @@ module _ (keys : List ℕ) (rises : IsStrictlyIncreasing keys) (x i : ℕ) (is :
     pub key_after_child : i < length keys → x < get_or keys i 0
     key_after_child more =
         let k = get_or keys i 0 in
-        let behind : child_count keys k ≡ i + 1 = child_count_is keys k (i + 1) rises
+        let following : child_count keys k ≡ i + 1 = child_count_is keys k (i + 1) rises
         (omega arith) (λ l. rises i l)
         (λ some. let n : i + 1 - 1 ≡ i = omega arith in subst (λ m. get_or keys m 0 ≤ k) (sym n)
         (omega arith)) in

@@ -71,7 +71,7 @@ impl Gallop {
         requires between { self.now.low + 1 < self.now.high }
         requires steps { 1 ≤ self.now.step }
         ensures value { result ≡ probe_of self.now }
-        ensures behind_low { self.now.low < result }
+        ensures after_low { self.now.low < result }
         ensures before_high { result < self.now.high }
     {
         let width = self.high - self.low;

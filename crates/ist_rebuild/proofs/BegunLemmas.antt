@@ -21,7 +21,7 @@ use Rattle.ist_rebuild.specs.declared.answers.Started.TheVariants.{Yes, Other, M
 use Rattle.ist_rebuild.specs.Going.{Begins, StartsAt}
 use Rattle.ist_rebuild.specs.Starting.{StartsDoneSince, StartsNone, StoodInstead}
 use Rattle.ist_rebuild.specs.StartSteps.{HasBegun, HasReserved, IsStartReady, TellsStart, start_filling}
-use Rattle.ist_rebuild.proofs.StartAnswerLemmas.{behind_done, behind_uninstalled, behind_unstarted, has_put, no_closed, no_done, no_start, put_aims, put_begins, same_answer, same_word, yes_done, yes_started}
+use Rattle.ist_rebuild.proofs.StartAnswerLemmas.{after_done, after_uninstalled, after_unstarted, has_put, no_closed, no_done, no_start, put_aims, put_begins, same_answer, same_word, yes_done, yes_started}
 use Rattle.ist_rebuild.proofs.StartGoingLemmas.{HasPutIn, aims_reserving, begins_reserving}
 use Rattle.ist_rebuild.proofs.StartOwnLemmas.{starts_none_reserving, starts_reserving}
 use Rattle.ist_rebuild.proofs.StartPutLemmas.{put_caller, put_quiet, put_refused, start_bases}
@@ -114,19 +114,19 @@ module _ (old new : Caller) (c : IsCaller old) (q : IsQuiet old) (r : HasReserve
       }
 
   -- what a start tells that follows them
-  pub told_behind : (last : Caller) (answer : Result Started Full)
+  pub told_after : (last : Caller) (answer : Result Started Full)
       → TellsStart new last parent index target answer
       → TellsStart old last parent index target answer
-  told_behind last answer t =
+  told_after last answer t =
       record {
         yes = t.yes;
         other = t.other;
         marked = t.marked;
-        done = behind_done old.token.view new.token.view last.token.view g old.number new.number
+        done = after_done old.token.view new.token.view last.token.view g old.number new.number
             c.mine q.resolved r.number answer t.done;
-        unstarted = behind_unstarted old.token.view new.token.view last.token.view g old.number
+        unstarted = after_unstarted old.token.view new.token.view last.token.view g old.number
             new.number c.mine q.resolved r.number answer t.unstarted;
-        uninstalled = behind_uninstalled old.token.view new.token.view last.token.view g answer
+        uninstalled = after_uninstalled old.token.view new.token.view last.token.view g answer
             t.uninstalled;
       }
 

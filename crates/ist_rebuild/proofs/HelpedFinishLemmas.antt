@@ -31,7 +31,7 @@ use Rattle.ist_rows.specs.CallerLaws.{KeepsRows}
 use Rattle.ist_rows.specs.Rows.{IsCaller}
 use Rattle.ist_rows.proofs.CallerGoingLemmas.{caller_goes_on}
 use Rattle.ist_rows.proofs.CallerLawLemmas.{caller_made, caller_went, logged_made, refused_made, refused_went}
-use Rattle.ist_rows.proofs.HeldBehindLemmas.{own_number}
+use Rattle.ist_rows.proofs.HeldAfterLemmas.{own_number}
 use Rattle.ist_dcss.specs.Helping.{Serves as HelpsWith, IsDecided, IsOut, MayHelp, WasClosed}
 use Rattle.ist_dcss.specs.Installing.{IsInstalled, IsOther, rows_of}
 use Rattle.ist_dcss.proofs.HelperLemmas.{serves_keep, went_row}
@@ -47,10 +47,10 @@ use Rattle.ist_rebuild.proofs.EventLemmas.{change_serves}
 use Rattle.ist_rebuild.proofs.SiteLemmas.{rebuild_good}
 
 -- a change that was put among the rows is there, also after a write of a slot
-there_behind : (ps : Pieces) (base node i word : ℕ) (r : ChangeRow)
+there_after : (ps : Pieces) (base node i word : ℕ) (r : ChangeRow)
     → changed_at (with_row ps base (Some (Change r))) node (with_slot i word) base
     ≡ Some (Change r)
-there_behind ps base node i word r = at (base == node)
+there_after ps base node i word r = at (base == node)
   where
     here : with_row ps base (Some (Change r)) base ≡ Some (Change r)
     here = ap (λ b. if b then Some (Change r) else ps base) (own_number base)
@@ -84,8 +84,8 @@ module _ (who : Caller) (plan : PlannedFinish) (change : ℕ) (ready : IsReady w
   abbrev before : Caller
   before = record who { token = record who.token { view = i.before } }
 
-  abbrev behind : Caller
-  behind = record who { token = token; change = None }
+  abbrev following : Caller
+  following = record who { token = token; change = None }
 
   number_is : i.number ≡ who.number
   number_is = ap number_of (sym i.mine ∙ ready.caller.mine)
@@ -110,15 +110,15 @@ module _ (who : Caller) (plan : PlannedFinish) (change : ℕ) (ready : IsReady w
       let published : (now token.view).pieces change
       ≡ Some (Change (filling_at who.token.view change).change) =
       ap (λ t. t.pieces change) (ap now i.logged.view)
-      ∙ there_behind (state_of i.before.start i.before.words i.logged.before).pieces change
+      ∙ there_after (state_of i.before.start i.before.words i.logged.before).pieces change
       (filling_at who.token.view change).change.node (filling_at who.token.view change).change.index
       (word_of (ChangeAt change)) (filling_at who.token.view change).change in
       let there = published ∙ ap (λ r. Some (Change r)) p.is in
       record {
-        caller = caller_made before behind (ChangeKind ∷ []) event (change ∷ []) caller_before
+        caller = caller_made before following (ChangeKind ∷ []) event (change ∷ []) caller_before
             i.logged.before made (ap CallerOf number_is) refl (p.row, tt)
             record { number = refl; rows = refl };
-        refused = refused_made before behind (ChangeKind ∷ []) event (change ∷ []) caller_before
+        refused = refused_made before following (ChangeKind ∷ []) event (change ∷ []) caller_before
             i.logged.before made (ap CallerOf number_is) refl (p.row, tt)
             record { number = refl; rows = refl } refused_before;
         went = went_more ServesRebuild who.token.view i.before token.view
@@ -146,9 +146,9 @@ module _ (who : Caller) (plan : PlannedFinish) (change : ℕ) (ready : IsReady w
         record {
           on = record {
             gone = record {
-              caller = caller_went behind last h.caller kept;
+              caller = caller_went following last h.caller kept;
               number = refl;
-              refused = refused_went behind last h.caller h.refused kept;
+              refused = refused_went following last h.caller h.refused kept;
               went = went_more ServesRebuild who.token.view token.view last.view h.went
                   (went_all (HelpsWith change) ServesRebuild (change_serves change) token.view last.view g);
             };

@@ -161,9 +161,9 @@ module _ (who : Caller) (parent index target rebuild change : ℕ) (f : Filling)
 -- ---- refusals
 
 -- a refusal after reservings
-pub refused_behind : (u v w : View) (words : ℕ) (full : Full) → WentOn IsReservation u v
+pub refused_after : (u v w : View) (words : ℕ) (full : Full) → WentOn IsReservation u v
     → IsStartRefused v words full w → IsStartRefused u words full w
-refused_behind u v w words full g r =
+refused_after u v w words full g r =
     record {
       short = short_from (WentOn Begins) (WentOn Begins) u v
           (λ x. went_more Begins u v x (went_all IsReservation Begins begins_reserving u v g)) words full
@@ -172,11 +172,11 @@ refused_behind u v w words full g r =
     }
 
 -- what a start leaves done, after reservings
-pub behind_done : (v u w : View) → WentOn IsReservation v u → (number same : ℕ)
+pub after_done : (v u w : View) → WentOn IsReservation v u → (number same : ℕ)
     → v.who ≡ CallerOf number → IsResolved v number → same ≡ number → (answer : Result Started Full)
     → ((first : Snapshot) → StartsDoneSince first (now u) same → LeavesDone first (now w) same answer)
     → (first : Snapshot) → StartsDoneSince first (now v) number → LeavesDone first (now w) number answer
-behind_done v u w g number same mine resolved is answer leaves first done =
+after_done v u w g number same mine resolved is answer leaves first done =
     subst (λ n. LeavesDone first (now w) n answer) is
     (leaves first (subst (StartsDoneSince first (now u)) (sym is)
     (starts_reserving v u g number mine resolved first done)))
@@ -184,19 +184,19 @@ behind_done v u w g number same mine resolved is answer leaves first done =
 -- ---- what is left undone
 
 -- after reservings nothing more was installed
-pub behind_uninstalled : (v u w : View) → WentOn IsReservation v u → (answer : Result Started Full)
+pub after_uninstalled : (v u w : View) → WentOn IsReservation v u → (answer : Result Started Full)
     → LeavesUninstalled u w answer → LeavesUninstalled v w answer
-behind_uninstalled v u w g (Ok (Yes rebuild)) left = tt
-behind_uninstalled v u w g (Ok (Other word)) left = went_more IsReservation v u w g left
-behind_uninstalled v u w g (Ok Marked) left = tt
-behind_uninstalled v u w g (Err full) left = went_more IsReservation v u w g left
+after_uninstalled v u w g (Ok (Yes rebuild)) left = tt
+after_uninstalled v u w g (Ok (Other word)) left = went_more IsReservation v u w g left
+after_uninstalled v u w g (Ok Marked) left = tt
+after_uninstalled v u w g (Err full) left = went_more IsReservation v u w g left
 
 -- what was not started after reservings was not started from the beginning
-pub behind_unstarted : (v u w : View) → WentOn IsReservation v u → (number same : ℕ)
+pub after_unstarted : (v u w : View) → WentOn IsReservation v u → (number same : ℕ)
     → v.who ≡ CallerOf number → IsResolved v number → same ≡ number
     → (answer : Result Started Full) → LeavesUnstarted (now u) (now w) same answer
     → LeavesUnstarted (now v) (now w) number answer
-behind_unstarted v u w g number same mine resolved is answer left =
+after_unstarted v u w g number same mine resolved is answer left =
     at answer (subst (λ n. LeavesUnstarted (now u) (now w) n answer) is left)
   where
     both : StartsNone (now u) (now w) number → StartsNone (now v) (now w) number

@@ -28,13 +28,13 @@ pub held_good : (v : View) → IsSound v → (h : HeldRow) → Among h (now v).h
 held_good v s h i =
     let claim = claimed_within v.start v.words v.log h.base h.size s.lawful.enabled
     ((placed v.start v.words v.log s.lawful.enabled).held h i) in
-    let low = claim.behind_fixed in
+    let low = claim.after_fixed in
     let some = claim.some in
     let high = claim.below_next in
     let next = next_within v.start v.words s.lawful.opens v.log s.lawful.enabled in
     let all = words_same v.start v.words s.lawful.opens v.log in
     let small = s.lawful.opens.within in
-    record { behind_fixed = low; below_limit = omega arith }
+    record { after_fixed = low; below_limit = omega arith }
 
 -- two held rows of different sizes share no word
 pub held_apart : (v : View) → IsSound v → (g h : HeldRow) → Among g (now v).held

@@ -66,13 +66,13 @@ pub target_good : (v : View) → IsSound v → (parent index target : ℕ)
 target_good v s parent index target m =
     let claim = claimed_within v.start v.words v.log target _ s.lawful.enabled
     ((placed v.start v.words v.log s.lawful.enabled).published target (Inner m.row) m.published) in
-    let low = claim.behind_fixed in
+    let low = claim.after_fixed in
     let some = claim.some in
     let high = claim.below_next in
     let next = next_within v.start v.words s.lawful.opens v.log s.lawful.enabled in
     let all = words_same v.start v.words s.lawful.opens v.log in
     let small = s.lawful.opens.within in
-    record { behind_fixed = low; below_limit = omega arith }
+    record { after_fixed = low; below_limit = omega arith }
 
 -- ---- what stays while the caller reserves
 

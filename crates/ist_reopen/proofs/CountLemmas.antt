@@ -5,7 +5,7 @@ use Rattle.std.proofs.lemmas.Bool.Decides.{nat_tests}
 use Rattle.ist_core.specs.declared.calls.Call.{Call}
 use Rattle.ist_core.specs.Elements.{Each}
 use Rattle.ist_core.specs.Changes.{Entry}
-use Rattle.ist_core.specs.Standing.{is_change, entry_by, entries_by, position_behind, Follows, AllFollow}
+use Rattle.ist_core.specs.Standing.{is_change, entry_by, entries_by, position_after, Follows, AllFollow}
 
 module _ (number : ℕ) where
   -- the call is the entry at its position, where the entries begin at this position
@@ -135,7 +135,7 @@ module _ (number : ℕ) where
           → Climbs (filter is_change (call ∷ calls))
       at rest false e = rw e rest
       at rest true e =
-          let past : position_behind call ≡ call.position + 1 = rw e refl in
+          let past : position_after call ≡ call.position + 1 = rw e refl in
           rw e (
             each_map (Follows call) (λ other. call.position + 1 ≤ other.position)
                 (λ other k. let low = k.position in omega arith) (filter is_change calls)

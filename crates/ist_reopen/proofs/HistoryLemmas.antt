@@ -3,7 +3,7 @@ use Rattle.std.proofs.Common.{◌≡◌, ℕ, ◌+◌, false, List, [], ◌∷�
 use Rattle.std.proofs.lemmas.List.{map-append}
 use Rattle.ist_core.specs.Map.{Map, map_after, replay}
 use Rattle.ist_core.specs.Elements.{Among, Each}
-use Rattle.ist_core.specs.Changes.{Entry, map_behind}
+use Rattle.ist_core.specs.Changes.{Entry, map_after_entries}
 use Rattle.ist_core.specs.Standing.{is_change}
 use Rattle.ist_core.specs.Histories.{PassCalls, Reading, readings, in_order, at_position, told_by_entry, told_by_reading, woven_from, woven, IsLegal}
 use Rattle.ist_core.specs.Replies.{Answered}
@@ -55,7 +55,7 @@ plain_at position (x ∷ xs) h =
 -- a legal history from a position on leads where the changes from there on lead
 leads_from : (position : ℕ) (entries : List Entry) (xs : List Reading) (m : Map) → Each Plain xs
     → IsLegal m (woven_from position entries xs)
-    → map_told m (woven_from position entries xs) ≡ map_behind m entries
+    → map_told m (woven_from position entries xs) ≡ map_after_entries m entries
 leads_from position [] xs m plain legal =
     (readings_stay m (at_position position xs) [] (plain_at position xs plain)
     (subst (IsLegal m) (sym (append_none (map told_by_reading (at_position position xs)))) legal)).leaves
@@ -82,7 +82,7 @@ each_of P (x ∷ xs) h = (h x (inl refl), each_of P xs (λ y i. h y (inr i)))
 -- a legal woven history leads where its changes lead
 pub woven_leads : (m : Map) (entries : List Entry) (passes : List PassCalls)
     → IsLegal m (woven entries passes)
-    → map_told m (woven entries passes) ≡ map_behind m entries
+    → map_told m (woven entries passes) ≡ map_after_entries m entries
 woven_leads m entries passes legal =
     leads_from 0 entries (in_order (readings passes)) m
     (each_of Plain (in_order (readings passes))

@@ -54,7 +54,7 @@ module _ (number : ℕ) where
       ∙ ap (map told_by_reading)
       (h.reads first (omega arith)
       ∙ ap (λ cs. map (read_by number) (reads_at number first cs)) s.is
-      ∙ ap (map (read_by number)) (here_reads number first s.here s.rest s.reads s.behind))
+      ∙ ap (map (read_by number)) (here_reads number first s.here s.rest s.reads s.following))
       ∙ told_read s.here
 
   -- no entries
@@ -121,7 +121,7 @@ module _ (number : ℕ) where
   }
 
   -- what the pass was told after the readings at the first position
-  behind_told : (first : ℕ) (entry : Entry) (entries : List Entry) (xs : List Reading)
+  after_told : (first : ℕ) (entry : Entry) (entries : List Entry) (xs : List Reading)
       (here rest : List Call) → ArePlacedAmong first (entry ∷ entries) xs (here ++ rest)
       → Each (λ call. (is_change call ≡ false) × (call.position ≡ first)) here
       → Rest number first rest
@@ -129,7 +129,7 @@ module _ (number : ℕ) where
       → told_to_pass number (owned_from (first + 1) entries xs) ≡ map told_by_call calls)
       → told_to_pass number (own_entry entry ∷ owned_from (first + 1) entries xs)
       ≡ map told_by_call rest
-  behind_told first entry entries xs here rest h reads (later low) more =
+  after_told first entry entries xs here rest h reads (later low) more =
       at (entry.owner == number) refl
     where
       exactly : entries_by number (entry ∷ entries) ≡ map (entry_by number) (filter is_change rest)
@@ -161,7 +161,7 @@ module _ (number : ℕ) where
           = rw e at exactly in
           rw e (more rest (laid_later first entry entries xs here rest h reads rest order low high made
           all (λ position. refl)))
-  behind_told first entry entries xs here _ h reads (changes {calls = calls} call e same low) more =
+  after_told first entry entries xs here _ h reads (changes {calls = calls} call e same low) more =
       rw owner (ap (λ ts. told_by_entry entry ∷ ts)
       (more calls (laid_later first entry entries xs here (call ∷ calls) h reads calls
       (order_back here (call ∷ calls) h.order).1 low high.1 made.1 (entry_tail _ _ _ _ all)
@@ -210,7 +210,7 @@ module _ (number : ℕ) where
       let made = each_back (λ call. is_change call ≡ true → MadeAt number first [] call) s.here
       s.rest (subst (Each (λ call. is_change call ≡ true → MadeAt number first [] call)) s.is h.made)
       in
-      let none = nothing_left first s.rest s.behind high made in
+      let none = nothing_left first s.rest s.following high made in
       here_told first [] xs calls h s
       ∙ ap (map told_by_call) (sym (s.is ∙ ap (λ cs. s.here ++ cs) none ∙ append-nil s.here))
   laid first (entry ∷ entries) xs calls h =
@@ -219,8 +219,8 @@ module _ (number : ℕ) where
       told_to-append number (map own_reading (at_position first xs)) tail
       ∙ ap (λ ts. ts ++ told_to_pass number tail) (here_told first (entry ∷ entries) xs calls h s)
       ∙ ap (λ ts. map told_by_call s.here ++ ts)
-      (behind_told first entry entries xs s.here s.rest
-      (subst (ArePlacedAmong first (entry ∷ entries) xs) s.is h) s.reads s.behind
+      (after_told first entry entries xs s.here s.rest
+      (subst (ArePlacedAmong first (entry ∷ entries) xs) s.is h) s.reads s.following
       (λ cs k. laid (first + 1) entries xs cs k))
       ∙ sym (map-append told_by_call s.here s.rest)
       ∙ ap (map told_by_call) (sym s.is)

@@ -4,7 +4,7 @@ use Rattle.std.proofs.Common.{◌≡◌, ◌≢◌, ◌⊎◌, ℕ, ◌+◌, ◌
 use Rattle.std.proofs.lemmas.Bool.Decides.{nat_tests, eqb_tells}
 use Rattle.ist_core.specs.declared.calls.Call.{Call}
 use Rattle.ist_core.specs.Elements.{Each}
-use Rattle.ist_core.specs.Standing.{is_change, position_behind, Follows, AllFollow}
+use Rattle.ist_core.specs.Standing.{is_change, position_after, Follows, AllFollow}
 use Rattle.ist_core.specs.Histories.{Reading}
 
 module _ (number : ℕ) where
@@ -33,10 +33,10 @@ module _ (number : ℕ) where
     pub rest : List Call
     pub is : calls ≡ here ++ rest
     pub reads : Each (λ call. (is_change call ≡ false) × (call.position ≡ position)) here
-    pub behind : Rest position rest
+    pub following : Rest position rest
 
   -- calls that follow one that is at a position or later, or past a change there, are later
-  all_later : (position : ℕ) (call : Call) → position + 1 ≤ position_behind call
+  all_later : (position : ℕ) (call : Call) → position + 1 ≤ position_after call
       → (calls : List Call) → Each (Follows call) calls
       → Each (λ other. position + 1 ≤ other.position) calls
   all_later position call low [] h = tt
@@ -47,7 +47,7 @@ module _ (number : ℕ) where
   pub splits : (position : ℕ) (calls : List Call) → AllFollow calls
       → Each (λ call. position ≤ call.position) calls → Splits position calls
   splits position [] order low =
-      record { here = []; rest = []; is = refl; reads = tt; behind = later tt }
+      record { here = []; rest = []; is = refl; reads = tt; following = later tt }
   splits position (call ∷ calls) order low =
       at (splits position calls order.1 low.1) (eqb_tells call.position position) (is_change call) refl
     where
@@ -60,21 +60,21 @@ module _ (number : ℕ) where
         rest = s.rest;
         is = ap (λ cs. call ∷ cs) s.is;
         reads = ((f, e.1), s.reads);
-        behind = s.behind;
+        following = s.following;
       }
       at s (inl e) true f = record {
         here = [];
         rest = call ∷ calls;
         is = refl;
         reads = tt;
-        behind = changes call f e.1
+        following = changes call f e.1
             (all_later position call
             (let is = e.1 in rw f (omega arith)) calls order.0);
       }
       at s (inr e) v f =
           let above : position + 1 ≤ call.position
           = (let l = low.0 in let n = e.1 in grind arith) in
-          let past : call.position ≤ position_behind call
+          let past : call.position ≤ position_after call
           = elim (is_change call) as (λ b. call.position ≤ (if b then call.position + 1 else call.position)) [
             | true ↦ omega arith
             | false ↦ omega arith
@@ -84,7 +84,7 @@ module _ (number : ℕ) where
             rest = call ∷ calls;
             is = refl;
             reads = tt;
-            behind = later (above, all_later position call (omega arith) calls order.0);
+            following = later (above, all_later position call (omega arith) calls order.0);
           }
 
   -- ---- the changes and the readings among the calls

@@ -82,8 +82,8 @@ module _ (a b : List ℕ) (h : AreAlike a b) where
   decision_same (Some (RebuildAt base)) d = tt
 
   within_same : (span : Span) → IsWithinUsed a span → IsWithinUsed b span
-  within_same span w = let e = h.same next_place in let x = w.behind_fixed in let y =
-      w.below_next in record { behind_fixed = omega arith; below_next = omega arith }
+  within_same span w = let e = h.same next_place in let x = w.after_fixed in let y =
+      w.below_next in record { after_fixed = omega arith; below_next = omega arith }
 
   all_within : (spans : List Span) → Each (IsWithinUsed a) spans → Each (IsWithinUsed b) spans
   all_within [] w = tt
@@ -125,10 +125,10 @@ module _ (a b : List ℕ) (h : AreAlike a b) where
       let big = g.size in
       let w = g.within in
       let n = h.same next_place in
-      let x = w.behind_fixed in
+      let x = w.after_fixed in
       let y = w.below_next in
       record {
-        within = record { behind_fixed = omega arith; below_next = omega arith };
+        within = record { after_fixed = omega arith; below_next = omega arith };
         status = subst (λ s. is_some (status_of s) ≡ true) (h.same base) g.status;
         degree = omega arith;
         size = omega arith;

@@ -25,7 +25,7 @@ use Rattle.ist_core.specs.Rows.{IsWithin}
 use Rattle.ist_core.specs.Deciding.{AllResolved}
 use Rattle.ist_core.specs.Lawful.{Lawful, state_of}
 use Rattle.ist_core.proofs.ReferenceLemmas.{word_of-ref_of}
-use Rattle.ist_core.proofs.PlaceLemmas.{next_behind_fixed, claimed_within, placed}
+use Rattle.ist_core.proofs.PlaceLemmas.{next_after_fixed, claimed_within, placed}
 use Rattle.ist_core.proofs.PlaceLemmas.{anchor_free}
 use Rattle.ist_core.proofs.RoomLemmas.{next_within}
 use Rattle.ist_core.proofs.NamingLemmas.{WordsName, SlotNames, slot_names}
@@ -77,7 +77,7 @@ module _ {pairs : List Pair} {words : List ℕ} {log : Log} (s : IsStood pairs w
   pub good_bounds : HasGoodBounds words
   good_bounds =
       let n = next_is in
-      let low = next_behind_fixed pairs (length words) log s.lawful.enabled in
+      let low = next_after_fixed pairs (length words) log s.lawful.enabled in
       let h = high in
       record {
         least = omega arith;
@@ -100,10 +100,10 @@ module _ {pairs : List Pair} {words : List ℕ} {log : Log} (s : IsStood pairs w
       → IsWithinUsed words record { base = base; size = size }
   within base size p e same =
       let it = in_table base p e in
-      let a = it.behind_fixed in
+      let a = it.after_fixed in
       let b = it.below_next in
       let n = next_is in
-      record { behind_fixed = omega arith; below_next = omega arith }
+      record { after_fixed = omega arith; below_next = omega arith }
 
   -- each published row lies within the words
   pub room : (base : ℕ) (p : Piece) → t.pieces base ≡ Some p → base + size_of p ≤ length words

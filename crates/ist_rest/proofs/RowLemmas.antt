@@ -74,8 +74,8 @@ module _ (words : List ℕ) (base : ℕ) (r : InnerRow) (h : StandsAt words base
       ap (λ m. take m (drop (base + 4) words)) n ∙ part_is 4 (length r.keys) (omega arith)
       ∙ take_at r.keys r.slots (length r.keys) refl
 
-  behind : drop (4 + length r.keys) (words_of (Inner r)) ≡ r.slots
-  behind =
+  following : drop (4 + length r.keys) (words_of (Inner r)) ≡ r.slots
+  following =
       let e : 4 + length r.keys ≡ suc (suc (suc (suc (length r.keys)))) = omega arith in
       ap (λ m. drop m (words_of (Inner r))) e ∙ drop_at r.keys r.slots (length r.keys) refl
 
@@ -92,5 +92,5 @@ module _ (words : List ℕ) (base : ℕ) (r : InnerRow) (h : StandsAt words base
       ap (λ j. take j (drop (base + 3 + row_degree words base) words)) n
       ∙ ap (λ j. take (length r.slots) (drop j words)) m
       ∙ part_is (4 + length r.keys) (length r.slots) (omega arith)
-      ∙ ap (take (length r.slots)) behind
+      ∙ ap (take (length r.slots)) following
       ∙ take_all (length r.slots) r.slots (omega arith)

@@ -73,7 +73,7 @@ pub record Span : Type 0 where
 
 -- the words lie after the fixed words and below the first free one
 pub record IsWithinUsed (words : List ℕ) (span : Span) : Type 0 where
-  pub behind_fixed : first_row ≤ span.base
+  pub after_fixed : first_row ≤ span.base
   pub below_next : span.base + span.size ≤ word_at words next_place
 
 -- the rebuild that a reference leads through

@@ -22,7 +22,7 @@ use Rattle.ist_rule.specs.Faces.{TokenFace}
 use Rattle.ist_rule.specs.Rule.{IsSound}
 use Rattle.ist_rule.specs.Learning.{now, GoesOnTo}
 use Rattle.ist_rule.specs.Conditions.{CanMake}
-use Rattle.ist_rule.specs.Several.{with_events, made_behind_all, ComeAt, CanExchangeAll}
+use Rattle.ist_rule.specs.Several.{with_events, made_after_all, ComeAt, CanExchangeAll}
 use Rattle.ist_rule.proofs.LaterLemmas.{later_more}
 use Rattle.ist_rule.proofs.ListLogLemmas.{enabled_before}
 use Rattle.ist_rule.proofs.GoingOnLemmas.{callers_later, may_come_before, goes_on_who}
@@ -127,7 +127,7 @@ holds_all pairs words number log (size ∷ more) base = (
 
 -- reservings enter no caller
 pub none_made : (number base : ℕ) (sizes : List ℕ) (made : ℕ)
-    → made_behind_all (reservings number base sizes) made ≡ made
+    → made_after_all (reservings number base sizes) made ≡ made
 none_made number base [] made = refl
 none_made number base (size ∷ more) made = none_made number (base + size) more made
 

@@ -10,7 +10,7 @@ use Rattle.ist_core.specs.Fairness.{IsBuilding, IsStuck, AreBuilds, no_build, la
 use Rattle.ist_core.proofs.GrowingLemmas.{inner_there, change_there, rebuild_there}
 
 -- the second state comes after the first
-pub record ComesBehind (t u : Snapshot) : Type 0 where
+pub record ComesAfter (t u : Snapshot) : Type 0 where
   pub words : u.words ≡ t.words
   pub next : t.next ≤ u.next
   pub grow : AllGrow t.pieces u.pieces
@@ -23,7 +23,7 @@ finished_stays old new k (is_marked e f) is = absurd (omega arith)
 finished_stays old new k (is_finished j e f) is = absurd (omega arith)
 finished_stays old new k (is_closed j e f) is = absurd (omega arith)
 
-module _ (t u : Snapshot) (b : ComesBehind t u) where
+module _ (t u : Snapshot) (b : ComesAfter t u) where
   -- a started rebuild stays started
   started_on : (rebuild : ℕ) → IsStarted t rebuild → IsStarted u rebuild
   started_on rebuild s =

@@ -122,29 +122,29 @@ refused who token words size full c words_is n f =
 -- ---- what a reserving answers
 
 -- a caller is a caller after the call, whatever it returns
-pub caller_behind : (who : Caller) (token : TokenFace) (words size : ℕ) (answer : Result ℕ Full)
+pub caller_after : (who : Caller) (token : TokenFace) (words size : ℕ) (answer : Result ℕ Full)
     → IsCaller who → IsNext who size
     → IfOk answer (λ base. Reserved who.token.view who.number base size token.view)
     → IfErr answer (λ full. IsFull who.token.view words size full token.view)
     → IsCaller (record who { token = token })
-caller_behind who token words size (Ok base) c n ok err = caller_took who token base size c ok n
-caller_behind who token words size (Err full) c n ok err =
+caller_after who token words size (Ok base) c n ok err = caller_took who token base size c ok n
+caller_after who token words size (Err full) c n ok err =
     caller_refused who token words size full c err
 
 -- if it returns a row, the caller has taken it
-pub taken_behind : (who : Caller) (token : TokenFace) (size : ℕ) (answer : Result ℕ Full)
+pub taken_after : (who : Caller) (token : TokenFace) (size : ℕ) (answer : Result ℕ Full)
     → IsCaller who
     → IfOk answer (λ base. Reserved who.token.view who.number base size token.view)
     → IfOk answer (λ base. HasTaken who (size ∷ []) (record who { token = token }))
-taken_behind who token size (Ok base) c ok =
+taken_after who token size (Ok base) c ok =
     λ stuck done rest h. at_took who token base size c ok stuck done rest h
-taken_behind who token size (Err full) c ok = tt
+taken_after who token size (Err full) c ok = tt
 
 -- if no row is returned, its build was refused
-pub refused_behind : (who : Caller) (token : TokenFace) (words size : ℕ) (answer : Result ℕ Full)
+pub refused_after : (who : Caller) (token : TokenFace) (words size : ℕ) (answer : Result ℕ Full)
     → IsCaller who → words ≡ who.token.view.words → IsNext who size
     → IfErr answer (λ full. IsFull who.token.view words size full token.view)
     → IfErr answer (λ full. HasRefused (record who { token = token }))
-refused_behind who token words size (Ok base) c words_is n err = tt
-refused_behind who token words size (Err full) c words_is n err =
+refused_after who token words size (Ok base) c words_is n err = tt
+refused_after who token words size (Err full) c words_is n err =
     refused who token words size full c words_is n err

@@ -23,27 +23,27 @@ use Rattle.ist_rows.specs.Kinds.{kind_words}
 use Rattle.ist_rows.specs.Rows.{Spares, spares_of, is_spare, held_by, build_sizes, IsCaller}
 use Rattle.ist_rows.specs.Building.{AreStuck, none_stuck, stuck_more, IsNext}
 use Rattle.ist_rows.specs.Fairly.{MayTake}
-use Rattle.ist_rows.proofs.BuildLemmas.{ComesBehind, building_on, stuck_on, builds_on}
-use Rattle.ist_rows.proofs.CallerLemmas.{IsCallerIn, caller_later, comes_behind, spare_kind, fair_inner}
+use Rattle.ist_rows.proofs.BuildLemmas.{ComesAfter, building_on, stuck_on, builds_on}
+use Rattle.ist_rows.proofs.CallerLemmas.{IsCallerIn, caller_later, comes_after, spare_kind, fair_inner}
 use Rattle.ist_rows.proofs.CallerGoingLemmas.{base_same}
 use Rattle.ist_rows.proofs.HeldListLemmas.{held_by_later}
 
 -- ---- stuck builds
 
 -- stuck builds stay stuck
-pub all_stuck_on : (t u : Snapshot) → ComesBehind t u → (sizes : List ℕ) → AreStuck t sizes
+pub all_stuck_on : (t u : Snapshot) → ComesAfter t u → (sizes : List ℕ) → AreStuck t sizes
     → AreStuck u sizes
 all_stuck_on t u b _ none_stuck = none_stuck
 all_stuck_on t u b _ (stuck_more {sizes = sizes} {more = more} s rest) =
     stuck_more (stuck_on t u b sizes s) (all_stuck_on t u b more rest)
 
 -- builds after stuck ones are builds
-pub builds_behind : (t : Snapshot) (sizes more : List ℕ) → AreStuck t sizes → AreBuilds t more
+pub builds_after : (t : Snapshot) (sizes more : List ℕ) → AreStuck t sizes → AreBuilds t more
     → AreBuilds t (sizes ++ more)
-builds_behind t _ more none_stuck b = b
-builds_behind t _ more (stuck_more {sizes = sizes} {more = others} s rest) b =
+builds_after t _ more none_stuck b = b
+builds_after t _ more (stuck_more {sizes = sizes} {more = others} s rest) b =
     subst (AreBuilds t) (sym (append_assoc sizes others more))
-    (stuck_build s (builds_behind t others more rest b))
+    (stuck_build s (builds_after t others more rest b))
 
 -- one more stuck build after stuck ones
 pub stuck_last : (t : Snapshot) (sizes last : List ℕ) → AreStuck t sizes → IsStuck t last
@@ -68,7 +68,7 @@ pub at_later : (pairs : List Pair) (words : ℕ) (old log : Log) (number : ℕ) 
     → IsInBuildIn (state_of pairs words old) number own stuck done rest
     → IsInBuildIn (state_of pairs words log) number own stuck done rest
 at_later pairs words old log number own stuck done rest lawful l h =
-    let b = comes_behind pairs words number old log lawful l in
+    let b = comes_after pairs words number old log lawful l in
     let t = state_of pairs words old in
     let u = state_of pairs words log in
     record {
@@ -93,7 +93,7 @@ next_fair pairs words log enabled number own stuck done rest size c h =
     let last = last_build rest (subst (IsBuilding t) (sym whole) h.building) in
     subst (λ sizes. AreBuilds t (sizes ++ size ∷ [])) (sym h.sizes)
     (subst (AreBuilds t) (sym (append_assoc stuck done (size ∷ [])))
-    (builds_behind t stuck (done ++ size ∷ []) h.all_stuck last))
+    (builds_after t stuck (done ++ size ∷ []) h.all_stuck last))
 
 -- a caller may take the next row of its build, whatever others do meanwhile
 pub may_take_inner : (who : Caller) (size : ℕ) → IsSound who.token.view → IsCaller who
@@ -124,8 +124,8 @@ module _ (pairs : List Pair) (words : ℕ) (log : Log) (number : ℕ) (own : Spa
   abbrev new_row : HeldRow
   new_row = record { caller = number; base = base; size = size }
 
-  behind : ComesBehind t u
-  behind = let at_next = enabled.1.base_is in record {
+  following : ComesAfter t u
+  following = let at_next = enabled.1.base_is in record {
     words = refl;
     next = omega arith;
     grow = all_grow_same t.pieces;
@@ -166,7 +166,7 @@ module _ (pairs : List Pair) (words : ℕ) (log : Log) (number : ℕ) (own : Spa
       record {
         rows = λ kind b e. among_left record { caller = number; base = b; size = kind_words kind }
             t.held (new_row ∷ []) (c.rows kind b e);
-        builds = builds_on t u behind (build_sizes u number own)
+        builds = builds_on t u following (build_sizes u number own)
             (subst (AreBuilds t) (sym sizes_now) builds);
       }
 
@@ -177,7 +177,7 @@ module _ (pairs : List Pair) (words : ℕ) (log : Log) (number : ℕ) (own : Spa
       record {
         sizes = sizes_now ∙ ap (λ xs. xs ++ size ∷ []) h.sizes
             ∙ append_assoc stuck done (size ∷ []);
-        all_stuck = all_stuck_on t u behind stuck h.all_stuck;
-        building = building_on t u behind ((done ++ size ∷ []) ++ rest)
+        all_stuck = all_stuck_on t u following stuck h.all_stuck;
+        building = building_on t u following ((done ++ size ∷ []) ++ rest)
             (subst (IsBuilding t) (sym (append_assoc done (size ∷ []) rest)) h.building);
       }

@@ -34,7 +34,7 @@ use Rattle.ist_rows.specs.declared.kinds.Kind.{Kind}
 use Rattle.ist_rows.specs.declared.kinds.Kind.TheVariants.{Leaf, Pair as PairKind, Change, Rebuild}
 use Rattle.ist_rows.specs.Kinds.{kind_words}
 use Rattle.ist_rows.specs.Rows.{Spares, spares_of, row_of, with_spare, is_base, is_spare, held_by, build_sizes, IsCaller, Reserved, IsFull, HoldsPlace}
-use Rattle.ist_rows.proofs.BuildLemmas.{ComesBehind, builds_on}
+use Rattle.ist_rows.proofs.BuildLemmas.{ComesAfter, builds_on}
 use Rattle.ist_rows.proofs.CallerLemmas.{IsCallerIn, caller_later}
 use Rattle.ist_rows.proofs.ReserveLemmas.{took}
 
@@ -169,8 +169,8 @@ module _ (pairs : List Pair) (words : ℕ) (log : Log) (number : ℕ) (own : Spa
       (ap (λ b. if not b then new_row ∷ [] else []) (spare_here own kind base))
       ∙ append-nil (filter (λ (h : HeldRow). not (is_spare own h.base)) (held_by t number)))
 
-  behind : ComesBehind t u
-  behind = let at_next = enabled.1.base_is in record {
+  following : ComesAfter t u
+  following = let at_next = enabled.1.base_is in record {
     words = refl;
     next = omega arith;
     grow =
@@ -193,7 +193,7 @@ module _ (pairs : List Pair) (words : ℕ) (log : Log) (number : ℕ) (own : Spa
                   kind_words other;
             } t.held (new_row ∷ []) (c.rows other b k))
             (row_taken own kind other base b e);
-        builds = builds_on t u behind (build_sizes u number (with_spare kind base own))
+        builds = builds_on t u following (build_sizes u number (with_spare kind base own))
             (subst (AreBuilds t) (sym sizes_taken) c.builds);
       }
 

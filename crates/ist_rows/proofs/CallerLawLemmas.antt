@@ -25,12 +25,12 @@ use Rattle.ist_rows.specs.declared.callers.Caller.{Caller}
 use Rattle.ist_rows.specs.declared.kinds.Kind.{Kind}
 use Rattle.ist_rows.specs.Rows.{spares_of, is_spare, held_by, build_sizes, IsCaller}
 use Rattle.ist_rows.specs.Building.{AreStuck, HasRefused}
-use Rattle.ist_rows.specs.CallerLaws.{KeepsRows, InstallsNone, held_behind, GivesUp, AreBasesOf, without_rows, IsWithout}
-use Rattle.ist_rows.proofs.BuildLemmas.{ComesBehind}
+use Rattle.ist_rows.specs.CallerLaws.{KeepsRows, InstallsNone, held_after, GivesUp, AreBasesOf, without_rows, IsWithout}
+use Rattle.ist_rows.proofs.BuildLemmas.{ComesAfter}
 use Rattle.ist_rows.proofs.BuildingLemmas.{all_stuck_on}
 use Rattle.ist_rows.proofs.CallerLemmas.{IsCallerIn, caller_later}
 use Rattle.ist_rows.proofs.GivenRowsLemmas.{sizes_given, caller_given}
-use Rattle.ist_rows.proofs.HeldBehindLemmas.{own_number, held_by_own, held_by_went, behind_between, caller_between}
+use Rattle.ist_rows.proofs.HeldAfterLemmas.{own_number, held_by_own, held_by_went, after_between, caller_between}
 use Rattle.ist_rows.proofs.HeldListLemmas.{held_by_later}
 
 -- ---- many events
@@ -82,11 +82,11 @@ pub refused_went : (who : Caller) (token : TokenFace) → IsCaller who → HasRe
 refused_went who token c r g =
     let v = who.token.view in
     let lawful = went_lawful KeepsRows v token.view g in
-    let behind = subst (ComesBehind (now v)) (sym (went_now KeepsRows v token.view g))
-    (behind_between v.start v.words v.log token.view.log lawful (later_by-goes_on g.later)) in
+    let following = subst (ComesAfter (now v)) (sym (went_now KeepsRows v token.view g))
+    (after_between v.start v.words v.log token.view.log lawful (later_by-goes_on g.later)) in
     subst (λ held. AreStuck (now token.view)
     (map (λ (h : HeldRow). h.size) (filter (λ h. not (is_spare (spares_of who) h.base)) held)))
-    (sym (same_held who token c g)) (all_stuck_on (now v) (now token.view) behind _ r)
+    (sym (same_held who token c g)) (all_stuck_on (now v) (now token.view) following _ r)
 
 -- changes that are resolved stay so if the caller installs none
 resolved_by : (pairs : List Pair) (words : ℕ) (number : ℕ) (old log : Log)
@@ -145,11 +145,11 @@ loaded_made v event place word w l =
 -- the event changes what its caller holds in exactly this way
 pub held_made : (v w : View) (number : ℕ) (event : Event) (before : Log) → v.who ≡ CallerOf number
     → whose event ≡ CallerOf number → HasLogged v event before w
-    → held_by (now w) number ≡ held_behind event (held_by (now v) number)
+    → held_by (now w) number ≡ held_after event (held_by (now v) number)
 held_made v w number event before mine its m =
     ap (λ t. held_by t number) m.now_is
     ∙ held_by_own v.start v.words before number event its
-    ∙ ap (held_behind event) (held_by_later v.start v.words number v.log before
+    ∙ ap (held_after event) (held_by_later v.start v.words number v.log before
     m.lawful.enabled.0 (subst (λ who. Later who v.log before) mine m.later))
 
 module _ (old new : Caller) (kinds : List Kind) (event : Event) (bases : List ℕ) (c : IsCaller old)
@@ -190,9 +190,9 @@ module _ (old new : Caller) (kinds : List Kind) (event : Event) (bases : List �
   refused_made r =
       let t = state_of v.start v.words before in
       let u = state_of v.start v.words (event ∷ before) in
-      let on = behind_between v.start v.words before (event ∷ before) m.lawful
+      let on = after_between v.start v.words before (event ∷ before) m.lawful
       (one_event event same_log) in
-      let first = behind_between v.start v.words v.log before lawful_before (later-goes_on later) in
+      let first = after_between v.start v.words v.log before lawful_before (later-goes_on later) in
       let was : AreStuck t (build_sizes t old.number (spares_of old)) =
       subst (λ held. AreStuck t
       (map (λ (h : HeldRow). h.size) (filter (λ h. not (is_spare (spares_of old) h.base)) held)))

@@ -27,7 +27,7 @@ use Rattle.ist_rows.specs.Kinds.{kind_words}
 use Rattle.ist_rows.specs.Rows.{Spares, spares_of, row_of, is_base, is_spare, held_by, build_sizes, IsCaller}
 use Rattle.ist_rows.specs.Fairly.{MayTake}
 use Rattle.ist_rows.proofs.HeldListLemmas.{distinct_filter, distinct_more, held_distinct, held_by_later}
-use Rattle.ist_rows.proofs.BuildLemmas.{ComesBehind, builds_on, merge_filter, merge_more, merge_first}
+use Rattle.ist_rows.proofs.BuildLemmas.{ComesAfter, builds_on, merge_filter, merge_more, merge_first}
 
 -- the next word never falls along a longer log
 next_later : (pairs : List Pair) (words : ℕ) (number : ℕ) (old log : Log)
@@ -40,10 +40,10 @@ next_later pairs words number old _ enabled (one_more {log = log} event l other)
     omega arith
 
 -- a later state comes after an earlier one
-pub comes_behind : (pairs : List Pair) (words : ℕ) (number : ℕ) (old log : Log)
+pub comes_after : (pairs : List Pair) (words : ℕ) (number : ℕ) (old log : Log)
     → Lawful pairs words log → Later (CallerOf number) old log
-    → ComesBehind (state_of pairs words old) (state_of pairs words log)
-comes_behind pairs words number old log lawful l =
+    → ComesAfter (state_of pairs words old) (state_of pairs words log)
+comes_after pairs words number old log lawful l =
     record {
       words = words_same pairs words lawful.opens log ∙ sym
           (words_same pairs words lawful.opens old);
@@ -74,7 +74,7 @@ caller_later pairs words old log number own lawful l c =
             kind_words kind;
       } old log lawful.enabled l (c.rows kind base e);
       builds = builds_on (state_of pairs words old) (state_of pairs words log)
-          (comes_behind pairs words number old log lawful l)
+          (comes_after pairs words number old log lawful l)
           (build_sizes (state_of pairs words log) number own)
           (subst (λ held. AreBuilds (state_of pairs words old)
           (map (λ h. h.size) (filter (λ h. not (is_spare own h.base)) held)))

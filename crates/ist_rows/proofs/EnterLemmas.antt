@@ -11,7 +11,7 @@ use Rattle.ist_core.specs.Fairness.{AreBuilds, no_build}
 use Rattle.ist_core.specs.Logs.{Log}
 use Rattle.ist_core.specs.Enabled.{CanEnter, caller_limit}
 use Rattle.ist_core.specs.Lawful.{EachEnabled, state_of}
-use Rattle.ist_core.proofs.PlaceLemmas.{placed, claimed_within, next_behind_fixed}
+use Rattle.ist_core.proofs.PlaceLemmas.{placed, claimed_within, next_after_fixed}
 use Rattle.ist_core.specs.Pieces.{Piece, size_of}
 use Rattle.ist_rule.specs.declared.view.View.{View}
 use Rattle.ist_core.specs.declared.events.Who.TheVariants.{Maker, Caller as CallerOf, Note}
@@ -37,7 +37,7 @@ module _ (pairs : List PairOf) (words : ℕ) (log : Log)
   row_above : (base : ℕ) (p : Piece) → (state_of pairs words log).pieces base ≡ Some p
       → first_row ≤ base
   row_above base p e = (claimed_within pairs words log base (size_of p) enabled
-      ((placed pairs words log enabled).published base p e)).behind_fixed
+      ((placed pairs words log enabled).published base p e)).after_fixed
 
   -- the word at the first place is the first free word
   pub shown_next_is : (place word : ℕ) → IsShown (state_of pairs words log) place word
@@ -49,7 +49,7 @@ module _ (pairs : List PairOf) (words : ℕ) (log : Log)
   shown_next_is _ _ (shown_row base p k there at) e = let low =
       row_above base p there in absurd (omega arith)
   shown_next_is _ _ (shown_free far in_it) e = let low =
-      next_behind_fixed pairs words log enabled in absurd (omega arith)
+      next_after_fixed pairs words log enabled in absurd (omega arith)
 
   -- the word at its place is the number of callers
   pub shown_callers_is : (place word : ℕ) → IsShown (state_of pairs words log) place word
@@ -61,7 +61,7 @@ module _ (pairs : List PairOf) (words : ℕ) (log : Log)
   shown_callers_is _ _ (shown_row base p k there at) e = let low =
       row_above base p there in absurd (omega arith)
   shown_callers_is _ _ (shown_free far in_it) e = let low =
-      next_behind_fixed pairs words log enabled in absurd (omega arith)
+      next_after_fixed pairs words log enabled in absurd (omega arith)
 
 -- ---- entering
 

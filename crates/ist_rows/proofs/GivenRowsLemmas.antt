@@ -25,7 +25,7 @@ use Rattle.ist_rows.specs.CallerLaws.{GivesUp, AreBasesOf, without_row, without_
 use Rattle.ist_rows.proofs.BuildLemmas.{builds_on}
 use Rattle.ist_rows.proofs.CallerLemmas.{IsCallerIn, kind_of_words}
 use Rattle.ist_rows.proofs.CallerGoingLemmas.{base_same, or_any}
-use Rattle.ist_rows.proofs.HeldBehindLemmas.{filter_at, held_by_own, held_behind-given, behind_between}
+use Rattle.ist_rows.proofs.HeldAfterLemmas.{filter_at, held_by_own, held_after-given, after_between}
 
 -- ---- rows of kinds
 
@@ -185,7 +185,7 @@ module _ (pairs : List Pair) (words : ℕ) (log : Log) (event : Event)
       ≡ without bases (held_by (state_of pairs words log) number)
   held_now =
       held_by_own pairs words log number event mine
-      ∙ held_behind-given event bases (held_by (state_of pairs words log) number) gives
+      ∙ held_after-given event bases (held_by (state_of pairs words log) number) gives
 
   -- the sizes of its builds are the same
   pub sizes_given : build_sizes (state_of pairs words (event ∷ log)) number (without_rows kinds own)
@@ -234,6 +234,6 @@ module _ (pairs : List Pair) (words : ℕ) (log : Log) (event : Event)
             ⊎_elim (λ n. absurd (none_some base (sym n ∙ e)))
             (λ same. row_held kind base e (sym same ∙ e)) (row_left kinds own kind);
         builds = builds_on (state_of pairs words log) (state_of pairs words (event ∷ log))
-            (behind_between pairs words log (event ∷ log) lawful (one_event event same_log)) _
+            (after_between pairs words log (event ∷ log) lawful (one_event event same_log)) _
             (subst (AreBuilds (state_of pairs words log)) (sym sizes_given) c.builds);
       }

@@ -9,7 +9,7 @@ pub mod BuildingLemmas
 pub mod BlockLemmas
 pub mod TakingLemmas
 pub mod BuildingCallLemmas
-pub mod HeldBehindLemmas
+pub mod HeldAfterLemmas
 pub mod SpareTakenLemmas
 pub mod GivenRowsLemmas
 pub mod CallerLawLemmas

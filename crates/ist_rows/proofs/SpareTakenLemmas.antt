@@ -17,10 +17,10 @@ use Rattle.ist_rows.specs.declared.kinds.Kind.{Kind}
 use Rattle.ist_rows.specs.Building.{AreStuck, HasRefused, sizes_built}
 use Rattle.ist_rows.specs.Kinds.{kind_words}
 use Rattle.ist_rows.specs.Rows.{Spares, spares_of, row_of, with_spare, is_spare, build_sizes, IsCaller, Reserved}
-use Rattle.ist_rows.proofs.BuildLemmas.{ComesBehind}
+use Rattle.ist_rows.proofs.BuildLemmas.{ComesAfter}
 use Rattle.ist_rows.proofs.BuildingLemmas.{all_stuck_on}
 use Rattle.ist_rows.proofs.CallerGoingLemmas.{sizes_taken}
-use Rattle.ist_rows.proofs.HeldBehindLemmas.{behind_between}
+use Rattle.ist_rows.proofs.HeldAfterLemmas.{after_between}
 use Rattle.ist_rows.proofs.HeldListLemmas.{held_by_later}
 use Rattle.ist_rows.proofs.ReserveLemmas.{Took, took}
 
@@ -60,8 +60,8 @@ refused_beside old new kind base c none r number_is rows_are refused =
     later : Later (CallerOf old.number) v.log it.before
     later = subst (λ who. Later who v.log it.before) c.mine it.later
 
-    comes : ComesBehind (now v) t
-    comes = behind_between v.start v.words v.log (event ∷ it.before) it.lawful
+    comes : ComesAfter (now v) t
+    comes = after_between v.start v.words v.log (event ∷ it.before) it.lawful
         (one_event event (later-goes_on later))
 
     sizes : build_sizes t old.number (with_spare kind base (spares_of old)) ≡ sizes_built old

@@ -55,28 +55,28 @@ ChangesStayResolved =
 -- ---- one event
 
 -- the rows that a caller holds after an event of its own, if it held these before
-abbrev pub held_behind : Event → List HeldRow → List HeldRow
-held_behind (Reserve caller base size) held =
+abbrev pub held_after : Event → List HeldRow → List HeldRow
+held_after (Reserve caller base size) held =
     held ++ record { caller = caller; base = base; size = size } ∷ []
-held_behind (Install caller change rows) held = without (bases_of rows) held
-held_behind (Root caller rebuild word rows) held = without (bases_of rows) held
-held_behind (Place caller rebuild i word rows) held = without (bases_of rows) held
-held_behind (Lose caller bases) held = without bases held
-held_behind _ held = held
+held_after (Install caller change rows) held = without (bases_of rows) held
+held_after (Root caller rebuild word rows) held = without (bases_of rows) held
+held_after (Place caller rebuild i word rows) held = without (bases_of rows) held
+held_after (Lose caller bases) held = without bases held
+held_after _ held = held
 
 -- an event of a caller changes what it holds in exactly this way
 abbrev pub EventsMoveRows : Type 0
 EventsMoveRows =
     (v w : View) (number : ℕ) (event : Event) → v.who ≡ CallerOf number
     → whose event ≡ CallerOf number → Logged v event w
-    → held_by (now w) number ≡ held_behind event (held_by (now v) number)
+    → held_by (now w) number ≡ held_after event (held_by (now v) number)
 
 -- so does an event that happened at a load, or at an exchange that failed
 abbrev pub LoadsMoveRows : Type 0
 LoadsMoveRows =
     (v w : View) (number : ℕ) (event : Event) (place word : ℕ) → v.who ≡ CallerOf number
     → whose event ≡ CallerOf number → LoggedLoad v event place word w
-    → held_by (now w) number ≡ held_behind event (held_by (now v) number)
+    → held_by (now w) number ≡ held_after event (held_by (now v) number)
 
 -- ---- rows of a kind that are published or lost
 

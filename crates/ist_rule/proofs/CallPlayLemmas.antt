@@ -16,7 +16,7 @@ use Rattle.ist_core.specs.declared.events.Who.TheVariants.{Caller, Spent}
 use Rattle.ist_core.specs.Authors.{no_more, Later}
 use Rattle.ist_core.specs.Changes.{changes_of}
 use Rattle.ist_core.specs.Logs.{Log}
-use Rattle.ist_core.specs.Standing.{position_behind}
+use Rattle.ist_core.specs.Standing.{position_after}
 use Rattle.ist_core.proofs.PrefixLemmas.{goes_on_by}
 use Rattle.laws_real_time.specs.declared.moments.Deed.{Deed}
 use Rattle.laws_real_time.specs.declared.moments.Deed.TheVariants.{Begins, Returns, GivesUp}
@@ -225,13 +225,13 @@ turned_at : (k : About) (s : Table) (r : Kept k s) (id : ℕ) (v w : View) → v
 turned_at k s r id v w live mine sound turn same is =
     let f = r.seats id v mine live in
     let low = as_view k r.log s.words v f
-    (λ p n. Each (λ x. position_behind x.call ≤ length (changes_of p n r.log)) (ended r.moments))
+    (λ p n. Each (λ x. position_after x.call ≤ length (changes_of p n r.log)) (ended r.moments))
     (ended_low k.start.value.items k.words r.log r.moments r.timed.kept) in
     record {
       later = subst (Later v.who v.log) (sym same) f.later;
       before = r.moments;
       since = (r.timed.heard id v mine live).later;
-      placed = subst (λ l. Each (λ x. position_behind x.call ≤ length (changes_of v.start v.words l))
+      placed = subst (λ l. Each (λ x. position_after x.call ≤ length (changes_of v.start v.words l))
           (ended r.moments)) (sym same) low;
       view = is ∙ ap (λ l. turn l r.moments) (sym same);
       sound = sound;

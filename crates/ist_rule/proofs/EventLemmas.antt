@@ -12,11 +12,11 @@ use Rattle.ist_core.proofs.CallerLemmas.{callers-installed, callers-resolved}
 use Rattle.ist_core.specs.declared.events.Who.TheVariants.{Maker, Caller, Note}
 use Rattle.ist_core.specs.Authors.{whose}
 use Rattle.ist_rule.specs.Rule.{IsNamed}
-use Rattle.ist_rule.specs.Learning.{made_behind}
+use Rattle.ist_rule.specs.Learning.{made_after}
 
 -- an Enter adds a caller, and no other event does
 pub callers-state : (first : Snapshot) (log : Log) (event : Event)
-    → (state first (event ∷ log)).callers ≡ made_behind event (state first log).callers
+    → (state first (event ∷ log)).callers ≡ made_after event (state first log).callers
 callers-state first log (Install caller change rows) =
     callers-installed (state first log) change rows
 callers-state first log (Resolve caller change) =
@@ -24,15 +24,15 @@ callers-state first log (Resolve caller change) =
 callers-state first log _ = refl
 
 -- the number of callers never falls
-pub made_behind-grows : (event : Event) (made : ℕ) → made ≤ made_behind event made
-made_behind-grows (Enter caller) made = omega arith
-made_behind-grows _ made = omega arith
+pub made_after-grows : (event : Event) (made : ℕ) → made ≤ made_after event made
+made_after-grows (Enter caller) made = omega arith
+made_after-grows _ made = omega arith
 
 -- an event is an Enter, which is the maker's, or is a caller's and adds no caller
 pub data Authored (event : Event) : Type 0 where
   by_maker : (caller : ℕ) → event ≡ Enter caller → whose event ≡ Maker → Authored event
   by_caller : (caller : ℕ) → whose event ≡ Caller caller
-      → ((made : ℕ) → made_behind event made ≡ made) → Authored event
+      → ((made : ℕ) → made_after event made ≡ made) → Authored event
 
 -- each event is the maker's Enter or a caller's
 pub authored : (event : Event) → Authored event
@@ -65,10 +65,10 @@ author_no_note event of e = subst IsNamed e (author_named event)
 
 -- only the maker's event adds a caller
 pub made_by_others : (event : Event) (made : ℕ) → whose event ≢ Maker
-    → made_behind event made ≡ made
+    → made_after event made ≡ made
 made_by_others event made ne = at (authored event)
   where
-    at : Authored event → made_behind event made ≡ made
+    at : Authored event → made_after event made ≡ made
     at (by_maker caller is who) = absurd (ne who)
     at (by_caller caller who same) = same made
 

@@ -18,7 +18,7 @@ use Rattle.ist_core.proofs.ElementLemmas.{among-append}
 use Rattle.ist_core.proofs.SlotLemmas.{get-set_other}
 use Rattle.ist_core.proofs.SoundLemmas.{sound, moves_or_reserves, IsReserve}
 use Rattle.ist_core.proofs.StartLemmas.{sound_start}
-use Rattle.ist_core.proofs.PlaceLemmas.{next_behind_fixed}
+use Rattle.ist_core.proofs.PlaceLemmas.{next_after_fixed}
 use Rattle.ist_core.proofs.ImageStepLemmas.{image_step}
 use Rattle.ist_rule.specs.declared.view.View.{View}
 use Rattle.ist_core.specs.declared.events.Who.TheVariants.{Caller}
@@ -47,12 +47,12 @@ module _ (pairs : List Pair) (words : ℕ) (opens : CanOpen pairs words) (log : 
   abbrev before : Snapshot
   before = state_of pairs words log
 
-  abbrev behind : List ℕ
-  behind = touched image (touch_of before event)
+  abbrev following : List ℕ
+  following = touched image (touch_of before event)
 
   -- a loose word stays
   pub loose_stays : (place : ℕ) → IsLoose before place
-      → slice_get behind place ≡ slice_get image place
+      → slice_get following place ≡ slice_get image place
   loose_stays place loose =
       touched_other image (touch_of before event) place
       (λ touch e same. ⊎_elim (λ l. none_some touch (sym l ∙ e))
@@ -64,28 +64,28 @@ module _ (pairs : List Pair) (words : ℕ) (opens : CanOpen pairs words) (log : 
       none_some touch f = cc
 
   -- what a caller stored into its rows stays there, and a row that it reserves now has no word yet
-  pub owns_behind : (v : View) → Owns pairs words log image v
+  pub owns_after : (v : View) → Owns pairs words log image v
       → ((place : ℕ) → before.next ≤ place → own_at v.own place ≡ 0)
-      → Owns pairs words (event ∷ log) behind v
-  owns_behind v owns fresh h i mine k less =
+      → Owns pairs words (event ∷ log) following v
+  owns_after v owns fresh h i mine k less =
       ⊎_elim
       (λ m. let old = m.kept h i in stays old)
       (λ r. at r (subst (λ e. Among h (state_of pairs words (e ∷ log)).held) r.is i))
       (moves_or_reserves (start pairs words) log event enabled.1
       (sound (start pairs words) log (sound_start pairs words) enabled.0))
     where
-      stays : Among h before.held → slice_get behind (h.base + k) ≡ Some (own_at v.own (h.base + k))
+      stays : Among h before.held → slice_get following (h.base + k) ≡ Some (own_at v.own (h.base + k))
       stays old = loose_stays (h.base + k) (held_loose pairs words log enabled.0 h old k less) ∙
           owns h old mine k less
 
       -- a word of the new row was free
       new : (r : IsReserve (start pairs words) log event) → h.base ≡ r.base → h.size ≡ r.size
-          → slice_get behind (h.base + k) ≡ Some (own_at v.own (h.base + k))
+          → slice_get following (h.base + k) ≡ Some (own_at v.own (h.base + k))
       new r base size =
           let can = r.can in
           let at_next = can.base_is in
           let room = can.room in
-          let low = next_behind_fixed pairs words log enabled.0 in
+          let low = next_after_fixed pairs words log enabled.0 in
           touched_other image (touch_of before event) (h.base + k)
           (λ touch e same. let place : touch.place ≡ 0 =
           ap (λ t. t.place) (one touch (sym e ∙ ap (touch_of before) r.is)) in omega arith)
@@ -103,7 +103,7 @@ module _ (pairs : List Pair) (words : ℕ) (opens : CanOpen pairs words) (log : 
 
       at : (r : IsReserve (start pairs words) log event)
           → Among h (before.held ++ record { caller = r.caller; base = r.base; size = r.size } ∷ [])
-          → slice_get behind (h.base + k) ≡ Some (own_at v.own (h.base + k))
+          → slice_get following (h.base + k) ≡ Some (own_at v.own (h.base + k))
       at r j =
           ⊎_elim stays
           (λ m. ⊎_elim (λ e. new r (ap (λ x. x.base) e) (ap (λ x. x.size) e)) (λ n. absurd n) m)
@@ -126,10 +126,10 @@ module _ (pairs : List Pair) (words : ℕ) (opens : CanOpen pairs words) (log : 
   )
 
   -- the words after an event of the seat are the image of the state after it
-  pub image_behind : (v : View) → whose event ≡ v.who → Owns pairs words log image v
+  pub image_after : (v : View) → whose event ≡ v.who → Owns pairs words log image v
       → StoredAll v (published_by event)
-      → IsImage (state_of pairs words (event ∷ log)) behind
-  image_behind v mine owns stored =
+      → IsImage (state_of pairs words (event ∷ log)) following
+  image_after v mine owns stored =
       image_step pairs words opens log event enabled image is
       (at (publishes (start pairs words) log event enabled.1))
     where

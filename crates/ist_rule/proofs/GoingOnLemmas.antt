@@ -13,7 +13,7 @@ use Rattle.ist_rule.specs.Rule.{IsSound}
 use Rattle.ist_rule.specs.Learning.{GoesOnTo, Looked}
 use Rattle.ist_rule.specs.Conditions.{MayCome}
 use Rattle.ist_rule.proofs.LaterLemmas.{later_more}
-use Rattle.ist_rule.proofs.EventLemmas.{callers-state, made_behind-grows, made_by_others}
+use Rattle.ist_rule.proofs.EventLemmas.{callers-state, made_after-grows, made_by_others}
 
 -- a sound seat goes on to itself
 pub goes_on_same : (v : View) → IsSound v → GoesOnTo v v
@@ -85,7 +85,7 @@ callers_later pairs words old _ (one_more {log = log} event l other) =
     le_trans (callers_later pairs words old log l)
     (subst (λ n. (state_of pairs words log).callers ≤ n)
     (sym (callers-state (start pairs words) log event))
-    (made_behind-grows event (state_of pairs words log).callers))
+    (made_after-grows event (state_of pairs words log).callers))
 
 -- others than the maker add none
 pub callers_by_others : (pairs : List Pair) (words : ℕ) (old log : Log) → Later Maker old log

@@ -29,7 +29,7 @@ use Rattle.ist_rule.specs.Learning.{logging, Logged}
 use Rattle.ist_rule.specs.Conditions.{CanMake}
 use Rattle.ist_rule.proofs.EventLemmas.{author_named}
 use Rattle.ist_core.proofs.PrefixLemmas.{goes_on_by}
-use Rattle.ist_rule.proofs.EventWordLemmas.{owns_behind, image_behind}
+use Rattle.ist_rule.proofs.EventWordLemmas.{owns_after, image_after}
 use Rattle.ist_rule.proofs.FitLemmas.{well_made_on, true_of_others, true_of_own}
 use Rattle.ist_rule.proofs.ViewPartLemmas.{well_made_but, true_but}
 use Rattle.ist_rule.proofs.FrameLemmas.{Table, moved}
@@ -41,7 +41,7 @@ use Rattle.ist_rule.proofs.LookLemmas.{GoesAtStep}
 module _ (k : About) (s : Table) (r : Kept k s) (id : ℕ) (me : Seated) (live : me.0.who ≢ Spent)
     (mine : HasView s id me.0) (event : Event) (make : CanMake me.0 event)
     (able : Enabled (start k.start.value.items k.words) r.log event) (words' : List ℕ) (count : ℕ)
-    (words_behind : touched s.words (touch_of (state_of k.start.value.items k.words r.log) event)
+    (words_following : touched s.words (touch_of (state_of k.start.value.items k.words r.log) event)
     ≡ words') where
   -- the seat's view before the event
   abbrev pub v : View
@@ -61,8 +61,8 @@ module _ (k : About) (s : Table) (r : Kept k s) (id : ℕ) (me : Seated) (live :
 
   owns_now : (u : View) → Fits k r.log s.words u → Owns k.start.value.items k.words log' words' u
   owns_now u g =
-      subst (λ ws. Owns k.start.value.items k.words log' ws u) words_behind
-      (owns_behind k.start.value.items k.words r.lawful.opens r.log event enabled' s.words r.image u
+      subst (λ ws. Owns k.start.value.items k.words log' ws u) words_following
+      (owns_after k.start.value.items k.words r.lawful.opens r.log event enabled' s.words r.image u
       g.owns g.is_true.fresh)
 
   -- the callers that were taken back are others
@@ -142,8 +142,8 @@ module _ (k : About) (s : Table) (r : Kept k s) (id : ℕ) (me : Seated) (live :
   pub kept : Kept k (record { words = words'; homes = s.homes; views = slice_set s.views id w })
   kept =
       moved k s r id v w s.homes mine live refl (le_refl v.given) log' words' lawful'
-      (subst (IsImage (state_of k.start.value.items k.words log')) words_behind
-      (image_behind k.start.value.items k.words r.lawful.opens r.log event enabled' s.words r.image
+      (subst (IsImage (state_of k.start.value.items k.words log')) words_following
+      (image_after k.start.value.items k.words r.lawful.opens r.log event enabled' s.words r.image
       v make.mine f.owns make.stored))
       others fits_own (r.retired id v mine live) r.moments timed_now
 

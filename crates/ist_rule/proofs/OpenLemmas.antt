@@ -13,7 +13,7 @@ use Rattle.ist_rule.specs.declared.view.About.{About}
 use Rattle.ist_core.specs.declared.events.Who.{Who}
 use Rattle.ist_core.specs.declared.events.Who.TheVariants.{Maker, Spent}
 use Rattle.ist_core.specs.Authors.{no_more}
-use Rattle.ist_core.specs.Changes.{changes_of, map_behind}
+use Rattle.ist_core.specs.Changes.{changes_of, map_after_entries}
 use Rattle.ist_core.specs.Map.{map_of}
 use Rattle.laws_real_time.specs.Joining.{LinearizesTo}
 use Rattle.ist_rule.specs.Speaking.{no_later}
@@ -103,7 +103,7 @@ closes k id v words slots live fin =
     let f = r.seats id v fin.1.1 live in
     let it = as_view k r.log s.words v f (λ p n. Lawful p n r.log
     × IsImage (state_of p n r.log) s.words × IsWellMade p n v × IsTrueIn p n r.log v
-    × LinearizesTo (map_of p) r.moments (map_behind (map_of p) (changes_of p n r.log))) (
+    × LinearizesTo (map_of p) r.moments (map_after_entries (map_of p) (changes_of p n r.log))) (
       r.lawful,
       r.image,
       f.well_made,

@@ -70,7 +70,7 @@ module _ (pairs : List Pair) (words : ℕ) (log : Log) (enabled : EachEnabled (s
     held_loose h i k less =
         let claimed = (placed pairs words log enabled).held h i in
         let inside = claimed_within pairs words log h.base h.size enabled claimed in
-        let low = inside.behind_fixed in
+        let low = inside.after_fixed in
         let high = inside.below_next in
         let s = sound (start pairs words) log (sound_start pairs words) enabled in
         record {

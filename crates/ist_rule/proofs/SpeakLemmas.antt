@@ -9,7 +9,7 @@ use Rattle.ist_core.specs.declared.pairs.Pair.{Pair}
 use Rattle.ist_core.specs.Map.{Map, map_of}
 use Rattle.ist_core.specs.Logs.{Log}
 use Rattle.ist_core.specs.Lawful.{Lawful}
-use Rattle.ist_core.specs.Changes.{changes_of, map_behind}
+use Rattle.ist_core.specs.Changes.{changes_of, map_after_entries}
 use Rattle.laws_real_time.specs.declared.moments.Deed.{Deed}
 use Rattle.laws_real_time.specs.declared.moments.Deed.TheVariants.{Begins, Returns, GivesUp}
 use Rattle.laws_real_time.specs.declared.moments.Moment.{Moment}
@@ -178,7 +178,7 @@ pub working_linear : (pairs : List Pair) (words : ℕ) (log : Log) (moments : Mo
     → Lawful pairs words log → KeepsTime pairs words log moments
     → ((number : ℕ) → CallStands pairs words log number (calls_returned number moments)
     (pending_of (in_call number moments)))
-    → LinearizesTo (map_of pairs) moments (map_behind (map_of pairs) (changes_of pairs words log))
+    → LinearizesTo (map_of pairs) moments (map_after_entries (map_of pairs) (changes_of pairs words log))
 working_linear pairs words log moments lawful kept working =
     kept_linearizes pairs words log moments lawful kept
     (λ number. made_of pairs words log number (calls_returned number moments) (in_call number moments)

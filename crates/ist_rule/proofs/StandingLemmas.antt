@@ -65,11 +65,11 @@ module _ (pairs : List Pair) (words : ℕ) (log : Log) (number by base : ℕ) (r
   before = entries_by number (changes_of pairs words log)
 
   -- the entries after a yes, by the entries of the row
-  behind_yes : (new : List Entry)
+  following_yes : (new : List Entry)
       → entry_of (state_of pairs words log).pieces ((state_of pairs words log).pieces base) ≡ new
       → entries_by number (changes_of pairs words (Decide by base true ∷ log)) ≡ before
       ++ entries_by number new
-  behind_yes new e =
+  following_yes new e =
       filter-append (λ entry. entry.owner == number) (changes_of pairs words log)
       (entry_of (state_of pairs words log).pieces ((state_of pairs words log).pieces base))
       ∙ ap (λ xs. before ++ entries_by number xs) e
@@ -78,7 +78,7 @@ module _ (pairs : List Pair) (words : ℕ) (log : Log) (number by base : ℕ) (r
   with_command : (o : Option Command) → command_of r ≡ o
       → EntriesMove pairs words log number (Decide by base true)
   with_command None e =
-      same_entries (behind_yes [] (ap (entry_of (state_of pairs words log).pieces) there.published ∙
+      same_entries (following_yes [] (ap (entry_of (state_of pairs words log).pieces) there.published ∙
       ap (entry_for (state_of pairs words log).pieces r) e) ∙ append-nil before)
   with_command (Some command) e = at (eqb_tells r.owner number)
     where
@@ -92,7 +92,7 @@ module _ (pairs : List Pair) (words : ℕ) (log : Log) (number by base : ℕ) (r
 
       made : entries_by number (changes_of pairs words (Decide by base true ∷ log)) ≡ before
           ++ entries_by number (entry ∷ [])
-      made = behind_yes (entry ∷ []) (ap (entry_of (state_of pairs words log).pieces)
+      made = following_yes (entry ∷ []) (ap (entry_of (state_of pairs words log).pieces)
           there.published ∙ ap (entry_for (state_of pairs words log).pieces r) e)
 
       at : (((r.owner == number) ≡ true) × (r.owner ≡ number))

@@ -44,16 +44,16 @@ module _ (pairs : List Pair) (words : ℕ) (log : Log) (enabled : EachEnabled (s
         → (place shown : ℕ) → IsShown t place shown → place ≡ base + k → shown ≡ word
     shown_in_row base p k word e at _ _ shown_next is = let low =
         (claimed_within pairs words log base (size_of p) enabled
-        ((placed pairs words log enabled).published base p e)).behind_fixed in absurd (omega arith)
+        ((placed pairs words log enabled).published base p e)).after_fixed in absurd (omega arith)
     shown_in_row base p k word e at _ _ shown_callers is = let low =
         (claimed_within pairs words log base (size_of p) enabled
-        ((placed pairs words log enabled).published base p e)).behind_fixed in absurd (omega arith)
+        ((placed pairs words log enabled).published base p e)).after_fixed in absurd (omega arith)
     shown_in_row base p k word e at _ _ shown_status is = let low =
         (claimed_within pairs words log base (size_of p) enabled
-        ((placed pairs words log enabled).published base p e)).behind_fixed in absurd (omega arith)
+        ((placed pairs words log enabled).published base p e)).after_fixed in absurd (omega arith)
     shown_in_row base p k word e at _ _ shown_slot is = let low =
         (claimed_within pairs words log base (size_of p) enabled
-        ((placed pairs words log enabled).published base p e)).behind_fixed in absurd (omega arith)
+        ((placed pairs words log enabled).published base p e)).after_fixed in absurd (omega arith)
     shown_in_row base p k word e at _ _ (shown_free far in_it) is =
         let high = (claimed_within pairs words log base (size_of p) enabled
         ((placed pairs words log enabled).published base p e)).below_next in

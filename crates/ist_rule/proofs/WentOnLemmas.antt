@@ -10,7 +10,7 @@ use Rattle.ist_core.proofs.FateLemmas.{grow_between}
 use Rattle.ist_rule.specs.declared.view.View.{View}
 use Rattle.ist_core.specs.declared.events.Who.{Who}
 use Rattle.ist_rule.specs.Rule.{IsSound}
-use Rattle.ist_rule.specs.Learning.{now, made_behind, logging, GoesOnTo, Looked, Logged, LoggedLoad}
+use Rattle.ist_rule.specs.Learning.{now, made_after, logging, GoesOnTo, Looked, Logged, LoggedLoad}
 use Rattle.ist_rule.specs.Going.{WentOn}
 use Rattle.ist_rule.proofs.GoingOnLemmas.{goes_on_same, looked_goes_on}
 use Rattle.ist_core.proofs.PrefixLemmas.{goes_on_by}
@@ -104,7 +104,7 @@ looked_went P v place word w l = goes_on_went P v w (looked_goes_on v place word
 -- a seat that made an event that P is true of went on, whatever it then counts
 event_went : (P : Event → Type 0) (v : View) (event : Event) (w : View) (before : Log) (count : ℕ)
     → Later v.who v.log before → w ≡ record (logging v before event) { loaded = count } → IsSound w
-    → v.loaded ≤ count → P event → made_behind event v.made ≡ v.made → WentOn P v w
+    → v.loaded ≤ count → P event → made_after event v.made ≡ v.made → WentOn P v w
 event_went P v event w before count later view sound more is made =
     record {
       later = subst (LaterBy v.who P v.log) (sym (ap (λ x. x.log) view))
@@ -122,14 +122,14 @@ event_went P v event w before count later view sound more is made =
 
 -- a seat that made an event that P is true of went on
 pub logged_went : (P : Event → Type 0) (v : View) (event : Event) (w : View) → Logged v event w
-    → P event → made_behind event v.made ≡ v.made → WentOn P v w
+    → P event → made_after event v.made ≡ v.made → WentOn P v w
 logged_went P v event w l =
     event_went P v event w l.before v.loaded l.later l.view l.sound (le_refl v.loaded)
 
 -- a seat that made a load which is such an event went on
 pub logged_load_went : (P : Event → Type 0) (v : View) (event : Event) (place word : ℕ) (w : View)
     → LoggedLoad v event place word w → P event
-    → made_behind event v.made ≡ v.made → WentOn P v w
+    → made_after event v.made ≡ v.made → WentOn P v w
 logged_load_went P v event place word w l =
     event_went P v event w l.before (v.loaded + 1) l.later l.view l.sound (omega arith)
 

@@ -7,7 +7,7 @@ use Rattle.ist_core.specs.declared.events.Event.TheVariants.{Enter}
 use Rattle.ist_core.specs.declared.lists.HeldRow.{HeldRow}
 use Rattle.ist_core.specs.Changes.{changes_of}
 use Rattle.ist_core.specs.Elements.{Among, Each}
-use Rattle.ist_core.specs.Standing.{position_behind}
+use Rattle.ist_core.specs.Standing.{position_after}
 use Rattle.ist_core.specs.Snapshots.{Snapshot}
 use Rattle.ist_core.specs.Logs.{Log}
 use Rattle.ist_core.specs.Lawful.{state_of}
@@ -68,13 +68,13 @@ pub record Looked (v : View) (place word : ℕ) (w : View) : Type 0 where
 -- ---- an event
 
 -- how many callers the maker has entered after the event
-abbrev pub made_behind : Event → ℕ → ℕ
-made_behind (Enter caller) made = made + 1
-made_behind _ made = made
+abbrev pub made_after : Event → ℕ → ℕ
+made_after (Enter caller) made = made + 1
+made_after _ made = made
 
 -- the view after an event of its own
 abbrev pub logging : View → Log → Event → View
-logging v before event = record v { log = event ∷ before; made = made_behind event v.made }
+logging v before event = record v { log = event ∷ before; made = made_after event v.made }
 
 -- the event is the last of the log that the seat has seen, and all before it is seen
 pub record Logged (v : View) (event : Event) (w : View) : Type 0 where
@@ -146,7 +146,7 @@ pub record TurnedAt (v : View) (turn : Log → Moments → View) (w : View) : Ty
   pub later : Later v.who v.log w.log
   pub before : Moments
   pub since : MomentsLater v.who v.moments before
-  pub placed : Each (λ x. position_behind x.call ≤ length (changes_of v.start v.words w.log))
+  pub placed : Each (λ x. position_after x.call ≤ length (changes_of v.start v.words w.log))
       (ended before)
   pub view : w ≡ turn w.log before
   pub sound : IsSound w

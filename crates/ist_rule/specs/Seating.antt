@@ -10,7 +10,7 @@ use Rattle.ist_rule.specs.declared.view.Taken.{Taken}
 use Rattle.ist_core.specs.declared.events.Who.{Who}
 use Rattle.ist_core.specs.declared.events.Who.TheVariants.{Maker, Caller, Note, Spent}
 use Rattle.ist_core.specs.Authors.{Later}
-use Rattle.ist_core.specs.Changes.{changes_of, map_behind}
+use Rattle.ist_core.specs.Changes.{changes_of, map_after_entries}
 use Rattle.ist_core.specs.Map.{map_of}
 use Rattle.laws_real_time.specs.Moments.{Moments}
 use Rattle.laws_real_time.specs.Joining.{LinearizesTo}
@@ -137,5 +137,5 @@ pub record IsLast (v : View) (image : List ℕ) : Type 0 where
   pub is_true : IsTrueIn v.start v.words log v
   pub moments : Moments
   pub linear : LinearizesTo (map_of v.start) moments
-      (map_behind (map_of v.start) (changes_of v.start v.words log))
+      (map_after_entries (map_of v.start) (changes_of v.start v.words log))
   pub heard : IsHeard moments v

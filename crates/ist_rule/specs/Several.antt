@@ -13,7 +13,7 @@ use Rattle.ist_rule.specs.declared.view.View.{View}
 use Rattle.ist_core.specs.Authors.{Later}
 use Rattle.ist_core.specs.Shown.{IsShown}
 use Rattle.ist_rule.specs.Rule.{IsSound}
-use Rattle.ist_rule.specs.Learning.{made_behind, Looked}
+use Rattle.ist_rule.specs.Learning.{made_after, Looked}
 use Rattle.ist_rule.specs.Conditions.{CanMake, IsKnown, MayCome}
 
 -- ---- what the step lets its seat know
@@ -24,14 +24,14 @@ with_events [] log = log
 with_events (event ∷ more) log = with_events more (event ∷ log)
 
 -- how many callers the maker has entered after these events
-abbrev pub made_behind_all : List Event → ℕ → ℕ
-made_behind_all [] made = made
-made_behind_all (event ∷ more) made = made_behind_all more (made_behind event made)
+abbrev pub made_after_all : List Event → ℕ → ℕ
+made_after_all [] made = made
+made_after_all (event ∷ more) made = made_after_all more (made_after event made)
 
 -- the view after these events of its own
 abbrev pub logging_all : View → Log → List Event → View
 logging_all v before events =
-    record v { log = with_events events before; made = made_behind_all events v.made }
+    record v { log = with_events events before; made = made_after_all events v.made }
 
 -- the events are the last of the log that the seat has seen, with no event of another between them,
 -- and all earlier ones are seen

@@ -22,8 +22,8 @@ module _ (p taken made q : PassFace) (seen : HasSeenMore taken made)
   on : GoesOnWell taken made
   on = record { tree = seen.tree; seen = seen.seen; lawful = lawful }
 
-  behind : GoesOnWell made q
-  behind = record { tree = looked.seen.tree; seen = looked.seen.seen; lawful = lawful_now }
+  following : GoesOnWell made q
+  following = record { tree = looked.seen.tree; seen = looked.seen.seen; lawful = lawful_now }
 
   -- a total read after a remove is of a position that isn't after the remove
   pub total_before : (shot : Frozen) (first last key : ℕ) (reply : Option ℕ) (total : Total)
@@ -39,11 +39,11 @@ module _ (p taken made q : PassFace) (seen : HasSeenMore taken made)
         position = h.position;
         fresh = h.fresh;
         total_is = value h.position at
-            ∙ ap (λ m. total_of (listed first last m)) (sym (map_on made q behind h.position at.within));
+            ∙ ap (λ m. total_of (listed first last m)) (sym (map_on made q following h.position at.within));
         call = added.call;
         command_is = added.command_is;
         calls_are = looked.calls ∙ added.calls_are ∙ ap (λ cs. cs ++ added.call ∷ []) calls;
-        behind = later_calls taken made h.position shot (Remove key) reply h.is_of added;
+        following = later_calls taken made h.position shot (Remove key) reply h.is_of added;
       }
 
 -- a pass that took a shot and then looked at it, which gave this list
@@ -55,9 +55,9 @@ module _ (p taken q : PassFace) (shot : Frozen) (h : HasTakenShot p taken shot)
   -- the list is of one position
   pub listed_once : IsListOnce p q first last mine
   listed_once =
-      let behind : GoesOnWell taken q =
+      let following : GoesOnWell taken q =
       record { tree = looked.seen.tree; seen = looked.seen.seen; lawful = lawful_now } in
-      let at = of_on taken q behind h.position shot h.is_of in
+      let at = of_on taken q following h.position shot h.is_of in
       record {
         at = h.at;
         step = steps_until p taken q h.at h.step looked.seen;
@@ -65,7 +65,7 @@ module _ (p taken q : PassFace) (shot : Frozen) (h : HasTakenShot p taken shot)
         fresh = h.fresh;
         within = at.within;
         pairs_are = value h.position h.is_of
-            ∙ ap (listed first last) (sym (map_on taken q behind h.position h.is_of.within));
+            ∙ ap (listed first last) (sym (map_on taken q following h.position h.is_of.within));
       }
 
   -- a pass that learnt of the shot lists the same pairs

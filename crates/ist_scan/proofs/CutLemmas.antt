@@ -6,9 +6,9 @@ use Rattle.ist_core.specs.Map.{pairs_between}
 use Rattle.ist_scan.specs.Cuts.{CutsAt, IsCut, slice_of}
 
 -- the cut of the pairs after the first
-cut_behind : (x : Pair) (pairs : List Pair) (key count : ℕ) → CutsAt (x ∷ pairs) key (suc count)
+cut_after : (x : Pair) (pairs : List Pair) (key count : ℕ) → CutsAt (x ∷ pairs) key (suc count)
     → CutsAt pairs key count
-cut_behind x pairs key count c =
+cut_after x pairs key count c =
     let within = c.within in
     record {
       within = omega arith;
@@ -72,7 +72,7 @@ cut_is (x ∷ pairs) from to zero (suc high) some c d =
     let above = c.above 0 x (omega arith) refl in
     let below = d.below 0 x (omega arith) refl in
     let rest = cut_is pairs from to 0 high some (cut_none x pairs from c)
-    (cut_behind x pairs to high d) in
+    (cut_after x pairs to high d) in
     record {
       order = omega arith;
       within = d.within;
@@ -87,8 +87,8 @@ cut_is (x ∷ pairs) from to (suc low) zero some c d =
     absurd (omega arith)
 cut_is (x ∷ pairs) from to (suc low) (suc high) some c d =
     let below = c.below 0 x (omega arith) refl in
-    let rest = cut_is pairs from to low high some (cut_behind x pairs from low c)
-    (cut_behind x pairs to high d) in
+    let rest = cut_is pairs from to low high some (cut_after x pairs from low c)
+    (cut_after x pairs to high d) in
     let same : suc high - suc low ≡ high - low = omega arith in
     let order = rest.order in
     record {

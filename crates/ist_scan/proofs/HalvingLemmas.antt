@@ -51,7 +51,7 @@ module _ (pairs : List Pair) (rising : IsStrictlyIncreasing (map (λ p. p.key) p
         above = λ i pair higher here. ⊎_elim
             (λ (same : i ≡ middle). (let one : pair ≡ x = cc in
             subst (λ p. key ≤ p.key) (sym one) more))
-            (λ (behind : middle < i). (let rose = rise pairs rising middle i x pair at here behind in
+            (λ (following : middle < i). (let rose = rise pairs rising middle i x pair at here following in
             omega arith))
             (at_or_above i middle higher);
       }

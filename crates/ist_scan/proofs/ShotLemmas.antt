@@ -2,7 +2,7 @@
 use Rattle.std.proofs.Common.{◌≡◌, ℕ, ◌≤◌, List, ◌++◌, length, take, refl, sym, ap, ◌∙◌, subst, arith}
 use Rattle.std.proofs.lemmas.List.{take-append-le, length-append}
 use Rattle.ist_core.specs.declared.pairs.Pair.{Pair}
-use Rattle.ist_core.specs.Changes.{map_at, map_behind, changes_of}
+use Rattle.ist_core.specs.Changes.{map_at, map_after_entries, changes_of}
 use Rattle.ist_core.specs.Lawful.{Lawful}
 use Rattle.ist_core.specs.Logs.{GoesOn, same_log, one_event, Log}
 use Rattle.ist_core.specs.Map.{map_of, pairs_of}
@@ -14,7 +14,7 @@ use Rattle.ist_tree.specs.Faces.{TreeFace, PassFace, changes_seen}
 use Rattle.ist_tree.specs.Freezing.{IsFrozenIn, IsFrozenFor, HasFrozenPairs, HasFrozen}
 use Rattle.ist_tree.proofs.FreezingLemmas.{frozen_pairs_are_one, frozen_pairs_stay, frozen_stays, has_its_pairs}
 use Rattle.ist_tree.proofs.HeardLemmas.{seen_more_then, seen_same}
-use Rattle.ist_scan.specs.Shots.{ArePairsOf, map_seen, IsOf, HasTakenShot, HasOnlyLooked, ShotsStay, LaterCallsComeBehind}
+use Rattle.ist_scan.specs.Shots.{ArePairsOf, map_seen, IsOf, HasTakenShot, HasOnlyLooked, ShotsStay, LaterCallsComeAfter}
 
 -- the pass has seen more, and what it has seen is lawful
 pub record GoesOnWell (p q : PassFace) : Type 0 where
@@ -54,8 +54,8 @@ module _ (p q : PassFace) (on : GoesOnWell p q) where
   map_on position within =
       let front = changes_on (start p.tree.start p.tree.words) p.seen q.seen on.seen in
       ap (λ (t : TreeFace). map_at (map_of t.start) (changes_of t.start t.words q.seen) position) on.tree
-      ∙ ap (λ es. map_behind (map_of p.tree.start) (take position es)) front.1
-      ∙ ap (map_behind (map_of p.tree.start)) (take-append-le position (changes_seen p) front.0 within)
+      ∙ ap (λ es. map_after_entries (map_of p.tree.start) (take position es)) front.1
+      ∙ ap (map_after_entries (map_of p.tree.start)) (take-append-le position (changes_seen p) front.0 within)
 
   -- its positions are among the changes that the pass has seen then
   pub more_on : (position : ℕ) → position ≤ length (changes_seen p) → position ≤ length (changes_seen q)
@@ -84,7 +84,7 @@ shots_stay p q tree seen lawful position shot o =
     (of_on p q on position shot o, map_on p q on position o.within)
 
 -- later calls come after the shot
-pub later_calls : LaterCallsComeBehind
+pub later_calls : LaterCallsComeAfter
 later_calls p q position shot command reply o added =
     let within = o.within in
     let fresh = added.added.fresh.position in

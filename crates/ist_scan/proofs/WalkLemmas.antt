@@ -101,9 +101,9 @@ get_part pairs low high given less =
     slice_get-take (high - low) (drop low pairs) given less ∙ slice_get-drop low pairs given
 
 -- there is no pair after the end of a part
-pub none_behind : (pairs : List Pair) (low high given : ℕ) → high - low ≤ given
+pub none_after : (pairs : List Pair) (low high given : ℕ) → high - low ≤ given
     → slice_get (slice_of pairs low high) given ≡ None
-none_behind pairs low high given more =
+none_after pairs low high given more =
     let long = length-take (high - low) (drop low pairs) in
     slice_get_past (slice_of pairs low high) given (omega (arith, long))
 
@@ -112,15 +112,15 @@ module _ (pairs : List Pair) (rising : IsStrictlyIncreasing (map (λ p. p.key) p
   -- no pair comes once the pairs of the interval were given
   none_within : ((high : ℕ) → CutsAt pairs (last + 1) high → high ≤ start + given)
       → slice_get (pairs_between first last pairs) given ≡ None
-  none_within behind =
+  none_within following =
       ⊎_elim
       (λ (less : last < first). ap (λ l. slice_get l given) (none_between pairs first last less))
       (λ (order : first ≤ last).
       (let cut = cut_of pairs rising first last start order c in
-      let passed = behind cut.0 cut.1 in
+      let passed = following cut.0 cut.1 in
       ap (λ l. slice_get l given)
       (between_is pairs first last first (last + 1) start cut.0 refl refl cut.2)
-      ∙ none_behind pairs start cut.0 given (omega arith)))
+      ∙ none_after pairs start cut.0 given (omega arith)))
       (cases_lt last first)
 
   -- a pair that isn't above the interval is the next one

@@ -23,7 +23,7 @@ pub record IsTotalBefore (p q : PassFace) (first last key : ℕ) (total : Total)
   pub call : Call
   pub command_is : call.command ≡ Remove key
   pub calls_are : q.calls ≡ p.calls ++ call ∷ []
-  pub behind : position ≤ call.position
+  pub following : position ≤ call.position
 
 -- the pairs are the map's from the first key to the last, at one position that isn't before what
 -- the pass had seen at a step of this call

@@ -61,8 +61,8 @@ ShotsStay =
     → IsOf q position shot × (map_seen q position ≡ map_seen p position)
 
 -- each later call of the pass is at the position of the shot or after it
-abbrev pub LaterCallsComeBehind : Type 0
-LaterCallsComeBehind =
+abbrev pub LaterCallsComeAfter : Type 0
+LaterCallsComeAfter =
     (p q : PassFace) (position : ℕ) (shot : Frozen) (command : Command) (reply : Option ℕ)
     → IsOf p position shot → (added : AddsCall p q command reply) → position ≤ added.call.position
 

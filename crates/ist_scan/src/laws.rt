@@ -1,5 +1,5 @@
 //! Laws of shots. The functions take no steps and return nothing: their contracts are the laws.
-ghost use Rattle.ist_scan.specs.Shots.{ShotsStay, LaterCallsComeBehind, PairsStay};
+ghost use Rattle.ist_scan.specs.Shots.{ShotsStay, LaterCallsComeAfter, PairsStay};
 ghost use Rattle.ist_scan.specs.Shots.{ShotsHavePairs, PositionsHavePairs};
 ghost use Rattle.ist_scan.specs.Walks.{WalksStay};
 
@@ -8,7 +8,7 @@ ghost use Rattle.ist_scan.specs.Walks.{WalksStay};
 pub fn shots_stay()
     ensures stay { ShotsStay }
     ensures walks { WalksStay }
-    ensures behind { LaterCallsComeBehind }
+    ensures following { LaterCallsComeAfter }
 {}
 
 /// A shot that is frozen in what a pass has seen has one list of pairs there: the map's, if the shot

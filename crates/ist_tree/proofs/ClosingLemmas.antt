@@ -3,7 +3,7 @@ use Rattle.std.proofs.Common.{◌≡◌, ◌≢◌, ℕ, ◌<◌, ◌≤◌, Boo
 use Rattle.ist_core.specs.declared.states.ChangeRow.{ChangeRow}
 use Rattle.ist_core.specs.Elements.{Each}
 use Rattle.ist_core.specs.Images.{IsImage}
-use Rattle.ist_core.specs.Changes.{Entry, changes_of, map_behind}
+use Rattle.ist_core.specs.Changes.{Entry, changes_of, map_after_entries}
 use Rattle.ist_core.specs.Map.{map_of, replay}
 use Rattle.ist_core.specs.Deciding.{AllResolved}
 use Rattle.ist_core.specs.Logs.{Log}
@@ -211,7 +211,7 @@ module _ (token : TokenFace) (image : List ℕ) (refused : Bool) (is : IsMakerWi
         owners = e.owners;
         timed = in_time;
         leads = subst (λ n. replay (map_of v.start) (map (λ x. x.command) last.linear.linear.order)
-            ≡ map_behind (map_of v.start) (changes_of v.start n last.log)) (sym image_long)
+            ≡ map_after_entries (map_of v.start) (changes_of v.start n last.log)) (sym image_long)
             last.linear.leads;
         settled = e.settled;
       }

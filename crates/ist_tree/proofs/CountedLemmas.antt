@@ -24,17 +24,17 @@ module _ (number : ℕ) where
       → CountedNowhere b c number → CountedNowhere a c number
   counted_more a b c g one two node k =
       ⊎_elim (λ u. one node record { at = k.at; since = k.since; until = u })
-      (λ u. behind (whole_or_before b (Count number node) k.at u)) (in_order k.until g)
+      (λ u. following (whole_or_before b (Count number node) k.at u)) (in_order k.until g)
     where
-      behind : (b ≡ Count number node ∷ k.at) ⊎ GoesOn b k.at → ⊥
-      behind (inl e) =
+      following : (b ≡ Count number node ∷ k.at) ⊎ GoesOn b k.at → ⊥
+      following (inl e) =
           one node
           record {
             at = k.at;
             since = k.since;
             until = subst (GoesOn (Count number node ∷ k.at)) (sym e) same_log;
           }
-      behind (inr s) = two node record { at = k.at; since = s; until = k.until }
+      following (inr s) = two node record { at = k.at; since = s; until = k.until }
 
   -- what others do is no Count of the caller
   pub others_counted : (a b : Log) → Later (CallerOf number) a b → CountedNowhere a b number

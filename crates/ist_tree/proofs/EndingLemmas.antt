@@ -110,15 +110,15 @@ one_owned number (x ∷ xs) few (suc i) (suc j) e f =
     fewer n a b = omega arith
 
 -- this holds after some older entries too
-one_owned_behind : (number : ℕ) (old more : List Entry) → length (entries_by number more) ≤ 1
+one_owned_after : (number : ℕ) (old more : List Entry) → length (entries_by number more) ≤ 1
     → (i j : ℕ) → length old ≤ i → length old ≤ j
     → is_owned number (slice_get (old ++ more) i) ≡ true
     → is_owned number (slice_get (old ++ more) j) ≡ true → i ≡ j
-one_owned_behind number [] more few i j a b e f = one_owned number more few i j e f
-one_owned_behind number (x ∷ old) more few zero j a b e f = absurd (omega arith)
-one_owned_behind number (x ∷ old) more few (suc i) zero a b e f = absurd (omega arith)
-one_owned_behind number (x ∷ old) more few (suc i) (suc j) a b e f =
-    ap suc (one_owned_behind number old more few i j (omega arith) (omega arith) e f)
+one_owned_after number [] more few i j a b e f = one_owned number more few i j e f
+one_owned_after number (x ∷ old) more few zero j a b e f = absurd (omega arith)
+one_owned_after number (x ∷ old) more few (suc i) zero a b e f = absurd (omega arith)
+one_owned_after number (x ∷ old) more few (suc i) (suc j) a b e f =
+    ap suc (one_owned_after number old more few i j (omega arith) (omega arith) e f)
 
 -- ---- the call may end
 
@@ -167,7 +167,7 @@ module _ (v : View) (call : Call) (c : CanEnd v call)
       let first = first_is (λ i. is_owned c.number (slice_get entries i)) (length old)
       (length entries + 1) call.position low (omega arith) here in
       ap (λ who. first_from (owned_at entries who) (length old) (length entries + 1)) c.mine
-      ∙ one_owned_behind c.number old on.0 (one_since e)
+      ∙ one_owned_after c.number old on.0 (one_since e)
       (first_from (λ i. is_owned c.number (slice_get entries i)) (length old) (length entries + 1))
       call.position first.low low
       (subst (λ es. is_owned c.number (slice_get es

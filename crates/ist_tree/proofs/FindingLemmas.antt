@@ -23,7 +23,7 @@ use Rattle.ist_core.specs.Authors.{Later}
 use Rattle.ist_rule.specs.Rule.{IsSound}
 use Rattle.ist_rule.specs.Conditions.{CanEnd}
 use Rattle.ist_rule.proofs.LaterLemmas.{later-goes_on, later_more}
-use Rattle.ist_tree.proofs.IdleCallerLemmas.{between_behind, no_entry_behind, has_its_calls}
+use Rattle.ist_tree.proofs.IdleCallerLemmas.{between_after, no_entry_after, has_its_calls}
 use Rattle.ist_tree.proofs.PositionLemmas.{position_of, IsPlace, first_place, found_call}
 
 -- a longer log has no fewer changes
@@ -84,7 +84,7 @@ module _ (v : View) (number key : ℕ) (s : IsSound v) (mine : v.who ≡ CallerO
   its_calls =
       add_reading v.start v.words v.log log number v.stamp v.calls (get_call v key earlier log value)
       (has_its_calls v number s mine none) (later-goes_on all_later)
-      (no_entry_behind v number s mine none log lawful all_later) refl
+      (no_entry_after v number s mine none log lawful all_later) refl
       (its_fresh v.log (later-goes_on before)) its_read
 
   -- the call is the one that is picked
@@ -107,7 +107,7 @@ module _ (v : View) (number key : ℕ) (s : IsSound v) (mine : v.who ≡ CallerO
         in_call = refl;
         command_is = refl;
         stamp_is = refl;
-        resolved = (between_behind v number s mine none log lawful all_later).resolved;
+        resolved = (between_after v number s mine none log lawful all_later).resolved;
         stand = its_calls.stand;
         seen = earlier;
         goes_on = later-goes_on later;

@@ -37,7 +37,7 @@ use Rattle.ist_tree.specs.Insides.{face_as, pass_face, IsPass, IsPassWith}
 use Rattle.ist_rule.proofs.SpeakLemmas.{go_on_more}
 use Rattle.ist_tree.proofs.HeardLemmas.{heard_same, heard_turned, runs_at_once}
 use Rattle.ist_tree.proofs.IdleCallerLemmas.{between_calls, has_its_calls}
-use Rattle.ist_tree.proofs.GoingLemmas.{IsLaterView, lawful_behind, pass_with_later}
+use Rattle.ist_tree.proofs.GoingLemmas.{IsLaterView, lawful_after, pass_with_later}
 use Rattle.ist_tree.proofs.LoadingLemmas.{chain_on, costs_rise}
 use Rattle.ist_tree.proofs.PositionLemmas.{found_call}
 use Rattle.ist_tree.proofs.StartLemmas.{starts_none_later}
@@ -244,7 +244,7 @@ module _ (who : Caller) (key : ℕ) (value : Option ℕ) (b w : View) (s : IsSou
     pub has_loaded_few : (node index : ℕ) → HasFound w key node index value → HasFewLoads b w key node
         → HasLoadedFew (pass_face who refused) (face_as token who.number refused) key value
     has_loaded_few node index found few =
-        let now_lawful = lawful_behind v x later_view in
+        let now_lawful = lawful_after v x later_view in
         let searched = subst (λ (y : View). Searched y.start y.words w.log key w.loads.since node value)
         w_is found.searched in
         let chain = subst (λ (y : View). IsChainOf y.start y.words w.log node few.rows) w_is few.chain

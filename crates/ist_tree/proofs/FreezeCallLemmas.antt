@@ -22,10 +22,10 @@ use Rattle.ist_tree.specs.Calls.{HasSeenMore}
 use Rattle.ist_tree.specs.Insides.{HasSettled, IsPass, IsPassWith, face_as, pass_face}
 use Rattle.ist_tree.specs.Working.{KeepsDone, Rebuilds}
 use Rattle.ist_rows.specs.Going.{IsReady, StaysReady}
-use Rattle.ist_tree.proofs.IdleCallerLemmas.{between_behind}
+use Rattle.ist_tree.proofs.IdleCallerLemmas.{between_after}
 use Rattle.ist_tree.proofs.UpdateKeptLemmas.{rebuilt_no_entry}
 use Rattle.ist_tree.proofs.EventLemmas.{rebuilds_count_none}
-use Rattle.ist_tree.proofs.GoingLemmas.{IsLaterView, caller_on, lawful_behind}
+use Rattle.ist_tree.proofs.GoingLemmas.{IsLaterView, caller_on, lawful_after}
 use Rattle.laws_real_time.specs.declared.moments.Deed.TheVariants.{Begins}
 use Rattle.laws_real_time.specs.Moments.{Moments}
 use Rattle.ist_rule.specs.Speaking.{MomentsGoOn, number_of}
@@ -57,8 +57,8 @@ module _ (who : Caller) (token : TokenFace) (s : IsSound who.token.view) (p : Is
   begun_between : IsBetween who.token.view.start who.token.view.words token.view.log who.number
       who.token.view.calls
   begun_between =
-      between_behind who.token.view who.number s p.caller.mine p.in_none token.view.log
-      (lawful_behind who.token.view token.view begun_view)
+      between_after who.token.view who.number s p.caller.mine p.in_none token.view.log
+      (lawful_after who.token.view token.view begun_view)
       (subst (λ x. Later x who.token.view.log token.view.log) p.caller.mine begun.later)
 
   -- the caller has all its changes resolved
@@ -236,7 +236,7 @@ module _ (who began new : Caller) (token : TokenFace) (it : IsFreezeCall who beg
       → HasSettled w.start w.words w.log new.number
   settled_w done h =
       let mine_v = it.pass.caller.mine in
-      let first = settled_later v.start v.words v.log b.log (lawful_behind v b b_view) who.number
+      let first = settled_later v.start v.words v.log b.log (lawful_after v b b_view) who.number
       (subst (λ y. Later y v.log b.log) mine_v it.begun.later) h in
       let at_b : HasSettled b.start b.words b.log began.number =
       subst (λ n. HasSettled b.start b.words b.log n) (sym it.began_number)
@@ -262,7 +262,7 @@ module _ (who began new : Caller) (token : TokenFace) (it : IsFreezeCall who beg
         settled = λ unrefused.
             subst (λ pairs. HasSettled pairs x.words x.log new.number) (sym x_view.start_is)
             (subst (λ words. HasSettled w.start words x.log new.number) (sym x_view.words_is)
-            (settled_later w.start w.words w.log x.log (lawful_behind w x x_view) new.number
+            (settled_later w.start w.words w.log x.log (lawful_after w x x_view) new.number
             (subst (λ y. Later y w.log x.log) it.on.gone.caller.mine it.given.later)
             (settled_w (done unrefused) (all.settled (old unrefused)))));
       }

@@ -5,7 +5,7 @@ use Rattle.std.specs.List.Sorted.{IsStrictlyIncreasing}
 use Rattle.std.proofs.Math.Seq.{take-length}
 use Rattle.std.proofs.lemmas.List.{length-map}
 use Rattle.ist_core.specs.declared.pairs.Pair.{Pair}
-use Rattle.ist_core.specs.Changes.{changes_of, map_behind}
+use Rattle.ist_core.specs.Changes.{changes_of, map_after_entries}
 use Rattle.ist_core.specs.Growing.{AllGrow}
 use Rattle.ist_core.specs.Lawful.{Lawful, state_of}
 use Rattle.ist_core.specs.Leaves.{HasLeaves, PlacedLeaf, leaf_here, none_here, pair_of}
@@ -164,22 +164,22 @@ frozen_pairs_are_one pairs words log frozen found others a b =
 pub was_frozen_on : (pairs : List Pair) (words : ℕ) (first earlier log longer : Log)
     → Lawful pairs words longer → GoesOn first earlier → GoesOn log longer → (frozen : Frozen)
     → WasFrozen pairs words earlier log frozen → WasFrozen pairs words first longer frozen
-was_frozen_on pairs words first earlier log longer l before behind frozen w =
+was_frozen_on pairs words first earlier log longer l before following frozen w =
     let low = changes_rise pairs words first earlier before in
-    let high = changes_rise pairs words log longer behind in
+    let high = changes_rise pairs words log longer following in
     let from = w.were.from in
     let to = w.were.to in
     record {
-      frozen_is = frozen_stays pairs words log longer l behind frozen w.frozen_is;
+      frozen_is = frozen_stays pairs words log longer l following frozen w.frozen_is;
       found = w.found;
-      has = frozen_pairs_stay pairs words log longer l behind frozen w.found w.frozen_is w.has;
+      has = frozen_pairs_stay pairs words log longer l following frozen w.found w.frozen_is w.has;
       were = record {
         position = w.were.position;
         from = omega arith;
         to = omega arith;
         pairs_are =
             w.were.pairs_are
-            ∙ ap pairs_of (sym (map_at_on pairs words log longer w.were.position behind w.were.to));
+            ∙ ap pairs_of (sym (map_at_on pairs words log longer w.were.position following w.were.to));
       };
     }
 
@@ -205,7 +205,7 @@ top_was_frozen pairs words log l frozen reads f =
         position = length entries;
         from = le_refl (length entries);
         to = le_refl (length entries);
-        pairs_are = ap (λ es. pairs_of (map_behind (map_of pairs) es)) (sym (take-length entries));
+        pairs_are = ap (λ es. pairs_of (map_after_entries (map_of pairs) es)) (sym (take-length entries));
       };
     }
 

@@ -14,7 +14,7 @@ use Rattle.ist_rows.specs.declared.callers.Caller.{Caller}
 use Rattle.ist_rows.specs.Rows.{spares_of, is_spare, IsCaller}
 use Rattle.ist_rows.specs.Building.{AreStuck, HasRefused}
 use Rattle.ist_rows.proofs.BuildingLemmas.{all_stuck_on}
-use Rattle.ist_rows.proofs.CallerLemmas.{IsCallerIn, caller_later, comes_behind}
+use Rattle.ist_rows.proofs.CallerLemmas.{IsCallerIn, caller_later, comes_after}
 use Rattle.ist_rows.proofs.HeldListLemmas.{held_by_later}
 use Rattle.ist_tree.specs.Faces.{TreeFace, PassFace}
 use Rattle.ist_tree.specs.Insides.{pass_face, IsPass, IsPassWith, HasSettled}
@@ -40,8 +40,8 @@ goes_later v w g =
     }
 
 -- its log is lawful by the table of the first
-pub lawful_behind : (v w : View) → IsLaterView v w → Lawful v.start v.words w.log
-lawful_behind v w l =
+pub lawful_after : (v w : View) → IsLaterView v w → Lawful v.start v.words w.log
+lawful_after v w l =
     subst (λ p. Lawful p v.words w.log) l.start_is
     (subst (λ n. Lawful w.start n w.log) l.words_is l.sound.lawful)
 
@@ -56,7 +56,7 @@ pub caller_on : (who : Caller) (token : TokenFace) → IsCaller who → HasRefus
 caller_on who token c refused l =
     let v = who.token.view in
     let w = token.view in
-    let lawful = lawful_behind v w l in
+    let lawful = lawful_after v w l in
     let later : Later (CallerOf who.number) v.log w.log =
     subst (λ x. Later x v.log w.log) c.mine l.later in
     let it = caller_later v.start v.words v.log w.log who.number (spares_of who) lawful later record {
@@ -73,7 +73,7 @@ caller_on who token c refused l =
     (map (λ (h : HeldRow). h.size) (filter (λ (h : HeldRow). not (is_spare (spares_of who) h.base)) held)))
     (sym (held_by_later v.start v.words who.number v.log w.log lawful.enabled later))
     (all_stuck_on (now v) (state_of v.start v.words w.log)
-    (comes_behind v.start v.words who.number v.log w.log lawful later) _ refused) in
+    (comes_after v.start v.words who.number v.log w.log lawful later) _ refused) in
     record {
       caller = record {
         mine = l.who_is ∙ c.mine;
@@ -106,7 +106,7 @@ pass_with_later who token refused p l none =
       settled = λ unrefused.
           subst (λ pairs. HasSettled pairs w.words w.log who.number) (sym l.start_is)
           (subst (λ words. HasSettled v.start words w.log who.number) (sym l.words_is)
-          (settled_later v.start v.words v.log w.log (lawful_behind v w l) who.number
+          (settled_later v.start v.words v.log w.log (lawful_after v w l) who.number
           (subst (λ x. Later x v.log w.log) p.pass.caller.mine l.later) (p.settled unrefused)));
     }
 

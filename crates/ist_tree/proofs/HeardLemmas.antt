@@ -4,7 +4,7 @@ use Rattle.ist_core.specs.declared.commands.Command.{Command}
 use Rattle.ist_core.specs.Changes.{changes_of}
 use Rattle.ist_core.specs.Elements.{Each}
 use Rattle.ist_core.specs.Logs.{Log, same_log}
-use Rattle.ist_core.specs.Standing.{position_behind}
+use Rattle.ist_core.specs.Standing.{position_after}
 use Rattle.ist_core.specs.StartLayout.{start}
 use Rattle.laws_histories.proofs.ChangeLemmas.{changes_rise}
 use Rattle.laws_real_time.specs.declared.moments.Moment.{Moment}
@@ -76,7 +76,7 @@ steps_from p m q at seen s =
       seen = goes_on_more seen.seen s.seen;
       until = s.until;
       placed = subst (λ (t : TreeFace).
-          Each (λ x. position_behind x.call ≤ length (changes_of t.start t.words at))
+          Each (λ x. position_after x.call ≤ length (changes_of t.start t.words at))
           (ended s.before)) seen.tree s.placed;
     }
 

@@ -20,15 +20,15 @@ module _ (v : View) (number : ℕ) (s : IsSound v) (mine : v.who ≡ CallerOf nu
       subst (CallStands v.start v.words v.log number v.calls) none (s.is_true.call number mine)
 
   -- this stays so in a log that goes on by others
-  pub between_behind : (log : Log) → Lawful v.start v.words log → Later (CallerOf number) v.log log
+  pub between_after : (log : Log) → Lawful v.start v.words log → Later (CallerOf number) v.log log
       → IsBetween v.start v.words log number v.calls
-  between_behind log lawful l =
+  between_after log lawful l =
       between_later v.start v.words number v.calls v.log log lawful.enabled l between_calls
 
   -- the caller has no more entries there
-  pub no_entry_behind : (log : Log) → Lawful v.start v.words log
+  pub no_entry_after : (log : Log) → Lawful v.start v.words log
       → Later (CallerOf number) v.log log → MadeNoEntry v.start v.words number v.log log
-  no_entry_behind log lawful l = (between_behind log lawful l).made ∙ sym between_calls.made
+  no_entry_after log lawful l = (between_after log lawful l).made ∙ sym between_calls.made
 
   -- its calls are placed in all that it has seen, and have stamps up to its own
   pub has_its_calls : HasCalls v.start v.words v.log number v.stamp v.calls

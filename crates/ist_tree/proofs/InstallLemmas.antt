@@ -68,14 +68,14 @@ module _ (pairs : List Pair) (words caller : ℕ) where
       → InstallsDue pairs words b c caller → InstallsDue pairs words a c caller
   due_more a b c g one two at base rows change since until is kind =
       ⊎_elim (λ k. one at base rows change since k is kind)
-      (λ k. behind (whole_or_before b (Install caller base rows) at k)) (in_order until g)
+      (λ k. following (whole_or_before b (Install caller base rows) at k)) (in_order until g)
     where
-      behind : (b ≡ Install caller base rows ∷ at) ⊎ GoesOn b at
+      following : (b ≡ Install caller base rows ∷ at) ⊎ GoesOn b at
           → IsDueAt (state_of pairs words at) change.from
-      behind (inl e) =
+      following (inl e) =
           one at base rows change since
           (subst (GoesOn (Install caller base rows ∷ at)) (sym e) same_log) is kind
-      behind (inr k) = two at base rows change k until is kind
+      following (inr k) = two at base rows change k until is kind
 
   -- if all starts are of one row that was due before, each was of a due row
   pub aimed_due : (earlier log : Log) → EachEnabled (start pairs words) log → (target : ℕ)

@@ -83,7 +83,7 @@ costs_rise t u g key (row ∷ rows) =
     let before : sum_by (row_loads t key) (row ∷ rows)
     ≡ (0 + row_loads t key row) + sum_by (row_loads t key) rows =
     sum_by-append (row_loads t key) (row ∷ []) rows in
-    let behind : sum_by (row_loads u key) (row ∷ rows)
+    let following : sum_by (row_loads u key) (row ∷ rows)
     ≡ (0 + row_loads u key row) + sum_by (row_loads u key) rows =
     sum_by-append (row_loads u key) (row ∷ []) rows in
     let one = row_rises t u g key row in

@@ -30,7 +30,7 @@ use Rattle.ist_tree.specs.Insides.{IsPass, IsPassWith, face_as, pass_face}
 use Rattle.ist_tree.specs.Rounds.{HadValue}
 use Rattle.ist_rule.proofs.SpeakLemmas.{go_on_more}
 use Rattle.ist_tree.proofs.HeardLemmas.{heard_same, heard_turned}
-use Rattle.ist_tree.proofs.IdleCallerLemmas.{between_behind, between_calls}
+use Rattle.ist_tree.proofs.IdleCallerLemmas.{between_after, between_calls}
 use Rattle.ist_tree.proofs.StartLemmas.{starts_none_later}
 use Rattle.ist_tree.proofs.FindingLemmas.{searched_view}
 use Rattle.ist_tree.proofs.FoundLemmas.{before, its_position, later, lawful, seen_moments, w_is}
@@ -71,7 +71,7 @@ module _ (who : Caller) (key : ℕ) (value : Option ℕ) (b w : View) (s : IsSou
   -- it may give its call up
   pub can_leave : CanGiveUp w
   can_leave =
-      let between = between_behind v who.number s p.caller.mine p.in_none w.log
+      let between = between_after v who.number s p.caller.mine p.in_none w.log
       (lawful who key value b w s p begun seen has) (later_more to_b to_w) in
       subst CanGiveUp (sym is_w)
       record {

@@ -24,12 +24,12 @@ equal i j same = at (eqb_tells i j)
     at (inr f) = absurd (f.1 same)
 
 -- a pass with a lower number is passed over
-from_behind : (from count : ℕ) (pass : PassCalls) (more : List PassCalls) → pass.number < from
+from_after : (from count : ℕ) (pass : PassCalls) (more : List PassCalls) → pass.number < from
     → calls_from from count (pass ∷ more) ≡ calls_from from count more
-from_behind from zero pass more lt = refl
-from_behind from (suc count) pass more lt =
+from_after from zero pass more lt = refl
+from_after from (suc count) pass more lt =
     let other : (pass.number == from) ≡ false = not_equal pass.number from (λ e. omega arith) in
-    let rest = from_behind (from + 1) count pass more (omega arith) in
+    let rest = from_after (from + 1) count pass more (omega arith) in
     rw (other, rest) refl
 
 -- passes in the order of their numbers have their calls in that order
@@ -41,5 +41,5 @@ calls_in_order from (pass ∷ passes) e =
     let head : pass.number ≡ from = cc in
     let tail : map (λ p. p.number) passes ≡ range_with_len (from + 1) (length passes) = cc in
     let mine = equal pass.number from head in
-    let rest = from_behind (from + 1) (length passes) pass passes (omega arith) in
+    let rest = from_after (from + 1) (length passes) pass passes (omega arith) in
     rw (mine, rest, calls_in_order (from + 1) passes tail) refl

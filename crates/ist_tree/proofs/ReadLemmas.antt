@@ -28,8 +28,8 @@ module _ (who : Caller) (refused : Option Full) (b : View) (token : TokenFace)
   w = token.view
 
   -- the pass after the read
-  abbrev behind : PassFace
-  behind = face_as token who.number refused
+  abbrev following : PassFace
+  following = face_as token who.number refused
 
   w_is : w ≡ record (beginning_read v b.log turned.before) {
     log = w.log;
@@ -86,7 +86,7 @@ module _ (who : Caller) (refused : Option Full) (b : View) (token : TokenFace)
       (one_moment (moment_seen v b.log GivesUp) same_moments)
 
   -- it has seen more
-  pub read_seen : HasSeenMore (pass_face who refused) behind
+  pub read_seen : HasSeenMore (pass_face who refused) following
   read_seen =
       let stamps = read_stamp in
       record {
@@ -100,7 +100,7 @@ module _ (who : Caller) (refused : Option Full) (b : View) (token : TokenFace)
       }
 
   -- since a step in this call
-  pub read_step : StepsIn (pass_face who refused) behind b.log
+  pub read_step : StepsIn (pass_face who refused) following b.log
   read_step =
       record {
         before = turned.before;

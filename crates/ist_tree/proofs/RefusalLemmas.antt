@@ -38,7 +38,7 @@ use Rattle.ist_tree.specs.Refusals.{HadTooFew, IsAskedForRow, IsAskedIn, IsForHe
 use Rattle.ist_tree.specs.Working as working
 use Rattle.laws_histories.proofs.PositionOnLemmas.{position_on}
 use Rattle.ist_tree.proofs.AskedLemmas.{asked_grows, asked_same, lacked_then, puts_rise}
-use Rattle.ist_tree.proofs.GoingLemmas.{lawful_behind}
+use Rattle.ist_tree.proofs.GoingLemmas.{lawful_after}
 use Rattle.ist_tree.proofs.ShortLemmas.{due_slot_grows, short_now}
 use Rattle.ist_tree.proofs.UpdateSeenLemmas.{IsUpdateCall, b_start, b_view, b_words, b_to_w, lawful_w, lawful_x, v_to_b, w_start, w_to_x, w_words, x_start, x_words}
 
@@ -49,8 +49,8 @@ module _ (who began new : Caller) (token : TokenFace) (command : Command)
   before = pass_face who r
 
   -- the pass after the call
-  abbrev behind : PassFace
-  behind = face_as token new.number q
+  abbrev following : PassFace
+  following = face_as token new.number q
 
   -- the view before the call
   abbrev v : View
@@ -66,7 +66,7 @@ module _ (who began new : Caller) (token : TokenFace) (command : Command)
 
   -- there were too few words at the end of the work
   abbrev had_too_few : (words : ℕ) (full : Full) → words ≡ v.words
-      → LeavesTooFew w.start words w.log full → HadTooFew before behind full
+      → LeavesTooFew w.start words w.log full → HadTooFew before following full
   had_too_few words full same s =
       record {
         at = w.log;
@@ -88,7 +88,7 @@ module _ (who began new : Caller) (token : TokenFace) (command : Command)
 
   -- what helping a rebuild took
   asked_for_rebuild : (rebuild asked : ℕ) → IsAskedFor (LacksNow w) (now w) rebuild asked
-      → IsForRebuild behind asked
+      → IsForRebuild following asked
   asked_for_rebuild rebuild asked (for_change e lacks) = inl e
   asked_for_rebuild rebuild asked (for_row row k some e fin least le is) =
       let lawful = lawful_w who began new token command it in
@@ -119,17 +119,17 @@ module _ (who began new : Caller) (token : TokenFace) (command : Command)
       (w_to_x who began new token command it)) (subst Q now_w h)))
 
   -- a row that the caller lacked after the work
-  lacked_last : (asked : ℕ) → LacksNow w asked → LackedAt behind w.log asked
+  lacked_last : (asked : ℕ) → LacksNow w asked → LackedAt following w.log asked
   lacked_last asked lacks = lacked_then new token it.caller it.last q asked lacks
 
   -- and of this very rebuild
   for_help : (rebuild asked : ℕ) → IsAskedFor (LacksNow w) (now w) rebuild asked
-      → IsForHelp behind w.log rebuild asked
+      → IsForHelp following w.log rebuild asked
   for_help rebuild asked a =
-      in_last (λ t. IsAskedFor (LackedAt behind w.log) t rebuild asked)
-      (λ t u g. asked_grows (LackedAt behind w.log) (LackedAt behind w.log) t u g rebuild asked
+      in_last (λ t. IsAskedFor (LackedAt following w.log) t rebuild asked)
+      (λ t u g. asked_grows (LackedAt following w.log) (LackedAt following w.log) t u g rebuild asked
       (λ lacked. lacked))
-      (asked_same (LacksNow w) (LackedAt behind w.log) (now w) rebuild asked (lacked_last asked) a)
+      (asked_same (LacksNow w) (LackedAt following w.log) (now w) rebuild asked (lacked_last asked) a)
 
   -- a rebuild that was started is started after the call
   started_last : (rebuild : ℕ) → IsStarted (now w) rebuild
@@ -144,7 +144,7 @@ module _ (who began new : Caller) (token : TokenFace) (command : Command)
       (subst (λ t. IsReplaced t rebuild) (sym now_b)
       (replaced_grows (now v) (state_of v.start v.words began.token.view.log)
       (grow_between v.start v.words v.log began.token.view.log
-      (lawful_behind v began.token.view (b_view who began new token command it)).enabled
+      (lawful_after v began.token.view (b_view who began new token command it)).enabled
       (v_to_b who began new token command it)) rebuild k))
     where
       now_b : now began.token.view ≡ state_of v.start v.words began.token.view.log
@@ -156,7 +156,7 @@ module _ (who began new : Caller) (token : TokenFace) (command : Command)
   in_slot : (due : Due)
       → Ever (start v.start v.words) (λ t. IsChild t due.parent due.index due.target) w.log
       → (rebuild : ℕ) → working.IsInDueSlot (now w) rebuild due
-      → IsInSlotOf behind rebuild due.target
+      → IsInSlotOf following rebuild due.target
   in_slot due child rebuild slot =
       let s = in_last (λ t. working.IsInDueSlot t rebuild due)
       (λ t u g. due_slot_grows t u g rebuild due) slot in
@@ -182,7 +182,7 @@ module _ (who began new : Caller) (token : TokenFace) (command : Command)
       → CameToLimit v.start v.words began.token.view.log w.log who.number due.target
       → Ever (start v.start v.words) (λ t. IsChild t due.parent due.index due.target) w.log
       → working.IsDueRefused (now began.token.view) w due words full
-      → IsRowRefused before behind due.target full
+      → IsRowRefused before following due.target full
   row_was_refused words full same due c child d =
       record {
         came = record {
@@ -199,7 +199,7 @@ module _ (who began new : Caller) (token : TokenFace) (command : Command)
       }
     where
       asked : working.IsAskedToRebuild (now began.token.view) w due full.asked
-          → IsAskedForRow before behind w.log due.target full.asked
+          → IsAskedForRow before following w.log due.target full.asked
       asked (working.for_start e lacks) = for_start e (lacked_last full.asked lacks)
       asked (working.for_own rebuild started of a) =
           for_own
@@ -224,7 +224,7 @@ module _ (who began new : Caller) (token : TokenFace) (command : Command)
   -- the update itself was
   pub update_was_refused : (words key : ℕ) (value : Option ℕ) (full : Full) → words ≡ v.words
       → updates.WasRefused began.token.view key value words full w
-      → IsRefused before behind key value full
+      → IsRefused before following key value full
   update_was_refused words key value full same d =
       record {
         had = had_too_few words full same (short_now Updates (record began.token.view { searches = w.searches }) words full w d.short);
@@ -233,7 +233,7 @@ module _ (who began new : Caller) (token : TokenFace) (command : Command)
     where
       asked : (value : Option ℕ) (n : ℕ)
           → updates.IsAskedBy (record began.token.view { searches = w.searches }) w key value n
-          → IsAskedIn before behind w.log key value n
+          → IsAskedIn before following w.log key value n
       asked _ n (updates.for_leaf e lacks) = for_leaf e (lacked_last n lacks)
       asked _ n (updates.for_pair e lacks met) =
           for_pair e (lacked_last n lacks)
@@ -264,7 +264,7 @@ module _ (who began new : Caller) (token : TokenFace) (command : Command)
           (on_its_way way) (asked_for_rebuild rebuild n a) (for_help rebuild n a)
         where
           on_its_way : updates.IsOnWay began.token.view.start began.token.view.words w.log key rebuild
-              → IsOnKeysWay behind key rebuild
+              → IsOnKeysWay following key rebuild
           on_its_way way =
               subst (λ words. updates.IsOnWay x.start words x.log key rebuild)
               (sym (x_words who began new token command it))
@@ -279,8 +279,8 @@ module _ (who began new : Caller) (token : TokenFace) (command : Command)
 
   -- the first refusal of a rebuild is kept
   pub keeps_first : (met : Option Full) → q ≡ option_or r met
-      → ((full : Full) → met ≡ Some full → (row : ℕ) × IsRowRefused before behind row full)
-      → KeepsRowRefusal before behind
+      → ((full : Full) → met ≡ Some full → (row : ℕ) × IsRowRefused before following row full)
+      → KeepsRowRefusal before following
   keeps_first met is cause =
       record {
         stays = λ full e. is ∙ ap (λ o. option_or o met) e;
@@ -288,6 +288,6 @@ module _ (who began new : Caller) (token : TokenFace) (command : Command)
       }
     where
       from : {full : Full} (o : Option Full) → option_or o met ≡ Some full
-          → (o ≡ Some full) ⊎ ((row : ℕ) × IsRowRefused before behind row full)
+          → (o ≡ Some full) ⊎ ((row : ℕ) × IsRowRefused before following row full)
       from (Some first) e = inl e
       from {full = full} None e = inr (cause full e)

@@ -21,7 +21,7 @@ use Rattle.ist_rule.proofs.LaterLemmas.{later-goes_on}
 use Rattle.ist_rows.specs.declared.callers.Caller.{Caller}
 use Rattle.ist_rebuild.specs.Starting.{StartsDoneSince, StartsNone}
 use Rattle.ist_tree.specs.Working.{KeepsDone}
-use Rattle.ist_tree.proofs.GoingLemmas.{IsLaterView, lawful_behind}
+use Rattle.ist_tree.proofs.GoingLemmas.{IsLaterView, lawful_after}
 
 -- two parts in which the caller started none, one after the other, are one such part
 pub starts_none_more : (t u w : Snapshot) (number : ℕ) → StartsNone t u number
@@ -88,7 +88,7 @@ since_none t u number none base change e own kind said rebuild to =
 pub starts_none_later : (v w : View) → IsLaterView v w → (number : ℕ) → v.who ≡ CallerOf number
     → IsResolved v number → StartsNone (now v) (now w) number
 starts_none_later v w l number mine resolved base x e own kind said =
-    let lawful = lawful_behind v w l in
+    let lawful = lawful_after v w l in
     own_start_stays v.start v.words lawful.opens (λ event. whose event ≢ CallerOf number) v.log
     number (others_start_nothing number) w.log
     (subst (λ who. Later who v.log w.log) mine l.later) lawful.enabled resolved base x
@@ -101,7 +101,7 @@ pub since_later : (v w : View) → IsLaterView v w → (number : ℕ) → v.who 
     → IsResolved v number → (first : Snapshot) → StartsDoneSince first (now v) number
     → StartsDoneSince first (now w) number
 since_later v w l number mine resolved first done base change e own kind said rebuild to =
-    let lawful = lawful_behind v w l in
+    let lawful = lawful_after v w l in
     let old = starts_none_later v w l number mine resolved base change e own kind said in
     ⊎_elim (λ was. inl was)
     (λ d. inr (there (done_stays v.start v.words lawful.opens v.log w.log (later-goes_on l.later)

@@ -69,7 +69,7 @@ numbered_is number (t ∷ ts) i =
       number_is = k.1;
       calls_are = ap (λ b. if b then t.calls else calls_numbered number (map taken_pass ts)) k.0;
     })
-    (λ k. let rest = numbered_is number ts (behind k.1 i) in record {
+    (λ k. let rest = numbered_is number ts (following k.1 i) in record {
       taken = rest.taken;
       among = inr rest.among;
       number_is = rest.number_is;
@@ -78,10 +78,10 @@ numbered_is number (t ∷ ts) i =
     })
     (eqb_tells t.number number)
   where
-    behind : t.number ≢ number → (number ≡ t.number) ⊎ Among number (map (λ (x : Taken). x.number) ts)
+    following : t.number ≢ number → (number ≡ t.number) ⊎ Among number (map (λ (x : Taken). x.number) ts)
         → Among number (map (λ (x : Taken). x.number) ts)
-    behind ne (inl e) = absurd (ne (sym e))
-    behind ne (inr h) = h
+    following ne (inl e) = absurd (ne (sym e))
+    following ne (inr h) = h
 
 -- ---- lists of calls by numbers
 

@@ -57,8 +57,8 @@ module _ (who began new : Caller) (token : TokenFace) (command : Command)
   before = pass_face who r
 
   -- the pass after the call
-  abbrev behind : PassFace
-  behind = face_as token new.number q
+  abbrev following : PassFace
+  following = face_as token new.number q
 
   -- the view before the call
   abbrev v : View
@@ -80,7 +80,7 @@ module _ (who began new : Caller) (token : TokenFace) (command : Command)
 
   -- what the work counted is counted in the call
   pub has_counted : IsCounted b.start b.words b.log w.log began.number command
-      → HasCountedInCall before behind command
+      → HasCountedInCall before following command
   has_counted c =
       counted_on v.start v.words v.log b.log w.log x.log (way.v_to_b who began new token command it)
       (way.b_to_w who began new token command it) (way.w_to_x who began new token command it)
@@ -141,7 +141,7 @@ module _ (who began new : Caller) (token : TokenFace) (command : Command)
   topmost : (row : ℕ) → CameToLimit v.start v.words b.log w.log began.number row
       → ((other : ℕ) → CameToLimit v.start v.words b.log w.log began.number other
       → WasOnChain (start v.start v.words) w.log other row)
-      → IsTopmostDue before behind row
+      → IsTopmostDue before following row
   topmost row came top =
       record {
         came = came_in_call row came;
@@ -155,7 +155,7 @@ module _ (who began new : Caller) (token : TokenFace) (command : Command)
   top_is_shut : (row : ℕ) → working.IsTopShut (record (beginning v (Some command) b.log it.begun.before) {
     log = b.log;
   }) w began.number row
-      → LeavesNoneDue before behind
+      → LeavesNoneDue before following
   top_is_shut row t =
       let child = ever_from (start v.start v.words) (λ s. IsChild s t.parent t.index row) w.log
       t.was_child in
@@ -176,13 +176,13 @@ module _ (who began new : Caller) (token : TokenFace) (command : Command)
             t.shut;
       })
     where
-      in_view : IsClosedAt (record behind { tree = before.tree }) row → IsClosedAt behind row
-      in_view = subst (λ tree. IsClosedAt (record behind { tree = tree }) row)
+      in_view : IsClosedAt (record following { tree = before.tree }) row → IsClosedAt following row
+      in_view = subst (λ tree. IsClosedAt (record following { tree = tree }) row)
           (sym (way.same_tree who began new token command it))
 
   -- if the work brought no row to its limit, the call didn't
   pub came_nowhere : ((row : ℕ) → ¬ (CameToLimit b.start b.words b.log w.log began.number row))
-      → (row : ℕ) → ¬ (CameDue before behind row)
+      → (row : ℕ) → ¬ (CameDue before following row)
   came_nowhere none row c =
       none row
       (subst (λ (y : View). CameToLimit y.start y.words b.log w.log began.number row)
@@ -200,7 +200,7 @@ module _ (who began new : Caller) (token : TokenFace) (command : Command)
   pub row_refused : (words : ℕ) (full : Full) → words ≡ v.words → (due : Due)
       → working.IsTopCame b w began.number due.target
       → Ever (start b.start b.words) (λ s. IsChild s due.parent due.index due.target) w.log
-      → working.IsDueRefused (now b) w due words full → IsRowRefused before behind due.target full
+      → working.IsDueRefused (now b) w due words full → IsRowRefused before following due.target full
   row_refused words full same due t child d =
       row_was_refused who began new token command it r q words full same due
       (subst (λ n. CameToLimit v.start v.words b.log w.log n due.target) it.began_number
@@ -211,7 +211,7 @@ module _ (who began new : Caller) (token : TokenFace) (command : Command)
 
   -- what became of the rows that reached their limits
   pub leaves_none_due : (words : ℕ) (met : Option Full) → words ≡ v.words → q ≡ option_or r met
-      → working.LeavesShut b w began.number words met → LeavesNoneDue before behind
+      → working.LeavesShut b w began.number words met → LeavesNoneDue before following
   leaves_none_due words _ same is (working.none_came none) = none_came (came_nowhere none)
   leaves_none_due words _ same is (working.was_refused full due t child d) =
       was_refused due.target full
@@ -281,7 +281,7 @@ module _ (who began new : Caller) (token : TokenFace) (command : Command)
         record { position = omega arith; later = f.later }
 
     -- it was made in real time
-    pub in_time : ReturnsInTime before behind command call.reply
+    pub in_time : ReturnsInTime before following command call.reply
     in_time =
         record {
           before = it.begun.before;
@@ -306,7 +306,7 @@ module _ (who began new : Caller) (token : TokenFace) (command : Command)
         }
 
     -- it is one call more of the pass
-    pub adds_call : AddsCall before behind command call.reply
+    pub adds_call : AddsCall before following command call.reply
     adds_call =
         record {
           call = call;
@@ -314,7 +314,7 @@ module _ (who began new : Caller) (token : TokenFace) (command : Command)
           reply_is = refl;
           stamp_is = sym x_stamp;
           calls_are = x_calls;
-          timed = runs_at_once before behind command call.reply
+          timed = runs_at_once before following command call.reply
               (it.sound.well_made.moments.spoken who.number it.pass.caller.mine).calls_are in_time;
           added = record { has_calls = has_calls; fresh = fresh };
           learnt = λ other l h. learnt_first v.start v.words other.seen v.log other.number other.stamp

@@ -29,7 +29,7 @@ use Rattle.ist_tree.specs.Calls.{HasSeenMore}
 use Rattle.ist_tree.specs.Insides.{HasSettled, IsPass, face_as, pass_face, tree_of}
 use Rattle.ist_tree.specs.Working.{KeepsDone, Works}
 use Rattle.ist_tree.proofs.BeginningLemmas.{begun_view}
-use Rattle.ist_tree.proofs.GoingLemmas.{IsLaterView, caller_on, lawful_behind}
+use Rattle.ist_tree.proofs.GoingLemmas.{IsLaterView, caller_on, lawful_after}
 use Rattle.ist_tree.proofs.HeardLemmas.{heard_same, heard_turned}
 use Rattle.ist_tree.proofs.IdleCallerLemmas.{between_calls}
 use Rattle.ist_tree.proofs.SettlingLemmas.{settled_later}
@@ -204,7 +204,7 @@ module _ (who began new : Caller) (token : TokenFace) (command : Command)
       → DueRowsAreClosed (start b.start b.words) w.log began.number)
       → HasSettled v.start v.words v.log who.number → HasSettled x.start x.words x.log new.number
   settled_then resolved starts due old =
-      let at_b = settled_later v.start v.words v.log b.log (lawful_behind v b b_view) who.number
+      let at_b = settled_later v.start v.words v.log b.log (lawful_after v b b_view) who.number
       later_b old in
       let of_b = subst (λ (y : View). HasSettled y.start y.words b.log who.number) (sym way.begun.view)
       at_b in

@@ -3,7 +3,7 @@ use Rattle.std.specs.Prelude.{◌≡◌, ℕ, ◌+◌, ◌<◌, false, List, [],
 use Rattle.ist_core.specs.declared.calls.Call.{Call}
 use Rattle.ist_core.specs.Elements.{Each}
 use Rattle.ist_core.specs.Logs.{GoesOn}
-use Rattle.ist_core.specs.Changes.{changes_of, map_behind}
+use Rattle.ist_core.specs.Changes.{changes_of, map_after_entries}
 use Rattle.ist_core.specs.Histories.{PassCalls}
 use Rattle.ist_core.specs.Map.{map_of, replay}
 use Rattle.ist_core.specs.Replies.{Answered}
@@ -38,5 +38,5 @@ pub record ClosesWith (m : MakerFace) (words : List ℕ) : Type 0 where
       (changes_of m.tree.start (length words) stands.log)
   pub timed : ClosesInTime m.tree.start m.made m.moments m.taken
   pub leads : replay (map_of m.tree.start) (map (λ call. call.command) timed.linear.order)
-      ≡ map_behind (map_of m.tree.start) (changes_of m.tree.start (length words) stands.log)
+      ≡ map_after_entries (map_of m.tree.start) (changes_of m.tree.start (length words) stands.log)
   pub settled : m.refused ≡ false → IsSettled (state_of m.tree.start (length words) stands.log)

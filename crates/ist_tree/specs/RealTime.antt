@@ -8,7 +8,7 @@ use Rattle.ist_core.specs.Changes.{changes_of}
 use Rattle.ist_core.specs.Elements.{Each}
 use Rattle.ist_core.specs.Histories.{PassCalls}
 use Rattle.ist_core.specs.Logs.{Log, GoesOn}
-use Rattle.ist_core.specs.Standing.{position_behind}
+use Rattle.ist_core.specs.Standing.{position_after}
 use Rattle.ist_core.specs.Map.{map_of}
 use Rattle.laws_real_time.specs.declared.moments.Deed.TheVariants.{Begins, Returns}
 use Rattle.laws_real_time.specs.declared.moments.Moment.{Moment}
@@ -66,7 +66,7 @@ pub record StepsIn (p q : PassFace) (at : Log) : Type 0 where
   pub heard : MomentsGoOn (step ∷ before) q.moments
   pub seen : GoesOn p.seen at
   pub until : GoesOn at q.seen
-  pub placed : Each (λ x. position_behind x.call ≤ length (changes_of p.tree.start p.tree.words at))
+  pub placed : Each (λ x. position_after x.call ≤ length (changes_of p.tree.start p.tree.words at))
       (ended before)
 
 -- the calls of all passes on a tree that began with these pairs are linearizable. Their moments begin with

@@ -17,7 +17,7 @@ use Rattle.ist_updates.specs.Asking.{IsAsked}
 use Rattle.ist_updates.specs.Changing.{Prepares, MayReplace, IsWayRefused, command_by}
 use Rattle.ist_updates.specs.Trying.{Tries}
 use Rattle.ist_updates.proofs.AskedLemmas.{asked_gone, asked_quiet}
-use Rattle.ist_updates.proofs.BehindLemmas.{behind_loads, behind_went}
+use Rattle.ist_updates.proofs.AfterLemmas.{after_loads, after_went}
 use Rattle.ist_updates.proofs.FurtherLemmas.{aimed_on, planned_aim, shut_further}
 use Rattle.ist_updates.proofs.ShortLemmas.{err_refused}
 use Rattle.ist_updates.proofs.SlotLemmas.{HasPreparedPlan, loads_taken, prepared_taken}
@@ -79,7 +79,7 @@ module _ (old : Caller) (aim : Aim) (x : Way) (a : IsAsked old (command_by aim.k
         lost = λ is. h.lost (ok_is taken false is) (command_by aim.key x) p.asked;
         further = λ is first aimed. h.further (ok_is taken false is) first
             (planned_aim first old.token.view mid.token.view aim plan.row aimed
-            (behind_went Prepares old.token.view mid.token.view p.gone.went) p.is_for.node
+            (after_went Prepares old.token.view mid.token.view p.gone.went) p.is_for.node
             p.is_for.index p.is_for.from);
         still = tt;
         full = tt;
@@ -114,7 +114,7 @@ module _ (old : Caller) (aim : Aim) (x : Way) (a : IsAsked old (command_by aim.k
           took = λ is. absurd (lost_took is);
           lost = λ is. loads_still;
           further = λ is first aimed. shut_further first old.token.view token.view aim.node aim.index
-              aim.word aimed (behind_loads old.token.view token.view g) g.sound shut;
+              aim.word aimed (after_loads old.token.view token.view g) g.sound shut;
           still = tt;
           full = tt;
         }
@@ -135,7 +135,7 @@ module _ (old : Caller) (aim : Aim) (x : Way) (a : IsAsked old (command_by aim.k
           lost = h.lost;
           further = λ is first aimed. h.further is first
               (aimed_on first old.token.view token.view aim.node aim.index aim.word aimed
-              (behind_loads old.token.view token.view g));
+              (after_loads old.token.view token.view g));
           still = h.still;
           full = err_refused old.token.view token.view x words new.token.view r loaded.went h.full;
         }

@@ -68,9 +68,9 @@ module _ (v : View) (s : IsSound v) (row : ℕ) (m : MayCount v row) where
     log_is : w.log ≡ Count (number_of v.who) row ∷ l.logged.before
     log_is = ap (λ x. x.log) l.logged.view ∙ ap (λ e. e ∷ l.logged.before) event_is
 
-    lawful_behind : Lawful v.start v.words
+    lawful_after : Lawful v.start v.words
         (counting v (place - inner_count_offset) found ∷ l.logged.before)
-    lawful_behind = (subst IsSound l.logged.view l.logged.sound).lawful
+    lawful_after = (subst IsSound l.logged.view l.logged.sound).lawful
 
     -- the row before the Count
     row_before : (r : InnerRow)
@@ -78,7 +78,7 @@ module _ (v : View) (s : IsSound v) (row : ℕ) (m : MayCount v row) where
         × InnerGrows there.0 r
     row_before =
         inner_there (now v).pieces (state_of v.start v.words l.logged.before).pieces
-        (grow_between v.start v.words v.log l.logged.before lawful_behind.enabled.0
+        (grow_between v.start v.words v.log l.logged.before lawful_after.enabled.0
         (later-goes_on l.logged.later)) row there.0 there.1
 
     -- its count is what the add found
@@ -92,7 +92,7 @@ module _ (v : View) (s : IsSound v) (row : ℕ) (m : MayCount v row) where
     pub found_fits : found + 1 < 2 ^ 64
     found_fits =
         let low = count_low v.start v.words s.lawful.opens l.logged.before
-        lawful_behind.enabled.0 row row_before.0 row_before.1 in
+        lawful_after.enabled.0 row row_before.0 row_before.1 in
         let is = found_is in
         omega arith
 

@@ -33,7 +33,7 @@ use Rattle.ist_updates.specs.declared.updates.Applied.{Applied}
 use Rattle.ist_updates.specs.declared.updates.Due.{Due}
 use Rattle.ist_updates.specs.Counting.{WasCounted, CameToLimit}
 use Rattle.ist_updates.specs.Walking.{HasCountedAt, HasStood, IsTopmost, IsDueBy, HasCounted}
-use Rattle.ist_updates.proofs.NextRowLemmas.{get_here, counted_behind}
+use Rattle.ist_updates.proofs.NextRowLemmas.{get_here, counted_after}
 use Rattle.ist_updates.proofs.AskedLemmas.{no_yes_by}
 use Rattle.ist_updates.proofs.OneUpdateLemmas.{yes_stays, reply_stays}
 use Rattle.ist_updates.proofs.OwnCountLemmas.{later_none, from_none, last_or_sooner, came_on, came_back, counted_on}
@@ -165,7 +165,7 @@ module _ (pairs : List Pair) (words : ℕ) (opens : CanOpen pairs words) (earlie
         from_none caller (length rows) all earlier (Count caller row ∷ c.at) longer
         (counts_from earlier c.at caller (length rows) row all (get_here rows x.below row)
         (from_none caller (length rows + 1) all earlier log c.at
-        (counted_behind pairs words opens earlier log before caller command rows row done x)
+        (counted_after pairs words opens earlier log before caller command rows row done x)
         (later_none c.later)))
         (later_none c.more)
 

@@ -26,7 +26,7 @@ use Rattle.ist_updates.specs.Further.{IsFreshNode}
 use Rattle.ist_updates.specs.Meeting.{HasMissed, IsMetBy, IsWalkMet}
 use Rattle.ist_updates.specs.Trying.{IsAtSlot}
 use Rattle.ist_updates.specs.Walking.{HasCounted, HasStood, HasWalked}
-use Rattle.ist_updates.proofs.BehindLemmas.{behind_loads}
+use Rattle.ist_updates.proofs.AfterLemmas.{after_loads}
 use Rattle.ist_updates.proofs.FurtherLemmas.{come_linked, down_fresh, fresh_on}
 use Rattle.ist_updates.proofs.MissLemmas.{missed_loads}
 use Rattle.ist_updates.proofs.ResultLemmas.{err_walked, ok_walked}
@@ -100,7 +100,7 @@ module _ {old : Caller} {token : TokenFace} {key : ℕ} {value : Option ℕ} {no
           walked = walked_here old token s.seen key value node words r new s.stays walked;
           further = λ is first fresh. further is first
               (fresh_on first old.token.view token.view node fresh
-              (behind_loads old.token.view token.view s.seen) s.seen.sound);
+              (after_loads old.token.view token.view s.seen) s.seen.sound);
           met = met;
           missed = λ is. missed_loads old.token.view token.view new.token.view key when s.seen
               (missed is);
@@ -116,7 +116,7 @@ module _ {old : Caller} {token : TokenFace} {key : ℕ} {value : Option ℕ} {no
             further = λ again first fresh. h.further again first
                 (down_fresh first token.view node index word row
                 (fresh_on first old.token.view token.view node fresh
-                (behind_loads old.token.view token.view s.seen) s.seen.sound) s.seen.sound
+                (after_loads old.token.view token.view s.seen) s.seen.sound) s.seen.sound
                 (come_linked token.view s.seen.sound key node s.came.0 (s.stays s.came.0 s.came.1))
                 s.holds is);
             met = h.met;

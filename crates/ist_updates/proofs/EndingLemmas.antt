@@ -154,8 +154,8 @@ module _ (old new : Caller) (key : ℕ) (a : IsAsked old (Remove key)) (b : IsAs
       ∙ sym had_there.stand.exactly
 
   -- the search began after all that was seen
-  behind : GoesOn a.seen (log_at w2.log w2.loads.since)
-  behind =
+  following : GoesOn a.seen (log_at w2.log w2.loads.since)
+  following =
       subst (GoesOn a.seen)
       (sym (ap (log_at w2.log) (since ∙ began)
       ∙ at_prefix v2.log w2.log (later_by-goes_on g.later)))
@@ -166,7 +166,7 @@ module _ (old new : Caller) (key : ℕ) (a : IsAsked old (Remove key)) (b : IsAs
   its_search =
       let lawful = g.sound.lawful in
       search_added w2.start w2.words lawful.opens w2.log lawful.enabled a.seen old.number w2.stamp
-      w2.calls had_there no_entry w2.loads.since found.node behind (Remove key) None refl
+      w2.calls had_there no_entry w2.loads.since found.node following (Remove key) None refl
       found.searched
 
   -- the call may end without a value

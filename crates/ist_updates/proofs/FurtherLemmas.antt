@@ -41,24 +41,24 @@ use Rattle.ist_find.specs.Searches.{HasCome}
 use Rattle.laws_histories.proofs.PositionLemmas.{node_met}
 use Rattle.laws_calls.proofs.WalkLemmas.{meeting_comes}
 use Rattle.ist_updates.specs.Trying.{IsAtSlot}
-use Rattle.ist_updates.specs.Further.{HasAimed, IsBehind, IsFreshNode}
+use Rattle.ist_updates.specs.Further.{HasAimed, IsAfter, IsFreshNode}
 use Rattle.laws_histories.proofs.ChangeLemmas.{on_trans}
-use Rattle.ist_updates.proofs.BehindLemmas.{behind_more, further_behind, further_on, further_or_not, lawful_is, now_is, stands, stays_open}
+use Rattle.ist_updates.proofs.AfterLemmas.{after_more, further_after, further_on, further_or_not, lawful_is, now_is, stands, stays_open}
 
 -- ---- the way down
 
 -- a walk begins at the anchor
-pub anchor_fresh : (first v : View) → IsBehind first v → IsFreshNode first v anchor
-anchor_fresh first v b = record { behind = b; is = inl (anchor_is refl) }
+pub anchor_fresh : (first v : View) → IsAfter first v → IsFreshNode first v anchor
+anchor_fresh first v b = record { following = b; is = inl (anchor_is refl) }
 
 -- a node that was fresh is still fresh
-pub fresh_on : (first v w : View) (node : ℕ) → IsFreshNode first v node → IsBehind v w → IsSound w
+pub fresh_on : (first v w : View) (node : ℕ) → IsFreshNode first v node → IsAfter v w → IsSound w
     → IsFreshNode first w node
 fresh_on first v w node f b s =
     record {
-      behind = behind_more first v w f.behind b;
+      following = after_more first v w f.following b;
       is = ⊎_elim
-          (λ is. ⊎_elim (λ k. inr (further_behind first v w f.behind k))
+          (λ is. ⊎_elim (λ k. inr (further_after first v w f.following k))
           (λ few. inl (stays_open v w b s few node is)) (further_or_not v w))
           (λ k. inr (further_on first v w k b)) f.is;
     }
@@ -69,7 +69,7 @@ pub down_fresh : (first w : View) (node i word child : ℕ) → IsFreshNode firs
     → ref_of word ≡ Some (InnerAt child) → IsFreshNode first w child
 down_fresh first w node i word child f s was here is =
     record {
-      behind = f.behind;
+      following = f.following;
       is = ⊎_elim
           (λ o. inl (child_open w.start w.words s.lawful.opens w.log s.lawful.enabled node i word
           child (open_linked w.start w.words s.lawful.opens w.log s.lawful.enabled node was o) o here
@@ -80,13 +80,13 @@ down_fresh first w node i word child f s was here is =
 -- ---- each cause to begin again
 
 module _ (first v w : View) (node i word : ℕ) (a : HasAimed first v node i word)
-    (b : IsBehind v w) (s : IsSound w) where
-  abbrev whole : IsBehind a.at w
-  whole = behind_more a.at v w a.behind b
+    (b : IsAfter v w) (s : IsSound w) where
+  abbrev whole : IsAfter a.at w
+  whole = after_more a.at v w a.following b
 
   -- what is further since the look is further since the walk began
   since : CameFurther a.at w → CameFurther first w
-  since k = further_behind first a.at w a.fresh.behind k
+  since k = further_after first a.at w a.fresh.following k
 
   -- the node isn't open
   pub shut_further : ¬ (IsOpen (now w) node) → CameFurther first w
@@ -149,12 +149,12 @@ module _ (first v w : View) (node i word : ℕ) (a : HasAimed first v node i wor
 
 -- a change was installed since
 pub installed_further : (first v w x : View) (node i word base : ℕ) (f : Filling)
-    → HasAimed first v node i word → IsInstalled v base f w → IsBehind w x → CameFurther first x
+    → HasAimed first v node i word → IsInstalled v base f w → IsAfter w x → CameFurther first x
 installed_further first v w x node i word base f a k b =
-    let g = on_trans a.at.log v.log k.before.log a.behind.later (later-goes_on k.seen.later) in
+    let g = on_trans a.at.log v.log k.before.log a.following.later (later-goes_on k.seen.later) in
     let at = on_trans a.at.log k.before.log k.logged.before g (later-goes_on k.logged.later) in
     let log_is = ap (λ (y : View). y.log) k.logged.view in
-    further_behind first a.at x a.fresh.behind record {
+    further_after first a.at x a.fresh.following record {
       more = installing a.at.log k.logged.before x.log k.number base _ at
           (subst (λ log. GoesOn log x.log) log_is b.later);
     }
@@ -162,7 +162,7 @@ installed_further first v w x node i word base f a k b =
 -- ---- aims
 
 -- a walk that has aimed has aimed still
-pub aimed_on : (first v w : View) (node i word : ℕ) → HasAimed first v node i word → IsBehind v w
+pub aimed_on : (first v w : View) (node i word : ℕ) → HasAimed first v node i word → IsAfter v w
     → HasAimed first w node i word
 aimed_on first v w node i word a b =
     record {
@@ -171,12 +171,12 @@ aimed_on first v w node i word a b =
       fresh = a.fresh;
       holds = a.holds;
       set = a.set;
-      behind = behind_more a.at v w a.behind b;
+      following = after_more a.at v w a.following b;
     }
 
 -- the change of a plan has the aim
 pub planned_aim : (first v w : View) (aim : Aim) (row : ChangeRow)
-    → HasAimed first v aim.node aim.index aim.word → IsBehind v w → row.node ≡ aim.node
+    → HasAimed first v aim.node aim.index aim.word → IsAfter v w → row.node ≡ aim.node
     → row.index ≡ aim.index → row.from ≡ aim.word → HasAimed first w row.node row.index row.from
 planned_aim first v w aim row a b n i f =
     subst (λ x. HasAimed first w x row.index row.from) (sym n)
@@ -194,7 +194,7 @@ slot_aimed first v key node i word s at f =
       fresh = f;
       holds = at.holds;
       set = λ e. at.set (ap ref_of e ∙ ref_of-unset);
-      behind = record { later = same_log; start_is = refl; words_is = refl };
+      following = record { later = same_log; start_is = refl; words_is = refl };
     }
 
 -- a change that stood in the slot is resolved
@@ -202,12 +202,12 @@ pub change_further : (P : Event → Type 0) (first v w : View) (node i word chan
     → HasAimed first v node i word → SlotHolds (now v) node i word → WentOn P v w
     → ref_of word ≡ Some (ChangeAt change) → Happened (Resolves change) w.log → CameFurther first w
 change_further P first v w node i word change s a here g is out =
-    further_behind first v w (behind_more first a.at v a.fresh.behind a.behind)
+    further_after first v w (after_more first a.at v a.fresh.following a.following)
     (helped_further P v w s g node i word change here is out)
 
 -- a rebuild that stood in the slot was replaced, or its parent is marked
 pub target_further : (first v w : View) (node i word : ℕ) → HasAimed first v node i word
-    → IsBehind v w → IsSound w → (rebuild : ℕ) → ref_of word ≡ Some (RebuildAt rebuild) → (h : Helped)
+    → IsAfter v w → IsSound w → (rebuild : ℕ) → ref_of word ≡ Some (RebuildAt rebuild) → (h : Helped)
     → (h ≡ Replaced → IsReplaced (now w) rebuild)
     → (h ≡ ParentMarked → IsLeftToParent (now w) rebuild) → CameFurther first w
 target_further first v w node i word a b s rebuild is Replaced replaced left =

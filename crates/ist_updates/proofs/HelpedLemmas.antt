@@ -24,7 +24,7 @@ use Rattle.ist_updates.specs.Asking.{command_for, IsAsked, Updates}
 use Rattle.ist_updates.specs.Refusals.{IsOnWay, IsUpdateRefused, for_rebuild}
 use Rattle.ist_updates.specs.Trying.{BeganSince, IsAtSlot}
 use Rattle.ist_updates.proofs.StepLemmas.{tries_updates, serves_tries}
-use Rattle.ist_updates.proofs.ShortLemmas.{short_behind, short_all}
+use Rattle.ist_updates.proofs.ShortLemmas.{short_after, short_all}
 use Rattle.ist_updates.proofs.WayLemmas.{slot_on_way, way_longer}
 
 -- ---- rebuilds
@@ -97,7 +97,7 @@ module _ (v : View) (s : IsSound v) (key node index word rebuild : ℕ)
       let went = went_more ServesRebuild v r.short.before w r.short.seen
       (looked_went ServesRebuild r.short.before _ _ w r.short.looked) in
       record {
-        short = short_behind Updates first v words full w began.went
+        short = short_after Updates first v words full w began.went
             (short_all ServesRebuild Updates (λ e h. tries_updates e (serves_tries e h)) v words full w
             r.short);
         asked = for_rebuild rebuild

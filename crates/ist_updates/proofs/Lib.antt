@@ -28,7 +28,7 @@ pub mod LeafLemmas
 pub mod HelpedLemmas
 pub mod TriedLemmas
 pub mod MissLemmas
-pub mod BehindLemmas
+pub mod AfterLemmas
 pub mod FurtherLemmas
 pub mod ResultLemmas
 pub mod PlanResultLemmas

@@ -35,8 +35,8 @@ module _ (pairs : List Pair) (words : ℕ) (opens : CanOpen pairs words) (earlie
       ((rows ++ row ∷ []) ++ x.below) x.met.comes)
 
   -- the rows after it were counted at
-  pub counted_behind : GoesOnBy (CountsFrom caller (rows ++ row ∷ x.below) (length rows + 1)) earlier log
-  counted_behind =
+  pub counted_after : GoesOnBy (CountsFrom caller (rows ++ row ∷ x.below) (length rows + 1)) earlier log
+  counted_after =
       subst (λ n. GoesOnBy (CountsFrom caller (rows ++ row ∷ x.below) n) earlier log)
       (length-append rows (row ∷ []))
       (subst (λ all. GoesOnBy (CountsFrom caller all (length (rows ++ row ∷ []))) earlier log)
@@ -46,4 +46,4 @@ module _ (pairs : List Pair) (words : ℕ) (opens : CanOpen pairs words) (earlie
   pub may_count_next : CanCount (start pairs words) log caller row
   may_count_next =
       may_count_up pairs words opens earlier log h caller x.base x.update (rows ++ row ∷ x.below)
-      its_chain (length rows) row (get_here rows x.below row) counted_behind
+      its_chain (length rows) row (get_here rows x.below row) counted_after

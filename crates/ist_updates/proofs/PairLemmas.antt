@@ -49,7 +49,7 @@ held_good v s h i some =
     let low = next_within v.start v.words s.lawful.opens v.log s.lawful.enabled in
     let all = words_same v.start v.words s.lawful.opens v.log in
     let within = s.lawful.opens.within in
-    record { behind_fixed = claim.behind_fixed; below_limit = omega arith }
+    record { after_fixed = claim.after_fixed; below_limit = omega arith }
 
 -- the row of a kind lies at a good base
 pub row_good : (who : Caller) → IsSound who.token.view → IsCaller who → (kind : Kind) (base : ℕ)
@@ -77,7 +77,7 @@ node_on t u g node (is_inner r e) =
 -- a node lies below each good base after the words in use
 pub fresh_above : (v : View) → IsSound v → (node base : ℕ) → IsNode (now v) node
     → (now v).next ≤ base → IsGoodBase base → node < base
-fresh_above v s node base (is_anchor e) high good = let low = good.behind_fixed in omega arith
+fresh_above v s node base (is_anchor e) high good = let low = good.after_fixed in omega arith
 fresh_above v s node base (is_inner r e) high good =
     let low = (sound_now v s).below node (Inner r) e in omega arith
 
@@ -93,13 +93,13 @@ module _ (who : Caller) (s : IsSound who.token.view) (c : IsCaller who) (base : 
   -- if it lies below a node, that node is an inner row
   pub pair_below : (node : ℕ) → IsNode (now who.token.view) node → base < node
       → HasPairBelow who node
-  pair_below node (is_anchor e) less = let low = pair_good.behind_fixed in absurd (omega arith)
+  pair_below node (is_anchor e) less = let low = pair_good.after_fixed in absurd (omega arith)
   pair_below node (is_inner r e) less =
       record { pair = base; held = is; below = less; row = r; published = e }
 
   -- and else above it
   pub pair_above : (node : ℕ) → IsNode (now who.token.view) node → node ≤ base → node < base
-  pair_above node (is_anchor e) low = let good = pair_good.behind_fixed in omega arith
+  pair_above node (is_anchor e) low = let good = pair_good.after_fixed in omega arith
   pair_above node (is_inner r e) low =
       let apart : node ≢ base = λ same. clash
       (sym ((sound_now who.token.view s).unpublished row (c.rows Pair base is))

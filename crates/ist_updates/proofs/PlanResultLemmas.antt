@@ -15,7 +15,7 @@ use Rattle.ist_updates.specs.Answering.{HasCarried}
 use Rattle.ist_updates.specs.Changing.{HasRows, filling_of}
 use Rattle.ist_updates.specs.Further.{HoldsElse}
 use Rattle.ist_updates.specs.Trying.{Tries}
-use Rattle.ist_updates.proofs.BehindLemmas.{behind_loads, behind_went}
+use Rattle.ist_updates.proofs.AfterLemmas.{after_loads, after_went}
 use Rattle.ist_updates.proofs.HelpedChangeLemmas.{missed_gone, missed_quiet, missed_asked, carried_gone, carried_quiet, carried_yes, carried_no}
 use Rattle.ist_updates.proofs.FurtherLemmas.{installed_further, other_further}
 
@@ -33,7 +33,7 @@ missed_carried old new plan c m caller number refused g other =
       took = λ is. absurd (no is);
       lost = λ is. missed_asked old new caller number refused g;
       further = λ is first aimed. other_further first old.token.view new.token.view plan.row.node
-          plan.row.index plan.row.from aimed (behind_loads old.token.view new.token.view g) g.sound
+          plan.row.index plan.row.from aimed (after_loads old.token.view new.token.view g) g.sound
           other.word other.holds other.differs;
     }
   where
@@ -78,7 +78,7 @@ module _ (old mid : Caller) (token : TokenFace) (plan : PlannedChange) (c : IsCa
         lost = λ is. carried_no old mid token plan c s rows update m caller refused number i g d out;
         further = λ is first aimed. installed_further first old.token.view mid.token.view token.view
             plan.row.node plan.row.index plan.row.from plan.base (filling_of plan) aimed i
-            (behind_went (Serves plan.base) mid.token.view token.view g);
+            (after_went (Serves plan.base) mid.token.view token.view g);
       }
     where
       no : false ≡ true → ⊥

@@ -12,9 +12,9 @@ use Rattle.ist_updates.specs.Changing.{Prepares, MayAskFor, IsRowShort, IsWayRef
 use Rattle.ist_rows.proofs.ShortLemmas.{short_from}
 
 -- if too few words were left since a later view, too few were left since the earlier view
-pub short_behind : (P : Event → Type 0) (u v : View) (words : ℕ) (full : Full) (w : View)
+pub short_after : (P : Event → Type 0) (u v : View) (words : ℕ) (full : Full) (w : View)
     → WentOn P u v → RanShort (WentOn P) v words full w → RanShort (WentOn P) u words full w
-short_behind P u v words full w a s =
+short_after P u v words full w a s =
     short_from (WentOn P) (WentOn P) u v (λ x. went_more P u v x a) words full w s
 
 -- and also for a wider class of events
@@ -25,11 +25,11 @@ short_all P Q all v words full w s =
     short_from (WentOn P) (WentOn Q) v v (λ x. went_all P Q all v x) words full w s
 
 -- the same with what was asked for
-pub asked_behind : {size : ℕ} (u v : View) (words : ℕ) (full : Full) (w : View)
+pub asked_later : {size : ℕ} (u v : View) (words : ℕ) (full : Full) (w : View)
     → WentOn Prepares u v → IsRowShort v size words full w → IsRowShort u size words full w
-asked_behind u v words full w a s =
+asked_later u v words full w a s =
     record {
-      short = short_behind Prepares u v words full w a s.short;
+      short = short_after Prepares u v words full w a s.short;
       asked = s.asked;
       lacks = s.lacks;
     }
@@ -46,14 +46,14 @@ pub way_refused : {size : ℕ} (u v : View) (words : ℕ) (full : Full) (w : Vie
     → WentOn Prepares u v → IsRowShort v size words full w
     → (full.asked ≡ size → MayAskFor x full.asked) → IsWayRefused u x words full w
 way_refused u v words full w x a s may =
-    way_short u words full w x (asked_behind u v words full w a s) may
+    way_short u words full w x (asked_later u v words full w a s) may
 
 -- a change that was refused since a later view was refused since the earlier view
-pub refused_behind : (u v : View) (x : Way) (words : ℕ) (full : Full) (w : View)
+pub refused_after : (u v : View) (x : Way) (words : ℕ) (full : Full) (w : View)
     → WentOn Prepares u v → IsWayRefused v x words full w → IsWayRefused u x words full w
-refused_behind u v x words full w a r =
+refused_after u v x words full w a r =
     record {
-      short = short_behind Prepares u v words full w a r.short;
+      short = short_after Prepares u v words full w a r.short;
       asked = r.asked;
       lacks = r.lacks;
     }
@@ -63,4 +63,4 @@ pub err_refused : {A : Type 0} (u v : View) (x : Way) (words : ℕ) (w : View) (
     → WentOn Prepares u v → IfErr r (λ full. IsWayRefused v x words full w)
     → IfErr r (λ full. IsWayRefused u x words full w)
 err_refused u v x words w (Ok a) g h = tt
-err_refused u v x words w (Err full) g h = refused_behind u v x words full w g h
+err_refused u v x words w (Err full) g h = refused_after u v x words full w g h

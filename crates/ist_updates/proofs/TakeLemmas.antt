@@ -13,7 +13,7 @@ use Rattle.ist_rows.specs.declared.kinds.Kind.TheVariants.{Leaf, Pair as PairKin
 use Rattle.ist_rows.specs.Building.{HasRefused}
 use Rattle.ist_rows.specs.Kinds.{kind_words}
 use Rattle.ist_rows.specs.Rows.{Spares, spares_of, row_of, with_spare, IsCaller, Reserved, IsFreshRow, IsKindRefused}
-use Rattle.ist_rows.proofs.HeldBehindLemmas.{behind_between}
+use Rattle.ist_rows.proofs.HeldAfterLemmas.{after_between}
 use Rattle.ist_rule.specs.Going.{WentOn}
 use Rattle.ist_rebuild.proofs.LackLemmas.{lacks_now, refused_lacks}
 use Rattle.ist_updates.specs.Changing.{IsRowShort, Prepares}
@@ -28,7 +28,7 @@ reserved_high : (v : View) (number base size : ℕ) (w : View) → Reserved v nu
     → (now v).next ≤ base
 reserved_high v number base size w r =
     let it = took v number base size w r in
-    let comes = behind_between v.start v.words v.log it.before
+    let comes = after_between v.start v.words v.log it.before
     record { opens = it.lawful.opens; enabled = it.lawful.enabled.0 } (later-goes_on it.later) in
     let more = comes.next in
     let at_next = it.lawful.enabled.1.base_is in

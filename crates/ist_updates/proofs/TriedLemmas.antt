@@ -40,7 +40,7 @@ use Rattle.ist_updates.specs.Changing.{WasAtSlot, Prepares}
 use Rattle.ist_updates.specs.Refusals.{IsUpdateRefused, MetOtherLeaf, for_leaf, for_pair, for_put, for_remove}
 use Rattle.ist_updates.specs.Trying.{BeganSince, HasFoundNone, HasTakenEffect}
 use Rattle.ist_updates.proofs.AskedLemmas.{asked_gone}
-use Rattle.ist_updates.proofs.ShortLemmas.{short_behind, short_all}
+use Rattle.ist_updates.proofs.ShortLemmas.{short_after, short_all}
 use Rattle.ist_rows.proofs.GoneLemmas.{loads_gone}
 use Rattle.ist_updates.proofs.StepLemmas.{prepares_none, prepares_updates}
 use Rattle.ist_updates.proofs.SinceLemmas.{taken_since}
@@ -134,7 +134,7 @@ module _ (first v w : View) (words : ℕ) (full : Full) (began : BeganSince firs
     (short : RanShort (WentOn Prepares) v words full w) (lacks : LacksNow w full.asked) where
   short_since : RanShort (WentOn Updates) first words full w
   short_since =
-      short_behind Updates first v words full w began.went
+      short_after Updates first v words full w began.went
       (short_all Prepares Updates prepares_updates v words full w short)
 
   -- a put is refused
@@ -198,14 +198,14 @@ module _ (old : Caller) (token : TokenFace) (key : ℕ) (value : Option ℕ)
       (loads_gone Prepares old token a.caller a.refused g) prepares_none
 
   -- the result of a try after loads is the result of a try that makes them first
-  pub tried_behind : (node : ℕ) (new : Caller) (tried : Tried) → IsTried mid key value node new tried
+  pub tried_after : (node : ℕ) (new : Caller) (tried : Tried) → IsTried mid key value node new tried
       → IsTried old key value node new tried
-  tried_behind node new (Took reply) t =
+  tried_after node new (Took reply) t =
       taken_since old mid (command_for key value) a loads_asked
       (loads_gone Prepares old token a.caller a.refused g) new.token.view node reply reply refl t
-  tried_behind node new Nothing t = (t.0, t.1, t.2, t.3 ∙ g.since)
-  tried_behind node new Again t = t
-  tried_behind node new Unmet t = t
+  tried_after node new Nothing t = (t.0, t.1, t.2, t.3 ∙ g.since)
+  tried_after node new Again t = t
+  tried_after node new Unmet t = t
 
   -- a try that was refused after loads was refused with them
   pub refused_loads : (words : ℕ) (full : Full) (new : Caller)
@@ -221,17 +221,17 @@ module _ (old : Caller) (token : TokenFace) (key : ℕ) (value : Option ℕ)
       }
 
   -- any result but `Full` after loads is a result of the try with them
-  pub ok_behind : (node : ℕ) (new : Caller) (r : Result Tried Full)
+  pub ok_after : (node : ℕ) (new : Caller) (r : Result Tried Full)
       → IfOk r (λ t. IsTried mid key value node new t) → IfOk r (λ t. IsTried old key value node new t)
-  ok_behind node new (Ok t) h = tried_behind node new t h
-  ok_behind node new (Err full) h = tt
+  ok_after node new (Ok t) h = tried_after node new t h
+  ok_after node new (Err full) h = tt
 
   -- and so is a `Full` after loads
-  pub err_behind : (words : ℕ) (new : Caller) (r : Result Tried Full)
+  pub err_after : (words : ℕ) (new : Caller) (r : Result Tried Full)
       → IfErr r (λ full. IsTryRefused mid key value words full new)
       → IfErr r (λ full. IsTryRefused old key value words full new)
-  err_behind words new (Ok t) h = tt
-  err_behind words new (Err full) h = refused_loads words full new h
+  err_after words new (Ok t) h = tt
+  err_after words new (Err full) h = refused_loads words full new h
 
 -- ---- what a result promises
 

@@ -26,9 +26,9 @@ use Rattle.ist_updates.specs.Further.{HasAimed}
 use Rattle.ist_updates.specs.Refusals.{IsUpdateRefused}
 use Rattle.ist_updates.specs.Trying.{BeganSince, Tries, HasFoundNone, HasTakenEffect}
 use Rattle.ist_updates.proofs.AskedLemmas.{asked_quiet}
-use Rattle.ist_updates.proofs.BehindLemmas.{behind_loads}
+use Rattle.ist_updates.proofs.AfterLemmas.{after_loads}
 use Rattle.ist_updates.proofs.FurtherLemmas.{aimed_on}
-use Rattle.ist_updates.proofs.TriedLemmas.{IsPutFor, err_behind, ok_behind, put_refused, remove_refused}
+use Rattle.ist_updates.proofs.TriedLemmas.{IsPutFor, err_after, ok_after, put_refused, remove_refused}
 
 -- ---- results
 
@@ -171,9 +171,9 @@ loads_tried old token {aim} {value} {words} {r} {new} a g t =
             (loads_gone Tries old token a.caller a.refused g) t.on.gone;
         quiet = t.on.quiet;
       };
-      told = ok_behind old token aim.key value a g aim.node new r t.told;
-      full = err_behind old token aim.key value a g words new r t.full;
+      told = ok_after old token aim.key value a g aim.node new r t.told;
+      full = err_after old token aim.key value a g words new r t.full;
       further = λ is first aimed. t.further is first
           (aimed_on first old.token.view token.view aim.node aim.index aim.word aimed
-          (behind_loads old.token.view token.view g));
+          (after_loads old.token.view token.view g));
     }

@@ -12,14 +12,14 @@ use Rattle.laws_stability.specs.Progress.{progress}
 use Rattle.laws_coming.specs.Further.{CameFurther}
 
 -- the second view is of the same table, and its log goes on from the first view's
-pub record IsBehind (v w : View) : Type 0 where
+pub record IsAfter (v w : View) : Type 0 where
   pub later : GoesOn v.log w.log
   pub start_is : w.start ≡ v.start
   pub words_is : w.words ≡ v.words
 
 -- a walk that began at the first view has come to an open node, unless the table came further since
 pub record IsFreshNode (first v : View) (node : ℕ) : Type 0 where
-  pub behind : IsBehind first v
+  pub following : IsAfter first v
   pub is : IsOpen (now v) node ⊎ CameFurther first v
 
 -- such a walk has found the word in this slot of the node
@@ -29,7 +29,7 @@ pub record HasAimed (first v : View) (node i word : ℕ) : Type 0 where
   pub fresh : IsFreshNode first at node
   pub holds : SlotHolds (now at) node i word
   pub set : word ≢ unset_word
-  pub behind : IsBehind at v
+  pub following : IsAfter at v
 
 -- the slot of the change holds another word than it expects
 pub record HoldsElse (t : Snapshot) (change : ChangeRow) : Type 0 where

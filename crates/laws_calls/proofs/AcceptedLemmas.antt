@@ -21,7 +21,7 @@ use Rattle.ist_core.proofs.FreezingLemmas.{same_change}
 use Rattle.ist_core.proofs.GrowingLemmas.{change_there, inner_there, leaf_there, rebuild_there}
 use Rattle.ist_core.proofs.RowLemmas.{changed_at-same}
 use Rattle.laws_links.proofs.ChangeLemmas.{undecided_unresolved}
-use Rattle.laws_links.proofs.InductionLemmas.{grow_behind}
+use Rattle.laws_links.proofs.InductionLemmas.{grow_after}
 use Rattle.laws_histories.specs.Calls.{MadeNoEntry}
 use Rattle.laws_histories.proofs.EffectLemmas.{took_effect}
 use Rattle.laws_calls.specs.Accepting.{NoneAcceptedSince, WasAccepted}
@@ -48,7 +48,7 @@ module _ (pairs : List Pair) (words : ℕ) (opens : CanOpen pairs words) where
       → WasAccepted pairs words number earlier log
   accepted_back earlier log event number h was base change command e own said is =
       let it = change_there (state_of pairs words log).pieces
-      (state_of pairs words (event ∷ log)).pieces (grow_behind pairs words log event h) base change
+      (state_of pairs words (event ∷ log)).pieces (grow_after pairs words log event h) base change
       e in
       was base it.0 command it.1 (ap (λ c. c.owner) it.2.others ∙ own)
       (it.2.decided (λ none. (let a = said in omega arith)) ∙ said)

@@ -26,7 +26,7 @@ use Rattle.ist_core.proofs.PrefixLemmas.{goes_on_more, goes_on_by}
 use Rattle.laws_links.proofs.OwnerLemmas.{owner_known}
 use Rattle.laws_histories.proofs.ChangeLemmas.{changes_on}
 use Rattle.laws_histories.proofs.DecisionLemmas.{Turning, turns_since}
-use Rattle.laws_calls.proofs.EventsMeanwhileLemmas.{Met, event_by, events_behind, happened_met}
+use Rattle.laws_calls.proofs.EventsMeanwhileLemmas.{Met, event_by, events_after, happened_met}
 use Rattle.laws_calls.specs.Counting.{CountsElsewhere, IsOneUpdate}
 
 -- a put or remove has a command
@@ -170,20 +170,20 @@ module _ (pairs : List Pair) (words : ℕ) (opens : CanOpen pairs words) where
       record {
         known = subst (λ c. c < (state_of pairs words log).callers) u.owned
             (owner_known pairs words log h base u.change u.published);
-        later = behind.0;
+        later = following.0;
         by = turn.caller;
         base = base;
         earlier = turn.at;
-        log_is = behind.1;
+        log_is = following.1;
         update = update;
         last =
             λ said. no_other_yes earlier log h caller turn.caller base turn.at turn.since turn.until
             update u.alone
-            (subst (λ xs. Met (SaysYes (state_of pairs words log) caller) whole xs) (sym behind.1)
-            (happened_met (SaysYes (state_of pairs words log) caller) behind.0 whole said));
+            (subst (λ xs. Met (SaysYes (state_of pairs words log) caller) whole xs) (sym following.1)
+            (happened_met (SaysYes (state_of pairs words log) caller) following.0 whole said));
         uncounted = λ counted. (
-            let m = subst (λ xs. Met (Counts caller node) whole xs) (sym behind.1)
-            (happened_met (Counts caller node) behind.0 whole counted) in
+            let m = subst (λ xs. Met (Counts caller node) whole xs) (sym following.1)
+            (happened_met (Counts caller node) following.0 whole counted) in
             event_by (CountsElsewhere caller node) earlier log later m.event m.before
             (goes_on_more since m.since) m.until m.here);
         on_chain = on;
@@ -199,8 +199,8 @@ module _ (pairs : List Pair) (words : ℕ) (opens : CanOpen pairs words) where
       since : GoesOn earlier whole
       since = one_event (Decide turn.caller base true) turn.since
 
-      behind : (later : Log) × (log ≡ later ++ whole)
-      behind = events_behind whole log turn.until
+      following : (later : Log) × (log ≡ later ++ whole)
+      following = events_after whole log turn.until
 
       update : IsUpdateOf (state_of pairs words log) caller base
       update = record {

@@ -22,7 +22,7 @@ use Rattle.ist_core.proofs.ChainLemmas.{on_chain_inner}
 use Rattle.ist_core.proofs.CountLemmas.{counts}
 use Rattle.ist_core.proofs.PlaceLemmas.{absent, no_piece}
 use Rattle.ist_core.proofs.TallyLemmas.{count_at_most}
-use Rattle.laws_links.proofs.InductionLemmas.{grow_behind}
+use Rattle.laws_links.proofs.InductionLemmas.{grow_after}
 use Rattle.laws_links.proofs.UntouchedLemmas.{on_chain_was_linked}
 use Rattle.laws_links.proofs.RowEventLemmas.{RowCame, BecameBy, as_it_was, by_count, by_decide, by_draw, by_finish, by_install, by_mark, by_place, by_resolve, by_root, came, from_new, from_old}
 use Rattle.ist_core.proofs.CallerLemmas.{known_step}
@@ -103,7 +103,7 @@ module _ (pairs : List Pair) (words : ℕ) (opens : CanOpen pairs words) where
   no_counts [] h node none = refl
   no_counts (Count caller at ∷ log) h node none =
       let before = absent ((state_of pairs words log).pieces node) (λ p e.
-      let on = grow_behind pairs words log (Count caller at) h node p e in no_piece
+      let on = grow_after pairs words log (Count caller at) h node p e in no_piece
       ((state_of pairs words (Count caller at ∷ log)).pieces node) on.0 none on.1) in
       here before (no_counts log h.0 node before) (eqb_tells at node)
     where
@@ -121,7 +121,7 @@ module _ (pairs : List Pair) (words : ℕ) (opens : CanOpen pairs words) where
   no_counts (event ∷ log) h node none =
       no_counts log h.0 node
       (absent ((state_of pairs words log).pieces node) (λ p e.
-      let on = grow_behind pairs words log event h node p e in no_piece
+      let on = grow_after pairs words log event h node p e in no_piece
       ((state_of pairs words (event ∷ log)).pieces node) on.0 none on.1))
 
   -- a row that an event publishes counts nothing

@@ -14,10 +14,10 @@ pub record Met (P : Event → Type 0) (rest log : Log) : Type 0 where
   pub until : GoesOn (event ∷ before) log
 
 -- a longer log is its prefix with more events
-pub events_behind : (rest log : Log) → GoesOn rest log → (later : Log) × (log ≡ later ++ rest)
-events_behind rest _ same_log = ([], refl)
-events_behind rest _ (one_event {log = log} event on) =
-    let it = events_behind rest log on in (event ∷ it.0, ap (λ xs. event ∷ xs) it.1)
+pub events_after : (rest log : Log) → GoesOn rest log → (later : Log) × (log ≡ later ++ rest)
+events_after rest _ same_log = ([], refl)
+events_after rest _ (one_event {log = log} event on) =
+    let it = events_after rest log on in (event ∷ it.0, ap (λ xs. event ∷ xs) it.1)
 
 -- what happened in the newer part of a log is an event after the older part
 pub happened_met : (P : Event → Type 0) (later rest : Log) → Happened P later

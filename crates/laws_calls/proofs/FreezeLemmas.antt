@@ -7,7 +7,7 @@ use Rattle.ist_core.specs.declared.events.Event.TheVariants.{Finish}
 use Rattle.ist_core.specs.declared.events.Event.{Event}
 use Rattle.ist_core.specs.declared.pairs.Pair.{Pair}
 use Rattle.ist_core.specs.declared.states.InnerRow.{InnerRow}
-use Rattle.ist_core.specs.Changes.{Entry, changes_of, map_behind}
+use Rattle.ist_core.specs.Changes.{Entry, changes_of, map_after_entries}
 use Rattle.ist_core.specs.Lawful.{CanOpen, EachEnabled, state_of}
 use Rattle.ist_core.specs.Leaves.{HasLeaves, PlacedLeaf, pair_of}
 use Rattle.ist_core.specs.Links.{IsChild, Linked, at_anchor, below}
@@ -180,5 +180,5 @@ module _ (pairs : List Pair) (words : ℕ) (opens : CanOpen pairs words) where
         from = changes_rise (start pairs words) earlier it.at it.since;
         to = changes_rise (start pairs words) it.at log it.until;
         pairs_are = ap (map pair_of) same ∙ pairs_then
-            ∙ ap (λ es. pairs_of (map_behind (map_of pairs) es)) (sym front);
+            ∙ ap (λ es. pairs_of (map_after_entries (map_of pairs) es)) (sym front);
       }

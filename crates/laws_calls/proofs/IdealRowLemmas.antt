@@ -34,18 +34,18 @@ module _ (ps qs : Pieces) (own : List ℕ)
       ideal_kept ps qs ref leaves above bases ideal (stand bases i)
 
   -- ideal parts are ideal wherever their leaves and rows are
-  pub parts_over : (words : List ℕ) (behind : List (List PlacedLeaf)) (above : ℕ) (bases : List ℕ)
-      → AreIdeal ps words behind above bases → ((base : ℕ) → Among base bases → Among base own)
-      → AreIdeal qs words behind above bases
-  parts_over words behind above bases are i =
-      parts_kept ps qs words behind above bases are (stand bases i)
+  pub parts_over : (words : List ℕ) (following : List (List PlacedLeaf)) (above : ℕ) (bases : List ℕ)
+      → AreIdeal ps words following above bases → ((base : ℕ) → Among base bases → Among base own)
+      → AreIdeal qs words following above bases
+  parts_over words following above bases are i =
+      parts_kept ps qs words following above bases are (stand bases i)
 
 -- ideal parts with one more at the end are ideal parts
-pub parts_more : (ps : Pieces) (words : List ℕ) (behind : List (List PlacedLeaf)) (above : ℕ)
+pub parts_more : (ps : Pieces) (words : List ℕ) (following : List (List PlacedLeaf)) (above : ℕ)
     (bases : List ℕ) (word : ℕ) (ref : Ref) (part : List PlacedLeaf) (more : List ℕ)
-    → AreIdeal ps words behind above bases → ref_of word ≡ Some ref
+    → AreIdeal ps words following above bases → ref_of word ≡ Some ref
     → IsIdeal ps ref part above more
-    → AreIdeal ps (words ++ word ∷ []) (behind ++ part ∷ []) above (bases ++ more)
+    → AreIdeal ps (words ++ word ∷ []) (following ++ part ∷ []) above (bases ++ more)
 parts_more ps _ _ above _ word ref part more no_part is ideal =
     subst (AreIdeal ps (word ∷ []) (part ∷ []) above) (nil more) (one_part ref is ideal no_part)
   where
@@ -53,10 +53,10 @@ parts_more ps _ _ above _ word ref part more no_part is ideal =
     nil [] = refl
     nil (x ∷ xs) = ap (λ ys. x ∷ ys) (nil xs)
 parts_more ps _ _ above _ word ref part more
-    (one_part {words = words} {here = here} {rest = rest} {part = first} {behind = behind} r e i
+    (one_part {words = words} {here = here} {rest = rest} {part = first} {following = following} r e i
     others) is ideal =
     subst (AreIdeal ps _ _ above) (assoc here rest more)
-    (one_part r e i (parts_more ps words behind above rest word ref part more others is ideal))
+    (one_part r e i (parts_more ps words following above rest word ref part more others is ideal))
   where
     assoc : (xs ys zs : List ℕ) → xs ++ (ys ++ zs) ≡ (xs ++ ys) ++ zs
     assoc [] ys zs = refl
@@ -141,17 +141,17 @@ module _ (ps : Pieces) (xs ys : List Row)
       ∙ with_inners-other (with_inners ps ys) xs base (λ j. apart base j i) ∙ e
 
   -- the parts of one and an ideal subtree of the other are parts of both
-  pub parts_joined : (words : List ℕ) (behind : List (List PlacedLeaf)) (above word : ℕ) (ref : Ref)
+  pub parts_joined : (words : List ℕ) (following : List (List PlacedLeaf)) (above word : ℕ) (ref : Ref)
       (part : List PlacedLeaf)
-      → AreIdeal (with_inners ps xs) words behind above (bases_of xs) → ref_of word ≡ Some ref
+      → AreIdeal (with_inners ps xs) words following above (bases_of xs) → ref_of word ≡ Some ref
       → IsIdeal (with_inners ps ys) ref part above (bases_of ys)
-      → AreIdeal (with_inners ps (xs ++ ys)) (words ++ word ∷ []) (behind ++ part ∷ []) above
+      → AreIdeal (with_inners ps (xs ++ ys)) (words ++ word ∷ []) (following ++ part ∷ []) above
       (bases_of (xs ++ ys))
-  parts_joined words behind above word ref part are is ideal =
+  parts_joined words following above word ref part are is ideal =
       let qs = with_inners ps (xs ++ ys) in
-      subst (AreIdeal qs (words ++ word ∷ []) (behind ++ part ∷ []) above) (sym bases_both)
-      (parts_more qs words behind above (bases_of xs) word ref part (bases_of ys)
-      (parts_over (with_inners ps xs) qs (bases_of xs) left_leaf left_inner words behind above
+      subst (AreIdeal qs (words ++ word ∷ []) (following ++ part ∷ []) above) (sym bases_both)
+      (parts_more qs words following above (bases_of xs) word ref part (bases_of ys)
+      (parts_over (with_inners ps xs) qs (bases_of xs) left_leaf left_inner words following above
       (bases_of xs) are (λ b i. i))
       is
       (ideal_over (with_inners ps ys) qs (bases_of ys) right_leaf right_inner ref part above

@@ -13,7 +13,7 @@ use Rattle.ist_core.specs.declared.events.Event.TheVariants.{Finish}
 use Rattle.ist_core.specs.declared.events.Event.{Event}
 use Rattle.ist_core.specs.declared.pairs.Pair.{Pair}
 use Rattle.ist_core.specs.declared.states.InnerRow.{InnerRow}
-use Rattle.ist_core.specs.Changes.{Entry, changes_of, map_behind}
+use Rattle.ist_core.specs.Changes.{Entry, changes_of, map_after_entries}
 use Rattle.ist_core.specs.Lawful.{CanOpen, EachEnabled, state_of}
 use Rattle.ist_core.specs.Leaves.{HasLeaves, PlacedLeaf, SlotsHaveLeaves, no_slot, one_slot, pair_of, row_here}
 use Rattle.ist_core.specs.Links.{Linked, at_anchor, below}
@@ -89,15 +89,15 @@ len_less : (b : Bool) (n : ℕ) → cond b (n - 1) n ≤ n
 len_less true n = omega arith
 len_less false n = omega arith
 
-len_behind : (m : Map) (entries : List Entry)
-    → fin.len (map_behind m entries) ≤ fin.len m + puts_in entries
-len_behind m [] = omega arith
-len_behind m (e ∷ es) = at e.command refl (len_behind (map_after m e.command) es)
+len_after : (m : Map) (entries : List Entry)
+    → fin.len (map_after_entries m entries) ≤ fin.len m + puts_in entries
+len_after m [] = omega arith
+len_after m (e ∷ es) = at e.command refl (len_after (map_after m e.command) es)
   where
     at : (c : Command) → e.command ≡ c
-        → fin.len (map_behind (map_after m e.command) es) ≤ fin.len (map_after m e.command)
+        → fin.len (map_after_entries (map_after m e.command) es) ≤ fin.len (map_after m e.command)
         + puts_in es
-        → fin.len (map_behind (map_after m e.command) es) ≤ fin.len m + puts_in (e ∷ es)
+        → fin.len (map_after_entries (map_after m e.command) es) ≤ fin.len m + puts_in (e ∷ es)
     at (Put key value) is rest =
         let long = ap (λ c. length (if is_put c then e ∷ filter (λ x. is_put x.command) es else
         filter (λ x. is_put x.command) es)) is in
@@ -160,7 +160,7 @@ module _ (pairs : List Pair) (words : ℕ) (opens : CanOpen pairs words) where
       let has = contents_at pairs words opens log h in
       let long = ap length has.pairs_are ∙ length-map has.leaves pair_of in
       let map_is = pairs_long (map_now pairs words log) in
-      let low = len_behind (map_of pairs) (changes_of pairs words log) in
+      let low = len_after (map_of pairs) (changes_of pairs words log) in
       let first = map_long pairs opens.rising in
       record { leaves = has.leaves; reached = has.reached; few = omega arith }
 

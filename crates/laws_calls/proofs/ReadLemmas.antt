@@ -19,7 +19,7 @@ use Rattle.ist_core.proofs.PlaceLemmas.{anchor_free}
 use Rattle.ist_core.proofs.SlotLemmas.{slot_once}
 use Rattle.ist_core.proofs.SlotStepLemmas.{WritesNoSlot, WritesSlot, install_writes, place_writes, resolve_writes, slot_stays}
 use Rattle.laws_links.proofs.FormLemmas.{started_grows}
-use Rattle.laws_links.proofs.InductionLemmas.{grow_behind, sound_behind}
+use Rattle.laws_links.proofs.InductionLemmas.{grow_after, sound_after}
 use Rattle.laws_links.proofs.QuietLemmas.{start_quiet}
 use Rattle.laws_links.specs.Replacing.{ReadsAsRebuild}
 use Rattle.laws_calls.proofs.RebuildSlotLemmas.{ideal_no_rebuild, no_rebuild_of_change, one_ref, side_started, slot_before}
@@ -43,7 +43,7 @@ module _ (pairs : List Pair) (words : ℕ) (opens : CanOpen pairs words) where
       inl
       (slot_once (state_of pairs words (event ∷ log)) node i old word
       (anchor_free pairs words (event ∷ log) h)
-      (slot_stays (start pairs words) log event h.1 (sound_behind pairs words log h.0) none node i
+      (slot_stays (start pairs words) log event h.1 (sound_after pairs words log h.0) none node i
       old was) now)
 
   -- an event that writes one slot
@@ -77,7 +77,7 @@ module _ (pairs : List Pair) (words : ℕ) (opens : CanOpen pairs words) where
       write_keeps log (Install caller base rows) h h.1.change.node h.1.change.index
       (word_of (ChangeAt base)) h.1.change.from
       (install_writes (start pairs words) log caller base rows h.1
-      (sound_behind pairs words log h.0) (anchor_free pairs words log h.0))
+      (sound_after pairs words log h.0) (anchor_free pairs words log h.0))
       (λ rebuild e. absurd (no_rebuild_of_change base rebuild e))
   keeps log (Resolve caller base) h =
       write_keeps log (Resolve caller base) h h.1.change.node h.1.change.index
@@ -87,7 +87,7 @@ module _ (pairs : List Pair) (words : ℕ) (opens : CanOpen pairs words) where
   keeps log (Place caller rebuild j word rows) h =
       write_keeps log (Place caller rebuild j word rows) h h.1.root j word unset_word
       (place_writes (state_of pairs words log) caller rebuild j word rows h.1
-      (sound_behind pairs words log h.0) (anchor_free pairs words log h.0))
+      (sound_after pairs words log h.0) (anchor_free pairs words log h.0))
       (λ other e. absurd
       (ideal_no_rebuild (with_inners (state_of pairs words log).pieces rows) h.1.ref h.1.part
       h.1.root
@@ -115,7 +115,7 @@ module _ (pairs : List Pair) (words : ℕ) (opens : CanOpen pairs words) where
   slot_started (event ∷ log) h node i word rebuild slot is =
       let old = slot_before pairs words opens log event h node i word rebuild slot is in
       started_grows (state_of pairs words log) (state_of pairs words (event ∷ log))
-      (grow_behind pairs words log event h) rebuild
+      (grow_after pairs words log event h) rebuild
       (⊎_elim
       (λ same. slot_started log h.0 node i old.0 rebuild old.1 (ap ref_of same ∙ is))
       (λ k. k)

@@ -31,7 +31,7 @@ use Rattle.laws_links.proofs.ChangeLemmas.{node_was_linked}
 use Rattle.laws_links.proofs.ComesLemmas.{change_comes}
 use Rattle.laws_links.proofs.FormLemmas.{IsFormed, of_finish, of_leaf_put, of_pair_put, of_remove, of_start}
 use Rattle.laws_links.proofs.FormedLemmas.{changes_are_formed}
-use Rattle.laws_links.proofs.InductionLemmas.{grow_behind}
+use Rattle.laws_links.proofs.InductionLemmas.{grow_after}
 use Rattle.laws_links.proofs.OriginLemmas.{ChangeComes, change_was, is_decided, is_installed}
 use Rattle.laws_links.proofs.ReadLemmas.{side_yes}
 use Rattle.laws_links.proofs.UntouchedLemmas.{not_the_anchor, was_linked_here}
@@ -163,7 +163,7 @@ module _ (pairs : List Pair) (words : ℕ) (opens : CanOpen pairs words) where
   row_slot_before log event h node i word r (Inner s) e slot there =
       let t = state_of pairs words log in
       let u = state_of pairs words (event ∷ log) in
-      let it = inner_there t.pieces u.pieces (grow_behind pairs words log event h) node s there in
+      let it = inner_there t.pieces u.pieces (grow_after pairs words log event h) node s there in
       let same = same_inner (u.pieces node) it.0 r it.1 e in
       let long = it.2.slots in
       let longer = ap (λ x. length x.slots) same in
@@ -172,17 +172,17 @@ module _ (pairs : List Pair) (words : ℕ) (opens : CanOpen pairs words) where
       (slice_get_cases s.slots i).1
   row_slot_before log event h node i word r (Leaf s) e slot there =
       let it = leaf_there (state_of pairs words log).pieces
-      (state_of pairs words (event ∷ log)).pieces (grow_behind pairs words log event h) node s
+      (state_of pairs words (event ∷ log)).pieces (grow_after pairs words log event h) node s
       there in
       let both : Some (Leaf s) ≡ Some (Inner r) = sym it ∙ e in absurd (cc)
   row_slot_before log event h node i word r (Change s) e slot there =
       let it = change_there (state_of pairs words log).pieces
-      (state_of pairs words (event ∷ log)).pieces (grow_behind pairs words log event h) node s
+      (state_of pairs words (event ∷ log)).pieces (grow_after pairs words log event h) node s
       there in
       let both : Some (Change it.0) ≡ Some (Inner r) = sym it.1 ∙ e in absurd (cc)
   row_slot_before log event h node i word r (Rebuild s) e slot there =
       let it = rebuild_there (state_of pairs words log).pieces
-      (state_of pairs words (event ∷ log)).pieces (grow_behind pairs words log event h) node s
+      (state_of pairs words (event ∷ log)).pieces (grow_after pairs words log event h) node s
       there in
       let both : Some (Rebuild it.0) ≡ Some (Inner r) = sym it.1 ∙ e in absurd (cc)
 

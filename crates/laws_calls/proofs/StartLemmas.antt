@@ -16,7 +16,7 @@ use Rattle.ist_core.proofs.OrderLemmas.{names}
 use Rattle.ist_core.proofs.PlaceLemmas.{no_piece}
 use Rattle.ist_core.proofs.SlotStepLemmas.{install_stands}
 use Rattle.laws_links.proofs.ComesLemmas.{change_comes}
-use Rattle.laws_links.proofs.InductionLemmas.{grow_behind, rebuilds_by}
+use Rattle.laws_links.proofs.InductionLemmas.{grow_after, rebuilds_by}
 use Rattle.laws_links.proofs.OriginLemmas.{ChangeComes, change_was, is_decided, is_installed}
 use Rattle.laws_links.proofs.QuietLemmas.{start_quiet}
 use Rattle.laws_links.proofs.StartingLemmas.{side_rebuild, start_new}
@@ -32,7 +32,7 @@ module _ (pairs : List Pair) (words : ℕ) where
       → (base : ℕ) × IsStartFor (state_of pairs words (event ∷ log)) rebuild row base
   start_grows log event h rebuild old row target parent index s =
       let it = change_there (state_of pairs words log).pieces
-      (state_of pairs words (event ∷ log)).pieces (grow_behind pairs words log event h) s.0
+      (state_of pairs words (event ∷ log)).pieces (grow_after pairs words log event h) s.0
       s.1.change s.1.published in
       let same = it.2.others in (
         s.0,

@@ -32,9 +32,9 @@ IdealsCarryOver =
 abbrev pub PartsCarryOver : Type 0
 PartsCarryOver =
     (ps qs : Pieces) → KeepsLeaves ps qs
-    → (words : List ℕ) (behind : List (List PlacedLeaf)) (above : ℕ) (bases : List ℕ)
-    → KeepsInners ps qs bases → AreIdeal ps words behind above bases
-    → AreIdeal qs words behind above bases
+    → (words : List ℕ) (following : List (List PlacedLeaf)) (above : ℕ) (bases : List ℕ)
+    → KeepsInners ps qs bases → AreIdeal ps words following above bases
+    → AreIdeal qs words following above bases
 
 -- no row is at the base of one of these rows, and the two lists share no base
 pub record AreFreeFor (ps : Pieces) (xs ys : List Row) : Type 0 where
@@ -46,8 +46,8 @@ pub record AreFreeFor (ps : Pieces) (xs ys : List Row) : Type 0 where
 abbrev pub PartsJoin : Type 0
 PartsJoin =
     (ps : Pieces) (xs ys : List Row) → AreFreeFor ps xs ys
-    → (words : List ℕ) (behind : List (List PlacedLeaf)) (above word : ℕ) (ref : Ref)
-    → (part : List PlacedLeaf) → AreIdeal (with_inners ps xs) words behind above (bases_of xs)
+    → (words : List ℕ) (following : List (List PlacedLeaf)) (above word : ℕ) (ref : Ref)
+    → (part : List PlacedLeaf) → AreIdeal (with_inners ps xs) words following above (bases_of xs)
     → ref_of word ≡ Some ref → IsIdeal (with_inners ps ys) ref part above (bases_of ys)
-    → AreIdeal (with_inners ps (xs ++ ys)) (words ++ word ∷ []) (behind ++ part ∷ []) above
+    → AreIdeal (with_inners ps (xs ++ ys)) (words ++ word ∷ []) (following ++ part ∷ []) above
     (bases_of (xs ++ ys))

@@ -37,7 +37,7 @@ FirstPartsAreAll =
 
 -- the keys that a node has for some parts: the key of the first leaf of each part but the first
 abbrev pub keys_of_parts : List (List PlacedLeaf) → List ℕ
-keys_of_parts behind = first_keys (λ leaf. leaf.row.key) (drop 1 behind)
+keys_of_parts following = first_keys (λ leaf. leaf.row.key) (drop 1 following)
 
 -- one part more, if it isn't the first, adds the key of its first leaf
 abbrev pub FirstKeysGoOn : Type 0

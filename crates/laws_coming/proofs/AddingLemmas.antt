@@ -33,12 +33,12 @@ module _ (v : View) (s : IsSound v) (number : ℕ) (mine : v.who ≡ Caller numb
   -- ---- counts
 
   -- the count after a log that may come
-  count_behind : (node : ℕ) (row : InnerRow) → (now v).pieces node ≡ Some (Inner row) → (log : Log)
+  count_after : (node : ℕ) (row : InnerRow) → (now v).pieces node ≡ Some (Inner row) → (log : Log)
       → MayCome v log → (found : ℕ)
       → IsShown (state_of v.start v.words log) (node + inner_count_offset) found
       → (r : InnerRow) × ((state_of v.start v.words log).pieces node ≡ Some (Inner r))
       × (found ≡ r.count)
-  count_behind node row e log m found shown =
+  count_after node row e log m found shown =
       let u = state_of v.start v.words log in
       let on = inner_there (now v).pieces u.pieces (grow v log m) node row e in (
         on.0,
@@ -59,7 +59,7 @@ module _ (v : View) (s : IsSound v) (number : ℕ) (mine : v.who ≡ Caller numb
         known = fast_known v _ (in_piece node 1 (Inner it.0) it.1 (omega arith));
         comes = λ log m found shown.
             let u = state_of v.start v.words log in
-            let r = count_behind node it.0 it.1 log m found shown in
+            let r = count_after node it.0 it.1 log m found shown in
             record {
               enabled = count_stays v.start v.words number
                   (subst (λ who. Later who v.log log) mine m.later) m.lawful.enabled node can
@@ -73,7 +73,7 @@ module _ (v : View) (s : IsSound v) (number : ℕ) (mine : v.who ≡ Caller numb
                   }) (sym r.2);
             };
         fits = λ log m found shown.
-            let r = count_behind node it.0 it.1 log m found shown in
+            let r = count_after node it.0 it.1 log m found shown in
             let low = count_low v.start v.words m.lawful.opens log m.lawful.enabled node r.0 r.1 in
             let is = r.2 in
             omega arith;
@@ -82,12 +82,12 @@ module _ (v : View) (s : IsSound v) (number : ℕ) (mine : v.who ≡ Caller numb
   -- ---- draws
 
   -- the draw word after a log that may come
-  draw_behind : (rebuild : ℕ) (row : RebuildRow) → (now v).pieces rebuild ≡ Some (Rebuild row)
+  draw_after : (rebuild : ℕ) (row : RebuildRow) → (now v).pieces rebuild ≡ Some (Rebuild row)
       → (log : Log) → MayCome v log → (found : ℕ)
       → IsShown (state_of v.start v.words log) (rebuild + rebuild_draw_offset) found
       → (r : RebuildRow) × ((state_of v.start v.words log).pieces rebuild ≡ Some (Rebuild r))
       × (found ≡ r.draw)
-  draw_behind rebuild row e log m found shown =
+  draw_after rebuild row e log m found shown =
       let u = state_of v.start v.words log in
       let on = rebuild_there (now v).pieces u.pieces (grow v log m) rebuild row e in (
         on.0,
@@ -106,7 +106,7 @@ module _ (v : View) (s : IsSound v) (number : ℕ) (mine : v.who ≡ Caller numb
             (in_piece rebuild 4 (Rebuild can.row) can.published (omega arith));
         comes = λ log m found shown.
             let u = state_of v.start v.words log in
-            let r = draw_behind rebuild can.row can.published log m found shown in
+            let r = draw_after rebuild can.row can.published log m found shown in
             record {
               enabled = next_draw_stays v.start v.words m.lawful.opens number
                   (subst (λ who. Later who v.log log) mine m.later) m.lawful.enabled
@@ -119,7 +119,7 @@ module _ (v : View) (s : IsSound v) (number : ℕ) (mine : v.who ≡ Caller numb
                   }) (sym r.2);
             };
         fits = λ log m found shown.
-            let r = draw_behind rebuild can.row can.published log m found shown in
+            let r = draw_after rebuild can.row can.published log m found shown in
             let low = draw_low v.start v.words m.lawful.opens log m.lawful.enabled rebuild r.0 r.1
             in
             let is = r.2 in

@@ -21,7 +21,7 @@ use Rattle.ist_core.proofs.AddingLemmas.{held_free}
 use Rattle.laws_links.proofs.ComesLemmas.{rebuild_comes}
 use Rattle.laws_links.proofs.FormLemmas.{finished_with_grows}
 use Rattle.laws_links.proofs.FormedLemmas.{rooted_is_finished}
-use Rattle.laws_links.proofs.InductionLemmas.{grow_behind, sound_behind}
+use Rattle.laws_links.proofs.InductionLemmas.{grow_after, sound_after}
 use Rattle.laws_links.proofs.OriginLemmas.{RebuildComes, rebuild_was, is_begun, is_rooted, is_drawn}
 use Rattle.laws_links.proofs.NumberLemmas.{number_is}
 use Rattle.ist_core.specs.declared.events.Who.{Who}
@@ -80,7 +80,7 @@ module _ (pairs : List Pair) (words : ℕ) (opens : CanOpen pairs words) where
   rooted_sizes log h caller rebuild word rows can =
       let t = state_of pairs words log in
       root_sizes t.pieces rows word can.k can.leaves can.row.target can.once
-      (held_free t caller rows can.held (sound_behind pairs words log h))
+      (held_free t caller rows can.held (sound_after pairs words log h))
       (number_is pairs words opens log h can.row.target can.k can.leaves can.finished can.reached)
       can.root
 
@@ -100,7 +100,7 @@ module _ (pairs : List Pair) (words : ℕ) (opens : CanOpen pairs words) where
         let t = state_of pairs words log in
         let u = state_of pairs words (event ∷ log) in
         let it = rooted_is_finished pairs words log h.0 rebuild r e set in
-        let on = finished_with_grows t u (grow_behind pairs words log event h) r.target it.0 it.1 in
+        let on = finished_with_grows t u (grow_after pairs words log event h) r.target it.0 it.1 in
         subst (IsFinishedWith t r.target)
         (finished_once u r.target it.0 k on
         (subst (λ n. IsFinishedWith u n k) same done)) it.1
@@ -129,7 +129,7 @@ module _ (pairs : List Pair) (words : ℕ) (opens : CanOpen pairs words) where
         at _ h out done before (is_rooted {caller = caller} {word = word} {rows = rows} can same) =
             let u = state_of pairs words (Root caller rebuild word rows ∷ log) in
             let on = finished_with_grows (state_of pairs words log) u
-            (grow_behind pairs words log (Root caller rebuild word rows) h) can.row.target can.k
+            (grow_after pairs words log (Root caller rebuild word rows) h) can.row.target can.k
             can.finished in
             let number_same : can.k ≡ k =
             finished_once u can.row.target can.k k on

@@ -28,7 +28,7 @@ use Rattle.ist_core.proofs.PlaceLemmas.{claimed_apart, claimed_within, one_piece
 use Rattle.ist_core.proofs.ShapedLemmas.{shaped}
 use Rattle.laws_links.proofs.FormLemmas.{finished_with_grows}
 use Rattle.laws_links.proofs.FormedLemmas.{rooted_is_finished}
-use Rattle.laws_links.proofs.InductionLemmas.{sound_behind}
+use Rattle.laws_links.proofs.InductionLemmas.{sound_after}
 use Rattle.laws_links.proofs.BuiltLemmas.{root_once}
 use Rattle.laws_links.proofs.NumberLemmas.{number_is}
 use Rattle.ist_core.specs.Shown.{IsShown, shown_next, shown_callers, shown_status, shown_slot, shown_row, shown_free}
@@ -59,7 +59,7 @@ module _ (pairs : List Pair) (words : ℕ) (prefix log : Log) (on : GoesOn prefi
     where
       inside : first_row ≤ node
       inside = (claimed_within pairs words log node (size_of (Inner row)) h
-          ((placed pairs words log h).published node (Inner row) published)).behind_fixed
+          ((placed pairs words log h).published node (Inner row) published)).after_fixed
 
       by : (q w : ℕ) → IsShown (state_of pairs words prefix) q w
           → q ≡ slot_place node row.degree i → w ≢ 0
@@ -133,7 +133,7 @@ module _ (pairs : List Pair) (words : ℕ) (opens : CanOpen pairs words) (number
       number_is pairs words opens log enabled can.row.target number_of.0 can.leaves number_of.1
       can.reached ∙ number_is_k in
       part_sizes t.pieces rows can.ref can.part can.root can.once
-      (held_free t caller rows can.held (sound_behind pairs words log enabled)) can.ideal
+      (held_free t caller rows can.held (sound_after pairs words log enabled)) can.ideal
       ∙ ap shape ((part_length can.leaves can.part i can.part_is).1 ∙ ap (λ n. part_len n i) many)
 
   -- a slot that was Unset and is set was set by another's Place of the same sizes

@@ -29,8 +29,8 @@ pub no_less : (P : Event → Type 0) (u v w : View) → WentOn P u v → CameFur
 no_less P u v w g = later_further u v w (goes_on_by g.later)
 
 -- loads before it keep it
-pub behind_load : (u v w : View) → GoesOnTo u v → CameFurther v w → CameFurther u w
-behind_load u v w g = later_further u v w (goes_on_by g.later)
+pub after_load : (u v w : View) → GoesOnTo u v → CameFurther v w → CameFurther u w
+after_load u v w g = later_further u v w (goes_on_by g.later)
 
 -- steps after it keep it
 pub and_on : (P : Event → Type 0) (u v w : View) → CameFurther u v → WentOn P v w → CameFurther u w

@@ -87,11 +87,11 @@ gone_missed v event make place old new known gone =
     record { make = make; known = known; comes = λ log m shown. absurd (gone log m shown) }
 
 -- what is shown as the status of a node after a log that may come is its status there
-pub status_behind : (v : View) (node : ℕ) (row : InnerRow) → (now v).pieces node ≡ Some (Inner row)
+pub status_after : (v : View) (node : ℕ) (row : InnerRow) → (now v).pieces node ≡ Some (Inner row)
     → (log : Log) → MayCome v log → (word : ℕ)
     → IsShown (state_of v.start v.words log) (node + inner_status_offset) word
     → StatusGoesOn row.status word
-status_behind v node row e log m word shown =
+status_after v node row e log m word shown =
     let u = state_of v.start v.words log in
     let on = inner_there (now v).pieces u.pieces (grow v log m) node row e in
     let is : word ≡ on.0.status =
@@ -117,11 +117,11 @@ from_finished k (is_closed n e f) = omega arith
 pub open_gone : (v : View) (node : ℕ) (row : InnerRow) → (now v).pieces node ≡ Some (Inner row)
     → row.status ≢ open_word → IsGone v (node + inner_status_offset) open_word
 open_gone v node row e shut log m shown =
-    shut (from_open row.status (status_behind v node row e log m open_word shown))
+    shut (from_open row.status (status_after v node row e log m open_word shown))
 
 -- a finished node is never marked again
 pub mark_gone : (v : View) (node k : ℕ) (row : InnerRow) → (now v).pieces node ≡ Some (Inner row)
     → row.status ≡ finished_word k → IsGone v (node + inner_status_offset) marked_word
 mark_gone v node k row e is log m shown =
     from_finished k (subst (λ n. StatusGoesOn n marked_word) is
-    (status_behind v node row e log m marked_word shown))
+    (status_after v node row e log m marked_word shown))

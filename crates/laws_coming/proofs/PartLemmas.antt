@@ -24,7 +24,7 @@ use Rattle.ist_core.proofs.GrowingLemmas.{slot_remains}
 use Rattle.ist_core.proofs.PlaceLemmas.{anchor_free}
 use Rattle.ist_core.proofs.ShapedLemmas.{shaped}
 use Rattle.ist_core.proofs.SlotLemmas.{slot_once}
-use Rattle.laws_links.proofs.InductionLemmas.{sound_behind}
+use Rattle.laws_links.proofs.InductionLemmas.{sound_after}
 use Rattle.laws_links.proofs.NumberLemmas.{number_is}
 use Rattle.ist_rule.specs.declared.view.View.{View}
 use Rattle.ist_core.specs.declared.events.Who.TheVariants.{Caller}
@@ -63,10 +63,10 @@ module _ (v : View) (s : IsSound v) (number rebuild i word : ℕ) (rows : List R
   holds_now = in_row b.root_row b.root_published slot_now.1
 
   -- what is shown at its place after a log that may come is its word there
-  slot_behind : (log : Log) → MayCome v log → (found : ℕ)
+  slot_after : (log : Log) → MayCome v log → (found : ℕ)
       → IsShown (state_of v.start v.words log) place found
       → SlotHolds (state_of v.start v.words log) b.root i found
-  slot_behind log m found shown =
+  slot_after log m found shown =
       let u = state_of v.start v.words log in
       let there = slot_remains (now v) u (grow v log m) b.root i slot_now.0 holds_now in
       let is : place ≡ place_of_slot u b.root i =
@@ -93,7 +93,7 @@ module _ (v : View) (s : IsSound v) (number rebuild i word : ℕ) (rows : List R
       b.root i record { word = slot_now.0; holds = holds_now; set = set.1 } in
       still.set (slot_once (state_of v.start v.words log) b.root i still.word unset_word
       (anchor_free v.start v.words log m.lawful.enabled) still.holds
-      (slot_behind log m unset_word shown))))
+      (slot_after log m unset_word shown))))
       (eqb_tells slot_now.0 unset_word)
     where
       can : slice_get b.root_row.slots i ≡ Some unset_word
@@ -127,7 +127,7 @@ module _ (v : View) (s : IsSound v) (number rebuild i word : ℕ) (rows : List R
       let long = part_length b.leaves b.part i b.part_is in (
         part_sizes (now v).pieces rows b.ref b.part b.root b.once
             (held_free (now v) number rows b.held
-            (sound_behind v.start v.words v.log s.lawful.enabled)) b.ideal
+            (sound_after v.start v.words v.log s.lawful.enabled)) b.ideal
             ∙ ap shape (long.1 ∙ ap (λ n. part_len n i) many),
         subst (λ n. i < degree n) many long.0,
       )
@@ -151,7 +151,7 @@ module _ (v : View) (s : IsSound v) (number rebuild i word : ℕ) (rows : List R
       (λ r there grows done. subst (λ sizes. IsBeaten number sizes log) (sym sizes_fit.0)
       (beaten_part v.start v.words s.lawful.opens number b.k log m.lawful.enabled rebuild b.root i r
       there (ap (λ w. ref_of w) (grows.rooted set) ∙ b.root_is) done was.prefix slot log since
-      same_log m.lawful.enabled found (slot_behind log m found shown) differs
+      same_log m.lawful.enabled found (slot_after log m found shown) differs
       (λ w holds. slot_once (state_of v.start v.words was.prefix) b.root i w unset_word
       (anchor_free v.start v.words was.prefix first) holds slot)))
 

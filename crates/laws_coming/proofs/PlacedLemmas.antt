@@ -28,7 +28,7 @@ use Rattle.ist_core.proofs.PlaceLemmas.{anchor_free}
 use Rattle.ist_core.proofs.PublishingLemmas.{ideal_stands}
 use Rattle.ist_core.proofs.SlotLemmas.{slot_once}
 use Rattle.ist_core.proofs.SlotStepLemmas.{WritesSlot, WritesNoSlot, install_writes, place_writes, resolve_writes, slot_stays}
-use Rattle.laws_links.proofs.InductionLemmas.{sound_behind}
+use Rattle.laws_links.proofs.InductionLemmas.{sound_after}
 use Rattle.laws_stability.proofs.SetLemmas.{set_by}
 use Rattle.laws_coming.proofs.SizeLemmas.{ideal_sizes, published_sizes, lengths_of_parts}
 
@@ -113,7 +113,7 @@ module _ (pairs : List Pair) (words : ℕ) where
       → IsPlaceIn (start pairs words) log node i event
   quiet log event h none node i w before now set =
       stays_unset log event h node i w
-      (slot_stays (start pairs words) log event h.1 (sound_behind pairs words log h.0) none node i
+      (slot_stays (start pairs words) log event h.1 (sound_after pairs words log h.0) none node i
       unset_word before) now set
 
   -- an event that sets an Unset slot is a Place into it
@@ -125,7 +125,7 @@ module _ (pairs : List Pair) (words : ℕ) where
       written log (Install caller base rows) h h.1.change.node h.1.change.index
       (word_of (ChangeAt base)) h.1.change.from
       (install_writes (start pairs words) log caller base rows h.1
-      (sound_behind pairs words log h.0) (anchor_free pairs words log h.0))
+      (sound_after pairs words log h.0) (anchor_free pairs words log h.0))
       (from_set (start pairs words) log h.1.change h.1.fresh h.1.fits)
       node i w before now set
   filled log (Resolve caller base) h node i w before now set =
@@ -137,6 +137,6 @@ module _ (pairs : List Pair) (words : ℕ) where
       ⊎_elim (λ here. is_place h.1 here.1 here.2)
       (λ stays. stays_unset log (Place caller rebuild j word rows) h node i w stays now set)
       ((place_writes (state_of pairs words log) caller rebuild j word rows h.1
-      (sound_behind pairs words log h.0) (anchor_free pairs words log h.0)).others node i unset_word
+      (sound_after pairs words log h.0) (anchor_free pairs words log h.0)).others node i unset_word
       before)
   filled log event h node i w before now set = quiet log event h tt node i w before now set

@@ -23,7 +23,7 @@ use Rattle.ist_core.proofs.FateLemmas.{enabled_before}
 use Rattle.ist_core.proofs.GrowingLemmas.{rebuild_there}
 use Rattle.ist_core.proofs.ShapeLemmas.{shape_none, shape_one}
 use Rattle.laws_links.proofs.FormLemmas.{finished_with_grows, started_grows}
-use Rattle.laws_links.proofs.InductionLemmas.{sound_behind}
+use Rattle.laws_links.proofs.InductionLemmas.{sound_after}
 use Rattle.laws_links.proofs.NumberLemmas.{number_is}
 use Rattle.ist_rule.specs.declared.view.View.{View}
 use Rattle.ist_core.specs.declared.events.Who.TheVariants.{Caller}
@@ -123,11 +123,11 @@ module _ (v : View) (s : IsSound v) (number rebuild word : ℕ) (rows : List Row
   make_root = record { mine = sym mine; stored = stored; allowed = tt }
 
   -- the root word after a log that may come
-  root_behind : (log : Log) → MayCome v log → (found : ℕ)
+  root_after : (log : Log) → MayCome v log → (found : ℕ)
       → IsShown (state_of v.start v.words log) (rebuild + rebuild_root_offset) found
       → (r : RebuildRow) × ((state_of v.start v.words log).pieces rebuild ≡ Some (Rebuild r))
       × (found ≡ r.root) × (b.row.root ≢ unset_word → r.root ≡ b.row.root)
-  root_behind log m found shown =
+  root_after log m found shown =
       let u = state_of v.start v.words log in
       let on = rebuild_there (now v).pieces u.pieces (grow v log m) rebuild b.row b.published in (
         on.0,
@@ -146,7 +146,7 @@ module _ (v : View) (s : IsSound v) (number rebuild word : ℕ) (rows : List Row
       (λ set. gone_missed v (Root number rebuild word rows) make_root _ _ _
       (fast_known v _ (in_piece rebuild 3 (Rebuild b.row) b.published (omega arith)))
       (λ log m shown.
-      let r = root_behind log m unset_word shown in
+      let r = root_after log m unset_word shown in
       set.1 (sym (r.3 set.1) ∙ sym r.2)))
       (eqb_tells b.row.root unset_word)
     where
@@ -171,7 +171,7 @@ module _ (v : View) (s : IsSound v) (number rebuild word : ℕ) (rows : List Row
   sizes_fit : IsRootSizes b.k (sizes_of rows)
   sizes_fit =
       root_sizes (now v).pieces rows word b.k b.leaves b.row.target b.once
-      (held_free (now v) number rows b.held (sound_behind v.start v.words v.log s.lawful.enabled))
+      (held_free (now v) number rows b.held (sound_after v.start v.words v.log s.lawful.enabled))
       (number_is v.start v.words s.lawful.opens v.log s.lawful.enabled b.row.target b.k b.leaves
       b.finished b.reached)
       b.root

@@ -85,17 +85,17 @@ mutual
       ∙ ap (flat_map shape) (lengths_of_parts leaves))
       ∙ sym (shape_many (length leaves) top.two)
 
-  parts_sizes : (ps : Pieces) (words : List ℕ) (behind : List (List PlacedLeaf)) (above : ℕ)
-      (rows : List ℕ) → AreIdeal ps words behind above rows
-      → sizes_at ps rows ≡ flat_map shape (map length behind)
+  parts_sizes : (ps : Pieces) (words : List ℕ) (following : List (List PlacedLeaf)) (above : ℕ)
+      (rows : List ℕ) → AreIdeal ps words following above rows
+      → sizes_at ps rows ≡ flat_map shape (map length following)
   parts_sizes ps _ _ _ _ no_part = refl
   parts_sizes ps _ _ above _
-      (one_part {words = words} {here = here} {rest = rest} {part = part} {behind = behind} ref e
+      (one_part {words = words} {here = here} {rest = rest} {part = part} {following = following} ref e
       first more) =
       map-append (λ base. size_there (ps base)) here rest
       ∙ ap₂ (λ xs ys. xs ++ ys) (ideal_sizes ps ref part above here first)
-      (parts_sizes ps words behind above rest more)
-      ∙ sym (flat_map-cons shape (length part) (map length behind))
+      (parts_sizes ps words following above rest more)
+      ∙ sym (flat_map-cons shape (length part) (map length following))
 
 -- ---- the sizes of the rows that are published
 

@@ -12,7 +12,7 @@ use Rattle.ist_core.specs.Elements.{Among, Each}
 use Rattle.ist_core.specs.StartLayout.{start}
 use Rattle.ist_core.specs.Logs.{Log, GoesOn}
 use Rattle.ist_core.specs.Changes.{Entry, changes_of}
-use Rattle.ist_core.specs.Standing.{is_change, entry_by, entries_by, IsRead, position_behind, Follows, AllFollow, StandAmong, StandsIn, IsFresh}
+use Rattle.ist_core.specs.Standing.{is_change, entry_by, entries_by, IsRead, position_after, Follows, AllFollow, StandAmong, StandsIn, IsFresh}
 use Rattle.ist_core.proofs.ElementLemmas.{among-append, each-among, each_append}
 use Rattle.laws_histories.specs.Calls.{MadeNoEntry, HasCalls, TookEffect, IsAdded}
 use Rattle.laws_histories.proofs.ChangeLemmas.{changes_on, get_left, get_at, read_on}
@@ -60,10 +60,10 @@ keep_calls pairs words earlier log number told stamp calls g none low has =
 -- ---- order
 
 -- the position after a placed call is at most the number of entries
-pub behind_within : (m : Map) (entries : List Entry) (number : ℕ) (calls : List Call)
+pub after_within : (m : Map) (entries : List Entry) (number : ℕ) (calls : List Call)
     → StandAmong m entries number calls → (call : Call) → Among call calls
-    → position_behind call ≤ length entries
-behind_within m entries number calls s call i = at (is_change call) refl
+    → position_after call ≤ length entries
+after_within m entries number calls s call i = at (is_change call) refl
   where
     at : (v : Bool) → is_change call ≡ v
         → (if v then call.position + 1 else call.position) ≤ length entries
@@ -88,7 +88,7 @@ pub fresh_follows : (pairs : List Pair) (words : ℕ) (seen : Log) (number stamp
     → StandsIn pairs words seen number calls → IsFresh pairs words seen stamp last
     → (call : Call) → Among call calls → call.stamp ≤ stamp → Follows call last
 fresh_follows pairs words seen number stamp calls last s fresh call i low =
-    let behind = behind_within (map_of pairs) (changes_of pairs words seen) number calls s call i in
+    let following = after_within (map_of pairs) (changes_of pairs words seen) number calls s call i in
     let position = fresh.position in
     let later = fresh.later in
     record { position = omega arith; stamp = omega arith }

@@ -6,7 +6,7 @@ use Rattle.ist_core.specs.declared.events.Event.TheVariants.{Decide}
 use Rattle.ist_core.specs.Map.{Map, reply_to}
 use Rattle.ist_core.specs.Snapshots.{Snapshot}
 use Rattle.ist_core.specs.Logs.{Log, state, GoesOn, same_log, one_event}
-use Rattle.ist_core.specs.Changes.{Entry, entry_of, changes, map_behind}
+use Rattle.ist_core.specs.Changes.{Entry, entry_of, changes, map_after_entries}
 use Rattle.ist_core.specs.Standing.{IsRead}
 use Rattle.ist_core.proofs.PrefixLemmas.{goes_on_more}
 
@@ -53,6 +53,6 @@ read_on m xs ys call h =
       within = (let a = h.within in let b = length-append xs ys in omega arith);
       reply =
           h.reply
-          ∙ ap (λ es. reply_to (map_behind m es) call.command)
+          ∙ ap (λ es. reply_to (map_after_entries m es) call.command)
           (sym (take-append-le call.position xs ys h.within));
     }

@@ -101,11 +101,11 @@ module _ (pairs : List Pair) (words : ℕ) where
           (sym is) record { caller = caller; earlier = log; decided = same_log }
 
   -- after its Decide with yes a change is decided yes
-  pub decided_behind : (caller base : ℕ) (a log : Log) → GoesOn (Decide caller base true ∷ a) log
+  pub decided_after : (caller base : ℕ) (a log : Log) → GoesOn (Decide caller base true ∷ a) log
       → EachEnabled (start pairs words) log → (change : ChangeRow)
       → (state_of pairs words log).pieces base ≡ Some (Change change)
       → change.decision ≡ decided_yes
-  decided_behind caller base a log g h change e =
+  decided_after caller base a log g h change e =
       let m = enabled_before (start pairs words) (Decide caller base true ∷ a) log g h in
       let now = state_of pairs words (Decide caller base true ∷ a) in
       let turned : ChangeRow = record (m.1.change) { decision = decided_yes } in
@@ -125,7 +125,7 @@ module _ (pairs : List Pair) (words : ℕ) where
       → (state_of pairs words log).pieces base ≡ Some (Change new) → new.decision ≡ decided_yes
       → Turning earlier log base
   turns_since earlier log g h base new not_yet f said =
-      ⊎_elim (λ x. behind x) (λ x. absurd (before x))
+      ⊎_elim (λ x. following x) (λ x. absurd (before x))
       (prefixes earlier (Decide d.caller base true ∷ d.earlier) log g d.decided)
     where
       d : Decided log base
@@ -141,10 +141,10 @@ module _ (pairs : List Pair) (words : ℕ) where
           change_there (state_of pairs words d.earlier).pieces
           (state_of pairs words earlier).pieces
           (grow_between pairs words d.earlier earlier a (goes_on_more (one_event (Decide d.caller base true) same_log) x)) base m.1.change m.1.pending.published in
-          not_yet it.0 it.1 (decided_behind d.caller base d.earlier earlier x a it.0 it.1)
+          not_yet it.0 it.1 (decided_after d.caller base d.earlier earlier x a it.0 it.1)
 
-      behind : GoesOn earlier (Decide d.caller base true ∷ d.earlier) → Turning earlier log base
-      behind x = at (Decide d.caller base true ∷ d.earlier) refl x
+      following : GoesOn earlier (Decide d.caller base true ∷ d.earlier) → Turning earlier log base
+      following x = at (Decide d.caller base true ∷ d.earlier) refl x
         where
           the_rest : (ev : Event) (r : Log) → ev ∷ r ≡ Decide d.caller base true ∷ d.earlier
               → r ≡ d.earlier

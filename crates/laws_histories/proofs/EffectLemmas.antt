@@ -172,16 +172,16 @@ module _ (pairs : List Pair) (words : ℕ) (opens : CanOpen pairs words) where
       rest : (more : List Entry) × (changes_of pairs words log ≡ changes_of pairs words whole ++ more)
       rest = changes_on (start pairs words) whole log turn.until
 
-      behind : changes_of pairs words log ≡ front ++ (first ∷ rest.0)
-      behind =
+      following : changes_of pairs words log ≡ front ++ (first ∷ rest.0)
+      following =
           rest.1 ∙ ap (λ es. (front ++ es) ++ rest.0) made ∙ append_assoc front (first ∷ []) rest.0
 
       are : changes_of pairs words log ≡ (old ++ mid.0) ++ (first ∷ rest.0)
-      are = behind ∙ ap (λ es. es ++ (first ∷ rest.0)) mid.1
+      are = following ∙ ap (λ es. es ++ (first ∷ rest.0)) mid.1
 
       has : slice_get (changes_of pairs words log) (length front) ≡ Some first
       has =
-          subst (λ es. slice_get es (length front) ≡ Some first) (sym behind)
+          subst (λ es. slice_get es (length front) ≡ Some first) (sym following)
           (get_at front rest.0 first)
 
       it : IsEntryOf pairs words log (length front) base

@@ -84,10 +84,10 @@ module _ (pairs : List Pair) (words : ℕ) (opens : CanOpen pairs words) where
       let one : record { owner = old.owner; command = command; reply = reply_of t.pieces old } ≡ entry =
       λ i. record { owner = (ap (λ c. c.owner) (sym it.2.others)) i; command = command; reply = (sym reply) i } in
       let front = changes_of pairs words earlier in
-      let behind = changes_on first (Decide caller base true ∷ earlier) log g in
-      let are : changes_of pairs words log ≡ front ++ (entry ∷ behind.0) =
-      behind.1 ∙ ap (λ es. (front ++ es) ++ behind.0) (made ∙ ap (λ x. x ∷ []) one)
-      ∙ append_assoc front (entry ∷ []) behind.0 in
+      let following = changes_on first (Decide caller base true ∷ earlier) log g in
+      let are : changes_of pairs words log ≡ front ++ (entry ∷ following.0) =
+      following.1 ∙ ap (λ es. (front ++ es) ++ following.0) (made ∙ ap (λ x. x ∷ []) one)
+      ∙ append_assoc front (entry ∷ []) following.0 in
       record {
         caller = caller;
         earlier = earlier;
@@ -100,7 +100,7 @@ module _ (pairs : List Pair) (words : ℕ) (opens : CanOpen pairs words) where
         command_is = command_stays old it.0 others ∙ is;
         entry =
             subst (λ es. slice_get es (length front) ≡ Some entry) (sym are)
-            (get_at front behind.0 entry);
+            (get_at front following.0 entry);
       }
 
   -- each put or remove that was decided yes has an entry

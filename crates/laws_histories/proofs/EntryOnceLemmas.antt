@@ -11,7 +11,7 @@ use Rattle.ist_core.proofs.GrowingLemmas.{change_there}
 use Rattle.ist_core.proofs.FateLemmas.{enabled_before, grow_between}
 use Rattle.ist_core.proofs.FreezingLemmas.{same_change}
 use Rattle.ist_core.proofs.PrefixLemmas.{goes_on_more}
-use Rattle.laws_histories.proofs.DecisionLemmas.{prefixes, decided_behind}
+use Rattle.laws_histories.proofs.DecisionLemmas.{prefixes, decided_after}
 use Rattle.laws_histories.specs.Telling.{IsEntryOf}
 use Rattle.laws_histories.proofs.EntryLemmas.{command_stays}
 use Rattle.laws_histories.proofs.ChangeLemmas.{changes_rise}
@@ -31,7 +31,7 @@ module _ (pairs : List Pair) (words : ℕ) (opens : CanOpen pairs words) where
       → ¬ (GoesOn (Decide caller base true ∷ a) b)
   undecided_later caller base other a b h g =
       let said =
-      decided_behind pairs words caller base a b g h.0 h.1.change h.1.pending.published in
+      decided_after pairs words caller base a b g h.0 h.1.change h.1.pending.published in
       let none = h.1.pending.unset in
       omega arith
 

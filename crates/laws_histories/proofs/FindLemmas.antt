@@ -19,7 +19,7 @@ use Rattle.ist_core.proofs.GrowingLemmas.{leaf_there, inner_there}
 use Rattle.ist_core.proofs.PlaceLemmas.{anchor_free}
 use Rattle.ist_core.proofs.SlotLemmas.{same_inner, no_row}
 use Rattle.ist_core.proofs.OrderLemmas.{names, child_above}
-use Rattle.laws_links.proofs.InductionLemmas.{grow_behind}
+use Rattle.laws_links.proofs.InductionLemmas.{grow_after}
 use Rattle.laws_histories.specs.Finding.{Finds, in_nothing, in_leaf, in_node, Gives}
 use Rattle.laws_histories.proofs.ReadLemmas.{ReadsAs, Turns, reads_step}
 use Rattle.laws_histories.proofs.SeenLemmas.{row_holds}
@@ -76,33 +76,33 @@ module _ (pairs : List Pair) (words : ℕ) (opens : CanOpen pairs words) (log : 
   abbrev Before : Snapshot
   Before = state_of pairs words log
 
-  abbrev Behind : Snapshot
-  Behind = state_of pairs words (event ∷ log)
+  abbrev Following : Snapshot
+  Following = state_of pairs words (event ∷ log)
 
   -- the search goes on through a slot that reads as this reference
   finds_through : (key base i : ℕ) (r : InnerRow) (ref : Option Ref) (value : Option ℕ)
       → Before.pieces base ≡ Some (Inner r)
-      → i ≡ child_count r.keys key → ReadsAs Behind base i ref → Finds Behind.pieces key ref value
-      → Finds Behind.pieces key (Some (InnerAt base)) value
+      → i ≡ child_count r.keys key → ReadsAs Following base i ref → Finds Following.pieces key ref value
+      → Finds Following.pieces key (Some (InnerAt base)) value
   finds_through key base i r ref value e is read f =
       let it =
-      inner_there Before.pieces Behind.pieces (grow_behind pairs words log event h) base r e in
+      inner_there Before.pieces Following.pieces (grow_after pairs words log event h) base r e in
       let held =
-      row_holds Behind base i read.word it.0
+      row_holds Following base i read.word it.0
       (anchor_free pairs words (event ∷ log) h) it.1 read.holds in
       in_node it.0 it.1
       (subst (λ k. slice_get it.0.slots k ≡ Some read.word) (is ∙ ap (λ ks. child_count ks key) (sym it.2.keys)) held)
-      (subst (λ x. Finds Behind.pieces key x value) (sym read.reads) f)
+      (subst (λ x. Finds Following.pieces key x value) (sym read.reads) f)
 
   -- if the event turns a slot to what gives the same value, each search gives the same value
   pub finds_step : (key : ℕ)
-      → ((node i : ℕ) (ref : Option Ref) (value : Option ℕ) (turn : Turns Before Behind event node i ref) → Finds Before.pieces key ref value
-      → Finds Behind.pieces key (past_rebuild Before.pieces (ref_of turn.change.to)) value)
+      → ((node i : ℕ) (ref : Option Ref) (value : Option ℕ) (turn : Turns Before Following event node i ref) → Finds Before.pieces key ref value
+      → Finds Following.pieces key (past_rebuild Before.pieces (ref_of turn.change.to)) value)
       → (ref : Option Ref) (value : Option ℕ) → Finds Before.pieces key ref value
-      → Finds Behind.pieces key ref value
+      → Finds Following.pieces key ref value
   finds_step key alike _ _ in_nothing = in_nothing
   finds_step key alike _ _ (in_leaf {base = base} r e) =
-      in_leaf r (leaf_there Before.pieces Behind.pieces (grow_behind pairs words log event h) base r e)
+      in_leaf r (leaf_there Before.pieces Following.pieces (grow_after pairs words log event h) base r e)
   finds_step key alike _ value (in_node {base = base} {word = word} r e g f) =
       let ref = logical Before.pieces word in
       let i = child_count r.keys key in
@@ -112,22 +112,22 @@ module _ (pairs : List Pair) (words : ℕ) (opens : CanOpen pairs words) (log : 
       (reads_step pairs words opens log event h base i ref (finds_set Before.pieces key ref value f) record { word = word; holds = in_row r e g; reads = refl })
 
   -- what the anchor's slot reads as is what the tree reads as
-  anchor_reads : (key : ℕ) (ref : Option Ref) (value : Option ℕ) → ReadsAs Behind anchor 0 ref
-      → Finds Behind.pieces key ref value → Gives Behind key value
+  anchor_reads : (key : ℕ) (ref : Option Ref) (value : Option ℕ) → ReadsAs Following anchor 0 ref
+      → Finds Following.pieces key ref value → Gives Following key value
   anchor_reads key ref value read f =
-      subst (λ x. Finds Behind.pieces key x value)
-      (sym (ap (logical Behind.pieces) (at read.holds) ∙ read.reads)) f
+      subst (λ x. Finds Following.pieces key x value)
+      (sym (ap (logical Following.pieces) (at read.holds) ∙ read.reads)) f
     where
-      at : SlotHolds Behind anchor 0 read.word → Behind.anchor ≡ read.word
+      at : SlotHolds Following anchor 0 read.word → Following.anchor ≡ read.word
       at (in_anchor a b e) = e
       at (in_row r p g) =
-          absurd (no_row Behind.pieces anchor r (anchor_free pairs words (event ∷ log) h) refl p)
+          absurd (no_row Following.pieces anchor r (anchor_free pairs words (event ∷ log) h) refl p)
 
   -- if the event turns a slot to what gives the same value, the tree gives the same value
   pub gives_step : (key : ℕ)
-      → ((node i : ℕ) (ref : Option Ref) (value : Option ℕ) (turn : Turns Before Behind event node i ref) → Finds Before.pieces key ref value
-      → Finds Behind.pieces key (past_rebuild Before.pieces (ref_of turn.change.to)) value)
-      → (value : Option ℕ) → Gives Before key value → Gives Behind key value
+      → ((node i : ℕ) (ref : Option Ref) (value : Option ℕ) (turn : Turns Before Following event node i ref) → Finds Before.pieces key ref value
+      → Finds Following.pieces key (past_rebuild Before.pieces (ref_of turn.change.to)) value)
+      → (value : Option ℕ) → Gives Before key value → Gives Following key value
   gives_step key alike value f =
       let ref = logical Before.pieces Before.anchor in
       ⊎_elim
@@ -141,12 +141,12 @@ module _ (pairs : List Pair) (words : ℕ) (opens : CanOpen pairs words) (log : 
 
   -- above the node of the change that turns nothing is found otherwise
   pub finds_high : (key node : ℕ)
-      → ((at i : ℕ) (ref : Option Ref) → Turns Before Behind event at i ref → at ≡ node)
+      → ((at i : ℕ) (ref : Option Ref) → Turns Before Following event at i ref → at ≡ node)
       → (ref : Option Ref) (value : Option ℕ) → IsHigh node ref → Finds Before.pieces key ref value
-      → Finds Behind.pieces key ref value
+      → Finds Following.pieces key ref value
   finds_high key node here _ _ high in_nothing = in_nothing
   finds_high key node here _ _ high (in_leaf {base = base} r e) =
-      in_leaf r (leaf_there Before.pieces Behind.pieces (grow_behind pairs words log event h) base r e)
+      in_leaf r (leaf_there Before.pieces Following.pieces (grow_after pairs words log event h) base r e)
   finds_high key node here _ value high (in_node {base = base} {word = word} r e g f) =
       let ref = logical Before.pieces word in
       let i = child_count r.keys key in

@@ -15,7 +15,7 @@ use Rattle.ist_core.specs.Marking.{HasTarget}
 use Rattle.ist_core.specs.Lawful.{EachEnabled, CanOpen, state_of}
 use Rattle.ist_core.proofs.GrowingLemmas.{child_remains}
 use Rattle.laws_links.specs.Linking.{IsFinished}
-use Rattle.laws_links.proofs.InductionLemmas.{grow_behind}
+use Rattle.laws_links.proofs.InductionLemmas.{grow_after}
 use Rattle.laws_histories.proofs.NeedLemmas.{HasForm, into_nothing, over_leaf, beside_low, beside_high, takes_out, begins, ends, Needs, AllNeeds}
 use Rattle.laws_histories.proofs.ReadLemmas.{reads_step}
 
@@ -92,7 +92,7 @@ module _ (pairs : List Pair) (words : ℕ) (opens : CanOpen pairs words) where
       ⊎_elim
       (λ still.
       ⊎_elim
-      (λ d. inl (down i still (child_remains (state_of pairs words log) (state_of pairs words (event ∷ log)) (grow_behind pairs words log event h) node key i index) d))
+      (λ d. inl (down i still (child_remains (state_of pairs words log) (state_of pairs words (event ∷ log)) (grow_after pairs words log event h) node key i index) d))
       (λ f. inr f)
       (child_step log event h n node i child c))
       (λ f. inr (n.finished_below node i child f c))

@@ -9,7 +9,7 @@ use Rattle.ist_core.specs.declared.commands.Command.{Command}
 use Rattle.ist_core.specs.declared.commands.Command.TheVariants.{Put, Remove, Get}
 use Rattle.ist_core.specs.Map.{Map, map_after, reply_to, replay}
 use Rattle.ist_core.specs.Replies.{Answered}
-use Rattle.ist_core.specs.Changes.{Entry, map_behind}
+use Rattle.ist_core.specs.Changes.{Entry, map_after_entries}
 use Rattle.ist_core.specs.Standing.{makes_entry}
 use Rattle.ist_core.specs.Histories.{told_by_entry, IsLegal}
 use Rattle.laws_histories.specs.Telling.{AreLegal}
@@ -71,21 +71,21 @@ no_entry_leaves m (Get key) reply h e = refl
 
 -- the map after the commands of entries is the map after the entries
 map_told-entries : (m : Map) (entries : List Entry)
-    → map_told m (map told_by_entry entries) ≡ map_behind m entries
+    → map_told m (map told_by_entry entries) ≡ map_after_entries m entries
 map_told-entries m [] = refl
 map_told-entries m (entry ∷ entries) = map_told-entries (map_after m entry.command) entries
 
 -- entries that are legal, followed by entries that are legal on the map after them, are legal
 -- together
-pub entries_append : (m : Map) (xs ys : List Entry) → AreLegal m xs → AreLegal (map_behind m xs) ys
+pub entries_append : (m : Map) (xs ys : List Entry) → AreLegal m xs → AreLegal (map_after_entries m xs) ys
     → AreLegal m (xs ++ ys)
 entries_append m xs ys h k =
     subst (λ hs. IsLegal m hs) (sym (map-append told_by_entry xs ys))
     (legal_append m (map told_by_entry xs) (map told_by_entry ys) h (subst (λ n. AreLegal n ys) (sym (map_told-entries m xs)) k))
 
 -- the map after two lists of entries is the map after the second on the map after the first
-pub map_behind-append : (m : Map) (xs ys : List Entry)
-    → map_behind m (xs ++ ys) ≡ map_behind (map_behind m xs) ys
-map_behind-append m xs ys =
+pub map_after_entries-append : (m : Map) (xs ys : List Entry)
+    → map_after_entries m (xs ++ ys) ≡ map_after_entries (map_after_entries m xs) ys
+map_after_entries-append m xs ys =
     ap (replay m) (map-append (λ e. e.command) xs ys)
     ∙ replay-append m (map (λ e. e.command) xs) (map (λ e. e.command) ys)

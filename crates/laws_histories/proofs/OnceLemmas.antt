@@ -57,12 +57,12 @@ here_only position [] = refl
 here_only position (x ∷ xs) = grind (arith, nat_tests, here_only position xs)
 
 -- the others are those from the next position on
-behind_only : (position : ℕ) (xs : List Reading)
+after_only : (position : ℕ) (xs : List Reading)
     → filter (λ x. not (is_at position x))
     (from_position position xs) ≡ from_position (position + 1) xs
 unfolding from_position is_at
-behind_only position [] = refl
-behind_only position (x ∷ xs) = grind (arith, nat_tests, behind_only position xs)
+after_only position [] = refl
+after_only position (x ∷ xs) = grind (arith, nat_tests, after_only position xs)
 
 -- if no reading is past a position, the readings from it on are the readings at it
 last_only : (position : ℕ) (xs : List Reading) → Each (λ x. x.call.position ≤ position) xs
@@ -121,7 +121,7 @@ split position xs =
     let both =
     IsPermutation-filter_both (is_at position) (λ x. not (is_at position x)) (λ x. refl) ys in
     let parted =
-    subst (λ bs. IsPermutation ys (at_position position xs ++ bs)) (behind_only position xs)
+    subst (λ bs. IsPermutation ys (at_position position xs ++ bs)) (after_only position xs)
     (subst (λ heres. IsPermutation ys (heres ++ filter (λ x. not (is_at position x)) ys)) (here_only position xs) both) in
     subst (λ ls. IsPermutation (map reading_by ys) ls)
     (map-append reading_by (at_position position xs) (from_position (position + 1) xs))
@@ -144,25 +144,25 @@ placed_moves position (entry ∷ entries) xs h =
     let front = changes_from (position + 1) entries in
     let from = map reading_by (from_position position xs) in
     let here = map reading_by (at_position position xs) in
-    let behind = map reading_by (from_position (position + 1) xs) in
+    let following = map reading_by (from_position (position + 1) xs) in
     let rest = placed_from (position + 1) entries xs in
     let later : Each (λ x. x.call.position ≤ position + 1 + length entries) xs =
     subst (λ n. Each (λ x. x.call.position ≤ n) xs)
     (let same : position + suc (length entries) ≡ position + 1 + length entries = omega arith in same) h in
-    let one = IsPermutation-append_right front from (here ++ behind) (split position xs) in
+    let one = IsPermutation-append_right front from (here ++ following) (split position xs) in
     let two =
-    IsPermutation-trans (front ++ from) (front ++ (here ++ behind))
-    (here ++ (front ++ behind)) one (exchange front here behind) in
-    let three = IsPermutation-cons first (front ++ from) (here ++ (front ++ behind)) two in
+    IsPermutation-trans (front ++ from) (front ++ (here ++ following))
+    (here ++ (front ++ following)) one (exchange front here following) in
+    let three = IsPermutation-cons first (front ++ from) (here ++ (front ++ following)) two in
     let four =
-    IsPermutation-sym (here ++ first ∷ (front ++ behind)) (first ∷ (here ++ (front ++ behind)))
-    (IsPermutation-middle here first (front ++ behind)) in
+    IsPermutation-sym (here ++ first ∷ (front ++ following)) (first ∷ (here ++ (front ++ following)))
+    (IsPermutation-middle here first (front ++ following)) in
     let five =
-    IsPermutation-append_right here (first ∷ (front ++ behind)) (first ∷ rest)
-    (IsPermutation-cons first (front ++ behind) rest (placed_moves (position + 1) entries xs later)) in
-    IsPermutation-trans (first ∷ (front ++ from)) (first ∷ (here ++ (front ++ behind)))
+    IsPermutation-append_right here (first ∷ (front ++ following)) (first ∷ rest)
+    (IsPermutation-cons first (front ++ following) rest (placed_moves (position + 1) entries xs later)) in
+    IsPermutation-trans (first ∷ (front ++ from)) (first ∷ (here ++ (front ++ following)))
     (here ++ first ∷ rest) three
-    (IsPermutation-trans (first ∷ (here ++ (front ++ behind))) (here ++ first ∷ (front ++ behind)) (here ++ first ∷ rest) four five)
+    (IsPermutation-trans (first ∷ (here ++ (front ++ following))) (here ++ first ∷ (front ++ following)) (here ++ first ∷ rest) four five)
 
 -- each element of a list
 each_of : (P : Reading → Type 0) (xs : List Reading) → ((x : Reading) → Among x xs → P x)

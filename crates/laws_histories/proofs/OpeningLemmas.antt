@@ -42,10 +42,10 @@ record HasLeavesWithKeys {A : Type 0} (key : A → ℕ) (ps : Pieces) (ref : Ref
 
 -- the slots have leaves with the keys of the lists
 record HaveKeys {A : Type 0} (key : A → ℕ) (ps : Pieces) (words : List ℕ)
-    (behind : List (List A)) : Type 0 where
+    (following : List (List A)) : Type 0 where
   leaves : List PlacedLeaf
   reached : SlotsHaveLeaves ps words leaves
-  keys : map key_of_leaf leaves ≡ map key (joined behind)
+  keys : map key_of_leaf leaves ≡ map key (joined following)
 
 module _ {A : Type 0} (key : A → ℕ) (ps : Pieces) where
   mutual
@@ -58,12 +58,12 @@ module _ {A : Type 0} (key : A → ℕ) (ps : Pieces) where
         let it = split_all_leaves r.slots (parts xs) rows below in
         record { leaves = it.leaves; reached = row_here r e it.reached; keys = it.keys ∙ ap (map key) (joined_parts xs) }
 
-    split_all_leaves : (words : List ℕ) (behind : List (List A)) (rows : List ℕ)
-        → SplitAll key ps words behind rows → HaveKeys key ps words behind
+    split_all_leaves : (words : List ℕ) (following : List (List A)) (rows : List ℕ)
+        → SplitAll key ps words following rows → HaveKeys key ps words following
     split_all_leaves _ _ _ no_split = record { leaves = []; reached = no_slot; keys = refl }
-    split_all_leaves _ _ _ (one_split {word = word} {words = words} {here = here} {rest = rest} {part = part} {behind = behind} ref e first more) =
+    split_all_leaves _ _ _ (one_split {word = word} {words = words} {here = here} {rest = rest} {part = part} {following = following} ref e first more) =
         let one = split_leaves ref part here first in
-        let others = split_all_leaves words behind rest more in
+        let others = split_all_leaves words following rest more in
         record {
           leaves = one.leaves ++ others.leaves;
           reached =
@@ -72,7 +72,7 @@ module _ {A : Type 0} (key : A → ℕ) (ps : Pieces) where
               map-append key_of_leaf one.leaves others.leaves
               ∙ ap (λ ks. ks ++ map key_of_leaf others.leaves) one.keys
               ∙ ap (λ ks. map key part ++ ks) others.keys
-              ∙ sym (map-append key part (joined behind));
+              ∙ sym (map-append key part (joined following));
         }
 
 -- ---- the leaves of a new table

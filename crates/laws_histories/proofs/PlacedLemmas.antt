@@ -150,10 +150,10 @@ here_before position entry ys h [] = tt
 here_before position entry ys h (x ∷ xs) =
     at (here_before position entry ys h xs) (x.call.position == position) refl
   where
-    behind : x.call.position ≡ position → (item : Item) → IsFrom (position + 1) item
+    following : x.call.position ≡ position → (item : Item) → IsFrom (position + 1) item
         → StandsBefore (reading_by x) item
-    behind same (change_at i other) low = omega arith
-    behind same (reading_by y) low = inl (omega arith)
+    following same (change_at i other) low = omega arith
+    following same (reading_by y) low = inl (omega arith)
 
     at : Each (λ z. Each (StandsBefore z) (change_at position entry ∷ ys))
         (map reading_by (at_position position xs))
@@ -162,7 +162,7 @@ here_before position entry ys h (x ∷ xs) =
         (map reading_by (if v then x ∷ at_position position xs else at_position position xs))
     at rest true e =
         let same : x.call.position ≡ position = grind (arith, nat_tests) in
-        ((omega arith, each_item (IsFrom (position + 1)) (StandsBefore (reading_by x)) (behind same) ys h), rest)
+        ((omega arith, each_item (IsFrom (position + 1)) (StandsBefore (reading_by x)) (following same) ys h), rest)
     at rest false e = rest
 
 -- the items from a position on are at it or later
@@ -190,13 +190,13 @@ placed_in_order position (entry ∷ entries) xs h =
     let high = placed_high (position + 1) entries xs in
     in_order_append (map reading_by (at_position position xs)) (change_at position entry ∷ rest)
     (here_in_order position xs h)
-    (each_item (IsFrom (position + 1)) (StandsBefore (change_at position entry)) behind rest high, placed_in_order (position + 1) entries xs h)
+    (each_item (IsFrom (position + 1)) (StandsBefore (change_at position entry)) following rest high, placed_in_order (position + 1) entries xs h)
     (here_before position entry rest high xs)
   where
-    behind : (item : Item) → IsFrom (position + 1) item
+    following : (item : Item) → IsFrom (position + 1) item
         → StandsBefore (change_at position entry) item
-    behind (change_at i other) low = omega arith
-    behind (reading_by y) low = omega arith
+    following (change_at i other) low = omega arith
+    following (reading_by y) low = omega arith
 
 -- the woven history has its places
 pub has_places : (pairs : List Pair) (words : ℕ) (log : Log) (passes : List PassCalls)

@@ -11,7 +11,7 @@ use Rattle.ist_core.specs.References.{InnerAt}
 use Rattle.ist_core.specs.StartLayout.{start}
 use Rattle.ist_core.specs.Logs.{Log, GoesOn, same_log}
 use Rattle.ist_core.specs.Links.{Linked, Leads}
-use Rattle.ist_core.specs.Changes.{changes_of, map_behind}
+use Rattle.ist_core.specs.Changes.{changes_of, map_after_entries}
 use Rattle.ist_core.specs.Lawful.{EachEnabled, CanOpen, state_of}
 use Rattle.ist_core.specs.Standing.{makes_entry, IsRead, IsFresh}
 use Rattle.ist_core.proofs.FateLemmas.{enabled_before}
@@ -44,7 +44,7 @@ at_position pairs words earlier at log since until key value is =
       position = length front;
       from = changes_rise first earlier at since;
       to = changes_rise first at log until;
-      value_is = is ∙ ap (λ es. fin.get (map_behind (map_of pairs) es) key) (sym same);
+      value_is = is ∙ ap (λ es. fin.get (map_after_entries (map_of pairs) es) key) (sym same);
     }
 
 module _ (pairs : List Pair) (words : ℕ) (opens : CanOpen pairs words) (log : Log)

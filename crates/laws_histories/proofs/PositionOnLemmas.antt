@@ -6,7 +6,7 @@ use Rattle.std.specs.FinMap as fin
 use Rattle.ist_core.specs.declared.pairs.Pair.{Pair}
 use Rattle.ist_core.specs.Map.{map_of}
 use Rattle.ist_core.specs.Logs.{Log, GoesOn}
-use Rattle.ist_core.specs.Changes.{changes_of, map_at, map_behind}
+use Rattle.ist_core.specs.Changes.{changes_of, map_at, map_after_entries}
 use Rattle.ist_core.specs.StartLayout.{start}
 use Rattle.laws_histories.specs.Searching.{HasPosition}
 use Rattle.laws_histories.proofs.ChangeLemmas.{changes_on, changes_rise}
@@ -18,7 +18,7 @@ pub map_at_on : (pairs : List Pair) (words : ℕ) (log longer : Log) (position :
     ≡ map_at (map_of pairs) (changes_of pairs words log) position
 map_at_on pairs words log longer position g low =
     let on = changes_on (start pairs words) log longer g in
-    ap (λ entries. map_behind (map_of pairs) entries)
+    ap (λ entries. map_after_entries (map_of pairs) entries)
     (ap (take position) on.1
     ∙ take-append-le position (changes_of pairs words log) on.0 low)
 

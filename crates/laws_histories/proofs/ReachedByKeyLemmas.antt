@@ -17,7 +17,7 @@ use Rattle.ist_core.specs.Pieces.{Change}
 use Rattle.std.proofs.Common.{Some}
 use Rattle.ist_core.proofs.PrefixLemmas.{ever_from}
 use Rattle.ist_core.proofs.GrowingLemmas.{child_remains}
-use Rattle.laws_links.proofs.InductionLemmas.{grow_behind, changes_by}
+use Rattle.laws_links.proofs.InductionLemmas.{grow_after, changes_by}
 
 -- after some prefix the key of the change led to its node, and its slot is the one for the key
 pub record CameByKey (pairs : List Pair) (words : ℕ) (log : Log) (change : ChangeRow) : Type 0 where
@@ -50,7 +50,7 @@ module _ (pairs : List Pair) (words : ℕ) where
         led = c.led;
         index_is =
             child_remains (state_of pairs words log) (state_of pairs words (event ∷ log))
-            (grow_behind pairs words log event h) x.node x.key x.index c.index_is;
+            (grow_after pairs words log event h) x.node x.key x.index c.index_is;
       }
 
   -- each published put or remove reached its slot by its key

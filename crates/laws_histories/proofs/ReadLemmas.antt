@@ -22,7 +22,7 @@ use Rattle.ist_core.proofs.NamingLemmas.{SideNames, SlotNames, WordsName, slot_n
 use Rattle.ist_core.proofs.NamingStepLemmas.{side_names}
 use Rattle.ist_core.proofs.OrderLemmas.{names, past_change_names}
 use Rattle.ist_core.proofs.FreezingLemmas.{side_not_yes}
-use Rattle.laws_links.proofs.InductionLemmas.{grow_behind}
+use Rattle.laws_links.proofs.InductionLemmas.{grow_after}
 use Rattle.laws_links.proofs.ReadEventLemmas.{decide_reads}
 use Rattle.laws_links.proofs.ReadLemmas as links
 use Rattle.laws_links.proofs.ReadStepLemmas as steps
@@ -176,7 +176,7 @@ module _ (pairs : List Pair) (words : ℕ) (opens : CanOpen pairs words) where
             reads =
                 ap (past_rebuild u.pieces) r.reads
                 ∙ side_reads t.pieces u.pieces
-                (grow_behind pairs words log (Decide caller base true) h) can.change.node can.change.index (Some to) side
+                (grow_after pairs words log (Decide caller base true) h) can.change.node can.change.index (Some to) side
                 ∙ ap (past_rebuild t.pieces) (sym is);
           }
 
@@ -214,7 +214,7 @@ module _ (pairs : List Pair) (words : ℕ) (opens : CanOpen pairs words) where
             holds = k.holds;
             reads =
                 ap (past_rebuild u.pieces) k.reads
-                ∙ side_reads t.pieces u.pieces (grow_behind pairs words log event h) node i
+                ∙ side_reads t.pieces u.pieces (grow_after pairs words log event h) node i
                 (Some plain) side ∙ same;
           })
           (λ k. inr (subst (λ x. Turns t u event node i x) same (turned log event h node i plain k)))

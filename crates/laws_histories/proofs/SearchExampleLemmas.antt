@@ -82,9 +82,9 @@ since_6 base k word p e read =
 -- ---- the search
 
 -- the look that loads the decision after the yes
-look_behind : LooksAt [] 15 put_decided 1 4 6 2 (LeafAt 4)
+look_after : LooksAt [] 15 put_decided 1 4 6 2 (LeafAt 4)
 unfolding ref_of rows_within
-look_behind =
+look_after =
     record {
       slot = load 3 51 4;
       index = 0;
@@ -99,16 +99,16 @@ look_behind =
     }
 
 -- a search that loads the decision after the yes finds the value
-pub search_behind : Searched [] 15 put_decided 1 4 2 (Some 1)
+pub search_after : Searched [] 15 put_decided 1 4 2 (Some 1)
 unfolding rows_within
-search_behind =
+search_after =
     record {
       least = 4;
       last = 6;
       since = omega arith;
       comes = begins;
       ref = LeafAt 4;
-      look = look_behind;
+      look = look_after;
       value_is =
           of_key {base = 4} (load 4 1 6) (load 5 1 6) (since_6 4 0 1 (Leaf the_leaf) refl refl) refl
           (since_6 4 1 1 (Leaf the_leaf) refl refl);

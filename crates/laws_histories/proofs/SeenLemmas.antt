@@ -28,7 +28,7 @@ use Rattle.ist_core.proofs.FrozenLemmas as frozen
 use Rattle.ist_core.proofs.PrefixLemmas.{goes_on_more}
 use Rattle.laws_links.specs.Linking.{IsFinished}
 use Rattle.laws_links.proofs.FormLemmas.{finished_grows}
-use Rattle.laws_links.proofs.InductionLemmas.{sound_behind}
+use Rattle.laws_links.proofs.InductionLemmas.{sound_after}
 use Rattle.laws_links.proofs.ReadLemmas.{side_yes, past_plain}
 use Rattle.laws_histories.proofs.PassLemmas.{passed_plain}
 use Rattle.laws_histories.proofs.NeedLemmas.{AllNeeds}
@@ -130,7 +130,7 @@ module _ (pairs : List Pair) (words : ℕ) (opens : CanOpen pairs words)
               word = word_of (ChangeAt it.base);
               holds =
                   slot_stays (start pairs words) mid (Decide turn.caller it.base true) can
-                  (sound_behind pairs words mid m.0) tt node i (word_of (ChangeAt it.base)) slot;
+                  (sound_after pairs words mid m.0) tt node i (word_of (ChangeAt it.base)) slot;
               reads =
                   change_logical u.pieces (word_of (ChangeAt it.base)) it.base turned
                   (change_read pairs words opens log m it.base turned there) there

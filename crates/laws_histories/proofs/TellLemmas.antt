@@ -15,7 +15,7 @@ use Rattle.ist_core.specs.StartLayout.{start}
 use Rattle.ist_core.specs.Logs.{Log}
 use Rattle.ist_core.specs.Slots.{SlotHolds, IsChildFor, rebuild_reads, past_rebuild, logical}
 use Rattle.ist_core.specs.Links.{Leads}
-use Rattle.ist_core.specs.Changes.{Entry, command_of, reply_of, entry_for, entry_of, changes_of, map_behind}
+use Rattle.ist_core.specs.Changes.{Entry, command_of, reply_of, entry_for, entry_of, changes_of, map_after_entries}
 use Rattle.ist_core.specs.Rebuilding.{IsUpdate}
 use Rattle.ist_core.specs.Lawful.{EachEnabled, CanOpen, state_of}
 use Rattle.ist_core.proofs.RowLemmas.{changed_at-same}
@@ -29,7 +29,7 @@ use Rattle.ist_core.proofs.FreezingLemmas.{change_read, side_not_yes, same_chang
 use Rattle.ist_core.proofs.GrowingLemmas.{child_remains}
 use Rattle.laws_links.specs.Linking.{IsFinished}
 use Rattle.laws_links.proofs.FormLemmas.{finished_grows}
-use Rattle.laws_links.proofs.InductionLemmas.{sound_behind, grow_behind}
+use Rattle.laws_links.proofs.InductionLemmas.{sound_after, grow_after}
 use Rattle.laws_links.proofs.ReadLemmas.{side_yes}
 use Rattle.laws_histories.specs.Finding.{Finds, Gives}
 use Rattle.laws_histories.specs.Telling.{AreLegal}
@@ -40,7 +40,7 @@ use Rattle.laws_histories.proofs.DecisionLemmas.{unfinished}
 use Rattle.laws_histories.proofs.FindLemmas.{finds_once, finds_above, gives_step, IsHigh, finds_high}
 use Rattle.laws_histories.proofs.ReachedByKeyLemmas.{came}
 use Rattle.laws_histories.proofs.SideLemmas.{start_commands, finish_commands, Sides, sides}
-use Rattle.laws_histories.proofs.MapLemmas.{map_behind-append, entries_append}
+use Rattle.laws_histories.proofs.MapLemmas.{map_after_entries-append, entries_append}
 use Rattle.laws_histories.proofs.RootLemmas.{root_finds}
 
 -- one event decides one change
@@ -51,7 +51,7 @@ same_base a b c d e = cc
 pub record ToldAfter (pairs : List Pair) (words : ℕ) (log : Log) : Type 0 where
   -- the tree gives each key the value that the map after the changes has for it
   pub gives : (key : ℕ)
-      → Gives (state_of pairs words log) key (fin.get (map_behind (map_of pairs) (changes_of pairs words log)) key)
+      → Gives (state_of pairs words log) key (fin.get (map_after_entries (map_of pairs) (changes_of pairs words log)) key)
   pub legal : AreLegal (map_of pairs) (changes_of pairs words log)
 
 -- ---- a change that is decided yes
@@ -63,8 +63,8 @@ module _ (pairs : List Pair) (words : ℕ) (opens : CanOpen pairs words)
   abbrev Before : Snapshot
   Before = state_of pairs words log
 
-  abbrev Behind : Snapshot
-  Behind = state_of pairs words (Decide caller base true ∷ log)
+  abbrev Following : Snapshot
+  Following = state_of pairs words (Decide caller base true ∷ log)
 
   abbrev change : ChangeRow
   change = h.1.change
@@ -86,7 +86,7 @@ module _ (pairs : List Pair) (words : ℕ) (opens : CanOpen pairs words)
 
   -- the change that turns is this one
   turned_is : (node i : ℕ) (ref : Option Ref)
-      (turn : Turns Before Behind (Decide caller base true) node i ref) → turn.change ≡ change
+      (turn : Turns Before Following (Decide caller base true) node i ref) → turn.change ≡ change
   turned_is node i ref turn =
       let same = same_base caller base turn.decides.caller turn.base turn.decides.is in
       same_change (Before.pieces base) turn.change change
@@ -94,13 +94,13 @@ module _ (pairs : List Pair) (words : ℕ) (opens : CanOpen pairs words)
 
   -- if `to` gives what `from` gave, the tree gives what it gave
   alike_gives : (key : ℕ)
-      → ((value : Option ℕ) → Finds Before.pieces key From value → Finds Behind.pieces key To value)
-      → (value : Option ℕ) → Gives Before key value → Gives Behind key value
+      → ((value : Option ℕ) → Finds Before.pieces key From value → Finds Following.pieces key To value)
+      → (value : Option ℕ) → Gives Before key value → Gives Following key value
   alike_gives key alike =
       gives_step pairs words opens log (Decide caller base true) h key
       (λ node i ref value turn f.
       let same = turned_is node i ref turn in
-      subst (λ c. Finds Behind.pieces key (past_rebuild Before.pieces (ref_of c.to)) value)
+      subst (λ c. Finds Following.pieces key (past_rebuild Before.pieces (ref_of c.to)) value)
       (sym same)
       (alike value (subst (λ c. Finds Before.pieces key (past_rebuild Before.pieces (ref_of c.from)) value) same (subst (λ x. Finds Before.pieces key x value) (sym turn.from) f))))
 
@@ -110,10 +110,10 @@ module _ (pairs : List Pair) (words : ℕ) (opens : CanOpen pairs words)
     index_is : IsChildFor Before change.node change.key change.index
     slot : SlotHolds Before change.node change.index (word_of (ChangeAt base))
     reads : logical Before.pieces (word_of (ChangeAt base)) ≡ From
-    led_behind : Leads Behind change.key change.node
-    index_behind : IsChildFor Behind change.node change.key change.index
-    slot_behind : SlotHolds Behind change.node change.index (word_of (ChangeAt base))
-    reads_behind : logical Behind.pieces (word_of (ChangeAt base)) ≡ To
+    led_after : Leads Following change.key change.node
+    index_after : IsChildFor Following change.node change.key change.index
+    slot_after : SlotHolds Following change.node change.index (word_of (ChangeAt base))
+    reads_after : logical Following.pieces (word_of (ChangeAt base)) ≡ To
 
   -- the key of the update leads to its slot
   led_here : IsUpdate change.kind → IsLedHere
@@ -128,13 +128,13 @@ module _ (pairs : List Pair) (words : ℕ) (opens : CanOpen pairs words)
       (led_on pairs words opens needs by_key.at log by_key.until h.0 change.key change.node by_key.led) in
       let slot = needed.in_slot base change pending in
       let turned : ChangeRow = record change { decision = decided_yes } in
-      let there : Behind.pieces base ≡ Some (Change turned) =
+      let there : Following.pieces base ≡ Some (Change turned) =
       changed_at-same Before.pieces base (with_decision decided_yes)
       ∙ ap (option_map (with_decision decided_yes)) pending.published in
       let word = change_read pairs words opens log h.0 base change pending.published in
       let none : change.decision ≢ decided_yes = λ e. (let zero = pending.unset in omega arith) in
       let row = (names pairs words opens log h.0).rows base (Change change) pending.published in
-      let grows = grow_behind pairs words log (Decide caller base true) h in
+      let grows = grow_after pairs words log (Decide caller base true) h in
       record {
         led = led;
         index_is = by_key.index_is;
@@ -143,26 +143,26 @@ module _ (pairs : List Pair) (words : ℕ) (opens : CanOpen pairs words)
             change_logical Before.pieces
             (word_of (ChangeAt base)) base change word pending.published
             ∙ ap (λ w. past_rebuild Before.pieces (ref_of w)) (side_not_yes change none);
-        led_behind =
+        led_after =
             ⊎_elim (λ x. x) (λ f. absurd (never f))
             (led_step pairs words opens log (Decide caller base true) h needed change.key change.node led);
-        index_behind =
-            child_remains Before Behind grows change.node change.key change.index by_key.index_is;
-        slot_behind =
+        index_after =
+            child_remains Before Following grows change.node change.key change.index by_key.index_is;
+        slot_after =
             slot_stays (start pairs words) log (Decide caller base true) h.1
-            (sound_behind pairs words log h.0) tt change.node change.index
+            (sound_after pairs words log h.0) tt change.node change.index
             (word_of (ChangeAt base)) slot;
-        reads_behind =
-            change_logical Behind.pieces (word_of (ChangeAt base)) base turned word there
-            ∙ ap (λ w. past_rebuild Behind.pieces (ref_of w)) (side_yes turned refl)
-            ∙ side_reads Before.pieces Behind.pieces grows change.node change.index
+        reads_after =
+            change_logical Following.pieces (word_of (ChangeAt base)) base turned word there
+            ∙ ap (λ w. past_rebuild Following.pieces (ref_of w)) (side_yes turned refl)
+            ∙ side_reads Before.pieces Following.pieces grows change.node change.index
             (ref_of change.to) row.1;
       }
 
   -- the two sides of the update
-  its_sides : IsUpdate change.kind → Sides Before Behind change
+  its_sides : IsUpdate change.kind → Sides Before Following change
   its_sides update =
-      sides Before Behind change
+      sides Before Following change
       record {
         leaves =
             λ b r e. changed_at-fixed Before.pieces base b (with_decision decided_yes) (Leaf r) e refl;
@@ -174,26 +174,26 @@ module _ (pairs : List Pair) (words : ℕ) (opens : CanOpen pairs words)
   -- an update is one step of the map
   update_gives : (update : IsUpdate change.kind) (m : Map)
       → ((key : ℕ) → Gives Before key (fin.get m key))
-      → (key : ℕ) → Gives Behind key (fin.get (map_after m (its_sides update).makes.command) key)
+      → (key : ℕ) → Gives Following key (fin.get (map_after m (its_sides update).makes.command) key)
   update_gives update m all key =
       ⊎_elim (λ e. here e.1) (λ e. elsewhere e.1) (eqb_tells key change.key)
     where
-      z : Sides Before Behind change
+      z : Sides Before Following change
       z = its_sides update
 
-      here : key ≡ change.key → Gives Behind key (fin.get (map_after m z.makes.command) key)
+      here : key ≡ change.key → Gives Following key (fin.get (map_after m z.makes.command) key)
       here e =
           let s = led_here update in
-          subst (λ k. Gives Behind k (fin.get (map_after m z.makes.command) k)) (sym e)
-          (subst (λ v. Gives Behind change.key v) (sym (z.makes.made m))
-          (finds_above Behind change.key change.node change.index (word_of (ChangeAt base)) (z.new change.key) (anchor_free pairs words (Decide caller base true ∷ log) h) s.led_behind s.index_behind s.slot_behind
-          (subst (λ ref. Finds Behind.pieces change.key ref (z.new change.key)) (sym s.reads_behind) (z.to_finds change.key))))
+          subst (λ k. Gives Following k (fin.get (map_after m z.makes.command) k)) (sym e)
+          (subst (λ v. Gives Following change.key v) (sym (z.makes.made m))
+          (finds_above Following change.key change.node change.index (word_of (ChangeAt base)) (z.new change.key) (anchor_free pairs words (Decide caller base true ∷ log) h) s.led_after s.index_after s.slot_after
+          (subst (λ ref. Finds Following.pieces change.key ref (z.new change.key)) (sym s.reads_after) (z.to_finds change.key))))
 
-      elsewhere : key ≢ change.key → Gives Behind key (fin.get (map_after m z.makes.command) key)
+      elsewhere : key ≢ change.key → Gives Following key (fin.get (map_after m z.makes.command) key)
       elsewhere ne =
-          subst (λ v. Gives Behind key v) (sym (z.makes.others m key ne))
+          subst (λ v. Gives Following key v) (sym (z.makes.others m key ne))
           (alike_gives key
-          (λ value f. subst (λ v. Finds Behind.pieces key To v) (z.others key ne ∙ finds_once Before.pieces key From (z.old key) value (z.from_finds key) f) (z.to_finds key))
+          (λ value f. subst (λ v. Finds Following.pieces key To v) (z.others key ne ∙ finds_once Before.pieces key From (z.old key) value (z.from_finds key) f) (z.to_finds key))
           (fin.get m key) (all key))
 
   -- its reply is the map's
@@ -212,7 +212,7 @@ module _ (pairs : List Pair) (words : ℕ) (opens : CanOpen pairs words)
 
   -- a start and a finish leave what each key is given
   rebuild_gives : ((key : ℕ) (value : Option ℕ) → Finds Before.pieces key From value → Finds Before.pieces key To value)
-      → (key : ℕ) (value : Option ℕ) → Gives Before key value → Gives Behind key value
+      → (key : ℕ) (value : Option ℕ) → Gives Before key value → Gives Following key value
   rebuild_gives same key =
       alike_gives key
       (λ value f.
@@ -230,16 +230,16 @@ module _ (pairs : List Pair) (words : ℕ) (opens : CanOpen pairs words)
   told_more : (new : List Entry)
       → changes_of pairs words (Decide caller base true ∷ log) ≡ changes_of pairs words log ++ new
       → ToldAfter pairs words log
-      → ((key : ℕ) → Gives Behind key (fin.get (map_behind (map_behind (map_of pairs) (changes_of pairs words log)) new) key))
-      → AreLegal (map_behind (map_of pairs) (changes_of pairs words log)) new
+      → ((key : ℕ) → Gives Following key (fin.get (map_after_entries (map_after_entries (map_of pairs) (changes_of pairs words log)) new) key))
+      → AreLegal (map_after_entries (map_of pairs) (changes_of pairs words log)) new
       → ToldAfter pairs words (Decide caller base true ∷ log)
   told_more new are told gives legal =
       let m = map_of pairs in
       let old = changes_of pairs words log in
       record {
         gives = λ key.
-            subst (λ es. Gives Behind key (fin.get (map_behind m es) key)) (sym are)
-            (subst (λ n. Gives Behind key (fin.get n key)) (sym (map_behind-append m old new)) (gives key));
+            subst (λ es. Gives Following key (fin.get (map_after_entries m es) key)) (sym are)
+            (subst (λ n. Gives Following key (fin.get n key)) (sym (map_after_entries-append m old new)) (gives key));
         legal = subst (λ es. AreLegal m es) (sym are) (entries_append m old new told.legal legal);
       }
 
@@ -247,7 +247,7 @@ module _ (pairs : List Pair) (words : ℕ) (opens : CanOpen pairs words)
   told_update : IsUpdate change.kind → ToldAfter pairs words log
       → ToldAfter pairs words (Decide caller base true ∷ log)
   told_update update told =
-      let m = map_behind (map_of pairs) (changes_of pairs words log) in
+      let m = map_after_entries (map_of pairs) (changes_of pairs words log) in
       let makes = (its_sides update).makes in
       let entry : Entry =
       record { owner = change.owner; command = makes.command; reply = reply_of Before.pieces change } in
@@ -266,7 +266,7 @@ module _ (pairs : List Pair) (words : ℕ) (opens : CanOpen pairs words)
       let made : entry_of Before.pieces (Before.pieces base) ≡ [] =
       ap (entry_of Before.pieces) h.1.pending.published
       ∙ ap (entry_for Before.pieces change) none in
-      let m = map_behind (map_of pairs) (changes_of pairs words log) in
+      let m = map_after_entries (map_of pairs) (changes_of pairs words log) in
       told_more [] (ap (λ es. changes_of pairs words log ++ es) made) told
       (λ key. rebuild_gives same key (fin.get m key) (told.gives key)) refl
 

@@ -8,7 +8,7 @@ use Rattle.ist_core.specs.declared.events.Event.TheVariants.{Decide}
 use Rattle.ist_core.specs.Map.{map_of}
 use Rattle.ist_core.specs.StartLayout.{start}
 use Rattle.ist_core.specs.Logs.{Log}
-use Rattle.ist_core.specs.Changes.{changes_of, map_behind}
+use Rattle.ist_core.specs.Changes.{changes_of, map_after_entries}
 use Rattle.ist_core.specs.Lawful.{EachEnabled, CanOpen, state_of}
 use Rattle.laws_histories.specs.Finding.{Gives}
 use Rattle.laws_histories.proofs.NeedLemmas.{AllNeeds}
@@ -41,6 +41,6 @@ module _ (pairs : List Pair) (words : ℕ) (opens : CanOpen pairs words)
       let before = told log h.0 in
       record {
         gives =
-            λ key. quiet_gives log event h tt key (fin.get (map_behind (map_of pairs) (changes_of pairs words log)) key) (before.gives key);
+            λ key. quiet_gives log event h tt key (fin.get (map_after_entries (map_of pairs) (changes_of pairs words log)) key) (before.gives key);
         legal = before.legal;
       }

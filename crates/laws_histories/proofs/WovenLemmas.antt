@@ -178,7 +178,7 @@ each_of : (P : Call → Type 0) (calls : List Call) → ((call : Call) → Among
 each_of P [] h = tt
 each_of P (call ∷ calls) h = (h call (inl refl), each_of P calls (λ x i. h x (inr i)))
 
--- calls that a pass has learned of come before a fresh call
+-- calls that a pass has learnt of come before a fresh call
 pub learnt_first : (pairs : List Pair) (words : ℕ) (earlier seen : Log) (number told stamp : ℕ)
     (calls : List Call) (call : Call)
     → HasCalls pairs words earlier number told calls

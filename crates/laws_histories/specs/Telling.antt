@@ -13,7 +13,7 @@ use Rattle.ist_core.specs.Elements.{Each}
 use Rattle.ist_core.specs.Pieces.{Change}
 use Rattle.ist_core.specs.Logs.{Log, GoesOn}
 use Rattle.ist_core.specs.Leaves.{HasContents}
-use Rattle.ist_core.specs.Changes.{Entry, command_of, reply_of, changes_of, map_behind}
+use Rattle.ist_core.specs.Changes.{Entry, command_of, reply_of, changes_of, map_after_entries}
 use Rattle.ist_core.specs.Lawful.{Lawful, state_of}
 use Rattle.ist_core.specs.Standing.{makes_entry}
 use Rattle.ist_core.specs.Histories.{told_by_entry, IsLegal}
@@ -21,7 +21,7 @@ use Rattle.laws_histories.specs.Finding.{Gives}
 
 -- the map after the changes of a log that begins with these pairs
 abbrev pub map_now : List Pair → ℕ → Log → Map
-map_now pairs words log = map_behind (map_of pairs) (changes_of pairs words log)
+map_now pairs words log = map_after_entries (map_of pairs) (changes_of pairs words log)
 
 -- the tree gives each key what the map after the changes has for it
 abbrev pub TreeGivesTheMap : Type 0

@@ -1,4 +1,4 @@
--- The calls of passes weave into one legal history, and a call that was learned of comes first.
+-- The calls of passes weave into one legal history, and a call that was learnt of comes first.
 use Rattle.std.specs.Prelude.{ℕ, ◌+◌, ◌≤◌, List, [], ◌∷◌}
 use Rattle.ist_core.specs.declared.calls.Call.{Call}
 use Rattle.ist_core.specs.declared.pairs.Pair.{Pair}
@@ -34,7 +34,7 @@ TakenBackIsLegal =
     → (taken : List (List Call)) → AllStandIn pairs words log 0 taken
     → IsLegal (map_of pairs) (woven (changes_of pairs words log) (numbered 0 taken))
 
--- each call that a pass has learned of comes before a fresh call: at no higher position, and with a
+-- each call that a pass has learnt of comes before a fresh call: at no higher position, and with a
 -- lower stamp. A pass that learns of calls also gets the log and the stamp of their pass, and has
 -- seen both from then on
 abbrev pub LearntCallsComeFirst : Type 0

@@ -43,7 +43,7 @@ pub fn a_refused_put_leaves_the_map()
 /// A search that loads the put's change from the slot while it is undecided. If it loads the
 /// decision after the yes, it finds the value; if it loads the decision earlier, it finds none.
 pub fn a_search_reads_a_change()
-    ensures behind { Searched [] 15 put_decided 1 4 2 (Some 1) }
+    ensures following { Searched [] 15 put_decided 1 4 2 (Some 1) }
     ensures before { Searched [] 15 put_decided 1 4 2 None }
 {}
 

@@ -98,7 +98,7 @@ pub fn searches_go_up()
 {}
 
 /// Calls of several passes, each placed in a prefix of one lawful log, are woven into one legal
-/// history. A fresh call follows each call that its pass has learned of.
+/// history. A fresh call follows each call that its pass has learnt of.
 pub fn calls_are_woven()
     ensures woven { WovenIsLegal }
     ensures taken_back { TakenBackIsLegal }

@@ -30,7 +30,7 @@ use Rattle.ist_core.proofs.SlotLemmas.{same_inner}
 use Rattle.ist_core.proofs.StepLemmas.{rows_placed}
 use Rattle.ist_core.proofs.DrawLemmas.{same_rebuild}
 use Rattle.laws_links.proofs.ComesLemmas.{rebuild_comes}
-use Rattle.laws_links.proofs.InductionLemmas.{sound_behind}
+use Rattle.laws_links.proofs.InductionLemmas.{sound_after}
 use Rattle.laws_links.proofs.OriginLemmas.{RebuildComes, is_begun, is_drawn, is_rooted, rebuild_was}
 use Rattle.laws_links.proofs.QuietLemmas.{start_quiet}
 use Rattle.laws_links.proofs.UntouchedLemmas.{Stays, is_filled, stays_so, untouched}
@@ -65,7 +65,7 @@ module _ (pairs : List Pair) (words : ℕ) (opens : CanOpen pairs words) where
       let named : ref_of word ≡ Some (InnerAt base) = ap (λ x. ref_of x.root) (sym same) ∙ is in
       let among = root_among (with_inners t.pieces rows) word can.k can.leaves can.row.target (bases_of rows) base can.root named in
       root_new caller word rows refl
-      (held_free t caller rows can.held (sound_behind pairs words log h.0) base among)
+      (held_free t caller rows can.held (sound_after pairs words log h.0) base among)
   root_came log _ h rebuild base r is (is_drawn can same) =
       root_was can.row can.published (ap (λ x. ref_of x.root) (sym same) ∙ is)
 
@@ -160,7 +160,7 @@ module _ (pairs : List Pair) (words : ℕ) (opens : CanOpen pairs words) where
         inner = λ b x among k.
             subst (λ ps. ps b ≡ Some (Inner x)) (sym written)
             (changed_at-other qs can.root b (with_slot i word)
-            (λ z. no_piece (t.pieces can.root) (Inner can.root_row) (subst (λ n. t.pieces n ≡ None) z (held_free t caller rows can.held (sound_behind pairs words log h.0) b among)) can.root_published) ∙ k);
+            (λ z. no_piece (t.pieces can.root) (Inner can.root_row) (subst (λ n. t.pieces n ≡ None) z (held_free t caller rows can.held (sound_after pairs words log h.0) b among)) can.root_published) ∙ k);
       } in
       let ideal =
       ideal_kept qs u.pieces can.ref can.part can.root (bases_of rows) can.ideal stand in

@@ -8,7 +8,7 @@ use Rattle.ist_core.specs.declared.states.InnerRow.{InnerRow}
 use Rattle.ist_core.specs.Growing.{AllGrow}
 use Rattle.ist_core.specs.Lawful.{EachEnabled, state_of}
 use Rattle.ist_core.specs.Logs.{Log}
-use Rattle.ist_core.specs.Marking.{IsCalled, as_child, as_target, behind_rebuild}
+use Rattle.ist_core.specs.Marking.{IsCalled, as_child, as_target, after_rebuild}
 use Rattle.ist_core.specs.Pieces.{Inner}
 use Rattle.ist_core.specs.Snapshots.{Snapshot}
 use Rattle.ist_core.specs.StartLayout.{start}
@@ -17,7 +17,7 @@ use Rattle.ist_core.proofs.FrozenLemmas.{closed}
 use Rattle.laws_links.proofs.ComesLemmas.{status_comes}
 use Rattle.laws_links.proofs.FinishedLemmas.{target_grows}
 use Rattle.laws_links.proofs.FormLemmas.{started_grows}
-use Rattle.laws_links.proofs.InductionLemmas.{grow_behind}
+use Rattle.laws_links.proofs.InductionLemmas.{grow_after}
 use Rattle.laws_links.proofs.OriginLemmas.{StatusComes, finished_now, is_new, marked_now, status_was}
 use Rattle.laws_links.proofs.QuietLemmas.{start_quiet}
 
@@ -28,8 +28,8 @@ called_grows : (t u : Snapshot) → AllGrow t.pieces u.pieces → (log : Log) (e
 called_grows t u g log event node (as_target rebuild target started) =
     as_target rebuild (target_grows t u g rebuild node target) (started_grows t u g rebuild started)
 called_grows t u g log event node (as_child above i word p is) = as_child above i word (inr p) is
-called_grows t u g log event node (behind_rebuild above i word rebuild p is target) =
-    behind_rebuild above i word rebuild (inr p) is (target_grows t u g rebuild node target)
+called_grows t u g log event node (after_rebuild above i word rebuild p is target) =
+    after_rebuild above i word rebuild (inr p) is (target_grows t u g rebuild node target)
 
 module _ (pairs : List Pair) (words : ℕ) where
   -- each row that isn't open has a cause
@@ -49,16 +49,16 @@ module _ (pairs : List Pair) (words : ℕ) where
           → IsCalled (state_of pairs words (event ∷ log)) (event ∷ log) node
       by_origin event all (status_was s old same) before =
           called_grows (state_of pairs words log) (state_of pairs words (event ∷ log))
-          (grow_behind pairs words log event all) log event node
+          (grow_after pairs words log event all) log event node
           (before s old (λ o. closed (same ∙ o)))
       by_origin event all (is_new none same) before = absurd (closed same)
       by_origin _ all (marked_now {caller = caller} can same) before =
           called_grows (state_of pairs words log) (state_of pairs words (Mark caller node ∷ log))
-          (grow_behind pairs words log (Mark caller node) all) log
+          (grow_after pairs words log (Mark caller node) all) log
           (Mark caller node) node can.called
       by_origin _ all (finished_now {caller = caller} {keys = keys} can same) before =
           called_grows (state_of pairs words log)
           (state_of pairs words (Finish caller node keys ∷ log))
-          (grow_behind pairs words log (Finish caller node keys) all) log
+          (grow_after pairs words log (Finish caller node keys) all) log
           (Finish caller node keys) node
           (before can.row can.published (λ o. let one = can.marked in omega arith))

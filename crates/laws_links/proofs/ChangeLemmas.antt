@@ -26,7 +26,7 @@ use Rattle.ist_core.proofs.MoveLemmas.{HeldLieApart}
 use Rattle.ist_core.proofs.PlaceLemmas.{absent, anchor_free, no_piece}
 use Rattle.ist_core.proofs.SlotStepLemmas.{install_writes, place_writes, resolve_writes, slot_stays}
 use Rattle.ist_core.proofs.StepLemmas.{holds_installed}
-use Rattle.laws_links.proofs.InductionLemmas.{changes_by, grow_behind, sound_behind}
+use Rattle.laws_links.proofs.InductionLemmas.{changes_by, grow_after, sound_after}
 
 -- two words of changes are one
 pub same_change_word : (a b : ℕ) → word_of (ChangeAt a) ≡ word_of (ChangeAt b) → a ≡ b
@@ -63,11 +63,11 @@ unresolved_before : (pairs : List Pair) (words : ℕ) (log : Log)
 unresolved_before pairs words [] h base none happened = happened
 unresolved_before pairs words (event ∷ log) h base none (inl now) =
     let it = resolved_now (start pairs words) log event base h.1 now in
-    let on = change_there (state_of pairs words log).pieces (state_of pairs words (event ∷ log)).pieces (grow_behind pairs words log event h) base it.row it.published in
+    let on = change_there (state_of pairs words log).pieces (state_of pairs words (event ∷ log)).pieces (grow_after pairs words log event h) base it.row it.published in
     no_piece ((state_of pairs words (event ∷ log)).pieces base) (Change on.0) none on.1
 unresolved_before pairs words (event ∷ log) h base none (inr before) =
     unresolved_before pairs words log h.0 base (absent ((state_of pairs words log).pieces base) (λ p e.
-    let on = grow_behind pairs words log event h base p e in no_piece ((state_of pairs words (event ∷ log)).pieces base) on.0 none on.1)) before
+    let on = grow_after pairs words log event h base p e in no_piece ((state_of pairs words (event ∷ log)).pieces base) on.0 none on.1)) before
 
 -- no row is published at the base at which a change is installed
 pub install_free : (first : Snapshot) (log : Log) (caller base : ℕ) (rows : List Row)
@@ -86,7 +86,7 @@ module _ (pairs : List Pair) (words : ℕ) (opens : CanOpen pairs words) where
       → SlotHolds (state_of pairs words log) n i (word_of (ChangeAt base))
       → SlotHolds (state_of pairs words (event ∷ log)) n i (word_of (ChangeAt base))
   change_slot_stays log (Install caller change rows) h base x e unresolved n i slot =
-      let writes = install_writes (start pairs words) log caller change rows h.1 (sound_behind pairs words log h.0) (anchor_free pairs words log h.0) in
+      let writes = install_writes (start pairs words) log caller change rows h.1 (sound_after pairs words log h.0) (anchor_free pairs words log h.0) in
       ⊎_elim
       (λ w. absurd (from_plain (start pairs words) log h.1.change h.1.fresh h.1.fits base (ap ref_of (sym w.0) ∙ change_read pairs words opens log h.0 base x e)))
       (λ stays. stays)
@@ -96,13 +96,13 @@ module _ (pairs : List Pair) (words : ℕ) (opens : CanOpen pairs words) where
       ⊎_elim (λ w. absurd (unresolved (sym (same_change_word base change w.0)))) (λ stays. stays)
       (writes.others n i (word_of (ChangeAt base)) slot)
   change_slot_stays log (Place caller rebuild j word rows) h base x e unresolved n i slot =
-      let writes = place_writes (state_of pairs words log) caller rebuild j word rows h.1 (sound_behind pairs words log h.0) (anchor_free pairs words log h.0) in
+      let writes = place_writes (state_of pairs words log) caller rebuild j word rows h.1 (sound_after pairs words log h.0) (anchor_free pairs words log h.0) in
       ⊎_elim
       (λ w. absurd (let seven : base * 8 + 3 ≡ 7 = w.0 in omega arith))
       (λ stays. stays)
       (writes.others n i (word_of (ChangeAt base)) slot)
   change_slot_stays log event h base x e unresolved n i slot =
-      slot_stays (start pairs words) log event h.1 (sound_behind pairs words log h.0) tt n i
+      slot_stays (start pairs words) log event h.1 (sound_after pairs words log h.0) tt n i
       (word_of (ChangeAt base)) slot
 
   -- a change that wasn't resolved is in its slot
@@ -116,7 +116,7 @@ module _ (pairs : List Pair) (words : ℕ) (opens : CanOpen pairs words) where
       (λ log event h base x old there stands unresolved.
       change_slot_stays log event h base x old (λ now. unresolved (inl now)) x.node x.index (stands (λ before. unresolved (inr before))))
       (λ log caller base rows h can unresolved.
-      (install_writes (start pairs words) log caller base rows can (sound_behind pairs words log h.0) (anchor_free pairs words log h.0)).now)
+      (install_writes (start pairs words) log caller base rows can (sound_after pairs words log h.0) (anchor_free pairs words log h.0)).now)
       (λ log caller base said h can stands unresolved.
       change_slot_stays log (Decide caller base said) h base can.change can.pending.published (λ now. unresolved (inl now)) can.change.node can.change.index (stands (λ before. unresolved (inr before))))
 
@@ -138,7 +138,7 @@ module _ (pairs : List Pair) (words : ℕ) (opens : CanOpen pairs words) where
       (λ log caller base rows h can none happened.
       ⊎_elim
       (λ now. now)
-      (λ earlier. unresolved_before pairs words log h.0 base (install_free (start pairs words) log caller base rows can (sound_behind pairs words log h.0)) earlier)
+      (λ earlier. unresolved_before pairs words log h.0 base (install_free (start pairs words) log caller base rows can (sound_after pairs words log h.0)) earlier)
       happened)
       (λ log caller base said h can before none happened. said_something said none)
 

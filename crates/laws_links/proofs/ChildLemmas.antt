@@ -19,7 +19,7 @@ use Rattle.laws_links.specs.Linking.{IsFinished}
 use Rattle.ist_core.proofs.GrowingLemmas.{rebuild_there}
 use Rattle.laws_links.proofs.FormLemmas.{IsFormed, of_finish, of_leaf_put, of_pair_put, of_remove, of_start}
 use Rattle.laws_links.proofs.FormedLemmas.{changes_are_formed}
-use Rattle.laws_links.proofs.InductionLemmas.{grow_behind}
+use Rattle.laws_links.proofs.InductionLemmas.{grow_after}
 use Rattle.laws_links.proofs.ReadEventLemmas.{decide_reads}
 use Rattle.laws_links.proofs.ReadLemmas.{ReadsAs, Turns, turned_by}
 use Rattle.laws_links.proofs.ReadStepLemmas.{reads_step}
@@ -127,7 +127,7 @@ module _ (pairs : List Pair) (words : ℕ) (opens : CanOpen pairs words) where
       let it = child_read (state_of pairs words log) node i child c in
       ⊎_elim
       (λ r. inl (read_child (state_of pairs words (event ∷ log)) node i child it.ref r
-      (leads_grows (state_of pairs words log) (state_of pairs words (event ∷ log)) (grow_behind pairs words log event h) it.ref child it.leads)))
+      (leads_grows (state_of pairs words log) (state_of pairs words (event ∷ log)) (grow_after pairs words log event h) it.ref child it.leads)))
       (λ k. turned event h it.ref it.leads k)
       (reads_step pairs words opens log event h node i it.ref it.set it.read)
     where
@@ -146,7 +146,7 @@ module _ (pairs : List Pair) (words : ℕ) (opens : CanOpen pairs words) where
               let r = decide_reads pairs words opens log caller base h can.change can.pending.published to is in
               let here : IsChild u can.change.node can.change.index child =
               read_child u can.change.node can.change.index child to r
-              (leads_grows (state_of pairs words log) u (grow_behind pairs words log (Decide caller base true) h) to child on) in
+              (leads_grows (state_of pairs words log) u (grow_after pairs words log (Decide caller base true) h) to child on) in
               inl
               (subst (λ m. IsChild u m i child) n (subst (λ m. IsChild u can.change.node m child) j here))
           by_form (takes_finished f) = inr f

@@ -11,7 +11,7 @@ use Rattle.ist_core.specs.Deciding.{CanDecide, MayBe}
 use Rattle.ist_core.specs.Lawful.{CanOpen, EachEnabled, state_of}
 use Rattle.ist_core.specs.Links.{Linked, WasLinked, below}
 use Rattle.ist_core.specs.Logs.{Happened, Log, Okays, Passes, state}
-use Rattle.ist_core.specs.Marking.{CanMark, CanPass, IsCalled, as_child, as_target, behind_rebuild}
+use Rattle.ist_core.specs.Marking.{CanMark, CanPass, IsCalled, as_child, as_target, after_rebuild}
 use Rattle.ist_core.specs.Pieces.{Change, Inner, Rebuild}
 use Rattle.ist_core.specs.Rebuilding.{IsStarted}
 use Rattle.ist_core.specs.References.{ChangeAt, InnerAt, RebuildAt, ref_of, word_of}
@@ -30,7 +30,7 @@ use Rattle.laws_links.proofs.ChangeLemmas.{said_yes, undecided_stands}
 use Rattle.laws_links.proofs.ComesLemmas.{status_comes}
 use Rattle.laws_links.proofs.FormLemmas.{IsFormed, of_finish, of_leaf_put, of_pair_put, of_remove, of_start}
 use Rattle.laws_links.proofs.FormedLemmas.{changes_are_formed}
-use Rattle.laws_links.proofs.InductionLemmas.{changes_by, grow_behind}
+use Rattle.laws_links.proofs.InductionLemmas.{changes_by, grow_after}
 use Rattle.laws_links.proofs.LinkLemmas.{linked_or_finished, okayed_linked}
 use Rattle.laws_links.proofs.OriginLemmas.{StatusComes, finished_now, is_new, marked_now, status_was}
 use Rattle.laws_links.proofs.PassLemmas.{passing}
@@ -51,7 +51,7 @@ pub record HasLinkedTarget (pairs : List Pair) (words : ℕ) (log : Log) (rebuil
   pub linked : WasLinked (start pairs words) log row.target
 
 -- the row that the word leads to was linked
-pub record IsLinkedBehind (pairs : List Pair) (words : ℕ) (log : Log) (word : ℕ) : Type 0 where
+pub record IsLinkedAfter (pairs : List Pair) (words : ℕ) (log : Log) (word : ℕ) : Type 0 where
   -- an inner row that the word names was linked
   pub inner : (child : ℕ) → ref_of word ≡ Some (InnerAt child)
       → WasLinked (start pairs words) log child
@@ -122,24 +122,24 @@ module _ (pairs : List Pair) (words : ℕ) (opens : CanOpen pairs words) where
           one_rebuild a b k = cc
 
   -- what is known of a word stays known
-  behind_later : (log : Log) (event : Event) → EachEnabled (start pairs words) (event ∷ log)
+  after_later : (log : Log) (event : Event) → EachEnabled (start pairs words) (event ∷ log)
       → (word : ℕ)
-      → IsLinkedBehind pairs words log word → IsLinkedBehind pairs words (event ∷ log) word
-  behind_later log event h word k =
+      → IsLinkedAfter pairs words log word → IsLinkedAfter pairs words (event ∷ log) word
+  after_later log event h word k =
       record {
         inner = λ child is. inr (k.inner child is);
         target = λ rebuild is.
             let it = k.target rebuild is in
-            let on = rebuild_there (state_of pairs words log).pieces (state_of pairs words (event ∷ log)).pieces (grow_behind pairs words log event h) rebuild it.row it.published in
+            let on = rebuild_there (state_of pairs words log).pieces (state_of pairs words (event ∷ log)).pieces (grow_after pairs words log event h) rebuild it.row it.published in
             record { row = on.0; published = on.1; linked = inr (subst (λ n. WasLinked (start pairs words) log n) (sym on.2.target) it.linked) };
       }
 
   -- the word of a Pass, if its node was linked
-  pass_behind : (log : Log) → EachEnabled (start pairs words) log → (caller node i word : ℕ)
+  pass_after : (log : Log) → EachEnabled (start pairs words) log → (caller node i word : ℕ)
       → CanPass (state_of pairs words log) caller node i word
       → WasLinked (start pairs words) log node
-      → IsLinkedBehind pairs words log word
-  pass_behind log h caller node i word can was =
+      → IsLinkedAfter pairs words log word
+  pass_after log h caller node i word can was =
       record {
         inner = λ child is. child_was child (ap (past_rebuild t.pieces) is);
         target =
@@ -184,7 +184,7 @@ module _ (pairs : List Pair) (words : ℕ) (opens : CanOpen pairs words) where
 
   -- a row that may be marked was linked, if the rows that passed words lead to were
   pub mark_linked : (log : Log) → EachEnabled (start pairs words) log → (caller node : ℕ)
-      → ((at i word : ℕ) → Happened (Passes at i word) log → IsLinkedBehind pairs words log word)
+      → ((at i word : ℕ) → Happened (Passes at i word) log → IsLinkedAfter pairs words log word)
       → CanMark (state_of pairs words log) log caller node → WasLinked (start pairs words) log node
   mark_linked log h caller node passed can = cause can.called
     where
@@ -193,7 +193,7 @@ module _ (pairs : List Pair) (words : ℕ) (opens : CanOpen pairs words) where
           subst (λ n. WasLinked (start pairs words) log n) target.target_is
           (started_target_linked log h rebuild target.row target.published started)
       cause (as_child above i word p is) = (passed above i word p).inner node is
-      cause (behind_rebuild above i word rebuild p is target) =
+      cause (after_rebuild above i word rebuild p is target) =
           let it = (passed above i word p).target rebuild is in
           let row = same_rebuild ((state_of pairs words log).pieces rebuild) it.row target.row it.published target.published in
           subst (λ n. WasLinked (start pairs words) log n)
@@ -216,7 +216,7 @@ module _ (pairs : List Pair) (words : ℕ) (opens : CanOpen pairs words) where
             → ((s : InnerRow) → (state_of pairs words log).pieces node ≡ Some (Inner s)
             → s.status ≢ open_word → WasLinked (start pairs words) log node)
             → ((at i word : ℕ) → Happened (Passes at i word) log
-            → IsLinkedBehind pairs words log word)
+            → IsLinkedAfter pairs words log word)
             → WasLinked (start pairs words) (event ∷ log) node
         closed_by event all (status_was s old same) before passed =
             inr (before s old (λ o. closed (same ∙ o)))
@@ -228,11 +228,11 @@ module _ (pairs : List Pair) (words : ℕ) (opens : CanOpen pairs words) where
 
     -- the row that a passed word leads to was linked
     pub passed_was_linked : (log : Log) → EachEnabled (start pairs words) log → (node i word : ℕ)
-        → Happened (Passes node i word) log → IsLinkedBehind pairs words log word
+        → Happened (Passes node i word) log → IsLinkedAfter pairs words log word
     passed_was_linked [] h node i word p = absurd p
     passed_was_linked (event ∷ log) h node i word (inl now) =
         let it = passing (start pairs words) log event node i word h.1 now in
-        behind_later log event h word
-        (pass_behind log h.0 it.0 node i word it.1 (closed_was_linked log h.0 node it.1.row it.1.published (λ o. let one = it.1.marked in omega arith)))
+        after_later log event h word
+        (pass_after log h.0 it.0 node i word it.1 (closed_was_linked log h.0 node it.1.row it.1.published (λ o. let one = it.1.marked in omega arith)))
     passed_was_linked (event ∷ log) h node i word (inr before) =
-        behind_later log event h word (passed_was_linked log h.0 node i word before)
+        after_later log event h word (passed_was_linked log h.0 node i word before)

@@ -100,14 +100,14 @@ module _ {A : Type 0} (key : A → ℕ) (ps : Pieces) where
         let below = split_all_some r.slots (parts xs) rows under in
         record { leaves = below.leaves; reached = row_here r e below.reached }
 
-    split_all_some : (words : List ℕ) (behind : List (List A)) (rows : List ℕ)
-        → SplitAll key ps words behind rows
+    split_all_some : (words : List ℕ) (following : List (List A)) (rows : List ℕ)
+        → SplitAll key ps words following rows
         → SlotsHaveSome ps words
     split_all_some _ _ _ no_split = record { leaves = []; reached = no_slot }
     split_all_some _ _ _
-        (one_split {word = word} {words = words} {here = here} {rest = rest} {part = part} {behind = behind} ref is first more) =
+        (one_split {word = word} {words = words} {here = here} {rest = rest} {part = part} {following = following} ref is first more) =
         let one = split_some ref part here first in
-        let others = split_all_some words behind rest more in
+        let others = split_all_some words following rest more in
         let read : logical ps word ≡ Some ref =
         ap (λ o. past_rebuild ps (past_change ps o)) is ∙ split_reads key ps ref part here first in
         record { leaves = one.leaves ++ others.leaves; reached = one_slot (subst (λ o. HasLeaves ps o one.leaves) (sym read) one.reached) others.reached }

@@ -25,7 +25,7 @@ use Rattle.ist_core.proofs.PlaceLemmas.{anchor_free}
 use Rattle.ist_core.proofs.PrefixLemmas.{happened_later}
 use Rattle.ist_core.proofs.SlotLemmas.{no_row, same_inner}
 use Rattle.laws_links.proofs.ComesLemmas.{status_comes}
-use Rattle.laws_links.proofs.InductionLemmas.{grow_behind}
+use Rattle.laws_links.proofs.InductionLemmas.{grow_after}
 use Rattle.laws_links.proofs.OriginLemmas.{StatusComes, finished_now, is_new, marked_now, status_was}
 use Rattle.laws_links.proofs.QuietLemmas.{start_quiet}
 
@@ -114,7 +114,7 @@ module _ (pairs : List Pair) (words : ℕ) where
           → ArePassed (state_of pairs words log) log node 0 s.slots k)
           → ArePassed (state_of pairs words (event ∷ log)) (event ∷ log) node 0 r.slots k
       at event all there (status_was s old same) before =
-          let g = grow_behind pairs words log event all in
+          let g = grow_after pairs words log event all in
           passed_later (state_of pairs words log) (state_of pairs words (event ∷ log)) g
           (one_event event same_log) node 0 k s.slots r.slots
           (same_length (state_of pairs words log).pieces (state_of pairs words (event ∷ log)).pieces g node s r old there)
@@ -124,7 +124,7 @@ module _ (pairs : List Pair) (words : ℕ) where
       at _ all there (marked_now can same) before =
           let odd : r.status ≡ 4 * k + 3 = is in absurd (omega arith)
       at _ all there (finished_now {caller = caller} {keys = keys} can same) before =
-          let g = grow_behind pairs words log (Finish caller node keys) all in
+          let g = grow_after pairs words log (Finish caller node keys) all in
           let odd : r.status ≡ 4 * k + 3 = is in
           let also : r.status ≡ 4 * keys + 3 = same in
           let one : keys ≡ k = omega arith in

@@ -26,17 +26,17 @@ use Rattle.ist_core.proofs.InstallNamingLemmas.{pair_is_inner}
 use Rattle.ist_core.proofs.MoveLemmas.{HeldLieApart}
 use Rattle.ist_core.proofs.StepLemmas.{holds_installed}
 use Rattle.laws_links.proofs.FormLemmas.{IsFormed, finished_grows, formed_decided, formed_grows, leaf_of_grows, of_finish, of_leaf_put, of_pair_put, of_remove, of_start, room_grows}
-use Rattle.laws_links.proofs.InductionLemmas.{changes_by, grow_behind, rebuilds_by, sound_behind}
+use Rattle.laws_links.proofs.InductionLemmas.{changes_by, grow_after, rebuilds_by, sound_after}
 use Rattle.laws_links.proofs.PublishedLemmas.{new_rebuild_row}
 use Rattle.ist_core.specs.Installing as kinds
 
 -- a fresh row of an Install is published by it, and may have grown
-pub fresh_behind : (first : Snapshot) (log : Log) (caller base : ℕ) (rows : List Row)
+pub fresh_after : (first : Snapshot) (log : Log) (caller base : ℕ) (rows : List Row)
     (h : CanInstall first log caller base rows)
     → HeldLieApart (state first log) → (at : ℕ) (p : Piece)
     → IsPublishedWith first log h.change h.fresh h.fits at p
     → (q : Piece) × ((state first (Install caller base rows ∷ log)).pieces at ≡ Some q) × Grows p q
-fresh_behind first log caller base rows h s at p is =
+fresh_after first log caller base rows h s at p is =
     let t = state first log in
     let qs = with_installed t.pieces base h.change h.fresh in
     let f = with_slot h.change.index (word_of (ChangeAt base)) in
@@ -72,9 +72,9 @@ formed_installed : (first : Snapshot) (log : Log) (caller base : ℕ) (rows : Li
     → (q : Piece)
     × ((state first (Install caller base rows ∷ log)).pieces at ≡ Some q) × Grows p q)
     → IsFormed (state first (Install caller base rows ∷ log)) change
-formed_installed first log caller base rows done g change fresh (kinds.a_put h) behind =
+formed_installed first log caller base rows done g change fresh (kinds.a_put h) following =
     let u = state first (Install caller base rows ∷ log) in
-    let it = behind h.leaf (new_leaf change) (refl, refl) in
+    let it = following h.leaf (new_leaf change) (refl, refl) in
     of_leaf_put record {
       kind = h.kind;
       from = room_grows (state first log) u g change.key change.from h.from;
@@ -83,11 +83,11 @@ formed_installed first log caller base rows done g change fresh (kinds.a_put h) 
       new =
           it.1 ∙ ap (λ x. Some x) (leaf_grown record { key = change.key; value = change.value } it.0 it.2);
     }
-formed_installed first log caller base rows done g change fresh (kinds.a_pair h) behind =
+formed_installed first log caller base rows done g change fresh (kinds.a_pair h) following =
     let u = state first (Install caller base rows ∷ log) in
     let p = pair_row change.key h.leaf h.other_key h.other in
-    let leaf = behind h.leaf (new_leaf change) (inr (refl, refl)) in
-    let pair = behind h.pair p (inl (refl, refl)) in
+    let leaf = following h.leaf (new_leaf change) (inr (refl, refl)) in
+    let pair = following h.pair p (inl (refl, refl)) in
     let inner = pair_is_inner change.key h.leaf h.other_key h.other in
     let row = inner_grown p pair.0 inner.0 inner.1 pair.2 in
     of_pair_put record {
@@ -107,7 +107,7 @@ formed_installed first log caller base rows done g change fresh (kinds.a_pair h)
       published = pair.1 ∙ ap (λ x. Some x) row.1;
       grew = subst (λ q. Grows p q) row.1 pair.2;
     }
-formed_installed first log caller base rows done g change fresh (kinds.a_remove h) behind =
+formed_installed first log caller base rows done g change fresh (kinds.a_remove h) following =
     of_remove record {
       kind = h.kind;
       leaf = h.leaf;
@@ -116,8 +116,8 @@ formed_installed first log caller base rows done g change fresh (kinds.a_remove 
           leaf_of_grows (state first log) (state first (Install caller base rows ∷ log)) g h.leaf change.key h.stands;
       to = h.to;
     }
-formed_installed first log caller base rows done g change fresh (kinds.a_start h) behind =
-    let it = behind h.rebuild (new_rebuild change h.target) (refl, refl) in
+formed_installed first log caller base rows done g change fresh (kinds.a_start h) following =
+    let it = following h.rebuild (new_rebuild change h.target) (refl, refl) in
     let row = rebuild_grown (new_rebuild_row change h.target) it.0 it.2 in
     of_start record {
       kind = h.kind;
@@ -129,7 +129,7 @@ formed_installed first log caller base rows done g change fresh (kinds.a_start h
       parent = row.2.parent;
       index = row.2.index;
     }
-formed_installed first log caller base rows done g change fresh (kinds.a_finish h) behind =
+formed_installed first log caller base rows done g change fresh (kinds.a_finish h) following =
     formed_grows (state first log) (state first (Install caller base rows ∷ log)) g change
     (of_finish record {
       kind = h.kind;
@@ -152,7 +152,7 @@ module _ (pairs : List Pair) (words : ℕ) where
       → IsFinished (state_of pairs words (event ∷ log)) node
   finished_step log event h node f =
       finished_grows (state_of pairs words log) (state_of pairs words (event ∷ log))
-      (grow_behind pairs words log event h) node f
+      (grow_after pairs words log event h) node f
 
   -- a rebuild with a root has a finished target
   pub rooted_is_finished : (log : Log) → EachEnabled (start pairs words) log
@@ -174,12 +174,12 @@ module _ (pairs : List Pair) (words : ℕ) where
       → IsFormed (state_of pairs words log) x
   changes_are_formed =
       changes_by pairs words (λ log base x. IsFormed (state_of pairs words log) x)
-      (λ log event h base x old there formed. formed_grows (state_of pairs words log) (state_of pairs words (event ∷ log)) (grow_behind pairs words log event h) x formed)
+      (λ log event h base x old there formed. formed_grows (state_of pairs words log) (state_of pairs words (event ∷ log)) (grow_after pairs words log event h) x formed)
       (λ log caller base rows h can.
       formed_installed (start pairs words) log caller base rows (rooted_is_finished log h.0)
-      (grow_behind pairs words log (Install caller base rows) h) can.change can.fresh can.fits
-      (fresh_behind (start pairs words) log caller base rows can (sound_behind pairs words log h.0)))
+      (grow_after pairs words log (Install caller base rows) h) can.change can.fresh can.fits
+      (fresh_after (start pairs words) log caller base rows can (sound_after pairs words log h.0)))
       (λ log caller base said h can formed.
       formed_decided (state_of pairs words (Decide caller base said ∷ log)) can.change
       (decision_word said)
-      (formed_grows (state_of pairs words log) (state_of pairs words (Decide caller base said ∷ log)) (grow_behind pairs words log (Decide caller base said) h) can.change formed))
+      (formed_grows (state_of pairs words log) (state_of pairs words (Decide caller base said ∷ log)) (grow_after pairs words log (Decide caller base said) h) can.change formed))

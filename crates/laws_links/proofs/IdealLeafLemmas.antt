@@ -62,15 +62,15 @@ mutual
       row_here r top.published
       (subst (λ ls. SlotsHaveLeaves ps r.slots ls) (joined_parts leaves) (parts_leaves ps r.slots (parts leaves) base rows under))
 
-  parts_leaves : (ps : Pieces) (words : List ℕ) (behind : List (List PlacedLeaf)) (above : ℕ)
+  parts_leaves : (ps : Pieces) (words : List ℕ) (following : List (List PlacedLeaf)) (above : ℕ)
       (rows : List ℕ)
-      → AreIdeal ps words behind above rows → SlotsHaveLeaves ps words (joined behind)
+      → AreIdeal ps words following above rows → SlotsHaveLeaves ps words (joined following)
   parts_leaves ps _ _ _ _ no_part = no_slot
   parts_leaves ps _ _ above _
-      (one_part {word = word} {words = words} {here = here} {rest = rest} {part = part} {behind = behind} ref is first more) =
+      (one_part {word = word} {words = words} {here = here} {rest = rest} {part = part} {following = following} ref is first more) =
       one_slot
       (subst (λ o. HasLeaves ps o part) (sym (ap (λ o. past_rebuild ps (past_change ps o)) is ∙ ideal_reads ps ps ref part above here first)) (ideal_leaves ps ref part above here first))
-      (parts_leaves ps words behind above rest more)
+      (parts_leaves ps words following above rest more)
 
 -- an ideal reference is no rebuild
 pub ideal_plain : (ps : Pieces) (ref : Ref) (leaves : List PlacedLeaf) (above : ℕ) (rows : List ℕ)

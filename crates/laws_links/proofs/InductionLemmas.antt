@@ -27,14 +27,14 @@ use Rattle.laws_links.proofs.QuietLemmas.{start_quiet}
 
 module _ (pairs : List Pair) (words : ℕ) where
   -- held rows lie apart after a lawful log
-  pub sound_behind : (log : Log) → EachEnabled (start pairs words) log
+  pub sound_after : (log : Log) → EachEnabled (start pairs words) log
       → HeldLieApart (state_of pairs words log)
-  sound_behind log h = sound (start pairs words) log (sound_start pairs words) h
+  sound_after log h = sound (start pairs words) log (sound_start pairs words) h
 
   -- rows grow by each event
-  pub grow_behind : (log : Log) (event : Event) → EachEnabled (start pairs words) (event ∷ log)
+  pub grow_after : (log : Log) (event : Event) → EachEnabled (start pairs words) (event ∷ log)
       → AllGrow (state_of pairs words log).pieces (state_of pairs words (event ∷ log)).pieces
-  grow_behind log event h = grow_step (start pairs words) log event h.1 (sound_behind log h.0)
+  grow_after log event h = grow_step (start pairs words) log event h.1 (sound_after log h.0)
 
   -- there is no change at the start
   no_change_first : (base : ℕ) (x : ChangeRow) → (start pairs words).pieces base ≡ Some (Change x)

@@ -22,7 +22,7 @@ use Rattle.ist_core.proofs.SlotLemmas.{slot_once}
 use Rattle.laws_links.proofs.ChildLemmas.{leads_grows, leads_rebuild}
 use Rattle.laws_links.proofs.FormLemmas.{IsFormed, of_finish, of_leaf_put, of_pair_put, of_remove, of_start}
 use Rattle.laws_links.proofs.FormedLemmas.{changes_are_formed}
-use Rattle.laws_links.proofs.InductionLemmas.{grow_behind}
+use Rattle.laws_links.proofs.InductionLemmas.{grow_after}
 use Rattle.laws_links.proofs.ReadEventLemmas.{decide_reads}
 use Rattle.laws_links.proofs.ReadLemmas.{ReadsAs, Turns, turned_by}
 use Rattle.laws_links.proofs.ReadStepLemmas.{reads_step}
@@ -141,7 +141,7 @@ module _ (pairs : List Pair) (words : ℕ) (opens : CanOpen pairs words) where
       by_form (of_start f) =
           let t = state_of pairs words log in
           let u = state_of pairs words (Decide caller base true ∷ log) in
-          let g = grow_behind pairs words log (Decide caller base true) h in
+          let g = grow_after pairs words log (Decide caller base true) h in
           inl (reads (RebuildAt f.rebuild) f.to
           ∙ leads_grows t u g (RebuildAt f.rebuild) f.row.target
           (leads_rebuild t.pieces f.rebuild f.row f.published)
@@ -187,7 +187,7 @@ module _ (pairs : List Pair) (words : ℕ) (opens : CanOpen pairs words) where
           (λ r.
           let same =
           slot_once u node i v r.word (anchor_free pairs words (event ∷ log) h) now r.holds in
-          inl (ap (logical u.pieces) same ∙ ap (past_rebuild u.pieces) r.reads ∙ past_rebuild_grows t u (grow_behind pairs words log event h) ref leaves k ∙ back))
+          inl (ap (logical u.pieces) same ∙ ap (past_rebuild u.pieces) r.reads ∙ past_rebuild_grows t u (grow_after pairs words log event h) ref leaves k ∙ back))
           (λ turn. ⊎_elim (λ same. inl (same ∙ back)) (λ anyhow. inr anyhow) (turned_leaves log event h keeps node i ref turn v now leaves k))
           (reads_step pairs words opens log event h node i ref set record { word = w; holds = old; reads = is })
 
@@ -198,7 +198,7 @@ module _ (pairs : List Pair) (words : ℕ) (opens : CanOpen pairs words) where
   rows_alike log event h keeps =
       let t = state_of pairs words log in
       let u = state_of pairs words (event ∷ log) in
-      let g = grow_behind pairs words log event h in
+      let g = grow_after pairs words log event h in
       record {
         leaf = λ base r e. leaf_there t.pieces u.pieces g base r e;
         row = λ base r e.

@@ -27,7 +27,7 @@ use Rattle.laws_links.proofs.ChildLemmas.{child_step}
 use Rattle.laws_links.proofs.ComesLemmas.{change_comes}
 use Rattle.laws_links.proofs.FinishedLemmas.{finished_down, finished_slot}
 use Rattle.laws_links.proofs.FormedLemmas.{finished_step}
-use Rattle.laws_links.proofs.InductionLemmas.{sound_behind}
+use Rattle.laws_links.proofs.InductionLemmas.{sound_after}
 use Rattle.laws_links.proofs.OriginLemmas.{ChangeComes, change_was, is_decided, is_installed}
 use Rattle.laws_links.proofs.PassLemmas.{passed_no_change}
 
@@ -142,11 +142,11 @@ module _ (pairs : List Pair) (words : ℕ) (opens : CanOpen pairs words) where
       okayed_linked log h.0 base x e (deciding log caller base true h x e) h.1.outcome
 
   -- the node is also linked after the Decide
-  pub yes_linked_behind : (log : Log) (caller base : ℕ)
+  pub yes_linked_after : (log : Log) (caller base : ℕ)
       → EachEnabled (start pairs words) (Decide caller base true ∷ log)
       → (x : ChangeRow) → (state_of pairs words log).pieces base ≡ Some (Change x)
       → Linked (state_of pairs words (Decide caller base true ∷ log)) x.node
-  yes_linked_behind log caller base h x e =
+  yes_linked_after log caller base h x e =
       ⊎_elim
       (λ l. l)
       (λ f. absurd (okayed_unfinished log h.0 base x e (deciding log caller base true h x e) h.1.outcome f))
@@ -176,7 +176,7 @@ module _ (pairs : List Pair) (words : ℕ) (opens : CanOpen pairs words) where
       at _ all (is_installed {caller = caller} {rows = rows} can same) before =
           let stood = change_there (state_of pairs words earlier).pieces (state_of pairs words log).pieces (grow_between pairs words earlier log h.0 on) base x e in
           absurd
-          (no_piece ((state_of pairs words log).pieces base) (Change stood.0) (install_free (start pairs words) log caller base rows can (sound_behind pairs words log h.0)) stood.1)
+          (no_piece ((state_of pairs words log).pieces base) (Change stood.0) (install_free (start pairs words) log caller base rows can (sound_after pairs words log h.0)) stood.1)
       at _ all (is_decided {caller = caller} {said = said} can same) before =
           let it = before can.change can.pending.published in (
             λ yes_word. okayed_unfinished log h.0 base can.change can.pending.published can.pending.unset

@@ -51,16 +51,16 @@ mutual
       (parts_kept ps qs r.slots (parts leaves) base rows under record { leaf = s.leaf; inner = λ b x i e. s.inner b x (inr i) e })
 
   -- ideal parts stay ideal if their rows stay
-  pub parts_kept : (ps qs : Pieces) (words : List ℕ) (behind : List (List PlacedLeaf)) (above : ℕ)
+  pub parts_kept : (ps qs : Pieces) (words : List ℕ) (following : List (List PlacedLeaf)) (above : ℕ)
       (rows : List ℕ)
-      → AreIdeal ps words behind above rows → StandInOther ps qs rows
-      → AreIdeal qs words behind above rows
+      → AreIdeal ps words following above rows → StandInOther ps qs rows
+      → AreIdeal qs words following above rows
   parts_kept ps qs _ _ _ _ no_part s = no_part
   parts_kept ps qs _ _ above _
-      (one_part {words = words} {here = here} {rest = rest} {part = part} {behind = behind} ref e first more) s =
+      (one_part {words = words} {here = here} {rest = rest} {part = part} {following = following} ref e first more) s =
       one_part ref e
       (ideal_kept ps qs ref part above here first record { leaf = s.leaf; inner = λ b x i k. s.inner b x (among_left b here rest i) k })
-      (parts_kept ps qs words behind above rest more record { leaf = s.leaf; inner = λ b x i k. s.inner b x (among_right b here rest i) k })
+      (parts_kept ps qs words following above rest more record { leaf = s.leaf; inner = λ b x i k. s.inner b x (among_right b here rest i) k })
 
 -- an ideal reference is set
 pub ideal_set : (ps : Pieces) (ref : Ref) (leaves : List PlacedLeaf) (above : ℕ) (rows : List ℕ)
@@ -70,9 +70,9 @@ ideal_set ps _ _ _ _ (of_one same k) e = cc
 ideal_set ps _ _ _ _ (of_more r top under) e = cc
 
 -- no slot of an ideal row is Unset
-parts_set : (ps : Pieces) (words : List ℕ) (behind : List (List PlacedLeaf)) (above : ℕ)
+parts_set : (ps : Pieces) (words : List ℕ) (following : List (List PlacedLeaf)) (above : ℕ)
     (rows : List ℕ)
-    → AreIdeal ps words behind above rows → (i : ℕ) → slice_get words i ≢ Some unset_word
+    → AreIdeal ps words following above rows → (i : ℕ) → slice_get words i ≢ Some unset_word
 parts_set ps _ _ _ _ no_part i e = absurd (cc)
 parts_set ps _ _ above _
     (one_part {word = word} {here = here} {part = part} ref is first more) zero e =
@@ -85,8 +85,8 @@ parts_set ps _ _ above _
     one_ref : (o : Option Ref) (a b : Ref) → o ≡ Some a → o ≡ Some b → a ≡ b
     one_ref o a b x y = cc
 parts_set ps _ _ above _
-    (one_part {words = words} {rest = rest} {behind = behind} ref is first more) (suc i) e =
-    parts_set ps words behind above rest more i e
+    (one_part {words = words} {rest = rest} {following = following} ref is first more) (suc i) e =
+    parts_set ps words following above rest more i e
 
 -- the row at the base is an inner row without an Unset slot
 pub record StandsWhole (ps : Pieces) (base : ℕ) : Type 0 where
@@ -104,27 +104,27 @@ mutual
   ideal_whole ps _ _ above _ (of_more {base = base} {leaves = leaves} {rows = rows} r top under) =
       (record { row = r; published = top.published; set = parts_set ps r.slots (parts leaves) base rows under }, parts_whole ps r.slots (parts leaves) base rows under)
 
-  parts_whole : (ps : Pieces) (words : List ℕ) (behind : List (List PlacedLeaf)) (above : ℕ)
+  parts_whole : (ps : Pieces) (words : List ℕ) (following : List (List PlacedLeaf)) (above : ℕ)
       (rows : List ℕ)
-      → AreIdeal ps words behind above rows → Each (StandsWhole ps) rows
+      → AreIdeal ps words following above rows → Each (StandsWhole ps) rows
   parts_whole ps _ _ _ _ no_part = tt
   parts_whole ps _ _ above _
-      (one_part {words = words} {here = here} {rest = rest} {part = part} {behind = behind} ref e first more) =
+      (one_part {words = words} {here = here} {rest = rest} {part = part} {following = following} ref e first more) =
       each_append (StandsWhole ps) here rest (ideal_whole ps ref part above here first)
-      (parts_whole ps words behind above rest more)
+      (parts_whole ps words following above rest more)
 
 -- ---- trees in parts
 
 -- each word is Unset or the ideal subtree over its part
 pub data ArePartly (ps : Pieces) : List ℕ → List (List PlacedLeaf) → ℕ → List ℕ → Type 0 where
   no_more : {above : ℕ} → ArePartly ps [] [] above []
-  not_built : {above : ℕ} {words rest : List ℕ} {part : List PlacedLeaf} {behind : List (List PlacedLeaf)}
-      → ArePartly ps words behind above rest
-      → ArePartly ps (unset_word ∷ words) (part ∷ behind) above rest
-  is_built : {word above : ℕ} {words here rest : List ℕ} {part : List PlacedLeaf} {behind : List (List PlacedLeaf)}
+  not_built : {above : ℕ} {words rest : List ℕ} {part : List PlacedLeaf} {following : List (List PlacedLeaf)}
+      → ArePartly ps words following above rest
+      → ArePartly ps (unset_word ∷ words) (part ∷ following) above rest
+  is_built : {word above : ℕ} {words here rest : List ℕ} {part : List PlacedLeaf} {following : List (List PlacedLeaf)}
       (ref : Ref) → ref_of word ≡ Some ref → IsIdeal ps ref part above here
-      → ArePartly ps words behind above rest
-      → ArePartly ps (word ∷ words) (part ∷ behind) above (here ++ rest)
+      → ArePartly ps words following above rest
+      → ArePartly ps (word ∷ words) (part ∷ following) above (here ++ rest)
 
 -- the reference is an ideal subtree, or the top row of one with some parts that aren't built yet.
 -- `rows` are the bases of what is built, without such a top row
@@ -137,75 +137,75 @@ pub data IsPartly (ps : Pieces) : Ref → List PlacedLeaf → ℕ → List ℕ �
       → ArePartly ps r.slots (parts leaves) base rows → IsPartly ps (InnerAt base) leaves above rows
 
 -- what is built stays if its rows stay
-pub partly_kept : (ps qs : Pieces) (words : List ℕ) (behind : List (List PlacedLeaf)) (above : ℕ)
+pub partly_kept : (ps qs : Pieces) (words : List ℕ) (following : List (List PlacedLeaf)) (above : ℕ)
     (rows : List ℕ)
-    → ArePartly ps words behind above rows → StandInOther ps qs rows
-    → ArePartly qs words behind above rows
+    → ArePartly ps words following above rows → StandInOther ps qs rows
+    → ArePartly qs words following above rows
 partly_kept ps qs _ _ _ _ no_more s = no_more
-partly_kept ps qs _ _ above _ (not_built {words = words} {rest = rest} {behind = behind} more) s =
-    not_built (partly_kept ps qs words behind above rest more s)
+partly_kept ps qs _ _ above _ (not_built {words = words} {rest = rest} {following = following} more) s =
+    not_built (partly_kept ps qs words following above rest more s)
 partly_kept ps qs _ _ above _
-    (is_built {words = words} {here = here} {rest = rest} {part = part} {behind = behind} ref e first more) s =
+    (is_built {words = words} {here = here} {rest = rest} {part = part} {following = following} ref e first more) s =
     is_built ref e
     (ideal_kept ps qs ref part above here first record { leaf = s.leaf; inner = λ b x i k. s.inner b x (among_left b here rest i) k })
-    (partly_kept ps qs words behind above rest more record { leaf = s.leaf; inner = λ b x i k. s.inner b x (among_right b here rest i) k })
+    (partly_kept ps qs words following above rest more record { leaf = s.leaf; inner = λ b x i k. s.inner b x (among_right b here rest i) k })
 
 -- the rows of what is built have no Unset slot
-pub partly_whole : (ps : Pieces) (words : List ℕ) (behind : List (List PlacedLeaf)) (above : ℕ)
+pub partly_whole : (ps : Pieces) (words : List ℕ) (following : List (List PlacedLeaf)) (above : ℕ)
     (rows : List ℕ)
-    → ArePartly ps words behind above rows → Each (StandsWhole ps) rows
+    → ArePartly ps words following above rows → Each (StandsWhole ps) rows
 partly_whole ps _ _ _ _ no_more = tt
-partly_whole ps _ _ above _ (not_built {words = words} {rest = rest} {behind = behind} more) =
-    partly_whole ps words behind above rest more
+partly_whole ps _ _ above _ (not_built {words = words} {rest = rest} {following = following} more) =
+    partly_whole ps words following above rest more
 partly_whole ps _ _ above _
-    (is_built {words = words} {here = here} {rest = rest} {part = part} {behind = behind} ref e first more) =
+    (is_built {words = words} {here = here} {rest = rest} {part = part} {following = following} ref e first more) =
     each_append (StandsWhole ps) here rest (ideal_whole ps ref part above here first)
-    (partly_whole ps words behind above rest more)
+    (partly_whole ps words following above rest more)
 
 -- if no slot is Unset, all is built
-pub partly_all : (ps : Pieces) (words : List ℕ) (behind : List (List PlacedLeaf)) (above : ℕ)
+pub partly_all : (ps : Pieces) (words : List ℕ) (following : List (List PlacedLeaf)) (above : ℕ)
     (rows : List ℕ)
-    → ArePartly ps words behind above rows → ((i : ℕ) → slice_get words i ≢ Some unset_word)
-    → AreIdeal ps words behind above rows
+    → ArePartly ps words following above rows → ((i : ℕ) → slice_get words i ≢ Some unset_word)
+    → AreIdeal ps words following above rows
 partly_all ps _ _ _ _ no_more set = no_part
 partly_all ps _ _ above _ (not_built more) set = absurd (set 0 refl)
 partly_all ps _ _ above _
-    (is_built {words = words} {rest = rest} {behind = behind} ref e first more) set =
-    one_part ref e first (partly_all ps words behind above rest more (λ i k. set (suc i) k))
+    (is_built {words = words} {rest = rest} {following = following} ref e first more) set =
+    one_part ref e first (partly_all ps words following above rest more (λ i k. set (suc i) k))
 
 -- at first nothing is built
-pub partly_none : (ps : Pieces) (behind : List (List PlacedLeaf)) (above : ℕ)
-    → ArePartly ps (replicate (length behind) unset_word) behind above []
+pub partly_none : (ps : Pieces) (following : List (List PlacedLeaf)) (above : ℕ)
+    → ArePartly ps (replicate (length following) unset_word) following above []
 partly_none ps [] above = no_more
-partly_none ps (part ∷ behind) above = not_built (partly_none ps behind above)
+partly_none ps (part ∷ following) above = not_built (partly_none ps following above)
 
 -- some rows with which a tree is partly built
 abbrev pub SomePartly : Pieces → List ℕ → List (List PlacedLeaf) → ℕ → Type 0
-SomePartly ps words behind above = (rows : List ℕ) × ArePartly ps words behind above rows
+SomePartly ps words following above = (rows : List ℕ) × ArePartly ps words following above rows
 
 -- a part is placed in its slot
-pub partly_placed : (ps : Pieces) (words : List ℕ) (behind : List (List PlacedLeaf)) (above : ℕ)
+pub partly_placed : (ps : Pieces) (words : List ℕ) (following : List (List PlacedLeaf)) (above : ℕ)
     (rows : List ℕ)
-    → ArePartly ps words behind above rows → (i word : ℕ) (part : List PlacedLeaf) (ref : Ref)
+    → ArePartly ps words following above rows → (i word : ℕ) (part : List PlacedLeaf) (ref : Ref)
     (new : List ℕ)
-    → slice_get words i ≡ Some unset_word → slice_get behind i ≡ Some part → ref_of word ≡ Some ref
-    → IsIdeal ps ref part above new → SomePartly ps (slice_set words i word) behind above
+    → slice_get words i ≡ Some unset_word → slice_get following i ≡ Some part → ref_of word ≡ Some ref
+    → IsIdeal ps ref part above new → SomePartly ps (slice_set words i word) following above
 partly_placed ps _ _ above _ no_more i word part ref new free at is ideal = absurd (cc)
 partly_placed ps _ _ above _
     (not_built {rest = rest} {part = p} more) zero word part ref new free at is ideal =
     let same : part ≡ p = cc in
     (new ++ rest, is_built ref is (subst (λ q. IsIdeal ps ref q above new) same ideal) more)
-partly_placed ps _ _ above _ (not_built {words = words} {rest = rest} {behind = behind} more)
+partly_placed ps _ _ above _ (not_built {words = words} {rest = rest} {following = following} more)
     (suc i) word part ref new free at is ideal =
-    let it = partly_placed ps words behind above rest more i word part ref new free at is ideal in (it.0, not_built it.1)
+    let it = partly_placed ps words following above rest more i word part ref new free at is ideal in (it.0, not_built it.1)
 partly_placed ps _ _ above _
     (is_built {rest = rest} {part = p} r e first more) zero word part ref new free at is ideal =
     let same : part ≡ p = cc in
     (new ++ rest, is_built ref is (subst (λ q. IsIdeal ps ref q above new) same ideal) more)
 partly_placed ps _ _ above _
-    (is_built {words = words} {here = here} {rest = rest} {behind = behind} r e first more)
+    (is_built {words = words} {here = here} {rest = rest} {following = following} r e first more)
     (suc i) word part ref new free at is ideal =
-    let it = partly_placed ps words behind above rest more i word part ref new free at is ideal in (here ++ it.0, is_built r e first it.1)
+    let it = partly_placed ps words following above rest more i word part ref new free at is ideal in (here ++ it.0, is_built r e first it.1)
 
 -- ---- what holds of each row of a tree
 
@@ -229,29 +229,29 @@ module _ (ps : Pieces) (P : ℕ → Type 0) (down : GoesDown ps P) where
           (λ k word child at is. down base r (top base refl) head.published k word child at is),
     )
 
-    parts_each : (words : List ℕ) (behind : List (List PlacedLeaf)) (above : ℕ) (rows : List ℕ)
-        → AreIdeal ps words behind above rows
+    parts_each : (words : List ℕ) (following : List (List PlacedLeaf)) (above : ℕ) (rows : List ℕ)
+        → AreIdeal ps words following above rows
         → ((k word child : ℕ) → slice_get words k ≡ Some word → ref_of word ≡ Some (InnerAt child)
         → P child) → Each P rows
     parts_each _ _ _ _ no_part here_each = tt
     parts_each _ _ above _
-        (one_part {word = word} {words = words} {here = here} {rest = rest} {part = part} {behind = behind} ref is first more) here_each =
+        (one_part {word = word} {words = words} {here = here} {rest = rest} {part = part} {following = following} ref is first more) here_each =
         each_append P here rest
         (ideal_each ref part above here first (λ base same. here_each 0 word base refl (is ∙ ap (λ x. Some x) same)))
-        (parts_each words behind above rest more (λ k w child at named. here_each (suc k) w child at named))
+        (parts_each words following above rest more (λ k w child at named. here_each (suc k) w child at named))
 
   -- if P holds of the tops in the slots, it holds of each row that is built
-  pub partly_each : (words : List ℕ) (behind : List (List PlacedLeaf)) (above : ℕ) (rows : List ℕ)
-      → ArePartly ps words behind above rows
+  pub partly_each : (words : List ℕ) (following : List (List PlacedLeaf)) (above : ℕ) (rows : List ℕ)
+      → ArePartly ps words following above rows
       → ((k word child : ℕ) → slice_get words k ≡ Some word → ref_of word ≡ Some (InnerAt child)
       → P child) → Each P rows
   partly_each _ _ _ _ no_more here_each = tt
   partly_each _ _ above _
-      (not_built {words = words} {rest = rest} {behind = behind} more) here_each =
-      partly_each words behind above rest more
+      (not_built {words = words} {rest = rest} {following = following} more) here_each =
+      partly_each words following above rest more
       (λ k w child at named. here_each (suc k) w child at named)
   partly_each _ _ above _
-      (is_built {word = word} {words = words} {here = here} {rest = rest} {part = part} {behind = behind} ref is first more) here_each =
+      (is_built {word = word} {words = words} {here = here} {rest = rest} {part = part} {following = following} ref is first more) here_each =
       each_append P here rest
       (ideal_each ref part above here first (λ base same. here_each 0 word base refl (is ∙ ap (λ x. Some x) same)))
-      (partly_each words behind above rest more (λ k w child at named. here_each (suc k) w child at named))
+      (partly_each words following above rest more (λ k w child at named. here_each (suc k) w child at named))

@@ -8,7 +8,7 @@ use Rattle.ist_core.specs.Freezing.{KeepsWord, holds_change, holds_it}
 use Rattle.ist_core.specs.Lawful.{CanOpen, EachEnabled, state_of}
 use Rattle.ist_core.specs.Links.{IsChild, Linked, at_anchor, below}
 use Rattle.ist_core.specs.Logs.{Happened, Log, Passes}
-use Rattle.ist_core.specs.Marking.{IsCalled, as_child, as_target, behind_rebuild}
+use Rattle.ist_core.specs.Marking.{IsCalled, as_child, as_target, after_rebuild}
 use Rattle.ist_core.specs.Pieces.{Inner}
 use Rattle.ist_core.specs.References.{ChangeAt, InnerAt, ref_of, word_of}
 use Rattle.ist_core.specs.RowLayout.{anchor}
@@ -74,7 +74,7 @@ module _ (pairs : List Pair) (words : ℕ) (opens : CanOpen pairs words) where
       by_cause (as_child above j word p is) =
           passed_closed log h node i child above j word named p
           (ap (past_rebuild (state_of pairs words log).pieces) is) o
-      by_cause (behind_rebuild above j word rebuild p is target) =
+      by_cause (after_rebuild above j word rebuild p is target) =
           let t = state_of pairs words log in
           passed_closed log h node i child above j word named p
           (ap (past_rebuild t.pieces) is ∙ ap rebuild_reads target.published ∙ ap (λ n. Some (InnerAt n)) target.target_is) o

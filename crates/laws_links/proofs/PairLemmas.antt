@@ -34,8 +34,8 @@ use Rattle.ist_core.proofs.SlotStepLemmas.{install_stands}
 use Rattle.ist_core.proofs.StepLemmas.{holds_installed}
 use Rattle.laws_links.proofs.ChangeLemmas.{said_something, undecided_stands}
 use Rattle.laws_links.proofs.FormLemmas.{leaf_of_grows}
-use Rattle.laws_links.proofs.FormedLemmas.{fresh_behind, leaf_grown}
-use Rattle.laws_links.proofs.InductionLemmas.{changes_by, grow_behind, sound_behind}
+use Rattle.laws_links.proofs.FormedLemmas.{fresh_after, leaf_grown}
+use Rattle.laws_links.proofs.InductionLemmas.{changes_by, grow_after, sound_after}
 use Rattle.laws_links.proofs.ReadEventLemmas.{change_past}
 use Rattle.laws_links.proofs.ReadLemmas.{side_undecided}
 use Rattle.laws_links.proofs.RowEventLemmas.{slot_stood}
@@ -120,7 +120,7 @@ module _ (pairs : List Pair) (words : ℕ) (opens : CanOpen pairs words) where
   filled_step log event h base x there none pair to f =
       let t = state_of pairs words log in
       let u = state_of pairs words (event ∷ log) in
-      let g = grow_behind pairs words log event h in
+      let g = grow_after pairs words log event h in
       let row = pair_is_inner x.key f.leaf f.other_key f.other in
       let e : t.pieces pair ≡ Some (Inner row.0) = f.published ∙ ap (λ p. Some p) row.1 in
       let on = untouched pairs words opens log event h pair row.0 e f.never in
@@ -158,11 +158,11 @@ module _ (pairs : List Pair) (words : ℕ) (opens : CanOpen pairs words) where
       → ref_of can.change.to ≡ Some (InnerAt pair)
       → IsFilledPair pairs words (Install caller base rows ∷ log) can.change pair
   filled_install log caller base rows h can kind pair to =
-      at can.fits (fresh_behind (start pairs words) log caller base rows can s)
+      at can.fits (fresh_after (start pairs words) log caller base rows can s)
       (fresh_stands (start pairs words) log caller base can.change can.fresh s (state_of pairs words log).pieces can.fits holds)
     where
       s : HeldLieApart (state_of pairs words log)
-      s = sound_behind pairs words log h.0
+      s = sound_after pairs words log h.0
 
       holds : HoldsRows (state_of pairs words log) caller (row_at base (Change can.change) ∷ can.fresh)
       holds = holds_installed (start pairs words) log caller base rows can
@@ -174,17 +174,17 @@ module _ (pairs : List Pair) (words : ℕ) (opens : CanOpen pairs words) where
           → ((b : ℕ) (p : Piece) → IsPublishedWith (start pairs words) log can.change can.fresh fits b p
           → with_installed (state_of pairs words log).pieces base can.change can.fresh b ≡ Some p)
           → IsFilledPair pairs words (Install caller base rows ∷ log) can.change pair
-      at (kinds.a_put f) behind stands = absurd (clash (sym f.to ∙ to))
+      at (kinds.a_put f) following stands = absurd (clash (sym f.to ∙ to))
         where
           clash : Some (LeafAt f.leaf) ≡ Some (InnerAt pair) → ⊥
           clash q = cc
-      at (kinds.a_remove f) behind stands =
+      at (kinds.a_remove f) following stands =
           absurd (let one : ◌≡◌ {A = ℕ} 1 2 = sym kind ∙ f.kind in omega arith)
-      at (kinds.a_start f) behind stands =
+      at (kinds.a_start f) following stands =
           absurd (let one : ◌≡◌ {A = ℕ} 1 3 = sym kind ∙ f.kind in omega arith)
-      at (kinds.a_finish f) behind stands =
+      at (kinds.a_finish f) following stands =
           absurd (let one : ◌≡◌ {A = ℕ} 1 4 = sym kind ∙ f.kind in omega arith)
-      at (kinds.a_pair f) behind stands =
+      at (kinds.a_pair f) following stands =
           subst (λ n. IsFilledPair pairs words (Install caller base rows ∷ log) can.change n)
           (one_inner f.pair pair (sym f.to ∙ to)) filled
         where
@@ -202,7 +202,7 @@ module _ (pairs : List Pair) (words : ℕ) (opens : CanOpen pairs words) where
               ((state_of pairs words (Install caller base rows ∷ log)).pieces f.pair ≡ Some q) × Grows
               (pair_row can.change.key f.leaf f.other_key f.other) q
           grown =
-              behind f.pair (pair_row can.change.key f.leaf f.other_key f.other) (inl (refl, refl))
+              following f.pair (pair_row can.change.key f.leaf f.other_key f.other) (inl (refl, refl))
 
           apart : f.pair ≢ can.change.node
           apart e =
@@ -233,8 +233,8 @@ module _ (pairs : List Pair) (words : ℕ) (opens : CanOpen pairs words) where
 
           filled : IsFilledPair pairs words (Install caller base rows ∷ log) can.change f.pair
           filled =
-              let g = grow_behind pairs words log (Install caller base rows) h in
-              let leaf = behind f.leaf (new_leaf can.change) (inr (refl, refl)) in
+              let g = grow_after pairs words log (Install caller base rows) h in
+              let leaf = following f.leaf (new_leaf can.change) (inr (refl, refl)) in
               let stood : IsLeafOf (state_of pairs words (Install caller base rows ∷ log)) f.other f.other_key = leaf_of_grows (state_of pairs words log) (state_of pairs words (Install caller base rows ∷ log)) g f.other f.other_key f.stands in
               record {
                 other = f.other;

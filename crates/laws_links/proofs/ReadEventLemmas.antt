@@ -24,7 +24,7 @@ use Rattle.ist_core.proofs.ReferenceLemmas.{ref_of-unset}
 use Rattle.ist_core.proofs.RowLemmas.{changed_at-other, changed_at-same}
 use Rattle.ist_core.proofs.SlotStepLemmas.{IsNoDecide, WritesNoSlot, change_stays, install_stands, install_writes, place_writes, resolve_writes, slot_stays}
 use Rattle.laws_links.proofs.ChangeLemmas.{undecided_stands}
-use Rattle.laws_links.proofs.InductionLemmas.{sound_behind}
+use Rattle.laws_links.proofs.InductionLemmas.{sound_after}
 use Rattle.laws_links.proofs.ReadLemmas.{FillsSlot, ReadsAs, Turns, filled_by, past_plain, past_same, side_plain, side_undecided, turned_by}
 
 -- what a slot reads as after an event
@@ -47,7 +47,7 @@ module _ (pairs : List Pair) (words : ℕ) (opens : CanOpen pairs words) where
       → WritesNoSlot event → IsNoDecide event → (node i : ℕ) (ref : Ref)
       → ReadsAs (state_of pairs words log) node i ref → ReadsAfter pairs words log node i ref event
   reads_quiet log event h none still node i ref r =
-      let s = sound_behind pairs words log h.0 in
+      let s = sound_after pairs words log h.0 in
       inl record {
         word = r.word;
         holds = slot_stays (start pairs words) log event h.1 s none node i r.word r.holds;
@@ -70,7 +70,7 @@ module _ (pairs : List Pair) (words : ℕ) (opens : CanOpen pairs words) where
         reads =
             past_same (state_of pairs words log).pieces (state_of pairs words (event ∷ log)).pieces
             (ref_of r.word) ref
-            (λ base x is e. (x, change_stays (start pairs words) log event h.1 (sound_behind pairs words log h.0) still base x e, refl)) r.reads;
+            (λ base x is e. (x, change_stays (start pairs words) log event h.1 (sound_after pairs words log h.0) still base x e, refl)) r.reads;
       }
 
   -- a change that is installed reads as what it takes out
@@ -83,7 +83,7 @@ module _ (pairs : List Pair) (words : ℕ) (opens : CanOpen pairs words) where
       let t = state_of pairs words log in
       let u = state_of pairs words (Install caller base rows ∷ log) in
       let can = h.1 in
-      let writes = install_writes (start pairs words) log caller base rows can (sound_behind pairs words log h.0) (anchor_free pairs words log h.0) in
+      let writes = install_writes (start pairs words) log caller base rows can (sound_after pairs words log h.0) (anchor_free pairs words log h.0) in
       let there = install_stands (start pairs words) log caller base rows can in
       ⊎_elim
       (λ w. inl record {
@@ -133,7 +133,7 @@ module _ (pairs : List Pair) (words : ℕ) (opens : CanOpen pairs words) where
       → ReadsAfter pairs words log node i ref (Place caller rebuild j word rows) ⊎ FillsSlot (start pairs words) log node i ref (Place caller rebuild j word rows)
   reads_place log caller rebuild j word rows h node i ref r =
       let t = state_of pairs words log in
-      let writes = place_writes t caller rebuild j word rows h.1 (sound_behind pairs words log h.0) (anchor_free pairs words log h.0) in
+      let writes = place_writes t caller rebuild j word rows h.1 (sound_after pairs words log h.0) (anchor_free pairs words log h.0) in
       ⊎_elim
       (λ w. inr (filled_by h.1 w.1 w.2 (one_ref (past_change t.pieces (ref_of r.word)) ref Unset r.reads (ap (λ v. past_change t.pieces (ref_of v)) w.0 ∙ ap (past_change t.pieces) ref_of-unset))))
       (λ stays. inl (inl (reads_left log (Place caller rebuild j word rows) h tt node i ref r stays)))
@@ -172,7 +172,7 @@ module _ (pairs : List Pair) (words : ℕ) (opens : CanOpen pairs words) where
           record {
             word = r.word;
             holds =
-                slot_stays (start pairs words) log (Decide caller base said) h.1 (sound_behind pairs words log h.0) tt node i r.word r.holds;
+                slot_stays (start pairs words) log (Decide caller base said) h.1 (sound_after pairs words log h.0) tt node i r.word r.holds;
             reads = past_same t.pieces (changed_at t.pieces base f) (ref_of r.word) ref
                 (λ b x is e. (x, changed_at-other t.pieces base b f (λ same. ne (is ∙ ap (λ n. Some (ChangeAt n)) same)) ∙ e, refl)) r.reads;
           }
@@ -187,7 +187,7 @@ module _ (pairs : List Pair) (words : ℕ) (opens : CanOpen pairs words) where
           inl record {
             word = r.word;
             holds =
-                slot_stays (start pairs words) log (Decide caller base false) h.1 (sound_behind pairs words log h.0) tt node i r.word r.holds;
+                slot_stays (start pairs words) log (Decide caller base false) h.1 (sound_after pairs words log h.0) tt node i r.word r.holds;
             reads = past_same t.pieces (changed_at t.pieces base f) (ref_of r.word) ref
                 (λ b x named e.
                 let same : b ≡ base = one_change b base (sym named ∙ is) in
@@ -223,7 +223,7 @@ module _ (pairs : List Pair) (words : ℕ) (opens : CanOpen pairs words) where
         word = word_of (ChangeAt base);
         holds =
             slot_stays (start pairs words) log (Decide caller base true) h.1
-            (sound_behind pairs words log h.0) tt x.node x.index (word_of (ChangeAt base))
+            (sound_after pairs words log h.0) tt x.node x.index (word_of (ChangeAt base))
             (undecided_stands pairs words opens log h.0 base x e none);
         reads =
             change_past (Decide caller base true ∷ log) h base (record x { decision = decided_yes }) (changed_at-same t.pieces base f ∙ ap (option_map f) e) ∙ is;

@@ -17,7 +17,7 @@ use Rattle.ist_core.proofs.PlaceLemmas.{anchor_free}
 use Rattle.ist_core.proofs.SlotLemmas.{no_row}
 use Rattle.ist_core.proofs.GrowingLemmas.{get_alike}
 use Rattle.laws_links.proofs.FinishedLemmas.{same_length}
-use Rattle.laws_links.proofs.InductionLemmas.{grow_behind}
+use Rattle.laws_links.proofs.InductionLemmas.{grow_after}
 use Rattle.laws_links.proofs.ReadEventLemmas.{ReadsAfter, reads_decide, reads_install, reads_place, reads_quiet, reads_resolve}
 use Rattle.laws_links.proofs.ReadLemmas.{FillsSlot, ReadsAs, Turns, filled_by, reads_once}
 
@@ -92,7 +92,7 @@ module _ (pairs : List Pair) (words : ℕ) (opens : CanOpen pairs words) where
       absurd
       (no_row (state_of pairs words (event ∷ log)).pieces node r (anchor_free pairs words (event ∷ log) h) a p)
   slot_held log event h node i word (was_row k) (in_row r p e) =
-      let long = same_length (state_of pairs words log).pieces (state_of pairs words (event ∷ log)).pieces (grow_behind pairs words log event h) node k.0 r k.1 p in
+      let long = same_length (state_of pairs words log).pieces (state_of pairs words (event ∷ log)).pieces (grow_after pairs words log event h) node k.0 r k.1 p in
       let it = get_alike r.slots k.0.slots i word (sym long) e in
       (it.0, in_row k.0 k.1 it.1)
 

@@ -21,7 +21,7 @@ use Rattle.ist_core.proofs.DrawLemmas.{same_rebuild}
 use Rattle.laws_links.proofs.ChangeLemmas.{said_yes}
 use Rattle.laws_links.proofs.FormLemmas.{replaced_grows}
 use Rattle.laws_links.proofs.FormedLemmas.{changes_are_formed}
-use Rattle.laws_links.proofs.InductionLemmas.{changes_by, grow_behind}
+use Rattle.laws_links.proofs.InductionLemmas.{changes_by, grow_after}
 use Rattle.laws_links.proofs.ReadEventLemmas.{decide_reads}
 use Rattle.laws_links.proofs.ReadLemmas.{ReadsAs, Turns, reads_once, turned_by}
 use Rattle.laws_links.proofs.ReadStepLemmas.{reads_step}
@@ -35,7 +35,7 @@ module _ (pairs : List Pair) (words : ℕ) (opens : CanOpen pairs words) where
       → ¬ (IsReplaced (state_of pairs words log) rebuild)
   unreplaced_before log event h rebuild unr k =
       unr
-      (replaced_grows (state_of pairs words log) (state_of pairs words (event ∷ log)) (grow_behind pairs words log event h) rebuild k)
+      (replaced_grows (state_of pairs words log) (state_of pairs words (event ∷ log)) (grow_after pairs words log event h) rebuild k)
 
   -- if the slot's change takes the rebuild out and is decided yes, the rebuild is replaced
   turned_replaced : (log : Log) (event : Event) → EachEnabled (start pairs words) (event ∷ log)
@@ -70,7 +70,7 @@ module _ (pairs : List Pair) (words : ℕ) (opens : CanOpen pairs words) where
       (λ log event h base x old there before is rebuild to.
       ⊎_elim
       (λ k. inl (replaced_grows (state_of pairs words log) (state_of pairs words (event ∷ log))
-      (grow_behind pairs words log event h) rebuild k))
+      (grow_after pairs words log event h) rebuild k))
       (λ r.
       ⊎_elim
       (λ still. inr still)

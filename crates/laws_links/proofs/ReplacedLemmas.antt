@@ -27,7 +27,7 @@ use Rattle.ist_core.proofs.DrawLemmas.{same_rebuild}
 use Rattle.laws_links.proofs.ChangeLemmas.{said_yes}
 use Rattle.laws_links.proofs.ClosedLemmas.{started_target_linked}
 use Rattle.laws_links.proofs.FormedLemmas.{changes_are_formed}
-use Rattle.laws_links.proofs.InductionLemmas.{changes_by, grow_behind}
+use Rattle.laws_links.proofs.InductionLemmas.{changes_by, grow_after}
 use Rattle.laws_links.proofs.LinkLemmas.{deciding}
 use Rattle.laws_links.proofs.ReadEventLemmas.{decide_reads}
 use Rattle.laws_links.proofs.UntouchedLemmas.{not_the_anchor}
@@ -64,7 +64,7 @@ module _ (pairs : List Pair) (words : ℕ) (opens : CanOpen pairs words) where
           let u = state_of pairs words (Decide caller base true ∷ log) in
           let o = names pairs words opens (Decide caller base true ∷ log) h in
           let p = puts_ideal pairs words opens log h.0 base x e (deciding pairs words opens log caller base true h x e) rebuild r from there in
-          let now = rebuild_there t.pieces u.pieces (grow_behind pairs words log (Decide caller base true) h) rebuild r there in
+          let now = rebuild_there t.pieces u.pieces (grow_after pairs words log (Decide caller base true) h) rebuild r there in
           let named : Mentions u r.parent r.index (InnerAt r.target) =
           subst (λ n. Mentions u n r.index (InnerAt r.target)) now.2.parent
           (subst (λ j. Mentions u now.0.parent j (InnerAt r.target)) now.2.index
@@ -116,7 +116,7 @@ module _ (pairs : List Pair) (words : ℕ) (opens : CanOpen pairs words) where
           → (state_of pairs words (event ∷ log)).pieces rebuild ≡ Some (Rebuild s)
           → s.target ≡ r.target
       same_target log event h rebuild r s e f =
-          let it = rebuild_there (state_of pairs words log).pieces (state_of pairs words (event ∷ log)).pieces (grow_behind pairs words log event h) rebuild r e in
+          let it = rebuild_there (state_of pairs words log).pieces (state_of pairs words (event ∷ log)).pieces (grow_after pairs words log event h) rebuild r e in
           ap (λ x. x.target)
           (same_rebuild ((state_of pairs words (event ∷ log)).pieces rebuild) s it.0 f it.1)
           ∙ it.2.target

@@ -43,13 +43,13 @@ module _ (pairs : List Pair) (words : ℕ) (opens : CanOpen pairs words) where
       }
 
   -- this stays so after the yes
-  pub puts_ideal_behind : (log : Log) (caller base : ℕ)
+  pub puts_ideal_after : (log : Log) (caller base : ℕ)
       → EachEnabled (start pairs words) (Decide caller base true ∷ log)
       → (x : ChangeRow) (rebuild : ℕ) (row : RebuildRow)
       → (state_of pairs words log).pieces rebuild ≡ Some (Rebuild row)
       → row.root ≢ unset_word → PutsIdealRoot (state_of pairs words log) x row
       → PutsIdealRoot (state_of pairs words (Decide caller base true ∷ log)) x row
-  puts_ideal_behind log caller base h x rebuild row there set p =
+  puts_ideal_after log caller base h x rebuild row there set p =
       let t = state_of pairs words log in
       let u = state_of pairs words (Decide caller base true ∷ log) in
       record {
@@ -77,7 +77,7 @@ module _ (pairs : List Pair) (words : ℕ) (opens : CanOpen pairs words) where
       let none = deciding pairs words opens log caller base true h x e in
       let p = puts_ideal log h.0 base x e none rebuild row from there in
       let set : row.root ≢ unset_word = λ k. ideal_set t.pieces p.ref p.leaves row.target p.rows p.ideal (one p.ref (sym p.root_is ∙ ap ref_of k ∙ ref_of-unset)) in
-      (p, puts_ideal_behind log caller base h x rebuild row there set p)
+      (p, puts_ideal_after log caller base h x rebuild row there set p)
     where
       one : (r : Ref) → Some r ≡ Some Unset → r ≡ Unset
       one r q = cc

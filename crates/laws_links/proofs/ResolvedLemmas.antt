@@ -26,7 +26,7 @@ use Rattle.ist_core.proofs.PlaceLemmas.{anchor_free, no_piece}
 use Rattle.ist_core.proofs.SlotLemmas.{slot_once}
 use Rattle.ist_core.proofs.SlotStepLemmas.{install_writes, place_writes, resolve_writes, slot_stays}
 use Rattle.laws_links.proofs.ChangeLemmas.{install_free, node_was_linked, resolved_now, same_change_word}
-use Rattle.laws_links.proofs.InductionLemmas.{grow_behind, sound_behind}
+use Rattle.laws_links.proofs.InductionLemmas.{grow_after, sound_after}
 use Rattle.laws_links.proofs.ReadLemmas.{side_plain}
 use Rattle.laws_links.proofs.ReadStepLemmas.{Stood, slot_held, was_anchor, was_row}
 use Rattle.laws_links.proofs.UntouchedLemmas.{was_linked_here}
@@ -71,12 +71,12 @@ module _ (pairs : List Pair) (words : ℕ) (opens : CanOpen pairs words) where
       let t = state_of pairs words log in
       let u = state_of pairs words (Install caller at rows ∷ log) in
       let can = h.1 in
-      let writes = install_writes (start pairs words) log caller at rows can (sound_behind pairs words log h.0) (anchor_free pairs words log h.0) in
+      let writes = install_writes (start pairs words) log caller at rows can (sound_after pairs words log h.0) (anchor_free pairs words log h.0) in
       ⊎_elim
       (λ w.
       let here = subst (λ m. SlotHolds u m can.change.index (word_of (ChangeAt base))) w.1 (subst (λ j. SlotHolds u node j (word_of (ChangeAt base))) w.2 now) in
       let one = same_change_word base at (slot_once u can.change.node can.change.index (word_of (ChangeAt base)) (word_of (ChangeAt at)) (anchor_free pairs words (Install caller at rows ∷ log) h) here writes.now) in
-      absurd (no_piece (t.pieces at) (Change x) (install_free (start pairs words) log caller at rows can (sound_behind pairs words log h.0)) (subst (λ b. t.pieces b ≡ Some (Change x)) one e)))
+      absurd (no_piece (t.pieces at) (Change x) (install_free (start pairs words) log caller at rows can (sound_after pairs words log h.0)) (subst (λ b. t.pieces b ≡ Some (Change x)) one e)))
       (λ stays. kept_word log (Install caller at rows) h node i old (word_of (ChangeAt base)) stays now was)
       (writes.others node i old was)
   stood_before log (Resolve caller at) h base x e node i old was now =
@@ -95,7 +95,7 @@ module _ (pairs : List Pair) (words : ℕ) (opens : CanOpen pairs words) where
       let t = state_of pairs words log in
       let u = state_of pairs words (Place caller rebuild j word rows ∷ log) in
       let can = h.1 in
-      let writes = place_writes t caller rebuild j word rows can (sound_behind pairs words log h.0) (anchor_free pairs words log h.0) in
+      let writes = place_writes t caller rebuild j word rows can (sound_after pairs words log h.0) (anchor_free pairs words log h.0) in
       ⊎_elim
       (λ w.
       let here = subst (λ m. SlotHolds u m j (word_of (ChangeAt base))) w.1 (subst (λ k. SlotHolds u node k (word_of (ChangeAt base))) w.2 now) in
@@ -107,7 +107,7 @@ module _ (pairs : List Pair) (words : ℕ) (opens : CanOpen pairs words) where
       (writes.others node i old was)
   stood_before log event h base x e node i old was now =
       kept_word log event h node i old (word_of (ChangeAt base)) (slot_stays (start pairs words)
-      log event h.1 (sound_behind pairs words log h.0) tt node i old was) now was
+      log event h.1 (sound_after pairs words log h.0) tt node i old was) now was
 
   -- a change that was resolved is published
   resolved_published : (log : Log) → EachEnabled (start pairs words) log → (base : ℕ)
@@ -116,11 +116,11 @@ module _ (pairs : List Pair) (words : ℕ) (opens : CanOpen pairs words) where
   resolved_published [] h base happened = absurd happened
   resolved_published (event ∷ log) h base (inl now) =
       let it = resolved_now (start pairs words) log event base h.1 now in
-      let on = change_there (state_of pairs words log).pieces (state_of pairs words (event ∷ log)).pieces (grow_behind pairs words log event h) base it.row it.published in
+      let on = change_there (state_of pairs words log).pieces (state_of pairs words (event ∷ log)).pieces (grow_after pairs words log event h) base it.row it.published in
       (on.0, on.1)
   resolved_published (event ∷ log) h base (inr before) =
       let it = resolved_published log h.0 base before in
-      let on = change_there (state_of pairs words log).pieces (state_of pairs words (event ∷ log)).pieces (grow_behind pairs words log event h) base it.0 it.1 in
+      let on = change_there (state_of pairs words log).pieces (state_of pairs words (event ∷ log)).pieces (grow_after pairs words log event h) base it.0 it.1 in
       (on.0, on.1)
 
   -- the slot that a resolved change leaves holds its side
@@ -132,7 +132,7 @@ module _ (pairs : List Pair) (words : ℕ) (opens : CanOpen pairs words) where
       let t = state_of pairs words log in
       let u = state_of pairs words (Resolve caller at ∷ log) in
       let can = h.1 in
-      let on = change_there t.pieces u.pieces (grow_behind pairs words log (Resolve caller at) h) at can.change can.published in
+      let on = change_there t.pieces u.pieces (grow_after pairs words log (Resolve caller at) h) at can.change can.published in
       let named : SlotNames u.pieces node i (Some (ChangeAt at)) =
       subst (λ o. SlotNames u.pieces node i o)
       (ap (λ b. ref_of (word_of (ChangeAt b))) (sym is) ∙ change_read pairs words opens (Resolve caller at ∷ log) h at on.0 on.1)
@@ -160,7 +160,7 @@ module _ (pairs : List Pair) (words : ℕ) (opens : CanOpen pairs words) where
       let t = state_of pairs words log in
       let u = state_of pairs words (event ∷ log) in
       let x = resolved_published log h.0 base before in
-      let on = change_there t.pieces u.pieces (grow_behind pairs words log event h) base x.0 x.1 in
+      let on = change_there t.pieces u.pieces (grow_after pairs words log event h) base x.0 x.1 in
       let named : SlotNames u.pieces node i (Some (ChangeAt base)) =
       subst (λ o. SlotNames u.pieces node i o) (change_read pairs words opens (event ∷ log) h base on.0 on.1) (slot_names u node i (word_of (ChangeAt base)) (names pairs words opens (event ∷ log) h) slot) in
       let row = same_change (u.pieces base) on.0 named.row on.1 named.published in

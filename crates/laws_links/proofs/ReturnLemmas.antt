@@ -26,7 +26,7 @@ use Rattle.ist_core.proofs.SlotStepLemmas.{place_writes}
 use Rattle.laws_links.proofs.ChildLemmas.{IsReadBy, child_read, leads_grows, leads_rebuild, read_child}
 use Rattle.laws_links.proofs.FormLemmas.{IsFormed, of_finish, of_leaf_put, of_pair_put, of_remove, of_start}
 use Rattle.laws_links.proofs.FormedLemmas.{changes_are_formed}
-use Rattle.laws_links.proofs.InductionLemmas.{grow_behind, sound_behind}
+use Rattle.laws_links.proofs.InductionLemmas.{grow_after, sound_after}
 use Rattle.laws_links.proofs.PairLemmas.{pair_is_filled}
 use Rattle.laws_links.proofs.ReadEventLemmas.{decide_reads}
 use Rattle.laws_links.proofs.ReadLemmas.{FillsSlot, ReadsAs, Turns, filled_by, reads_once, turned_by}
@@ -66,7 +66,7 @@ module _ (pairs : List Pair) (words : ℕ) (opens : CanOpen pairs words) where
           let u = state_of pairs words (event ∷ log) in
           let here : IsRebuildFor t.pieces node i base =
           subst (λ x. SideNames t.pieces node i x) is side in
-          let on = rebuild_there t.pieces u.pieces (grow_behind pairs words log event h) base here.row here.published in
+          let on = rebuild_there t.pieces u.pieces (grow_after pairs words log event h) base here.row here.published in
           ap rebuild_reads here.published ∙ ap (λ n. Some (InnerAt n)) (sym on.2.target) ∙ sym
           (ap rebuild_reads on.1) ∙ k
       at (RebuildAt base) is k (inr unset) =
@@ -125,7 +125,7 @@ module _ (pairs : List Pair) (words : ℕ) (opens : CanOpen pairs words) where
       by_form (of_start f) =
           let t = state_of pairs words log in
           let u = state_of pairs words (Decide caller base true ∷ log) in
-          let now = leads_grows t u (grow_behind pairs words log (Decide caller base true) h) (RebuildAt f.rebuild) f.row.target (leads_rebuild t.pieces f.rebuild f.row f.published) in
+          let now = leads_grows t u (grow_after pairs words log (Decide caller base true) h) (RebuildAt f.rebuild) f.row.target (leads_rebuild t.pieces f.rebuild f.row f.published) in
           let same = one_inner f.row.target child (sym now ∙ leads_to (RebuildAt f.rebuild) f.to) in
           let here : was ≡ InnerAt f.row.target =
           one_ref was (InnerAt f.row.target) (sym from ∙ f.from) in
@@ -174,7 +174,7 @@ module _ (pairs : List Pair) (words : ℕ) (opens : CanOpen pairs words) where
       (filled_by {caller = caller} {rebuild = rebuild} {j = j} {word = word} {rows = rows} can here at is) r leads =
       let t = state_of pairs words log in
       let u = state_of pairs words (Place caller rebuild j word rows ∷ log) in
-      let writes = place_writes t caller rebuild j word rows can (sound_behind pairs words log h.0) (anchor_free pairs words log h.0) in
+      let writes = place_writes t caller rebuild j word rows can (sound_after pairs words log h.0) (anchor_free pairs words log h.0) in
       let slot = subst (λ n. SlotHolds u n i word) (sym here) (subst (λ m. SlotHolds u can.root m word) (sym at) writes.now) in
       let same = slot_once u node i r.word word (anchor_free pairs words (Place caller rebuild j word rows ∷ log) h) r.holds slot in
       let read : past_change u.pieces (Some can.ref) ≡ Some ref = ap (past_change u.pieces) (sym can.ref_is) ∙ ap (λ w. past_change u.pieces (ref_of w)) (sym same) ∙ r.reads in
@@ -183,7 +183,7 @@ module _ (pairs : List Pair) (words : ℕ) (opens : CanOpen pairs words) where
       sym (ideal_reads u.pieces qs can.ref can.part can.root (bases_of rows) can.ideal) ∙ ap (past_rebuild u.pieces) read ∙ leads in
       let among = ideal_among qs can.ref can.part can.root (bases_of rows) child can.ideal (one_ref can.ref (InnerAt child) child_is) in
       no_piece (t.pieces child) (Inner there.0)
-      (held_free t caller rows can.held (sound_behind pairs words log h.0) child among) there.1
+      (held_free t caller rows can.held (sound_after pairs words log h.0) child among) there.1
     where
       one_ref : (a b : Ref) → Some a ≡ Some b → a ≡ b
       one_ref a b q = cc

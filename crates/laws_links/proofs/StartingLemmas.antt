@@ -25,7 +25,7 @@ use Rattle.ist_core.proofs.StepLemmas.{holds_installed}
 use Rattle.laws_links.proofs.ChangeLemmas.{said_something, same_change_word, undecided_stands}
 use Rattle.laws_links.proofs.ComesLemmas.{change_comes}
 use Rattle.laws_links.proofs.FormLemmas.{IsFinish, IsFormed, of_finish, of_leaf_put, of_pair_put, of_remove, of_start}
-use Rattle.laws_links.proofs.InductionLemmas.{changes_by, sound_behind}
+use Rattle.laws_links.proofs.InductionLemmas.{changes_by, sound_after}
 use Rattle.laws_links.proofs.OriginLemmas.{ChangeComes, change_was, is_decided, is_installed}
 use Rattle.laws_links.proofs.ReadEventLemmas.{change_past}
 use Rattle.laws_links.proofs.ReadLemmas.{ReadsAs, side_undecided}
@@ -107,7 +107,7 @@ module _ (pairs : List Pair) (words : ℕ) (opens : CanOpen pairs words) where
   start_new log caller base rows h can rebuild to = at can.fits
     where
       s : HeldLieApart (state_of pairs words log)
-      s = sound_behind pairs words log h.0
+      s = sound_after pairs words log h.0
 
       at : FitsKind (start pairs words) log can.change can.fresh
           → (state_of pairs words log).pieces rebuild ≡ None

@@ -32,7 +32,7 @@ use Rattle.ist_core.proofs.ReferenceLemmas.{ref_of-unset}
 use Rattle.ist_core.proofs.SlotLemmas.{same_inner, slot_once}
 use Rattle.laws_links.proofs.ComesLemmas.{rebuild_comes}
 use Rattle.laws_links.proofs.FormLemmas.{started_grows}
-use Rattle.laws_links.proofs.InductionLemmas.{grow_behind, rebuilds_by, sound_behind}
+use Rattle.laws_links.proofs.InductionLemmas.{grow_after, rebuilds_by, sound_after}
 use Rattle.laws_links.proofs.OriginLemmas.{RebuildComes, is_begun, is_drawn, is_rooted, rebuild_was}
 use Rattle.laws_links.proofs.QuietLemmas.{start_quiet}
 use Rattle.laws_links.proofs.UntouchedLemmas.{not_the_anchor, stays_whole, untouched, was_linked_here, was_linked_parent}
@@ -72,10 +72,10 @@ module _ (pairs : List Pair) (words : ℕ) (opens : CanOpen pairs words) where
   rooted_is_started =
       rebuilds_by pairs words
       (λ log base r. r.root ≢ unset_word → IsStarted (state_of pairs words log) base)
-      (λ log event h base r old there before set. started_grows (state_of pairs words log) (state_of pairs words (event ∷ log)) (grow_behind pairs words log event h) base (before set))
+      (λ log event h base r old there before set. started_grows (state_of pairs words log) (state_of pairs words (event ∷ log)) (grow_after pairs words log event h) base (before set))
       (λ log caller change rows h can s set. absurd (set refl))
-      (λ log caller base word rows h can before set. started_grows (state_of pairs words log) (state_of pairs words (Root caller base word rows ∷ log)) (grow_behind pairs words log (Root caller base word rows) h) base can.started)
-      (λ log caller base part h can before set. started_grows (state_of pairs words log) (state_of pairs words (Draw caller base part ∷ log)) (grow_behind pairs words log (Draw caller base part) h) base (before set))
+      (λ log caller base word rows h can before set. started_grows (state_of pairs words log) (state_of pairs words (Root caller base word rows ∷ log)) (grow_after pairs words log (Root caller base word rows) h) base can.started)
+      (λ log caller base part h can before set. started_grows (state_of pairs words log) (state_of pairs words (Draw caller base part ∷ log)) (grow_after pairs words log (Draw caller base part) h) base (before set))
 
   -- a root that is an inner row is named for the slot of its rebuild
   pub root_named : (log : Log) (rebuild base : ℕ) (r : RebuildRow)
@@ -158,7 +158,7 @@ module _ (pairs : List Pair) (words : ℕ) (opens : CanOpen pairs words) where
           let named : ref_of word ≡ Some (InnerAt base) = ap (λ x. ref_of x.root) (sym same) ∙ is in
           let among = root_among (with_inners t.pieces rows) word can.k can.leaves can.row.target (bases_of rows) base can.root named in
           let none =
-          held_free t caller rows can.held (sound_behind pairs words log all.0) base among in
+          held_free t caller rows can.held (sound_after pairs words log all.0) base among in
           let there = was_linked_here pairs words opens log all.0 base ne before in
           no_piece (t.pieces base) (Inner there.0) none there.1
       at _ all ne (is_drawn can same) k again =
@@ -194,7 +194,7 @@ module _ (pairs : List Pair) (words : ℕ) (opens : CanOpen pairs words) where
       let u = state_of pairs words (event ∷ log) in
       record {
         leaf =
-            λ base r e. leaf_there t.pieces u.pieces (grow_behind pairs words log event h) base r e;
+            λ base r e. leaf_there t.pieces u.pieces (grow_after pairs words log event h) base r e;
         inner = λ base r i e.
             let it = each-among (StandsWhole t.pieces) base rows whole_rows i in
             let same = same_inner (t.pieces base) it.row r it.published e in

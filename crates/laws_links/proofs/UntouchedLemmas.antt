@@ -26,7 +26,7 @@ use Rattle.ist_core.proofs.PlaceLemmas.{anchor_free, no_piece, one_piece}
 use Rattle.ist_core.proofs.SlotLemmas.{no_row, same_inner}
 use Rattle.laws_links.proofs.ChangeLemmas.{node_was_linked}
 use Rattle.laws_links.proofs.ClosedLemmas.{closed_was_linked, linked_now, mark_linked, passed_was_linked}
-use Rattle.laws_links.proofs.InductionLemmas.{grow_behind}
+use Rattle.laws_links.proofs.InductionLemmas.{grow_after}
 use Rattle.laws_links.proofs.RowEventLemmas.{RowCame, BecameBy, as_it_was, by_count, by_decide, by_draw, by_finish, by_install, by_mark, by_place, by_resolve, by_root, came, from_new, from_old}
 use Rattle.ist_core.specs.Links as chains
 
@@ -114,7 +114,7 @@ module _ (pairs : List Pair) (words : ℕ) (opens : CanOpen pairs words) where
       × ((state_of pairs words (event ∷ log)).pieces node ≡ Some (Inner s)) × Stays
       (start pairs words) log node r s event
   untouched log event h node r e never =
-      let it = inner_there (state_of pairs words log).pieces (state_of pairs words (event ∷ log)).pieces (grow_behind pairs words log event h) node r e in
+      let it = inner_there (state_of pairs words log).pieces (state_of pairs words (event ∷ log)).pieces (grow_after pairs words log event h) node r e in
       (it.0, it.1, at it.0 (came pairs words log event h node (Inner it.0) it.1))
     where
       at : (s : InnerRow) → RowCame (start pairs words) log event node (Inner s)

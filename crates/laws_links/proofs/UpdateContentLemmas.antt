@@ -27,7 +27,7 @@ use Rattle.ist_core.proofs.RoomLemmas.{published_good}
 use Rattle.ist_core.proofs.SlotLemmas.{slot_once}
 use Rattle.laws_links.proofs.FormLemmas.{IsFormed, of_finish, of_leaf_put, of_pair_put, of_remove, of_start}
 use Rattle.laws_links.proofs.FormedLemmas.{changes_are_formed}
-use Rattle.laws_links.proofs.InductionLemmas.{grow_behind}
+use Rattle.laws_links.proofs.InductionLemmas.{grow_after}
 use Rattle.laws_links.proofs.PairLemmas.{pair_is_filled}
 use Rattle.laws_links.proofs.ReadEventLemmas.{decide_reads}
 use Rattle.laws_links.proofs.ReadLemmas.{ReadsAs, Turns, turned_by}
@@ -126,7 +126,7 @@ module _ (pairs : List Pair) (words : ℕ) (opens : CanOpen pairs words) where
           ⊎_elim
           (λ r.
           let same = slot_once u node i v r.word (anchor_free pairs words (Decide caller base true ∷ log) h) now r.holds in
-          inl (ap (logical u.pieces) same ∙ ap (past_rebuild u.pieces) r.reads ∙ past_rebuild_grows t u (grow_behind pairs words log (Decide caller base true) h) ref k.leaves k.reached ∙ back))
+          inl (ap (logical u.pieces) same ∙ ap (past_rebuild u.pieces) r.reads ∙ past_rebuild_grows t u (grow_after pairs words log (Decide caller base true) h) ref k.leaves k.reached ∙ back))
           (λ turn. inr (turned (Decide caller base true) refl turn))
           (reads_step pairs words opens log (Decide caller base true) h node i ref set record { word = w; holds = old; reads = is })
         where
@@ -160,7 +160,7 @@ module _ (pairs : List Pair) (words : ℕ) (opens : CanOpen pairs words) where
   update_contents log caller base h update some =
       let t = state_of pairs words log in
       let u = state_of pairs words (Decide caller base true ∷ log) in
-      let g = grow_behind pairs words log (Decide caller base true) h in
+      let g = grow_after pairs words log (Decide caller base true) h in
       let alike : IsAlikeEnough t.pieces u.pieces = record {
         leaf = λ b r e. leaf_there t.pieces u.pieces g b r e;
         row = λ b r e.

@@ -31,7 +31,7 @@ use Rattle.ist_core.proofs.NamingStepLemmas.{changed_at-fixed}
 use Rattle.laws_links.proofs.ChangeLemmas.{said_something}
 use Rattle.laws_links.proofs.ComesLemmas.{rebuild_comes}
 use Rattle.laws_links.proofs.FormedLemmas.{rooted_is_finished}
-use Rattle.laws_links.proofs.InductionLemmas.{changes_by, grow_behind}
+use Rattle.laws_links.proofs.InductionLemmas.{changes_by, grow_after}
 use Rattle.laws_links.proofs.OriginLemmas.{RebuildComes, is_begun, is_drawn, is_rooted, rebuild_was}
 use Rattle.laws_links.proofs.QuietLemmas.{start_quiet}
 use Rattle.laws_links.proofs.ReadLemmas.{ReadsAs}
@@ -171,7 +171,7 @@ module _ (pairs : List Pair) (words : ℕ) (opens : CanOpen pairs words) where
   whole_on log event h x rebuild unr w =
       let t = state_of pairs words log in
       let u = state_of pairs words (event ∷ log) in
-      let it = rebuild_there t.pieces u.pieces (grow_behind pairs words log event h) rebuild w.row w.published in
+      let it = rebuild_there t.pieces u.pieces (grow_after pairs words log event h) rebuild w.row w.published in
       let root = it.2.rooted w.set in
       record {
         row = it.0;

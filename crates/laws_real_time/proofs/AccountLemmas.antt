@@ -3,7 +3,7 @@
 -- calls whose changes are accounted for are placed in their time
 use Rattle.std.proofs.Common.{◌≡◌, List, Some, refl, sym, ap, ◌∙◌, subst, arith}
 use Rattle.ist_core.specs.Map.{Map}
-use Rattle.ist_core.specs.Changes.{Entry, map_behind}
+use Rattle.ist_core.specs.Changes.{Entry, map_after_entries}
 use Rattle.laws_real_time.specs.Moments.{Moments, Begun, in_call}
 use Rattle.laws_real_time.specs.Joining.{LinearizesTo}
 use Rattle.laws_real_time.specs.Timing.{AreInTime}
@@ -35,6 +35,6 @@ in_time m entries moments all =
 
 -- so they are linearizable, and lead to the map after the changes
 pub accounted_linearizes : (m : Map) (entries : List Entry) (moments : Moments)
-    → AreAccounted m entries moments → LinearizesTo m moments (map_behind m entries)
+    → AreAccounted m entries moments → LinearizesTo m moments (map_after_entries m entries)
 accounted_linearizes m entries moments all =
     linearizes m entries moments (in_time m entries moments all)

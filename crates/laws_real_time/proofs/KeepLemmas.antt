@@ -11,8 +11,8 @@ use Rattle.ist_core.specs.Elements.{Each}
 use Rattle.ist_core.specs.StartLayout.{start}
 use Rattle.ist_core.specs.Logs.{Log, GoesOn, same_log}
 use Rattle.ist_core.specs.Lawful.{Lawful}
-use Rattle.ist_core.specs.Changes.{Entry, changes_of, map_behind}
-use Rattle.ist_core.specs.Standing.{is_change, entry_by, entries_by, position_behind}
+use Rattle.ist_core.specs.Changes.{Entry, changes_of, map_after_entries}
+use Rattle.ist_core.specs.Standing.{is_change, entry_by, entries_by, position_after}
 use Rattle.ist_core.proofs.ElementLemmas.{each_append, each-among}
 use Rattle.ist_core.proofs.PrefixLemmas.{goes_on_more}
 use Rattle.laws_histories.proofs.ChangeLemmas.{changes_on, changes_rise, get_left, read_on}
@@ -57,9 +57,9 @@ module _ (pairs : List Pair) (words : ℕ) where
 
   -- nor does a call that returned, so its position is among them
   pub ended_low : (log : Log) (moments : Moments) → KeepsTime pairs words log moments
-      → Each (λ x. position_behind x.call ≤ length (told log)) (ended moments)
+      → Each (λ x. position_after x.call ≤ length (told log)) (ended moments)
   ended_low log moments k =
-      each_of (λ x. position_behind x.call ≤ length (told log)) (ended moments)
+      each_of (λ x. position_after x.call ≤ length (told log)) (ended moments)
       (λ x i. (let t = each-among (IsInTime (map_of pairs) (told log)) x (ended moments) k.placed i in
       let e = ended_in moments x i in
       let low = changes_low (length (told log)) moments (noted_low log moments k.counted) x.time in
@@ -245,7 +245,7 @@ module _ (pairs : List Pair) (words : ℕ) where
       now : Moment
       now = moment_now pairs words log caller (Returns call)
 
-      to : (b : Bool) → is_change call ≡ b → position_behind call ≤ length (told log)
+      to : (b : Bool) → is_change call ≡ b → position_after call ≤ length (told log)
       to true e =
           let low =
           slice_get_within (told log) call.position (entry_by caller call) (placed.made e) in
@@ -257,7 +257,7 @@ module _ (pairs : List Pair) (words : ℕ) where
       → KeepsTime pairs words log moments
       → ((number : ℕ) → HasMadeChanges (told log) number (calls_returned number moments)
       (in_call number moments))
-      → LinearizesTo (map_of pairs) moments (map_behind (map_of pairs) (told log))
+      → LinearizesTo (map_of pairs) moments (map_after_entries (map_of pairs) (told log))
   kept_linearizes log moments lawful k made =
       accounted_linearizes (map_of pairs) (told log) moments
       record {

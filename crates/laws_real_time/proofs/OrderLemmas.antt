@@ -4,7 +4,7 @@ use Rattle.std.proofs.Common.{◌≡◌, ◌⊎◌, ℕ, ◌+◌, ◌<◌, not, 
 use Rattle.std.proofs.lemmas.Option.{slice_get_within}
 use Rattle.ist_core.specs.Map.{Map}
 use Rattle.ist_core.specs.Elements.{Among}
-use Rattle.ist_core.specs.Changes.{Entry, map_at, map_behind}
+use Rattle.ist_core.specs.Changes.{Entry, map_at, map_after_entries}
 use Rattle.ist_core.specs.Standing.{is_change, entry_by}
 use Rattle.ist_core.proofs.ElementLemmas.{each-among, among_filter}
 use Rattle.laws_real_time.specs.Moments.{Moments, in_call, Ended, ended}
@@ -197,7 +197,7 @@ module _ (m : Map) (entries : List Entry) (moments : Moments)
       }
 
   -- the order leads to the map after the changes
-  pub linearizes : LinearizesTo m moments (map_behind m entries)
+  pub linearizes : LinearizesTo m moments (map_after_entries m entries)
   unfolding linearizable
   linearizes =
       record {

@@ -1,7 +1,7 @@
 -- The calls on one table after those on another: a tree that is opened over the pairs of a closed one.
 use Rattle.std.specs.Prelude.{◌≡◌, ℕ, List, ◌++◌, map, None}
 use Rattle.ist_core.specs.Map.{Map, replay}
-use Rattle.ist_core.specs.Changes.{Entry, map_behind}
+use Rattle.ist_core.specs.Changes.{Entry, map_after_entries}
 use Rattle.laws_real_time.specs.Moments.{Moments, in_call}
 use Rattle.laws_real_time.specs.RealTime.{IsLinearizable}
 use Rattle.laws_real_time.specs.Timing.{AreInTime}
@@ -16,7 +16,7 @@ pub record LinearizesTo (m : Map) (moments : Moments) (last : Map) : Type 0 wher
 abbrev pub PlacedCallsLead : Type 0
 PlacedCallsLead =
     (m : Map) (entries : List Entry) (moments : Moments) → AreInTime m entries moments
-    → LinearizesTo m moments (map_behind m entries)
+    → LinearizesTo m moments (map_after_entries m entries)
 
 -- no call is in progress
 abbrev pub IsOver : Moments → Type 0

@@ -7,7 +7,7 @@ use Rattle.ist_core.specs.Map.{Map, map_of}
 use Rattle.ist_core.specs.Elements.{Each}
 use Rattle.ist_core.specs.Logs.{Log, GoesOn}
 use Rattle.ist_core.specs.Lawful.{Lawful}
-use Rattle.ist_core.specs.Changes.{Entry, changes_of, map_behind}
+use Rattle.ist_core.specs.Changes.{Entry, changes_of, map_after_entries}
 use Rattle.ist_core.specs.Standing.{is_change, entry_by, entries_by, IsRead}
 use Rattle.laws_real_time.specs.declared.moments.Deed.{Deed}
 use Rattle.laws_real_time.specs.declared.moments.Deed.TheVariants.{Begins, Returns, GivesUp}
@@ -95,4 +95,4 @@ KeptCallsAreLinearizable =
     → KeepsTime pairs words log moments
     → ((number : ℕ) → HasMadeChanges (changes_of pairs words log) number (calls_returned number moments) (in_call number moments))
     → LinearizesTo (map_of pairs) moments
-    (map_behind (map_of pairs) (changes_of pairs words log))
+    (map_after_entries (map_of pairs) (changes_of pairs words log))

@@ -3,7 +3,7 @@ use Rattle.std.specs.Prelude.{◌≡◌, ◌⊎◌, ℕ, ◌≤◌, true, false,
 use Rattle.ist_core.specs.Map.{Map}
 use Rattle.ist_core.specs.Elements.{Among, Each}
 use Rattle.ist_core.specs.Changes.{Entry}
-use Rattle.ist_core.specs.Standing.{is_change, entry_by, IsRead, position_behind}
+use Rattle.ist_core.specs.Standing.{is_change, entry_by, IsRead, position_after}
 use Rattle.ist_core.specs.Histories.{told_by_entry, IsLegal}
 use Rattle.laws_real_time.specs.Moments.{Moments, Begun, in_call, Ended, ended, IsWellFormed}
 use Rattle.laws_real_time.specs.RealTime.{IsLinearizable}
@@ -19,7 +19,7 @@ NumbersNeverFall (moment ∷ moments) = Each (λ earlier. earlier.changes ≤ mo
 -- at its position, or has the map's reply there
 pub record IsInTime (m : Map) (entries : List Entry) (x : Ended) : Type 0 where
   pub from : x.begun.changes ≤ x.call.position
-  pub to : position_behind x.call ≤ x.changes
+  pub to : position_after x.call ≤ x.changes
   pub made : is_change x.call ≡ true
       → slice_get entries x.call.position ≡ Some (entry_by x.caller x.call)
   pub read : is_change x.call ≡ false → IsRead m entries x.call

@@ -25,7 +25,7 @@ use Rattle.ist_core.proofs.SlotStepLemmas.{install_stands}
 use Rattle.ist_core.proofs.StepLemmas.{holds_installed}
 use Rattle.ist_core.proofs.YesLemmas.{distinct_below}
 use Rattle.laws_links.proofs.ChangeLemmas.{install_free}
-use Rattle.laws_links.proofs.InductionLemmas.{grow_behind, sound_behind}
+use Rattle.laws_links.proofs.InductionLemmas.{grow_after, sound_after}
 use Rattle.laws_links.proofs.ResolvedLemmas.{resolved_gone}
 use Rattle.laws_stability.specs.Progress.{most_progress, progress}
 
@@ -87,7 +87,7 @@ module _ (pairs : List Pair) (words : ℕ) (opens : CanOpen pairs words) where
       → Each (Counted (state_of pairs words (event ∷ log)) (event ∷ log)) (numbers log)
   on log event h all =
       each_on (state_of pairs words log) (state_of pairs words (event ∷ log))
-      (grow_behind pairs words log event h) log event (numbers log) all
+      (grow_after pairs words log event h) log event (numbers log) all
 
   -- no row begins at the second word of a change
   second_word : (log : Log) → EachEnabled (start pairs words) log → (base : ℕ) (r : ChangeRow)
@@ -105,7 +105,7 @@ module _ (pairs : List Pair) (words : ℕ) (opens : CanOpen pairs words) where
       → Counted (state_of pairs words log) log base → ⊥
   fresh_install log caller base rows h (of_install other r e is) =
       no_piece ((state_of pairs words log).pieces base) (Change r)
-      (install_free (start pairs words) log caller base rows h.1 (sound_behind pairs words log h.0))
+      (install_free (start pairs words) log caller base rows h.1 (sound_after pairs words log h.0))
       (subst (λ b. (state_of pairs words log).pieces b ≡ Some (Change r))
       (sym is) e)
   fresh_install log caller base rows h (of_resolve other r e before is) =
@@ -114,7 +114,7 @@ module _ (pairs : List Pair) (words : ℕ) (opens : CanOpen pairs words) where
       (holds_installed (start pairs words) log caller base rows h.1).0) is
   fresh_install log caller base rows h (of_mark node r e shut is) =
       no_piece ((state_of pairs words log).pieces base) (Inner r)
-      (install_free (start pairs words) log caller base rows h.1 (sound_behind pairs words log h.0))
+      (install_free (start pairs words) log caller base rows h.1 (sound_after pairs words log h.0))
       (subst (λ b. (state_of pairs words log).pieces b ≡ Some (Inner r)) (sym is) e)
 
   -- one is resolved that wasn't
@@ -169,7 +169,7 @@ module _ (pairs : List Pair) (words : ℕ) (opens : CanOpen pairs words) where
       let before = good log h.0 in
       let event = Resolve caller base in
       let there = change_there (state_of pairs words log).pieces
-      (state_of pairs words (event ∷ log)).pieces (grow_behind pairs words log event h) base
+      (state_of pairs words (event ∷ log)).pieces (grow_after pairs words log event h) base
       h.1.change h.1.published in (
         (of_resolve base there.0 there.1 (inl refl) refl, on log event h before.0),
         (

@@ -30,7 +30,7 @@ use Rattle.ist_core.proofs.PlaceLemmas.{anchor_free}
 use Rattle.ist_core.proofs.PublishingLemmas.{row_among}
 use Rattle.laws_links.proofs.FormLemmas.{finished_with_grows, started_grows}
 use Rattle.laws_links.proofs.FormedLemmas.{rooted_is_finished}
-use Rattle.laws_links.proofs.InductionLemmas.{sound_behind}
+use Rattle.laws_links.proofs.InductionLemmas.{sound_after}
 use Rattle.laws_links.specs.Linking.{IsFinished}
 use Rattle.ist_core.specs.Authors.{Later, whose}
 use Rattle.ist_core.specs.Shown.{IsShown}
@@ -121,7 +121,7 @@ module _ (pairs : List Pair) (words : ℕ) (opens : CanOpen pairs words) {earlie
             (λ n. IsRoot (with_inners u.pieces rows) word can.k can.leaves n (bases_of rows))
             (sym it.2.target)
             (root_put t.pieces u.pieces rows leaf_later
-            (held_free t caller rows (sound_behind pairs words earlier before) can.held)
+            (held_free t caller rows (sound_after pairs words earlier before) can.held)
             word can.k can.leaves can.row.target can.root);
         once = can.once;
         held = rows_later pairs words caller later h rows can.held;
@@ -204,7 +204,7 @@ module _ (pairs : List Pair) (words : ℕ) (opens : CanOpen pairs words) {earlie
         ref = can.ref;
         ref_is = can.ref_is;
         ideal = ideal_put t.pieces u.pieces rows leaf_later
-            (held_free t caller rows (sound_behind pairs words earlier before) can.held)
+            (held_free t caller rows (sound_after pairs words earlier before) can.held)
             can.ref can.part can.root can.ideal;
         once = can.once;
         held = rows_later pairs words caller later h rows can.held;

@@ -20,7 +20,7 @@ use Rattle.ist_core.specs.StartLayout.{start}
 use Rattle.ist_core.specs.Statuses.{decided_yes, undecided}
 use Rattle.ist_core.proofs.GrowingLemmas.{change_there}
 use Rattle.ist_core.proofs.RowLemmas.{changed_at-same}
-use Rattle.laws_links.proofs.InductionLemmas.{grow_behind}
+use Rattle.laws_links.proofs.InductionLemmas.{grow_after}
 use Rattle.laws_stability.specs.Meanwhile.{NoneAccepted}
 use Rattle.ist_core.specs.Authors.{Later, whose, no_more, one_more}
 use Rattle.ist_core.proofs.CallerLemmas.{known_step}
@@ -136,14 +136,14 @@ module _ (pairs : List Pair) (words : ℕ) where
   yes_now log _ h base is = absurd is
 
   -- a change that was decided yes stays so
-  yes_behind : (log : Log) → EachEnabled (start pairs words) log → (base : ℕ)
+  yes_after : (log : Log) → EachEnabled (start pairs words) log → (base : ℕ)
       → Happened (Decides base true) log → IsYes (state_of pairs words log) base
-  yes_behind [] h base is = absurd is
-  yes_behind (event ∷ log) h base (inl now) = yes_now log event h base now
-  yes_behind (event ∷ log) h base (inr old) =
+  yes_after [] h base is = absurd is
+  yes_after (event ∷ log) h base (inl now) = yes_now log event h base now
+  yes_after (event ∷ log) h base (inr old) =
       yes_grows (state_of pairs words log) (state_of pairs words (event ∷ log))
-      (grow_behind pairs words log event h)
-      base (yes_behind log h.0 base old)
+      (grow_after pairs words log event h)
+      base (yes_after log h.0 base old)
 
   module _ (caller : ℕ) where
     -- if another's event says yes to an update of the caller, the update was pending when others
@@ -158,7 +158,7 @@ module _ (pairs : List Pair) (words : ℕ) where
         h.1.pending.published in
         let same : blank x ≡ blank up.change =
         blank_same (state_of pairs words log) (state_of pairs words (Decide c base true ∷ log))
-        (grow_behind pairs words log (Decide c base true) h) base x up.change there up.published in
+        (grow_after pairs words log (Decide c base true) h) base x up.change there up.published in
         let owner : x.owner ≡ caller = ap (λ y. y.owner) same ∙ up.owned in
         let was : Was (state_of pairs words earlier) (state_of pairs words log) base x =
         own_was pairs words caller later h.0 base x there owner in
@@ -187,7 +187,7 @@ module _ (pairs : List Pair) (words : ℕ) where
     count_step log event h other none node can =
         let t = state_of pairs words log in
         let u = state_of pairs words (event ∷ log) in
-        let g = grow_behind pairs words log event h in
+        let g = grow_after pairs words log event h in
         let it = change_there t.pieces u.pieces g can.base can.update.change can.update.published in
         record {
           known = known_step (start pairs words) log event caller can.known;
@@ -201,7 +201,7 @@ module _ (pairs : List Pair) (words : ℕ) where
               ⊎_elim none
               (λ old. can.last (happened_back t u caller can.later
               (λ b d up. update_was t u g caller b
-              (yes_behind log h.0 b (subst (Happened (Decides b true)) (sym can.log_is)
+              (yes_after log h.0 b (subst (Happened (Decides b true)) (sym can.log_is)
               (happened_left (Decides b true) can.later
               (Decide can.by can.base true ∷ can.earlier) d))) up)
               old))
@@ -225,6 +225,6 @@ module _ (pairs : List Pair) (words : ℕ) where
         (count_stays later h.0 node can
         (λ base old new pending own update e yes.
         let now = yes_grows (state_of pairs words log) (state_of pairs words (event ∷ log))
-        (grow_behind pairs words log event h) base
+        (grow_after pairs words log event h) base
         record { change = new; published = e; decision = yes } in
         none base old now.change pending own update now.published now.decision))

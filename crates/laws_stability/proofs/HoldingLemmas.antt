@@ -22,7 +22,7 @@ use Rattle.ist_core.specs.StartLayout.{start}
 use Rattle.ist_core.proofs.ElementLemmas.{among-filter, among_filter, each-among}
 use Rattle.ist_core.proofs.MoveLemmas.{HeldLieApart}
 use Rattle.ist_core.proofs.PublishingLemmas.{among_bases, row_among}
-use Rattle.laws_links.proofs.InductionLemmas.{sound_behind}
+use Rattle.laws_links.proofs.InductionLemmas.{sound_after}
 use Rattle.ist_core.specs.Authors.{Later, whose, no_more, one_more}
 
 -- ---- who holds a held row
@@ -140,7 +140,7 @@ module _ (pairs : List Pair) (words : ℕ) (number : ℕ) where
       ≡ filter (λ h. h.caller == number) (state_of pairs words earlier).held
   own_later no_more h = refl
   own_later (one_more {log = log} event later other) h =
-      own_step (start pairs words) log event h.1 (sound_behind pairs words log h.0) number other
+      own_step (start pairs words) log event h.1 (sound_after pairs words log h.0) number other
       ∙ own_later later h.0
 
   -- the sizes that a caller holds stay

@@ -6,7 +6,7 @@ use Rattle.ist_core.specs.declared.states.InnerRow.{InnerRow}
 use Rattle.ist_core.specs.Growing.{AllGrow}
 use Rattle.ist_core.specs.Lawful.{EachEnabled, state_of}
 use Rattle.ist_core.specs.Logs.{GoesOn, Log, Passes}
-use Rattle.ist_core.specs.Marking.{CanFinish, CanMark, CanPass, IsCalled, as_child, as_target, behind_rebuild}
+use Rattle.ist_core.specs.Marking.{CanFinish, CanMark, CanPass, IsCalled, as_child, as_target, after_rebuild}
 use Rattle.ist_core.specs.Pieces.{Inner}
 use Rattle.ist_core.specs.Slots.{in_row}
 use Rattle.ist_core.specs.Snapshots.{Snapshot}
@@ -31,8 +31,8 @@ called_later t u g on node (as_target rebuild has started) =
     as_target rebuild (target_grows t u g rebuild node has) (started_grows t u g rebuild started)
 called_later t u g on node (as_child above i word passed is) =
     as_child above i word (happened_later (Passes above i word) on passed) is
-called_later t u g on node (behind_rebuild above i word rebuild passed is has) =
-    behind_rebuild above i word rebuild (happened_later (Passes above i word) on passed) is
+called_later t u g on node (after_rebuild above i word rebuild passed is has) =
+    after_rebuild above i word rebuild (happened_later (Passes above i word) on passed) is
     (target_grows t u g rebuild node has)
 
 module _ (pairs : List Pair) (words : ℕ) (earlier log : Log) (on : GoesOn earlier log)

@@ -42,5 +42,5 @@ pub installing : (earlier at log : Log) (caller base : ℕ) (rows : List Row) �
     → GoesOn (Install caller base rows ∷ at) log → progress earlier < progress log
 installing earlier at log caller base rows g more =
     let before = never_falls earlier at g in
-    let behind = never_falls (Install caller base rows ∷ at) log more in
+    let following = never_falls (Install caller base rows ∷ at) log more in
     omega arith

@@ -18,7 +18,7 @@ use Rattle.ist_core.proofs.ReferenceLemmas.{ref_of-unset}
 use Rattle.ist_core.proofs.SlotStepLemmas.{WritesSlot, WritesNoSlot, install_writes, place_writes, resolve_writes, slot_stays}
 use Rattle.laws_links.proofs.FormLemmas.{IsFormed, of_finish, of_leaf_put, of_pair_put, of_remove, of_start}
 use Rattle.laws_links.proofs.FormedLemmas.{changes_are_formed}
-use Rattle.laws_links.proofs.InductionLemmas.{sound_behind}
+use Rattle.laws_links.proofs.InductionLemmas.{sound_after}
 
 -- a word that reads as anything but Unset isn't Unset
 pub set_by : (word : ℕ) (ref : Ref) → ref_of word ≡ Some ref → ref ≢ Unset → word ≢ unset_word
@@ -95,7 +95,7 @@ module _ (pairs : List Pair) (words : ℕ) (opens : CanOpen pairs words) where
       record {
         word = s.word;
         holds = slot_stays (start pairs words) log event h.1
-            (sound_behind pairs words log h.0) none node i s.word s.holds;
+            (sound_after pairs words log h.0) none node i s.word s.holds;
         set = s.set;
       }
 
@@ -107,7 +107,7 @@ module _ (pairs : List Pair) (words : ℕ) (opens : CanOpen pairs words) where
       set_written _ _ node i h.1.change.node h.1.change.index
       (word_of (ChangeAt base)) h.1.change.from
       (install_writes (start pairs words) log caller base rows h.1
-      (sound_behind pairs words log h.0) (anchor_free pairs words log h.0))
+      (sound_after pairs words log h.0) (anchor_free pairs words log h.0))
       (change_set base) s
   set_step log (Resolve caller base) h node i s =
       set_written _ _ node i h.1.change.node h.1.change.index (side_of h.1.change)
@@ -118,7 +118,7 @@ module _ (pairs : List Pair) (words : ℕ) (opens : CanOpen pairs words) where
   set_step log (Place caller rebuild j word rows) h node i s =
       set_filled _ _ node i h.1.root j word
       (place_writes (state_of pairs words log) caller rebuild j word rows h.1
-      (sound_behind pairs words log h.0) (anchor_free pairs words log h.0)) s
+      (sound_after pairs words log h.0) (anchor_free pairs words log h.0)) s
   set_step log event h node i s = quiet log event h tt node i s
 
   -- a set slot stays set

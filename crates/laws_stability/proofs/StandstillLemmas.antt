@@ -8,7 +8,7 @@ use Rattle.ist_core.specs.declared.states.InnerRow.{InnerRow}
 use Rattle.ist_core.specs.Lawful.{CanOpen, EachEnabled, state_of}
 use Rattle.ist_core.specs.Links.{IsChild, Linked, below}
 use Rattle.ist_core.specs.Logs.{GoesOn, Log, one_event, same_log}
-use Rattle.ist_core.specs.Marking.{IsCalled, as_child, as_target, behind_rebuild}
+use Rattle.ist_core.specs.Marking.{IsCalled, as_child, as_target, after_rebuild}
 use Rattle.ist_core.specs.Pieces.{Inner}
 use Rattle.ist_core.specs.References.{InnerAt, RebuildAt, Ref, ref_of, unset_word}
 use Rattle.ist_core.specs.Slots.{IsOpen, SlotHolds, anchor_is, past_change, past_rebuild, rebuild_reads, row_is}
@@ -25,7 +25,7 @@ use Rattle.ist_core.proofs.PlaceLemmas.{anchor_free}
 use Rattle.ist_core.proofs.SlotLemmas.{same_inner, slot_once}
 use Rattle.ist_core.proofs.SlotStepLemmas.{place_writes, slot_stays}
 use Rattle.laws_links.proofs.ComesLemmas.{status_comes}
-use Rattle.laws_links.proofs.InductionLemmas.{grow_behind, sound_behind}
+use Rattle.laws_links.proofs.InductionLemmas.{grow_after, sound_after}
 use Rattle.laws_links.proofs.OriginLemmas.{StatusComes, finished_now, is_new, marked_now, status_was}
 use Rattle.laws_links.proofs.CalledLemmas.{closed_is_called}
 use Rattle.laws_links.proofs.ReplacedLemmas.{replaced_unlinked, target_named}
@@ -50,10 +50,10 @@ module _ (pairs : List Pair) (words : ℕ) (opens : CanOpen pairs words) where
   slot_step log (Resolve c d) h none node i word set here = absurd (omega arith)
   slot_step log (Place c o j w rows) h none node i word set here =
       ⊎_elim (λ k. absurd (set k.0)) (λ stays. stays)
-      ((place_writes (state_of pairs words log) c o j w rows h.1 (sound_behind pairs words log h.0)
+      ((place_writes (state_of pairs words log) c o j w rows h.1 (sound_after pairs words log h.0)
       (anchor_free pairs words log h.0)).others node i word here)
   slot_step log event h none node i word set here =
-      slot_stays (start pairs words) log event h.1 (sound_behind pairs words log h.0) tt node i
+      slot_stays (start pairs words) log event h.1 (sound_after pairs words log h.0) tt node i
       word here
 
   status_step : (log : Log) (event : Event) (node status : ℕ) (r : InnerRow) → advance_by event ≡ 0
@@ -75,7 +75,7 @@ module _ (pairs : List Pair) (words : ℕ) (opens : CanOpen pairs words) where
   open_step log event h none node (anchor_is a) = anchor_is a
   open_step log event h none node (row_is r e is) =
       let there = inner_there (state_of pairs words log).pieces
-      (state_of pairs words (event ∷ log)).pieces (grow_behind pairs words log event h) node r e in
+      (state_of pairs words (event ∷ log)).pieces (grow_after pairs words log event h) node r e in
       row_is there.0 there.1
       (status_step log event node there.0.status r none e is
       (status_comes pairs words log event h node there.0 there.1))
@@ -139,7 +139,7 @@ module _ (pairs : List Pair) (words : ℕ) (opens : CanOpen pairs words) where
         (started_reads pairs words opens log h rebuild target.row target.published started)
     uncalled (as_child above j w p leads) =
         passed_closed pairs words opens log h node i child above j w named p (ap (past_rebuild t.pieces) leads) is
-    uncalled (behind_rebuild above j w rebuild p leads target) =
+    uncalled (after_rebuild above j w rebuild p leads target) =
         passed_closed pairs words opens log h node i child above j w named p
         (ap (past_rebuild t.pieces) leads ∙ ap rebuild_reads target.published ∙ ap (λ n. Some (InnerAt n)) target.target_is) is
 

@@ -65,13 +65,13 @@ pub fn read_log(alloc: Global, text: &[u8]) -> Result<Reading, AllocError>
         None => Ok(bad_line(0, Fault::NoStart)),
         Some((start, first)) => match read_start(alloc, first)? {
             Err(fault) => Ok(bad_line(start, fault)),
-            Ok(log) => read_behind(alloc, text, start, log),
+            Ok(log) => read_after(alloc, text, start, log),
         },
     }
 }
 
 /// Reads the events after the start, which is the line with this number, and completes the log.
-fn read_behind(alloc: Global, text: &[u8], start: usize, log: Log) -> Result<Reading, AllocError>
+fn read_after(alloc: Global, text: &[u8], start: usize, log: Log) -> Result<Reading, AllocError>
     requires opens { LogOpens log }
     ensures opens { IfOk result Opens }
 {

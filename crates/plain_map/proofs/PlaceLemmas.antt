@@ -72,9 +72,9 @@ module _ (pairs : List Pair) (rising : IsRising pairs) (key at : ℕ) (here : Is
       omega (arith, key_at-rises pairs rising j at before here.within, here.has_key)
 
   -- and the keys after it are above
-  none_behind : (j : ℕ) → at < j → j < length pairs → key_at pairs j ≢ key
-  none_behind j behind within same =
-      omega (arith, key_at-rises pairs rising at j behind within, here.has_key)
+  none_after : (j : ℕ) → at < j → j < length pairs → key_at pairs j ≢ key
+  none_after j following within same =
+      omega (arith, key_at-rises pairs rising at j following within, here.has_key)
 
   -- the key has the value at its place
   pub get_at : fin.get (map_of pairs) key ≡ Some (get_or pairs at no_pair).value
@@ -95,7 +95,7 @@ module _ (pairs : List Pair) (rising : IsRising pairs) (key at : ℕ) (here : Is
   -- without its pair the key is gone
   pub map_of-remove : map_of (remove pairs at) ≡ fin.remove (map_of pairs) key
   map_of-remove =
-      gone_from_values _ _ key (value_in-remove key pairs at here none_before none_behind)
+      gone_from_values _ _ key (value_in-remove key pairs at here none_before none_after)
 
   -- and the others keep their order
   pub rising_remove : IsRising (remove pairs at)
@@ -105,8 +105,8 @@ module _ (pairs : List Pair) (rising : IsRising pairs) (key at : ℕ) (here : Is
       λ i before. ap (λ (p : Pair). p.key)
       (get_or-remove_below pairs at no_pair i before here.within) in
       let right : (i : ℕ) → at ≤ i → key_at (remove pairs at) i ≡ key_at pairs (i + 1) =
-      λ i behind. ap (λ (p : Pair). p.key)
-      (get_or-remove_above pairs at no_pair i behind here.within) in
+      λ i following. ap (λ (p : Pair). p.key)
+      (get_or-remove_above pairs at no_pair i following here.within) in
       grind (
         arith,
         left i,
@@ -152,10 +152,10 @@ module _ (pairs : List Pair) (key at : ℕ) (gap : IsGapFor pairs key at) where
       λ i same. rw same
       (ap (λ (p : Pair). p.key) (get_or-insert_at pairs at p no_pair gap.within)) in
       let right : (i : ℕ) → at ≤ i → key_at (insert pairs at p) (i + 1) ≡ key_at pairs i =
-      λ i behind. ap (λ (p : Pair). p.key)
-      (get_or-insert_above pairs at p no_pair i behind gap.within) in
+      λ i following. ap (λ (p : Pair). p.key)
+      (get_or-insert_above pairs at p no_pair i following gap.within) in
       let before_right : at < i → key_at (insert pairs at p) i ≡ key_at pairs (i - 1) =
-      λ behind. subst (λ q. key_at (insert pairs at p) q ≡ key_at pairs (i - 1)) {x = i - 1 + 1}
+      λ following. subst (λ q. key_at (insert pairs at p) q ≡ key_at pairs (i - 1)) {x = i - 1 + 1}
       (omega arith) (right (i - 1) (omega arith)) in
       grind (
         arith,

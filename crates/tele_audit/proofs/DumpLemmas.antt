@@ -212,12 +212,12 @@ module _ (bytes : List ℕ) (head : IsGoodHead bytes)
 
   module _ (zeros : ZerosChangeNothing) where
     -- zeros after the used words
-    behind : ((pairs : List Pair) → AreLawful (words_told bytes) pairs
+    following : ((pairs : List Pair) → AreLawful (words_told bytes) pairs
         → AreLawful (table_told bytes) pairs)
         × ((place : ℕ)
         → BreaksFirstAt (words_told bytes) [] (first_visit (words_told bytes) ∷ []) place
         → BreaksFirstAt (table_told bytes) [] (first_visit (table_told bytes) ∷ []) place)
-    behind =
+    following =
         let l = length_told in
         let u = head.used in
         let c = head.count in
@@ -233,7 +233,7 @@ module _ (bytes : List ℕ) (head : IsGoodHead bytes)
         record {
           table = table_told bytes;
           fit = fit_zeros (words_told bytes) (count_told bytes - used_told bytes) fit;
-          lawful = behind.0 told.pairs lawful;
+          lawful = following.0 told.pairs lawful;
           dumped = dumped_table are;
           words = count ∙ sym length_table;
           used = used ∙ sym first_table;
@@ -247,5 +247,5 @@ module _ (bytes : List ℕ) (head : IsGoodHead bytes)
     told_broken open_anchor h l place first =
         record {
           before = none_before bytes h l open_anchor;
-          breaks = behind.1 place first;
+          breaks = following.1 place first;
         }

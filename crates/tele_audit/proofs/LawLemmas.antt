@@ -53,14 +53,14 @@ module _ (table : List ℕ) (bounds : HasGoodBounds table)
   length_ws =
       let high = bounds.high in length-take-le (word_at table next_place) table (omega arith)
 
-  behind_magic : drop 8 (dump_of table)
+  after_magic : drop 8 (dump_of table)
       ≡ number_bytes (length table) ++ flat_map number_bytes (used_words table)
-  behind_magic =
+  after_magic =
       drop_at magic (number_bytes (length table) ++ flat_map number_bytes (used_words table)) 8 refl
 
-  behind_count : drop 16 (dump_of table) ≡ flat_map number_bytes (used_words table)
-  behind_count =
-      sym (drop-drop 8 8 (dump_of table)) ∙ ap (drop 8) behind_magic
+  after_count : drop 16 (dump_of table) ≡ flat_map number_bytes (used_words table)
+  after_count =
+      sym (drop-drop 8 8 (dump_of table)) ∙ ap (drop 8) after_magic
       ∙ drop_at (number_bytes (length table)) (flat_map number_bytes (used_words table)) 8
       (length-number_bytes (length table))
 
@@ -68,7 +68,7 @@ module _ (table : List ℕ) (bounds : HasGoodBounds table)
   pub count_back : count_told (dump_of table) ≡ length table
   count_back =
       let most = bounds.most in
-      ap number_encoded behind_magic
+      ap number_encoded after_magic
       ∙ number_encoded-number_bytes (length table) (flat_map number_bytes (used_words table)) (omega arith)
 
   fit_used : (i : ℕ) → get_or (used_words table) i 0 < 2 ^ 64
@@ -86,7 +86,7 @@ module _ (table : List ℕ) (bounds : HasGoodBounds table)
   used_back =
       let low = bounds.low in
       let l = length_ws in
-      ap number_encoded behind_count
+      ap number_encoded after_count
       ∙ sym (get_or_numbers_in (length (used_words table)) (flat_map number_bytes (used_words table))
       0 (omega arith))
       ∙ ap (λ xs. get_or xs 0 0) numbers_back
@@ -96,7 +96,7 @@ module _ (table : List ℕ) (bounds : HasGoodBounds table)
   pub words_back : words_told (dump_of table) ≡ used_words table
   words_back =
       ap (λ n. numbers_in n (drop 16 (dump_of table))) (used_back ∙ sym length_ws)
-      ∙ ap (numbers_in (length (used_words table))) behind_count
+      ∙ ap (numbers_in (length (used_words table))) after_count
       ∙ numbers_back
 
   rest_back : drop (word_at table next_place) table

@@ -34,7 +34,7 @@ use Rattle.tele_audit.specs.declared.jobs.Job.TheVariants.{Pack, Tell}
 use Rattle.tele_audit.specs.declared.jobs.Question.TheVariants.{Between}
 use Rattle.tele_audit.specs.declared.outcomes.TheConstants.{DONE}
 use Rattle.tele_audit.specs.Dumps.{DumpContent, IsLawfulDump}
-use Rattle.tele_audit.specs.Packing.{Left, Holds, Refuses, behind_lines, left_by, IsNewTable}
+use Rattle.tele_audit.specs.Packing.{Left, Holds, Refuses, after_lines, left_by, IsNewTable}
 use Rattle.tele_audit.specs.Runs.{IsPacked, IsOwed}
 use Rattle.tele_audit.proofs.LawLemmas.{one_told, no_flaw}
 
@@ -54,7 +54,7 @@ pub record IsPackedSoFar (bytes : List ℕ) (m : Map) (place : Place) (unread : 
     : Type 0 where
   pub rest : List ℕ
   pub leaves : unread ≡ Some rest
-  pub same : behind_lines m (read_at place (lines_of rest)) ≡ left_by bytes
+  pub same : after_lines m (read_at place (lines_of rest)) ≡ left_by bytes
 
 -- before the first line
 abbrev pub first_place : Place
@@ -105,7 +105,7 @@ module _ (m : Map) (old : Place) (unread : Option (List ℕ)) where
       → IfSome unread
       (λ bytes. GoesTo old new ended (Good number version item ∷ []) bytes later)
       → ((number : ℕ) (version : Version) (lines : List Read)
-      → behind_lines m (Good number version item ∷ lines) ≡ behind_lines then_m lines)
+      → after_lines m (Good number version item ∷ lines) ≡ after_lines then_m lines)
       → IfSome left (λ bytes. IsPackedSoFar bytes then_m new later)
   way_on None later then_m new ended number version item way goes taken = tt
   way_on (Some bytes) later then_m new ended number version item way goes taken =
@@ -117,7 +117,7 @@ module _ (m : Map) (old : Place) (unread : Option (List ℕ)) where
         rest = next.rest;
         leaves = next.left;
         same = sym (taken number version (read_at new (lines_of next.rest)))
-            ∙ ap (behind_lines m) (sym next.reads) ∙ way.same;
+            ∙ ap (after_lines m) (sym next.reads) ∙ way.same;
       }
 
   -- a line was taken into the map
@@ -128,7 +128,7 @@ module _ (m : Map) (old : Place) (unread : Option (List ℕ)) where
       → (old.count < number) × (new.count ≡ number)
       → new.count ≤ new.limit → new.limit ≡ old.limit
       → ((number : ℕ) (version : Version) (lines : List Read)
-      → behind_lines m (Good number version item ∷ lines) ≡ behind_lines then_m lines)
+      → after_lines m (Good number version item ∷ lines) ≡ after_lines then_m lines)
       → fin.len then_m ≤ fin.len m + 1 → HasGathered left then_m new later
   line_gathered left later then_m new ended number version item before goes counts high limit taken
       few = record {
@@ -148,7 +148,7 @@ module _ (m : Map) (old : Place) (unread : Option (List ℕ)) where
       let here : read_at old (lines_of way.rest) ≡ Bad number cause ∷ [] =
       subst (λ u. IfSome u (λ bytes. read_at old (lines_of bytes) ≡ Bad number cause ∷ [])) way.leaves
       bad in
-      sym way.same ∙ ap (behind_lines m) here
+      sym way.same ∙ ap (after_lines m) here
 
 -- ---- new tables
 

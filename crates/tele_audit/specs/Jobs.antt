@@ -25,14 +25,14 @@ job_between word first last =
 
 -- what the arguments after the program's name ask for: `pack`, `check`, or `list` and two numerals
 -- below 2 ^ 64; any others are wrong
-abbrev pub job_behind : List (List ℕ) → Job
-job_behind [] = Refuse
-job_behind (word ∷ []) = job_named word
-job_behind (word ∷ first ∷ []) = Refuse
-job_behind (word ∷ first ∷ last ∷ []) = job_between word first last
-job_behind (word ∷ first ∷ last ∷ more ∷ words) = Refuse
+abbrev pub job_after : List (List ℕ) → Job
+job_after [] = Refuse
+job_after (word ∷ []) = job_named word
+job_after (word ∷ first ∷ []) = Refuse
+job_after (word ∷ first ∷ last ∷ []) = job_between word first last
+job_after (word ∷ first ∷ last ∷ more ∷ words) = Refuse
 
 -- what a command line asks for; its first argument is the program's name
 abbrev pub audit_job : List (List ℕ) → Job
 audit_job [] = Refuse
-audit_job (name ∷ words) = job_behind words
+audit_job (name ∷ words) = job_after words

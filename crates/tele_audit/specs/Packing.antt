@@ -18,16 +18,16 @@ pub data Left : Type 0 where
   Refuses : ℕ → Cause → Left
 
 -- what some lines leave of a map: point lines are carried out, interval lines are skipped
-abbrev pub behind_lines : Map → List Read → Left
-behind_lines m [] = Holds m
-behind_lines m (Good number version (Point command) ∷ lines) =
-    behind_lines (map_after m command) lines
-behind_lines m (Good number version (Interval first last) ∷ lines) = behind_lines m lines
-behind_lines m (Bad number cause ∷ lines) = Refuses number cause
+abbrev pub after_lines : Map → List Read → Left
+after_lines m [] = Holds m
+after_lines m (Good number version (Point command) ∷ lines) =
+    after_lines (map_after m command) lines
+after_lines m (Good number version (Interval first last) ∷ lines) = after_lines m lines
+after_lines m (Bad number cause ∷ lines) = Refuses number cause
 
 -- what an input leaves of the empty map
 abbrev pub left_by : List ℕ → Left
-left_by bytes = behind_lines no_pairs (input_lines (lines_of bytes))
+left_by bytes = after_lines no_pairs (input_lines (lines_of bytes))
 
 -- the words are those of a new table of these pairs, exactly as many as their ideal tree needs
 pub record IsNewTable (m : Map) (words : List ℕ) : Type 0 where

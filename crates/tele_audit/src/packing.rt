@@ -7,7 +7,7 @@ ghost use Rattle.tele_lines.specs.declared.items.Version.{Version};
 ghost use Rattle.tele_lines.specs.Answer.{Read, Good};
 ghost use Rattle.tele_audit.specs.declared.jobs.Job.TheVariants as job;
 ghost use Rattle.tele_audit.specs.Dumps.{AreLawfulWords, dump_of};
-ghost use Rattle.tele_audit.specs.Packing.{Holds, Refuses, behind_lines, left_by, IsNewTable};
+ghost use Rattle.tele_audit.specs.Packing.{Holds, Refuses, after_lines, left_by, IsNewTable};
 ghost use Rattle.tele_audit.specs.Runs.{Writes, WritesPart, IsWrittenWhole};
 
 use crate::dumps::write_dump;
@@ -39,8 +39,8 @@ enum Unpacked {
 /// Applies a line to the map: a point line is carried out, an interval line changes nothing.
 fn take(plain: &mut Plain, item: Item) -> Result<(), AllocError>
     ensures taken { OnOk result ((number : ℕ) (version : Version) (lines : List Read) →
-        behind_lines (map_of plain.old) (Good number version item ∷ lines)
-        ≡ behind_lines (map_of plain.new) lines) }
+        after_lines (map_of plain.old) (Good number version item ∷ lines)
+        ≡ after_lines (map_of plain.new) lines) }
     ensures few { OnOk result (fin.len (map_of plain.new) ≤ fin.len (map_of plain.old) + 1) }
 {
     match item {

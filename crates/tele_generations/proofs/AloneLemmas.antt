@@ -8,7 +8,7 @@ use Rattle.std.proofs.lemmas.List.{length-map}
 use Rattle.ist_core.specs.declared.calls.Call.{Call}
 use Rattle.ist_core.specs.Map.{Map, key_of, map_after, reply_to}
 use Rattle.ist_core.specs.Elements.{Among, Each}
-use Rattle.ist_core.specs.Changes.{Entry, map_behind}
+use Rattle.ist_core.specs.Changes.{Entry, map_after_entries}
 use Rattle.ist_core.specs.Standing.{is_change, entry_by, entries_by}
 use Rattle.ist_core.specs.Histories.{IsLegal}
 use Rattle.ist_core.specs.Resting.{told_by_call}
@@ -17,8 +17,8 @@ use Rattle.laws_histories.proofs.MapLemmas.{same_head, same_tail, same_cons, map
 use Rattle.laws_histories.proofs.MapLemmas.{no_entry_leaves}
 use Rattle.tele_lanes.specs.Lanes.{lane_of}
 use Rattle.tele_lanes.proofs.AloneLemmas.{Agree, get-map_after_same, get-map_after_other}
-use Rattle.tele_generations.proofs.StandLemmas.{StandFrom, stand_rest, stand_behind, all_behind}
-use Rattle.tele_generations.proofs.StandLemmas.{rest_behind, first_made, own_entry, other_entry, TestsAs}
+use Rattle.tele_generations.proofs.StandLemmas.{StandFrom, stand_rest, stand_after, all_after}
+use Rattle.tele_generations.proofs.StandLemmas.{rest_after, first_made, own_entry, other_entry, TestsAs}
 use Rattle.tele_generations.proofs.StandLemmas.{few_none, changing_few}
 
 -- the calls of the lane belong to the entries, in which each owner keeps to its lane; and `n` has
@@ -39,7 +39,7 @@ OfLane workers number calls = Each (λ c. lane_of workers c.command ≡ number) 
 pub record IsAlone (workers number : ℕ) (m n : Map) (es : List Entry)
     (calls : List Call) : Type 0 where
   pub legal : IsLegal n (map told_by_call calls)
-  pub agree : Agree workers number (map_behind m es) (map_told n (map told_by_call calls))
+  pub agree : Agree workers number (map_after_entries m es) (map_told n (map told_by_call calls))
 
 -- a reading before calls that are answered as if alone
 reading_alone : (workers number : ℕ) (m n : Map) (es : List Entry) (call : Call)
@@ -52,7 +52,7 @@ reading_alone workers number m n es call calls reply plain a =
     record {
       legal = same_cons _ _ _ _ (sym reply)
           (subst (λ k. IsLegal k (map told_by_call calls)) (sym leaves) a.legal);
-      agree = subst (λ k. Agree workers number (map_behind m es)
+      agree = subst (λ k. Agree workers number (map_after_entries m es)
           (map_told k (map told_by_call calls)))
           (sym leaves) a.agree;
     }
@@ -120,19 +120,19 @@ module _ (workers number : ℕ) (m : Map) (from : ℕ) where
   unfolding Later
   alone_skip e es later n calls x kept high = at (eqb_tells e.owner number)
     where
-      behind : StandFrom (map_after m e.command) es number (from + 1) calls
-      behind = stand_behind m e es number from calls x.stand high
+      following : StandFrom (map_after m e.command) es number (from + 1) calls
+      following = stand_after m e es number from calls x.stand high
 
       at : TestsAs e.owner number → IsAlone workers number m n (e ∷ es) calls
       at (inl own) =
-          let few = changing_few number es (map_after m e.command) (from + 1) calls behind in
+          let few = changing_few number es (map_after m e.command) (from + 1) calls following in
           let long = ap length (own_entry number e es own.1) in
           let all = ap length x.exactly in
           let same = length-map (filter is_change calls) (entry_by number) in
           absurd (omega arith)
       at (inr other) =
           let a = later n calls record {
-            stand = behind;
+            stand = following;
             exactly = sym (other_entry number e es other.1) ∙ x.exactly;
             legal = same_tail _ _ _ _ x.legal;
             lanes = x.lanes.1;
@@ -156,8 +156,8 @@ module _ (workers number : ℕ) (m : Map) (from : ℕ) where
       let same : filter is_change (call ∷ calls)
       ≡ call ∷ filter is_change calls = rw changes refl in
       let a = later (map_after n call.command) calls record {
-        stand = stand_behind m e es number from calls rest
-            (rest_behind m (e ∷ es) number from call calls x.stand changes);
+        stand = stand_after m e es number from calls rest
+            (rest_after m (e ∷ es) number from call calls x.stand changes);
         exactly = entries_tail
             (sym (own_entry number e es refl) ∙ x.exactly ∙ ap (map (entry_by number)) same);
         legal = same_tail _ _ _ _ x.legal;
@@ -188,7 +188,7 @@ module _ (workers number : ℕ) (m : Map) (from : ℕ) where
           → IsAlone workers number m n (e ∷ es) (call ∷ calls)
       at (inr differ) v c rest =
           alone_skip e es later n (call ∷ calls) x kept
-          (all_behind m (e ∷ es) number from call calls x.stand differ.1)
+          (all_after m (e ∷ es) number from call calls x.stand differ.1)
       at (inl same) false c rest =
           reading_alone workers number m n (e ∷ es) call calls
           (reading_first workers number m n (e ∷ es) from call calls x kept.0 c same.1) c

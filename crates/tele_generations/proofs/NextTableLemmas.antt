@@ -26,8 +26,8 @@ use Rattle.tele_generations.specs.Tables.{RanOnTable, HasPairs}
 use Rattle.tele_generations.specs.Ways.{Rests, IsOnItsWay}
 use Rattle.tele_generations.specs.Ways.Rests.{stays, rests_one}
 use Rattle.tele_generations.proofs.TableLemmas.{no_length, table_map, turn, leaves, leads}
-use Rattle.tele_generations.proofs.TableLemmas.{answered_long, behind_is}
-use Rattle.tele_generations.proofs.TableLemmas.{behind_map, behind_rises}
+use Rattle.tele_generations.proofs.TableLemmas.{answered_long, after_is}
+use Rattle.tele_generations.proofs.TableLemmas.{after_map, after_rises}
 
 -- before the first table
 pub way_begins : (workers : ℕ) (pairs : List Pair) (tasks : List Task) (words : ℕ) → 1 ≤ workers
@@ -63,8 +63,8 @@ not_none xs x e =
 module _ (workers words : ℕ) (now : List Pair) (left : List Task) (table : List ℕ)
     (more : List Answer) (rest : List Task) (full : Option Full)
     (r : RanOnTable workers words now left table more rest full) (some : 1 ≤ workers)
-    (up : IsStrictlyIncreasing (task_lines left)) (behind : List Pair)
-    (h : HasPairs table behind) where
+    (up : IsStrictlyIncreasing (task_lines left)) (following : List Pair)
+    (h : HasPairs table following) where
   -- the result of a turn of lanes followed by one at rest
   pub record TurnEnds (given : List Answer) (after : List Task) (later : List Pair) : Type 0 where
     pub way : IsUnderWay (map_of now) left given after (map_of later)
@@ -75,20 +75,20 @@ module _ (workers words : ℕ) (now : List Pair) (left : List Task) (table : Lis
     pub some_given : 0 < length given
 
   -- the result if the lanes answered something
-  turn_stays : 0 < length more → TurnEnds more rest behind
+  turn_stays : 0 < length more → TurnEnds more rest following
   turn_stays given = record {
     way = subst (IsUnderWay (map_of now) left more rest)
-        (sym (behind_map workers words now left table more rest full r some up behind h))
+        (sym (after_map workers words now left table more rest full r some up following h))
         (turn workers words now left table more rest full r some up);
     rising = r.left_are.rising;
-    pairs_rise = behind_rises workers words now left table more rest full r some up behind h;
+    pairs_rise = after_rises workers words now left table more rest full r some up following h;
     suffixes = leaves workers words now left table more rest full r some up;
     hands = some_done
         (λ none.
         let long = answered_long workers words now left table more rest full r some up in
         let zero = ap length none in
         omega arith)
-        (behind_is workers words now left table more rest full r some up behind h
+        (after_is workers words now left table more rest full r some up following h
         ∙ ap pairs_of (sym (leads workers words now left table more rest full r some up)))
         r.left_are;
     some_given = given;
@@ -97,30 +97,30 @@ module _ (workers words : ℕ) (now : List Pair) (left : List Task) (table : Lis
   -- the result if they answered nothing, and one thread answered the first line
   turn_rests : (task : Task) (after : List Task) (later : List Pair) → length more ≡ 0
       → rest ≡ task ∷ after → IsRising later
-      → map_of later ≡ map_after (map_of behind) task.command
-      → TurnEnds (plain_answer (map_of behind) task ∷ []) after later
+      → map_of later ≡ map_after (map_of following) task.command
+      → TurnEnds (plain_answer (map_of following) task ∷ []) after later
   turn_rests task after later none first rise is =
       let m = table_map workers words now left table more rest full r some up in
       let order : TasksInLineOrder (left_of_runs r.runs) (task ∷ after)
       = subst (TasksInLineOrder (left_of_runs r.runs)) first r.left_are in
-      let lanes : IsUnderWay (map_of now) left [] (task ∷ after) (map_of behind)
+      let lanes : IsUnderWay (map_of now) left [] (task ∷ after) (map_of following)
       = subst (IsUnderWay (map_of now) left [] (task ∷ after))
-      (sym (behind_map workers words now left table more rest full r some up behind h))
+      (sym (after_map workers words now left table more rest full r some up following h))
       (subst (λ xs. IsUnderWay (map_of now) left xs (task ∷ after) m) (no_length more none)
       (subst (λ ts. IsUnderWay (map_of now) left more ts m) first
       (turn workers words now left table more rest full r some up))) in
       let no_done : all_done r.runs ≡ [] = no_length (all_done r.runs)
       (answered_long workers words now left table more rest full r some up ∙ none) in
-      let same_map : map_of behind ≡ map_of now
-      = behind_map workers words now left table more rest full r some up behind h
+      let same_map : map_of following ≡ map_of now
+      = after_map workers words now left table more rest full r some up following h
       ∙ sym (leads workers words now left table more rest full r some up)
       ∙ ap (λ ts. replay (map_of now) (commands_of ts)) no_done in
       record {
-        way = round_goes_on (map_of now) (map_of behind) (map_of later) left (task ∷ after) after []
-            (plain_answer (map_of behind) task ∷ []) lanes
-            (subst (IsUnderWay (map_of behind) (task ∷ after)
-            (plain_answer (map_of behind) task ∷ []) after)
-            (sym is) (one_line (map_of behind) task after));
+        way = round_goes_on (map_of now) (map_of following) (map_of later) left (task ∷ after) after []
+            (plain_answer (map_of following) task ∷ []) lanes
+            (subst (IsUnderWay (map_of following) (task ∷ after)
+            (plain_answer (map_of following) task ∷ []) after)
+            (sym is) (one_line (map_of following) task after));
         rising = tail_rises task after order.rising;
         pairs_rise = rise;
         suffixes = suffixes_go_on workers left (task ∷ after) after
@@ -136,7 +136,7 @@ module _ (workers words : ℕ) (now : List Pair) (left : List Task) (table : Lis
 
   -- the result in both cases
   pub turn_ends : (given : List Answer) (after : List Task) (later : List Pair)
-      → Rests more rest behind given after later → TurnEnds given after later
+      → Rests more rest following given after later → TurnEnds given after later
   turn_ends given after later (stays some_more) = turn_stays some_more
   turn_ends given after later (rests_one task rest_is pairs_are none first rise is) =
       turn_rests task after later none first rise is

@@ -25,10 +25,10 @@ pub rests_first : (answers given : List Answer) (left rest : List Task) (pairs a
     → given ≡ answers ++ answer ∷ [] → answer ≡ plain_answer (map_of pairs) task
     → map_of after ≡ map_after (map_of pairs) task.command → IsRising after
     → Rests answers left pairs given rest after
-rests_first [] given left rest pairs after task answer none some first others are is behind rise =
+rests_first [] given left rest pairs after task answer none some first others are is following rise =
     subst (λ xs. Rests [] left pairs xs rest after) (sym (are ∙ ap (λ a. a ∷ []) is))
-    (rests_one task rest after none (first_of left task rest some first others) rise behind)
-rests_first (x ∷ xs) given left rest pairs after task answer none some first others are is behind
+    (rests_one task rest after none (first_of left task rest some first others) rise following)
+rests_first (x ∷ xs) given left rest pairs after task answer none some first others are is following
     rise = absurd (omega arith)
 
 -- no more keys come than tasks go

@@ -21,10 +21,10 @@ use Rattle.tele_generations.specs.Shelves.{IsShelved}
 use Rattle.tele_generations.specs.Rounds.{RanInGenerations, EndsTheRound}
 use Rattle.tele_generations.specs.declared.rests.Turn.{Turn}
 use Rattle.tele_generations.specs.declared.ways.Way.{Way}
-use Rattle.tele_generations.specs.Ways.{Rests, HasTables, IsOnItsWay, GoesOnBehind}
+use Rattle.tele_generations.specs.Ways.{Rests, HasTables, IsOnItsWay, GoesOnAfter}
 use Rattle.tele_generations.proofs.LeadLemmas.{tables_more, tables_end}
 use Rattle.tele_generations.proofs.TableLemmas.{asks_more, table_map, turn, puts_few, rest_some}
-use Rattle.tele_generations.proofs.TableLemmas.{rest_none, behind_rises, few_behind}
+use Rattle.tele_generations.proofs.TableLemmas.{rest_none, after_rises, few_following}
 use Rattle.tele_generations.proofs.NextTableLemmas.{turn_ends, way_more}
 
 module _ {workers words : ℕ} {pairs now : List Pair} {tasks left : List Task}
@@ -41,25 +41,25 @@ module _ {workers words : ℕ} {pairs now : List Pair} {tasks left : List Task}
   some_left full is =
       rest_some workers words now left table more rest ended r o.some o.rising full (ran_full full is)
 
-  module _ (behind : List Pair) (h : HasPairs table behind) where
+  module _ (following : List Pair) (h : HasPairs table following) where
     -- the pairs after the table are strictly increasing
-    pub behind_rise : IsRising behind
-    behind_rise = behind_rises workers words now left table more rest ended r o.some o.rising behind h
+    pub after_rise : IsRising following
+    after_rise = after_rises workers words now left table more rest ended r o.some o.rising following h
 
     -- there are no more pairs after the table, with what is left, than pairs and tasks at first
-    pub behind_few : length behind + length rest ≤ length pairs + length tasks
-    behind_few = few_behind workers words now left table more rest ended r o.some o.rising behind h
+    pub after_few : length following + length rest ≤ length pairs + length tasks
+    after_few = few_following workers words now left table more rest ended r o.some o.rising following h
         (length pairs + length tasks) o.opens.rising o.few
 
     -- the round goes on after the turn
     pub goes_on : (full : Full) (given : List Answer) (after : List Task) (later : List Pair)
         (next : ℕ)
-        → ended ≡ Some full → Rests more rest behind given after later
+        → ended ≡ Some full → Rests more rest following given after later
         → least_words (length later) ≤ next → next ≤ place_limit
         → IsOnItsWay workers pairs tasks (fulls ++ full ∷ []) (answers ++ given) later after next
     goes_on full given after later next is rests holds fits =
         let f = ran_full full is in
-        let ends = turn_ends workers words now left table more rest ended r o.some o.rising behind h
+        let ends = turn_ends workers words now left table more rest ended r o.some o.rising following h
         given after later rests in
         let few = o.few in
         let puts = puts_few workers words now left table more rest ended r o.some o.rising in
@@ -69,9 +69,9 @@ module _ {workers words : ℕ} {pairs now : List Pair} {tasks left : List Task}
 
     -- after the turn less is left
     pub less_left : (given : List Answer) (after : List Task) (later : List Pair)
-        → Rests more rest behind given after later → length after < length left
+        → Rests more rest following given after later → length after < length left
     less_left given after later rests =
-        let ends = turn_ends workers words now left table more rest ended r o.some o.rising behind h
+        let ends = turn_ends workers words now left table more rest ended r o.some o.rising following h
         given after later rests in
         let counted = tasks_counted (map_of now) (map_of later) left after given ends.way in
         let given_some = ends.some_given in
@@ -120,12 +120,12 @@ module _ {workers first words : ℕ} {pairs now : List Pair} {tasks left : List 
     (r : RanOnTable workers words now left table more rest ended) where
   -- if the table ran full, it is one more table on the shelf
   pub one_more_table : (full : Full) (after : Option (List (List ℕ))) → ended ≡ Some full
-      → (behind : List Pair) → HasPairs table behind → IsShelved middle (table ∷ []) after
+      → (following : List Pair) → HasPairs table following → IsShelved middle (table ∷ []) after
       → (given : List Answer) (later : List Pair) (rest_left : List Task) (next : ℕ)
-      → Rests more rest behind given rest_left later → next ≡ next_words words (length later)
+      → Rests more rest following given rest_left later → next ≡ next_words words (length later)
       → HasTables workers first pairs tasks before after (fulls ++ full ∷ []) later rest_left next
-  one_more_table full after is behind h kept given later rest_left next rests sized =
-      let ends = turn_ends workers words now left table more rest ended r o.some o.rising behind h
+  one_more_table full after is following h kept given later rest_left next rests sized =
+      let ends = turn_ends workers words now left table more rest ended r o.some o.rising following h
       given rest_left later rests in
       tables_more workers first pairs tasks before middle after fulls full now later left
       rest_left words next table r.runs t r.sized r.is
@@ -143,7 +143,7 @@ module _ {workers first words : ℕ} {pairs now : List Pair} {tasks left : List 
 -- the round goes on, and less is left
 pub way_goes_on : {workers : ℕ} {pairs : List Pair} {tasks : List Task} {way next : Way}
     {made : Turn} {full : Full} {table : List ℕ} {ended : Option Full}
-    → GoesOnBehind way made full next
+    → GoesOnAfter way made full next
     → IsOnItsWay workers pairs tasks way.fulls.items way.answers.items way.pairs.items
     way.left.items way.words
     → RanOnTable workers way.words way.pairs.items way.left.items table made.answers.items
@@ -170,7 +170,7 @@ way_goes_on {workers = workers} {pairs = pairs} {tasks = tasks} {way = way} {nex
 pub tables_go_on : {workers first : ℕ} {pairs : List Pair} {tasks : List Task}
     {before middle after : Option (List (List ℕ))} {way next : Way} {made : Turn} {full : Full}
     (table : List ℕ) {ended : Option Full}
-    → GoesOnBehind way made full next
+    → GoesOnAfter way made full next
     → HasTables workers first pairs tasks before middle way.fulls.items way.pairs.items
     way.left.items way.words
     → IsOnItsWay workers pairs tasks way.fulls.items way.answers.items way.pairs.items

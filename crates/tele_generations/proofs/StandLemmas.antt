@@ -8,7 +8,7 @@ use Rattle.ist_core.specs.declared.calls.Call.{Call}
 use Rattle.ist_core.specs.Map.{Map, map_after, reply_to}
 use Rattle.ist_core.specs.Elements.{Among}
 use Rattle.ist_core.specs.Changes.{Entry, map_at}
-use Rattle.ist_core.specs.Standing.{is_change, entry_by, entries_by, position_behind, Follows}
+use Rattle.ist_core.specs.Standing.{is_change, entry_by, entries_by, position_after, Follows}
 use Rattle.ist_core.specs.Standing.{AllFollow, StandAmong}
 use Rattle.ist_core.proofs.ElementLemmas.{each-among}
 
@@ -58,11 +58,11 @@ stand_rest m es number from call calls s =
     }
 
 -- calls after the first entry belong to the entries from the next one on
-pub stand_behind : (m : Map) (e : Entry) (es : List Entry) (number from : ℕ) (calls : List Call)
+pub stand_after : (m : Map) (e : Entry) (es : List Entry) (number from : ℕ) (calls : List Call)
     → StandFrom m (e ∷ es) number from calls
     → ((call : Call) → Among call calls → from + 1 ≤ call.position)
     → StandFrom (map_after m e.command) es number (from + 1) calls
-stand_behind m e es number from calls s high =
+stand_after m e es number from calls s high =
     record {
       low = high;
       made = λ c j i x is. s.made c (suc j) i x (omega arith);
@@ -72,18 +72,18 @@ stand_behind m e es number from calls s high =
     }
 
 -- if the first call comes after the first entry, all do
-pub all_behind : (m : Map) (es : List Entry) (number from : ℕ) (call : Call) (calls : List Call)
+pub all_after : (m : Map) (es : List Entry) (number from : ℕ) (call : Call) (calls : List Call)
     → StandFrom m es number from (call ∷ calls) → call.position ≢ from
     → (c : Call) → Among c (call ∷ calls) → from + 1 ≤ c.position
-all_behind m es number from call calls s differ c (inl e) =
+all_after m es number from call calls s differ c (inl e) =
     let low = s.low call (inl refl) in let same = ap (λ x. x.position) e in omega arith
-all_behind m es number from call calls s differ c (inr i) =
+all_after m es number from call calls s differ c (inr i) =
     let low = s.low call (inl refl) in
     let f = each-among (λ x. Follows call x) c calls s.order.0 i in
     let later = position_up call in
     let position = f.position in omega arith
   where
-    position_up : (x : Call) → x.position ≤ position_behind x
+    position_up : (x : Call) → x.position ≤ position_after x
     position_up x = at (is_change x)
       where
         at : (v : Bool) → x.position ≤ (if v then x.position + 1 else x.position)
@@ -91,13 +91,13 @@ all_behind m es number from call calls s differ c (inr i) =
         at false = omega arith
 
 -- after a call that makes the first entry, all come after that entry
-pub rest_behind : (m : Map) (es : List Entry) (number from : ℕ) (call : Call) (calls : List Call)
+pub rest_after : (m : Map) (es : List Entry) (number from : ℕ) (call : Call) (calls : List Call)
     → StandFrom m es number from (call ∷ calls) → is_change call ≡ true
     → (c : Call) → Among c calls → from + 1 ≤ c.position
-rest_behind m es number from call calls s changes c i =
+rest_after m es number from call calls s changes c i =
     let low = s.low call (inl refl) in
     let f = each-among (λ x. Follows call x) c calls s.order.0 i in
-    let behind : position_behind call ≡ call.position + 1 = rw changes refl in
+    let following : position_after call ≡ call.position + 1 = rw changes refl in
     let position = f.position in omega arith
 
 -- a call that changes the map, at the first entry, makes it
@@ -187,14 +187,14 @@ few_step number e es m from later (call ∷ calls) s =
         let first = first_made m e es number from call calls s c same.1 in
         let long = ap length (own_entry number e es (ap (λ x. x.owner) first)) in
         let few =
-        later calls (stand_behind m e es number from calls
+        later calls (stand_after m e es number from calls
         (stand_rest m (e ∷ es) number from call calls s)
-        (rest_behind m (e ∷ es) number from call calls s c)) in
+        (rest_after m (e ∷ es) number from call calls s c)) in
         omega arith
     at (inr differ) v c rest =
         let few =
-        later (call ∷ calls) (stand_behind m e es number from (call ∷ calls) s
-        (all_behind m (e ∷ es) number from call calls s differ.1)) in
+        later (call ∷ calls) (stand_after m e es number from (call ∷ calls) s
+        (all_after m (e ∷ es) number from call calls s differ.1)) in
         let more = entries_more number e es in
         let same : filter is_change (call ∷ calls) ≡
         (if v then call ∷ filter is_change calls else filter is_change calls) = rw c refl in

@@ -103,19 +103,19 @@ module _ (workers words : ℕ) (now : List Pair) (left : List Task) (table : Lis
       let two = both_long in
       omega arith
 
-  module _ (behind : List Pair) (h : HasPairs table behind) where
+  module _ (following : List Pair) (h : HasPairs table following) where
     -- the pairs after the table are the pairs of the map
-    pub behind_is : behind ≡ pairs_of table_map
-    behind_is = h now (told_of_runs r.runs) r.is.stands
+    pub after_is : following ≡ pairs_of table_map
+    after_is = h now (told_of_runs r.runs) r.is.stands
 
     -- the pairs after the table make the map
-    pub behind_map : map_of behind ≡ table_map
-    behind_map = ap map_of behind_is ∙ map_of-pairs_of table_map
+    pub after_map : map_of following ≡ table_map
+    after_map = ap map_of after_is ∙ map_of-pairs_of table_map
 
     -- the pairs after the table are strictly increasing
-    pub behind_rises : IsRising behind
-    behind_rises =
-        subst (λ ps. IsRising ps) (sym behind_is)
+    pub after_rises : IsRising following
+    after_rises =
+        subst (λ ps. IsRising ps) (sym after_is)
         (pairs_rise_at now (length table) r.is.stands.lawful.opens table_log
         r.is.stands.lawful.enabled)
 
@@ -137,16 +137,16 @@ module _ (workers words : ℕ) (now : List Pair) (left : List Task) (table : Lis
       no_length rest (omega arith)
 
 -- with what is left there are no more pairs after the table than there were pairs and tasks
-pub few_behind : (workers words : ℕ) (now : List Pair) (left : List Task) (table : List ℕ)
+pub few_following : (workers words : ℕ) (now : List Pair) (left : List Task) (table : List ℕ)
     (more : List Answer) (rest : List Task) (full : Option Full)
     (r : RanOnTable workers words now left table more rest full) (some : 1 ≤ workers)
-    (up : IsStrictlyIncreasing (task_lines left)) (behind : List Pair) (h : HasPairs table behind)
+    (up : IsStrictlyIncreasing (task_lines left)) (following : List Pair) (h : HasPairs table following)
     (most : ℕ) → IsRising now → length now + length left ≤ most
-    → length behind + length rest ≤ most
-few_behind workers words now left table more rest full r some up behind h most rise few =
+    → length following + length rest ≤ most
+few_following workers words now left table more rest full r some up following h most rise few =
     let way = turn workers words now left table more rest full r some up in
     let keys = way.few in
     let old = ap length (pairs_of-map_of now rise) in
     let new = ap length
-    (behind_is workers words now left table more rest full r some up behind h) in
+    (after_is workers words now left table more rest full r some up following h) in
     omega arith

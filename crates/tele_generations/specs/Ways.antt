@@ -75,7 +75,7 @@ pub record IsOnItsWay (workers : ℕ) (pairs : List Pair) (tasks : List Task) (f
   pub asked : All (λ full. MayAsk (length pairs + length tasks) full.asked) fulls
 
 -- the way goes on after a table that ran full: with a turn at rest and a next table
-pub record GoesOnBehind (way : Way) (turn : Turn) (full : Full) (next : Way) : Type 0 where
+pub record GoesOnAfter (way : Way) (turn : Turn) (full : Full) (next : Way) : Type 0 where
   pub more : List Answer
   pub rested : Rests turn.answers.items turn.left.items turn.pairs.items more next.left.items
       next.pairs.items

@@ -2,7 +2,7 @@
 ghost use Rattle.std.specs.Prelude.{◌≡◌, [], ◌∷◌, ◌++◌, ◌+◌, ◌<◌, ◌≤◌, ◌^◌, IfOk, length};
 ghost use Rattle.plain_map.specs.Rising.{IsRising};
 ghost use Rattle.tele_generations.specs.Sizes.{least_words, first_words, next_words};
-ghost use Rattle.tele_generations.specs.Ways.{GoesOnBehind};
+ghost use Rattle.tele_generations.specs.Ways.{GoesOnAfter};
 
 use crate::rests::{Turn, rest};
 use crate::sizes::{first_words, next_words};
@@ -61,7 +61,7 @@ pub fn go_on(way: Way, turn: Turn, full: Full) -> Result<Way, AllocError>
     requires rising { IsRising turn.pairs.items }
     requires few { length turn.pairs.items + length turn.left.items ≤ 2 ^ 24 }
     requires within { way.words ≤ 2 ^ 28 }
-    ensures on { IfOk result (λ w. GoesOnBehind way turn full w) }
+    ensures on { IfOk result (λ w. GoesOnAfter way turn full w) }
 {
     let Way {
         mut answers,

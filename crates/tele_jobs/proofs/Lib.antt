@@ -14,7 +14,7 @@ pub mod MadeLemmas
 pub mod DueLemmas
 pub mod ToldLemmas
 pub mod CutLemmas
-pub mod BehindLemmas
+pub mod AfterLemmas
 pub mod RanLemmas
 pub mod OpenLemmas
 pub mod TakenLemmas

@@ -40,7 +40,7 @@ values-append m xs ys =
 pub record HasMadeLines (all : List Command) (m : Map) (tasks : List Task) (rest : List Command)
     (found : ℕ) : Type 0 where
   pub values : found + values_in m (commands_of tasks ++ rest) ≡ values_in no_pairs all
-  pub behind : replay m (commands_of tasks ++ rest) ≡ replay no_pairs all
+  pub following : replay m (commands_of tasks ++ rest) ≡ replay no_pairs all
 
 -- before the first line
 pub none_made : (all : List Command) (m : Map) (tasks : List Task) → m ≡ no_pairs → tasks ≡ [] →
@@ -49,7 +49,7 @@ none_made all m tasks is none = record {
   values = zero-add (values_in m (commands_of tasks ++ all))
       ∙ ap (λ n. values_in n (commands_of tasks ++ all)) is ∙ ap
       (λ ts. values_in no_pairs (commands_of ts ++ all)) none;
-  behind = ap (λ n. replay n (commands_of tasks ++ all)) is ∙ ap
+  following = ap (λ n. replay n (commands_of tasks ++ all)) is ∙ ap
       (λ ts. replay no_pairs (commands_of ts ++ all)) none;
 }
 
@@ -66,7 +66,7 @@ one_made all m tasks now task rest others found is more h =
     ∙ ap (λ cs. commands_of tasks ++ cs) (sym is) in
     record {
       values = ap (λ cs. found + values_in m cs) same ∙ h.values;
-      behind = ap (replay m) same ∙ h.behind;
+      following = ap (replay m) same ∙ h.following;
     }
 
 -- the open lines were answered
@@ -82,8 +82,8 @@ round_made all m n tasks left rest found more later counts is none sum h =
     let split = values-append m (commands_of tasks) rest in
     record {
       values = omega (arith, here, split, counts, sum, h.values);
-      behind = ap (λ ts. replay n (commands_of ts ++ rest)) none ∙ ap (λ k. replay k rest) is
-          ∙ sym (replay-append m (commands_of tasks) rest) ∙ h.behind;
+      following = ap (λ ts. replay n (commands_of ts ++ rest)) none ∙ ap (λ k. replay k rest) is
+          ∙ sym (replay-append m (commands_of tasks) rest) ∙ h.following;
     }
 
 -- all lines were made and answered
@@ -96,11 +96,11 @@ all_found all m tasks rest found none last h =
     omega (arith, nothing, h.values)
 
 -- once all lines were made and answered, the map is the map after all lines
-pub all_behind : (all : List Command) (m : Map) (tasks : List Task) (rest : List Command)
+pub all_after : (all : List Command) (m : Map) (tasks : List Task) (rest : List Command)
     (found : ℕ) → tasks ≡ [] → rest ≡ []
     → HasMadeLines all m tasks rest found → m ≡ replay no_pairs all
-all_behind all m tasks rest found none last h =
-    sym (ap (λ ts. replay m (commands_of ts ++ rest)) none ∙ ap (replay m) last) ∙ h.behind
+all_after all m tasks rest found none last h =
+    sym (ap (λ ts. replay m (commands_of ts ++ rest)) none ∙ ap (replay m) last) ∙ h.following
 
 -- the lines that are left begin with the next
 pub next_made : (count line number : ℕ) → line < count
@@ -175,7 +175,7 @@ sums_last count seed line number found now le none h =
     in ap (λ n. made_commands n number) e in (
       all_found (made_commands count seed) (map_in now) now.tasks
           (made_commands (count - line) number) found none nothing h.made,
-      all_behind (made_commands count seed) (map_in now) now.tasks
+      all_after (made_commands count seed) (map_in now) now.tasks
           (made_commands (count - line) number) found none nothing h.made,
     )
 

@@ -81,23 +81,23 @@ pub closes_round : (old new : Open) (pairs : List Pair) (tasks : List Task)
     (found : List Answer) → pairs ≡ old.pairs → tasks ≡ old.tasks
     → ArePlainAnswers (map_of pairs) tasks found → new.answers ≡ found
     → map_in new ≡ replay (map_of pairs) (commands_of tasks) → new.tasks ≡ [] → ClosesRound old new
-closes_round old new pairs tasks found same_pairs same_tasks plain is behind none = record {
+closes_round old new pairs tasks found same_pairs same_tasks plain is following none = record {
   answered = subst (ArePlainAnswers (map_in old) old.tasks) (sym is)
       (subst (λ ts. ArePlainAnswers (map_in old) ts found) same_tasks
       (subst (λ ps. ArePlainAnswers (map_of ps) tasks found) same_pairs plain));
-  behind = behind ∙ ap (λ ps. replay (map_of ps) (commands_of tasks)) same_pairs
+  following = following ∙ ap (λ ps. replay (map_of ps) (commands_of tasks)) same_pairs
       ∙ ap (λ ts. replay (map_in old) (commands_of ts)) same_tasks;
   none = none;
 }
 
 -- at most as many keys came as there were tasks, whichever name the round goes by
-pub few_from : (old same : Open) (tasks : List Task) (now behind : List Pair)
-    → old ≡ same → tasks ≡ old.tasks → now ≡ behind
-    → length behind ≤ length old.pairs + length tasks
+pub few_from : (old same : Open) (tasks : List Task) (now following : List Pair)
+    → old ≡ same → tasks ≡ old.tasks → now ≡ following
+    → length following ≤ length old.pairs + length tasks
     → length now ≤ length same.pairs + length same.tasks
-few_from old same tasks now behind is same_tasks is_behind few =
+few_from old same tasks now following is same_tasks is_following few =
     subst (λ (o : Open). length now ≤ length o.pairs + length o.tasks) is
-    (omega (arith, ap length same_tasks, ap length is_behind, few))
+    (omega (arith, ap length same_tasks, ap length is_following, few))
 
 -- the rounds that were run, whichever name the round goes by
 pub runs_from : (old same new : Open) (kept later : Option (List (List ℕ))) → old ≡ same
@@ -177,10 +177,10 @@ module _ (old new : Open) (kept middle later : Option (List (List ℕ)))
     (first_words old.words old.team.workers (length pairs) (length tasks)) pairs tasks middle later
     closed fulls)
     (ends : EndsTheRound (lanes_of old.team) pairs tasks closed fulls)
-    (behind : map_in new ≡ replay (map_of pairs) (commands_of tasks)) where
+    (following : map_in new ≡ replay (map_of pairs) (commands_of tasks)) where
   -- the map after them
-  pub map_behind_round : map_in new ≡ replay (map_in old) (commands_of old.tasks)
-  map_behind_round = behind ∙ ap (λ ps. replay (map_of ps) (commands_of tasks)) same_pairs
+  pub map_after_round : map_in new ≡ replay (map_in old) (commands_of old.tasks)
+  map_after_round = following ∙ ap (λ ps. replay (map_of ps) (commands_of tasks)) same_pairs
       ∙ ap (λ ts. replay (map_in old) (commands_of ts)) same_tasks
 
   -- the tables of the rounds, with the tables of this one
@@ -212,7 +212,7 @@ module _ (old new : Open) (kept middle later : Option (List (List ℕ)))
         ran = subst (λ n. RanRounds team most all before later new.last n) (sym count)
             (subst (λ l. RanRounds team most all before later l (length fulls))
             (sym last) ran);
-        begins = map_behind_round ∙ ap (λ m. replay m (commands_of old.tasks)) h.begins
+        begins = map_after_round ∙ ap (λ m. replay m (commands_of old.tasks)) h.begins
             ∙ sym (map_after_rounds-more no_pairs rounds old.tasks);
         team_is = team_same ∙ h.team_is;
         most_is = words_same ∙ h.most_is;

@@ -19,8 +19,8 @@ abbrev line_of : Version → Task → Read
 line_of version task = Good task.line version (Point task.command)
 
 -- what follows a line, by whether a cut is made there
-abbrev behind_line : Read → ℕ → List Read → Bool → List (List Read)
-behind_line line n others cut = if cut then (line ∷ []) ∷ rounds_from 0 others else onto_first line
+abbrev after_line : Read → ℕ → List Read → Bool → List (List Read)
+after_line line n others cut = if cut then (line ∷ []) ∷ rounds_from 0 others else onto_first line
     (rounds_from (n + 1) others)
 
 -- as many point lines as a round has at most are one round
@@ -29,10 +29,10 @@ pub cut_full : (version : Version) (n : ℕ) (task : Task) (tasks : List Task) (
     → rounds_from n (asked version (task ∷ tasks) ++ more) ≡ asked version (task ∷ tasks) ∷ rounds
     more
 cut_full version n task [] more full =
-    ap (behind_line (line_of version task) n more)
+    ap (after_line (line_of version task) n more)
     (eq-eqb (n + 1) round_limit (omega (arith, full)))
 cut_full version n task (next ∷ tasks) more full =
-    ap (behind_line (line_of version task) n (asked version (next ∷ tasks) ++ more))
+    ap (after_line (line_of version task) n (asked version (next ∷ tasks) ++ more))
     (ne_eqb (n + 1) round_limit (λ e. omega (arith, full, e)))
     ∙ ap (onto_first (line_of version task))
     (cut_full version (n + 1) next tasks more (omega (arith, full)))
@@ -44,7 +44,7 @@ pub cut_interval : (version : Version) (n number first last : ℕ) (tasks : List
     ≡ (asked version tasks ++ Good number version (Interval first last) ∷ []) ∷ rounds more
 cut_interval version n number first last [] more few = refl
 cut_interval version n number first last (task ∷ tasks) more few =
-    ap (behind_line (line_of version task) n
+    ap (after_line (line_of version task) n
     (asked version tasks ++ Good number version (Interval first last) ∷ more))
     (ne_eqb (n + 1) round_limit (λ e. omega (arith, few, e)))
     ∙ ap (onto_first (line_of version task))
@@ -55,10 +55,10 @@ pub cut_open : (version : Version) (n : ℕ) (task : Task) (tasks : List Task) �
     < round_limit
     → rounds_from n (asked version (task ∷ tasks)) ≡ asked version (task ∷ tasks) ∷ []
 cut_open version n task [] few =
-    ap (behind_line (line_of version task) n [])
+    ap (after_line (line_of version task) n [])
     (ne_eqb (n + 1) round_limit (λ e. omega (arith, few, e)))
 cut_open version n task (next ∷ tasks) few =
-    ap (behind_line (line_of version task) n (asked version (next ∷ tasks)))
+    ap (after_line (line_of version task) n (asked version (next ∷ tasks)))
     (ne_eqb (n + 1) round_limit (λ e. omega (arith, few, e)))
     ∙ ap (onto_first (line_of version task))
     (cut_open version (n + 1) next tasks (omega (arith, few)))
@@ -70,7 +70,7 @@ pub cut_bad : (version : Version) (n line : ℕ) (cause : Cause) (tasks : List T
     ≡ (asked version tasks ++ Bad line cause ∷ []) ∷ []
 cut_bad version n line cause [] few = refl
 cut_bad version n line cause (task ∷ tasks) few =
-    ap (behind_line (line_of version task) n (asked version tasks ++ Bad line cause ∷ []))
+    ap (after_line (line_of version task) n (asked version tasks ++ Bad line cause ∷ []))
     (ne_eqb (n + 1) round_limit (λ e. omega (arith, few, e)))
     ∙ ap (onto_first (line_of version task))
     (cut_bad version (n + 1) line cause tasks (omega (arith, few)))

@@ -77,11 +77,11 @@ module _ (version : Version) (m : Map) (tasks : List Task) where
         (commands_of now) → left ≡ []
         → Takes m (asked version tasks ++ Good number version item ∷ []) before written later
         (asked version left)
-    taken_full n later left before written same full writes behind none =
+    taken_full n later left before written same full writes following none =
         subst (λ ls. Takes m (asked version tasks ++ Good number version item ∷ []) before written
         later (asked version ls)) (sym none)
         (subst (λ k. Takes m (asked version tasks ++ Good number version item ∷ []) before written k
-        []) (sym behind)
+        []) (sym following)
         (subst (λ k. Takes k (asked version tasks ++ Good number version item ∷ []) before written
         (replay n (commands_of now)) []) same
         (subst (λ ls. Takes n ls before written (replay n (commands_of now)) []) taken_lines
@@ -99,10 +99,10 @@ module _ (version : Version) (m : Map) (tasks : List Task) where
 
   module _ (number first last : ℕ) (item : Item) (is : item ≡ Interval first last)
       (listing : List Pair) (n : Map)
-      (behind : n ≡ replay m (commands_of tasks)) (lists : listing ≡ listed first last n) where
+      (following : n ≡ replay m (commands_of tasks)) (lists : listing ≡ listed first last n) where
     -- the pairs that are listed
     listing_is : listing ≡ listed first last (replay m (commands_of tasks))
-    listing_is = lists ∙ ap (listed first last) behind
+    listing_is = lists ∙ ap (listed first last) following
 
     -- an interval line ends the round
     pub taken_interval : (left : List Task) (before mid written : Option (List ℕ)) → length tasks <
@@ -115,7 +115,7 @@ module _ (version : Version) (m : Map) (tasks : List Task) where
         subst (λ ls. Takes m (asked version tasks ++ Good number version item ∷ []) before written n
         (asked version ls)) (sym none)
         (subst (λ k. Takes m (asked version tasks ++ Good number version item ∷ []) before written k
-        []) (sym behind)
+        []) (sym following)
         (subst (λ i. Takes m (asked version tasks ++ Good number version i ∷ []) before written
         (replay m (commands_of tasks)) []) (sym is)
         (answered_interval version number first last m tasks before mid written few writes

@@ -57,7 +57,7 @@ answers_text version answers = flat_map (λ answer. answer_text version answer.l
 -- the tasks of a round were answered in order, and no task is left
 pub record ClosesRound (before now : Open) : Type 0 where
   pub answered : ArePlainAnswers (map_in before) before.tasks now.answers
-  pub behind : map_in now ≡ replay (map_in before) (commands_of before.tasks)
+  pub following : map_in now ≡ replay (map_in before) (commands_of before.tasks)
   pub none : now.tasks ≡ []
 
 -- the line numbers of the tasks are strictly increasing and below this number, and all pairs and

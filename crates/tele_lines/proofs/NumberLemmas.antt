@@ -39,11 +39,11 @@ not_below : (m n : ℕ) → n ≤ m → nat_lt m n ≡ false
 not_below m n h = grind (arith, common_steps)
 
 -- a value that is small enough is read on from; any other is no number
-behind_digit : (value : ℕ) (digits : List ℕ)
+after_digit : (value : ℕ) (digits : List ℕ)
     → (value < 2 ^ 64 → number_from value digits ≡ number_at_once value digits)
     → (if nat_lt value
     (2 ^ 64) then number_from value digits else None) ≡ number_at_once value digits
-behind_digit value digits goes_on =
+after_digit value digits goes_on =
     elim (cases_lt value (2 ^ 64)) [
       | inl small ↦ ap (λ b. if b then number_from value digits else None)
           (lt-ltb value (2 ^ 64) small) ∙ goes_on small
@@ -62,7 +62,7 @@ number_from-at_once (digit ∷ digits) value h =
     ≡ (if (d && list_all is_ascii_digit digits) && nat_lt (fold with_digit value (digit ∷ digits))
     (2 ^ 64) then Some (fold with_digit value (digit ∷ digits)) else None)) [
       | false ↦ refl
-      | true ↦ behind_digit (with_digit value digit) digits
+      | true ↦ after_digit (with_digit value digit) digits
           (λ small. number_from-at_once digits (with_digit value digit) small)
     ]
 

@@ -9,7 +9,7 @@ use Rattle.tele_lines.specs.declared.items.Said.TheVariants.{Skips, Chooses, Ask
 use Rattle.tele_lines.specs.Lines.{lines_of, whole_lines}
 use Rattle.tele_lines.specs.Readings.{version_in, next_mode, reading}
 use Rattle.tele_lines.specs.Answer.{Read, Good, Bad, then_read, read_from}
-use Rattle.tele_lines.specs.Progress.{Place, Continues, behind, reads_given, read_at, GoesTo, TakesLine}
+use Rattle.tele_lines.specs.Progress.{Place, Continues, following, reads_given, read_at, GoesTo, TakesLine}
 
 -- a line followed by those after it
 then_given : (place : Place) (said : Said) (others : List Read) → Continues said
@@ -23,18 +23,18 @@ then_given place (Fails cause) others goes_on = absurd goes_on
 reads_first : (place : Place) (said : Said) (line : List ℕ) (lines others : List (List ℕ))
     → lines ≡ line ∷ others
     → reading place.limit (place.count + 1) place.mode line ≡ said → Continues said
-    → read_at place lines ≡ reads_given place said ++ read_at (behind place said) others
+    → read_at place lines ≡ reads_given place said ++ read_at (following place said) others
 reads_first place said line lines others cut says goes_on =
     ap (read_at place) cut
     ∙ ap (λ s. then_read (place.count + 1) place.mode s (read_from place.limit (place.count + 1 + 1) (next_mode place.mode s) others)) says
-    ∙ then_given place said (read_at (behind place said) others) goes_on
+    ∙ then_given place said (read_at (following place said) others) goes_on
 
 -- after a line the reading is at the next place
-goes_behind : (place : Place) (said : Said) (bytes : List ℕ) (ended : Bool) (now : Option (List ℕ))
+goes_after : (place : Place) (said : Said) (bytes : List ℕ) (ended : Bool) (now : Option (List ℕ))
     → Continues said
     → TakesLine place said bytes ended now
-    → GoesTo place (behind place said) ended (reads_given place said) bytes now
-goes_behind place said bytes ended now goes_on takes = record {
+    → GoesTo place (following place said) ended (reads_given place said) bytes now
+goes_after place said bytes ended now goes_on takes = record {
   taken = takes.taken;
   rest = takes.rest;
   left = takes.left;
@@ -45,15 +45,15 @@ goes_behind place said bytes ended now goes_on takes = record {
 }
 
 -- one line was read
-pub one_behind : (place new : Place) (said : Said) (before here now : Option (List ℕ))
+pub one_after : (place new : Place) (said : Said) (before here now : Option (List ℕ))
     (ended : Bool)
-    → Keeps before here → new ≡ behind place said → Continues said
+    → Keeps before here → new ≡ following place said → Continues said
     → IfSome here (λ bytes. TakesLine place said bytes ended now)
     → IfSome before (λ bytes. GoesTo place new ended (reads_given place said) bytes now)
-one_behind place new said None here now ended keeps is goes_on takes = tt
-one_behind place new said (Some bytes) here now ended keeps is goes_on takes =
+one_after place new said None here now ended keeps is goes_on takes = tt
+one_after place new said (Some bytes) here now ended keeps is goes_on takes =
     let there : TakesLine place said bytes ended now = subst (λ u. IfSome u (λ bytes. TakesLine place said bytes ended now)) keeps takes in
-    subst (λ p. GoesTo place p ended (reads_given place said) bytes now) (sym is) (goes_behind place said bytes ended now goes_on there)
+    subst (λ p. GoesTo place p ended (reads_given place said) bytes now) (sym is) (goes_after place said bytes ended now goes_on there)
 
 -- what has not ended had not ended before
 pub still_going : (ended now : Bool) → (ended ≡ true → now ≡ true) → now ≡ false → ended ≡ false
@@ -103,7 +103,7 @@ reads_if one two mid found (Some bytes) here a b =
 
 -- an item that was given, as its number and its version are then
 pub item_if : (one two new : Place) (ended : Bool) (item : Item) (before now : Option (List ℕ))
-    → new ≡ behind two (Asks item)
+    → new ≡ following two (Asks item)
     → IfSome before (λ bytes. GoesTo one new ended (reads_given two (Asks item)) bytes now)
     → IfSome before
     (λ bytes. GoesTo one new ended (Good new.count (version_in new.mode) item ∷ []) bytes now)

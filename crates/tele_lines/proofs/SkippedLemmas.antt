@@ -3,7 +3,7 @@ use Rattle.std.proofs.Common.{◌≡◌, ℕ, ◌≤◌, true, List, [], ◌∙�
 use Rattle.std.specs.Prelude.{Option, None, IfSome, IsSome}
 use Rattle.tele_lines.specs.declared.items.Said.{Said}
 use Rattle.tele_lines.specs.declared.reader.Lines.{Lines}
-use Rattle.tele_lines.specs.Progress.{Place, GoesTo, TakesAsNeeded, TellsEnd, behind, kept_of, place_of, unread}
+use Rattle.tele_lines.specs.Progress.{Place, GoesTo, TakesAsNeeded, TellsEnd, following, kept_of, place_of, unread}
 use Rattle.tele_lines.proofs.ModeLemmas.{steady_twice}
 use Rattle.tele_lines.proofs.PlaceLemmas.{goes_on_if}
 use Rattle.tele_lines.proofs.SparingLemmas.{on_needed_if}
@@ -34,7 +34,7 @@ module _ (first mid : Lines) (all left now : Option (List ℕ)) (h : HasSkipped 
   -- one more line that asks for nothing is skipped
   pub skipped_more : (last : Lines) (said : Said) → IfSome (unread mid left) (λ bytes.
       GoesTo (place_of mid) (place_of last) last.ended [] bytes (unread last now))
-      → place_of last ≡ behind (place_of mid) said → last.stop ≡ None
+      → place_of last ≡ following (place_of mid) said → last.stop ≡ None
       → (TellsEnd mid left → TellsEnd last now) → (mid.ended ≡ true → last.ended ≡ true)
       → last.limit ≡ mid.limit → (IsSome mid.mode → last.mode ≡ mid.mode)
       → IfSome left (λ bytes. TakesAsNeeded (place_of mid) (kept_of mid) mid.ended bytes now)

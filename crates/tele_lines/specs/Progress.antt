@@ -31,8 +31,8 @@ Continues (Fails cause) = ⊥
 Continues _ = Unit {0}
 
 -- the place after a line that says this
-abbrev pub behind : Place → Said → Place
-behind place said = record { limit = place.limit; count = place.count + 1; mode = next_mode place.mode said }
+abbrev pub following : Place → Said → Place
+following place said = record { limit = place.limit; count = place.count + 1; mode = next_mode place.mode said }
 
 -- what a line yields: an item with its number and its version, or nothing
 abbrev pub reads_given : Place → Said → List Read

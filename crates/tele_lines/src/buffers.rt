@@ -38,7 +38,7 @@ fn to_front(bytes: &mut [u8], start: usize, end: usize)
 }
 
 /// Reads some bytes into the space after the first `end`.
-fn read_behind<S: Source>(bytes: &mut [u8], end: usize, source: &mut S) -> Result<usize, Failed>
+fn read_after<S: Source>(bytes: &mut [u8], end: usize, source: &mut S) -> Result<usize, Failed>
     requires room { end < length bytes.old }
 
     ensures front { take end bytes.new ≡ take end bytes.old }
@@ -99,7 +99,7 @@ impl Buffer {
         to_front(&mut self.bytes, self.start, self.end);
         self.end -= self.start;
         self.start = 0;
-        let count = read_behind(&mut self.bytes, self.end, source)?;
+        let count = read_after(&mut self.bytes, self.end, source)?;
         self.end += count;
         Ok(count)
     }

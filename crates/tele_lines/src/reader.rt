@@ -5,7 +5,7 @@ ghost use Rattle.tele_lines.specs.Buffers.{EndsAt, IsUnbroken, TellsEndOf, Refil
 
 use crate::buffers::Buffer;
 use crate::items::{Cause, Line, LineFault, Said, Version};
-use crate::readings::{LONGEST, mode_behind, read_line};
+use crate::readings::{LONGEST, mode_after, read_line};
 use memchr::memchr;
 use tele_io::{Failed, Source};
 
@@ -32,7 +32,7 @@ impl Lines {
     ghost use Rattle.tele_lines.specs.Readings.{reading};
     ghost use Rattle.tele_lines.specs.Lines.{lines_of};
     ghost use Rattle.tele_lines.specs.Answer.{Bad, Good};
-    ghost use Rattle.tele_lines.specs.Progress.{Continues, GoesTo, reads_given, read_at, version_of, mode_of, behind, place_of, limit_of, count_of, stop_of, has_ended, kept_of, unread, TellsEnd, Waits, IsDone, TakesLine, MeetsLine, TakesAsNeeded, ShowsBad};
+    ghost use Rattle.tele_lines.specs.Progress.{Continues, GoesTo, reads_given, read_at, version_of, mode_of, following, place_of, limit_of, count_of, stop_of, has_ended, kept_of, unread, TellsEnd, Waits, IsDone, TakesLine, MeetsLine, TakesAsNeeded, ShowsBad};
     ghost use Rattle.tele_lines.specs.Buffers.{EndsAt};
 
     /// Makes a reader that has read nothing and allows `limit` lines.
@@ -166,7 +166,7 @@ impl Lines {
             GoesTo (place_of self.old) (place_of self.new) self.new.ended
             (reads_given (place_of self.old) said) bytes (unread self.new (S.left source.new))))) }
         ensures place { IfOk result (λ next. IfSome next (λ said. Continues said →
-            place_of self.new ≡ behind (place_of self.old) said)) }
+            place_of self.new ≡ following (place_of self.old) said)) }
 
         ensures none { IfOk result (λ next. IfNone next (
             IfSome (unread self.old (S.left source.old)) (λ bytes. bytes ≡ []))) }
@@ -220,7 +220,7 @@ impl Lines {
         ensures first { IfSome result (λ said. (left : _) →
             IfSome (unread self.old left) (λ bytes. MeetsLine (place_of self.old) said bytes)) }
         ensures place { IfSome result (λ said. Continues said →
-            place_of self.new ≡ behind (place_of self.old) said) }
+            place_of self.new ≡ following (place_of self.old) said) }
 
         ensures none { IfNone result (IsDone self.old) }
         ensures done { IfNone result (self.new ≡ self.old) }
@@ -262,7 +262,7 @@ impl Lines {
             reading self.old.limit (self.old.count + 1) self.old.mode (take len self.old.buffer) }
 
         ensures rest { Continues result → self.new.buffer ≡ drop taken self.old.buffer }
-        ensures place { Continues result → place_of self.new ≡ behind (place_of self.old) result }
+        ensures place { Continues result → place_of self.new ≡ following (place_of self.old) result }
         ensures going { Continues result → self.new.stop ≡ self.old.stop }
 
         ensures stop { (cause : _) → result ≡ Said.Fails cause → self.new.stop ≡ Some cause }
@@ -281,7 +281,7 @@ impl Lines {
             }
             _ => {
                 self.buffer.skip(taken);
-                self.mode = mode_behind(self.mode, &said);
+                self.mode = mode_after(self.mode, &said);
                 self.count = number;
             }
         }

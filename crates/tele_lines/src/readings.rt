@@ -53,7 +53,7 @@ fn two(version: Version, words: &[u8]) -> Result<(u64, u64), Cause>
 }
 
 /// Returns the mode after a line that says this.
-pub(crate) fn mode_behind(mode: Option<Version>, said: &Said) -> Option<Version>
+pub(crate) fn mode_after(mode: Option<Version>, said: &Said) -> Option<Version>
     ensures value { result ≡ next_mode mode said.now }
 {
     match said {

@@ -109,7 +109,7 @@ fn answer_made<R: Threads + Wait + Sync, G: Gate + Sync, H: Shelf<Closed>>(
     ensures found { IfOk result (λ found. found ≡
         count_by is_some (replies (map_in round.old) (commands_of round.old.tasks))) }
     ensures few { IfOk result (λ found. found ≤ length round.old.tasks) }
-    ensures behind { OnOk result
+    ensures following { OnOk result
         (map_in round.new ≡ replay (map_in round.old) (commands_of round.old.tasks)) }
     ensures none { OnOk result (round.new.tasks ≡ []) }
     ensures ran { OnOk result (RunsOn round.old (H.kept shelf.old) round.new

@@ -194,7 +194,7 @@ fn end_round<R: Threads + Wait + Sync, G: Gate + Sync, H: Shelf<Closed>, O: Sink
     ensures printed { OnOk result (Appends (O.written out.old) (O.written out.new)
         (text_of (map_in round.old) (asked version round.old.tasks))) }
     ensures passed_on { OnOk result (O.held out.new ≡ []) }
-    ensures behind { OnOk result
+    ensures following { OnOk result
         (map_in round.new ≡ replay (map_in round.old) (commands_of round.old.tasks)) }
     ensures none { OnOk result (round.new.tasks ≡ []) }
     ensures ran { OnOk result (RunsOn round.old (H.kept shelf.old) round.new
@@ -226,7 +226,7 @@ fn answer<R: Threads + Wait + Sync, G: Gate + Sync, H: Shelf<Closed>, O: Sink>(
 
     ensures printed { OnOk result (Appends (O.written out.old) (O.written out.new)
         (text_of (map_in round.old) (asked version round.old.tasks))) }
-    ensures behind { OnOk result
+    ensures following { OnOk result
         (map_in round.new ≡ replay (map_in round.old) (commands_of round.old.tasks)) }
     ensures none { OnOk result (round.new.tasks ≡ []) }
     ensures ran { OnOk result (RunsOn round.old (H.kept shelf.old) round.new

@@ -86,11 +86,11 @@ same_length f xs ys more is =
     ∙ ap (λ n. n + length more) (length-map xs f)
 
 -- the images in a list that grew, after a front, are the images of all that was added
-pub behind : {X Y Z : Type 0} (f : X → Y) (g : Z → Y) (xs ys : List X) (front : List Y)
+pub following : {X Y Z : Type 0} (f : X → Y) (g : Z → Y) (xs ys : List X) (front : List Y)
     (old more new : List Z)
     → map f ys ≡ map f xs ++ map g more → map f xs ≡ front ++ map g old → new ≡ old ++ more
     → map f ys ≡ front ++ map g new
-behind f g xs ys front old more new now before is =
+following f g xs ys front old more new now before is =
     now ∙ ap (λ z. z ++ map g more) before ∙ append_assoc front (map g old) (map g more)
     ∙ ap (λ z. front ++ z) (sym (ap (map g) is ∙ map-append g old more))
 

@@ -18,7 +18,7 @@ use std::thread::Threads;
 use tele_lanes::{Gate, Lane, run_lanes};
 
 /// Runs the lanes from `at` on; if there is one, it runs on this thread.
-pub(crate) fn run_behind<R: Threads + Wait + Sync, P: Port + Send, G: Gate + Sync>(
+pub(crate) fn run_after<R: Threads + Wait + Sync, P: Port + Send, G: Gate + Sync>(
     rt: &R,
     gate: &G,
     lanes: &mut [Lane<P>],
@@ -30,8 +30,8 @@ pub(crate) fn run_behind<R: Threads + Wait + Sync, P: Port + Send, G: Gate + Syn
     ensures tickets { map (ticket P.tie) lanes.new ≡ map (ticket P.tie) lanes.old }
     ensures ran { All (IsRunLane P.calls P.refused) (drop at lanes.new) }
 {
-    let (_, behind) = lanes.split_at_mut(at);
-    run_lanes(rt, gate, behind);
+    let (_, following) = lanes.split_at_mut(at);
+    run_lanes(rt, gate, following);
 }
 
 /// Takes the first lane of the deque. `None` only if there was none at one moment.
@@ -80,7 +80,7 @@ pub(crate) fn run_into<R: Threads + Wait + Sync, P: Port + Send, G: Gate + Sync>
 {
     let at = bag.len();
     bag.push_reserved(lane);
-    run_behind(rt, gate, bag.as_mut_slice(), at);
+    run_after(rt, gate, bag.as_mut_slice(), at);
 }
 
 /// Runs one worker: it takes lanes from the deque and runs them, until the deque is empty.

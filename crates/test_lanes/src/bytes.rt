@@ -129,7 +129,7 @@ fn a_writer_gets_what_is_written(rt: HostRuntime) {
 }
 
 #[test]
-fn a_writer_without_room_fails_behind_what_fits(rt: HostRuntime) {
+fn a_writer_without_room_fails_after_what_fits(rt: HostRuntime) {
     let mut room = [b'-'; 3];
     let written = write_through(room.as_mut_slice(), b"abcde");
     assert_eq!(rt; (written, &room), (Err(SinkFault::Failed), b"abc"));
@@ -145,7 +145,7 @@ fn a_directory_can_neither_be_read_nor_written(rt: HostRuntime) -> Result<(), Fa
 }
 
 // Writes this piece, and adds it to `taken` unless it should be refused. Returns whether it was
-// refused, and whether the sink behind and the held bytes together are `taken`.
+// refused, and whether the sink after and the held bytes together are `taken`.
 fn write_piece(
     out: &mut BufferedSink<MemorySink>,
     taken: &mut Vec<u8>,
@@ -172,7 +172,7 @@ fn fill(
     write_piece(out, taken, &piece, refused)
 }
 
-// Writes five pieces, while the sink behind refuses the write of this number. Returns the first
+// Writes five pieces, while the sink after refuses the write of this number. Returns the first
 // piece that goes another way than expected.
 fn first_other_piece(
     alloc: Global,
@@ -190,10 +190,10 @@ fn first_other_piece(
 }
 
 /// The first piece that goes another way than expected; whether passing on is refused, the result
-/// of passing on again, and whether the sink behind then has all that was taken.
+/// of passing on again, and whether the sink after then has all that was taken.
 type Buffered = (Option<u8>, bool, Result<(), SinkFault>, bool);
 
-// Writes five pieces and passes them on, while the sink behind refuses the write of this number.
+// Writes five pieces and passes them on, while the sink after refuses the write of this number.
 fn see_buffer(
     alloc: Global,
     out: &mut BufferedSink<MemorySink>,
@@ -217,7 +217,7 @@ fn see_new_buffer(alloc: Global, fails: u64) -> Result<Buffered, AllocError> {
 
 #[test]
 fn a_buffer_loses_nothing_where_a_write_fails(rt: HostRuntime) -> Result<(), Fail> {
-    // each write of the sink behind, one after another, of five pieces and the last passing on; and
+    // each write of the sink after, one after another, of five pieces and the last passing on; and
     // none
     for fails in 0..6 {
         let seen = see_new_buffer(rt.alloc(), fails)?;

@@ -29,7 +29,7 @@ use Rattle.test_parts.proofs.KeptLemmas.{finished_went, leaves_went}
 
 -- a base from 4 to 99 is a good base
 pub good : (base : ℕ) → 4 ≤ base → base < 100 → IsGoodBase base
-good base low high = record { behind_fixed = low; below_limit = omega arith }
+good base low high = record { after_fixed = low; below_limit = omega arith }
 
 -- the word of a leaf reads as the leaf
 leaf_reads : (ps : Pieces) (base : ℕ) → 4 ≤ base → base < 100
@@ -57,14 +57,14 @@ first_leaf ps (word ∷ words) leaves s e =
     record { row = leaf.0; rest = it.1; is = it.4 ∙ ap (λ xs. xs ++ it.1) leaf.2 }
 
 -- the leaf in the second slot comes after the first slot's leaves
-record ComesBehind (leaves : List PlacedLeaf) : Type 0 where
+record ComesAfter (leaves : List PlacedLeaf) : Type 0 where
   front : List PlacedLeaf
   row : LeafRow
   rest : List PlacedLeaf
   is : leaves ≡ front ++ (record { base = 13; row = row } ∷ rest)
 
 second_leaf : (ps : Pieces) (slots : List ℕ) (leaves : List PlacedLeaf)
-    → SlotsHaveLeaves ps slots leaves → slice_get slots 1 ≡ Some 105 → ComesBehind leaves
+    → SlotsHaveLeaves ps slots leaves → slice_get slots 1 ≡ Some 105 → ComesAfter leaves
 second_leaf ps [] leaves s e = absurd (cc)
 second_leaf ps (first ∷ []) leaves s e = absurd (cc)
 second_leaf ps (first ∷ word ∷ words) leaves s e =
@@ -210,7 +210,7 @@ found_both u f degree v l degree_is low w m low_is high x n high_is key y o key_
         (its_slots (now w) two_w some.0 some.1)
         (slot_is v 9 low w m two_w 0 (omega arith) refl ∙ ap Some low_is)
 
-    second : ComesBehind some.0
+    second : ComesAfter some.0
     second =
         second_leaf (now x).pieces two_x.done.row.slots some.0 (its_slots (now x) two_x some.0 on)
         (slot_is w 10 high x n two_x 1 (omega arith) refl ∙ ap Some high_is)

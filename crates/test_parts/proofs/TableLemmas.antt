@@ -51,9 +51,9 @@ zero_lies zero i low = absurd (omega arith)
 zero_lies (suc n) zero low = refl
 zero_lies (suc n) (suc i) low = zero_lies n i (omega arith)
 
-behind_rows : (place : ℕ) → 15 ≤ place → place < 51 → slice_get example_image place ≡ Some 0
+after_rows : (place : ℕ) → 15 ≤ place → place < 51 → slice_get example_image place ≡ Some 0
 unfolding zeros
-behind_rows place low high =
+after_rows place low high =
     let same : 15 + (place - 15) ≡ place = omega arith in
     subst (λ n. slice_get example_image n ≡ Some 0) same
     (sym (slice_get-drop 15 example_image (place - 15)) ∙ zero_lies 36 (place - 15) (omega arith))
@@ -69,7 +69,7 @@ example_open =
       anchor_status = refl;
       anchor_slot = refl;
       rows = λ base p e. rows_stand base p (among-pieces_of (rows_from first_row two_pairs) base p e);
-      free = λ place low high. behind_rows place low high;
+      free = λ place low high. after_rows place low high;
     }
 
 rising : IsStrictlyIncreasing (map (λ pair. pair.key) two_pairs)

@@ -67,7 +67,7 @@ fn a_word_of_a_status_is_read_and_written(rt: HostRuntime) {
 }
 
 #[test]
-fn keys_and_slots_lie_behind_the_four_fields(rt: HostRuntime) {
+fn keys_and_slots_lie_after_the_four_fields(rt: HostRuntime) {
     // an inner row of degree 2 at 4: status, count, degree, size, key 1, slot 0, slot 1
     let places = [key_place(4, 1), slot_place(4, 2, 0), slot_place(4, 2, 1)];
     same(&rt, &places, &[8, 9, 10], "the places");

@@ -162,7 +162,7 @@ fn see(alloc: Global, key: u64, place: u64) -> Result<Option<Seen>, OpenFault> {
 }
 
 #[test]
-fn a_put_that_is_installed_behind_a_marking_is_decided_no(rt: HostRuntime) -> Result<(), Fail> {
+fn a_put_that_is_installed_after_a_marking_is_decided_no(rt: HostRuntime) -> Result<(), Fail> {
     // Eight puts took 88 words after the 15 of the opening, and the late one 11.
     let wanted = Seen {
         due: Due {

@@ -79,7 +79,7 @@ const SEVEN: [(u64, Option<u64>); 7] = [
 ];
 
 // Returns the words of a new table of these pairs, but with 8 at the key 16.
-fn image_behind(alloc: Global) -> Result<Vec<u64>, OpenFault> {
+fn image_after(alloc: Global) -> Result<Vec<u64>, OpenFault> {
     let mut pairs = numbered(alloc, LAST)?;
     if let Some(pair) = pairs.get_mut(15) {
         *pair = Pair { key: 16, value: 8 };
@@ -154,7 +154,7 @@ fn rebuild_both(
     let marked = mark(table, high, above);
     let second = help_where(table, low, below, !early);
     let upper = help_on(table, high, above);
-    let image = image_behind(alloc)?;
+    let image = image_after(alloc)?;
     Ok(Some(Both {
         parent: due.parent,
         lower: first.or(second),

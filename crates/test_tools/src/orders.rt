@@ -15,7 +15,7 @@ pub struct Order {
 }
 
 /// For each life of a key, the lives that a thread saw after it.
-type Behind = Vec<Vec<usize>>;
+type Following = Vec<Vec<usize>>;
 
 // What a thread has seen of a key: the last value, and whether it has been gone since.
 #[derive(Clone, Copy, Drop)]
@@ -68,7 +68,7 @@ impl Seen {
         chains: &Chains,
         value: u64,
         further: u64,
-        behind: &mut Behind,
+        following: &mut Following,
     ) -> Result<(), Misfit> {
         let key = self.key;
         let Some(place) = chains.place(key, value) else {
@@ -79,7 +79,7 @@ impl Seen {
         }
         if let Some(last) = self.last {
             if last.life != place.life {
-                if let Some(lives) = behind.get_mut(last.life) {
+                if let Some(lives) = following.get_mut(last.life) {
                     lives.push(place.life)?;
                 }
             }
@@ -90,19 +90,24 @@ impl Seen {
     }
 
     // The thread gets this reply.
-    fn hear(&mut self, chains: &Chains, told: Told, behind: &mut Behind) -> Result<(), Misfit> {
+    fn hear(
+        &mut self,
+        chains: &Chains,
+        told: Told,
+        following: &mut Following,
+    ) -> Result<(), Misfit> {
         match (told.asked, told.reply) {
-            (Asked::Put(_, value), Some(_)) => self.meet(chains, value, 1, behind),
+            (Asked::Put(_, value), Some(_)) => self.meet(chains, value, 1, following),
             (Asked::Put(_, value), None) => {
                 self.miss(chains)?;
-                self.meet(chains, value, 1, behind)
+                self.meet(chains, value, 1, following)
             }
             (Asked::Remove(_), Some(value)) => {
-                self.meet(chains, value, 0, behind)?;
+                self.meet(chains, value, 0, following)?;
                 self.gone = true;
                 Ok(())
             }
-            (Asked::Find(_), Some(value)) => self.meet(chains, value, 0, behind),
+            (Asked::Find(_), Some(value)) => self.meet(chains, value, 0, following),
             (Asked::Remove(_), None) => self.miss(chains),
             (Asked::Find(_), None) => self.miss(chains),
         }
@@ -114,7 +119,7 @@ fn judge_thread(
     alloc: Global,
     chains: &Chains,
     told: &[Told],
-    behind: &mut Behind,
+    following: &mut Following,
 ) -> Result<(), Misfit> {
     let mut told = told.to_vec(alloc)?;
     told.sort_by_key(|one| one.asked.key())?;
@@ -124,15 +129,15 @@ fn judge_thread(
         if key != seen.key {
             seen = Seen::nothing_of(key);
         }
-        seen.hear(chains, *one, behind)?;
+        seen.hear(chains, *one, following)?;
     }
     Ok(())
 }
 
 // For each life, how many lives precede it.
-fn counts_before(alloc: Global, behind: &Behind) -> Result<Vec<u64>, AllocError> {
-    let mut counts = vec![in alloc; 0u64; behind.len()]?;
-    for lives in behind.iter() {
+fn counts_before(alloc: Global, following: &Following) -> Result<Vec<u64>, AllocError> {
+    let mut counts = vec![in alloc; 0u64; following.len()]?;
+    for lives in following.iter() {
         for life in lives.iter() {
             if let Some(count) = counts.get_mut(*life) {
                 *count = count.wrapping_add(1);
@@ -160,29 +165,29 @@ fn take_away(
 }
 
 // Returns the number of each life in an order that puts each after the lives that precede it.
-fn rank(alloc: Global, behind: &Behind) -> Result<Vec<u64>, Misfit> {
-    let mut counts = counts_before(alloc, behind)?;
+fn rank(alloc: Global, following: &Following) -> Result<Vec<u64>, Misfit> {
+    let mut counts = counts_before(alloc, following)?;
     let mut next = Vec::new(alloc);
     for (life, count) in counts.iter().enumerate() {
         if *count == 0 {
             next.push(life)?;
         }
     }
-    let mut ranks = vec![in alloc; 0u64; behind.len()]?;
+    let mut ranks = vec![in alloc; 0u64; following.len()]?;
     let mut ranked: u64 = 0;
-    for number in 0..behind.len() as u64 {
+    for number in 0..following.len() as u64 {
         let Some(life) = next.pop() else {
             break;
         };
         if let Some(rank) = ranks.get_mut(life) {
             *rank = number;
         }
-        if let Some(lives) = behind.get(life) {
+        if let Some(lives) = following.get(life) {
             take_away(lives, &mut counts, &mut next)?;
         }
         ranked = number + 1;
     }
-    if ranked != behind.len() as u64 {
+    if ranked != following.len() as u64 {
         return Err(Misfit::Around);
     }
     Ok(ranks)
@@ -201,14 +206,14 @@ impl Order {
     ) -> Result<Order, Misfit> {
         let chains = Chains::new(alloc, opening, threads)?;
         chains.judge_close(alloc, threads, closing)?;
-        let mut behind = Vec::new(alloc);
+        let mut following = Vec::new(alloc);
         for _ in 0..chains.count() {
-            behind.push(Vec::new(alloc))?;
+            following.push(Vec::new(alloc))?;
         }
         for told in threads.iter() {
-            judge_thread(alloc, &chains, told, &mut behind)?;
+            judge_thread(alloc, &chains, told, &mut following)?;
         }
-        let ranks = rank(alloc, &behind)?;
+        let ranks = rank(alloc, &following)?;
         Ok(Order { chains, ranks })
     }
 

@@ -43,11 +43,11 @@ impl Shares {
         if number < self.puts {
             return Kind::Put;
         }
-        let behind_puts = number - self.puts;
-        if behind_puts < self.removes {
+        let after_puts = number - self.puts;
+        if after_puts < self.removes {
             return Kind::Remove;
         }
-        if behind_puts - self.removes < self.finds {
+        if after_puts - self.removes < self.finds {
             Kind::Find
         } else {
             Kind::Freeze

@@ -1,4 +1,4 @@
-//! Rebuilds behind puts, with roots that are built whole and roots that are shared.
+//! Rebuilds after puts, with roots that are built whole and roots that are shared.
 ghost use Rattle.std.specs.Prelude.{◌≡◌, ◌≤◌};
 
 use crate::asking::ask;
@@ -10,7 +10,7 @@ use std::alloc::Global;
 use std::test::Fail;
 use test_tools::Asked;
 
-// Puts the numbers from 1 to `last` at a key, one behind another. Gives whether each found the one before.
+// Puts the numbers from 1 to `last` at a key, one after another. Gives whether each found the one before.
 fn put_again(tree: &Tree, pass: &mut Pass, key: u64, first: u64, last: u64) -> bool
     requires same_tree { pass.old.tree ≡ tree.now }
     requires few { last ≤ 100000 }

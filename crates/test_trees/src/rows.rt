@@ -14,7 +14,7 @@ use test_tools::Asked;
 
 // Opens a tree without pairs, asks it each in turn by one pass, and closes it. Gives the first of these
 // that was answered otherwise than it is to be.
-fn closed_behind(
+fn closed_after(
     alloc: Global,
     words: u32,
     cases: &[(Asked, Result<Reply, Full>)],
@@ -36,10 +36,10 @@ fn a_put_needs_eleven_words(rt: HostRuntime) -> Result<(), Fail> {
         words: 14,
     };
     let refused = [(Put(1, 1), Err(full)), (Find(1), Ok(None))];
-    let (closed, wrong) = closed_behind(rt.alloc(), 14, &refused)?;
+    let (closed, wrong) = closed_after(rt.alloc(), 14, &refused)?;
     assert_eq!(rt; (wrong, closed.used()), (None, 6));
     let answered = [(Put(1, 1), Ok(None)), (Find(1), Ok(Some(1)))];
-    let (closed, wrong) = closed_behind(rt.alloc(), 15, &answered)?;
+    let (closed, wrong) = closed_after(rt.alloc(), 15, &answered)?;
     assert_eq!(rt; (wrong, closed.used()), (None, 15));
     Ok(())
 }
@@ -53,7 +53,7 @@ fn removed_keys_leave_their_slots(rt: HostRuntime) -> Result<(), Fail> {
         (Remove(2), Ok(None)),
         (Put(2, 5), Ok(None)),
     ];
-    let (closed, wrong) = closed_behind(rt.alloc(), 53, &cases)?;
+    let (closed, wrong) = closed_after(rt.alloc(), 53, &cases)?;
     let both = [Pair { key: 1, value: 1 }, Pair { key: 2, value: 5 }];
     let pairs = closed.pairs(rt.alloc())?;
     let last = closed.list(rt.alloc(), 2, 9)?;
@@ -75,10 +75,10 @@ fn ten_puts(alloc: Global) -> Result<Vec<(Asked, Result<Reply, Full>)>, AllocErr
     Ok(cases)
 }
 
-// The tree of 1000 words behind these puts.
-fn closed_behind_ten(alloc: Global) -> Result<(Closed, Option<usize>), OpenFault> {
+// The tree of 1000 words after these puts.
+fn closed_after_ten(alloc: Global) -> Result<(Closed, Option<usize>), OpenFault> {
     let cases = ten_puts(alloc)?;
-    closed_behind(alloc, 1000, &cases)
+    closed_after(alloc, 1000, &cases)
 }
 
 // Whether the pairs of a closed tree are 1 to 10, each with its own number as the value, those from 3 to 5 are
@@ -95,7 +95,7 @@ fn has_ten(alloc: Global, closed: &Closed) -> Result<[bool; 3], OpenFault> {
 
 #[test]
 fn the_tenth_put_rebuilds_the_first_pair_row(rt: HostRuntime) -> Result<(), Fail> {
-    let (closed, wrong) = closed_behind_ten(rt.alloc())?;
+    let (closed, wrong) = closed_after_ten(rt.alloc())?;
     let listed = has_ten(rt.alloc(), &closed)?;
     assert_eq!(rt;
         (wrong, closed.used(), closed.settled(), listed),

@@ -21,7 +21,7 @@ struct Seen {
     others: u64,
 }
 
-// Puts the keys that are `start` and each second one behind, rising, and then removes them, rising.
+// Puts the keys that are `start` and each second one after, rising, and then removes them, rising.
 fn write(tree: &Tree, pass: Pass, start: u64) -> bool
     requires same_tree { pass.tree ≡ tree.now }
     requires low { start ≤ 1 }

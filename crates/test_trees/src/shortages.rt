@@ -41,7 +41,7 @@ fn put_ten(tree: &Tree, pass: &mut Pass) -> (Result<Reply, Full>, u64, bool)
     (last, count, agrees)
 }
 
-// Ten puts in a tree of so many words, with an eleventh behind them or not.
+// Ten puts in a tree of so many words, with an eleventh after them or not.
 fn outcome_in(alloc: Global, words: u32, with_more: bool) -> Result<Outcome, OpenFault>
     requires least { 4 ≤ words }
     requires most { words ≤ 1000 }

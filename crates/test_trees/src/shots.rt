@@ -19,7 +19,7 @@ pub(crate) fn new_tree(alloc: Global) -> Result<(Tree, Pass), OpenFault>
     Ok((tree, pass))
 }
 
-/// Puts the pairs, one behind another, up to the first that is refused.
+/// Puts the pairs, one after another, up to the first that is refused.
 pub(crate) fn put_all(tree: &Tree, pass: &mut Pass, pairs: &[Pair]) -> Result<(), Full>
     requires same_tree { pass.old.tree ≡ tree.now }
     ensures same_tree { pass.new.tree ≡ tree.now }

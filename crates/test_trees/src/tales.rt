@@ -52,7 +52,7 @@ fn tales_that_have_an_order_are_let_through(rt: HostRuntime) -> Result<(), Fail>
     let alloc = rt.alloc();
     let put_101 = (Put(1, 101), Some(100));
     let put_201 = (Put(1, 201), Some(101));
-    // one behind the other, and a find between, before and behind
+    // one after the other, and a find between, before and after
     judged(
         alloc,
         &[put_101, (Find(1), Some(101))],

@@ -24,8 +24,8 @@ pub(crate) struct Spent {
 
 /// The ticks in a line of `/proc/self/stat`: its fields 14 and 15. Field 2, which is in brackets, may have blanks.
 pub(crate) fn ticks_in(line: &str) -> Option<u64> {
-    let (_, behind) = line.rsplit_once(')')?;
-    let mut fields = behind.split_whitespace().skip(11);
+    let (_, following) = line.rsplit_once(')')?;
+    let mut fields = following.split_whitespace().skip(11);
     let own = fields.next()?.parse::<u64>().ok()?;
     let system = fields.next()?.parse::<u64>().ok()?;
     own.checked_add(system)

@@ -73,7 +73,7 @@ finds_theirs m es mine theirs p q put find other late owners ours others put_is 
     (owners e among)) in
     let made = others.made other (inl refl) (changes other late q p.key other_is late_is) in
     let read = ours.read find (inr (inl refl)) (reads put find p q.key put_is find_is) in
-    let behind : other.position + 1 ≤ find.position
+    let following : other.position + 1 ≤ find.position
     = subst (λ b. (if b then other.position + 1 else other.position) ≤ find.position)
     (changes other late q p.key other_is late_is) follows.position in
     read.reply ∙ ap (reply_to (map_at m es find.position)) find_is
@@ -125,17 +125,17 @@ both_find m words closes left right apart one two putter other end last mine the
     = λ e among. below_two e.owner
     (subst (λ n. e.owner < n) made
     (each-among (λ x. x.owner < m.made) e es closes.owners among)) in
-    let behind_two = subst (Each (λ known. Follows known found_one.call)) put_two.call_is
+    let after_two = subst (Each (λ known. Follows known found_one.call)) put_two.call_is
     found_one.follows in
-    let behind_one = subst (Each (λ known. Follows known found_two.call)) put_one.call_is
+    let after_one = subst (Each (λ known. Follows known found_two.call)) put_one.call_is
     found_two.follows in (
       sym found_one.reply_is
           ∙ finds_theirs (map_of pairs) es 0 1 left right put_one.call found_one.call put_two.call
           found_two.call owned stand.0 stand.1.0 put_one.command_is found_one.command_is
-          put_two.command_is found_two.command_is apart behind_two.0,
+          put_two.command_is found_two.command_is apart after_two.0,
       sym found_two.reply_is
           ∙ finds_theirs (map_of pairs) es 1 0 right left put_two.call found_two.call put_one.call
           found_one.call (λ e among. ⊎_elim inr inl (owned e among)) stand.1.0 stand.0
           put_two.command_is found_two.command_is put_one.command_is found_one.command_is
-          (λ same. apart (sym same)) behind_one.0,
+          (λ same. apart (sym same)) after_one.0,
     )

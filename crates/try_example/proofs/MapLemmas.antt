@@ -7,7 +7,7 @@ use Rattle.ist_core.specs.declared.commands.Command.{Command}
 use Rattle.ist_core.specs.declared.commands.Command.TheVariants.{Put}
 use Rattle.ist_core.specs.Map.{Map, map_after}
 use Rattle.ist_core.specs.Elements.{Each}
-use Rattle.ist_core.specs.Changes.{Entry, map_behind}
+use Rattle.ist_core.specs.Changes.{Entry, map_after_entries}
 
 module _ (key value other what : ℕ) (apart : other ≢ key) where
   -- the entry puts this value at the key, or that value at the other key
@@ -32,7 +32,7 @@ module _ (key value other what : ℕ) (apart : other ≢ key) where
 
   -- once the key has the value, it keeps it
   pub stays : (count : ℕ) (m : Map) (es : List Entry) → Each PutsOneOf es
-      → fin.get m key ≡ Some value → fin.get (map_behind m (take count es)) key ≡ Some value
+      → fin.get m key ≡ Some value → fin.get (map_after_entries m (take count es)) key ≡ Some value
   stays zero m es each has = has
   stays (suc count) m [] each has = has
   stays (suc count) m (e ∷ es) each has =
@@ -42,7 +42,7 @@ module _ (key value other what : ℕ) (apart : other ≢ key) where
   -- after a put of the value the key has it
   pub has_it : (i count : ℕ) (m : Map) (es : List Entry) → Each PutsOneOf es → (e : Entry)
       → slice_get es i ≡ Some e → e.command ≡ Put key value → i < count
-      → fin.get (map_behind m (take count es)) key ≡ Some value
+      → fin.get (map_after_entries m (take count es)) key ≡ Some value
   has_it i zero m es each e at is below = absurd (omega arith)
   has_it i (suc count) m [] each e at is below = cc
   has_it zero (suc count) m (x ∷ es) each e at is below =

@@ -20,7 +20,7 @@ pub(crate) struct Plan {
     pub seed: u64,
     /// How many threads there are, each with a pass of its own.
     pub passes: u64,
-    /// How many rounds there are. Behind each of them the passes learn from each other by notes.
+    /// How many rounds there are. After each of them the passes learn from each other by notes.
     pub rounds: u64,
     /// How many calls each thread makes in a round.
     pub calls: u64,

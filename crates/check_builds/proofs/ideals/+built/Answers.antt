@@ -1,6 +1,6 @@
 use Rattle.std.proofs.Common.{◌≤◌, ◌∙◌, ap, length, Some, None, arith}
 use Rattle.ist_core.specs.References.{LeafAt}
-use Rattle.check_fairness.proofs.BehindLemmas.{behind}
+use Rattle.check_fairness.proofs.AfterLemmas.{following}
 use Rattle.check_builds.proofs.BuiltLemmas as built
 use Rattle.check_builds.proofs.BuiltPartLemmas as parts
 use Rattle.check_builds.proofs.BuiltSizeLemmas as sizes
@@ -35,7 +35,7 @@ built-returns-in-None-parts_built-clause-exact t c =
     c.in-Some.ensures.exact.0
     c.in-Some-top_slots.slots.now c.in-Some-top_slots.ensures.exact
     (sizes.parts_by_degree c.args.leaves.now c.degree_of.result c.in-Some-top_slots.slots.now
-    c.in-Some.base (behind c.args.rows.now) None c.degree_of.ensures.value
+    c.in-Some.base (following c.args.rows.now) None c.degree_of.ensures.value
     c.in-None-parts_built.ensures.exact)
 
 pub built-returns-in-Some-parts_built-clause-exact :
@@ -47,7 +47,7 @@ built-returns-in-Some-parts_built-clause-exact t c =
     c.in-Some-top_slots.slots.now c.in-Some-top_slots.ensures.exact c.in-Some-parts_built.used
     c.if-row-base.false
     (sizes.parts_by_degree c.args.leaves.now c.degree_of.result c.in-Some-top_slots.slots.now
-    c.in-Some.base (behind c.args.rows.now) (Some c.in-Some-parts_built.used)
+    c.in-Some.base (following c.args.rows.now) (Some c.in-Some-parts_built.used)
     c.degree_of.ensures.value c.in-Some-parts_built.ensures.exact)
 
 pub parts_built-built-requires : goal.parts_built-built-requires

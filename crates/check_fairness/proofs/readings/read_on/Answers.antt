@@ -6,6 +6,6 @@ use Rattle.check_fairness.proofs.readings.read_on.Goals as goal
 pub loop-reading-preserved : goal.loop-reading-preserved
 loop-reading-preserved c sizes =
     let lists = map (λ v. v.items) c.args.lists.now in
-    more_added (c.in_ok-add_behind.ensures.added sizes) (c.loop-reading.invariant sizes)
+    more_added (c.in_ok-add_after.ensures.added sizes) (c.loop-reading.invariant sizes)
     (some_more lists c.args.room (c.args.size ∷ sizes) c.args.readings.now
     c.loop-reading.reading-index _ c.loop-reading-test.true)

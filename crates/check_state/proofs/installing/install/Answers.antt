@@ -1,7 +1,7 @@
 use Rattle.std.proofs.Common.{◌∙◌, Some, ap, refl}
 use Rattle.ist_core.specs.Pieces.{Change, change_of, with_row}
 use Rattle.ist_core.specs.After.{with_fresh}
-use Rattle.check_fairness.proofs.BehindLemmas.{behind}
+use Rattle.check_fairness.proofs.AfterLemmas.{following}
 use Rattle.check_state.proofs.FreshLemmas.{install_is}
 use Rattle.check_state.proofs.installing.install.Goals as goal
 
@@ -10,7 +10,7 @@ returns-in_ok-put_change-in-Some c =
     record {
       exact = λ t h.
           let change = c.in-Some.change in
-          let fresh = record t { pieces = with_fresh t.pieces change (behind c.args.rows.now) } in
+          let fresh = record t { pieces = with_fresh t.pieces change (following c.args.rows.now) } in
           let whole = record fresh {
             pieces = with_row fresh.pieces c.args.base
                 (Some (Change change));

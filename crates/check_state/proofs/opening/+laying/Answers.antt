@@ -1,7 +1,7 @@
 use Rattle.std.proofs.Common.{◌≡◌, ◌∙◌, ◌-◌, ◌<◌, ap, arith, subst, length}
 use Rattle.std.proofs.lemmas.Result.{on_ok_weaker}
 use Rattle.ist_core.specs.Arithmetic.{degree}
-use Rattle.ist_image.specs.Placing.{rows_behind, part_base}
+use Rattle.ist_image.specs.Placing.{rows_after, part_base}
 use Rattle.ist_image.proofs.PlacingSizeLemmas.{part_base-last, part_fits_at}
 use Rattle.ist_image.proofs.PlacedLemmas.{length-cut_part, cut_part}
 use Rattle.check_state.specs.Laying.{Publishes}
@@ -60,7 +60,7 @@ put_parts-returns t c =
     let first : c.loop-j.j ≡ 0 = omega arith in
     record {
       exact = subst (λ k. Publishes c.args.replica.now c.loop-j.replica
-          (rows_behind c.args.base c.args.pairs.now k)) first c.loop-j.invariant.laid;
+          (rows_after c.args.base c.args.pairs.now k)) first c.loop-j.invariant.laid;
     }
 
 pub put_tree-returns-in-empty : goal.put_tree-returns-in-empty

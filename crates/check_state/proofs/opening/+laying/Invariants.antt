@@ -1,6 +1,6 @@
 use Rattle.std.proofs.Common.{◌≡◌, ◌+◌, ◌*◌, ◌≤◌, length}
 use Rattle.ist_core.specs.Arithmetic.{degree}
-use Rattle.ist_image.specs.Placing.{rows_behind, part_base}
+use Rattle.ist_image.specs.Placing.{rows_after, part_base}
 use Rattle.check_state.specs.Laying.{Publishes}
 use Rattle.check_state.proofs.opening.+laying.Given as goal
 
@@ -15,7 +15,7 @@ abbrev pub invariant-put_parts-loop-j : goal.invariant-put_parts-loop-j
 invariant-put_parts-loop-j l = record {
   most : l.j ≤ degree (length l.pairs);
   place : l.at ≡ part_base l.base (length l.pairs) l.j;
-  laid : Publishes l.initial.replica l.replica (rows_behind l.base l.pairs l.j);
+  laid : Publishes l.initial.replica l.replica (rows_after l.base l.pairs l.j);
 }
 
 abbrev pub decreases-put_parts-loop-j : goal.decreases-put_parts-loop-j

@@ -5,7 +5,7 @@ use Rattle.std.specs.Map.{lookup}
 use Rattle.std.specs.Ordering.{nat_cmp}
 use Rattle.check_events.specs.Remembering.{last_with}
 use Rattle.check_state.proofs.BuildTableLemmas.{build_known}
-use Rattle.check_state.proofs.SizesFoundLemmas.{are_sizes, found_behind}
+use Rattle.check_state.proofs.SizesFoundLemmas.{are_sizes, found_after}
 use Rattle.check_state.proofs.remembering.note_build.Goals as goal
 
 pub returns-clause-exact : goal.returns-clause-exact
@@ -13,7 +13,7 @@ returns-clause-exact c log rebuild word known =
     let old = c.args.builds.now in
     let found = λ (xs : List ℕ).
     ap (lookup (is_at (λ v. slice_cmp nat_cmp xs v.items))) c.in_ok-insert.ensures.entries
-    ∙ found_behind (λ v. v.items) xs old.last.entries c.in_ok-sizes_of.field-0 (old.count + 1)
+    ∙ found_after (λ v. v.items) xs old.last.entries c.in_ok-sizes_of.field-0 (old.count + 1)
     ∙ ap (λ s. cond (are_sizes xs s) (Some (old.count + 1)) (last_with old xs))
     c.in_ok-sizes_of.ensures.value in
     build_known old log c.args.caller (old.count + 1) c.insert-2.new.self known (omega arith)

@@ -1,6 +1,6 @@
 use Rattle.std.proofs.Common.{◌∙◌, sym, ap, inl, inr, ⊎_elim}
 use Rattle.check_events.specs.Remembering.{pair_key}
-use Rattle.check_fairness.proofs.TargetLemmas.{held_behind}
+use Rattle.check_fairness.proofs.TargetLemmas.{held_after}
 use Rattle.check_state.proofs.TableLemmas.{pair_once}
 use Rattle.check_state.proofs.starting.put_refusal.Goals as goal
 
@@ -8,7 +8,7 @@ pub returns : goal.returns
 returns c =
     record {
       exact = λ caller node fits.
-          let it = held_behind c.args.refused.now c.insert.new.self c.pair_key.result
+          let it = held_after c.args.refused.now c.insert.new.self c.pair_key.result
           (pair_key caller node) (c.in_ok-insert.ensures.updates.0 (pair_key caller node)) in
           let key = c.pair_key.ensures.value in (
             (λ h. ⊎_elim (λ k. inl k) (λ k. inr (pair_once caller node c.args.owner c.args.on fits

@@ -82,13 +82,13 @@ loop-index-preserved t c =
       omega (arith, i.3, e.counted),
       omega (arith, i.4, e.few),
       (λ leaves has.
-          let behind = past leaves _ _ c.args.node _ _ i.1.sound e.seen i.2 c.loop-index-test.true
+          let following = past leaves _ _ c.args.node _ _ i.1.sound e.seen i.2 c.loop-index-test.true
           c.args.i _ (i.5 leaves has) c.match-below.skip _ e.under in
           elim c.match-below.branch [
-            | in-Nothing w ↦ behind (past_nothing w.in-Nothing.is w.skip-is)
-            | in-Leaf+else-skip-eq0 w ↦ behind (past_leaf w.in-Leaf.base w.in-Leaf.is
+            | in-Nothing w ↦ following (past_nothing w.in-Nothing.is w.skip-is)
+            | in-Leaf+else-skip-eq0 w ↦ following (past_leaf w.in-Leaf.base w.in-Leaf.is
                 (let some = w.if-skip-eq0.false in omega arith) w.skip-is)
-            | in-Row+else-skip-keys w ↦ behind (past_row w.in-Row.base w.in-Row.keys w.in-Row.is
+            | in-Row+else-skip-keys w ↦ following (past_row w.in-Row.base w.in-Row.keys w.in-Row.is
                 w.if-skip-keys.false w.skip-is)
           ]),
     )

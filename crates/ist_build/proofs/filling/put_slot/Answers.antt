@@ -24,5 +24,5 @@ pub returns-clause-put : goal.returns-clause-put
 returns-clause-put c =
     λ old made.
     (may_put old c.args.who.now c.args.shared c.args.i c.args.word made _
-    c.slot_place-place.ensures.value).behind
+    c.slot_place-place.ensures.value).following
     c.put_part.new.token c.put_part.result c.put_part.ensures.exchanged

@@ -30,7 +30,7 @@ loop-gallop-preserved c =
     let t = c.told-gallop.ensures in (
       k.same_table ∙ c.loop-gallop.invariant.0,
       run_on _ _ _ c.args.node c.args.from c.args.key c.loop-gallop.gallop _ c.loop-gallop.loads
-          c.probe-at.result _ c.loop-gallop.invariant.1 k.seen k.loads k.value p.behind_low p.before_high t.low
+          c.probe-at.result _ c.loop-gallop.invariant.1 k.seen k.loads k.value p.after_low p.before_high t.low
           t.high t.gallops,
     )
 

@@ -53,7 +53,7 @@ returns-then-pair-last-clause-pairs c =
     c.know.ensures.lawful c.requires.frozen c.in-Some.pair c.in-Some.is _
     (pairs_pushed c.pairs.room c.pairs.count _ i.free) c.if-pair-last.true)
 
--- there is a key behind the pair
+-- there is a key after the pair
 pub overflow_add-pair : goal.overflow_add-pair
 overflow_add-pair c =
     let i = c.pairs.invariant in

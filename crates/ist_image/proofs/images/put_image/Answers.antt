@@ -7,7 +7,7 @@ use Rattle.ist_core.specs.Images.{IsImage}
 use Rattle.ist_image.specs.Zeros.{ZerosFrom}
 use Rattle.ist_image.specs.Placing.{image_words}
 use Rattle.ist_image.proofs.PlacingSizeLemmas.{few_fit, opens_fit}
-use Rattle.ist_image.proofs.NewImageLemmas.{image_laid, zeros_behind, words_laid}
+use Rattle.ist_image.proofs.NewImageLemmas.{image_laid, zeros_after, words_laid}
 use Rattle.ist_image.proofs.images.put_image.Goals as goal
 
 pub needed_words-requires : goal.needed_words-requires
@@ -31,6 +31,6 @@ returns c =
       image = subst (λ ws. IsImage (start pairs c.args.size) (take c.args.size ws)) (sym same)
           (image_laid pairs old c.args.size c.requires.opens c.requires.within c.requires.zeros);
       zeros = subst (ZerosFrom (first_row + ideal_words (length pairs))) (sym same)
-          (zeros_behind pairs old c.args.size c.requires.opens c.requires.within c.requires.zeros);
+          (zeros_after pairs old c.args.size c.requires.opens c.requires.within c.requires.zeros);
       length = ap length same ∙ length-sets old 0 (image_words pairs);
     }

@@ -16,7 +16,7 @@ pub loop-gallop-preserved : goal.loop-gallop-preserved
 loop-gallop-preserved c =
     galloped_on c.args.keys.now c.args.x c.args.from c.loop-gallop.gallop c.told-gallop.result
     c.loop-gallop.looks c.probe-at.result c.loop-gallop.invariant
-    c.probe-at.ensures.behind_low c.probe-at.ensures.before_high
+    c.probe-at.ensures.after_low c.probe-at.ensures.before_high
     c.told-gallop.ensures.low c.told-gallop.ensures.high
     (c.told-gallop.ensures.gallops c.args.from c.loop-gallop.looks c.loop-gallop.invariant.gallops)
 

@@ -1,6 +1,6 @@
 use Rattle.ist_build.proofs.ShareLemmas.{err_map}
-use Rattle.ist_rebuild.proofs.BegunLemmas.{begun_more, closed_told, reserved_begun, told_behind}
-use Rattle.ist_rebuild.proofs.StartAnswerLemmas.{refused_behind}
+use Rattle.ist_rebuild.proofs.BegunLemmas.{begun_more, closed_told, reserved_begun, told_after}
+use Rattle.ist_rebuild.proofs.StartAnswerLemmas.{refused_after}
 use Rattle.ist_rebuild.proofs.starting.start.Goals as goal
 
 -- the parent was open
@@ -10,7 +10,7 @@ returns-then-parent_is_open c =
     let begun = begun_more c.args.target c.args.who.now c.parent_is_open.new.who c.start_open.new.who
     (reserved_begun c.args.target c.args.who.now c.parent_is_open.new.who test)
     c.start_open.ensures.begun in
-    let told = told_behind c.args.who.now c.parent_is_open.new.who c.requires.caller c.requires.quiet
+    let told = told_after c.args.who.now c.parent_is_open.new.who c.requires.caller c.requires.quiet
     test c.args.parent c.args.index c.args.target c.start_open.new.who c.start_open.result
     c.start_open.ensures.told in
     record {
@@ -25,7 +25,7 @@ returns-then-parent_is_open c =
       yes = told.yes;
       other = told.other;
       marked = told.marked;
-      full = err_map _ _ c.start_open.result (λ full h. refused_behind _ _ _ _ full test.went h)
+      full = err_map _ _ c.start_open.result (λ full h. refused_after _ _ _ _ full test.went h)
           c.start_open.ensures.full;
       lacks = c.start_open.ensures.lacks;
       done = told.done;

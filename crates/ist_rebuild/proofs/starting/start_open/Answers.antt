@@ -1,5 +1,5 @@
 use Rattle.std.proofs.Common.{refl, Ok}
-use Rattle.ist_rebuild.proofs.BegunLemmas.{begun_more, refused_told, reserved_begun, told_behind}
+use Rattle.ist_rebuild.proofs.BegunLemmas.{begun_more, refused_told, reserved_begun, told_after}
 use Rattle.ist_rebuild.proofs.starting.start_open.Goals as goal
 
 -- a row was refused
@@ -25,6 +25,6 @@ returns-clause-begun c =
 
 pub returns-clause-told : goal.returns-clause-told
 returns-clause-told c =
-    told_behind c.args.who.now c.prepare.new.who c.requires.caller c.requires.quiet
+    told_after c.args.who.now c.prepare.new.who c.requires.caller c.requires.quiet
     c.in_ok-rows.ensures.reserved c.args.parent c.args.index c.args.target c.put_in.new.who
     (Ok c.put_in.result) c.put_in.ensures.told

@@ -1,5 +1,5 @@
 -- A look loads the word in the anchor's slot, and meets what it names.
-use Rattle.laws_coming.proofs.FurtherLemmas.{behind_load}
+use Rattle.laws_coming.proofs.FurtherLemmas.{after_load}
 use Rattle.ist_rows.proofs.GoneLemmas.{still_ready}
 use Rattle.ist_tree.proofs.FreezeGoingLemmas.{err_map, may_have_met_more, ok_map, stopped_more}
 use Rattle.ist_tree.proofs.FreezeLookLemmas.{looked_idle}
@@ -19,7 +19,7 @@ returns-clause-met c =
 
 pub returns-clause-further : goal.returns-clause-further
 returns-clause-further c is =
-    behind_load _ _ _ c.anchor_word-word.ensures.seen (c.meet.ensures.further is)
+    after_load _ _ _ c.anchor_word-word.ensures.seen (c.meet.ensures.further is)
 
 pub returns-clause-full : goal.returns-clause-full
 returns-clause-full c =

@@ -5,7 +5,7 @@ use Rattle.ist_updates.specs.Trying.{Tries}
 use Rattle.ist_updates.proofs.AskedLemmas.{asked_served}
 use Rattle.ist_updates.proofs.StepLemmas.{serves_tries}
 use Rattle.ist_updates.proofs.HelpedLemmas.{slot_started, help_refused, refused_still}
-use Rattle.ist_updates.proofs.BehindLemmas.{behind_went}
+use Rattle.ist_updates.proofs.AfterLemmas.{after_went}
 use Rattle.ist_updates.proofs.FurtherLemmas.{target_further}
 use Rattle.ist_updates.proofs.TryResultLemmas.{again_tried, refused_tried}
 use Rattle.ist_updates.proofs.trying.help_target.Goals as goal
@@ -35,6 +35,6 @@ returns-clause-tried c =
     let was = c.in_ok-help_rebuild.was in
     again_tried _ _ c.args.aim c.args.value _ (gone_all ServesRebuild Tries serves_tries _ _ on.gone)
     (asked_served _ _ _ c.requires.asked on.gone on.quiet.resolved)
-    (λ first aimed. target_further first _ _ _ _ _ aimed (behind_went ServesRebuild _ _ on.gone.went)
+    (λ first aimed. target_further first _ _ _ _ _ aimed (after_went ServesRebuild _ _ on.gone.went)
     on.gone.went.sound c.args.base c.requires.rebuild c.in_ok-help_rebuild.field-0
     (λ e. h.replaced (was ∙ ap Ok e)) (λ e. h.parent_marked (was ∙ ap Ok e)))

@@ -1,5 +1,5 @@
-use Rattle.laws_histories.proofs.SearchExampleLemmas.{search_behind, search_before}
+use Rattle.laws_histories.proofs.SearchExampleLemmas.{search_after, search_before}
 use Rattle.laws_histories.proofs.examples.a_search_reads_a_change.Goals as goal
 
 pub returns : goal.returns
-returns c = record { behind = search_behind; before = search_before }
+returns c = record { following = search_after; before = search_before }

@@ -41,7 +41,7 @@ loop-line-preserved g c =
           record {
             sums = subst (S c.if-is_full.found) (sym w.round-is)
                 (sums_closed _ _ _ _ _ w.in_ok-found.field-0 _ c.ask.new.self new met.found met.few
-                met.behind met.none
+                met.following met.none
                 w.found-is sums);
             runs = subst (R (g.H.Shelf.kept c.if-is_full.shelf)) (sym w.round-is) (subst (λ k. R k
                 new) (ap g.H.Shelf.kept (sym w.shelf-is))
@@ -80,7 +80,7 @@ returns-clause-value g c =
     let line = c.loop-line.line in
     let sums = sums_closed c.args.count c.args.seed line c.loop-line.maker _ c.in_ok-found-2.field-0
     _ c.loop-line.round last
-    met.found met.few met.behind met.none refl c.loop-line.invariant.sums in
+    met.found met.few met.following met.none refl c.loop-line.invariant.sums in
     let all = sums_last c.args.count c.args.seed line c.loop-line.maker _ last
     c.loop-line-test.false met.none sums in
     summary_is c.args.count c.args.seed _ _ _ (map_in last) all.1 (ap length c.pairs.ensures.value)

@@ -18,7 +18,7 @@ returns-in-Ok g c =
     record {
       printed = on_ok result print.printed (subst
           (Appends (g.O.Sink.written c.args.out.now) (g.O.Sink.written c.print_answers.new.out)) text);
-      behind = at_ok result closed.closed.behind;
+      following = at_ok result closed.closed.following;
       none = at_ok result closed.closed.none;
       ran = at_ok result closed.ran;
       few = at_ok result closed.few;

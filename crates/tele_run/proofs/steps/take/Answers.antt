@@ -21,7 +21,7 @@ pub returns-then-is_full-clause-taken : goal.returns-then-is_full-clause-taken
 returns-then-is_full-clause-taken g c =
     let asks = c.in_default.ensures.asked in
     let met = c.end_round.ensures in
-    on_ok3 c.end_round.result met.printed met.behind met.none (taken_full c.args.version
+    on_ok3 c.end_round.result met.printed met.following met.none (taken_full c.args.version
     (map_in c.args.round.now) c.args.round.now.tasks c.args.line.number c.args.line.item
     c.in-Point.command c.ask.new.self.tasks c.in-Point.is (ap (λ (o : Open). o.tasks) asks)
     (map_in c.ask.new.self) (map_in c.end_round.new.round) c.end_round.new.round.tasks _ _
@@ -51,7 +51,7 @@ returns-in_ok-answer-in-Interval-clause-taken g c =
     on_ok c.end_with_pairs.result c.end_with_pairs.ensures.printed
     (taken_interval c.args.version (map_in c.args.round.now) c.args.round.now.tasks
     c.args.line.number c.in-Interval.first c.in-Interval.last c.args.line.item c.in-Interval.is
-    c.list.result.now (map_in c.answer.new.round) met.behind c.list.ensures.value
+    c.list.result.now (map_in c.answer.new.round) met.following c.list.ensures.value
     c.answer.new.round.tasks _ _ _ c.requires.open met.none met.printed)
 
 pub returns-in_ok-answer-in-Interval-clause-part : goal.returns-in_ok-answer-in-Interval-clause-part
@@ -60,7 +60,7 @@ returns-in_ok-answer-in-Interval-clause-part g c =
     on_err c.end_with_pairs.result c.end_with_pairs.ensures.part
     (interval_part c.args.version (map_in c.args.round.now) c.args.round.now.tasks
     c.args.line.number c.in-Interval.first c.in-Interval.last c.args.line.item c.in-Interval.is
-    c.list.result.now (map_in c.answer.new.round) met.behind c.list.ensures.value _ _ _ met.printed)
+    c.list.result.now (map_in c.answer.new.round) met.following c.list.ensures.value _ _ _ met.printed)
 
 -- the lines of the tasks are strictly increasing
 pub end_round-requires-clause-rising : goal.end_round-requires-clause-rising

@@ -2,7 +2,7 @@ use Rattle.std.proofs.Common.{[], ap, arith, rules}
 use Rattle.std.proofs.lemmas.List.Elements.{All-head}
 use Rattle.tele_steal.specs.Runs.{IsNewLane, ticket}
 use Rattle.tele_steal.proofs.OwnerLemmas.{draw_step, is_owners, room_after}
-use Rattle.tele_steal.proofs.RunLemmas.{behind, same_length}
+use Rattle.tele_steal.proofs.RunLemmas.{following, same_length}
 use Rattle.tele_steal.proofs.collecting.draw_all.Goals as goal
 
 -- the owner's tally
@@ -32,7 +32,7 @@ loop-preserved g c =
     record {
       same = search (arith, rules);
       owner = draw_step _ _ _ _ old.owner drawn.tally;
-      tickets = λ kept before. behind t t _ _ kept _ _ _ now.tickets (old.tickets kept before)
+      tickets = λ kept before. following t t _ _ kept _ _ _ now.tickets (old.tickets kept before)
           (ap (λ v. v.back) drawn.tally);
       ran = now.ran old.ran;
       room = omega (arith, room.0, grown, old.room, now.room);

@@ -6,7 +6,7 @@ use Rattle.tele_lanes.specs.declared.lanes.Lane.{Lane}
 use Rattle.tele_steal.specs.declared.tallies.Hand.{Hand}
 use Rattle.tele_steal.specs.Runs.{IsRunLane, ticket}
 use Rattle.tele_steal.specs.Tallies.{of_worker, taken_by}
-use Rattle.tele_steal.proofs.RunLemmas.{All-rest, All-last, All-more, length_more, same_length, behind}
+use Rattle.tele_steal.proofs.RunLemmas.{All-rest, All-last, All-more, length_more, same_length, following}
 use Rattle.tele_steal.proofs.OwnerLemmas.{is_owners, owner_step}
 use Rattle.tele_steal.proofs.collecting.get_back.Goals as goal
 
@@ -51,7 +51,7 @@ loop-hand-preserved g c =
     record {
       same = search (arith, rules);
       owner = owner_step _ _ _ _ _ taken old.owner now.owner shorter;
-      lanes_tickets = behind t t _ _ _ _ taken _ now.tickets old.lanes_tickets back;
+      lanes_tickets = following t t _ _ _ _ taken _ now.tickets old.lanes_tickets back;
       lanes_ran = now.ran old.lanes_ran;
       lane_room = omega (arith, old.lane_room, now.room);
       room = omega (arith, old.room, now.room, grown, sum, counted);

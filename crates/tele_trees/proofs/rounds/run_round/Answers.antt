@@ -6,7 +6,7 @@ use Rattle.tele_generations.specs.Sizes.{first_words}
 use Rattle.tele_generations.proofs.CountLemmas.{some_lanes}
 use Rattle.tele_generations.proofs.LeadLemmas.{tables_begin}
 use Rattle.tele_generations.proofs.NextTableLemmas.{way_begins}
-use Rattle.tele_generations.proofs.RoundLemmas.{some_left, behind_rise, behind_few, ends_plain}
+use Rattle.tele_generations.proofs.RoundLemmas.{some_left, after_rise, after_few, ends_plain}
 use Rattle.tele_generations.proofs.RoundLemmas.{ends_round, last_table, ends_with, ends_for}
 use Rattle.tele_generations.proofs.RoundLemmas.{way_goes_on, tables_go_on}
 use Rattle.tele_trees.proofs.rounds.run_round.Goals as goal
@@ -37,13 +37,13 @@ go_on-requires-clause-some_left g c =
 -- the pairs after it are strictly increasing
 pub go_on-requires-clause-rising : goal.go_on-requires-clause-rising
 go_on-requires-clause-rising g c =
-    behind_rise c.loop-way.invariant.on c.in_ok-made.ensures.ran c.in_ok-pairs.pairs.items
+    after_rise c.loop-way.invariant.on c.in_ok-made.ensures.ran c.in_ok-pairs.pairs.items
     c.in_ok-pairs.ensures.of_map
 
 -- no more keys came than tasks went
 pub go_on-requires-clause-few : goal.go_on-requires-clause-few
 go_on-requires-clause-few g c =
-    let few = behind_few c.loop-way.invariant.on c.in_ok-made.ensures.ran
+    let few = after_few c.loop-way.invariant.on c.in_ok-made.ensures.ran
     c.in_ok-pairs.pairs.items c.in_ok-pairs.ensures.of_map in
     omega (arith, few, c.requires.few)
 

@@ -1,6 +1,6 @@
 use Rattle.std.specs.Prelude.{Option, Some, None, IfSome}
 use Rattle.tele_lines.proofs.CutLemmas.{no_whole}
-use Rattle.tele_lines.proofs.PlaceLemmas.{one_behind}
+use Rattle.tele_lines.proofs.PlaceLemmas.{one_after}
 use Rattle.tele_lines.proofs.SparingLemmas.{needed_if}
 use Rattle.tele_lines.proofs.reader.Lines.advance.Goals as goal
 
@@ -14,7 +14,7 @@ from_both (Some x) p q f = f x p q
 pub returns-in-Ok-clause-line : goal.returns-in-Ok-clause-line
 returns-in-Ok-clause-line g c =
     from_both c.cut.result c.cut.ensures.line c.cut.ensures.place
-    (λ said line place goes_on. one_behind _ _ said _ _ _ _ c.in-Ok.ensures.kept (place goes_on) goes_on (line goes_on _))
+    (λ said line place goes_on. one_after _ _ said _ _ _ _ c.in-Ok.ensures.kept (place goes_on) goes_on (line goes_on _))
 
 -- the end of the line has not been read yet
 pub returns-in-Err-clause-waiting : goal.returns-in-Err-clause-waiting

@@ -25,8 +25,8 @@ use Rattle.ist_rule.proofs.HeldBetweenLemmas.{next_between}
 use Rattle.ist_rule.proofs.HeldLemmas.{held-resolved}
 use Rattle.ist_rows.specs.Kinds.{kind_words}
 use Rattle.ist_rows.specs.Rows.{Spares, is_spare, held_by}
-use Rattle.ist_rows.specs.CallerLaws.{KeepsRows, held_behind, GivesUp}
-use Rattle.ist_rows.proofs.BuildLemmas.{ComesBehind, builds_on}
+use Rattle.ist_rows.specs.CallerLaws.{KeepsRows, held_after, GivesUp}
+use Rattle.ist_rows.proofs.BuildLemmas.{ComesAfter, builds_on}
 use Rattle.ist_rows.proofs.CallerLemmas.{IsCallerIn}
 use Rattle.ist_rows.proofs.HeldListLemmas.{held_by_step}
 
@@ -75,7 +75,7 @@ held_kept t _ is = refl
 pub held_by_own : (pairs : List Pair) (words : ℕ) (log : Log) (number : ℕ) (event : Event)
     → whose event ≡ CallerOf number
     → held_by (state_of pairs words (event ∷ log)) number
-    ≡ held_behind event (held_by (state_of pairs words log) number)
+    ≡ held_after event (held_by (state_of pairs words log) number)
 held_by_own pairs words log number event mine = at event mine
   where
     given : (bases : List ℕ) → filter (λ (h : HeldRow). h.caller == number)
@@ -94,7 +94,7 @@ held_by_own pairs words log number event mine = at event mine
 
     at : (e : Event) → whose e ≡ CallerOf number
         → held_by (state_of pairs words (e ∷ log)) number
-        ≡ held_behind e (held_by (state_of pairs words log) number)
+        ≡ held_after e (held_by (state_of pairs words log) number)
     at (Reserve caller base size) is =
         let row : HeldRow = record { caller = caller; base = base; size = size } in
         filter-append (λ (h : HeldRow). h.caller == number) (state_of pairs words log).held
@@ -112,13 +112,13 @@ held_by_own pairs words log number event mine = at event mine
     at _ is = refl
 
 -- an event that gives rows up takes just these away
-pub held_behind-given : (event : Event) (bases : List ℕ) (held : List HeldRow)
-    → GivesUp event bases → held_behind event held ≡ without bases held
-held_behind-given (Install caller change rows) bases held is = ap (λ b. without b held) is
-held_behind-given (Root caller rebuild word rows) bases held is = ap (λ b. without b held) is
-held_behind-given (Place caller rebuild i word rows) bases held is = ap (λ b. without b held) is
-held_behind-given (Lose caller lost) bases held is = ap (λ b. without b held) is
-held_behind-given _ bases held is = absurd is
+pub held_after-given : (event : Event) (bases : List ℕ) (held : List HeldRow)
+    → GivesUp event bases → held_after event held ≡ without bases held
+held_after-given (Install caller change rows) bases held is = ap (λ b. without b held) is
+held_after-given (Root caller rebuild word rows) bases held is = ap (λ b. without b held) is
+held_after-given (Place caller rebuild i word rows) bases held is = ap (λ b. without b held) is
+held_after-given (Lose caller lost) bases held is = ap (λ b. without b held) is
+held_after-given _ bases held is = absurd is
 
 -- ---- many events
 
@@ -136,9 +136,9 @@ held_by_went pairs words number old _ enabled (one_more {log = log} event l (inr
     ∙ held_by_went pairs words number old log enabled.0 l
 
 -- a later state comes after an earlier one
-pub behind_between : (pairs : List Pair) (words : ℕ) (old log : Log) → Lawful pairs words log
-    → GoesOn old log → ComesBehind (state_of pairs words old) (state_of pairs words log)
-behind_between pairs words old log lawful g =
+pub after_between : (pairs : List Pair) (words : ℕ) (old log : Log) → Lawful pairs words log
+    → GoesOn old log → ComesAfter (state_of pairs words old) (state_of pairs words log)
+after_between pairs words old log lawful g =
     record {
       words = words_same pairs words lawful.opens log ∙ sym
           (words_same pairs words lawful.opens old);
@@ -165,7 +165,7 @@ caller_between pairs words old log number own lawful g same c =
           (among_filter (λ (h : HeldRow). h.caller == number) row (state_of pairs words old).held
           (c.rows kind base e) (own_number number)))).0;
       builds = builds_on (state_of pairs words old) (state_of pairs words log)
-          (behind_between pairs words old log lawful g) _
+          (after_between pairs words old log lawful g) _
           (subst (λ held. AreBuilds (state_of pairs words old)
           (map (λ h. h.size) (filter (λ h. not (is_spare own h.base)) held))) (sym same) c.builds);
     }

@@ -15,31 +15,31 @@ use Rattle.tele_generations.specs.Tables.{HasPairs}
 use Rattle.tele_generations.specs.Rounds.{EndsTheRound}
 
 module _ {workers : ℕ} {pairs : List Pair} {tasks : List Task} {table : List ℕ} {fulls : List Full}
-    (ends : EndsTheRound workers pairs tasks table fulls) (behind : List Pair)
-    (has : HasPairs table behind) where
+    (ends : EndsTheRound workers pairs tasks table fulls) (following : List Pair)
+    (has : HasPairs table following) where
   -- they are the pairs of the map after the tasks
-  pub behind_is : behind ≡ pairs_of (replay (map_of pairs) (commands_of tasks))
-  behind_is = has ends.opening (told_of_runs ends.runs) ends.is.stands ∙ ap pairs_of ends.leaves
+  pub after_is : following ≡ pairs_of (replay (map_of pairs) (commands_of tasks))
+  after_is = has ends.opening (told_of_runs ends.runs) ends.is.stands ∙ ap pairs_of ends.leaves
 
   -- the pairs make the map after the tasks
-  pub behind_map : map_of behind ≡ replay (map_of pairs) (commands_of tasks)
-  behind_map = ap map_of behind_is ∙ map_of-pairs_of (replay (map_of pairs) (commands_of tasks))
+  pub after_map : map_of following ≡ replay (map_of pairs) (commands_of tasks)
+  after_map = ap map_of after_is ∙ map_of-pairs_of (replay (map_of pairs) (commands_of tasks))
 
   -- the pairs are strictly increasing
-  pub behind_rises : IsRising behind
-  behind_rises =
+  pub after_rises : IsRising following
+  after_rises =
       let stands = ends.is.stands in
       subst (λ ps. IsRising ps) (sym (has ends.opening (told_of_runs ends.runs) stands))
       (pairs_rise_at ends.opening (length table) stands.lawful.opens stands.log
       stands.lawful.enabled)
 
   -- at most one pair came per task
-  pub behind_few : (first : List Pair) → pairs ≡ first → first ≡ pairs_of (map_of first)
-      → length behind ≤ length first + length tasks
-  behind_few first same of_map =
+  pub after_few : (first : List Pair) → pairs ≡ first → first ≡ pairs_of (map_of first)
+      → length following ≤ length first + length tasks
+  after_few first same of_map =
       let few = adds_few_pairs (map_of pairs) (commands_of tasks) in
       let long = length-map tasks (λ t. t.command) in
-      let now = ap length behind_is in
+      let now = ap length after_is in
       let then = ap (λ ps. length (pairs_of (map_of ps))) same in
       let back = ap length of_map in
       omega arith

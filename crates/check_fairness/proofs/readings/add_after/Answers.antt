@@ -4,7 +4,7 @@ use Rattle.ist_core.specs.Elements.{Among}
 use Rattle.check_fairness.specs.Readings.{rest_at}
 use Rattle.check_fairness.proofs.AddedLemmas.{two_added, three_added, not_set, is_set}
 use Rattle.check_fairness.proofs.ReadingLemmas.{goes_free, goes_bound}
-use Rattle.check_fairness.proofs.readings.add_behind.Goals as goal
+use Rattle.check_fairness.proofs.readings.add_after.Goals as goal
 
 pub returns-then-not-reading : goal.returns-then-not-reading
 returns-then-not-reading c =

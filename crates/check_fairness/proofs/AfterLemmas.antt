@@ -6,11 +6,11 @@ use Rattle.ist_core.specs.Elements.{Among}
 
 module _ {A : Type 0} where
   -- what follows the first of some elements
-  abbrev pub behind : List A → List A
-  behind xs = take (length xs - 1) (drop 1 xs)
+  abbrev pub following : List A → List A
+  following xs = take (length xs - 1) (drop 1 xs)
 
   -- some elements are the first and those after it
-  pub split_first : (xs : List A) (x : A) → 1 ≤ length xs → x ≡ get_or xs 0 x → xs ≡ x ∷ behind xs
+  pub split_first : (xs : List A) (x : A) → 1 ≤ length xs → x ≡ get_or xs 0 x → xs ≡ x ∷ following xs
   split_first [] x n e = absurd (omega arith)
   split_first (y ∷ ys) x n e =
       let l : length (y ∷ ys) - 1 ≡ length ys = omega arith in
@@ -25,6 +25,6 @@ module _ {A : Type 0} where
   among_first (suc n) (z ∷ ys) y (inr k) = inr (among_first n ys y k)
 
 -- some numbers are the first and those after it
-pub first_behind : (xs : List ℕ) → 1 ≤ length xs → get_or xs 0 0 ∷ behind xs ≡ xs
-first_behind [] n = absurd (omega arith)
-first_behind (y ∷ ys) n = sym (split_first (y ∷ ys) y n refl)
+pub first_after : (xs : List ℕ) → 1 ≤ length xs → get_or xs 0 0 ∷ following xs ≡ xs
+first_after [] n = absurd (omega arith)
+first_after (y ∷ ys) n = sym (split_first (y ∷ ys) y n refl)

@@ -17,14 +17,14 @@ use Rattle.laws_stability.specs.Progress.{progress}
 use Rattle.laws_stability.proofs.ProgressLemmas.{never_falls}
 use Rattle.laws_stability.proofs.StandstillLemmas.{open_stands, slots_stand}
 use Rattle.laws_coming.specs.Further.{CameFurther}
-use Rattle.ist_updates.specs.Further.{IsBehind}
+use Rattle.ist_updates.specs.Further.{IsAfter}
 use Rattle.laws_histories.proofs.ChangeLemmas.{on_trans}
 
 -- ---- one view after another
 
 -- a caller that went on by these events has seen no less
-pub behind_went : (P : Event → Type 0) (v w : View) → WentOn P v w → IsBehind v w
-behind_went P v w g =
+pub after_went : (P : Event → Type 0) (v w : View) → WentOn P v w → IsAfter v w
+after_went P v w g =
     record {
       later = later_by-goes_on g.later;
       start_is = ap (λ (x : View). x.start) g.same;
@@ -32,8 +32,8 @@ behind_went P v w g =
     }
 
 -- so has one that made loads
-pub behind_loads : (v w : View) → GoesOnTo v w → IsBehind v w
-behind_loads v w g =
+pub after_loads : (v w : View) → GoesOnTo v w → IsAfter v w
+after_loads v w g =
     record {
       later = later-goes_on g.later;
       start_is = ap (λ (x : View). x.start) g.same;
@@ -41,8 +41,8 @@ behind_loads v w g =
     }
 
 -- and one that has seen no less than one that has seen no less than a third
-pub behind_more : (u v w : View) → IsBehind u v → IsBehind v w → IsBehind u w
-behind_more u v w a b =
+pub after_more : (u v w : View) → IsAfter u v → IsAfter v w → IsAfter u w
+after_more u v w a b =
     record {
       later = on_trans u.log v.log w.log a.later b.later;
       start_is = b.start_is ∙ a.start_is;
@@ -50,26 +50,26 @@ behind_more u v w a b =
     }
 
 -- a table that came further since a later view came further since the earlier one
-pub further_behind : (u v w : View) → IsBehind u v → CameFurther v w → CameFurther u w
-further_behind u v w b k =
+pub further_after : (u v w : View) → IsAfter u v → CameFurther v w → CameFurther u w
+further_after u v w b k =
     let first = never_falls u.log v.log b.later in
     let more = k.more in
     record { more = omega arith }
 
 -- and for what goes on from it
-pub further_on : (u v w : View) → CameFurther u v → IsBehind v w → CameFurther u w
+pub further_on : (u v w : View) → CameFurther u v → IsAfter v w → CameFurther u w
 further_on u v w k b =
     let then = never_falls v.log w.log b.later in
     let more = k.more in
     record { more = omega arith }
 
 -- the later view's state, by the earlier view's table
-pub now_is : (v w : View) → IsBehind v w → state_of v.start v.words w.log ≡ now w
+pub now_is : (v w : View) → IsAfter v w → state_of v.start v.words w.log ≡ now w
 now_is v w b =
     ap₂ (λ p n. state_of p n w.log) (sym b.start_is) (sym b.words_is)
 
 -- the later view's log is lawful over the earlier view's table
-pub lawful_is : (v w : View) → IsBehind v w → IsSound w → Lawful v.start v.words w.log
+pub lawful_is : (v w : View) → IsAfter v w → IsSound w → Lawful v.start v.words w.log
 lawful_is v w b s =
     subst (λ p. Lawful p v.words w.log) b.start_is
     (subst (λ n. Lawful w.start n w.log) b.words_is s.lawful)
@@ -83,7 +83,7 @@ further_or_not v w =
 -- ---- if a table comes no further
 
 -- a set slot holds its word
-pub stands : (v w : View) → IsBehind v w → IsSound w → progress w.log ≤ progress v.log
+pub stands : (v w : View) → IsAfter v w → IsSound w → progress w.log ≤ progress v.log
     → (node i word : ℕ) → word ≢ unset_word → SlotHolds (now v) node i word
     → SlotHolds (now w) node i word
 stands v w b s few node i word set here =
@@ -92,7 +92,7 @@ stands v w b s few node i word set here =
     (slots_stand v.start v.words l.opens v.log w.log l.enabled b.later few node i word set here)
 
 -- an open node is open
-pub stays_open : (v w : View) → IsBehind v w → IsSound w → progress w.log ≤ progress v.log
+pub stays_open : (v w : View) → IsAfter v w → IsSound w → progress w.log ≤ progress v.log
     → (node : ℕ) → IsOpen (now v) node → IsOpen (now w) node
 stays_open v w b s few node is =
     let l = lawful_is v w b s in
