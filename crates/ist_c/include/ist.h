@@ -113,8 +113,9 @@ uint64_t ist_shot_words(uint64_t pairs);
  * pass. Until ist_drop_shot, other calls of a pass by it are IST_MISUSE; to go on meanwhile, make a second pass.
  *
  * The whole tree is rebuilt for those who go on. If fewer than `words` words are left, no shot is taken: the status is IST_FULL,
- * `why` is written, and the handle still holds the pass. If the rebuild runs out of words, the tree is read-only: each later update
- * is IST_FULL. So ask for the ist_shot_words of its pairs, and for the words of updates that are made meanwhile. */
+ * `why` is written, and the handle still holds the pass. If that many are left, and they are 14 or more, the status is IST_FULL only
+ * if others take words meanwhile. If the rebuild runs out of words, the tree is read-only: each later update is IST_FULL. So ask for
+ * the ist_shot_words of its pairs, and for the words of updates that are made meanwhile. */
 uint32_t ist_take_shot(ist_pass *pass, uint64_t words, ist_shortage *why);
 
 /* Writes how many pairs the shot has. */

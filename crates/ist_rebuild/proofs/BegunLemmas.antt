@@ -19,7 +19,7 @@ use Rattle.ist_dcss.specs.Installing.{Filling, IsInstalled, IsOther}
 use Rattle.ist_rebuild.specs.declared.answers.Started.{Started}
 use Rattle.ist_rebuild.specs.declared.answers.Started.TheVariants.{Yes, Other, Marked}
 use Rattle.ist_rebuild.specs.Going.{Begins, StartsAt}
-use Rattle.ist_rebuild.specs.Starting.{StartsDoneSince, StartsNone, StoodInstead}
+use Rattle.ist_rebuild.specs.Starting.{ReservesNeeded, StartsDoneSince, StartsNone, StoodInstead}
 use Rattle.ist_rebuild.specs.StartSteps.{HasBegun, HasReserved, IsStartReady, TellsStart, start_filling}
 use Rattle.ist_rebuild.proofs.StartAnswerLemmas.{after_done, after_uninstalled, after_unstarted, has_put, no_closed, no_done, no_start, put_aims, put_begins, same_answer, same_word, yes_done, yes_started}
 use Rattle.ist_rebuild.proofs.StartGoingLemmas.{HasPutIn, aims_reserving, begins_reserving}
@@ -65,6 +65,9 @@ module _ (old new : Caller) (c : IsCaller old) (q : IsQuiet old) (r : HasReserve
   abbrev g : WentOn IsReservation old.token.view new.token.view
   g = r.went
 
+  own : ReservesNeeded old new
+  own = record { went = r.went; few = r.few }
+
   done : (first : Snapshot) → StartsDoneSince first (now old.token.view) old.number
       → StartsDoneSince first (now new.token.view) old.number
   done = starts_reserving old.token.view new.token.view g old.number c.mine q.resolved
@@ -83,7 +86,7 @@ module _ (old new : Caller) (c : IsCaller old) (q : IsQuiet old) (r : HasReserve
         marked = λ e. absurd (cc e);
         done = done;
         unstarted = none;
-        uninstalled = g;
+        uninstalled = own;
       }
 
   -- the parent isn't open
@@ -110,7 +113,7 @@ module _ (old new : Caller) (c : IsCaller old) (q : IsQuiet old) (r : HasReserve
         marked = λ e. absurd (cc e);
         done = done;
         unstarted = none;
-        uninstalled = g;
+        uninstalled = own;
       }
 
   -- what a start tells that follows them
@@ -126,8 +129,7 @@ module _ (old new : Caller) (c : IsCaller old) (q : IsQuiet old) (r : HasReserve
             c.mine q.resolved r.number answer t.done;
         unstarted = after_unstarted old.token.view new.token.view last.token.view g old.number
             new.number c.mine q.resolved r.number answer t.unstarted;
-        uninstalled = after_uninstalled old.token.view new.token.view last.token.view g answer
-            t.uninstalled;
+        uninstalled = after_uninstalled old new last r.number own answer t.uninstalled;
       }
 
 -- ---- a start that was put in

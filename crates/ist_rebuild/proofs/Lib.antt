@@ -1,4 +1,5 @@
 pub mod LackLemmas
+pub mod NeedLemmas
 pub mod StartGoingLemmas
 pub mod StartReserveLemmas
 pub mod StartPutLemmas

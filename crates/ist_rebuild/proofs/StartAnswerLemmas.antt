@@ -24,12 +24,13 @@ use Rattle.ist_rebuild.specs.declared.answers.Started.{Started}
 use Rattle.ist_rebuild.specs.declared.answers.Started.TheVariants.{Yes, Other, Marked}
 use Rattle.ist_rebuild.specs.Going.{Begins, StartsAt}
 use Rattle.ist_rebuild.specs.Starting.{IsStartedAt, LeavesDone, IsStartRefused, StartsDoneBut, StartsDoneSince}
-use Rattle.ist_rebuild.specs.Starting.{LeavesUninstalled, LeavesUnstarted, StartsNone}
+use Rattle.ist_rebuild.specs.Starting.{LeavesUninstalled, LeavesUnstarted, ReservesNeeded, StartsNone}
 use Rattle.ist_rebuild.specs.StartSteps.{IsStartReady, start_filling}
 use Rattle.ist_rebuild.proofs.StartFillLemmas.{rebuild_good, rows_apart}
 use Rattle.ist_rebuild.proofs.StartGoingLemmas.{HasPutIn, begins_reserving, begins_installing, begins_serving, put_went, aims_installing, aims_serving}
 use Rattle.ist_rebuild.proofs.StartOwnLemmas.{InstallsBut, own_was, starts_but, starts_none_reserving, starts_reserving}
 use Rattle.ist_rebuild.proofs.StartResultLemmas.{put_closed, put_said, put_started, put_to}
+use Rattle.ist_rebuild.proofs.NeedLemmas.{takes_more}
 use Rattle.ist_rows.proofs.ShortLemmas.{short_from}
 
 -- ---- answers
@@ -184,12 +185,24 @@ after_done v u w g number same mine resolved is answer leaves first done =
 -- ---- what is left undone
 
 -- after reservings nothing more was installed
-pub after_uninstalled : (v u w : View) → WentOn IsReservation v u → (answer : Result Started Full)
-    → LeavesUninstalled u w answer → LeavesUninstalled v w answer
-after_uninstalled v u w g (Ok (Yes rebuild)) left = tt
-after_uninstalled v u w g (Ok (Other word)) left = went_more IsReservation v u w g left
-after_uninstalled v u w g (Ok Marked) left = tt
-after_uninstalled v u w g (Err full) left = went_more IsReservation v u w g left
+pub after_uninstalled : (old mid new : Caller) → mid.number ≡ old.number → ReservesNeeded old mid
+    → (answer : Result Started Full) → LeavesUninstalled mid new answer
+    → LeavesUninstalled old new answer
+after_uninstalled old mid new number first answer left = at answer left
+  where
+    both : ReservesNeeded mid new → ReservesNeeded old new
+    both next =
+        record {
+          went = went_more IsReservation old.token.view mid.token.view new.token.view first.went
+              next.went;
+          few = takes_more old mid new number first.few next.few;
+        }
+
+    at : (a : Result Started Full) → LeavesUninstalled mid new a → LeavesUninstalled old new a
+    at (Ok (Yes rebuild)) next = tt
+    at (Ok (Other word)) next = both next
+    at (Ok Marked) next = tt
+    at (Err full) next = both next
 
 -- what was not started after reservings was not started from the beginning
 pub after_unstarted : (v u w : View) → WentOn IsReservation v u → (number same : ℕ)

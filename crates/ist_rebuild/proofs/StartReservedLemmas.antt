@@ -2,6 +2,7 @@
 use Rattle.std.proofs.Common.{◌≡◌, ◌∙◌, ℕ, Option, Some, None, Result, Ok, Err, IfSome, IfErr, refl, sym, ap, subst}
 use Rattle.ist_build.specs.Laying.{IsReservation}
 use Rattle.ist_core.specs.declared.ports.Full.{Full}
+use Rattle.ist_core.specs.Authors.{Later}
 use Rattle.ist_rule.specs.declared.view.View.{View}
 use Rattle.ist_rule.specs.Faces.{TokenFace}
 use Rattle.ist_rule.specs.Learning.{GoesOnTo}
@@ -17,6 +18,8 @@ use Rattle.ist_rebuild.specs.StartSteps.{HasReserved, filled_start}
 use Rattle.ist_rebuild.proofs.StartPutLemmas.{loads_quiet, loads_refused}
 use Rattle.ist_rebuild.proofs.StartReadyLemmas.{filled_quiet, reserved_quiet}
 use Rattle.ist_rebuild.proofs.StartReserveLemmas.{reserve_refused, reserve_went}
+use Rattle.ist_rows.proofs.TakenLemmas.{taken_later}
+use Rattle.ist_rebuild.proofs.NeedLemmas.{IsOfStart, row_takes, takes_more, takes_none}
 
 -- a caller that only made loads
 pub loads_reserved : (who : Caller) (token : TokenFace) → IsCaller who → IsQuiet who
@@ -29,6 +32,10 @@ loads_reserved who token c q g =
       quiet = loads_quiet who token c g q;
       refused = loads_refused who token c g;
       went = goes_on_went IsReservation who.token.view token.view g;
+      few =
+          takes_none who (record who { token = token })
+          (taken_later who.number
+          (subst (λ x. Later x who.token.view.log token.view.log) c.mine g.later)) refl;
     }
 
 -- reserving twice
@@ -42,13 +49,14 @@ reserved_more old mid new a b =
       quiet = b.quiet;
       refused = λ was. b.refused (a.refused was);
       went = went_more IsReservation old.token.view mid.token.view new.token.view a.went b.went;
+      few = takes_more old mid new a.number a.few b.few;
     }
 
 module _ (words : ℕ) (kind : Kind) (old new : Caller) (answer : Result ℕ Full)
     (held : IfSome (row_of kind (spares_of old)) (λ base. (answer ≡ Ok base) × (new ≡ old)))
     (taken : IsFreshRow kind old new answer)
     (full : IfErr answer (λ f. IsKindRefused words kind old new f))
-    (other : (base : ℕ) (own : Spares)
+    (of : IsOfStart kind) (other : (base : ℕ) (own : Spares)
     → ((with_spare kind base own).leaf ≡ own.leaf) × ((with_spare kind base own).pair ≡ own.pair)) where
   -- a reserving of another kind leaves the leaf and the pair row
   row_fresh : KeepsFresh old new
@@ -79,6 +87,7 @@ module _ (words : ℕ) (kind : Kind) (old new : Caller) (answer : Result ℕ Ful
         quiet = reserved_quiet old new c same went q;
         refused = reserve_refused words kind old new answer held taken full c same;
         went = went;
+        few = row_takes words kind old new answer c.mine of held taken full;
       }
 
 -- a caller that then filled the rows of a start
@@ -101,4 +110,5 @@ filled_reserved old mid full rebuild change parent index target is d s r =
         }) r.went.same;
         loaded = r.went.loaded;
       };
+      few = r.few;
     }

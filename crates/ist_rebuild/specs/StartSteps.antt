@@ -23,6 +23,7 @@ use Rattle.ist_rebuild.specs.declared.answers.Started.TheVariants.{Yes, Other, M
 use Rattle.ist_rebuild.specs.Going.{Begins, KeepsFresh, StartsAt}
 use Rattle.ist_rebuild.specs.Starting.{IsStartedAt, LeavesDone, StartsDoneSince, StoodInstead}
 use Rattle.ist_rebuild.specs.Starting.{LeavesUninstalled, LeavesUnstarted}
+use Rattle.ist_rebuild.specs.Needs.{TakesNeeded}
 
 -- ---- the rows
 
@@ -73,8 +74,8 @@ pub record IsStartReady (who : Caller) (rebuild change : ℕ) (f : Filling) : Ty
 
 -- ---- how it went
 
--- the caller made at most reservings: it has the number, the leaf and the pair row that it had, is
--- quiet, and each of its builds that was refused still is
+-- the caller made at most reservings, of rows that a start needs: it has the number, the leaf and the
+-- pair row that it had, is quiet, and each of its builds that was refused still is
 pub record HasReserved (old new : Caller) : Type 0 where
   pub caller : IsCaller new
   pub number : new.number ≡ old.number
@@ -82,6 +83,7 @@ pub record HasReserved (old new : Caller) : Type 0 where
   pub quiet : IsQuiet new
   pub refused : HasRefused old → HasRefused new
   pub went : WentOn IsReservation old.token.view new.token.view
+  pub few : TakesNeeded old new
 
 -- the caller made only steps of a start of this target; otherwise as with reservings
 pub record HasBegun (target : ℕ) (old new : Caller) : Type 0 where
@@ -104,4 +106,4 @@ pub record TellsStart (old new : Caller) (parent index target : ℕ)
   pub done : (first : Snapshot) → StartsDoneSince first (now old.token.view) old.number
       → LeavesDone first (now new.token.view) old.number answer
   pub unstarted : LeavesUnstarted (now old.token.view) (now new.token.view) old.number answer
-  pub uninstalled : LeavesUninstalled old.token.view new.token.view answer
+  pub uninstalled : LeavesUninstalled old new answer

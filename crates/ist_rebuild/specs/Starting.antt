@@ -23,6 +23,8 @@ use Rattle.laws_calls.specs.Settling.{IsDoneStart}
 use Rattle.ist_rebuild.specs.declared.answers.Started.{Started}
 use Rattle.ist_rebuild.specs.declared.answers.Started.TheVariants.{Yes, Other, Marked}
 use Rattle.ist_rebuild.specs.Going.{Begins}
+use Rattle.ist_rebuild.specs.Needs.{TakesNeeded}
+use Rattle.ist_rows.specs.declared.callers.Caller.{Caller}
 use Rattle.ist_rows.specs.Rows.{RanShort}
 
 -- ---- when
@@ -95,13 +97,18 @@ LeavesUnstarted t u caller (Ok (Other word)) = StartsNone t u caller
 LeavesUnstarted t u caller (Ok Marked) = StartsNone t u caller
 LeavesUnstarted t u caller (Err full) = StartsNone t u caller
 
--- if the slot held another word, or a row was refused, nothing was installed: the caller has only
--- made reservings
-abbrev pub LeavesUninstalled : View → View → Result Started Full → Type 0
-LeavesUninstalled v w (Ok (Yes rebuild)) = Unit {0}
-LeavesUninstalled v w (Ok (Other word)) = WentOn IsReservation v w
-LeavesUninstalled v w (Ok Marked) = Unit {0}
-LeavesUninstalled v w (Err full) = WentOn IsReservation v w
+-- the caller has only made reservings, and took no more words than rows have that a start needs and
+-- that it holds since
+pub record ReservesNeeded (old new : Caller) : Type 0 where
+  pub went : WentOn IsReservation old.token.view new.token.view
+  pub few : TakesNeeded old new
+
+-- if the slot held another word, or a row was refused, nothing was installed
+abbrev pub LeavesUninstalled : Caller → Caller → Result Started Full → Type 0
+LeavesUninstalled old new (Ok (Yes rebuild)) = Unit {0}
+LeavesUninstalled old new (Ok (Other word)) = ReservesNeeded old new
+LeavesUninstalled old new (Ok Marked) = Unit {0}
+LeavesUninstalled old new (Err full) = ReservesNeeded old new
 
 -- ---- too few words
 

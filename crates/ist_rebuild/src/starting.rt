@@ -152,7 +152,7 @@ pub fn start(
         → LeavesDone first (now who.new.token.view) who.old.number result }
     ensures unstarted { let old = now who.old.token.view in
         LeavesUnstarted old (now who.new.token.view) who.old.number result }
-    ensures uninstalled { LeavesUninstalled who.old.token.view who.new.token.view result }
+    ensures uninstalled { LeavesUninstalled who.old who.new result }
 {
     if parent_is_open(table, who, parent, index, target) {
         start_open(table, who, parent, index, target)

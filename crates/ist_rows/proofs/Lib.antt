@@ -13,6 +13,7 @@ pub mod HeldAfterLemmas
 pub mod SpareTakenLemmas
 pub mod GivenRowsLemmas
 pub mod CallerLawLemmas
+pub mod TakenLemmas
 pub mod DropLemmas
 pub mod FillingLemmas
 pub mod GoneLemmas

@@ -6,7 +6,7 @@ use Rattle.ist_core.specs.Lawful.{state_of}
 use Rattle.ist_core.specs.Links.{IsChild}
 use Rattle.ist_core.specs.Changes.{changes_of}
 use Rattle.ist_core.specs.Logs.{same_log}
-use Rattle.ist_core.specs.RowLayout.{anchor}
+use Rattle.ist_core.specs.RowLayout.{anchor, change_words, rebuild_words}
 use Rattle.ist_core.specs.Slots.{SlotHolds}
 use Rattle.ist_core.specs.References.{InnerAt, word_of}
 use Rattle.ist_core.specs.Spending.{spent}
@@ -17,8 +17,9 @@ use Rattle.ist_tree.specs.Freezing.{IsFreezeRefused}
 use Rattle.ist_tree.specs.RealTime.{StepsIn}
 use Rattle.ist_tree.specs.Refusals.{HadTooFew, IsTopRefused, KeepsRefusal}
 use Rattle.ist_tree.specs.Room.{HasLeft, HasMadeNone}
+use Rattle.ist_tree.proofs.AloneLemmas.{few_before, room_is_enough}
 use Rattle.ist_tree.proofs.HeardLemmas.{seen_more_then, steps_from, steps_until}
-use Rattle.ist_scan.specs.Room.{HadRoom, HadNoRoom, IsShotRefused, for_start}
+use Rattle.ist_scan.specs.Room.{HadRoom, HadNoRoom, IsShotRefused, LoneShotsAreTaken, for_start}
 use Rattle.ist_scan.specs.Shots.{HasTakenShot}
 use Rattle.ist_scan.proofs.ShotLemmas.{further}
 
@@ -51,6 +52,13 @@ had_no_room p q left words full seen has step none few next asked all =
       asked = asked;
       none = none;
     }
+
+-- ---- a lone shot
+
+-- room for the two rows of a start is enough
+pub lone_taken : LoneShotsAreTaken
+lone_taken p q words full room rows alone refused =
+    room_is_enough p q words full room.at room.step.seen room.enough rows alone refused
 
 -- ---- the shot after it
 
@@ -95,12 +103,14 @@ module _ (p m q : PassFace) (look : HasSeenMore p m) (after : HasSeenMore m q) w
       }
 
   -- a freeze that was refused after the look was refused in the call
-  refused_both : (full : Full) → IsFreezeRefused m q full → IsFreezeRefused p q full
-  refused_both full h =
+  refused_both : HasMadeNone p m → (full : Full) → IsFreezeRefused m q full
+      → IsFreezeRefused p q full
+  refused_both none full h =
       record {
         had = short_both full h.had;
         asked = h.asked;
         lacked = h.lacked;
+        few = few_before p m look.number none q.seen full.asked (rebuild_words + change_words) h.few;
         held = record {
           at = h.held.at;
           since = further p.seen m.seen h.held.at look.seen h.held.since;
@@ -146,7 +156,11 @@ module _ (p m q : PassFace) (look : HasSeenMore p m) (after : HasSeenMore m q) w
   room_if_ok words room (Err full) = tt
 
   -- if it was refused, there was room before
-  pub err_both : (words : ℕ) → HadRoom p m words → (r : Result Frozen Full)
+  pub err_both : (words : ℕ) → HadRoom p m words → HasMadeNone p m → (r : Result Frozen Full)
       → IfErr r (IsFreezeRefused m q) → IfErr r (IsShotRefused p q words)
-  err_both words room (Ok shot) h = tt
-  err_both words room (Err full) h = for_start (room_both words room) (refused_both full h)
+  err_both words room none (Ok shot) h = tt
+  err_both words room none (Err full) h =
+      let had = room_both words room in
+      let refused = refused_both none full h in
+      for_start had refused
+      (λ rows alone. lone_taken p q words full had rows alone refused)

@@ -10,7 +10,7 @@ use Rattle.ist_tree.specs.Faces.{PassFace}
 use Rattle.ist_tree.specs.Freezing.{IsFreezeRefused}
 use Rattle.ist_tree.specs.RealTime.{StepsIn}
 use Rattle.ist_tree.specs.Refusals.{HadTooFew}
-use Rattle.ist_tree.specs.Room.{HasMadeNone}
+use Rattle.ist_tree.specs.Room.{HasMadeNone, TakesAlone}
 
 -- the words of the rows that one pass takes for a shot of this many keys: the inner rows of the
 -- ideal tree of them, the row of the rebuild, and the changes of its start and its finish
@@ -31,7 +31,18 @@ pub record HadNoRoom (p q : PassFace) (words : ℕ) (full : Full) : Type 0 where
   pub asked : full.asked ≡ words
   pub none : HasMadeNone p q
 
--- no shot was taken: there was no room; or there was, and the freeze was refused after that
+-- no shot was taken: there was no room; or there was, and the freeze was refused after that. If the
+-- room was enough for the two rows of a start, others took words since
 pub data IsShotRefused (p q : PassFace) (words : ℕ) (full : Full) : Type 0 where
   for_room : HadNoRoom p q words full → IsShotRefused p q words full
-  for_start : HadRoom p q words → IsFreezeRefused p q full → IsShotRefused p q words full
+  for_start : (room : HadRoom p q words) → IsFreezeRefused p q full
+      → (rebuild_words + change_words ≤ words → ¬ (TakesAlone p room.at q.seen))
+      → IsShotRefused p q words full
+
+-- a shot isn't refused if at a step of the pass in this call there was room for the two rows of a
+-- start, and since then only the pass took words
+abbrev pub LoneShotsAreTaken : Type 0
+LoneShotsAreTaken =
+    (p q : PassFace) (words : ℕ) (full : Full) → (room : HadRoom p q words)
+    → rebuild_words + change_words ≤ words → TakesAlone p room.at q.seen
+    → ¬ (IsFreezeRefused p q full)

@@ -3,6 +3,7 @@ ghost use Rattle.std.specs.Prelude.{◌≡◌, ◌<◌, ◌^◌, IfOk, IfErr, On
 ghost use Rattle.ist_tree.specs.Calls.{HasSeenMore};
 ghost use Rattle.ist_tree.specs.Freezing.{IsFrozenFor, HasStartedNone};
 ghost use Rattle.ist_tree.specs.Refusals.{KeepsRefusal};
+ghost use Rattle.ist_tree.specs.Room.{HasMadeNone};
 ghost use Rattle.ist_scan.specs.Room.{words_of_shot, HadRoom, HadNoRoom, IsShotRefused};
 ghost use Rattle.ist_scan.specs.Shots.{HasTakenShot};
 
@@ -31,6 +32,7 @@ fn look_for(tree: &Tree, pass: &mut Pass, words: u64) -> Result<(), Full>
     ensures seen { HasSeenMore pass.old pass.new }
     ensures room { OnOk result (HadRoom pass.old pass.new words) }
     ensures full { IfErr result (HadNoRoom pass.old pass.new words) }
+    ensures none { HasMadeNone pass.old pass.new }
     ensures unstarted { HasStartedNone pass.old pass.new }
     ensures calls { pass.new.calls ≡ pass.old.calls }
     ensures refused { pass.new.refused ≡ pass.old.refused }

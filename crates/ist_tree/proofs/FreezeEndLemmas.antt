@@ -2,6 +2,7 @@
 use Rattle.std.proofs.Common.{◌≡◌, ℕ, ◌+◌, ◌<◌, ◌≤◌, ◌⊎◌, length, Option, Some, None, IfSome, sym, ap, ◌∙◌, subst, inl, inr, arith}
 use Rattle.std.specs.Option.{option_or}
 use Rattle.ist_core.specs.declared.ports.Full.{Full}
+use Rattle.ist_core.specs.Authors.{Later}
 use Rattle.ist_core.specs.Changes.{changes_of}
 use Rattle.ist_core.specs.Lawful.{state_of}
 use Rattle.ist_core.specs.Growing.{AllGrow}
@@ -20,6 +21,10 @@ use Rattle.laws_calls.proofs.NumberLemmas.{finished_few}
 use Rattle.ist_rebuild.specs.Helping.{IsAskedFor, for_change, for_row}
 use Rattle.ist_rebuild.specs.Lacking.{LacksNow}
 use Rattle.ist_rebuild.specs.Starting.{StartsDoneSince, StartsNone}
+use Rattle.ist_rebuild.specs.Needs.{TakesNeeded, needed}
+use Rattle.ist_rows.specs.Taken.{taken_by}
+use Rattle.ist_rebuild.proofs.NeedLemmas.{needed_most}
+use Rattle.ist_rows.proofs.TakenLemmas.{taken_later}
 use Rattle.ist_rule.specs.declared.view.View.{View}
 use Rattle.ist_rule.specs.Faces.{TokenFace}
 use Rattle.ist_rule.specs.Learning.{now}
@@ -98,19 +103,36 @@ module _ (who began new : Caller) (token : TokenFace) (it : IsFreezeCall who beg
         };
       }
 
+  -- the call took at most the rows of a start
+  took_few : (asked : ℕ) → TakesNeeded began new → asked ≤ needed new
+      → taken_by who.number x.log + asked ≤ taken_by who.number v.log + (rebuild_words + change_words)
+  took_few asked few needs =
+      let first = taken_later who.number
+      (subst (λ y. Later y v.log b.log) it.pass.caller.mine it.begun.later) in
+      let work : taken_by who.number w.log + needed new ≤ taken_by who.number b.log + needed began
+      = subst (λ n. taken_by n w.log + needed new ≤ taken_by n b.log + needed began) it.began_number few in
+      let last : taken_by who.number x.log ≡ taken_by who.number w.log
+      = subst (λ n. taken_by n x.log ≡ taken_by n w.log) (way.number_is who began new token it)
+      (taken_later new.number
+      (subst (λ y. Later y w.log x.log) it.on.gone.caller.mine it.given.later)) in
+      let most = needed_most began in
+      omega arith
+
   -- a start that was refused in the work was refused in the call
   pub freeze_refused : (r q : Option Full) (words : ℕ) (full : Full) → words ≡ v.words
       → LeavesTooFew w.start words w.log full
       → (full.asked ≡ rebuild_words) ⊎ (full.asked ≡ change_words) → LacksNow w full.asked
+      → TakesNeeded began new → full.asked ≤ needed new
       → HeldInnerRow b.start b.words b.log w.log
       → IsFreezeRefused (pass_face who r) (face_as token new.number q) full
-  freeze_refused r q words full same s asked lacks held =
+  freeze_refused r q words full same s asked lacks few needs held =
       let l = way.b_view who began new token it in
       record {
         had = had_too_few r q words full same s;
         asked = asked;
         lacked = lacked_then new token it.on.gone.caller (way.x_view who began new token it) q
             full.asked lacks;
+        few = took_few full.asked few needs;
         held = held_on v.start v.words v.log b.log w.log x.log (way.v_to_b who began new token it)
             (way.w_to_x who began new token it)
             (subst (λ pairs. HeldInnerRow pairs v.words b.log w.log) l.start_is

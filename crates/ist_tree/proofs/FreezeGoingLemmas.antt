@@ -2,6 +2,7 @@
 -- functions that freeze a tree.
 use Rattle.std.proofs.Common.{◌≡◌, ◌≢◌, ℕ, List, Option, Some, None, Result, Ok, Err, IfOk, IfErr, refl, sym, ap, ◌∙◌, subst, inr}
 use Rattle.ist_core.specs.declared.events.Event.{Event}
+use Rattle.ist_core.specs.Authors.{LaterBy}
 use Rattle.ist_core.specs.declared.pairs.Pair.{Pair}
 use Rattle.ist_core.specs.declared.ports.Full.{Full}
 use Rattle.ist_core.specs.Lawful.{Lawful, state_of}
@@ -14,11 +15,13 @@ use Rattle.ist_core.proofs.GrowingLemmas.{rebuild_there}
 use Rattle.laws_links.proofs.FinishedLemmas.{target_grows}
 use Rattle.laws_links.proofs.FormLemmas.{started_grows}
 use Rattle.ist_rebuild.specs.declared.answers.Started.{Started}
-use Rattle.ist_rebuild.specs.declared.answers.Started.TheVariants.{Marked, Other}
+use Rattle.ist_rebuild.specs.declared.answers.Started.TheVariants.{Other}
 use Rattle.ist_rebuild.specs.Going.{Begins}
 use Rattle.ist_rebuild.specs.Lacking.{LacksKind}
-use Rattle.ist_rebuild.specs.Starting.{IsStartedAt, IsStartRefused, LeavesUnstarted, StartsDoneBut, StartsDoneSince, StartsNone}
+use Rattle.ist_rebuild.specs.Starting.{IsStartedAt, IsStartRefused, LeavesUninstalled, LeavesUnstarted, ReservesNeeded, StartsDoneBut, StartsDoneSince, StartsNone}
 use Rattle.ist_rebuild.proofs.LackLemmas.{lacks_now}
+use Rattle.ist_rebuild.proofs.NeedLemmas.{lacks_needed, takes_more, takes_none}
+use Rattle.ist_rows.proofs.TakenLemmas.{taken_keeps}
 use Rattle.ist_rule.specs.declared.view.View.{View}
 use Rattle.ist_rule.specs.Going.{WentOn}
 use Rattle.ist_rule.specs.Faces.{TokenFace}
@@ -98,6 +101,7 @@ idle_same who s r =
       on = ready_same Rebuilds who s r;
       done = λ first done. done;
       none = λ base change e own kind said. e;
+      few = takes_none who who refl refl;
     }
 
 -- two such parts, one after the other, are one
@@ -109,6 +113,7 @@ idle_more a b c one two =
       none =
           starts_none_more (now a.token.view) (now b.token.view) (now c.token.view) a.number one.none
           (subst (StartsNone (now b.token.view) (now c.token.view)) one.on.gone.number two.none);
+      few = takes_more a b c one.on.gone.number one.few two.few;
     }
 
 -- steps that install nothing are such
@@ -123,25 +128,30 @@ plain_idle P all who token r went =
           starts_none_went P who.number
           (λ event p. none_starts_none who.number event (all event p).installs) who.token.view
           token.view r.caller.mine r.quiet.resolved went;
+      few =
+          takes_none who (record who { token = token })
+          (taken_keeps who.number (λ event p. (all event p).keeps)
+          (subst (λ x. LaterBy x P who.token.view.log token.view.log) r.caller.mine went.later)) refl;
     }
 
--- a start that started none is idle
+-- a start that only made reservings is idle
 pub begins_idle : (old new : Caller) → StaysReady Rebuilds old new → KeepsDone old new
-    → StartsNone (now old.token.view) (now new.token.view) old.number → GoesIdle old new
-begins_idle old new on done none = record { on = on; done = done; none = none }
+    → StartsNone (now old.token.view) (now new.token.view) old.number → ReservesNeeded old new
+    → GoesIdle old new
+begins_idle old new on done none own = record { on = on; done = done; none = none; few = own.few }
 
--- what a start that was answered by another word, or by a parent that isn't open, didn't start
+-- a start that was answered by another word started no rebuild
 pub other_unstarted : (v w : View) (number : ℕ) (answer : Started) (word : ℕ)
     → answer ≡ Other word → LeavesUnstarted (now v) (now w) number (Ok answer)
     → StartsNone (now v) (now w) number
 other_unstarted v w number answer word is left =
     subst (λ a. LeavesUnstarted (now v) (now w) number (Ok a)) is left
 
--- if the parent was marked, no rebuild was started
-pub marked_unstarted : (v w : View) (number : ℕ) (answer : Started) → answer ≡ Marked
-    → LeavesUnstarted (now v) (now w) number (Ok answer) → StartsNone (now v) (now w) number
-marked_unstarted v w number answer is left =
-    subst (λ a. LeavesUnstarted (now v) (now w) number (Ok a)) is left
+-- and it only made reservings
+pub other_reserved : (old new : Caller) (answer : Started) (word : ℕ) → answer ≡ Other word
+    → LeavesUninstalled old new (Ok answer) → ReservesNeeded old new
+other_reserved old new answer word is left =
+    subst (λ a. LeavesUninstalled old new (Ok a)) is left
 
 -- ---- what was met, over further steps
 
@@ -185,6 +195,7 @@ stopped_more a b c words full g s =
       short = s.short;
       asked = s.asked;
       lacks = s.lacks;
+      needs = s.needs;
       held = by_table Rebuilds a.token.view b.token.view g.on.gone.went
           (λ pairs words. HeldInnerRow pairs words a.token.view.log c.token.view.log)
           (held_on b.token.view.start b.token.view.words a.token.view.log b.token.view.log
@@ -202,6 +213,7 @@ start_stopped old new words full g held r lacks =
       short = short_now Begins old.token.view words full new.token.view r.short;
       asked = r.asked;
       lacks = lacks_now new g.on.gone.went.sound g.on.gone.caller g.on.gone.refused full.asked lacks;
+      needs = lacks_needed new full.asked lacks r.asked;
       held = held_on old.token.view.start old.token.view.words old.token.view.log old.token.view.log
           old.token.view.log new.token.view.log same_log (later_by-goes_on g.on.gone.went.later) held;
     }

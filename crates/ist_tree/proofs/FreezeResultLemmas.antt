@@ -136,7 +136,7 @@ stop_ends who began new token it r all words same table full s old view =
       stopped = record {
         seen = way.has_seen_more who began new token it r r table;
         cause = freeze_refused who began new token it r r words full same s.short s.asked s.lacks
-            s.held;
+            s.idle.few s.needs s.held;
         unstarted = has_started_none who began new token it s.idle.none;
         calls = way.calls_are who began new token it;
         unrefused = refl;

@@ -61,3 +61,4 @@ pub mod LookedLemmas
 pub mod NumberLemmas
 mod SweepLemmas
 mod RoomLemmas
+pub mod AloneLemmas

@@ -110,6 +110,7 @@ idle_counted a b n g =
       };
       done = g.done;
       none = g.none;
+      few = g.few;
     }
 
 -- ---- a search begins

@@ -1,6 +1,6 @@
 -- What the functions that freeze a tree promise each other: what is below the anchor, and what
 -- freezing it results in.
-use Rattle.std.specs.Prelude.{◌≡◌, ◌≢◌, ℕ, ◌⊎◌, List, slice_get, Option, Some, None, IfSome}
+use Rattle.std.specs.Prelude.{◌≡◌, ◌≢◌, ℕ, ◌≤◌, ◌⊎◌, List, slice_get, Option, Some, None, IfSome}
 use Rattle.ist_core.specs.declared.ports.Full.{Full}
 use Rattle.ist_core.specs.declared.states.RebuildRow.{RebuildRow}
 use Rattle.ist_core.specs.Lawful.{state_of}
@@ -21,6 +21,7 @@ use Rattle.ist_rows.specs.declared.callers.Caller.{Caller}
 use Rattle.ist_rebuild.specs.Helping.{IsAskedFor}
 use Rattle.ist_rebuild.specs.Lacking.{LacksNow}
 use Rattle.ist_rebuild.specs.Starting.{MayStart, StartsDoneBut, StartsDoneSince, StartsNone}
+use Rattle.ist_rebuild.specs.Needs.{TakesNeeded, needed}
 use Rattle.ist_tree.specs.declared.freezing.Frozen.{Frozen}
 use Rattle.ist_tree.specs.declared.freezing.Outcome.{Outcome}
 use Rattle.ist_tree.specs.declared.freezing.Site.{Site}
@@ -80,11 +81,13 @@ KeepsDoneBut old new (Some rebuild) =
     (first : Snapshot) → StartsDoneSince first (now old.token.view) old.number
     → StartsDoneBut first (now new.token.view) old.number rebuild
 
--- the caller went on by steps of rebuilding, kept its starts done, and started no rebuild
+-- the caller went on by steps of rebuilding, kept its starts done, started no rebuild, and took no
+-- words but for rows of a start that it still holds
 pub record GoesIdle (old new : Caller) : Type 0 where
   pub on : StaysReady Rebuilds old new
   pub done : KeepsDone old new
   pub none : StartsNone (now old.token.view) (now new.token.view) old.number
+  pub few : TakesNeeded old new
 
 -- the rebuild to help, if there is one
 abbrev pub rebuild_in : Site → Option ℕ
@@ -122,6 +125,7 @@ pub record IsFreezeStopped (old new : Caller) (words : ℕ) (full : Full) : Type
   pub short : LeavesTooFew new.token.view.start words new.token.view.log full
   pub asked : (full.asked ≡ rebuild_words) ⊎ (full.asked ≡ change_words)
   pub lacks : LacksNow new.token.view full.asked
+  pub needs : full.asked ≤ needed new
   pub held : let v = old.token.view in HeldInnerRow v.start v.words v.log new.token.view.log
 
 -- too few words were left to help the rebuild

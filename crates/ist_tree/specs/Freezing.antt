@@ -1,5 +1,5 @@
 -- A whole tree that was frozen: when it is so, which pairs it has, and why a freeze is refused.
-use Rattle.std.specs.Prelude.{◌≡◌, ℕ, ◌⊎◌, List, map, length, slice_get, Some}
+use Rattle.std.specs.Prelude.{◌≡◌, ℕ, ◌+◌, ◌≤◌, ◌⊎◌, List, map, length, slice_get, Some}
 use Rattle.std.specs.List.Sorted.{IsStrictlyIncreasing}
 use Rattle.ist_core.specs.declared.pairs.Pair.{Pair}
 use Rattle.ist_core.specs.declared.ports.Full.{Full}
@@ -17,6 +17,7 @@ use Rattle.ist_core.specs.Snapshots.{Snapshot}
 use Rattle.laws_calls.specs.Freezing.{WereThePairs}
 use Rattle.ist_layout.specs.Meanings.{ref_meant}
 use Rattle.ist_rebuild.specs.Starting.{StartsNone}
+use Rattle.ist_rows.specs.Taken.{taken_by}
 use Rattle.ist_tree.specs.declared.freezing.Frozen.{Frozen}
 use Rattle.ist_tree.specs.Faces.{PassFace}
 use Rattle.ist_tree.specs.RealTime.{StepsIn}
@@ -112,11 +113,14 @@ pub record HeldInnerRow (pairs : List Pair) (words : ℕ) (earlier log : Log) : 
   pub holds : SlotHolds (state_of pairs words at) anchor 0 (word_of (InnerAt row))
 
 -- the freeze couldn't start its rebuild: the anchor's slot held an inner row at a step of this call,
--- and too few words were left for the rebuild's row or its change, of which the pass had none
+-- and too few words were left for the rebuild's row or its change, of which the pass had none. What
+-- the pass took in the call and what it asked for are together no more words than these rows have
 pub record IsFreezeRefused (p q : PassFace) (full : Full) : Type 0 where
   pub had : HadTooFew p q full
   pub asked : (full.asked ≡ rebuild_words) ⊎ (full.asked ≡ change_words)
   pub lacked : LackedAt q had.at full.asked
+  pub few : taken_by p.number q.seen + full.asked
+      ≤ taken_by p.number p.seen + (rebuild_words + change_words)
   pub held : HeldInnerRow p.tree.start p.tree.words p.seen q.seen
 
 -- too few words were left in this call to help this rebuild of the row, and the pass keeps this

@@ -4,6 +4,7 @@ use Rattle.ist_rebuild.specs.StartSteps.{HasReserved}
 use Rattle.ist_rebuild.proofs.LackLemmas.{refused_lacks}
 use Rattle.ist_rebuild.proofs.StartReserveLemmas.{rebuild_short, change_short}
 use Rattle.ist_rebuild.proofs.StartReservedLemmas.{reserved_more, row_reserved}
+use Rattle.ist_rebuild.proofs.NeedLemmas.{change_of_start, rebuild_of_start}
 use Rattle.ist_rebuild.proofs.start_rows.reserve_rows.Goals as goal
 use Rattle.ist_rebuild.proofs.start_rows.reserve_rows.Goals.{After-reserve, After-reserve-2}
 
@@ -11,7 +12,7 @@ use Rattle.ist_rebuild.proofs.start_rows.reserve_rows.Goals.{After-reserve, Afte
 first : (c : After-reserve) → HasReserved c.args.who.now c.reserve.new.who
 first c =
     let e = c.reserve.ensures in
-    row_reserved _ Rebuild c.args.who.now c.reserve.new.who _ e.held e.reserved e.full
+    row_reserved _ Rebuild c.args.who.now c.reserve.new.who _ e.held e.reserved e.full rebuild_of_start
     (λ base own. (refl, refl)) c.know.ensures.sound c.requires.caller c.requires.quiet e.caller e.number
 
 -- after the reserving of the change's row
@@ -21,7 +22,7 @@ both c =
     let e = c.reserve-2.ensures in
     reserved_more c.args.who.now c.reserve.new.who c.reserve-2.new.who one
     (row_reserved _ Change c.reserve.new.who c.reserve-2.new.who _ e.held e.reserved e.full
-    (λ base own. (refl, refl)) one.went.sound one.caller one.quiet e.caller e.number)
+    change_of_start (λ base own. (refl, refl)) one.went.sound one.caller one.quiet e.caller e.number)
 
 -- the rebuild's row was asked for
 pub returns-in_err-rebuild-clause-reserved : goal.returns-in_err-rebuild-clause-reserved

@@ -1,7 +1,7 @@
 -- A start puts a rebuild below the anchor, or finds another word there.
 use Rattle.std.proofs.Common.{Ok, ap, refl}
-use Rattle.ist_tree.proofs.DueLemmas.{begins_on, marked_leaves, other_leaves, yes_leaves}
-use Rattle.ist_tree.proofs.FreezeGoingLemmas.{begins_idle, begun_of, marked_unstarted, other_unstarted, start_stopped}
+use Rattle.ist_tree.proofs.DueLemmas.{begins_on, other_leaves, yes_leaves}
+use Rattle.ist_tree.proofs.FreezeGoingLemmas.{begins_idle, begun_of, other_reserved, other_unstarted, start_stopped}
 use Rattle.ist_tree.proofs.ShortLemmas.{passed_on}
 use Rattle.ist_core.specs.RowLayout.{anchor}
 use Rattle.ist_core.specs.Slots.{anchor_is}
@@ -16,7 +16,8 @@ returns-in_err-rebuild-clause-full c =
     (begins_idle _ _
     (begins_on _ _ c.requires.ready c.start.ensures.caller c.start.ensures.refused
     c.start.ensures.quiet c.start.ensures.went c.start.ensures.number)
-    c.in_err-rebuild.ensures.done c.in_err-rebuild.ensures.unstarted)
+    c.in_err-rebuild.ensures.done c.in_err-rebuild.ensures.unstarted
+    c.in_err-rebuild.ensures.uninstalled)
     c.requires.row.held c.in_err-rebuild.ensures.full c.in_err-rebuild.ensures.lacks)
 
 -- a rebuild was started
@@ -37,15 +38,12 @@ returns-in-Other-clause-begun c =
     (λ first done. other_leaves first _ _ _ _ c.in-Other.is
     (c.in_ok-rebuild.ensures.done first done))
     (other_unstarted c.args.who.now.token.view c.start.new.who.token.view _ _ _ c.in-Other.is c.in_ok-rebuild.ensures.unstarted)
+    (other_reserved c.args.who.now c.start.new.who _ _ c.in-Other.is c.in_ok-rebuild.ensures.uninstalled)
 
+-- the anchor is always open
 pub returns-in-Marked-clause-begun : goal.returns-in-Marked-clause-begun
 returns-in-Marked-clause-begun c =
-    begins_idle _ _
-    (begins_on _ _ c.requires.ready c.start.ensures.caller c.start.ensures.refused
-    c.start.ensures.quiet c.start.ensures.went c.start.ensures.number)
-    (λ first done. marked_leaves first _ _ _ c.in-Marked.is
-    (c.in_ok-rebuild.ensures.done first done))
-    (marked_unstarted c.args.who.now.token.view c.start.new.who.token.view _ _ c.in-Marked.is c.in_ok-rebuild.ensures.unstarted)
+    absurd (c.in_ok-rebuild.ensures.marked (ap Ok c.in-Marked.is) (anchor_is refl))
 
 pub returns-in-Other-clause-further : goal.returns-in-Other-clause-further
 returns-in-Other-clause-further c _ word is here =

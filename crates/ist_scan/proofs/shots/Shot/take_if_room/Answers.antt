@@ -20,7 +20,8 @@ returns-clause-room c =
 pub returns-clause-full : goal.returns-clause-full
 returns-clause-full c =
     err_both c.args.pass.now c.look_for.new.pass c.take.new.pass c.look_for.ensures.seen
-    c.take.ensures.seen c.args.words c.in_ok-look_for.ensures.room c.take.result c.take.ensures.full
+    c.take.ensures.seen c.args.words c.in_ok-look_for.ensures.room c.look_for.ensures.none c.take.result
+    c.take.ensures.full
 
 pub returns-clause-refused : goal.returns-clause-refused
 returns-clause-refused c =
